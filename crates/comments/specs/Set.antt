@@ -1,0 +1,32 @@
+-- Document 01, module 2: the comment set, one bit a token, as 64 words of 64 bits.
+use Prim.Native.Nat.{ℕ, zero, suc, _+_, _*_, _/_, _%_, _^_}
+use mathlib.Core.List.{List, [], _∷_}
+use mathlib.Core.Bool.{Bool, true, false}
+use lib.ListN.{getD}
+use lib.Dec.{eqb}
+
+-- Kind 1: a block comment.
+abbrev pub blockComment : ℕ
+blockComment = 1
+
+-- Whether the token is a block comment. The set starts with all of them.
+unfoldable pub isComment : List ℕ → ℕ → Bool
+isComment kinds k = eqb (getD kinds k 0) blockComment
+
+-- Whether a token is in the set of these words: bit b of word w is token 64 × w + b.
+unfoldable pub holds : List ℕ → ℕ → Bool
+holds words k = eqb (getD words (k / 64) 0 / 2 ^ (k % 64) % 2) 1
+
+-- n bits, the lowest first, of which bit b says whether token k + b is in the set.
+unfoldable pub bits : (ℕ → Bool) → ℕ → ℕ → ℕ
+bits member k zero = 0
+bits member k (suc n) = elim (member k) [ true ↦ 1 + 2 * bits member (k + 1) n | false ↦ 2 * bits member (k + 1) n ]
+
+-- n words of the set, the first with token k as its bit 0.
+unfoldable pub wordsFrom : (ℕ → Bool) → ℕ → ℕ → List ℕ
+wordsFrom member k zero = []
+wordsFrom member k (suc n) = bits member k 64 ∷ wordsFrom member (k + 64) n
+
+-- The words of a set of tokens.
+unfoldable pub wordsOf : (ℕ → Bool) → List ℕ
+wordsOf member = wordsFrom member 0 64

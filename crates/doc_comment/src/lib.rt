@@ -1,0 +1,1 @@
+// `doc_comment_above` of 001 (document 01, above its modules).

@@ -1,0 +1,120 @@
+-- `unfolding run` opens every definition of `specs/`, so that a theorem about a sheet is closed by computation.
+use Rattle.text.specs.Bytes as Bytes
+use Rattle.reader.specs.Fields as Fields
+use Rattle.reader.specs.Commands as Commands
+use Rattle.reader.specs.Tokens as Tokens
+use Rattle.reader.specs.Check as Check
+use Rattle.reader.specs.Reading as Reading
+use Rattle.comments.specs.Set as Set
+use Rattle.comments.specs.Above as Above
+use Rattle.walk.specs.Meaning as Meaning
+use Rattle.walk.specs.Helpers as Helpers
+use Rattle.walk.specs.GetDec as GetDec
+use Rattle.walk.specs.Ty as Ty
+use Rattle.walk.specs.Pat as Pat
+use Rattle.walk.specs.Exp as Exp
+use Rattle.walk.specs.SigExp as SigExp
+use Rattle.walk.specs.StrExp as StrExp
+use Rattle.walk.specs.DecOne as DecOne
+use Rattle.walk.specs.Walk as Walk
+use Rattle.walk.specs.Events as Events
+use Rattle.formatter.specs.Verdict as Verdict
+use Rattle.formatter.specs.Lookup as Lookup
+use Rattle.doc_comment.specs.Doc as Doc
+use Rattle.program.specs.Program as Program
+
+unfoldable pub runBytes : Unit {0}
+unfolding Bytes.bytes Bytes.between Bytes.isSpace Bytes.isLetter Bytes.isDigit Bytes.trimStart Bytes.trim Bytes.sameBytes Bytes.firstIs Bytes.firstWide
+runBytes = tt
+
+unfoldable pub runFields : Unit {0}
+unfolding Fields.forms Fields.firstForm
+runFields = tt
+
+unfoldable pub runCommands : Unit {0}
+unfolding Commands.formWidth Commands.u16 Commands.command Commands.absentAt Commands.tokenAt Commands.listAt Commands.groupAt Commands.choiceAt Commands.formAt
+runCommands = tt
+
+unfoldable pub runTokens : Unit {0}
+unfolding Tokens.textOf Tokens.isToken Tokens.endTokens Tokens.withToken Tokens.tokensFrom Tokens.tokens
+runTokens = tt
+
+unfoldable pub runCheck : Unit {0}
+unfolding Check.andThen Check.items Check.operandFits Check.orAbsent Check.fields Check.formFits Check.formCheck Check.treeCheck Check.fieldEnd
+runCheck = tt
+
+unfoldable pub runReading : Unit {0}
+unfolding Reading.readTree Reading.readRecord Reading.readText Reading.read Reading.numberOf Reading.placeOf
+runReading = tt
+
+unfoldable pub runSet : Unit {0}
+unfolding Set.isComment Set.holds Set.bits Set.wordsFrom Set.wordsOf
+runSet = tt
+
+unfoldable pub runAbove : Unit {0}
+unfolding Above.isKeyword Above.above Above.commentAbove
+runAbove = tt
+
+unfoldable pub runMeaning : Unit {0}
+unfolding Meaning.after Meaning.bind Meaning.tokenText Meaning.passes Meaning.needsNewline Meaning.sees Meaning.firstToken Meaning.dotName Meaning.listName Meaning.pathName Meaning.opPathName Meaning.head Meaning.headsFrom Meaning.headsAt Meaning.onwards Meaning.outcome
+runMeaning = tt
+
+unfoldable pub runHelpers : Unit {0}
+unfolding Helpers.with-extra-blank Helpers.indented Helpers.indent Helpers.when Helpers.when-some Helpers.text Helpers.times Helpers.items Helpers.for-each Helpers.sep Helpers.new-line Helpers.sep-with-lines Helpers.in-end Helpers.path Helpers.op-space Helpers.op-path Helpers.ty-var-seq Helpers.semicolon
+runHelpers = tt
+
+unfoldable pub runGetDec : Unit {0}
+unfolding GetDec.dec-in-seq GetDec.sharing-tail GetDec.dec GetDec.get-dec GetDec.dec-arg
+runGetDec = tt
+
+unfoldable pub runTy : Unit {0}
+unfolding Ty.HoleTy Ty.WildcardTy Ty.TyVarTy Ty.ty-row Ty.RecordTy Ty.ConTy Ty.OneArgConTy Ty.TupleTy Ty.FnTy Ty.ParenTy Ty.tys Ty.ty-annotation
+runTy = tt
+
+unfoldable pub runPat : Unit {0}
+unfolding Pat.WildcardPat Pat.SConPat Pat.ConPat Pat.RestPatRow Pat.LabAndPatPatRow Pat.LabPatRow Pat.pat-row Pat.RecordPat Pat.ParenPat Pat.pat-args Pat.TuplePat Pat.ListPat Pat.VectorPat Pat.InfixPat Pat.TypedPat Pat.AsPat Pat.OrPat Pat.pats
+runPat = tt
+
+unfoldable pub runExp : Unit {0}
+unfolding Exp.indented-levels Exp.get-body-exp-level Exp.get-body-exp Exp.eq-body Exp.get-matcher-arm Exp.get-matcher-across-lines Exp.exp-args Exp.exp-semi-more Exp.exp-semi-items Exp.exp-semi-seq Exp.HoleExp Exp.WildcardExp Exp.OpAndalsoExp Exp.OpOrelseExp Exp.SConExp Exp.PathExp Exp.exp-row Exp.RecordExp Exp.SelectorExp Exp.ParenExp Exp.TupleExp Exp.ListExp Exp.VectorExp Exp.SeqExp Exp.LetExp Exp.func-is-bang Exp.arg-is-symbolic Exp.AppExp Exp.InfixExp Exp.TypedExp Exp.AndalsoExp Exp.OrelseExp Exp.HandleExp Exp.RaiseExp Exp.if-no Exp.IfExp Exp.WhileExp Exp.CaseExp Exp.FnExp Exp.exps
+runExp = tt
+
+unfoldable pub runSigExp : Unit {0}
+unfolding SigExp.ascription-tail SigExp.SigSigExp SigExp.NameSigExp SigExp.WhereTypeSigExp SigExp.WhereSigExp SigExp.sig-exps
+runSigExp = tt
+
+unfoldable pub runStrExp : Unit {0}
+unfolding StrExp.StructStrExp StrExp.PathStrExp StrExp.AscriptionStrExp StrExp.app-args StrExp.AppStrExp StrExp.LetStrExp StrExp.str-exps
+runStrExp = tt
+
+unfoldable pub runDecOne : Unit {0}
+unfolding DecOne.comment-line DecOne.comment-above DecOne.ty-bind DecOne.ty-binds DecOne.with-type DecOne.con-bind DecOne.con-binds DecOne.dat-bind DecOne.dat-binds DecOne.HoleDec DecOne.val-bind DecOne.ValDec DecOne.PrefixFunBindCaseHead DecOne.InfixFunBindCaseHead DecOne.fun-bind-case DecOne.fun-bind DecOne.FunDec DecOne.TyDec DecOne.DatDec DecOne.DatCopyDec DecOne.AbstypeDec DecOne.ex-bind-inner DecOne.ex-bind DecOne.ExDec DecOne.OpenDec DecOne.int-lit DecOne.names-space DecOne.InfixDec DecOne.InfixrDec DecOne.NonfixDec DecOne.DoDec DecOne.local-decs DecOne.LocalDec DecOne.str-bind DecOne.StructureDec DecOne.sig-bind DecOne.SignatureDec DecOne.functor-arg DecOne.functor-bind DecOne.FunctorDec DecOne.ExpDec DecOne.IncludeDec DecOne.EsImportDec DecOne.decs DecOne.one-dec
+runDecOne = tt
+
+unfoldable pub runWalk : Unit {0}
+unfolding Walk.walks Walk.top Walk.walk
+runWalk = tt
+
+unfoldable pub runEvents : Unit {0}
+unfolding Events.sumOf Events.formedDepth Events.deepest Events.indentDepth Events.units Events.lettersOf Events.trimmed Events.letters Events.spelt Events.formatted Events.writesComment Events.written Events.isLeft
+runEvents = tt
+
+unfoldable pub runVerdict : Unit {0}
+unfolding Verdict.first Verdict.measuresOf Verdict.comments Verdict.walked Verdict.judge Verdict.check Verdict.put Verdict.format Verdict.get Verdict.numberOf Verdict.placeOf Verdict.givenMeasures Verdict.verdictOf
+runVerdict = tt
+
+unfoldable pub runLookup : Unit {0}
+unfolding Lookup.ask Lookup.lookup Lookup.numberOf Lookup.placeOf Lookup.answerOf Lookup.lookedOf
+runLookup = tt
+
+unfoldable pub runDoc : Unit {0}
+unfolding Doc.withoutReturn Doc.linesFrom Doc.afterAsterisk Doc.withoutSpace Doc.starred Doc.joined Doc.closed Doc.opened Doc.docText Doc.put Doc.docLookup
+runDoc = tt
+
+unfoldable pub runProgram : Unit {0}
+unfolding Program.digits Program.decimal Program.line Program.printed Program.tabSize Program.textLength Program.formatInput Program.program
+runProgram = tt
+
+unfoldable pub run : Unit {0}
+unfolding runBytes runFields runCommands runTokens runCheck runReading runSet runAbove runMeaning runHelpers runGetDec runTy runPat runExp runSigExp runStrExp runDecOne runWalk runEvents runVerdict runLookup runDoc runProgram
+run = tt

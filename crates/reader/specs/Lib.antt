@@ -1,0 +1,5 @@
+pub mod Fields
+pub mod Commands
+pub mod Tokens
+pub mod Check
+pub mod Reading

@@ -1,0 +1,55 @@
+-- Refusals 1 to 4 of a text and a record, in this order, or what they are read as.
+use Prim.Native.Nat.{ℕ}
+use mathlib.Core.List.{List}
+use mathlib.Core.Bool.{Bool, true, false, _&&_}
+use mathlib.Core.Option.{Option, none, some}
+use lib.ListN.{length}
+use lib.Dec.{leb}
+use Rattle.text.specs.Bytes.{firstWide}
+use Rattle.reader.specs.Tokens.{Tokens, Tiling, tiled, untiled, tokens}
+use Rattle.reader.specs.Check.{Checked, ok, malformed, tooDeep, treeCheck}
+use Rattle.reader.specs.declared.Reading.{Reading}
+use Rattle.reader.specs.declared.Reading.the-variants.{Sheet, TooLong, NotAscii, Malformed, TooDeep}
+
+abbrev pub maxText : ℕ
+maxText = 32768
+
+abbrev pub maxRecord : ℕ
+maxRecord = 65536
+
+-- A sheet that is refused, with 01's number and place; or its tokens and the offset in the record of the list of declarations.
+pub data Read : Type 0 where
+  refused : ℕ → ℕ → Read
+  sheet : Tokens → ℕ → Read
+
+module _ (text : List ℕ) (rec : List ℕ) where
+  -- 3 and 4: of both the earlier command's is told.
+  unfoldable pub readTree : Tokens → ℕ → Read
+  readTree ts at =
+      elim (treeCheck rec (length (ts .kinds)) at)
+      [ ok end ↦ sheet ts at | malformed place ↦ refused 3 place | tooDeep place ↦ refused 4 place ]
+
+  unfoldable pub readRecord : Read
+  readRecord = elim (tokens text rec) [ tiled ts at ↦ readTree ts at | untiled place ↦ refused 3 place ]
+
+  unfoldable pub readText : Read
+  readText = elim (firstWide 0 text) [ none ↦ readRecord | some place ↦ refused 2 place ]
+
+  unfoldable pub read : Read
+  read = elim (leb (length text) maxText && leb (length rec) maxRecord) [ true ↦ readText | false ↦ refused 1 0 ]
+
+-- 01's number for each case of the answer.
+unfoldable pub numberOf : Reading → ℕ
+numberOf (Sheet count tree) = 0
+numberOf TooLong = 1
+numberOf (NotAscii at) = 2
+numberOf (Malformed at) = 3
+numberOf (TooDeep at) = 4
+
+-- 01's place for each case of the answer.
+unfoldable pub placeOf : Reading → ℕ
+placeOf (Sheet count tree) = 0
+placeOf TooLong = 0
+placeOf (NotAscii at) = at
+placeOf (Malformed at) = at
+placeOf (TooDeep at) = at

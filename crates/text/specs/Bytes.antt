@@ -1,0 +1,55 @@
+-- Document 01, module 1: bytes. A run of bytes is a list of numbers below 256.
+use Prim.Native.Nat.{ℕ, zero, suc}
+use Prim.Native.Char.{Char, code}
+use Prim.Native.String.{String}
+use mathlib.Core.List.{List, [], _∷_, reverse}
+use mathlib.Core.Bool.{Bool, true, false, cond, _&&_, _||_}
+use mathlib.Core.Option.{Option, none, some}
+use lib.Dec.{leb, eqb}
+
+-- The bytes of a quoted text.
+unfoldable pub bytes : String → List ℕ
+bytes String.[] = []
+bytes (String._∷_ c s) = code c ∷ bytes s
+
+-- lo ≤ b ≤ hi.
+unfoldable pub between : ℕ → ℕ → ℕ → Bool
+between lo hi b = leb lo b && leb b hi
+
+-- What trim strips: bytes 9 to 13 and 32.
+unfoldable pub isSpace : ℕ → Bool
+isSpace b = between 9 13 b || eqb b 32
+
+-- ASCII letters: `A` to `Z`, `a` to `z`.
+unfoldable pub isLetter : ℕ → Bool
+isLetter b = between 65 90 b || between 97 122 b
+
+-- ASCII digits: `0` to `9`.
+unfoldable pub isDigit : ℕ → Bool
+isDigit b = between 48 57 b
+
+-- The text without the white space that it starts with.
+unfoldable pub trimStart : List ℕ → List ℕ
+trimStart [] = []
+trimStart (b ∷ bs) = elim (isSpace b) [ true ↦ trimStart bs | false ↦ b ∷ bs ]
+
+-- `str::trim`: white space is stripped at both ends.
+unfoldable pub trim : List ℕ → List ℕ
+trim bs = reverse (trimStart (reverse (trimStart bs)))
+
+-- Whether two runs of bytes are equal.
+unfoldable pub sameBytes : List ℕ → List ℕ → Bool
+sameBytes [] [] = true
+sameBytes [] (c ∷ cs) = false
+sameBytes (b ∷ bs) [] = false
+sameBytes (b ∷ bs) (c ∷ cs) = eqb b c && sameBytes bs cs
+
+-- Whether the first byte of a text passes a test; a text without bytes does not.
+unfoldable pub firstIs : (ℕ → Bool) → List ℕ → Bool
+firstIs test [] = false
+firstIs test (b ∷ bs) = test b
+
+-- Number 2: the offset of the first byte of 128 or more; i is the offset of the first byte of the list.
+unfoldable pub firstWide : ℕ → List ℕ → Option ℕ
+firstWide i [] = none
+firstWide i (b ∷ bs) = elim (leb 128 b) [ true ↦ some i | false ↦ firstWide (suc i) bs ]

@@ -1,0 +1,12 @@
+pub mod Layout
+pub mod Meaning
+pub mod Helpers
+pub mod GetDec
+pub mod Ty
+pub mod Pat
+pub mod Exp
+pub mod SigExp
+pub mod StrExp
+pub mod DecOne
+pub mod Walk
+pub mod Events
