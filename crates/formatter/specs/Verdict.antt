@@ -8,9 +8,9 @@ use lib.Dec.{leb}
 use Rattle.reader.specs.Tokens.{Tokens}
 use Rattle.reader.specs.Reading.{Read, refused, sheet, read}
 use Rattle.comments.specs.Set.{wordsOf}
-use Rattle.walk.specs.Meaning.{Page, Event, done, stopped}
-use Rattle.walk.specs.Walk.{walk}
-use Rattle.walk.specs.Events.{deepest, letters, units, formatted, isLeft}
+use Rattle.layout.specs.Meaning.{Page, Event, done, stopped}
+use Rattle.layout.specs.Walk.{walk}
+use Rattle.layout.specs.Events.{deepest, letters, units, formatted, isLeft}
 use Rattle.formatter.specs.declared.Measures.{Measures}
 use Rattle.formatter.specs.declared.Answer.{Answer}
 use Rattle.formatter.specs.declared.Answer.the-variants.{Accepted, TooLong, NotAscii, Malformed, TooDeep, Syntax, Comments, TooWide, NoRoom}

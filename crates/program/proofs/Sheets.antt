@@ -11,8 +11,8 @@ use native.Mathlib.Omega.{arith}
 use Rattle.formatter.specs.declared.Measures.{Measures}
 use lib.Dec.{leb}
 use Rattle.text.specs.Bytes.{bytes}
-use Rattle.walk.specs.Meaning.{Page, Event}
-use Rattle.walk.specs.Events.{deepest}
+use Rattle.layout.specs.Meaning.{Page, Event}
+use Rattle.layout.specs.Events.{deepest}
 use Rattle.formatter.specs.Verdict.{Verdict, Result, verdict, noMeasures, check, get, judge, accepted, format, put, maxWidth}
 use Rattle.formatter.specs.Lookup.{lookup, looked}
 use Rattle.doc_comment.specs.Doc.{docLookup}

@@ -1,0 +1,194 @@
+-- What a layout means: from an offset in the record (the cursor) to a list of events and the next offset, or a stop.
+use Prim.Native.Nat.{ℕ, _+_}
+use Prim.Native.String.{String}
+use mathlib.Core.List.{List, [], _∷_, _++_}
+use mathlib.Core.Bool.{Bool, true, false, _&&_, _||_}
+use mathlib.Core.Option.{Option, none, some}
+use lib.ListN.{length, getD, drop}
+use lib.Dec.{leb, eqb}
+use Rattle.text.specs.Bytes.{bytes, isLetter, isDigit, sameBytes, firstIs}
+use Rattle.reader.specs.Fields.{DecOne, Exp, Ty}
+use Rattle.reader.specs.Fields as Fields
+use Rattle.reader.specs.Commands.{u16, absentAt, tokenAt, listAt, groupAt, choiceAt, formAt, formWidth, noToken}
+use Rattle.reader.specs.Tokens.{Tokens, textOf}
+use Rattle.reader.specs.Check.{Checked, ok, malformed, tooDeep, fieldEnd}
+use Rattle.comments.specs.Above.{commentAbove}
+use Rattle.layout.specs.Layout.{Layout, Look, isIfExp, bodyExpNeedsNewline, Test, isBang, isPipe, isAlphabetic, isAlphanumeric}
+use Rattle.layout.specs.Layout.{Head, pathExp, otherExp, Declared, skip, _⨾_, word, write, comment, output-indent, formed}
+use Rattle.layout.specs.Layout.{token, group, choice, form, list, declaration, optional, maybe, look, test, above, firstName, heads}
+use Rattle.layout.specs.Layout.{dropped, halt, import}
+
+-- What the walk does, without tab size or text: tokens and comments stand by number, indents by depth.
+pub data Event : Type 0 where
+  Word : String → Event
+  Token : ℕ → Event
+  Comment : ℕ → Event
+  -- a depth that `indented` forms, written or not
+  Formed : ℕ → Event
+  -- an indent written
+  Indent : ℕ → Event
+
+-- Why a walk stops: the record offset of the part that is absent, or of an import's declaration.
+pub data Stop : Type 0 where
+  absent : ℕ → Stop
+  imported : ℕ → Stop
+
+-- Where a walk ends: at an offset, or at a stop; in both cases with what it did before.
+pub data Outcome : Type 0 where
+  done : ℕ → List Event → Outcome
+  stopped : Stop → List Event → Outcome
+
+unfoldable pub after : List Event → Outcome → Outcome
+after es (done at fs) = done at (es ++ fs)
+after es (stopped why fs) = stopped why (es ++ fs)
+
+unfoldable pub bind : Outcome → (ℕ → Outcome) → Outcome
+bind (done at es) k = after es (k at)
+bind (stopped why es) k = stopped why es
+
+-- What every layout reads: the text, the record, its tokens.
+pub record Page : Type 0 where
+  pub text : List ℕ
+  pub rec : List ℕ
+  pub tokens : Tokens
+
+unfoldable pub tokenText : Page → ℕ → List ℕ
+tokenText p k = textOf (p .text) (p .tokens) k
+
+unfoldable pub passes : Page → Test → ℕ → Bool
+passes p isBang k = sameBytes (tokenText p k) (bytes "!")
+passes p isPipe k = sameBytes (tokenText p k) (bytes "|>")
+passes p isAlphabetic k = firstIs isLetter (tokenText p k)
+passes p isAlphanumeric k = firstIs (λ b. isLetter b || isDigit b) (tokenText p k)
+
+-- `body_exp_needs_newline` of the form whose command is first in these bytes: it looks through ParenExp.
+unfoldable pub needsNewline : List ℕ → Bool
+needsNewline [] = false
+needsNewline (b ∷ bs) =
+    elim (eqb b 0x48)  -- ParenExp
+    [
+      | true ↦ needsNewline bs
+      | false ↦ eqb b 0x4C  -- SeqExp
+          || eqb b 0x4D  -- LetExp
+          || eqb b 0x53  -- HandleExp
+          || eqb b 0x55  -- IfExp
+          || eqb b 0x56  -- WhileExp
+          || eqb b 0x57
+    ]  -- CaseExp
+
+unfoldable pub sees : Page → Look → ℕ → Bool
+sees p isIfExp at = eqb (getD (p .rec) at 0) 0x55
+sees p bodyExpNeedsNewline at = needsNewline (drop at (p .rec))
+
+-- The operand of the declaration at the offset: its first token.
+unfoldable pub firstToken : List ℕ → ℕ → Option ℕ
+firstToken rec at = elim (eqb (u16 rec (at + 1)) noToken) [ true ↦ none | false ↦ some (u16 rec (at + 1)) ]
+
+-- The first name of the path at an offset, with the number of names; or the offset of the part that is not there.
+pub data Name : Type 0 where
+  name : ℕ → ℕ → Name
+  noName : ℕ → Name
+
+-- What AppExp sees of its two expressions, or the offset of the first part that is not there.
+pub data Heads : Type 0 where
+  both : Head → Head → Heads
+  missing : ℕ → Heads
+
+module _ (rec : List ℕ) where
+  -- The name in the first of n groups.
+  unfoldable pub dotName : ℕ → ℕ → Name
+  dotName n at =
+      elim (groupAt rec at)
+      [ true ↦ elim (tokenAt rec (at + 1)) [ some k ↦ name k n | none ↦ noName (at + 1) ] | false ↦ noName at ]
+
+  -- A path without names counts as absent at its list.
+  unfoldable pub listName : ℕ → Name
+  listName at =
+      elim (listAt rec at)
+      [ some n ↦ elim (eqb n 0) [ true ↦ noName at | false ↦ dotName n (at + 3) ] | none ↦ noName at ]
+
+  unfoldable pub pathName : ℕ → Name
+  pathName at = elim (groupAt rec at) [ true ↦ listName (at + 1) | false ↦ noName at ]
+
+  -- The name of the PathExp whose fields stand at the offset: `op_kw`, which plays no part, and the path.
+  unfoldable pub opPathName : ℕ → Name
+  opPathName at =
+      elim (tokenAt rec at)
+      [ some k ↦ pathName (at + 3) | none ↦ elim (absentAt rec at) [ true ↦ pathName (at + 1) | false ↦ noName at ] ]
+
+-- The number of PathExp among the expressions.
+abbrev pathExpNumber : ℕ
+pathExpNumber = 5
+
+module _ (rec : List ℕ) (count : ℕ) where
+  -- What is seen of the expression at the offset, the n-th form, handed on.
+  unfoldable pub head : ℕ → ℕ → (Head → Heads) → Heads
+  head n at k =
+      elim (eqb n pathExpNumber)
+      [ true ↦ elim (opPathName rec (at + 1)) [ name t m ↦ k (pathExp t m) | noName place ↦ missing place ] | false ↦ k otherExp ]
+
+  -- The second expression stands at `arg`. It is there before names are looked for, those of the first expression first.
+  unfoldable pub headsFrom : ℕ → ℕ → ℕ → Heads
+  headsFrom n func arg =
+      elim (formAt rec Exp arg)
+      [ some m ↦ head n func (λ f. head m arg (λ a. both f a)) | none ↦ missing arg ]
+
+  -- `func` stands at the offset and `arg` behind it.
+  unfoldable pub headsAt : ℕ → Heads
+  headsAt func =
+      elim (formAt rec Exp func) [
+        | some n ↦ elim (fieldEnd rec count (Fields.form Exp) func)
+            [ ok arg ↦ headsFrom n func arg | malformed place ↦ missing place | tooDeep place ↦ missing place ]
+        | none ↦ missing func
+      ]
+
+module _ (p : Page) where
+  abbrev count : ℕ
+  count = length (p .tokens .starts)
+
+  -- A type that stopped: what it did stays, and the walk goes on behind the whole of it. The type itself is there.
+  unfoldable pub onwards : ℕ → Outcome → Outcome
+  onwards at (done next es) = done next es
+  onwards at (stopped why es) =
+      elim (formAt (p .rec) Ty at) [
+        | some n ↦ elim (fieldEnd (p .rec) count (Fields.form Ty) at)
+            [ ok next ↦ done next es | malformed place ↦ stopped (absent place) es | tooDeep place ↦ stopped (absent place) es ]
+        | none ↦ stopped why es
+      ]
+
+  unfoldable pub outcome : Layout → ℕ → Outcome
+  outcome skip at = done at []
+  outcome (v ⨾ w) at = bind (outcome v at) (λ next. outcome w next)
+  outcome (word w) at = done at (Word w ∷ [])
+  outcome (write k) at = done at (Token k ∷ [])
+  outcome (comment k) at = done at (Comment k ∷ [])
+  outcome (output-indent depth) at = done at (Indent depth ∷ [])
+  outcome (formed depth) at = done at (Formed depth ∷ [])
+  outcome (token k) at = elim (tokenAt (p .rec) at) [ some n ↦ outcome (k n) (at + 3) | none ↦ stopped (absent at) [] ]
+  outcome (group w) at = elim (groupAt (p .rec) at) [ true ↦ outcome w (at + 1) | false ↦ stopped (absent at) [] ]
+  outcome (choice k) at = elim (choiceAt (p .rec) at) [ some n ↦ outcome (k n) (at + 2) | none ↦ stopped (absent at) [] ]
+  outcome (form family k) at =
+      elim (formAt (p .rec) family at)
+      [ some n ↦ outcome (k n) (at + formWidth family) | none ↦ stopped (absent at) [] ]
+  outcome (list k) at = elim (listAt (p .rec) at) [ some n ↦ outcome (k n) (at + 3) | none ↦ stopped (absent at) [] ]
+  outcome (declaration k) at =
+      elim (formAt (p .rec) DecOne at) [
+        | some n ↦ outcome (k (record { place = at; number = n; first = firstToken (p .rec) at })) (at + formWidth DecOne)
+        | none ↦ stopped (absent at) []
+      ]
+  outcome (optional k) at =
+      elim (tokenAt (p .rec) at) [
+        | some n ↦ outcome (k (some n)) (at + 3)
+        | none ↦ elim (absentAt (p .rec) at) [ true ↦ outcome (k none) (at + 1) | false ↦ stopped (absent at) [] ]
+      ]
+  outcome (maybe w) at = elim (absentAt (p .rec) at) [ true ↦ done (at + 1) [] | false ↦ outcome w at ]
+  outcome (look l k) at = outcome (k (sees p l at)) at
+  outcome (test t n k) at = outcome (k (passes p t n)) at
+  outcome (above n k) at = outcome (k (commentAbove (p .tokens .kinds) n)) at
+  outcome (firstName k) at =
+      elim (pathName (p .rec) at) [ name n m ↦ outcome (k (some n)) at | noName place ↦ outcome (k none) at ]
+  outcome (heads k) at =
+      elim (headsAt (p .rec) count at) [ both f a ↦ outcome (k f a) at | missing place ↦ stopped (absent place) [] ]
+  outcome (dropped w) at = onwards at (outcome w at)
+  outcome halt at = stopped (absent at) []
+  outcome (import place) at = stopped (imported place) []

@@ -1,0 +1,77 @@
+-- `get_pat` of 000: a layout for each arm, over the walks one form deeper.
+use mathlib.Core.List.{List, [], _∷_}
+use lib.ListN.{getD}
+use Rattle.layout.specs.Layout.{Layout, _⨾_, word, group, choice, maybe, halt}
+use Rattle.layout.specs.Helpers.{Walkers, text, op-path, sep}
+use Rattle.layout.specs.Ty.{ty-annotation}
+
+module _ (ws : Walkers) where
+  open Walkers ws using (get-ty, get-pat)
+
+  unfoldable pub WildcardPat : Layout
+  WildcardPat = word "_"
+
+  unfoldable pub SConPat : Layout
+  SConPat = text
+
+  unfoldable pub ConPat : Layout
+  ConPat = op-path ⨾ maybe (word " " ⨾ get-pat)
+
+  unfoldable pub RestPatRow : Layout
+  RestPatRow = word "..."
+
+  unfoldable pub LabAndPatPatRow : Layout
+  LabAndPatPatRow = text ⨾ word " = " ⨾ get-pat
+
+  unfoldable pub LabPatRow : Layout
+  LabPatRow = text ⨾ ty-annotation ws ⨾ maybe (group (word " as " ⨾ get-pat))
+
+  unfoldable pub pat-row : Layout
+  pat-row = group (choice λ which. getD (RestPatRow ∷ LabAndPatPatRow ∷ LabPatRow ∷ []) which halt)
+
+  unfoldable pub RecordPat : Layout
+  RecordPat = word "{ " ⨾ sep ", " pat-row ⨾ word " }"
+
+  unfoldable pub ParenPat : Layout
+  ParenPat = word "(" ⨾ get-pat ⨾ word ")"
+
+  unfoldable pub pat-args : Layout
+  pat-args = sep ", " (group get-pat)
+
+  unfoldable pub TuplePat : Layout
+  TuplePat = word "(" ⨾ pat-args ⨾ word ")"
+
+  unfoldable pub ListPat : Layout
+  ListPat = word "[" ⨾ pat-args ⨾ word "]"
+
+  unfoldable pub VectorPat : Layout
+  VectorPat = word "#[" ⨾ group pat-args ⨾ word "]"
+
+  unfoldable pub InfixPat : Layout
+  InfixPat = get-pat ⨾ word " " ⨾ text ⨾ word " " ⨾ get-pat
+
+  unfoldable pub TypedPat : Layout
+  TypedPat = get-pat ⨾ word " : " ⨾ get-ty
+
+  unfoldable pub AsPat : Layout
+  AsPat = get-pat ⨾ word " as " ⨾ group get-pat
+
+  unfoldable pub OrPat : Layout
+  OrPat = get-pat ⨾ word " | " ⨾ get-pat
+
+  -- The arms in order.
+  unfoldable pub pats : List Layout
+  pats =
+      WildcardPat
+      ∷ SConPat
+      ∷ ConPat
+      ∷ RecordPat
+      ∷ ParenPat
+      ∷ TuplePat
+      ∷ ListPat
+      ∷ VectorPat
+      ∷ InfixPat
+      ∷ TypedPat
+      ∷ AsPat
+      ∷ OrPat
+      ∷ []

@@ -1,0 +1,36 @@
+//! A decoder of the record, written from document 01, and the arithmetic of the verdicts.
+//!
+//! [`decode`] tells numbers 1 to 4 with their places on any bytes, else it gives the tree.
+//! [`Measures::bounds`] and [`token_bound`] decide numbers 7 to 9. [`program`] reads the input of
+//! the program `diverplume` and writes the line that it prints.
+
+pub mod program;
+mod record;
+mod verdict;
+
+pub use record::decode;
+pub use verdict::{token_bound, Measures, Refusal};
+
+/// The numbers of the verdicts.
+pub mod number {
+    /// Accepted.
+    pub const ACCEPTED: u8 = 0;
+    /// Text or record too long.
+    pub const TOO_LONG: u8 = 1;
+    /// A text byte of 128 or more.
+    pub const TEXT_BYTE: u8 = 2;
+    /// Record malformed.
+    pub const MALFORMED: u8 = 3;
+    /// The 201st form inside.
+    pub const TOO_DEEP: u8 = 4;
+    /// Syntax.
+    pub const SYNTAX: u8 = 5;
+    /// Comments left.
+    pub const COMMENTS: u8 = 6;
+    /// Deepest × tab size over 4,294,967,295.
+    pub const INDENT: u8 = 7;
+    /// Output too short.
+    pub const OUTPUT: u8 = 8;
+    /// Lookup of a token number not below the count.
+    pub const TOKEN: u8 = 9;
+}
