@@ -10,3 +10,5 @@ pub mod StrExp
 pub mod DecOne
 pub mod Walk
 pub mod Events
+pub mod Words
+pub mod State

@@ -1,0 +1,3 @@
+pub mod Placing
+pub mod Pieces
+pub mod Steps

@@ -1,0 +1,145 @@
+-- What the walk's functions do to their state and to what is lent to them, event by event.
+-- Their sums stop at a cap; proofs/Exact says that on a sheet that passes 1 to 4 none is met.
+use Prim.Native.Nat.{ℕ, _+_, _-_, _*_, min, max}
+use Prim.Native.String.{String}
+use mathlib.Core.List.{List, [], _∷_}
+use mathlib.Core.Bool.{Bool, true, false, cond, not, _&&_}
+use mathlib.Core.Path.{_≡_}
+use lib.ListN.{length, getD, take, drop, replicate}
+use lib.Seq.{paste}
+use lib.Dec.{leb, eqb}
+use Rattle.text.specs.Bytes.{bytes}
+use Rattle.comments.specs.Set.{wordsOf, holds}
+use Rattle.layout.specs.declared.St.{St}
+use Rattle.layout.specs.declared.Cfg.{Cfg}
+use Rattle.layout.specs.declared.Answer.{Answer}
+use Rattle.layout.specs.declared.Piece.{Piece}
+use Rattle.layout.specs.declared.Answer.the-variants.{Done, Stopped}
+use Rattle.layout.specs.Layout.{Layout}
+use Rattle.layout.specs.Helpers as Helpers
+use Rattle.layout.specs.Meaning.{Page, Event, Word, Token, Comment, Formed, Indent, Outcome, done, stopped, Stop, absent, imported, outcome, tokenText}
+use Rattle.layout.specs.Events.{trimmed}
+
+abbrev pub cap : ℕ
+cap = 0x8000_0000
+
+abbrev pub satOf : ℕ → ℕ → ℕ
+satOf a b = min cap (a + b)
+
+-- The offset in the output where the next byte goes.
+abbrev pub placeOf : ℕ → St → ℕ
+placeOf tab s = min cap (s .letters) + tab * min cap (s .units)
+
+-- A piece in the output at an offset, where it fits.
+abbrev pub placed : List ℕ → ℕ → List ℕ → List ℕ
+placed o at w = cond (leb (at + length w) (length o)) (paste o at w (length w)) o
+
+-- Spaces in the output from an offset to another, where they fit.
+abbrev pub spaced : List ℕ → ℕ → ℕ → List ℕ
+spaced o at end = cond (leb end (length o)) (paste o at (replicate (end - at) 32) (end - at)) o
+
+-- A part of one of two runs of bytes.
+abbrev pub pieceOf : List ℕ → List ℕ → Piece → List ℕ
+pieceOf run text (Piece.Word a n) = take n (drop a run)
+pieceOf run text (Piece.Text a n) = take n (drop a text)
+
+abbrev pub moved : ℕ → St → St
+moved at s = record { at = at; deepest = s .deepest; letters = s .letters; units = s .units }
+
+abbrev pub withLetters : ℕ → St → St
+withLetters n s = record { at = s .at; deepest = s .deepest; letters = satOf (s .letters) n; units = s .units }
+
+abbrev pub withDepth : ℕ → St → St
+withDepth d s = record { at = s .at; deepest = max (s .deepest) d; letters = s .letters; units = s .units }
+
+abbrev pub withUnits : ℕ → St → St
+withUnits d s = record { at = s .at; deepest = s .deepest; letters = s .letters; units = satOf (s .units) d }
+
+-- The state of a run, the output, and the words of the set of comments left.
+pub record Run : Type 0 where
+  pub st : St
+  pub out : List ℕ
+  pub left : List ℕ
+
+abbrev pub runOf : St → List ℕ → List ℕ → Run
+runOf s o m = record { st = s; out = o; left = m }
+
+abbrev pub at : ℕ → Run → Run
+at a g = runOf (moved a (g .st)) (g .out) (g .left)
+
+-- A piece is written.
+abbrev pub wrote : ℕ → List ℕ → Run → Run
+wrote tab w g = runOf (withLetters (length w) (g .st)) (placed (g .out) (placeOf tab (g .st)) w) (g .left)
+
+-- The words without the token.
+abbrev pub struck : List ℕ → ℕ → List ℕ
+struck words k = wordsOf (λ j. holds words j && not (eqb j k))
+
+module _ (p : Page) (tab : ℕ) where
+  unfoldable pub effect : Event → Run → Run
+  effect (Word w) g = wrote tab (bytes w) g
+  effect (Token k) g = wrote tab (tokenText p k) g
+  effect (Comment k) g = wrote tab (trimmed p k) (runOf (g .st) (g .out) (struck (g .left) k))
+  effect (Formed d) g = runOf (withDepth d (g .st)) (g .out) (g .left)
+  effect (Indent d) g =
+      runOf (withUnits d (g .st)) (spaced (g .out) (placeOf tab (g .st)) (placeOf tab (withUnits d (g .st)))) (g .left)
+
+  unfoldable pub effects : List Event → Run → Run
+  effects [] g = g
+  effects (e ∷ es) g = effects es (effect e g)
+
+-- Where a run ends: with the cursor moved, or at a stop.
+pub data Ran : Type 0 where
+  went : Run → Ran
+  fell : Stop → Run → Ran
+
+module _ (p : Page) (tab : ℕ) where
+  unfoldable pub run : Outcome → Run → Ran
+  run (done a es) g = went (at a (effects p tab es g))
+  run (stopped why es) g = fell why (at 0 (effects p tab es g))
+
+  -- A layout from the cursor of the state.
+  unfoldable pub runs : Layout → Run → Ran
+  runs w g = run (outcome p w (g .st .at)) g
+
+unfoldable pub stopOf : ℕ → Bool → Stop
+stopOf place false = absent place
+stopOf place true = imported place
+
+-- An answer with the output and the words beside it. At a stop the cursor does not count.
+abbrev pub packed : Answer → List ℕ → List ℕ → Ran
+packed (Done s) o m = went (runOf s o m)
+packed (Stopped s place import) o m = fell (stopOf place import) (at 0 (runOf s o m))
+
+abbrev pub page : List ℕ → List ℕ → List ℕ → List ℕ → List ℕ → Page
+page x r kinds starts lens = record { text = x; rec = r; tokens = record { kinds = kinds; starts = starts; lengths = lens } }
+
+-- The configuration that a layout sees.
+abbrev pub cfgOf : Cfg → Helpers.Cfg
+cfgOf c = record { depth = c .depth; extra-blank = c .blank }
+
+-- ---- contracts: a record each, so that a law's arguments are found from it
+-- What a function of the walk says: its answer, its output and the set are what the layout's run leaves.
+pub record Walked (p : Page) (tab : ℕ) (w : Layout) (g : Run) (r : Answer) (o m : List ℕ) : Type 0 where
+  pub is : packed r o m ≡ runs p tab w g
+
+-- The same of a function that asks no kinds and strikes no comment out.
+pub record Plain (x r starts lens : List ℕ) (tab : ℕ) (w : Layout) (s : St) (o : List ℕ) (a : Answer) (o′ : List ℕ) : Type 0 where
+  pub is : (kinds m : List ℕ) → Walked (page x r kinds starts lens) tab w (runOf s o m) a o′ m
+
+pub record Wrote (tab : ℕ) (w : List ℕ) (s : St) (o : List ℕ) (s′ : St) (o′ : List ℕ) : Type 0 where
+  pub st : s′ ≡ withLetters (length w) s
+  pub out : o′ ≡ placed o (placeOf tab s) w
+
+-- What a function says that only writes, and fixed words alone: its state and output are what the layout's run leaves.
+pub record Sure (tab : ℕ) (w : Layout) (s : St) (o : List ℕ) (s′ : St) (o′ : List ℕ) : Type 0 where
+  pub is : (p : Page) (m : List ℕ) → Walked p tab w (runOf s o m) (Done s′) o′ m
+
+-- A token's text is written.
+pub record Texted (x starts lens : List ℕ) (tab k : ℕ) (s : St) (o : List ℕ) (s′ : St) (o′ : List ℕ) : Type 0 where
+  pub is : Wrote tab (take (getD lens k 0) (drop (getD starts k 0) x)) s o s′ o′
+
+-- An indent is written.
+pub record Indented (tab d : ℕ) (s : St) (o : List ℕ) (s′ : St) (o′ : List ℕ) : Type 0 where
+  pub st : s′ ≡ withUnits d s
+  pub out : o′ ≡ spaced o (placeOf tab s) (placeOf tab (withUnits d s))
