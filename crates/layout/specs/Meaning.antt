@@ -9,7 +9,7 @@ use lib.Dec.{leb, eqb}
 use Rattle.text.specs.Bytes.{bytes, isLetter, isDigit, sameBytes, firstIs}
 use Rattle.reader.specs.Fields.{DecOne, Exp, Ty}
 use Rattle.reader.specs.Fields as Fields
-use Rattle.reader.specs.Commands.{u16, absentAt, tokenAt, listAt, groupAt, choiceAt, formAt, formWidth, noToken}
+use Rattle.reader.specs.Commands.{absentAt, tokenAt, listAt, groupAt, choiceAt, formAt, formWidth, firstToken}
 use Rattle.reader.specs.Tokens.{Tokens, textOf}
 use Rattle.reader.specs.Check.{Checked, ok, malformed, tooDeep, fieldEnd}
 use Rattle.comments.specs.Above.{commentAbove}
@@ -79,10 +79,6 @@ needsNewline (b ∷ bs) =
 unfoldable pub sees : Page → Look → ℕ → Bool
 sees p isIfExp at = eqb (getD (p .rec) at 0) 0x55
 sees p bodyExpNeedsNewline at = needsNewline (drop at (p .rec))
-
--- The operand of the declaration at the offset: its first token.
-unfoldable pub firstToken : List ℕ → ℕ → Option ℕ
-firstToken rec at = elim (eqb (u16 rec (at + 1)) noToken) [ true ↦ none | false ↦ some (u16 rec (at + 1)) ]
 
 -- The first name of the path at an offset, with the number of names; or the offset of the part that is not there.
 pub data Name : Type 0 where

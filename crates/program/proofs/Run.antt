@@ -32,7 +32,7 @@ unfolding Fields.forms Fields.firstForm
 runFields = tt
 
 unfoldable pub runCommands : Unit {0}
-unfolding Commands.formWidth Commands.u16 Commands.command Commands.absentAt Commands.tokenAt Commands.listAt Commands.groupAt Commands.choiceAt Commands.formAt
+unfolding Commands.formWidth Commands.u16 Commands.command Commands.absentAt Commands.tokenAt Commands.listAt Commands.groupAt Commands.choiceAt Commands.formAt Commands.firstToken Commands.numberIn
 runCommands = tt
 
 unfoldable pub runTokens : Unit {0}
@@ -56,7 +56,7 @@ unfolding Above.isKeyword Above.above Above.commentAbove
 runAbove = tt
 
 unfoldable pub runMeaning : Unit {0}
-unfolding Meaning.after Meaning.bind Meaning.tokenText Meaning.passes Meaning.needsNewline Meaning.sees Meaning.firstToken Meaning.dotName Meaning.listName Meaning.pathName Meaning.opPathName Meaning.head Meaning.headsFrom Meaning.headsAt Meaning.onwards Meaning.outcome
+unfolding Meaning.after Meaning.bind Meaning.tokenText Meaning.passes Meaning.needsNewline Meaning.sees Meaning.dotName Meaning.listName Meaning.pathName Meaning.opPathName Meaning.head Meaning.headsFrom Meaning.headsAt Meaning.onwards Meaning.outcome
 runMeaning = tt
 
 unfoldable pub runHelpers : Unit {0}

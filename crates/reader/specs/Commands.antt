@@ -5,6 +5,11 @@ use mathlib.Core.Bool.{Bool, true, false, _&&_, _||_}
 use mathlib.Core.Option.{Option, none, some}
 use lib.ListN.{length, getD}
 use lib.Dec.{leb, ltb, eqb}
+use mathlib.Core.Path.{_≡_}
+use Rattle.reader.specs.declared.commands.Family as Code
+use Rattle.reader.specs.declared.commands.Family.the-variants as Case
+use Rattle.reader.specs.declared.commands.Number.{Number}
+use Rattle.reader.specs.declared.commands.Number.the-variants.{Is, Not}
 use Rattle.reader.specs.Fields.{Family, DecOne, StrExp, SigExp, Exp, Pat, Ty, forms, firstForm}
 
 -- How many bytes a form's command has: a declaration's has one operand, the first token.
@@ -55,3 +60,34 @@ module _ (rec : List ℕ) where
 -- The operand of a declaration that has no first token.
 abbrev pub noToken : ℕ
 noToken = 0xFFFF
+
+-- The operand of the declaration at the offset: its first token.
+unfoldable pub firstToken : List ℕ → ℕ → Option ℕ
+firstToken rec at = elim (eqb (u16 rec (at + 1)) noToken) [ true ↦ none | false ↦ some (u16 rec (at + 1)) ]
+
+-- The family that the code names.
+abbrev pub familyOf : Code.Family → Family
+familyOf Case.DecOne = DecOne
+familyOf Case.StrExp = StrExp
+familyOf Case.SigExp = SigExp
+familyOf Case.Exp = Exp
+familyOf Case.Pat = Pat
+familyOf Case.Ty = Ty
+
+-- The number that an answer holds.
+unfoldable pub numberIn : Number → Option ℕ
+numberIn (Is n) = some n
+numberIn Not = none
+
+-- Contracts: an answer is what the definition reads at the offset.
+pub record CommandAt (tag width : ℕ) (rec : List ℕ) (at : ℕ) (r : Bool) : Type 0 where
+  pub is : r ≡ command rec tag width at
+
+pub record SignAt (reads : List ℕ → ℕ → Bool) (rec : List ℕ) (at : ℕ) (r : Bool) : Type 0 where
+  pub is : r ≡ reads rec at
+
+pub record NumberAt (reads : List ℕ → ℕ → Option ℕ) (rec : List ℕ) (at : ℕ) (r : Number) : Type 0 where
+  pub is : numberIn r ≡ reads rec at
+
+pub record FormAt (family : Code.Family) (rec : List ℕ) (at : ℕ) (r : Number) : Type 0 where
+  pub is : numberIn r ≡ formAt rec (familyOf family) at

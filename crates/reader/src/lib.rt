@@ -1,4 +1,5 @@
 // The record: commands, tokens, the record check, the end of a field (document 01, "The record" and module 3).
+pub mod commands; // commands.rt: the commands, each read at an offset
 
 // What the record check says of a text and a record.
 pub enum Reading {

@@ -1,0 +1,99 @@
+-- Laws of the commands: what a command that stands at an offset says of the record.
+use Prim.Native.Nat.{ℕ, _+_, _-_, _≤_, _<_}
+use mathlib.Core.Path.{_≡_, refl, sym, _∙_, ap}
+use mathlib.Core.List.{List}
+use mathlib.Core.Bool.{Bool, true, false, _&&_}
+use mathlib.Core.Option.{Option, none, some}
+use native.Mathlib.Omega.{arith}
+use lib.ListN.{length, getD, List·getD-eq-default}
+use lib.Dec.{leb, ltb, eqb}
+use borrow.Author.Tests.{le-leb, lt-leb, leb-true, leb-false, lt-ltb, le-ltb, eq-eqb, ne-eqb, eqb-false}
+use Rattle.reader.specs.declared.commands.Family.{Family}
+use Rattle.reader.specs.declared.commands.Number.{Number}
+use Rattle.reader.specs.declared.commands.Number.the-variants.{Is, Not}
+use Rattle.reader.specs.Fields.{forms, firstForm}
+use Rattle.reader.specs.Commands.{u16, command, tokenAt, listAt, choiceAt, formAt, firstToken, noToken, formWidth, familyOf, numberIn, CommandAt, NumberAt, FormAt}
+
+pub and-left : (a b : Bool) → (a && b) ≡ true → a ≡ true
+and-left true b e = refl
+and-left false b e = e
+
+-- A command stands whole.
+pub fits : {rec : List ℕ} {tag width at : ℕ} {b : Bool} → CommandAt tag width rec at b → b ≡ true → at + width ≤ length rec
+unfolding command
+fits {rec} {tag} {width} {at} {b} s t =
+    leb-true (at + width) (length rec) (and-left (leb (at + width) (length rec)) (eqb (getD rec at 0) tag) (sym (s .is) ∙ t))
+
+-- The offset and the width against the length, without a sum.
+pub stands-eq : (at width n : ℕ) → width ≤ n → leb at (n - width) ≡ leb (at + width) n
+stands-eq at width n h = go (leb at (n - width)) refl
+  where
+    go : (b : Bool) → leb at (n - width) ≡ b → leb at (n - width) ≡ leb (at + width) n
+    go true e = e ∙ sym (le-leb (at + width) n (let k : at ≤ n - width = leb-true at (n - width) e in omega arith))
+    go false e = e ∙ sym (lt-leb (at + width) n (let k : n - width < at = leb-false at (n - width) e in omega arith))
+
+module _ {rec : List ℕ} {at : ℕ} {b : Bool} where
+  pub token-yes : {n : ℕ} → CommandAt 1 3 rec at b → b ≡ true → n ≡ u16 rec (at + 1) → NumberAt tokenAt rec at (Is n)
+  unfolding tokenAt numberIn
+  token-yes s t e = record { is = rw (← s .is, tokenAt, t, e) }
+
+  pub token-no : CommandAt 1 3 rec at b → b ≡ false → NumberAt tokenAt rec at Not
+  unfolding tokenAt numberIn
+  token-no s t = record { is = rw (← s .is, tokenAt, t) }
+
+  pub list-yes : {n : ℕ} → CommandAt 2 3 rec at b → b ≡ true → n ≡ u16 rec (at + 1) → NumberAt listAt rec at (Is n)
+  unfolding listAt numberIn
+  list-yes s t e = record { is = rw (← s .is, listAt, t, e) }
+
+  pub list-no : CommandAt 2 3 rec at b → b ≡ false → NumberAt listAt rec at Not
+  unfolding listAt numberIn
+  list-no s t = record { is = rw (← s .is, listAt, t) }
+
+  pub choice-yes : {n : ℕ} → CommandAt 4 2 rec at b → b ≡ true → n ≡ getD rec (at + 1) 0 → NumberAt choiceAt rec at (Is n)
+  unfolding choiceAt numberIn
+  choice-yes s t e = record { is = rw (← s .is, choiceAt, t, e) }
+
+  pub choice-no : CommandAt 4 2 rec at b → b ≡ false → NumberAt choiceAt rec at Not
+  unfolding choiceAt numberIn
+  choice-no s t = record { is = rw (← s .is, choiceAt, t) }
+
+-- The bytes past the end count 0.
+pub u16-past : (rec : List ℕ) (at : ℕ) → length rec ≤ at → 0 ≡ u16 rec at
+unfolding u16
+u16-past rec at h =
+    let k : length rec ≤ at + 1 = omega arith in
+    rw (List·getD-eq-default rec 0 {n = at} h, List·getD-eq-default rec 0 {n = at + 1} k)
+
+-- A form, from the width, the first command and the number of forms of its family.
+module _ {family : Family} {rec : List ℕ} {at width : ℕ} {b : Bool} (w : width ≡ formWidth (familyOf family)) (s : b ≡ leb (at + width) (length rec)) where
+  pub form-cut : b ≡ false → FormAt family rec at Not
+  unfolding formAt numberIn
+  form-cut t = record { is = rw (← w, ← s, formAt, t) }
+
+  module _ {first byte : ℕ} (t : b ≡ true) (f : first ≡ firstForm (familyOf family)) (g : byte ≡ getD rec at 0) where
+    pub form-below : byte < first → FormAt family rec at Not
+    unfolding formAt numberIn
+    form-below h = record { is = rw (← w, ← s, ← f, ← g, formAt, t, lt-leb first byte h) }
+
+    pub form-past : {n : ℕ} → n ≡ length (forms (familyOf family)) → first ≤ byte → n ≤ byte - first → FormAt family rec at Not
+    unfolding formAt numberIn
+    form-past {n} e h k =
+        record { is = rw (← w, ← s, ← f, ← g, ← e, formAt, t, le-leb first byte h, le-ltb byte (first + n) (omega arith)) }
+
+    pub form-is : {n : ℕ} → n ≡ length (forms (familyOf family)) → first ≤ byte → byte - first < n → FormAt family rec at (Is (byte - first))
+    unfolding formAt numberIn
+    form-is {n} e h k =
+        record { is = rw (← w, ← s, ← f, ← g, ← e, formAt, t, le-leb first byte h, lt-ltb byte (first + n) (omega arith), ← f, ← g) }
+
+-- The operand of a declaration.
+module _ {rec : List ℕ} {at k : ℕ} where
+  pub first-none : k ≡ u16 rec (at + 1) → k ≡ noToken → NumberAt firstToken rec at Not
+  unfolding firstToken numberIn
+  first-none e t = record { is = rw (← e, firstToken, eq-eqb k noToken t) }
+
+  pub first-is : k ≡ u16 rec (at + 1) → (k ≡ noToken → ⊥) → NumberAt firstToken rec at (Is k)
+  unfolding firstToken numberIn
+  first-is e t = record { is = rw (← e, firstToken, ne-eqb k noToken t, ← e) }
+
+pub first-past : {rec : List ℕ} {at : ℕ} → length rec ≤ at → NumberAt firstToken rec at (Is 0)
+first-past {rec} {at} h = first-is (u16-past rec (at + 1) (omega arith)) (λ e. eqb-false 0 noToken refl e)
