@@ -24,7 +24,7 @@ use Rattle.doc_comment.specs.Doc as Doc
 use Rattle.program.specs.Program as Program
 
 unfoldable pub runBytes : Unit {0}
-unfolding Bytes.bytes Bytes.between Bytes.isSpace Bytes.isLetter Bytes.isDigit Bytes.trimStart Bytes.trim Bytes.sameBytes Bytes.firstIs Bytes.firstWide
+unfolding Bytes.bytes Bytes.between Bytes.isSpace Bytes.isLetter Bytes.isDigit Bytes.trimStart Bytes.trimEnd Bytes.trim Bytes.sameBytes Bytes.firstIs Bytes.firstWide
 runBytes = tt
 
 unfoldable pub runFields : Unit {0}

@@ -33,9 +33,13 @@ unfoldable pub trimStart : List ℕ → List ℕ
 trimStart [] = []
 trimStart (b ∷ bs) = elim (isSpace b) [ true ↦ trimStart bs | false ↦ b ∷ bs ]
 
+-- The text without the white space that it ends with.
+unfoldable pub trimEnd : List ℕ → List ℕ
+trimEnd bs = reverse (trimStart (reverse bs))
+
 -- `str::trim`: white space is stripped at both ends.
 unfoldable pub trim : List ℕ → List ℕ
-trim bs = reverse (trimStart (reverse (trimStart bs)))
+trim bs = trimEnd (trimStart bs)
 
 -- Whether two runs of bytes are equal.
 unfoldable pub sameBytes : List ℕ → List ℕ → Bool
