@@ -1,3 +1,4 @@
 pub mod Placing
 pub mod Pieces
+pub mod Reading
 pub mod Steps

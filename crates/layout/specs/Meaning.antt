@@ -46,6 +46,11 @@ unfoldable pub bind : Outcome → (ℕ → Outcome) → Outcome
 bind (done at es) k = after es (k at)
 bind (stopped why es) k = stopped why es
 
+-- A field that 000 takes with `?`: what is read at the offset, or a stop there.
+unfoldable pub orStop : Option ℕ → ℕ → (ℕ → Outcome) → Outcome
+orStop (some n) at k = k n
+orStop none at k = stopped (absent at) []
+
 -- What every layout reads: the text, the record, its tokens.
 pub record Page : Type 0 where
   pub text : List ℕ
@@ -160,18 +165,14 @@ module _ (p : Page) where
   outcome (comment k) at = done at (Comment k ∷ [])
   outcome (output-indent depth) at = done at (Indent depth ∷ [])
   outcome (formed depth) at = done at (Formed depth ∷ [])
-  outcome (token k) at = elim (tokenAt (p .rec) at) [ some n ↦ outcome (k n) (at + 3) | none ↦ stopped (absent at) [] ]
+  outcome (token k) at = orStop (tokenAt (p .rec) at) at (λ n. outcome (k n) (at + 3))
   outcome (group w) at = elim (groupAt (p .rec) at) [ true ↦ outcome w (at + 1) | false ↦ stopped (absent at) [] ]
-  outcome (choice k) at = elim (choiceAt (p .rec) at) [ some n ↦ outcome (k n) (at + 2) | none ↦ stopped (absent at) [] ]
-  outcome (form family k) at =
-      elim (formAt (p .rec) family at)
-      [ some n ↦ outcome (k n) (at + formWidth family) | none ↦ stopped (absent at) [] ]
-  outcome (list k) at = elim (listAt (p .rec) at) [ some n ↦ outcome (k n) (at + 3) | none ↦ stopped (absent at) [] ]
+  outcome (choice k) at = orStop (choiceAt (p .rec) at) at (λ n. outcome (k n) (at + 2))
+  outcome (form family k) at = orStop (formAt (p .rec) family at) at (λ n. outcome (k n) (at + formWidth family))
+  outcome (list k) at = orStop (listAt (p .rec) at) at (λ n. outcome (k n) (at + 3))
   outcome (declaration k) at =
-      elim (formAt (p .rec) DecOne at) [
-        | some n ↦ outcome (k (record { place = at; number = n; first = firstToken (p .rec) at })) (at + formWidth DecOne)
-        | none ↦ stopped (absent at) []
-      ]
+      orStop (formAt (p .rec) DecOne at) at
+      (λ n. outcome (k (record { place = at; number = n; first = firstToken (p .rec) at })) (at + formWidth DecOne))
   outcome (optional k) at =
       elim (tokenAt (p .rec) at) [
         | some n ↦ outcome (k (some n)) (at + 3)

@@ -14,6 +14,15 @@ use Rattle.layout.specs.declared.St.{St}
 use Rattle.layout.specs.declared.Cfg.{Cfg}
 use Rattle.layout.specs.declared.Answer.{Answer}
 use Rattle.layout.specs.declared.Piece.{Piece}
+use Rattle.layout.specs.declared.fields.Read.{Read}
+use Rattle.layout.specs.declared.fields.Read.the-variants.{Is}
+use Rattle.layout.specs.declared.fields.Gone.{Gone}
+use Rattle.layout.specs.declared.fields.Gone.the-variants.{Past}
+use Rattle.layout.specs.declared.fields.Given.{Given}
+use Rattle.layout.specs.declared.fields.Given.the-variants.{Absent, Neither}
+use Rattle.reader.specs.declared.commands.Family.{Family}
+use Rattle.reader.specs.Commands.{absentAt, tokenAt, groupAt, formAt, formWidth, familyOf}
+use mathlib.Core.Option.{Option, none, some}
 use Rattle.layout.specs.declared.Answer.the-variants.{Done, Stopped}
 use Rattle.layout.specs.Layout.{Layout}
 use Rattle.layout.specs.Helpers as Helpers
@@ -143,3 +152,40 @@ pub record Texted (x starts lens : List ℕ) (tab k : ℕ) (s : St) (o : List �
 pub record Indented (tab d : ℕ) (s : St) (o : List ℕ) (s′ : St) (o′ : List ℕ) : Type 0 where
   pub st : s′ ≡ withUnits d s
   pub out : o′ ≡ spaced o (placeOf tab s) (placeOf tab (withUnits d s))
+
+-- What is read at the cursor, with the cursor behind it.
+unfoldable pub readOf : ℕ → St → Option ℕ → Read
+readOf width s (some n) = Is n (moved (s .at + width) s)
+readOf width s none = Read.Not
+
+pub record ReadAt (reads : List ℕ → ℕ → Option ℕ) (width : ℕ) (r : List ℕ) (s : St) (x : Read) : Type 0 where
+  pub is : x ≡ readOf width s (reads r (s .at))
+
+-- A form of a family, read at the cursor.
+pub record FormRead (family : Family) (r : List ℕ) (s : St) (x : Read) : Type 0 where
+  pub is : x ≡ readOf (formWidth (familyOf family)) s (formAt r (familyOf family) (s .at))
+
+-- A group at the cursor: the cursor behind it, or a stop.
+unfoldable pub groupOf : St → Bool → Answer
+groupOf s true = Done (moved (s .at + 1) s)
+groupOf s false = Stopped s (s .at) false
+
+pub record GroupRead (r : List ℕ) (s : St) (a : Answer) : Type 0 where
+  pub is : a ≡ groupOf s (groupAt r (s .at))
+
+-- Whether the field at the cursor is absent, with the cursor behind it.
+unfoldable pub goneOf : St → Bool → Gone
+goneOf s true = Past (moved (s .at + 1) s)
+goneOf s false = Gone.There
+
+pub record GoneRead (r : List ℕ) (s : St) (x : Gone) : Type 0 where
+  pub is : x ≡ goneOf s (absentAt r (s .at))
+
+-- A token that may be absent, read at the cursor.
+unfoldable pub optionalOf : St → Option ℕ → Bool → Given
+optionalOf s (some k) gone = Given.Token k (moved (s .at + 3) s)
+optionalOf s none true = Absent (moved (s .at + 1) s)
+optionalOf s none false = Neither
+
+pub record OptionalRead (r : List ℕ) (s : St) (x : Given) : Type 0 where
+  pub is : x ≡ optionalOf s (tokenAt r (s .at)) (absentAt r (s .at))

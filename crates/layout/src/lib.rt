@@ -1,6 +1,7 @@
 // Layouts: what the walk's functions are made of. Writing into a lent output what fits and counting it in any case,
 // and reading the fields of a record (document 01, module 5).
 pub mod words; // words.rt: the fixed words of 000
+pub mod fields; // fields.rt: the fields of a record, each read at the cursor
 
 ghost use mathlib.Core.Path.{_≡_};
 ghost use Prim.Native.Nat.{ℕ, _+_, _*_, min, max};

@@ -56,7 +56,7 @@ unfolding Above.isKeyword Above.above Above.commentAbove
 runAbove = tt
 
 unfoldable pub runMeaning : Unit {0}
-unfolding Meaning.after Meaning.bind Meaning.tokenText Meaning.passes Meaning.needsNewline Meaning.sees Meaning.dotName Meaning.listName Meaning.pathName Meaning.opPathName Meaning.head Meaning.headsFrom Meaning.headsAt Meaning.onwards Meaning.outcome
+unfolding Meaning.after Meaning.orStop Meaning.bind Meaning.tokenText Meaning.passes Meaning.needsNewline Meaning.sees Meaning.dotName Meaning.listName Meaning.pathName Meaning.opPathName Meaning.head Meaning.headsFrom Meaning.headsAt Meaning.onwards Meaning.outcome
 runMeaning = tt
 
 unfoldable pub runHelpers : Unit {0}

@@ -1,0 +1,127 @@
+// The fields of a record, each read at the cursor.
+use crate::Answer;
+use crate::St;
+use reader::commands::Family;
+use reader::commands::Number;
+ghost use mathlib.Core.Path.{_≡_};
+ghost use mathlib.Core.Bool.{false};
+ghost use Rattle.reader.specs.Commands.{absentAt, tokenAt, listAt, choiceAt};
+ghost use mathlib.Core.Option.{none};
+ghost use Rattle.layout.specs.State.{moved as movedTo, ReadAt, FormRead, GroupRead, GoneRead, OptionalRead, optionalOf};
+
+// What is read at the cursor, with the state behind it.
+pub enum Read {
+    Is(usize, St),
+    Not,
+}
+
+// Whether the field at the cursor is absent, with the state behind it.
+pub enum Gone {
+    Past(St),
+    There,
+}
+
+// A token that may be absent: its number, with the state behind it.
+pub enum Given {
+    Token(usize, St),
+    Absent(St),
+    Neither,
+}
+
+// The state with the cursor at an offset.
+pub fn moved(st: St, at: usize) -> St
+    ensures { λ r. ⌜ r ≡ movedTo at st ⌝ }
+{
+    St {
+        at: at,
+        deepest: st.deepest,
+        letters: st.letters,
+        units: st.units,
+    }
+}
+
+// A stop at the cursor: the part there is absent.
+pub fn stop(st: St) -> Answer
+    ensures { λ r. ⌜ r ≡ Answer.Stopped st (st .at) false ⌝ }
+{
+    Answer::Stopped(st, st.at, false)
+}
+
+pub fn token_no(rec: &[u8], st: St) -> Read
+    ensures { λ r. ⌜ ReadAt tokenAt 3 (now (rec .entry)) st r ⌝ }
+{
+    let at = st.at;
+    let Number::Is(n) = reader::commands::token_at(rec, at) else {
+        return Read::Not;
+    };
+    Read::Is(n, moved(st, at + 3))
+}
+
+pub fn list(rec: &[u8], st: St) -> Read
+    ensures { λ r. ⌜ ReadAt listAt 3 (now (rec .entry)) st r ⌝ }
+{
+    let at = st.at;
+    let Number::Is(n) = reader::commands::list_at(rec, at) else {
+        return Read::Not;
+    };
+    Read::Is(n, moved(st, at + 3))
+}
+
+pub fn choice(rec: &[u8], st: St) -> Read
+    ensures { λ r. ⌜ ReadAt choiceAt 2 (now (rec .entry)) st r ⌝ }
+{
+    let at = st.at;
+    let Number::Is(n) = reader::commands::choice_at(rec, at) else {
+        return Read::Not;
+    };
+    Read::Is(n, moved(st, at + 2))
+}
+
+pub fn form(rec: &[u8], st: St, family: Family) -> Read
+    ensures { λ r. ⌜ FormRead family (now (rec .entry)) st r ⌝ }
+{
+    let at = st.at;
+    let Number::Is(n) = reader::commands::form_at(rec, family, at) else {
+        return Read::Not;
+    };
+    Read::Is(n, moved(st, at + reader::commands::form_width(family)))
+}
+
+pub fn group(rec: &[u8], st: St) -> Answer
+    ensures { λ r. ⌜ GroupRead (now (rec .entry)) st r ⌝ }
+{
+    let at = st.at;
+    if reader::commands::group_at(rec, at) {
+        return Answer::Done(moved(st, at + 1));
+    }
+    stop(st)
+}
+
+pub fn absent(rec: &[u8], st: St) -> Gone
+    ensures { λ r. ⌜ GoneRead (now (rec .entry)) st r ⌝ }
+{
+    let at = st.at;
+    if reader::commands::absent_at(rec, at) {
+        return Gone::Past(moved(st, at + 1));
+    }
+    Gone::There
+}
+
+// No token stands at the cursor: the field is absent, or something else stands there.
+fn no_token(rec: &[u8], st: St) -> Given
+    ensures { λ r. ⌜ r ≡ optionalOf st none (absentAt (now (rec .entry)) (st .at)) ⌝ }
+{
+    let Gone::Past(s) = absent(rec, st) else {
+        return Given::Neither;
+    };
+    Given::Absent(s)
+}
+
+pub fn optional(rec: &[u8], st: St) -> Given
+    ensures { λ r. ⌜ OptionalRead (now (rec .entry)) st r ⌝ }
+{
+    let Read::Is(n, s) = token_no(rec, st) else {
+        return no_token(rec, st);
+    };
+    Given::Token(n, s)
+}
