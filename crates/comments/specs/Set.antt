@@ -1,7 +1,8 @@
 -- Document 01, module 2: the comment set, one bit a token, as 64 words of 64 bits.
 use Prim.Native.Nat.{ℕ, zero, suc, _+_, _*_, _/_, _%_, _^_}
 use mathlib.Core.List.{List, [], _∷_}
-use mathlib.Core.Bool.{Bool, true, false}
+use mathlib.Core.Bool.{Bool, true, false, not, _&&_}
+use mathlib.Core.Option.{Option, none, some}
 use lib.ListN.{getD}
 use lib.Dec.{eqb}
 
@@ -13,9 +14,13 @@ blockComment = 1
 unfoldable pub isComment : List ℕ → ℕ → Bool
 isComment kinds k = eqb (getD kinds k 0) blockComment
 
+-- Bit b of a word.
+unfoldable pub bit : ℕ → ℕ → Bool
+bit word b = eqb (word / 2 ^ b % 2) 1
+
 -- Whether a token is in the set of these words: bit b of word w is token 64 × w + b.
 unfoldable pub holds : List ℕ → ℕ → Bool
-holds words k = eqb (getD words (k / 64) 0 / 2 ^ (k % 64) % 2) 1
+holds words k = bit (getD words (k / 64) 0) (k % 64)
 
 -- n bits, the lowest first, of which bit b says whether token k + b is in the set.
 unfoldable pub bits : (ℕ → Bool) → ℕ → ℕ → ℕ
@@ -30,3 +35,21 @@ wordsFrom member k (suc n) = bits member k 64 ∷ wordsFrom member (k + 64) n
 -- The words of a set of tokens.
 unfoldable pub wordsOf : (ℕ → Bool) → List ℕ
 wordsOf member = wordsFrom member 0 64
+
+-- How many tokens the words have room for.
+abbrev pub room : ℕ
+room = 4096
+
+-- The set without one token.
+unfoldable pub without : (ℕ → Bool) → ℕ → ℕ → Bool
+without member k j = member j && not (eqb j k)
+
+-- How many of the n tokens from k on are in the set.
+unfoldable pub count : (ℕ → Bool) → ℕ → ℕ → ℕ
+count member k zero = 0
+count member k (suc n) = elim (member k) [ true ↦ 1 + count member (k + 1) n | false ↦ count member (k + 1) n ]
+
+-- The first of the n tokens from k on that is in the set.
+unfoldable pub first : (ℕ → Bool) → ℕ → ℕ → Option ℕ
+first member k zero = none
+first member k (suc n) = elim (member k) [ true ↦ some k | false ↦ first member (k + 1) n ]

@@ -7,7 +7,7 @@ use lib.ListN.{length, getD, drop, replicate}
 use lib.Dec.{leb}
 use Rattle.reader.specs.Tokens.{Tokens}
 use Rattle.reader.specs.Reading.{Read, refused, sheet, read}
-use Rattle.comments.specs.Set.{wordsOf}
+use Rattle.comments.specs.Set.{wordsOf, first}
 use Rattle.layout.specs.Meaning.{Page, Event, done, stopped}
 use Rattle.layout.specs.Walk.{walk}
 use Rattle.layout.specs.Events.{deepest, letters, units, formatted, isLeft}
@@ -31,11 +31,6 @@ emptySet = replicate 64 0
 -- A verdict whose set is empty.
 abbrev pub verdict : ℕ → ℕ → Measures → Verdict
 verdict number place m = record { number = number; place = place; measures = m; left = emptySet }
-
--- The first of the n tokens from k on that is in a set.
-unfoldable pub first : (ℕ → Bool) → ℕ → ℕ → Option ℕ
-first member k zero = none
-first member k (suc n) = elim (member k) [ true ↦ some k | false ↦ first member (k + 1) n ]
 
 unfoldable pub measuresOf : Page → List Event → Measures
 measuresOf p es = record { deepest = deepest es; letters = letters p es; units = units es }

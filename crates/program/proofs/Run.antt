@@ -48,7 +48,7 @@ unfolding Reading.readTree Reading.readRecord Reading.readText Reading.read Read
 runReading = tt
 
 unfoldable pub runSet : Unit {0}
-unfolding Set.isComment Set.holds Set.bits Set.wordsFrom Set.wordsOf
+unfolding Set.isComment Set.bit Set.holds Set.bits Set.wordsFrom Set.wordsOf Set.without Set.count Set.first
 runSet = tt
 
 unfoldable pub runAbove : Unit {0}
@@ -100,7 +100,7 @@ unfolding Events.sumOf Events.formedDepth Events.deepest Events.indentDepth Even
 runEvents = tt
 
 unfoldable pub runVerdict : Unit {0}
-unfolding Verdict.first Verdict.measuresOf Verdict.comments Verdict.walked Verdict.judge Verdict.check Verdict.put Verdict.format Verdict.get Verdict.numberOf Verdict.placeOf Verdict.givenMeasures Verdict.verdictOf
+unfolding Verdict.measuresOf Verdict.comments Verdict.walked Verdict.judge Verdict.check Verdict.put Verdict.format Verdict.get Verdict.numberOf Verdict.placeOf Verdict.givenMeasures Verdict.verdictOf
 runVerdict = tt
 
 unfoldable pub runLookup : Unit {0}

@@ -1,0 +1,51 @@
+-- Laws of `above`: a step of the search, and tokens past the last. Assumes nothing.
+use Prim.Native.Nat.{ℕ, zero, suc, _+_, _-_, _≤_, _<_}
+use native.Mathlib.Nat.{add-zero, add-suc}
+use native.Mathlib.Omega.{arith}
+use mathlib.Core.Path.{_≡_, refl, sym, ap, _∙_}
+use mathlib.Core.Bool.{Bool, true, false}
+use mathlib.Core.List.{List}
+use mathlib.Core.Option.{Option, none, some}
+use lib.Dec.{eqb, leb}
+use lib.ListN.{length, getD, List·getD-eq-default}
+use Rattle.comments.specs.Set.{isComment}
+use Rattle.comments.specs.Above.{isKeyword, above, commentAbove}
+use Rattle.comments.specs.Answers.{stopped}
+use Rattle.comments.specs.declared.Stop.the-variants.{Comment, Keyword, Start}
+
+module _ (kinds : List ℕ) where
+  -- A token past the last is neither a comment nor a keyword.
+  pub no-comment : (k : ℕ) → length kinds ≤ k → isComment kinds k ≡ false
+  unfolding isComment
+  no-comment k h = rw (List·getD-eq-default kinds 0 h)
+
+  pub no-keyword : (k : ℕ) → length kinds ≤ k → isKeyword kinds k ≡ false
+  unfolding isKeyword
+  no-keyword k h = rw (List·getD-eq-default kinds 0 h)
+
+  module _ (n k : ℕ) (next : n ≡ suc k) (saw : Option ℕ) where
+    pub at-comment : isComment kinds k ≡ true → above kinds saw n ≡ stopped kinds saw (Comment k)
+    unfolding above stopped
+    at-comment c = rw (next, above, c)
+
+    pub at-keyword : isComment kinds k ≡ false → isKeyword kinds k ≡ true → above kinds saw n ≡ stopped kinds saw (Keyword k)
+    unfolding above stopped
+    at-keyword c w = rw (next, above, c, w)
+
+    pub at-other : isComment kinds k ≡ false → isKeyword kinds k ≡ false → above kinds saw n ≡ above kinds saw k
+    unfolding above
+    at-other c w = ap (λ (i : ℕ). above kinds saw i) next ∙ rw (above, c, w)
+
+  pub at-start : (n : ℕ) (saw : Option ℕ) → n ≤ 0 → above kinds saw n ≡ stopped kinds saw Start
+  unfolding above stopped
+  at-start n saw h = let e : n ≡ 0 = omega arith in rw e
+
+  past : (saw : Option ℕ) (d : ℕ) → above kinds saw (length kinds + d) ≡ above kinds saw (length kinds)
+  past saw zero = ap (λ (i : ℕ). above kinds saw i) (add-zero (length kinds))
+  past saw (suc d) =
+      at-other (length kinds + suc d) (length kinds + d) (add-suc (length kinds) d) saw (no-comment (length kinds + d) (omega arith)) (no-keyword (length kinds + d) (omega arith))
+      ∙ past saw d
+
+  -- From a token past the last the search is that from the last.
+  pub from-last : (saw : Option ℕ) (n : ℕ) → length kinds ≤ n → above kinds saw n ≡ above kinds saw (length kinds)
+  from-last saw n h = let e : n ≡ length kinds + (n - length kinds) = omega arith in ap (λ (i : ℕ). above kinds saw i) e ∙ past saw (n - length kinds)

@@ -1,0 +1,447 @@
+-- Laws of the comment set: a word and its bits, the words and the set that they mean, counts and the first token. Assumes nothing.
+use Prim.Native.Nat.{ℕ, zero, suc, _+_, _-_, _*_, _/_, _%_, _^_, _≤_, _<_, zero-le, suc-le-suc}
+use native.Mathlib.Nat.{pow-suc, div-one, add-zero, zero-add, suc-add, one-mul}
+use native.Mathlib.Numerals.{add-one, one-add}
+use native.Mathlib.Omega.{arith}
+use mathlib.Core.Path.{_≡_, refl, sym, ap, ap₂, _∙_}
+use mathlib.Core.Bool.{Bool, true, false, not, _&&_, true≢false, false≢true}
+use mathlib.Core.List.{List, [], _∷_}
+use mathlib.Core.Option.{Option, none, some, Option·none-ne-some, Option·some-ne-none}
+use lib.Dec.{eqb, eqb·suc-suc, lit<}
+use lib.Pow.{shr-shr, shl-exact, pow-mono}
+use lib.Count.{ones, onesIn, ones-step, ones-le, trailingZeros, under}
+use lib.ListN.{length, getD, set, length-set}
+use lib.Seq.{ext-getD, getD-set-same, getD-set-other}
+use borrow.Author.Count.{below-more}
+use borrow.Author.Tests.{eqb-true, eqb-false, eq-eqb, ne-eqb}
+use Rattle.comments.specs.Set.{bit, bits, holds, wordsFrom, wordsOf, room, without, count, first}
+
+-- ---- a word and its bits
+
+bit-zero : (x : ℕ) → bit x 0 ≡ eqb (x % 2) 1
+unfolding bit
+bit-zero x = ap (λ (n : ℕ). eqb (n % 2) 1) (div-one x)
+
+bit-suc : (x i : ℕ) → bit x (suc i) ≡ bit (x / 2) i
+unfolding bit
+bit-suc x i = ap (λ (n : ℕ). eqb (n % 2) 1) (sym (shr-shr x 1 i ∙ ap (λ (n : ℕ). x / 2 ^ n) (one-add i)))
+
+ones-zero : ones 0 ≡ 0
+unfolding ones onesIn
+ones-zero = refl
+
+-- The word x has as its n bits whether the n tokens from k on are in the set.
+pub record Spells (member : ℕ → Bool) (k n x : ℕ) : Type 0 where
+  pub below : x < 2 ^ n
+  pub at : (i : ℕ) → i < n → member (k + i) ≡ bit x i
+
+module _ (member : ℕ → Bool) where
+  spells-head : (n x k : ℕ) → Spells member k (suc n) x → member k ≡ eqb (x % 2) 1
+  spells-head n x k s = ap member (omega arith) ∙ s .at 0 (omega arith) ∙ bit-zero x
+
+  spells-tail : (n x k : ℕ) → Spells member k (suc n) x → Spells member (k + 1) n (x / 2)
+  spells-tail n x k s =
+      record {
+        below = omega (arith, s .below, pow-suc 2 n);
+        at = λ i h. ap member (omega arith) ∙ s .at (suc i) (omega arith) ∙ bit-suc x i;
+      }
+
+  spells-zero : (x k : ℕ) → Spells member k 0 x → x ≡ 0
+  spells-zero x k s = omega (arith, s .below)
+
+  -- The word is determined by its bits.
+  pub bits-is : (n x k : ℕ) → Spells member k n x → bits member k n ≡ x
+  unfolding bits
+  bits-is zero x k s = sym (spells-zero x k s)
+  bits-is (suc n) x k s = go (member k) (spells-head n x k s) (bits-is n (x / 2) (k + 1) (spells-tail n x k s))
+    where
+      go : (t : Bool) → t ≡ eqb (x % 2) 1 → bits member (k + 1) n ≡ x / 2 → _≡_ {A = ℕ} (elim t as (λ y. ℕ) [ true ↦ 1 + 2 * bits member (k + 1) n | false ↦ 2 * bits member (k + 1) n ]) x
+      go true e b = omega (arith, eqb-true (x % 2) 1 (sym e), b)
+      go false e b = omega (arith, eqb-false (x % 2) 1 (sym e), b)
+
+  -- The count of ones counts the tokens.
+  pub ones-count : (n x k : ℕ) → Spells member k n x → ones x ≡ count member k n
+  unfolding count
+  ones-count zero x k s = ap ones (spells-zero x k s) ∙ ones-zero
+  ones-count (suc n) x k s = go (member k) (spells-head n x k s) (ones-count n (x / 2) (k + 1) (spells-tail n x k s))
+    where
+      go : (t : Bool) → t ≡ eqb (x % 2) 1 → ones (x / 2) ≡ count member (k + 1) n → _≡_ {A = ℕ} (ones x) (elim t as (λ y. ℕ) [ true ↦ 1 + count member (k + 1) n | false ↦ count member (k + 1) n ])
+      go true e b = omega (arith, eqb-true (x % 2) 1 (sym e), b, ones-step x)
+      go false e b = omega (arith, eqb-false (x % 2) 1 (sym e), b, ones-step x)
+
+  -- The trailing zeros stand before the first token.
+  pub first-trailing : (n x k : ℕ) → Spells member k n x → (x ≡ 0 → ⊥) → first member k n ≡ some (k + trailingZeros n x)
+  unfolding first trailingZeros
+  first-trailing zero x k s h = absurd (h (spells-zero x k s))
+  first-trailing (suc n) x k s h = go (member k) (x % 2) refl (spells-head n x k s) (λ e. first-trailing n (x / 2) (k + 1) (spells-tail n x k s) (λ z. h (omega arith)))
+    where
+      go : (t : Bool) (d : ℕ) → x % 2 ≡ d → t ≡ eqb d 1 → (d ≡ 0 → first member (k + 1) n ≡ some (k + 1 + trailingZeros n (x / 2))) → _≡_ {A = Option ℕ} (elim t as (λ y. Option ℕ) [ true ↦ some k | false ↦ first member (k + 1) n ]) (some (k + under d (trailingZeros n (x / 2))))
+      go true zero p e f = absurd (true≢false e)
+      go false zero p e f = f refl ∙ ap some (omega arith)
+      go true (suc d) p e f = ap some (omega arith)
+      go false (suc d) p e f = absurd (eqb-false (suc d) 1 (sym e) (omega arith))
+
+  pub first-zero : (n k : ℕ) → Spells member k n 0 → first member k n ≡ none
+  unfolding first
+  first-zero zero k s = refl
+  first-zero (suc n) k s = rw (first, spells-head n 0 k s) (first-zero n (k + 1) (spells-tail n 0 k s))
+
+  -- The bits of the word are the tokens.
+  bits-half : (n k : ℕ) → (bits member k (suc n) / 2 ≡ bits member (k + 1) n) × (member k ≡ eqb (bits member k (suc n) % 2) 1)
+  unfolding bits
+  bits-half n k = go (member k) (bits member (k + 1) n)
+    where
+      go : (t : Bool) (b : ℕ) → ((elim t as (λ y. ℕ) [ true ↦ 1 + 2 * b | false ↦ 2 * b ]) / 2 ≡ b) × (t ≡ eqb ((elim t as (λ y. ℕ) [ true ↦ 1 + 2 * b | false ↦ 2 * b ]) % 2) 1)
+      go true b = (omega arith, sym (eq-eqb ((1 + 2 * b) % 2) 1 (omega arith)))
+      go false b = (omega arith, sym (ne-eqb (2 * b % 2) 1 (λ e. omega arith)))
+
+  bits-at : (n k i : ℕ) → i < n → member (k + i) ≡ bit (bits member k n) i
+  bits-at zero k i h = absurd (omega arith)
+  bits-at (suc n) k zero h = ap member (omega arith) ∙ bits-half n k .1 ∙ sym (bit-zero (bits member k (suc n)))
+  bits-at (suc n) k (suc i) h =
+      ap member (omega arith)
+      ∙ bits-at n (k + 1) i (omega arith)
+      ∙ ap (λ (x : ℕ). bit x i) (sym (bits-half n k .0))
+      ∙ sym (bit-suc (bits member k (suc n)) i)
+
+  pub bits-below : (n k : ℕ) → bits member k n < 2 ^ n
+  unfolding bits
+  bits-below zero k = lit< tt
+  bits-below (suc n) k = go (member k) (bits-below n (k + 1))
+    where
+      go : (t : Bool) → bits member (k + 1) n < 2 ^ n → (elim t as (λ y. ℕ) [ true ↦ 1 + 2 * bits member (k + 1) n | false ↦ 2 * bits member (k + 1) n ]) < 2 ^ suc n
+      go true h = omega (arith, pow-suc 2 n)
+      go false h = omega (arith, pow-suc 2 n)
+
+  pub bits-spells : (n k : ℕ) → Spells member k n (bits member k n)
+  bits-spells n k = record { below = bits-below n k; at = bits-at n k }
+
+  -- A run of tokens, and the run behind it.
+  pub count-add : (n r k : ℕ) → count member k (n + r) ≡ count member k n + count member (k + n) r
+  unfolding count
+  count-add zero r k = ap (λ (i : ℕ). count member k i) (zero-add r) ∙ ap (λ (i : ℕ). count member i r) (sym (add-zero k)) ∙ sym (zero-add _)
+  count-add (suc n) r k = ap (λ (i : ℕ). count member k i) (suc-add n r) ∙ go (member k) (count-add n r (k + 1)) (ap (λ (i : ℕ). count member i r) (omega arith))
+    where
+      go : (t : Bool) → count member (k + 1) (n + r) ≡ count member (k + 1) n + count member (k + 1 + n) r → count member (k + 1 + n) r ≡ count member (k + suc n) r → _≡_ {A = ℕ} (elim t as (λ y. ℕ) [ true ↦ 1 + count member (k + 1) (n + r) | false ↦ count member (k + 1) (n + r) ]) ((elim t as (λ y. ℕ) [ true ↦ 1 + count member (k + 1) n | false ↦ count member (k + 1) n ]) + count member (k + suc n) r)
+      go true e f = omega (arith, e, f)
+      go false e f = omega (arith, e, f)
+
+  pub first-some : (n r k j : ℕ) → first member k n ≡ some j → first member k (n + r) ≡ some j
+  unfolding first
+  first-some zero r k j h = absurd (Option·none-ne-some j h)
+  first-some (suc n) r k j h = ap (λ (i : ℕ). first member k i) (suc-add n r) ∙ go (member k) h (first-some n r (k + 1) j)
+    where
+      go : (t : Bool) → _≡_ {A = Option ℕ} (elim t as (λ y. Option ℕ) [ true ↦ some k | false ↦ first member (k + 1) n ]) (some j) → (first member (k + 1) n ≡ some j → first member (k + 1) (n + r) ≡ some j) → _≡_ {A = Option ℕ} (elim t as (λ y. Option ℕ) [ true ↦ some k | false ↦ first member (k + 1) (n + r) ]) (some j)
+      go true e f = e
+      go false e f = f e
+
+  pub first-none : (n r k : ℕ) → first member k n ≡ none → first member k (n + r) ≡ first member (k + n) r
+  unfolding first
+  first-none zero r k h = ap (λ (i : ℕ). first member k i) (zero-add r) ∙ ap (λ (i : ℕ). first member i r) (omega arith)
+  first-none (suc n) r k h = ap (λ (i : ℕ). first member k i) (suc-add n r) ∙ go (member k) h (first-none n r (k + 1)) (ap (λ (i : ℕ). first member i r) (omega arith))
+    where
+      go : (t : Bool) → _≡_ {A = Option ℕ} (elim t as (λ y. Option ℕ) [ true ↦ some k | false ↦ first member (k + 1) n ]) none → (first member (k + 1) n ≡ none → first member (k + 1) (n + r) ≡ first member (k + 1 + n) r) → first member (k + 1 + n) r ≡ first member (k + suc n) r → _≡_ {A = Option ℕ} (elim t as (λ y. Option ℕ) [ true ↦ some k | false ↦ first member (k + 1) (n + r) ]) (first member (k + suc n) r)
+      go true e f g = absurd (Option·some-ne-none k e)
+      go false e f g = f e ∙ g
+
+  -- No token is in the set.
+  first-empty : (n k : ℕ) → ((i : ℕ) → k ≤ i → member i ≡ false) → first member k n ≡ none
+  unfolding first
+  first-empty zero k h = refl
+  first-empty (suc n) k h = rw (first, h k (omega arith)) (first-empty n (k + 1) (λ i l. h i (omega arith)))
+
+  pub count-none : (n k : ℕ) → count member k n ≡ 0 → first member k n ≡ none
+  unfolding count first
+  count-none zero k h = refl
+  count-none (suc n) k h = go (member k) h (count-none n (k + 1))
+    where
+      go : (t : Bool) → _≡_ {A = ℕ} (elim t as (λ y. ℕ) [ true ↦ 1 + count member (k + 1) n | false ↦ count member (k + 1) n ]) 0 → (count member (k + 1) n ≡ 0 → first member (k + 1) n ≡ none) → _≡_ {A = Option ℕ} (elim t as (λ y. Option ℕ) [ true ↦ some k | false ↦ first member (k + 1) n ]) none
+      go true e f = absurd (omega (arith, e))
+      go false e f = f e
+
+  pub none-count : (n k : ℕ) → first member k n ≡ none → count member k n ≡ 0
+  unfolding count first
+  none-count zero k h = refl
+  none-count (suc n) k h = go (member k) h (none-count n (k + 1))
+    where
+      go : (t : Bool) → _≡_ {A = Option ℕ} (elim t as (λ y. Option ℕ) [ true ↦ some k | false ↦ first member (k + 1) n ]) none → (first member (k + 1) n ≡ none → count member (k + 1) n ≡ 0) → _≡_ {A = ℕ} (elim t as (λ y. ℕ) [ true ↦ 1 + count member (k + 1) n | false ↦ count member (k + 1) n ]) 0
+      go true e f = absurd (Option·some-ne-none k e)
+      go false e f = f e
+
+-- ---- two sets that agree
+
+module _ (f g : ℕ → Bool) where
+  pub bits-same : (n k : ℕ) → ((i : ℕ) → i < n → f (k + i) ≡ g (k + i)) → bits f k n ≡ bits g k n
+  bits-same n k h = bits-is f n (bits g k n) k (record { below = bits-below g n k; at = λ i l. h i l ∙ bits-at g n k i l })
+
+  pub count-same : (n k : ℕ) → ((i : ℕ) → i < n → f (k + i) ≡ g (k + i)) → count f k n ≡ count g k n
+  count-same n k h =
+      sym (ones-count f n (bits g k n) k (record { below = bits-below g n k; at = λ i l. h i l ∙ bits-at g n k i l }))
+      ∙ ones-count g n (bits g k n) k (bits-spells g n k)
+
+  pub first-same : (n k : ℕ) → ((i : ℕ) → i < n → f (k + i) ≡ g (k + i)) → first f k n ≡ first g k n
+  unfolding first
+  first-same zero k h = refl
+  first-same (suc n) k h =
+      let head : f k ≡ g k = ap f (sym (add-zero k)) ∙ h 0 (omega arith) ∙ ap g (add-zero k) in
+      let tail : (i : ℕ) → i < n → f (k + 1 + i) ≡ g (k + 1 + i) = λ i l. let e : k + 1 + i ≡ k + suc i = omega arith in ap f e ∙ h (suc i) (omega arith) ∙ ap g (sym e) in
+      let rest : first f (k + 1) n ≡ first g (k + 1) n = first-same n (k + 1) tail in
+      λ i. elim (head i) as (λ y. Option ℕ) [ true ↦ some k | false ↦ rest i ]
+
+-- ---- the words and the set that they mean
+
+module _ (member : ℕ → Bool) where
+  words-length : (n k : ℕ) → length (wordsFrom member k n) ≡ n
+  unfolding wordsFrom
+  words-length zero k = refl
+  words-length (suc n) k = ap suc (words-length n (k + 64))
+
+  words-at : (n w k : ℕ) → w < n → getD (wordsFrom member k n) w 0 ≡ bits member (k + 64 * w) 64
+  unfolding wordsFrom
+  words-at zero w k h = absurd (omega arith)
+  words-at (suc n) zero k h = ap (λ (i : ℕ). bits member i 64) (sym (add-zero k))
+  words-at (suc n) (suc w) k h =
+      let e : k + 64 + 64 * w ≡ k + 64 * suc w = omega arith in
+      words-at n w (k + 64) (omega arith) ∙ ap (λ (i : ℕ). bits member i 64) e
+
+  word-at : (w : ℕ) → w < 64 → getD (wordsOf member) w 0 ≡ bits member (64 * w) 64
+  unfolding wordsOf
+  word-at w h = words-at 64 w 0 h ∙ ap (λ (i : ℕ). bits member i 64) (zero-add (64 * w))
+
+  pub length-words : length (wordsOf member) ≡ 64
+  unfolding wordsOf
+  length-words = words-length 64 0
+
+  -- 64 words are those of a set where each has the set's bits.
+  pub words-is : (words : List ℕ) → length words ≡ 64 → ((w : ℕ) → w < 64 → getD words w 0 ≡ bits member (64 * w) 64) → words ≡ wordsOf member
+  words-is words l h = ext-getD 0 words (wordsOf member) (l ∙ sym length-words) (λ w b. h w (omega (arith, l)) ∙ sym (word-at w (omega (arith, l))))
+
+  pub holds-words : (k : ℕ) → k < room → holds (wordsOf member) k ≡ member k
+  unfolding holds
+  holds-words k h =
+      let e : 64 * (k / 64) + k % 64 ≡ k = omega arith in
+      ap (λ (x : ℕ). bit x (k % 64)) (word-at (k / 64) (omega arith)) ∙ sym (bits-at member 64 (64 * (k / 64)) (k % 64) (omega arith)) ∙ ap member e
+
+-- A word of the set that the words mean.
+pub holds-spells : (words : List ℕ) (w : ℕ) → getD words w 0 < 2 ^ 64 → Spells (holds words) (64 * w) 64 (getD words w 0)
+unfolding holds
+holds-spells words w h =
+    record {
+      below = h;
+      at = λ i l. let d : (64 * w + i) / 64 ≡ w = omega arith in let m : (64 * w + i) % 64 ≡ i = omega arith in rw (d, m);
+    }
+
+-- Sets that agree on the tokens have the same words, count and first token.
+module _ (f g : ℕ → Bool) (h : (k : ℕ) → k < room → f k ≡ g k) where
+  from-zero : (i : ℕ) → i < room → f (0 + i) ≡ g (0 + i)
+  from-zero i l = ap f (zero-add i) ∙ h i l ∙ ap g (sym (zero-add i))
+
+  pub words-same : wordsOf f ≡ wordsOf g
+  words-same =
+      words-is g (wordsOf f) (length-words f) (λ w l. word-at f w l ∙ bits-same f g 64 (64 * w) (λ i b. h (64 * w + i) (omega arith)))
+
+  pub room-count : count f 0 room ≡ count g 0 room
+  room-count = count-same f g room 0 from-zero
+
+  pub room-first : first f 0 room ≡ first g 0 room
+  room-first = first-same f g room 0 from-zero
+
+-- The set of the words of a set is that set.
+module _ (member : ℕ → Bool) (words : List ℕ) (e : words ≡ wordsOf member) where
+  pub holds-is : (k : ℕ) → k < room → holds words k ≡ member k
+  holds-is k h = ap (λ (l : List ℕ). holds l k) e ∙ holds-words member k h
+
+  -- What `without` gives of the words of a set.
+  pub words-without : (k : ℕ) → wordsOf (without (holds words) k) ≡ wordsOf (without member k)
+  unfolding without
+  words-without k = words-same (without (holds words) k) (without member k) (λ j h. ap (λ (t : Bool). t && not (eqb j k)) (holds-is j h))
+
+  pub words-count : count (holds words) 0 room ≡ count member 0 room
+  words-count = room-count (holds words) member holds-is
+
+  pub words-first : first (holds words) 0 room ≡ first member 0 room
+  words-first = room-first (holds words) member holds-is
+
+-- Where no token from n on is in the set, the first n decide.
+pub first-among : (member : ℕ → Bool) (n : ℕ) → n ≤ room → ((k : ℕ) → n ≤ k → member k ≡ false) → first member 0 room ≡ first member 0 n
+first-among member n h z =
+    let e : room ≡ n + (room - n) = omega arith in
+    ap (λ (i : ℕ). first member 0 i) e ∙ go (first member 0 n) refl
+  where
+    go : (o : Option ℕ) → first member 0 n ≡ o → first member 0 (n + (room - n)) ≡ first member 0 n
+    go none f = first-none member n (room - n) 0 f ∙ first-empty member (room - n) (0 + n) (λ i l. z i (omega arith)) ∙ sym f
+    go (some j) f = first-some member n (room - n) 0 j f ∙ sym f
+
+-- ---- a bit struck out of a word
+
+and-false : (t : Bool) → (t && false) ≡ false
+and-false true = refl
+and-false false = refl
+
+and-true : (t : Bool) → t ≡ (t && true)
+and-true true = refl
+and-true false = refl
+
+and-other : (t : Bool) (i b : ℕ) → (i ≡ b → ⊥) → t ≡ (t && not (eqb i b))
+and-other t i b h = rw (ne-eqb i b h) (and-true t)
+
+bit-le : (b x : ℕ) → bit x b ≡ true → 2 ^ b ≤ x
+bit-le zero x h = omega (arith, eqb-true (x % 2) 1 (sym (bit-zero x) ∙ h))
+bit-le (suc b) x h = omega (arith, bit-le b (x / 2) (sym (bit-suc x b) ∙ h), pow-suc 2 b)
+
+-- With bit b set, the word less 2 ^ b has the other bits.
+pub bit-struck : (b x i : ℕ) → bit x b ≡ true → bit (x - 2 ^ b) i ≡ (bit x i && not (eqb i b))
+bit-struck zero x zero h =
+    bit-zero (x - 1) ∙ ne-eqb ((x - 1) % 2) 1 (λ e. omega (arith, eqb-true (x % 2) 1 (sym (bit-zero x) ∙ h))) ∙ sym (and-false (bit x 0))
+bit-struck zero x (suc i) h =
+    let e : (x - 1) / 2 ≡ x / 2 = omega (arith, eqb-true (x % 2) 1 (sym (bit-zero x) ∙ h)) in
+    bit-suc (x - 1) i ∙ ap (λ (y : ℕ). bit y i) e ∙ sym (bit-suc x i) ∙ and-other (bit x (suc i)) (suc i) 0 (λ e. omega arith)
+bit-struck (suc b) x zero h =
+    let e : (x - 2 ^ suc b) % 2 ≡ x % 2 = omega (arith, bit-le (suc b) x h, pow-suc 2 b) in
+    bit-zero (x - 2 ^ suc b) ∙ ap (λ (y : ℕ). eqb y 1) e ∙ sym (bit-zero x) ∙ and-other (bit x 0) 0 (suc b) (λ e. omega arith)
+bit-struck (suc b) x (suc i) h =
+    let e : (x - 2 ^ suc b) / 2 ≡ x / 2 - 2 ^ b = omega (arith, pow-suc 2 b) in
+    bit-suc (x - 2 ^ suc b) i
+    ∙ ap (λ (y : ℕ). bit y i) e
+    ∙ bit-struck b (x / 2) i (sym (bit-suc x b) ∙ h)
+    ∙ ap₂ (λ (s t : Bool). s && not t) (sym (bit-suc x i)) (sym (eqb·suc-suc i b))
+
+-- With bit b not set, the word has no other bits.
+pub bit-kept : (b x i : ℕ) → bit x b ≡ false → bit x i ≡ (bit x i && not (eqb i b))
+bit-kept b x i h = go (eqb i b) refl
+  where
+    go : (t : Bool) → eqb i b ≡ t → bit x i ≡ (bit x i && not t)
+    go true e = rw (eqb-true i b e, h)
+    go false e = and-true (bit x i)
+
+-- ---- the loops
+
+module _ (words : List ℕ) (long : length words ≡ 64) (fit : (w : ℕ) → getD words w 0 < 2 ^ 64) (k : ℕ) where
+  -- A word that does not hold token k.
+  other-word : (w : ℕ) → (w ≡ k / 64 → ⊥) → Spells (without (holds words) k) (64 * w) 64 (getD words w 0)
+  unfolding without
+  other-word w ne =
+      record {
+        below = fit w;
+        at = λ i l. sym (and-other (holds words (64 * w + i)) (64 * w + i) k (λ e. ne (omega arith))) ∙ holds-spells words w (fit w) .at i l;
+      }
+
+  -- The word that holds token k.
+  struck-word : (y : ℕ) → y < 2 ^ 64 → ((i : ℕ) → bit y i ≡ (bit (getD words (k / 64) 0) i && not (eqb i (k % 64)))) → Spells (without (holds words) k) (64 * (k / 64)) 64 y
+  unfolding without
+  struck-word y b e =
+      record {
+        below = b;
+        at = λ i l. ap₂ (λ (s t : Bool). s && not t) (holds-spells words (k / 64) (fit (k / 64)) .at i l) (same i l) ∙ sym (e i);
+      }
+    where
+      same : (i : ℕ) → i < 64 → eqb (64 * (k / 64) + i) k ≡ eqb i (k % 64)
+      same i l = go (eqb i (k % 64)) refl
+        where
+          go : (t : Bool) → eqb i (k % 64) ≡ t → eqb (64 * (k / 64) + i) k ≡ t
+          go true e = eq-eqb (64 * (k / 64) + i) k (omega (arith, eqb-true i (k % 64) e))
+          go false e = ne-eqb (64 * (k / 64) + i) k (λ f. eqb-false i (k % 64) e (omega arith))
+
+  pub words-kept : 64 ≤ k / 64 → words ≡ wordsOf (without (holds words) k)
+  words-kept h =
+      words-is (without (holds words) k) words long (λ w l. sym (bits-is (without (holds words) k) 64 (getD words w 0) (64 * w) (other-word w (λ e. omega arith))))
+
+  pub words-struck : (y : ℕ) → k / 64 < 64 → y < 2 ^ 64 → ((i : ℕ) → bit y i ≡ (bit (getD words (k / 64) 0) i && not (eqb i (k % 64)))) → set words (k / 64) y ≡ wordsOf (without (holds words) k)
+  words-struck y h b e =
+      words-is (without (holds words) k) (set words (k / 64) y) (length-set words (k / 64) y ∙ long)
+      (λ w l. go w (eqb w (k / 64)) refl)
+    where
+      go : (w : ℕ) (t : Bool) → eqb w (k / 64) ≡ t → getD (set words (k / 64) y) w 0 ≡ bits (without (holds words) k) (64 * w) 64
+      go w true f =
+          rw (eqb-true w (k / 64) f)
+          (getD-set-same words (k / 64) y 0 (omega arith)
+          ∙ sym (bits-is (without (holds words) k) 64 y (64 * (k / 64)) (struck-word y b e)))
+      go w false f =
+          getD-set-other words (k / 64) w y 0 (eqb-false w (k / 64) f)
+          ∙ sym (bits-is (without (holds words) k) 64 (getD words w 0) (64 * w) (other-word w (eqb-false w (k / 64) f)))
+
+module _ (words : List ℕ) (w : ℕ) (fit : getD words w 0 < 2 ^ 64) where
+  -- The next word's tokens are counted by its ones.
+  pub count-word : count (holds words) 0 (64 * (w + 1)) ≡ count (holds words) 0 (64 * w) + ones (getD words w 0)
+  count-word =
+      let e : 64 * (w + 1) ≡ 64 * w + 64 = omega arith in
+      ap (λ (n : ℕ). count (holds words) 0 n) e
+      ∙ count-add (holds words) (64 * w) 64 0
+      ∙ ap (λ (n : ℕ). count (holds words) 0 (64 * w) + n)
+      (ap (λ (k : ℕ). count (holds words) k 64) (zero-add (64 * w))
+      ∙ sym (ones-count (holds words) 64 (getD words w 0) (64 * w) (holds-spells words w fit)))
+
+  -- The first token at or behind the next word.
+  rest-of : w < 64 → room - 64 * w ≡ 64 + (room - 64 * (w + 1))
+  rest-of l = omega arith
+
+  pub first-later : w < 64 → getD words w 0 ≡ 0 → first (holds words) (64 * w) (room - 64 * w) ≡ first (holds words) (64 * (w + 1)) (room - 64 * (w + 1))
+  first-later l e =
+      let next : 64 * w + 64 ≡ 64 * (w + 1) = omega arith in
+      ap (λ (n : ℕ). first (holds words) (64 * w) n) (rest-of l)
+      ∙ first-none (holds words) 64 (room - 64 * (w + 1)) (64 * w) (first-zero (holds words) 64 (64 * w) (rw e at (holds-spells words w fit)))
+      ∙ ap (λ (k : ℕ). first (holds words) k (room - 64 * (w + 1))) next
+
+  pub first-here : w < 64 → (getD words w 0 ≡ 0 → ⊥) → first (holds words) (64 * w) (room - 64 * w) ≡ some (64 * w + trailingZeros 64 (getD words w 0))
+  first-here l ne =
+      ap (λ (n : ℕ). first (holds words) (64 * w) n) (rest-of l)
+      ∙ first-some (holds words) 64 (room - 64 * (w + 1)) (64 * w) (64 * w + trailingZeros 64 (getD words w 0))
+      (first-trailing (holds words) 64 (getD words w 0) (64 * w) (holds-spells words w fit) ne)
+
+pub first-behind : (words : List ℕ) (w : ℕ) → 64 ≤ w → first (holds words) (64 * w) (room - 64 * w) ≡ none
+unfolding first
+first-behind words w h = let e : room - 64 * w ≡ 0 = omega arith in ap (λ (n : ℕ). first (holds words) (64 * w) n) e
+
+-- A word is made from its highest bit down.
+module _ (member : ℕ → Bool) (k b b′ x : ℕ) (next : b ≡ suc b′) (most : b ≤ 64) (made : x ≡ bits member (k + b) (64 - b)) where
+  pub made-fits : x < 2 ^ 63
+  made-fits = let h : 64 - b ≤ 63 = omega arith in omega (arith, made, bits-below member (64 - b) (k + b), pow-mono h)
+
+  made-next : bits member (k + b′) (64 - b′) ≡ bits member (k + b′) (suc (64 - b))
+  made-next = let e : 64 - b′ ≡ suc (64 - b) = omega arith in ap (λ (n : ℕ). bits member (k + b′) n) e
+
+  rest : bits member (k + b′ + 1) (64 - b) ≡ x
+  rest = let e : k + b′ + 1 ≡ k + b = omega arith in ap (λ (i : ℕ). bits member i (64 - b)) e ∙ sym made
+
+  pub made-one : member (k + b′) ≡ true → x * 2 + 1 ≡ bits member (k + b′) (64 - b′)
+  unfolding bits
+  made-one t = sym (made-next ∙ rw (bits, t) (omega (arith, rest)))
+
+  pub made-zero : member (k + b′) ≡ false → x * 2 ≡ bits member (k + b′) (64 - b′)
+  unfolding bits
+  made-zero t = sym (made-next ∙ rw (bits, t) (omega (arith, rest)))
+
+set-bit : (b x : ℕ) → x / 2 ^ b % 2 ≡ 1 → bit x b ≡ true
+unfolding bit
+set-bit b x e = eq-eqb (x / 2 ^ b % 2) 1 e
+
+clear-bit : (b x : ℕ) → (x / 2 ^ b % 2 ≡ 1 → ⊥) → bit x b ≡ false
+unfolding bit
+clear-bit b x h = ne-eqb (x / 2 ^ b % 2) 1 h
+
+-- The word less its bit b, as the code computes it.
+module _ (b x : ℕ) (h : b < 64) where
+  one-shifted : 1 * 2 ^ b % 2 ^ 64 ≡ 2 ^ b
+  one-shifted = shl-exact 1 b 64 (lit< tt) (omega arith) ∙ one-mul (2 ^ b)
+
+  pub cleared-fits : x / 2 ^ b % 2 ≡ 1 → 1 * 2 ^ b % 2 ^ 64 ≤ x
+  cleared-fits e = omega (arith, one-shifted, bit-le b x (set-bit b x e))
+
+  pub cleared-is : x / 2 ^ b % 2 ≡ 1 → (i : ℕ) → bit (x - 1 * 2 ^ b % 2 ^ 64) i ≡ (bit x i && not (eqb i b))
+  cleared-is e i = ap (λ (y : ℕ). bit (x - y) i) one-shifted ∙ bit-struck b x i (set-bit b x e)
+
+pub clear-already : (b x : ℕ) → (x / 2 ^ b % 2 ≡ 1 → ⊥) → (i : ℕ) → bit x i ≡ (bit x i && not (eqb i b))
+clear-already b x h i = bit-kept b x i (clear-bit b x h)
+
+pub made-all : (member : ℕ → Bool) (k b x : ℕ) → b ≤ 0 → x ≡ bits member (k + b) (64 - b) → x ≡ bits member k 64
+made-all member k b x h e =
+    let i : k + b ≡ k = omega arith in
+    let n : 64 - b ≡ 64 = omega arith in
+    e ∙ ap₂ (λ (i n : ℕ). bits member i n) i n
+
+-- One word more of the words of a set.
+pub words-more : (member : ℕ → Bool) (words : List ℕ) (w x : ℕ) → w < length words → ((j : ℕ) → j < w → getD words j 0 ≡ bits member (64 * j) 64) → x ≡ bits member (64 * w) 64 → (j : ℕ) → j < w + 1 → getD (set words w x) j 0 ≡ bits member (64 * j) 64
+words-more member words w x l h e =
+    below-more (λ (j : ℕ). getD (set words w x) j 0 ≡ bits member (64 * j) 64) w
+    (λ j b. getD-set-other words w j x 0 (λ f. omega arith) ∙ h j b)
+    (getD-set-same words w x 0 l ∙ e)
