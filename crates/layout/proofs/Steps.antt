@@ -12,7 +12,7 @@ use Rattle.layout.specs.declared.Answer.{Answer}
 use Rattle.layout.specs.declared.Answer.the-variants.{Done, Stopped}
 use Rattle.layout.specs.Layout.{Layout, skip, _⨾_, word, write, output-indent, formed, token, group, choice, form, list, optional, maybe, halt}
 use Rattle.layout.specs.Meaning.{Page, Event, Word, Token, Comment, Formed, Indent, Outcome, done, stopped, Stop, absent, after, bind, orStop, outcome, tokenText}
-use Rattle.layout.specs.State.{Run, runOf, at, effect, effects, Ran, went, fell, run, runs, packed, page, Walked, Plain, Wrote, Sure, Texted, Indented, withDepth, stopOf, moved, readOf, ReadAt, FormRead, groupOf, GroupRead, goneOf, GoneRead, optionalOf, OptionalRead}
+use Rattle.layout.specs.State.{Run, runOf, at, effect, effects, Ran, went, fell, run, runs, packed, page, Walked, Plain, Wrote, Sure, Texted, Indented, withDepth, stopOf, moved, readOf, ReadAt, FormRead, groupOf, GroupRead, goneOf, GoneRead, optionalOf, OptionalRead, joint}
 use Rattle.reader.specs.Tokens.{textOf}
 use Rattle.reader.specs.declared.commands.Family as Code
 use Rattle.reader.specs.Commands.{absentAt, tokenAt, listAt, groupAt, choiceAt, formAt, formWidth, familyOf}
@@ -21,6 +21,8 @@ use Rattle.layout.specs.declared.fields.Read.the-variants.{Is}
 use Rattle.layout.specs.declared.fields.Gone.{Gone}
 use Rattle.layout.specs.declared.fields.Given.{Given}
 use mathlib.Core.Option.{Option, none, some}
+use Rattle.layout.specs.Helpers.{times, items}
+use borrow.Author.Tests.{lt-ltb, le-ltb}
 
 never : {A : Type 0} → _≡_ {A = ℕ} 0 1 → A
 never e = absurd (omega (arith, e))
@@ -219,6 +221,168 @@ module _ {p : Page} {tab : ℕ} {s : St} {o m : List ℕ} {k : ℕ → Layout} {
     form-not {family} e f =
         record { is = ap (λ y. packed y o m) h ∙ reads-stop p tab (formWidth (familyOf family)) (formAt (p .rec) (familyOf family) (s .at)) (λ i. outcome p (k i) (s .at + formWidth (familyOf family))) s o m (sym f ∙ e .is) }
 
+-- ---- a group
+group-true : (b : Bool) (s s′ : St) → Done s′ ≡ groupOf s b → (b ≡ true) × (s′ ≡ moved (s .at + 1) s)
+unfolding groupOf
+group-true true s s′ e = (refl, cc)
+group-true false s s′ e = never (cc)
+
+group-false : (b : Bool) (s s′ : St) (place : ℕ) (import : Bool) → Stopped s′ place import ≡ groupOf s b → b ≡ false
+unfolding groupOf
+group-false true s s′ place import e = never (cc)
+group-false false s s′ place import e = refl
+
+module _ {p : Page} {tab : ℕ} {s : St} {o m : List ℕ} {w : Layout} {a : Answer} where
+  pub group-is : {s′ : St} → GroupRead (p .rec) s a → a ≡ Done s′ → Same p tab (group w) (runOf s o m) w (runOf s′ o m)
+  unfolding runs outcome
+  group-is {s′} e f =
+      let q = group-true (groupAt (p .rec) (s .at)) s s′ (sym f ∙ e .is) in
+      record { is = rw (q .0, outcome) (moved-run p tab (s .at + 1) w s s′ o m (q .1)) }
+
+  pub group-not : {s′ : St} {place : ℕ} {import : Bool} → GroupRead (p .rec) s a → a ≡ Stopped s′ place import → Walked p tab (group w) (runOf s o m) a o m
+  unfolding runs outcome run effects stopOf groupOf
+  group-not {s′} {place} {import} e f =
+      let q = group-false (groupAt (p .rec) (s .at)) s s′ place import (sym f ∙ e .is) in
+      record { is = ap (λ y. packed y o m) (e .is ∙ ap (groupOf s) q) ∙ rw (q, outcome) refl }
+
+-- ---- a field that may be absent
+gone-true : (b : Bool) (s s′ : St) → Gone.Past s′ ≡ goneOf s b → (b ≡ true) × (s′ ≡ moved (s .at + 1) s)
+unfolding goneOf
+gone-true true s s′ e = (refl, cc)
+gone-true false s s′ e = never (cc)
+
+gone-false : (b : Bool) (s : St) → Gone.There ≡ goneOf s b → b ≡ false
+unfolding goneOf
+gone-false true s e = never (cc)
+gone-false false s e = refl
+
+module _ {p : Page} {tab : ℕ} {s : St} {o m : List ℕ} {w : Layout} {x : Gone} where
+  pub maybe-past : {s′ : St} → GoneRead (p .rec) s x → x ≡ Gone.Past s′ → Walked p tab (maybe w) (runOf s o m) (Done s′) o m
+  unfolding runs outcome run effects
+  maybe-past {s′} e f =
+      let q = gone-true (absentAt (p .rec) (s .at)) s s′ (sym f ∙ e .is) in
+      record { is = ap (λ y. went (runOf y o m)) (q .1) ∙ rw (q .0, outcome) refl }
+
+  pub maybe-there : GoneRead (p .rec) s x → x ≡ Gone.There → Same p tab (maybe w) (runOf s o m) w (runOf s o m)
+  unfolding runs outcome
+  maybe-there e f =
+      let q = gone-false (absentAt (p .rec) (s .at)) s (sym f ∙ e .is) in
+      record { is = rw (q, outcome) refl }
+
+-- ---- lists
+-- k items from the i-th on, with u before each but the first.
+unfoldable pub from : Layout → Layout → ℕ → ℕ → Layout
+from u w i zero = skip
+from u w i (suc k) = (joint u i ⨾ w) ⨾ from u w (i + 1) k
+
+joint-first : (u : Layout) → joint u 0 ≡ skip
+unfolding joint
+joint-first u = refl
+
+joint-later : (u : Layout) (i : ℕ) → joint u (i + 1) ≡ u
+unfolding joint
+joint-later u i =
+    let h : 0 < i + 1 = omega arith in
+    rw (lt-ltb 0 (i + 1) h) refl
+
+module _ (p : Page) (tab : ℕ) (u w : Layout) where
+  times-from : (k i : ℕ) (g : Run) → runs p tab (times k (u ⨾ w)) g ≡ runs p tab (from u w (i + 1) k) g
+  unfolding times from
+  times-from zero i g = refl
+  times-from (suc k) i g =
+      runs-seq p tab (u ⨾ w) (times k (u ⨾ w)) g
+      ∙ andThen-same (runs p tab (u ⨾ w) g) (runs p tab (times k (u ⨾ w))) (runs p tab (from u w (i + 1 + 1) k)) (times-from k (i + 1))
+      ∙ ap (λ v. andThen (runs p tab (v ⨾ w) g) (runs p tab (from u w (i + 1 + 1) k))) (sym (joint-later u i))
+      ∙ sym (runs-seq p tab (joint u (i + 1) ⨾ w) (from u w (i + 1 + 1) k) g)
+
+  items-from : (n : ℕ) (g : Run) → runs p tab (items n w (u ⨾ w)) g ≡ runs p tab (from u w 0 n) g
+  unfolding items from
+  items-from zero g = refl
+  items-from (suc n) g =
+      runs-seq p tab w (times n (u ⨾ w)) g
+      ∙ andThen-same (runs p tab w g) (runs p tab (times n (u ⨾ w))) (runs p tab (from u w (0 + 1) n)) (times-from n 0)
+      ∙ ap (λ x. andThen x (runs p tab (from u w (0 + 1) n))) (sym (skip-same {p = p} {tab = tab} {w = w} {g = g} .is))
+      ∙ ap (λ v. andThen (runs p tab (v ⨾ w) g) (runs p tab (from u w (0 + 1) n))) (sym (joint-first u))
+      ∙ sym (runs-seq p tab (joint u 0 ⨾ w) (from u w (0 + 1) n) g)
+
+less-none : (n : ℕ) → n - 0 ≡ n
+less-none n = omega arith
+
+module _ {p : Page} {tab : ℕ} (w : Layout) where
+  -- With a joint before each item but the first: before the loop, in a turn, after the last.
+  pub items-all : (u : Layout) (n : ℕ) {g : Run} → Same p tab (items n w (u ⨾ w)) g (from u w 0 (n - 0)) g
+  items-all u n {g} = record { is = items-from p tab u w n g ∙ ap (λ k. runs p tab (from u w 0 k) g) (sym (less-none n)) }
+
+  pub from-more : (u : Layout) {i n : ℕ} {g : Run} {r : Answer} {o m : List ℕ} → i < n
+      → Walked p tab (joint u i ⨾ w ⨾ from u w (i + 1) (n - (i + 1))) g r o m → Walked p tab (from u w i (n - i)) g r o m
+  unfolding from
+  from-more u {i} {n} e h =
+      let q : n - i ≡ suc (n - (i + 1)) = omega arith in
+      rw q (regroup h)
+
+  pub from-none : (u : Layout) {i n : ℕ} {s : St} {o m : List ℕ} → n ≤ i → Walked p tab (from u w i (n - i)) (runOf s o m) (Done s) o m
+  unfolding from
+  from-none u {i} {n} e =
+      let q : n - i ≡ 0 = omega arith in
+      rw q last-skip
+
+  -- Without a joint.
+  pub times-all : (n : ℕ) {g : Run} → Same p tab (times n w) g (times (n - 0) w) g
+  times-all n {g} = record { is = ap (λ k. runs p tab (times k w) g) (sym (less-none n)) }
+
+  pub times-more : {i n : ℕ} {g : Run} {r : Answer} {o m : List ℕ} → i < n
+      → Walked p tab (w ⨾ times (n - (i + 1)) w) g r o m → Walked p tab (times (n - i) w) g r o m
+  unfolding times
+  times-more {i} {n} e h =
+      let q : n - i ≡ suc (n - (i + 1)) = omega arith in
+      rw q h
+
+  pub times-none : {i n : ℕ} {s : St} {o m : List ℕ} → n ≤ i → Walked p tab (times (n - i) w) (runOf s o m) (Done s) o m
+  unfolding times
+  times-none {i} {n} e =
+      let q : n - i ≡ 0 = omega arith in
+      rw q last-skip
+
+-- ---- a token that may be absent
+given-some : (t : Option ℕ) (b : Bool) (s s′ : St) (k : ℕ) → Given.Token k s′ ≡ optionalOf s t b → (t ≡ some k) × (s′ ≡ moved (s .at + 3) s)
+unfolding optionalOf
+given-some (some j) b s s′ k e =
+    let h : j ≡ k = cc in
+    (ap some h, cc)
+given-some none true s s′ k e = never (cc)
+given-some none false s s′ k e = never (cc)
+
+given-none : (t : Option ℕ) (b : Bool) (s s′ : St) → Given.Absent s′ ≡ optionalOf s t b → (t ≡ none) × (b ≡ true) × (s′ ≡ moved (s .at + 1) s)
+unfolding optionalOf
+given-none (some j) b s s′ e = never (cc)
+given-none none true s s′ e = (refl, refl, cc)
+given-none none false s s′ e = never (cc)
+
+given-neither : (t : Option ℕ) (b : Bool) (s : St) → Given.Neither ≡ optionalOf s t b → (t ≡ none) × (b ≡ false)
+unfolding optionalOf
+given-neither (some j) b s e = never (cc)
+given-neither none true s e = never (cc)
+given-neither none false s e = (refl, refl)
+
+module _ {p : Page} {tab : ℕ} {s : St} {o m : List ℕ} {k : Option ℕ → Layout} {x : Given} where
+  pub optional-is : {n : ℕ} {s′ : St} → OptionalRead (p .rec) s x → x ≡ Given.Token n s′ → Same p tab (optional k) (runOf s o m) (k (some n)) (runOf s′ o m)
+  unfolding runs outcome
+  optional-is {n} {s′} e f =
+      let q = given-some (tokenAt (p .rec) (s .at)) (absentAt (p .rec) (s .at)) s s′ n (sym f ∙ e .is) in
+      record { is = rw (q .0, outcome) (moved-run p tab (s .at + 3) (k (some n)) s s′ o m (q .1)) }
+
+  pub optional-no : {s′ : St} → OptionalRead (p .rec) s x → x ≡ Given.Absent s′ → Same p tab (optional k) (runOf s o m) (k none) (runOf s′ o m)
+  unfolding runs outcome
+  optional-no {s′} e f =
+      let q = given-none (tokenAt (p .rec) (s .at)) (absentAt (p .rec) (s .at)) s s′ (sym f ∙ e .is) in
+      record { is = rw (q .0, q .1, outcome) (moved-run p tab (s .at + 1) (k none) s s′ o m (q .2)) }
+
+  pub optional-not : {a : Answer} → a ≡ Stopped s (s .at) false → OptionalRead (p .rec) s x → x ≡ Given.Neither → Walked p tab (optional k) (runOf s o m) a o m
+  unfolding runs outcome run effects stopOf
+  optional-not h e f =
+      let q = given-neither (tokenAt (p .rec) (s .at)) (absentAt (p .rec) (s .at)) s (sym f ∙ e .is) in
+      record { is = ap (λ y. packed y o m) h ∙ rw (q .0, q .1, outcome) refl }
+
 -- A function that asks no kinds and strikes nothing out, used in one that may.
 pub plain : {x r kinds starts lens : List ℕ} {tab : ℕ} {w : Layout} {s : St} {o o′ m : List ℕ} {a : Answer} → Plain x r starts lens tab w s o a o′
     → Walked (page x r kinds starts lens) tab w (runOf s o m) a o′ m
@@ -242,3 +406,21 @@ sure-then e f = record { is = λ p m. then-sure e (f .is p m) }
 
 pub sure-skip : {tab : ℕ} {s : St} {o : List ℕ} → Sure tab skip s o s o
 sure-skip = record { is = λ p m. last-skip }
+
+-- The invariant of a loop over the n items of a list: what is left to run leads on from what was to run.
+abbrev pub PlainTurn : List ℕ → List ℕ → List ℕ → List ℕ → ℕ → (ℕ → ℕ → Layout) → ℕ → St → List ℕ → ℕ → St → List ℕ → Type 0
+PlainTurn x r starts lens tab left n s₀ o₀ i s o =
+    (i ≤ n)
+    × ((kinds m : List ℕ) (a : Answer) (o′ : List ℕ)
+    → Walked (page x r kinds starts lens) tab (left i (n - i)) (runOf s o m) a o′ m
+    → Walked (page x r kinds starts lens) tab (left 0 (n - 0)) (runOf s₀ o₀ m) a o′ m)
+    × (length o ≡ length o₀)
+
+-- ---- a joint
+pub sure-joint : {tab : ℕ} {u : Layout} {s s′ : St} {o o′ : List ℕ} {i : ℕ} → 0 < i → Sure tab u s o s′ o′ → Sure tab (joint u i) s o s′ o′
+unfolding joint
+sure-joint {i = i} h e = rw (lt-ltb 0 i h) e
+
+pub sure-no-joint : {tab : ℕ} (u : Layout) {s : St} {o : List ℕ} {i : ℕ} → i ≤ 0 → Sure tab (joint u i) s o s o
+unfolding joint
+sure-no-joint u {i = i} h = rw (le-ltb 0 i h) sure-skip

@@ -3,13 +3,13 @@
 use Prim.Native.Nat.{ℕ, _+_, _-_, _*_, min, max}
 use Prim.Native.String.{String}
 use mathlib.Core.List.{List, [], _∷_}
-use mathlib.Core.Bool.{Bool, true, false, cond, not, _&&_}
+use mathlib.Core.Bool.{Bool, true, false, cond}
 use mathlib.Core.Path.{_≡_}
 use lib.ListN.{length, getD, take, drop, replicate}
 use lib.Seq.{paste}
-use lib.Dec.{leb, eqb}
+use lib.Dec.{leb, ltb}
 use Rattle.text.specs.Bytes.{bytes}
-use Rattle.comments.specs.Set.{wordsOf, holds}
+use Rattle.comments.specs.Set.{wordsOf, holds, without}
 use Rattle.layout.specs.declared.St.{St}
 use Rattle.layout.specs.declared.Cfg.{Cfg}
 use Rattle.layout.specs.declared.Answer.{Answer}
@@ -24,7 +24,7 @@ use Rattle.reader.specs.declared.commands.Family.{Family}
 use Rattle.reader.specs.Commands.{absentAt, tokenAt, groupAt, formAt, formWidth, familyOf}
 use mathlib.Core.Option.{Option, none, some}
 use Rattle.layout.specs.declared.Answer.the-variants.{Done, Stopped}
-use Rattle.layout.specs.Layout.{Layout}
+use Rattle.layout.specs.Layout.{Layout, skip}
 use Rattle.layout.specs.Helpers as Helpers
 use Rattle.layout.specs.Meaning.{Page, Event, Word, Token, Comment, Formed, Indent, Outcome, done, stopped, Stop, absent, imported, outcome, tokenText}
 use Rattle.layout.specs.Events.{trimmed}
@@ -82,7 +82,7 @@ wrote tab w g = runOf (withLetters (length w) (g .st)) (placed (g .out) (placeOf
 
 -- The words without the token.
 abbrev pub struck : List ℕ → ℕ → List ℕ
-struck words k = wordsOf (λ j. holds words j && not (eqb j k))
+struck words k = wordsOf (without (holds words) k)
 
 module _ (p : Page) (tab : ℕ) where
   unfoldable pub effect : Event → Run → Run
@@ -126,6 +126,10 @@ page x r kinds starts lens = record { text = x; rec = r; tokens = record { kinds
 -- The configuration that a layout sees.
 abbrev pub cfgOf : Cfg → Helpers.Cfg
 cfgOf c = record { depth = c .depth; extra-blank = c .blank }
+
+-- Before an item that is not the first.
+unfoldable pub joint : Layout → ℕ → Layout
+joint u i = cond (ltb 0 i) u skip
 
 -- ---- contracts: a record each, so that a law's arguments are found from it
 -- What a function of the walk says: its answer, its output and the set are what the layout's run leaves.

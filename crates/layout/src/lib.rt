@@ -2,6 +2,7 @@
 // and reading the fields of a record (document 01, module 5).
 pub mod words; // words.rt: the fixed words of 000
 pub mod fields; // fields.rt: the fields of a record, each read at the cursor
+pub mod helpers; // helpers.rt: helpers of 000 that serve more than one family
 
 ghost use mathlib.Core.Path.{_≡_};
 ghost use Prim.Native.Nat.{ℕ, _+_, _*_, min, max};

@@ -1,0 +1,286 @@
+#!/usr/bin/env python3
+"""arms.py CRATE: writes the proofs of the functions of CRATE that are proved equal to a layout.
+
+A function of the walk is a chain of calls, and its proof is the chain of the steps that the laws of
+crates/layout/proofs/Steps.antt give for them. This tool reads the proof files that `rt dev` offers
+(with a hole for each need), the generated modules that name the places of the code, and the crate's
+answers, crates/CRATE/arms.json; it fills each hole and writes the files.
+
+The answers: "functions" has an entry for each function that is written by this tool,
+  "as": "plain" or "walked", the record of its contract;
+  "unfold": the definitions that its layout is read through;
+  "loop": the layouts of a loop's turn, ["from", U, W] or ["times", W];
+  "tail": calls whose layout is followed by another in the same function;
+  "needs": answers to single needs, in which @call stands for the path to that call;
+and "use" the lines that the answers need. In a cycle of calls "measures" has each member's rank.
+"""
+import glob
+import json
+import os
+import re
+import subprocess
+import sys
+import tempfile
+
+READS = {"token-no": "token", "list": "list", "choice": "choice", "form": "form"}
+SURE = {"word", "between", "line", "indent-at", "new-line", "indent-in"}
+STEPS = "Rattle.layout.proofs.Steps"
+
+
+def base(thing):
+    """A call's name without the number that tells it from other calls of the function."""
+    return re.sub(r"\d+$", "", thing)
+
+
+def dashed(name):
+    return name.replace("_", "-")
+
+
+class Places:
+    """The places of a function's code, from its generated module."""
+
+    def __init__(self, text):
+        self.records, self.needs = {}, {}
+        pattern = r"pub record ([A-Za-z0-9-]+) : Type 0 where\n\s+pub before : ([A-Za-z0-9-]+)\n\s+pub ([a-z0-9A-Z-]+) :"
+        for found in re.finditer(pattern, text):
+            self.records[found.group(1)] = (found.group(2), found.group(3))
+        for found in re.finditer(r"\n\s+(Need-[A-Za-z0-9-]+) =\s+\(c : ([A-Za-z0-9-]+)\)", text):
+            self.needs[found.group(1)] = found.group(2)
+
+    def way(self, need):
+        """[(record, thing, path)] from the function's entry to the place of a need."""
+        record, path, way = self.needs["Need-" + need], "c", []
+        while record != "Start":
+            before, thing = self.records[record]
+            way.append((record, thing, path + " ." + thing))
+            path += " .before"
+            record = before
+        way.append(("Start", "start", path))
+        return way[::-1]
+
+
+def parenthesised(term):
+    return term if re.match(r"^[a-z-]+$", term) else "(" + term + ")"
+
+
+class Function:
+    """One function: its places, its answers, and the terms for its needs."""
+
+    def __init__(self, name, places, answers, members):
+        self.name, self.places, self.answers, self.members = name, places, answers, members
+
+    def kind(self, thing):
+        name = base(thing)
+        if thing.endswith("-arg") or re.fullmatch(r"(r|s)\d*", thing):
+            return None
+        if name in READS:
+            return "read"
+        if name in SURE or thing in SURE:
+            return "sure"
+        kinds = {"group": "group", "absent": "gone", "optional": "optional", "token": "write", "onwards": "onwards"}
+        return kinds.get(name) or self.members.get(name) or self.members.get(thing)
+
+    def steps(self, way):
+        """[(kind, thing, path, taken apart)]: the calls and loops on the way, each with what its answer was found to be."""
+        found = []
+        for at, (record, thing, path) in enumerate(way):
+            if thing == "loop":
+                found.append(("loop", thing, path, None))
+            elif thing == "loop-test":
+                found.append(("turn" if record == "In-loop" else "left", thing, path, None))
+            elif self.kind(thing):
+                found.append((self.kind(thing), thing, path, self.apart(way, at)))
+        return found
+
+    def apart(self, way, at):
+        """How the answer of the call at this step is taken apart: ("is", path) or ("not", path)."""
+        for place in range(at + 1, len(way)):
+            record, thing, path = way[place]
+            if self.kind(thing):
+                return None
+            if base(thing) == "enum-told":
+                return ("not", path + " .given .1")
+            if base(thing) == "known-told":
+                return ("is", way[place - 1][2] + " .given .1")
+        return None
+
+    def term(self, steps, last, stop):
+        """The chain of steps; `last` ends it, or None where the last call does; `stop` is the path of a call of `stop`."""
+        if not steps:
+            return last or "last-skip"
+        (kind, thing, path, apart), rest = steps[0], steps[1:]
+        more = lambda: parenthesised(self.term(rest, last, stop))
+        proof = "(%s .ensures)" % path
+        tail = thing in self.answers.get("tail", [])
+        same = lambda law: "by-same %s %s" % ("(first-same (%s))" % law if tail else "(%s)" % law, more())
+        if kind == "sure" or kind == "write":
+            return ("last-%s %s" % (kind, proof)) if not rest and last is None else "then-%s %s %s" % (kind, proof, more())
+        if kind in ("plain", "walked"):
+            return self.walked(kind, proof, apart, rest, more)
+        if kind == "read":
+            law = READS[base(thing)]
+            if apart[0] == "is":
+                return same("%s-is %s (%s)" % (law, proof, apart[1]))
+            term = "%s-not (%s .ensures) %s (%s)" % (law, stop, proof, apart[1])
+            return "then-stop (%s) (%s .ensures)" % (term, stop) if tail else term
+        if kind == "group":
+            if apart[0] == "is":
+                return same("group-is %s (%s)" % (proof, apart[1]))
+            term = "group-not %s (%s)" % (proof, apart[1])
+            return "then-stop (%s) (%s)" % (term, apart[1]) if tail else term
+        if kind == "gone":
+            return self.gone(proof, apart, same)
+        if kind in ("loop", "turn", "left"):
+            return self.loop(kind, path, more)
+        raise SystemExit("arms: no step for '%s' in %s" % (thing, self.name))
+
+    def walked(self, kind, proof, apart, rest, more):
+        proof = "(plain %s)" % proof if kind == "plain" else proof
+        if apart is None:
+            return proof[1:-1]
+        if apart[0] == "not":
+            return "then-stop %s (%s)" % (proof, apart[1])
+        return "then-done %s (%s) %s" % (proof, apart[1], more())
+
+    def gone(self, proof, apart, same):
+        if apart[0] == "is":
+            return "maybe-past %s (%s)" % (proof, apart[1])
+        return same("maybe-there %s (%s)" % (proof, apart[1]))
+
+    def loop(self, kind, path, more):
+        shape = self.answers["loop"][0]
+        joint = "_ " if shape == "from" else ""
+        if kind == "loop":
+            return "by-same (%s) (%s .inv .1 %s_ _ %s)" % ({"from": "items-all _ _ _", "times": "times-all _ _"}[shape], path, self.hypotheses(), more())
+        if kind == "turn":
+            return "%s-more _ %s(%s .taken) %s" % (shape, joint, path, more())
+        return "%s-none _ %s(%s .left)" % (shape, joint, path)
+
+    def hypotheses(self):
+        return "kinds m " if self.answers["as"] == "plain" else ""
+
+    def wrapped(self, term):
+        return "record { is = λ kinds m. %s }" % term if self.answers["as"] == "plain" else term
+
+    def stop(self, way):
+        stops = [path for record, thing, path in way if base(thing) == "stop"]
+        return stops[-1] if stops else None
+
+    def answer(self, need):
+        """The term for a need, by its name."""
+        way = self.places.way(need)
+        given = self.answers.get("needs", {}).get(need)
+        paths = dict((thing, path) for record, thing, path in way)
+        if given:
+            chain = self.term(self.steps(way), None, self.stop(way)) if "%chain" in given else ""
+            return re.sub(r"@([a-z0-9-]+)", lambda found: paths[found.group(1)], given.replace("%chain", chain))
+        if need.startswith("returns"):
+            return self.wrapped(self.term(self.steps(way), None, self.stop(way)))
+        if need.startswith("same-length"):
+            return self.kept(way)
+        if need.startswith("loop"):
+            return self.loop_need(need, way)
+        if need.startswith("add-") and "loop" in paths:
+            count = [place for place in range(len(way)) if way[place][1] == "n"][0]
+            return "omega (arith, %s .taken, %s)" % (paths["loop-test"], way[count + 1][2])
+        if "-requires" in need and self.members.get(re.sub(r"-requires(-\d+)?$", "", need)) and self.answers.get("cycle"):
+            return "omega (arith, %s .pre .0)" % paths["start"]
+        return "search needs"
+
+    def loop_need(self, need, way):
+        if need == "loop-holds":
+            return "(omega arith, λ %sr o h. h, refl)" % self.hypotheses()
+        if need == "loop-less":
+            return "omega arith"
+        at = [place for place in range(len(way)) if way[place][1] == "loop"][0]
+        loop = way[at][2]
+        turn = self.term(self.steps(way[at + 1:]), "h", self.stop(way))
+        return "(omega (arith, %s .inv .0), λ %sr o h. %s .inv .1 %sr o (%s), %s)" % (
+            loop, self.hypotheses(), loop, self.hypotheses(), turn, self.kept(way[at:]))
+
+    def kept(self, way):
+        """The output is as long as it was: each call on the way keeps its length."""
+        kept = []
+        for record, thing, path in way:
+            if thing == "loop":
+                kept.append(path + " .inv .2")
+            elif self.kind(thing) in ("sure", "write", "plain", "walked"):
+                kept.append(path + " .kept " + self.answers_lent(thing))
+        return " ∙ ".join(kept[::-1]) or "search needs"
+
+    def answers_lent(self, thing):
+        lent = {"word": ".1 .0", "between": ".1 .0", "line": ".1 .0", "indent-at": ".0", "token": ".1 .1 .1 .0"}
+        return lent.get(base(thing)) or lent.get(thing) or ".1 .1 .1 .1 .0"
+
+    def invariant(self):
+        if self.answers["loop"][0] == "from":
+            left = "from %s %s" % tuple("(%s)" % part for part in self.answers["loop"][1:])
+        else:
+            left = "λ i k. times k (%s)" % self.answers["loop"][1]
+        return "PlainTurn text rec starts lens (cfg .tab) (%s) n s₀ out₀ i s out" % left
+
+
+def filled(function, text):
+    """An offered proof file of one function, with each hole filled."""
+    def need(found):
+        return "%s%s = %s" % (found.group(1), found.group(2), function.answer(found.group(1)))
+    text = re.sub(r"^(Inv-loop .*) = \?$", lambda found: "%s =\n    %s" % (found.group(1), function.invariant()) if "loop" in function.answers else found.group(0), text, flags=re.M)
+    text = re.sub(r"^(μ-loop .*) = \?$", r"\1 = n - i", text, flags=re.M)
+    text = re.sub(r"^([a-z0-9-]+)( c(?: κs)?) = (?:\?|search needs)$", need, text, flags=re.M)
+    unfold = function.answers.get("unfold")
+    if unfold:
+        text = re.sub(r"^((?:returns|loop-again)[-0-9]* c = )", "unfolding %s\n\\1" % unfold, text, flags=re.M)
+    return "".join(line + "\n" for line in text.split("\n") if not re.match(r"^-- src/|^use .* as (reads|lts|[a-z-]+-reads)$", line)).rstrip("\n") + "\n"
+
+
+def offered(crate):
+    """The proof files that `rt dev` offers: path to text."""
+    run = subprocess.run(["rt", "dev", crate], capture_output=True, text=True, env=dict(os.environ, RT_CUT="0"))
+    lines, files, at = (run.stdout + run.stderr).split("\n"), {}, 0
+    while at < len(lines):
+        found = re.match(r"help: write (\S+/Proof\.antt) with these lines", lines[at])
+        at += 1
+        if found:
+            body = []
+            while at < len(lines) and (lines[at].startswith("    ") or lines[at] == ""):
+                body.append(lines[at][4:])
+                at += 1
+            files[found.group(1)] = "\n".join(body).rstrip("\n") + "\n"
+    return files
+
+
+def generated(crate, room):
+    subprocess.run(["rt", "dev", crate, "--generated", room], capture_output=True)
+    return "%s/Rattle.%s.proofs/proofs" % (room, crate)
+
+
+def main():
+    if len(sys.argv) != 2 or not os.path.exists("crates/%s/arms.json" % sys.argv[1]):
+        raise SystemExit("usage: tools/arms.py CRATE, from the root, where crates/CRATE/arms.json stands")
+    crate = sys.argv[1]
+    answers = json.load(open("crates/%s/arms.json" % crate))
+    members = dict((dashed(name.split("/")[-1]), entry["as"]) for name, entry in answers["functions"].items())
+    members.update(answers.get("calls", {}))
+    for name in answers["functions"]:
+        path = "crates/%s/proofs/%s/Proof.antt" % (crate, name)
+        if os.path.exists(path):
+            os.remove(path)
+    while True:
+        files = offered(crate)
+        todo = [path for path in files if path.split("/proofs/")[1][:-len("/Proof.antt")] in answers["functions"]]
+        if not todo:
+            return
+        with tempfile.TemporaryDirectory() as room:
+            root = generated(crate, room)
+            for path in todo:
+                name = path.split("/proofs/")[1][:-len("/Proof.antt")]
+                places = Places(open("%s/%s/Lts.antt" % (root, name)).read())
+                function = Function(name, places, answers["functions"][name], members)
+                os.makedirs(os.path.dirname(path), exist_ok=True)
+                head = "-- `%s::%s` equals its layout. Written by tools/arms.py.\n" % (crate, name.replace("/", "::"))
+                open(path, "w").write(head + "".join(line + "\n" for line in answers["use"]) + filled(function, files[path]))
+                print("wrote", name)
+
+
+if __name__ == "__main__":
+    main()
