@@ -18,6 +18,7 @@ import glob
 import json
 import os
 import re
+import shutil
 import subprocess
 import sys
 import tempfile
@@ -66,8 +67,8 @@ def parenthesised(term):
 class Function:
     """One function: its places, its answers, and the terms for its needs."""
 
-    def __init__(self, name, places, answers, members):
-        self.name, self.places, self.answers, self.members = name, places, answers, members
+    def __init__(self, name, places, answers, members, cycle=()):
+        self.name, self.places, self.answers, self.members, self.cycle = name, places, answers, members, cycle
 
     def kind(self, thing):
         name = base(thing)
@@ -175,7 +176,7 @@ class Function:
             chain = self.term(self.steps(way), None, self.stop(way)) if "%chain" in given else ""
             return re.sub(r"@([a-z0-9-]+)", lambda found: paths[found.group(1)], given.replace("%chain", chain))
         if need.startswith("returns"):
-            return self.wrapped(self.term(self.steps(way), None, self.stop(way)))
+            return self.wrapped(self.dispatched(way) if "walk" in self.answers else self.term(self.steps(way), None, self.stop(way)))
         if need.startswith("same-length"):
             return self.kept(way)
         if need.startswith("loop"):
@@ -183,9 +184,28 @@ class Function:
         if need.startswith("add-") and "loop" in paths:
             count = [place for place in range(len(way)) if way[place][1] == "n"][0]
             return "omega (arith, %s .taken, %s)" % (paths["loop-test"], way[count + 1][2])
-        if "-requires" in need and self.members.get(re.sub(r"-requires(-\d+)?$", "", need)) and self.answers.get("cycle"):
-            return "omega (arith, %s .pre .0)" % paths["start"]
+        if re.sub(r"-requires(-\d+)?$", "", need) in self.cycle:
+            left = ", %s .left" % paths["if1"] if "walk" in self.answers else ""
+            return "omega (arith, %s .pre .0%s)" % (paths["start"], left)
         return "search needs"
+
+    def dispatched(self, way):
+        """A return of the function that dispatches a form by number: no form left, no form there, an arm, no such arm."""
+        walk, paths = self.answers["walk"], dict((thing, path) for record, thing, path in way)
+        if "form" not in paths:
+            return "%s-zero _ (%s .taken) (%s .ensures)" % (walk, paths["if1"], self.stop(way))
+        head, steps = "%s-form _ (%s .left) " % (walk, paths["if1"]), self.steps(way)
+        if steps[0][3][0] == "not":
+            return head + parenthesised(self.term(steps, None, self.stop(way)))
+        form, found = paths["form"], steps[0][3][1]
+        record, thing, path = [place for place in way if place[1].startswith("match")][-1]
+        if record.endswith("-rest"):
+            count = len([name for name in self.places.records if re.match(r"At-%s-keys\d+$" % thing, name)])
+            facts = ", ".join("%s .rest %s.1" % (path, ".0 " * k) for k in range(count))
+            number = found[:-len(" .1")] + " .0 .0"
+            return head + "(by-same (form-is (%s .ensures) (%s)) (beyond _ (%s) (omega (arith, %s)) (%s .ensures)))" % (form, found, number, facts, self.stop(way))
+        key = re.search(r"keys\d+$", record).group(0)
+        return head + "(form-key (%s .ensures) (%s) (%s .%s) %s)" % (form, found, path, key, parenthesised(self.term(steps[1:], None, None)))
 
     def loop_need(self, need, way):
         if need == "loop-holds":
@@ -233,6 +253,39 @@ def filled(function, text):
     return "".join(line + "\n" for line in text.split("\n") if not re.match(r"^-- src/|^use .* as (reads|lts|[a-z-]+-reads)$", line)).rstrip("\n") + "\n"
 
 
+def ranks(functions):
+    """How many calls a member of a cycle is above the functions that dispatch a form, which take a form away."""
+    known = dict((name, 0) for name, function in functions.items() if "walk" in function.answers)
+    while len(known) < len(functions):
+        for name, function in functions.items():
+            called = set(base(need[5:].replace("-requires", "").rstrip("-")) if False else re.sub(r"-requires(-\d+)?$", "", need[5:]) for need in function.places.needs if "-requires" in need)
+            called &= set(functions)
+            if name not in known and called <= set(known):
+                known[name] = 1 + max(known[other] for other in called)
+    return known
+
+
+def filled_cycle(functions, text, left):
+    """An offered proof file of a cycle of calls, with each hole filled."""
+    rank, names = ranks(functions), sorted(functions, key=lambda name: -len(name))
+    member = lambda name: next(other for other in names if name.startswith(other + "-"))
+
+    def need(found):
+        who = member(found.group(1))
+        return "%s%s = %s" % (found.group(1), found.group(2), functions[who].answer(found.group(1)[len(who) + 1:]))
+
+    def unfolding(found):
+        who = next((other for other in names if found.group(1).startswith(other + "-")), None)
+        short = found.group(1)[len(who) + 1:] if who else ""
+        unfold = functions[who].answers.get("unfold") if who and short.startswith(("returns", "loop-again")) else None
+        return found.group(0).replace("\n" + found.group(2), "\nunfolding %s\n%s" % (unfold, found.group(2))) if unfold else found.group(0)
+    text = re.sub(r"^(μ-([a-z0-9-]+)) κs a = \?$", lambda found: "%s κs a = 16 * %s + %d" % (found.group(1), left, rank[found.group(2)]), text, flags=re.M)
+    text = re.sub(r"^(([a-z0-9-]+)-Inv-loop .*) = \?$", lambda found: "%s =\n    %s" % (found.group(1), functions[found.group(2)].invariant()), text, flags=re.M)
+    text = re.sub(r"^([a-z0-9-]+-μ-loop .*) = \?$", r"\1 = n - i", text, flags=re.M)
+    text = re.sub(r"^([a-z0-9-]+)( t c(?: κs)?) = \?$", need, text, flags=re.M)
+    return re.sub(r"^([a-z0-9-]+) : \(t : ℕ\) → .*?\n(\1 t c)", unfolding, text, flags=re.M | re.S)
+
+
 def offered(crate):
     """The proof files that `rt dev` offers: path to text."""
     run = subprocess.run(["rt", "dev", crate], capture_output=True, text=True, env=dict(os.environ, RT_CUT="0"))
@@ -254,6 +307,19 @@ def generated(crate, room):
     return "%s/Rattle.%s.proofs/proofs" % (room, crate)
 
 
+def write_cycle(crate, root, path, text, answers, members):
+    folder, functions = os.path.dirname(path), {}
+    names = os.path.basename(folder)[1:].split("+")
+    for name in names:
+        places = Places(open("%s/%s/Lts-%s.antt" % (root, os.path.basename(folder), name)).read())
+        functions[dashed(name)] = Function(name, places, answers["functions"][name], members, [dashed(other) for other in names])
+    os.makedirs(folder, exist_ok=True)
+    filled_text = filled_cycle(functions, text, answers["left"])
+    at = filled_text.index("\n\nabbrev")
+    open(path, "w").write("".join(line + "\n" for line in answers["use"]) + filled_text[:at] + filled_text[at:])
+    print("wrote", os.path.basename(folder))
+
+
 def main():
     if len(sys.argv) != 2 or not os.path.exists("crates/%s/arms.json" % sys.argv[1]):
         raise SystemExit("usage: tools/arms.py CRATE, from the root, where crates/CRATE/arms.json stands")
@@ -265,15 +331,21 @@ def main():
         path = "crates/%s/proofs/%s/Proof.antt" % (crate, name)
         if os.path.exists(path):
             os.remove(path)
+    for folder in glob.glob("crates/%s/proofs/+*" % crate):
+        shutil.rmtree(folder)
     while True:
         files = offered(crate)
-        todo = [path for path in files if path.split("/proofs/")[1][:-len("/Proof.antt")] in answers["functions"]]
+        name_of = lambda path: path.split("/proofs/")[1][:-len("/Proof.antt")]
+        todo = [path for path in files if name_of(path) in answers["functions"] or name_of(path).startswith("+")]
         if not todo:
             return
         with tempfile.TemporaryDirectory() as room:
             root = generated(crate, room)
             for path in todo:
-                name = path.split("/proofs/")[1][:-len("/Proof.antt")]
+                name = name_of(path)
+                if name.startswith("+"):
+                    write_cycle(crate, root, path, files[path], answers, members)
+                    continue
                 places = Places(open("%s/%s/Lts.antt" % (root, name)).read())
                 function = Function(name, places, answers["functions"][name], members)
                 os.makedirs(os.path.dirname(path), exist_ok=True)

@@ -2,3 +2,4 @@ pub mod Placing
 pub mod Pieces
 pub mod Reading
 pub mod Steps
+pub mod Knot

@@ -18,18 +18,36 @@ module _ (ws : Walkers) where
   unfoldable pub ty-row : Layout
   ty-row = group (text ⨾ word " : " ⨾ get-ty)
 
+  unfoldable pub ty-rows : Layout
+  ty-rows = sep ", " ty-row
+
   unfoldable pub RecordTy : Layout
-  RecordTy = word "{ " ⨾ sep ", " ty-row ⨾ word " }"
+  RecordTy = word "{ " ⨾ ty-rows ⨾ word " }"
+
+  unfoldable pub ty-args : Layout
+  ty-args = sep ", " (group get-ty)
+
+  unfoldable pub ty-seq-there : Layout
+  ty-seq-there = group (word "(" ⨾ ty-args ⨾ word ") ")
+
+  unfoldable pub ty-seq : Layout
+  ty-seq = maybe ty-seq-there
 
   unfoldable pub ConTy : Layout
-  ConTy = maybe (group (word "(" ⨾ sep ", " (group get-ty) ⨾ word ") ")) ⨾ path
+  ConTy = ty-seq ⨾ path
 
   unfoldable pub OneArgConTy : Layout
   OneArgConTy = get-ty ⨾ word " " ⨾ path
 
+  unfoldable pub star-ty : Layout
+  star-ty = group (word " * " ⨾ get-ty)
+
+  unfoldable pub star-tys : Layout
+  star-tys = for-each star-ty
+
   -- The first call of `get_ty` drops its result.
   unfoldable pub TupleTy : Layout
-  TupleTy = dropped get-ty ⨾ for-each (group (word " * " ⨾ get-ty))
+  TupleTy = dropped get-ty ⨾ star-tys
 
   unfoldable pub FnTy : Layout
   FnTy = get-ty ⨾ word " -> " ⨾ get-ty

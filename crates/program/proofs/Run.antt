@@ -68,7 +68,7 @@ unfolding GetDec.dec-in-seq GetDec.sharing-tail GetDec.dec GetDec.get-dec GetDec
 runGetDec = tt
 
 unfoldable pub runTy : Unit {0}
-unfolding Ty.HoleTy Ty.WildcardTy Ty.TyVarTy Ty.ty-row Ty.RecordTy Ty.ConTy Ty.OneArgConTy Ty.TupleTy Ty.FnTy Ty.ParenTy Ty.tys Ty.ty-annotation
+unfolding Ty.HoleTy Ty.WildcardTy Ty.TyVarTy Ty.ty-row Ty.ty-rows Ty.ty-args Ty.ty-seq-there Ty.ty-seq Ty.star-ty Ty.star-tys Ty.RecordTy Ty.ConTy Ty.OneArgConTy Ty.TupleTy Ty.FnTy Ty.ParenTy Ty.tys Ty.ty-annotation
 runTy = tt
 
 unfoldable pub runPat : Unit {0}
