@@ -13,7 +13,7 @@ use Rattle.reader.specs.declared.commands.Number.{Number}
 use Rattle.reader.specs.declared.commands.Number.the-variants.{Is, Not}
 use Rattle.reader.specs.Fields as Fields
 use Rattle.reader.specs.Fields.{forms, firstForm}
-use Rattle.reader.specs.Commands.{u16, command, tokenAt, listAt, groupAt, choiceAt, formAt, firstToken, noToken, formWidth, familyOf, numberIn, CommandAt, NumberAt, FormAt}
+use Rattle.reader.specs.Commands.{u16, command, absentAt, tokenAt, listAt, groupAt, choiceAt, formAt, firstToken, noToken, formWidth, familyOf, numberIn, CommandAt, NumberAt, FormAt}
 
 pub and-left : (a b : Bool) → (a && b) ≡ true → a ≡ true
 and-left true b e = refl
@@ -144,6 +144,10 @@ module _ (rec : List ℕ) (at : ℕ) where
   pub choice-fits : (k : ℕ) → choiceAt rec at ≡ some k → at + 2 ≤ length rec
   unfolding choiceAt
   choice-fits k e = command-fits 4 2 (some-true (command rec 4 2 at) (getD rec (at + 1) 0) k e .0)
+
+  pub absent-fits : absentAt rec at ≡ true → at + 1 ≤ length rec
+  unfolding absentAt
+  absent-fits e = command-fits 0 1 e
 
   pub group-fits : groupAt rec at ≡ true → at + 1 ≤ length rec
   unfolding groupAt

@@ -5,7 +5,7 @@ use mathlib.Core.List.{List}
 use mathlib.Core.Bool.{Bool, true, false}
 use lib.ListN.{length}
 use Rattle.reader.specs.Fields.{Family, DecOne, StrExp, SigExp, Exp, Pat, Ty, Fields}
-use Rattle.reader.specs.Check.{Checked, ok, malformed, tooDeep, items, fields, formCheck, fieldEnd}
+use Rattle.reader.specs.Check.{Checked, ok, malformed, tooDeep, items, fields, formCheck, treeCheck, fieldEnd}
 use Rattle.reader.specs.Grammar.{fieldsOf}
 use Rattle.reader.specs.declared.tree.Checked as Code
 use Rattle.reader.specs.declared.tree.Checked.the-variants as Case
@@ -56,3 +56,7 @@ pub record ItemsEnd (rec : List ℕ) (count left n : ℕ) (f : Fields) (at : ℕ
 -- A field, read by itself.
 pub record Ends (rec : List ℕ) (count : ℕ) (f : Fields) (at : ℕ) (r : Code.Checked) : Type 0 where
   pub is : checkedIn r ≡ fieldEnd rec count f at
+
+-- The record behind its tokens.
+pub record TreeEnd (rec : List ℕ) (count at : ℕ) (r : Code.Checked) : Type 0 where
+  pub is : checkedIn r ≡ treeCheck rec count at

@@ -9,17 +9,23 @@ use crate::commands::form_width;
 use crate::commands::group_at;
 use crate::commands::list_at;
 use crate::commands::token_at;
+use crate::grammar::DEC;
+use crate::grammar::EXP;
 use crate::grammar::LIST;
+use crate::grammar::TY;
 use crate::grammar::codes_of;
 ghost use mathlib.Core.Path.{_≡_};
 ghost use mathlib.Core.Bool.{true, false};
 ghost use Prim.Native.Nat.{_+_};
 ghost use lib.ListN.{getD};
-ghost use Rattle.reader.specs.Fields.{none, token, group, choice, form};
+ghost use Rattle.reader.specs.Fields.{none, token, group, choice, form, Exp, Ty};
 ghost use Rattle.reader.specs.Commands.{familyOf};
 ghost use Rattle.reader.specs.Check.{operandFits};
 ghost use Rattle.reader.specs.Grammar.{rows, node, fieldOf, fieldsOf};
-ghost use Rattle.reader.specs.Tree.{firstRow, Opens, FieldsEnd, ItemsEnd, Ends};
+ghost use Rattle.reader.specs.Tree.{firstRow, Opens, FieldsEnd, ItemsEnd, Ends, TreeEnd};
+
+// Forms inside one another.
+const MAX_FORMS: usize = 200;
 
 // What a check says: where the next field stands, or a refusal with its place.
 pub enum Checked {
@@ -140,7 +146,7 @@ fn open_form(rec: &[u8], count: usize, family: Family, at: usize, left: usize) -
 }
 
 // The node of a code.
-fn open(rec: &[u8], count: usize, code: u32, at: usize, left: usize) -> Opened
+fn open_node(rec: &[u8], count: usize, code: u32, at: usize, left: usize) -> Opened
     ensures { λ r. ⌜ Opens (now (rec .entry)) count left (node code) at r ⌝ }
 {
     if code == 0 {
@@ -163,4 +169,99 @@ fn open(rec: &[u8], count: usize, code: u32, at: usize, left: usize) -> Opened
         45 => open_choice(rec, count, 2, 84, at, left),
         _ => open_token(rec, count, at, left),
     }
+}
+
+// A node that is there.
+fn item(rec: &[u8], count: usize, code: u32, at: usize, left: usize) -> Checked
+    ensures { λ r. ⌜ FieldsEnd (now (rec .entry)) count left false (node code) at r ⌝ }
+{
+    let opened = open_node(rec, count, code, at, left);
+    match opened {
+        Opened::Token(next) => Checked::Ok(next),
+        Opened::Inside {
+            codes,
+            at: next,
+            left: deeper,
+        } => fields(rec, count, codes, next, deeper),
+        Opened::Malformed => Checked::Malformed(at),
+        Opened::TooDeep => Checked::TooDeep(at),
+    }
+}
+
+// n items of a list. The count is not compared with the bytes left: the first item that is not there is told.
+fn items(rec: &[u8], count: usize, code: u32, n: usize, at: usize, left: usize) -> Checked
+    ensures { λ r. ⌜ ItemsEnd (now (rec .entry)) count left n (node code) at r ⌝ }
+{
+    let mut i = 0;
+    let mut next = at;
+    while i < n {
+        let found = item(rec, count, code, next, left);
+        let Checked::Ok(end) = found else {
+            return found;
+        };
+        next = end;
+        i += 1;
+    }
+    Checked::Ok(next)
+}
+
+// The field of a code: a field other than a list may be absent.
+fn field(rec: &[u8], count: usize, code: u32, at: usize, left: usize) -> Checked
+    ensures { λ r. ⌜ FieldsEnd (now (rec .entry)) count left true (fieldOf code) at r ⌝ }
+{
+    if LIST <= code {
+        let Number::Is(n) = list_at(rec, at) else {
+            return Checked::Malformed(at);
+        };
+        return items(rec, count, code - LIST, n, at + 3, left);
+    }
+    if absent_at(rec, at) {
+        return Checked::Ok(at + 1);
+    }
+    item(rec, count, code, at, left)
+}
+
+// The fields of a row of codes.
+fn fields(rec: &[u8], count: usize, codes: u32, at: usize, left: usize) -> Checked
+    ensures { λ r. ⌜ FieldsEnd (now (rec .entry)) count left true (fieldsOf codes) at r ⌝ }
+{
+    let mut rest = codes;
+    let mut next = at;
+    while rest != 0 {
+        let found = field(rec, count, rest % 256, next, left);
+        let Checked::Ok(end) = found else {
+            return found;
+        };
+        next = end;
+        rest = rest / 256;
+    }
+    Checked::Ok(next)
+}
+
+// The end of an expression's field, read by itself.
+pub fn exp_end(rec: &[u8], count: usize, at: usize) -> Checked
+    ensures { λ r. ⌜ Ends (now (rec .entry)) count (form Exp) at r ⌝ }
+{
+    field(rec, count, EXP, at, MAX_FORMS)
+}
+
+// The end of a type's field, read by itself.
+pub fn ty_end(rec: &[u8], count: usize, at: usize) -> Checked
+    ensures { λ r. ⌜ Ends (now (rec .entry)) count (form Ty) at r ⌝ }
+{
+    field(rec, count, TY, at, MAX_FORMS)
+}
+
+// The list of declarations, then nothing: the place of bytes left over is that of the first.
+pub fn tree_end(rec: &[u8], count: usize, at: usize) -> Checked
+    ensures { λ r. ⌜ TreeEnd (now (rec .entry)) count at r ⌝ }
+{
+    let found = field(rec, count, LIST + DEC, at, MAX_FORMS);
+    let Checked::Ok(end) = found else {
+        return found;
+    };
+    if end == rec.len() {
+        return found;
+    }
+    Checked::Malformed(end)
 }

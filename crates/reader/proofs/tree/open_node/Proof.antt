@@ -3,10 +3,10 @@ use Rattle.reader.proofs.TreeLaws.{opens-as, choice-same, above}
 use Rattle.reader.proofs.GrammarLaws.{group-row, token-code, pat-row-inner, fun-bind-case-head, ex-bind-inner, functor-arg, app-str-exp-arg}
 use Rattle.reader.specs.Grammar.{node, nodes, groups, held, upTo}
 use borrow.Author.Needs.{needs}
-use Rattle.reader.proofs.tree.open.Statement.{statement}
-use Rattle.reader.proofs.tree.open.Tie as tie
-use Rattle.reader.proofs.tree.open.Reads as reads
-use Rattle.reader.proofs.tree.open.Lts as lts
+use Rattle.reader.proofs.tree.open_node.Statement.{statement}
+use Rattle.reader.proofs.tree.open_node.Tie as tie
+use Rattle.reader.proofs.tree.open_node.Reads as reads
+use Rattle.reader.proofs.tree.open_node.Lts as lts
 use Rattle.reader.proofs.tree.open_choice.Reads as open-choice-reads
 use Rattle.reader.proofs.tree.open_form.Reads as open-form-reads
 use Rattle.reader.proofs.tree.open_group.Reads as open-group-reads
@@ -140,8 +140,8 @@ returns-13 c = opens-as (ap node (sym (c .before .match .keys11))) (choice-same 
 returns-14 : tie.Need-returns-14
 returns-14 c = opens-as (sym (token-code (c .before .before .before .before .before .args .code) (above (above (above (above (above (above (above (above (above (above (above (c .before .before .if2 .left) (c .before .match .rest .0 .0 .0 .0 .0 .0 .0 .0 .0 .0 .1)) (c .before .match .rest .0 .0 .0 .0 .0 .0 .0 .0 .0 .1)) (c .before .match .rest .0 .0 .0 .0 .0 .0 .0 .0 .1)) (c .before .match .rest .0 .0 .0 .0 .0 .0 .0 .1)) (c .before .match .rest .0 .0 .0 .0 .0 .0 .1)) (c .before .match .rest .0 .0 .0 .0 .0 .1)) (c .before .match .rest .0 .0 .0 .0 .1)) (c .before .match .rest .0 .0 .0 .1)) (c .before .match .rest .0 .0 .1)) (c .before .match .rest .0 .1)) (c .before .match .rest .1)))) (c .open-token2 .ensures)
 
-pub open-spec : {M : Type 1} → statement M
-open-spec =
+pub open-node-spec : {M : Type 1} → statement M
+open-node-spec =
     tie.close
     (tie.spec
     open-token-requires
