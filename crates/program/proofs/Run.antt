@@ -4,6 +4,8 @@ use Rattle.reader.specs.Fields as Fields
 use Rattle.reader.specs.Commands as Commands
 use Rattle.reader.specs.Tokens as Tokens
 use Rattle.reader.specs.Check as Check
+use Rattle.reader.specs.Grammar as Grammar
+use Rattle.reader.specs.Tree as Tree
 use Rattle.reader.specs.Reading as Reading
 use Rattle.comments.specs.Set as Set
 use Rattle.comments.specs.Above as Above
@@ -42,6 +44,14 @@ runTokens = tt
 unfoldable pub runCheck : Unit {0}
 unfolding Check.andThen Check.items Check.operandFits Check.orAbsent Check.fields Check.formFits Check.formCheck Check.treeCheck Check.fieldEnd
 runCheck = tt
+
+unfoldable pub runGrammar : Unit {0}
+unfolding Grammar.groups Grammar.nodes Grammar.node Grammar.fieldOf Grammar.digits Grammar.inside Grammar.upTo Grammar.held Grammar.rows
+runGrammar = tt
+
+unfoldable pub runTree : Unit {0}
+unfolding Tree.firstRow Tree.opened
+runTree = tt
 
 unfoldable pub runReading : Unit {0}
 unfolding Reading.readTree Reading.readRecord Reading.readText Reading.read Reading.numberOf Reading.placeOf
@@ -116,5 +126,5 @@ unfolding Program.digits Program.decimal Program.line Program.printed Program.ta
 runProgram = tt
 
 unfoldable pub run : Unit {0}
-unfolding runBytes runFields runCommands runTokens runCheck runReading runSet runAbove runMeaning runHelpers runGetDec runTy runPat runExp runSigExp runStrExp runDecOne runWalk runEvents runVerdict runLookup runDoc runProgram
+unfolding runBytes runFields runCommands runTokens runCheck runGrammar runTree runReading runSet runAbove runMeaning runHelpers runGetDec runTy runPat runExp runSigExp runStrExp runDecOne runWalk runEvents runVerdict runLookup runDoc runProgram
 run = tt

@@ -7,16 +7,21 @@ use mathlib.Core.Option.{Option, none, some}
 use native.Mathlib.Omega.{arith}
 use lib.ListN.{length, getD, List·getD-eq-default}
 use lib.Dec.{leb, ltb, eqb}
-use borrow.Author.Tests.{le-leb, lt-leb, leb-true, leb-false, lt-ltb, le-ltb, eq-eqb, ne-eqb, eqb-false}
+use borrow.Author.Tests.{le-leb, lt-leb, leb-true, leb-false, ltb-true, lt-ltb, le-ltb, eq-eqb, ne-eqb, eqb-false}
 use Rattle.reader.specs.declared.commands.Family.{Family}
 use Rattle.reader.specs.declared.commands.Number.{Number}
 use Rattle.reader.specs.declared.commands.Number.the-variants.{Is, Not}
+use Rattle.reader.specs.Fields as Fields
 use Rattle.reader.specs.Fields.{forms, firstForm}
-use Rattle.reader.specs.Commands.{u16, command, tokenAt, listAt, choiceAt, formAt, firstToken, noToken, formWidth, familyOf, numberIn, CommandAt, NumberAt, FormAt}
+use Rattle.reader.specs.Commands.{u16, command, absentAt, tokenAt, listAt, groupAt, choiceAt, formAt, firstToken, noToken, formWidth, familyOf, numberIn, CommandAt, NumberAt, FormAt}
 
 pub and-left : (a b : Bool) → (a && b) ≡ true → a ≡ true
 and-left true b e = refl
 and-left false b e = e
+
+pub and-right : (a b : Bool) → (a && b) ≡ true → b ≡ true
+and-right true b e = e
+and-right false b e = let z : _≡_ {A = ℕ} 0 1 = cc in absurd (omega arith)
 
 -- A command stands whole.
 pub fits : {rec : List ℕ} {tag width at : ℕ} {b : Bool} → CommandAt tag width rec at b → b ≡ true → at + width ≤ length rec
@@ -97,3 +102,84 @@ module _ {rec : List ℕ} {at k : ℕ} where
 
 pub first-past : {rec : List ℕ} {at : ℕ} → length rec ≤ at → NumberAt firstToken rec at (Is 0)
 first-past {rec} {at} h = first-is (u16-past rec (at + 1) (omega arith)) (λ e. eqb-false 0 noToken refl e)
+
+-- What an answer says of the record.
+module _ {reads : List ℕ → ℕ → Option ℕ} {rec : List ℕ} {at : ℕ} {r : Number} where
+  pub read-not : NumberAt reads rec at r → r ≡ Not → reads rec at ≡ none
+  unfolding numberIn
+  read-not s e = sym (s .is) ∙ ap numberIn e
+
+  pub read-is : {n : ℕ} → NumberAt reads rec at r → r ≡ Is n → reads rec at ≡ some n
+  unfolding numberIn
+  read-is s e = sym (s .is) ∙ ap numberIn e
+
+module _ {family : Family} {rec : List ℕ} {at : ℕ} {r : Number} where
+  pub form-not : FormAt family rec at r → r ≡ Not → formAt rec (familyOf family) at ≡ none
+  unfolding numberIn
+  form-not s e = sym (s .is) ∙ ap numberIn e
+
+  pub form-read : {n : ℕ} → FormAt family rec at r → r ≡ Is n → formAt rec (familyOf family) at ≡ some n
+  unfolding numberIn
+  form-read s e = sym (s .is) ∙ ap numberIn e
+
+-- A number is read only where the test passes.
+pub some-true : (b : Bool) (x k : ℕ) → _≡_ {A = Option ℕ} (elim b [ true ↦ some x | false ↦ none ]) (some k) → (b ≡ true) × (x ≡ k)
+some-true true x k e = (refl, cc)
+some-true false x k e = let z : _≡_ {A = ℕ} 0 1 = cc in absurd (omega arith)
+
+module _ (rec : List ℕ) (at : ℕ) where
+  pub command-fits : (tag width : ℕ) → command rec tag width at ≡ true → at + width ≤ length rec
+  unfolding command
+  command-fits tag width e =
+      leb-true (at + width) (length rec) (and-left (leb (at + width) (length rec)) (eqb (getD rec at 0) tag) e)
+
+  pub token-fits : (k : ℕ) → tokenAt rec at ≡ some k → at + 3 ≤ length rec
+  unfolding tokenAt
+  token-fits k e = command-fits 1 3 (some-true (command rec 1 3 at) (u16 rec (at + 1)) k e .0)
+
+  pub list-fits : (k : ℕ) → listAt rec at ≡ some k → at + 3 ≤ length rec
+  unfolding listAt
+  list-fits k e = command-fits 2 3 (some-true (command rec 2 3 at) (u16 rec (at + 1)) k e .0)
+
+  pub choice-fits : (k : ℕ) → choiceAt rec at ≡ some k → at + 2 ≤ length rec
+  unfolding choiceAt
+  choice-fits k e = command-fits 4 2 (some-true (command rec 4 2 at) (getD rec (at + 1) 0) k e .0)
+
+  pub absent-fits : absentAt rec at ≡ true → at + 1 ≤ length rec
+  unfolding absentAt
+  absent-fits e = command-fits 0 1 e
+
+  pub group-fits : groupAt rec at ≡ true → at + 1 ≤ length rec
+  unfolding groupAt
+  group-fits e = command-fits 3 1 e
+
+  module _ (family : Fields.Family) (n : ℕ) (e : formAt rec family at ≡ some n) where
+    form-tests :
+        (leb (at + formWidth family) (length rec)
+        && leb (firstForm family) (getD rec at 0)
+        && ltb (getD rec at 0) (firstForm family + length (forms family))
+        ≡ true)
+        × (getD rec at 0 - firstForm family ≡ n)
+    unfolding formAt
+    form-tests = some-true (leb (at + formWidth family) (length rec) && leb (firstForm family) (getD rec at 0) && ltb (getD rec at 0) (firstForm family + length (forms family))) (getD rec at 0 - firstForm family) n e
+
+    pub form-fits : at + formWidth family ≤ length rec
+    form-fits =
+        leb-true (at + formWidth family) (length rec)
+        (and-left (leb (at + formWidth family) (length rec)) (leb (firstForm family) (getD rec at 0)) (and-left _ (ltb (getD rec at 0) (firstForm family + length (forms family))) (form-tests .0)))
+
+    pub form-number : n < length (forms family)
+    form-number =
+        let lo : firstForm family ≤ getD rec at 0 = leb-true _ _ (and-right (leb (at + formWidth family) (length rec)) _ (and-left _ (ltb (getD rec at 0) (firstForm family + length (forms family))) (form-tests .0))) in
+        let hi : getD rec at 0 < firstForm family + length (forms family) = ltb-true _ _ (and-right (leb (at + formWidth family) (length rec) && leb (firstForm family) (getD rec at 0)) _ (form-tests .0)) in
+        omega (arith, form-tests .1)
+
+-- A form's command has a byte at least.
+pub form-wide : (family : Fields.Family) → 1 ≤ formWidth family
+unfolding formWidth
+form-wide Fields.DecOne = omega arith
+form-wide Fields.StrExp = omega arith
+form-wide Fields.SigExp = omega arith
+form-wide Fields.Exp = omega arith
+form-wide Fields.Pat = omega arith
+form-wide Fields.Ty = omega arith

@@ -1,1 +1,4 @@
 pub mod CommandLaws
+pub mod GrammarLaws
+pub mod TreeLaws
+pub mod FieldLaws

@@ -1,0 +1,20 @@
+use Rattle.reader.specs.Grammar.{groups, nodes, node, fieldOf}
+use Rattle.reader.specs.Check.{fieldEnd}
+use borrow.Author.Needs.{needs}
+use Rattle.reader.proofs.tree.ty_end.Statement.{statement}
+use Rattle.reader.proofs.tree.ty_end.Tie as tie
+use Rattle.reader.proofs.tree.ty_end.Reads as reads
+use Rattle.reader.proofs.tree.ty_end.Lts as lts
+use Rattle.reader.proofs.tree.field.Reads as field-reads
+
+-- src/tree.rt:252:5
+field-requires : tie.Need-field-requires
+field-requires c κs = search needs
+
+-- src/tree.rt:249:1
+returns : tie.Need-returns
+unfolding fieldOf node nodes groups fieldEnd
+returns c = record { is = c .field .ensures .is }
+
+pub ty-end-spec : {M : Type 1} → statement M
+ty-end-spec = tie.close (tie.spec field-requires returns)

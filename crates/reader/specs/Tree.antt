@@ -1,0 +1,62 @@
+-- Contracts of the record check behind the tokens.
+use Prim.Native.Nat.{ℕ, _+_, _≤_, _<_}
+use mathlib.Core.Path.{_≡_}
+use mathlib.Core.List.{List}
+use mathlib.Core.Bool.{Bool, true, false}
+use lib.ListN.{length}
+use Rattle.reader.specs.Fields.{Family, DecOne, StrExp, SigExp, Exp, Pat, Ty, Fields}
+use Rattle.reader.specs.Check.{Checked, ok, malformed, tooDeep, items, fields, formCheck, treeCheck, fieldEnd}
+use Rattle.reader.specs.Grammar.{fieldsOf}
+use Rattle.reader.specs.declared.tree.Checked as Code
+use Rattle.reader.specs.declared.tree.Checked.the-variants as Case
+use Rattle.reader.specs.declared.tree.Opened.{Opened}
+use Rattle.reader.specs.declared.tree.Opened.the-variants as Opening
+
+-- What an answer says.
+abbrev pub checkedIn : Code.Checked → Checked
+checkedIn (Case.Ok at) = ok at
+checkedIn (Case.Malformed place) = malformed place
+checkedIn (Case.TooDeep place) = tooDeep place
+
+-- The row of a family's first form.
+unfoldable pub firstRow : Family → ℕ
+firstRow DecOne = 0
+firstRow StrExp = 20
+firstRow SigExp = 25
+firstRow Exp = 29
+firstRow Pat = 54
+firstRow Ty = 66
+
+module _ (rec : List ℕ) (count : ℕ) where
+  -- What is left of a node at an offset once its command is read.
+  unfoldable pub opened : ℕ → Opened → Checked
+  opened at (Opening.Token next) = ok next
+  opened at (Opening.Inside codes next left) = fields rec count (formCheck rec count left) true (fieldsOf codes) next
+  opened at Opening.Malformed = malformed at
+  opened at Opening.TooDeep = tooDeep at
+
+  -- A command that opens a node stands in the record, and the fields inside behind it.
+  abbrev pub ahead : ℕ → Opened → Type 0
+  ahead at (Opening.Token next) = Unit {0}
+  ahead at (Opening.Inside codes next left) = (at < next) × (next ≤ length rec)
+  ahead at Opening.Malformed = Unit {0}
+  ahead at Opening.TooDeep = Unit {0}
+
+-- A node, where this many more forms may stand inside one another.
+pub record Opens (rec : List ℕ) (count left : ℕ) (f : Fields) (at : ℕ) (r : Opened) : Type 0 where
+  pub is : opened rec count at r ≡ fields rec count (formCheck rec count left) false f at
+  pub on : ahead rec count at r
+
+pub record FieldsEnd (rec : List ℕ) (count left : ℕ) (may : Bool) (f : Fields) (at : ℕ) (r : Code.Checked) : Type 0 where
+  pub is : checkedIn r ≡ fields rec count (formCheck rec count left) may f at
+
+pub record ItemsEnd (rec : List ℕ) (count left n : ℕ) (f : Fields) (at : ℕ) (r : Code.Checked) : Type 0 where
+  pub is : checkedIn r ≡ items n (λ next. fields rec count (formCheck rec count left) false f next) at
+
+-- A field, read by itself.
+pub record Ends (rec : List ℕ) (count : ℕ) (f : Fields) (at : ℕ) (r : Code.Checked) : Type 0 where
+  pub is : checkedIn r ≡ fieldEnd rec count f at
+
+-- The record behind its tokens.
+pub record TreeEnd (rec : List ℕ) (count at : ℕ) (r : Code.Checked) : Type 0 where
+  pub is : checkedIn r ≡ treeCheck rec count at
