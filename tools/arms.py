@@ -78,7 +78,7 @@ class Function:
             return "read"
         if name in SURE or thing in SURE:
             return "sure"
-        kinds = {"group": "group", "absent": "gone", "optional": "optional", "token": "write", "onwards": "onwards"}
+        kinds = {"group": "group", "absent": "gone", "optional": "optional", "token": "write"}
         return kinds.get(name) or self.members.get(name) or self.members.get(thing)
 
     def steps(self, way):
@@ -201,9 +201,12 @@ class Function:
         record, thing, path = [place for place in way if place[1].startswith("match")][-1]
         if record.endswith("-rest"):
             count = len([name for name in self.places.records if re.match(r"At-%s-keys\d+$" % thing, name)])
-            facts = ", ".join("%s .rest %s.1" % (path, ".0 " * k) for k in range(count))
+            past = "zero-le"
+            for k in range(count):
+                past = "past (%s) (%s .rest %s.1)" % (past, path, ".0 " * (count - 1 - k))
             number = found[:-len(" .1")] + " .0 .0"
-            return head + "(by-same (form-is (%s .ensures) (%s)) (beyond _ (%s) (omega (arith, %s)) (%s .ensures)))" % (form, found, number, facts, self.stop(way))
+            return head + "(by-same (form-is (%s .ensures) (%s)) (beyond (%s) (%s) %d refl (%s) (%s .ensures)))" % (
+                form, found, self.answers["arms"].replace("@start", paths["start"]), number, count, past, self.stop(way))
         key = re.search(r"keys\d+$", record).group(0)
         return head + "(form-key (%s .ensures) (%s) (%s .%s) %s)" % (form, found, path, key, parenthesised(self.term(steps[1:], None, None)))
 

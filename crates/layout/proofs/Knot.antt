@@ -26,14 +26,19 @@ use Rattle.layout.specs.SigExp.{sig-exps}
 use Rattle.layout.specs.DecOne.{one-dec}
 use Rattle.layout.proofs.Steps.{by-same, form-is, last-halt}
 
+-- A number that is at least k and not k.
+pub past : {k n : ℕ} → k ≤ n → (n ≡ k → ⊥) → suc k ≤ n
+past h e = omega (arith, e)
+
 module _ {p : Page} {tab : ℕ} where
   halted : {s : St} {o m : List ℕ} {a : Answer} → a ≡ Stopped s (s .at) false → Walked p tab halt (runOf s o m) a o m
   halted {s} {o} {m} e = subst (λ x. Walked p tab halt (runOf s o m) x o m) (sym e) last-halt
 
   -- No arm has the number.
-  pub beyond : (arms : List Layout) (n : ℕ) {s : St} {o m : List ℕ} {a : Answer} → length arms ≤ n → a ≡ Stopped s (s .at) false
+  pub beyond : (arms : List Layout) (n k : ℕ) {s : St} {o m : List ℕ} {a : Answer} → length arms ≡ k → k ≤ n → a ≡ Stopped s (s .at) false
       → Walked p tab (getD arms n halt) (runOf s o m) a o m
-  beyond arms n {s} {o} {m} {a} h e = subst (λ w. Walked p tab w (runOf s o m) a o m) (sym (List·getD-eq-default arms halt h)) (halted e)
+  beyond arms n k {s} {o} {m} {a} l h e =
+      subst (λ w. Walked p tab w (runOf s o m) a o m) (sym (List·getD-eq-default arms halt (omega (arith, l)))) (halted e)
 
   -- The arm of the number that was read.
   pub form-key : {family : Code.Family} {k : ℕ → Layout} {n key : ℕ} {s s′ : St} {o m o′ m′ : List ℕ} {x : Read} {r : Answer} → FormRead family (p .rec) s x

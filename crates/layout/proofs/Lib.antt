@@ -2,4 +2,5 @@ pub mod Placing
 pub mod Pieces
 pub mod Reading
 pub mod Steps
+pub mod Dropping
 pub mod Knot

@@ -21,6 +21,9 @@ use Rattle.layout.specs.declared.fields.Gone.the-variants.{Past}
 use Rattle.layout.specs.declared.fields.Given.{Given}
 use Rattle.layout.specs.declared.fields.Given.the-variants.{Absent, Neither}
 use Rattle.reader.specs.declared.commands.Family.{Family}
+use Rattle.reader.specs.Fields as Fields
+use Rattle.reader.specs.Fields.{Ty}
+use Rattle.reader.specs.Check.{ok, malformed, tooDeep, fieldEnd}
 use Rattle.reader.specs.Commands.{absentAt, tokenAt, groupAt, formAt, formWidth, familyOf}
 use mathlib.Core.Option.{Option, none, some}
 use Rattle.layout.specs.declared.Answer.the-variants.{Done, Stopped}
@@ -193,3 +196,16 @@ optionalOf s none false = Neither
 
 pub record OptionalRead (r : List ℕ) (s : St) (x : Given) : Type 0 where
   pub is : x ≡ optionalOf s (tokenAt r (s .at)) (absentAt r (s .at))
+
+-- Where the walk goes on after a type whose answer is dropped, at the type's offset.
+unfoldable pub onwardsOf : List ℕ → ℕ → ℕ → Answer → Answer
+onwardsOf r count at (Done s) = Done s
+onwardsOf r count at (Stopped s place import) =
+    elim (formAt r Ty at) [
+      | some n ↦ elim (fieldEnd r count (Fields.form Ty) at)
+          [ ok next ↦ Done (moved next s) | malformed other ↦ Stopped s other false | tooDeep other ↦ Stopped s other false ]
+      | none ↦ Stopped s place import
+    ]
+
+pub record Onwards (r : List ℕ) (count at : ℕ) (a b : Answer) : Type 0 where
+  pub is : b ≡ onwardsOf r count at a

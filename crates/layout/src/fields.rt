@@ -3,11 +3,12 @@ use crate::Answer;
 use crate::St;
 use reader::commands::Family;
 use reader::commands::Number;
+use reader::tree::Checked;
 ghost use mathlib.Core.Path.{_≡_};
 ghost use mathlib.Core.Bool.{false};
 ghost use Rattle.reader.specs.Commands.{absentAt, tokenAt, listAt, choiceAt};
 ghost use mathlib.Core.Option.{none};
-ghost use Rattle.layout.specs.State.{moved as movedTo, ReadAt, FormRead, GroupRead, GoneRead, OptionalRead, optionalOf};
+ghost use Rattle.layout.specs.State.{moved as movedTo, ReadAt, FormRead, GroupRead, GoneRead, OptionalRead, optionalOf, Onwards};
 
 // What is read at the cursor, with the state behind it.
 pub enum Read {
@@ -124,4 +125,22 @@ pub fn optional(rec: &[u8], st: St) -> Given
         return no_token(rec, st);
     };
     Given::Token(n, s)
+}
+
+// Where the walk goes on after a type at an offset whose answer is dropped: behind the whole of it.
+pub fn onwards(rec: &[u8], count: usize, at: usize, r: Answer) -> Answer
+    ensures { λ a. ⌜ Onwards (now (rec .entry)) count at r a ⌝ }
+{
+    let Answer::Stopped(s, place, import) = r else {
+        return r;
+    };
+    let Number::Is(_k) = reader::commands::form_at(rec, Family::Ty, at) else {
+        return Answer::Stopped(s, place, import);
+    };
+    let end = reader::tree::ty_end(rec, count, at);
+    match end {
+        Checked::Ok(next) => Answer::Done(moved(s, next)),
+        Checked::Malformed(other) => Answer::Stopped(s, other, false),
+        Checked::TooDeep(other) => Answer::Stopped(s, other, false),
+    }
 }

@@ -1,9 +1,21 @@
 // `get_ty` of 000: the walk over types. A function for each arm, over configurations one form deeper.
-use layout::fields::{absent, form, group, list, stop, Gone, Read};
-use layout::helpers::{between, path, text_of};
-use layout::{word, words, Answer, Cfg, St};
+use layout::Answer;
+use layout::Cfg;
+use layout::St;
+use layout::fields::Gone;
+use layout::fields::Read;
+use layout::fields::absent;
+use layout::fields::form;
+use layout::fields::group;
+use layout::fields::list;
+use layout::fields::onwards;
+use layout::fields::stop;
+use layout::helpers::between;
+use layout::helpers::path;
+use layout::helpers::text_of;
+use layout::word;
+use layout::words;
 use reader::commands::Family;
-
 ghost use Prim.Native.Nat.{_+_};
 ghost use Rattle.layout.specs.State.{Plain};
 ghost use Rattle.layout.specs.Helpers.{sep, for-each};
@@ -12,7 +24,15 @@ ghost use Rattle.layout.specs.Walk.{walks};
 ghost use Rattle.layout.specs.Ty.{ty-row, ty-rows, RecordTy, ty-seq, ty-seq-there, ty-args, ConTy, OneArgConTy, star-ty, star-tys, TupleTy, FnTy, ParenTy};
 
 // A row of a record type.
-fn ty_row(text: &[u8], rec: &[u8], starts: &[u16], lens: &[u16], out: &mut [u8], st: St, cfg: Cfg) -> Answer
+fn ty_row(
+    text: &[u8],
+    rec: &[u8],
+    starts: &[u16],
+    lens: &[u16],
+    out: &mut [u8],
+    st: St,
+    cfg: Cfg,
+) -> Answer
     ensures { λ r. ⌜ Plain (now (text .entry)) (now (rec .entry)) (now (starts .entry)) (now (lens .entry)) (cfg .tab) (ty-row (walks (cfg .left))) st (now (out .entry)) r (now (out .exit)) ⌝ }
 {
     let r1 = group(rec, st);
@@ -28,7 +48,15 @@ fn ty_row(text: &[u8], rec: &[u8], starts: &[u16], lens: &[u16], out: &mut [u8],
 }
 
 // The rows of a record type.
-fn ty_rows(text: &[u8], rec: &[u8], starts: &[u16], lens: &[u16], out: &mut [u8], st: St, cfg: Cfg) -> Answer
+fn ty_rows(
+    text: &[u8],
+    rec: &[u8],
+    starts: &[u16],
+    lens: &[u16],
+    out: &mut [u8],
+    st: St,
+    cfg: Cfg,
+) -> Answer
     ensures { λ r. ⌜ Plain (now (text .entry)) (now (rec .entry)) (now (starts .entry)) (now (lens .entry)) (cfg .tab) (ty-rows (walks (cfg .left))) st (now (out .entry)) r (now (out .exit)) ⌝ }
 {
     let Read::Is(n, s0) = list(rec, st) else {
@@ -49,7 +77,15 @@ fn ty_rows(text: &[u8], rec: &[u8], starts: &[u16], lens: &[u16], out: &mut [u8]
 }
 
 // `RecordTy`.
-fn record_ty(text: &[u8], rec: &[u8], starts: &[u16], lens: &[u16], out: &mut [u8], st: St, cfg: Cfg) -> Answer
+fn record_ty(
+    text: &[u8],
+    rec: &[u8],
+    starts: &[u16],
+    lens: &[u16],
+    out: &mut [u8],
+    st: St,
+    cfg: Cfg,
+) -> Answer
     ensures { λ r. ⌜ Plain (now (text .entry)) (now (rec .entry)) (now (starts .entry)) (now (lens .entry)) (cfg .tab) (RecordTy (walks (cfg .left))) st (now (out .entry)) r (now (out .exit)) ⌝ }
 {
     let s1 = word(text, out, st, cfg.tab, words::L_CURLY);
@@ -61,7 +97,15 @@ fn record_ty(text: &[u8], rec: &[u8], starts: &[u16], lens: &[u16], out: &mut [u
 }
 
 // The arguments of a type constructor.
-fn ty_args(text: &[u8], rec: &[u8], starts: &[u16], lens: &[u16], out: &mut [u8], st: St, cfg: Cfg) -> Answer
+fn ty_args(
+    text: &[u8],
+    rec: &[u8],
+    starts: &[u16],
+    lens: &[u16],
+    out: &mut [u8],
+    st: St,
+    cfg: Cfg,
+) -> Answer
     ensures { λ r. ⌜ Plain (now (text .entry)) (now (rec .entry)) (now (starts .entry)) (now (lens .entry)) (cfg .tab) (ty-args (walks (cfg .left))) st (now (out .entry)) r (now (out .exit)) ⌝ }
 {
     let Read::Is(n, s0) = list(rec, st) else {
@@ -86,7 +130,15 @@ fn ty_args(text: &[u8], rec: &[u8], starts: &[u16], lens: &[u16], out: &mut [u8]
 }
 
 // The arguments of a type constructor in parentheses, where there are any.
-fn ty_seq(text: &[u8], rec: &[u8], starts: &[u16], lens: &[u16], out: &mut [u8], st: St, cfg: Cfg) -> Answer
+fn ty_seq(
+    text: &[u8],
+    rec: &[u8],
+    starts: &[u16],
+    lens: &[u16],
+    out: &mut [u8],
+    st: St,
+    cfg: Cfg,
+) -> Answer
     ensures { λ r. ⌜ Plain (now (text .entry)) (now (rec .entry)) (now (starts .entry)) (now (lens .entry)) (cfg .tab) (ty-seq (walks (cfg .left))) st (now (out .entry)) r (now (out .exit)) ⌝ }
 {
     let gone = absent(rec, st);
@@ -97,7 +149,15 @@ fn ty_seq(text: &[u8], rec: &[u8], starts: &[u16], lens: &[u16], out: &mut [u8],
 }
 
 // The arguments that are there.
-fn ty_seq_there(text: &[u8], rec: &[u8], starts: &[u16], lens: &[u16], out: &mut [u8], st: St, cfg: Cfg) -> Answer
+fn ty_seq_there(
+    text: &[u8],
+    rec: &[u8],
+    starts: &[u16],
+    lens: &[u16],
+    out: &mut [u8],
+    st: St,
+    cfg: Cfg,
+) -> Answer
     ensures { λ r. ⌜ Plain (now (text .entry)) (now (rec .entry)) (now (starts .entry)) (now (lens .entry)) (cfg .tab) (ty-seq-there (walks (cfg .left))) st (now (out .entry)) r (now (out .exit)) ⌝ }
 {
     let r1 = group(rec, st);
@@ -113,7 +173,15 @@ fn ty_seq_there(text: &[u8], rec: &[u8], starts: &[u16], lens: &[u16], out: &mut
 }
 
 // `ConTy`.
-fn con_ty(text: &[u8], rec: &[u8], starts: &[u16], lens: &[u16], out: &mut [u8], st: St, cfg: Cfg) -> Answer
+fn con_ty(
+    text: &[u8],
+    rec: &[u8],
+    starts: &[u16],
+    lens: &[u16],
+    out: &mut [u8],
+    st: St,
+    cfg: Cfg,
+) -> Answer
     ensures { λ r. ⌜ Plain (now (text .entry)) (now (rec .entry)) (now (starts .entry)) (now (lens .entry)) (cfg .tab) (ConTy (walks (cfg .left))) st (now (out .entry)) r (now (out .exit)) ⌝ }
 {
     let r1 = ty_seq(text, rec, starts, lens, out, st, cfg);
@@ -124,7 +192,15 @@ fn con_ty(text: &[u8], rec: &[u8], starts: &[u16], lens: &[u16], out: &mut [u8],
 }
 
 // `OneArgConTy`.
-fn one_arg_con_ty(text: &[u8], rec: &[u8], starts: &[u16], lens: &[u16], out: &mut [u8], st: St, cfg: Cfg) -> Answer
+fn one_arg_con_ty(
+    text: &[u8],
+    rec: &[u8],
+    starts: &[u16],
+    lens: &[u16],
+    out: &mut [u8],
+    st: St,
+    cfg: Cfg,
+) -> Answer
     ensures { λ r. ⌜ Plain (now (text .entry)) (now (rec .entry)) (now (starts .entry)) (now (lens .entry)) (cfg .tab) (OneArgConTy (walks (cfg .left))) st (now (out .entry)) r (now (out .exit)) ⌝ }
 {
     let r1 = get_ty(text, rec, starts, lens, out, st, cfg);
@@ -135,8 +211,86 @@ fn one_arg_con_ty(text: &[u8], rec: &[u8], starts: &[u16], lens: &[u16], out: &m
     path(text, rec, starts, lens, out, s2, cfg)
 }
 
+// A further part of a tuple type.
+fn star_ty(
+    text: &[u8],
+    rec: &[u8],
+    starts: &[u16],
+    lens: &[u16],
+    out: &mut [u8],
+    st: St,
+    cfg: Cfg,
+) -> Answer
+    ensures { λ r. ⌜ Plain (now (text .entry)) (now (rec .entry)) (now (starts .entry)) (now (lens .entry)) (cfg .tab) (star-ty (walks (cfg .left))) st (now (out .entry)) r (now (out .exit)) ⌝ }
+{
+    let r1 = group(rec, st);
+    let Answer::Done(s1) = r1 else {
+        return r1;
+    };
+    let s2 = word(text, out, s1, cfg.tab, words::STAR);
+    get_ty(text, rec, starts, lens, out, s2, cfg)
+}
+
+// The further parts of a tuple type.
+fn star_tys(
+    text: &[u8],
+    rec: &[u8],
+    starts: &[u16],
+    lens: &[u16],
+    out: &mut [u8],
+    st: St,
+    cfg: Cfg,
+) -> Answer
+    ensures { λ r. ⌜ Plain (now (text .entry)) (now (rec .entry)) (now (starts .entry)) (now (lens .entry)) (cfg .tab) (star-tys (walks (cfg .left))) st (now (out .entry)) r (now (out .exit)) ⌝ }
+{
+    let Read::Is(n, s0) = list(rec, st) else {
+        return stop(st);
+    };
+    let mut s = s0;
+    let mut i = 0;
+    while i < n {
+        let r1 = star_ty(text, rec, starts, lens, out, s, cfg);
+        let Answer::Done(s1) = r1 else {
+            return r1;
+        };
+        s = s1;
+        i += 1;
+    }
+    Answer::Done(s)
+}
+
+// `TupleTy`: the answer of the first part is dropped.
+fn tuple_ty(
+    text: &[u8],
+    rec: &[u8],
+    starts: &[u16],
+    lens: &[u16],
+    out: &mut [u8],
+    st: St,
+    cfg: Cfg,
+) -> Answer
+    ensures { λ r. ⌜ Plain (now (text .entry)) (now (rec .entry)) (now (starts .entry)) (now (lens .entry)) (cfg .tab) (TupleTy (walks (cfg .left))) st (now (out .entry)) r (now (out .exit)) ⌝ }
+{
+    let at = st.at;
+    let count = starts.len();
+    let r0 = get_ty(text, rec, starts, lens, out, st, cfg);
+    let r1 = onwards(rec, count, at, r0);
+    let Answer::Done(s1) = r1 else {
+        return r1;
+    };
+    star_tys(text, rec, starts, lens, out, s1, cfg)
+}
+
 // `FnTy`.
-fn fn_ty(text: &[u8], rec: &[u8], starts: &[u16], lens: &[u16], out: &mut [u8], st: St, cfg: Cfg) -> Answer
+fn fn_ty(
+    text: &[u8],
+    rec: &[u8],
+    starts: &[u16],
+    lens: &[u16],
+    out: &mut [u8],
+    st: St,
+    cfg: Cfg,
+) -> Answer
     ensures { λ r. ⌜ Plain (now (text .entry)) (now (rec .entry)) (now (starts .entry)) (now (lens .entry)) (cfg .tab) (FnTy (walks (cfg .left))) st (now (out .entry)) r (now (out .exit)) ⌝ }
 {
     let r1 = get_ty(text, rec, starts, lens, out, st, cfg);
@@ -148,7 +302,15 @@ fn fn_ty(text: &[u8], rec: &[u8], starts: &[u16], lens: &[u16], out: &mut [u8], 
 }
 
 // `ParenTy`.
-fn paren_ty(text: &[u8], rec: &[u8], starts: &[u16], lens: &[u16], out: &mut [u8], st: St, cfg: Cfg) -> Answer
+fn paren_ty(
+    text: &[u8],
+    rec: &[u8],
+    starts: &[u16],
+    lens: &[u16],
+    out: &mut [u8],
+    st: St,
+    cfg: Cfg,
+) -> Answer
     ensures { λ r. ⌜ Plain (now (text .entry)) (now (rec .entry)) (now (starts .entry)) (now (lens .entry)) (cfg .tab) (ParenTy (walks (cfg .left))) st (now (out .entry)) r (now (out .exit)) ⌝ }
 {
     let s1 = word(text, out, st, cfg.tab, words::L_ROUND);
@@ -160,7 +322,15 @@ fn paren_ty(text: &[u8], rec: &[u8], starts: &[u16], lens: &[u16], out: &mut [u8
 }
 
 // A type.
-pub fn get_ty(text: &[u8], rec: &[u8], starts: &[u16], lens: &[u16], out: &mut [u8], st: St, cfg: Cfg) -> Answer
+pub fn get_ty(
+    text: &[u8],
+    rec: &[u8],
+    starts: &[u16],
+    lens: &[u16],
+    out: &mut [u8],
+    st: St,
+    cfg: Cfg,
+) -> Answer
     ensures { λ r. ⌜ Plain (now (text .entry)) (now (rec .entry)) (now (starts .entry)) (now (lens .entry)) (cfg .tab) (walks (cfg .left) .get-ty) st (now (out .entry)) r (now (out .exit)) ⌝ }
 {
     let left = cfg.left;
@@ -183,6 +353,7 @@ pub fn get_ty(text: &[u8], rec: &[u8], starts: &[u16], lens: &[u16], out: &mut [
         3 => record_ty(text, rec, starts, lens, out, s, sub),
         4 => con_ty(text, rec, starts, lens, out, s, sub),
         5 => one_arg_con_ty(text, rec, starts, lens, out, s, sub),
+        6 => tuple_ty(text, rec, starts, lens, out, s, sub),
         7 => fn_ty(text, rec, starts, lens, out, s, sub),
         8 => paren_ty(text, rec, starts, lens, out, s, sub),
         _ => stop(s),

@@ -1,63 +1,75 @@
 use borrow.Author.Needs.{needs}
 use native.Mathlib.Omega.{arith}
 use mathlib.Core.Path.{refl, _∙_}
-use Prim.Native.Nat.{_+_, _-_, _*_}
+use Prim.Native.Nat.{zero-le, _+_, _-_, _*_}
 use Rattle.layout.specs.Words.{wordOf}
 use Rattle.layout.specs.Layout as Layout
 use Rattle.layout.specs.Helpers as Helpers
+use Rattle.layout.specs.Helpers.{times}
 use Rattle.layout.specs.Walk.{walks}
 use Rattle.layout.specs.Ty as Ty
 use Rattle.layout.proofs.Steps.{PlainTurn, from, plain, by-same, first-same, then-done, then-stop, then-sure, last-sure, last-skip, list-is, list-not, form-is, form-not, group-is, group-not, maybe-past, maybe-there, items-all, from-more, from-none, times-all, times-more, times-none}
-use Rattle.layout.proofs.Knot.{beyond, form-key, ty-zero, ty-form}
+use Rattle.layout.proofs.Dropping.{dropped-by}
+use Rattle.layout.proofs.Knot.{past, beyond, form-key, ty-zero, ty-form}
 use Prim.Native.Nat.{ℕ, _<_}
 use borrow.Fn.Kinds.{In}
 use borrow.Fn.PlainCycle.{Measures, is, falls, and}
 use Rattle.types.proofs.con_ty.Reads as con-ty
 use Rattle.types.proofs.con_ty.Kinds as con-ty-kinds
-use Rattle.types.proofs.+con_ty+fn_ty+get_ty+one_arg_con_ty+paren_ty+record_ty+ty_args+ty_row+ty_rows+ty_seq+ty_seq_there.Lts-con_ty as con-ty-lts
+use Rattle.types.proofs.+con_ty+fn_ty+get_ty+one_arg_con_ty+paren_ty+record_ty+star_ty+star_tys+tuple_ty+ty_args+ty_row+ty_rows+ty_seq+ty_seq_there.Lts-con_ty as con-ty-lts
 use Rattle.types.proofs.fn_ty.Reads as fn-ty
 use Rattle.types.proofs.fn_ty.Kinds as fn-ty-kinds
-use Rattle.types.proofs.+con_ty+fn_ty+get_ty+one_arg_con_ty+paren_ty+record_ty+ty_args+ty_row+ty_rows+ty_seq+ty_seq_there.Lts-fn_ty as fn-ty-lts
+use Rattle.types.proofs.+con_ty+fn_ty+get_ty+one_arg_con_ty+paren_ty+record_ty+star_ty+star_tys+tuple_ty+ty_args+ty_row+ty_rows+ty_seq+ty_seq_there.Lts-fn_ty as fn-ty-lts
 use Rattle.types.proofs.get_ty.Reads as get-ty
 use Rattle.types.proofs.get_ty.Kinds as get-ty-kinds
-use Rattle.types.proofs.+con_ty+fn_ty+get_ty+one_arg_con_ty+paren_ty+record_ty+ty_args+ty_row+ty_rows+ty_seq+ty_seq_there.Lts-get_ty as get-ty-lts
+use Rattle.types.proofs.+con_ty+fn_ty+get_ty+one_arg_con_ty+paren_ty+record_ty+star_ty+star_tys+tuple_ty+ty_args+ty_row+ty_rows+ty_seq+ty_seq_there.Lts-get_ty as get-ty-lts
 use Rattle.types.proofs.one_arg_con_ty.Reads as one-arg-con-ty
 use Rattle.types.proofs.one_arg_con_ty.Kinds as one-arg-con-ty-kinds
-use Rattle.types.proofs.+con_ty+fn_ty+get_ty+one_arg_con_ty+paren_ty+record_ty+ty_args+ty_row+ty_rows+ty_seq+ty_seq_there.Lts-one_arg_con_ty as one-arg-con-ty-lts
+use Rattle.types.proofs.+con_ty+fn_ty+get_ty+one_arg_con_ty+paren_ty+record_ty+star_ty+star_tys+tuple_ty+ty_args+ty_row+ty_rows+ty_seq+ty_seq_there.Lts-one_arg_con_ty as one-arg-con-ty-lts
 use Rattle.types.proofs.paren_ty.Reads as paren-ty
 use Rattle.types.proofs.paren_ty.Kinds as paren-ty-kinds
-use Rattle.types.proofs.+con_ty+fn_ty+get_ty+one_arg_con_ty+paren_ty+record_ty+ty_args+ty_row+ty_rows+ty_seq+ty_seq_there.Lts-paren_ty as paren-ty-lts
+use Rattle.types.proofs.+con_ty+fn_ty+get_ty+one_arg_con_ty+paren_ty+record_ty+star_ty+star_tys+tuple_ty+ty_args+ty_row+ty_rows+ty_seq+ty_seq_there.Lts-paren_ty as paren-ty-lts
 use Rattle.types.proofs.record_ty.Reads as record-ty
 use Rattle.types.proofs.record_ty.Kinds as record-ty-kinds
-use Rattle.types.proofs.+con_ty+fn_ty+get_ty+one_arg_con_ty+paren_ty+record_ty+ty_args+ty_row+ty_rows+ty_seq+ty_seq_there.Lts-record_ty as record-ty-lts
+use Rattle.types.proofs.+con_ty+fn_ty+get_ty+one_arg_con_ty+paren_ty+record_ty+star_ty+star_tys+tuple_ty+ty_args+ty_row+ty_rows+ty_seq+ty_seq_there.Lts-record_ty as record-ty-lts
+use Rattle.types.proofs.star_ty.Reads as star-ty
+use Rattle.types.proofs.star_ty.Kinds as star-ty-kinds
+use Rattle.types.proofs.+con_ty+fn_ty+get_ty+one_arg_con_ty+paren_ty+record_ty+star_ty+star_tys+tuple_ty+ty_args+ty_row+ty_rows+ty_seq+ty_seq_there.Lts-star_ty as star-ty-lts
+use Rattle.types.proofs.star_tys.Reads as star-tys
+use Rattle.types.proofs.star_tys.Kinds as star-tys-kinds
+use Rattle.types.proofs.+con_ty+fn_ty+get_ty+one_arg_con_ty+paren_ty+record_ty+star_ty+star_tys+tuple_ty+ty_args+ty_row+ty_rows+ty_seq+ty_seq_there.Lts-star_tys as star-tys-lts
+use Rattle.types.proofs.tuple_ty.Reads as tuple-ty
+use Rattle.types.proofs.tuple_ty.Kinds as tuple-ty-kinds
+use Rattle.types.proofs.+con_ty+fn_ty+get_ty+one_arg_con_ty+paren_ty+record_ty+star_ty+star_tys+tuple_ty+ty_args+ty_row+ty_rows+ty_seq+ty_seq_there.Lts-tuple_ty as tuple-ty-lts
 use Rattle.types.proofs.ty_args.Reads as ty-args
 use Rattle.types.proofs.ty_args.Kinds as ty-args-kinds
-use Rattle.types.proofs.+con_ty+fn_ty+get_ty+one_arg_con_ty+paren_ty+record_ty+ty_args+ty_row+ty_rows+ty_seq+ty_seq_there.Lts-ty_args as ty-args-lts
+use Rattle.types.proofs.+con_ty+fn_ty+get_ty+one_arg_con_ty+paren_ty+record_ty+star_ty+star_tys+tuple_ty+ty_args+ty_row+ty_rows+ty_seq+ty_seq_there.Lts-ty_args as ty-args-lts
 use Rattle.types.proofs.ty_row.Reads as ty-row
 use Rattle.types.proofs.ty_row.Kinds as ty-row-kinds
-use Rattle.types.proofs.+con_ty+fn_ty+get_ty+one_arg_con_ty+paren_ty+record_ty+ty_args+ty_row+ty_rows+ty_seq+ty_seq_there.Lts-ty_row as ty-row-lts
+use Rattle.types.proofs.+con_ty+fn_ty+get_ty+one_arg_con_ty+paren_ty+record_ty+star_ty+star_tys+tuple_ty+ty_args+ty_row+ty_rows+ty_seq+ty_seq_there.Lts-ty_row as ty-row-lts
 use Rattle.types.proofs.ty_rows.Reads as ty-rows
 use Rattle.types.proofs.ty_rows.Kinds as ty-rows-kinds
-use Rattle.types.proofs.+con_ty+fn_ty+get_ty+one_arg_con_ty+paren_ty+record_ty+ty_args+ty_row+ty_rows+ty_seq+ty_seq_there.Lts-ty_rows as ty-rows-lts
+use Rattle.types.proofs.+con_ty+fn_ty+get_ty+one_arg_con_ty+paren_ty+record_ty+star_ty+star_tys+tuple_ty+ty_args+ty_row+ty_rows+ty_seq+ty_seq_there.Lts-ty_rows as ty-rows-lts
 use Rattle.types.proofs.ty_seq.Reads as ty-seq
 use Rattle.types.proofs.ty_seq.Kinds as ty-seq-kinds
-use Rattle.types.proofs.+con_ty+fn_ty+get_ty+one_arg_con_ty+paren_ty+record_ty+ty_args+ty_row+ty_rows+ty_seq+ty_seq_there.Lts-ty_seq as ty-seq-lts
+use Rattle.types.proofs.+con_ty+fn_ty+get_ty+one_arg_con_ty+paren_ty+record_ty+star_ty+star_tys+tuple_ty+ty_args+ty_row+ty_rows+ty_seq+ty_seq_there.Lts-ty_seq as ty-seq-lts
 use Rattle.types.proofs.ty_seq_there.Reads as ty-seq-there
 use Rattle.types.proofs.ty_seq_there.Kinds as ty-seq-there-kinds
-use Rattle.types.proofs.+con_ty+fn_ty+get_ty+one_arg_con_ty+paren_ty+record_ty+ty_args+ty_row+ty_rows+ty_seq+ty_seq_there.Lts-ty_seq_there as ty-seq-there-lts
+use Rattle.types.proofs.+con_ty+fn_ty+get_ty+one_arg_con_ty+paren_ty+record_ty+star_ty+star_tys+tuple_ty+ty_args+ty_row+ty_rows+ty_seq+ty_seq_there.Lts-ty_seq_there as ty-seq-there-lts
 use Rattle.layout.proofs.fields.absent.Reads as absent-reads
 use Rattle.layout.proofs.fields.form.Reads as form-reads
 use Rattle.layout.proofs.fields.group.Reads as group-reads
 use Rattle.layout.proofs.fields.list.Reads as list-reads
+use Rattle.layout.proofs.fields.onwards.Reads as onwards-reads
 use Rattle.layout.proofs.fields.stop.Reads as stop-reads
 use Rattle.layout.proofs.helpers.between.Reads as between-reads
 use Rattle.layout.proofs.helpers.path.Reads as path-reads
 use Rattle.layout.proofs.helpers.text_of.Reads as text-of-reads
 use Rattle.layout.proofs.word.Reads as word-reads
-use Rattle.types.proofs.+con_ty+fn_ty+get_ty+one_arg_con_ty+paren_ty+record_ty+ty_args+ty_row+ty_rows+ty_seq+ty_seq_there.{
+use Rattle.types.proofs.+con_ty+fn_ty+get_ty+one_arg_con_ty+paren_ty+record_ty+star_ty+star_tys+tuple_ty+ty_args+ty_row+ty_rows+ty_seq+ty_seq_there.{
   statement,
 }
-use Rattle.types.proofs.+con_ty+fn_ty+get_ty+one_arg_con_ty+paren_ty+record_ty+ty_args+ty_row+ty_rows+ty_seq+ty_seq_there.Tie.{
+use Rattle.types.proofs.+con_ty+fn_ty+get_ty+one_arg_con_ty+paren_ty+record_ty+star_ty+star_tys+tuple_ty+ty_args+ty_row+ty_rows+ty_seq+ty_seq_there.Tie.{
   close,
 }
 
@@ -78,6 +90,15 @@ abbrev μ-paren-ty : Measures 5 paren-ty-kinds.ps ℕ
 
 abbrev μ-record-ty : Measures 5 record-ty-kinds.ps ℕ
 μ-record-ty κs a = 16 * a .1 .1 .1 .1 .1 .1 .0 .left + 3
+
+abbrev μ-star-ty : Measures 5 star-ty-kinds.ps ℕ
+μ-star-ty κs a = 16 * a .1 .1 .1 .1 .1 .1 .0 .left + 1
+
+abbrev μ-star-tys : Measures 5 star-tys-kinds.ps ℕ
+μ-star-tys κs a = 16 * a .1 .1 .1 .1 .1 .1 .0 .left + 2
+
+abbrev μ-tuple-ty : Measures 5 tuple-ty-kinds.ps ℕ
+μ-tuple-ty κs a = 16 * a .1 .1 .1 .1 .1 .1 .0 .left + 3
 
 abbrev μ-ty-args : Measures 5 ty-args-kinds.ps ℕ
 μ-ty-args κs a = 16 * a .1 .1 .1 .1 .1 .1 .0 .left + 1
@@ -142,6 +163,26 @@ abbrev record-ty-below : ℕ → In 5 record-ty-kinds.ps
 record-ty-below t =
     and 5 record-ty-kinds.ps (falls 5 record-ty-kinds.ps _<_ μ-record-ty t) record-ty.Pre
 
+abbrev star-ty-at : ℕ → In 5 star-ty-kinds.ps
+star-ty-at t = and 5 star-ty-kinds.ps (is 5 star-ty-kinds.ps μ-star-ty t) star-ty.Pre
+
+abbrev star-ty-below : ℕ → In 5 star-ty-kinds.ps
+star-ty-below t = and 5 star-ty-kinds.ps (falls 5 star-ty-kinds.ps _<_ μ-star-ty t) star-ty.Pre
+
+abbrev star-tys-at : ℕ → In 5 star-tys-kinds.ps
+star-tys-at t = and 5 star-tys-kinds.ps (is 5 star-tys-kinds.ps μ-star-tys t) star-tys.Pre
+
+abbrev star-tys-below : ℕ → In 5 star-tys-kinds.ps
+star-tys-below t =
+    and 5 star-tys-kinds.ps (falls 5 star-tys-kinds.ps _<_ μ-star-tys t) star-tys.Pre
+
+abbrev tuple-ty-at : ℕ → In 5 tuple-ty-kinds.ps
+tuple-ty-at t = and 5 tuple-ty-kinds.ps (is 5 tuple-ty-kinds.ps μ-tuple-ty t) tuple-ty.Pre
+
+abbrev tuple-ty-below : ℕ → In 5 tuple-ty-kinds.ps
+tuple-ty-below t =
+    and 5 tuple-ty-kinds.ps (falls 5 tuple-ty-kinds.ps _<_ μ-tuple-ty t) tuple-ty.Pre
+
 abbrev ty-args-at : ℕ → In 5 ty-args-kinds.ps
 ty-args-at t = and 5 ty-args-kinds.ps (is 5 ty-args-kinds.ps μ-ty-args t) ty-args.Pre
 
@@ -178,7 +219,7 @@ ty-seq-there-below t =
     (falls 5 ty-seq-there-kinds.ps _<_ μ-ty-seq-there t)
     ty-seq-there.Pre
 
--- src/lib.rt:119:9
+-- src/lib.rt:187:9
 con-ty-ty-seq-requires : (t : ℕ) → con-ty-lts.Need-ty-seq-requires (
   ty-seq-below t,
   ty-seq.Post,
@@ -187,7 +228,7 @@ con-ty-ty-seq-requires : (t : ℕ) → con-ty-lts.Need-ty-seq-requires (
 ) (con-ty-at t) con-ty.Post
 con-ty-ty-seq-requires t c κs = omega (arith, c .before .before .before .before .before .before .pre .0)
 
--- src/lib.rt:120:22
+-- src/lib.rt:188:22
 con-ty-enum-known-r1 : (t : ℕ) → con-ty-lts.Need-enum-known-r1 (
   ty-seq-below t,
   ty-seq.Post,
@@ -196,7 +237,7 @@ con-ty-enum-known-r1 : (t : ℕ) → con-ty-lts.Need-enum-known-r1 (
 ) (con-ty-at t) con-ty.Post
 con-ty-enum-known-r1 t c = search needs
 
--- src/lib.rt:121:9
+-- src/lib.rt:189:9
 con-ty-enum-told : (t : ℕ) → con-ty-lts.Need-enum-told (
   ty-seq-below t,
   ty-seq.Post,
@@ -205,7 +246,7 @@ con-ty-enum-told : (t : ℕ) → con-ty-lts.Need-enum-told (
 ) (con-ty-at t) con-ty.Post
 con-ty-enum-told t c = search needs
 
--- src/lib.rt:121:9
+-- src/lib.rt:189:9
 con-ty-same-length : (t : ℕ) → con-ty-lts.Need-same-length (
   ty-seq-below t,
   ty-seq.Post,
@@ -214,7 +255,7 @@ con-ty-same-length : (t : ℕ) → con-ty-lts.Need-same-length (
 ) (con-ty-at t) con-ty.Post
 con-ty-same-length t c = c .before .before .before .before .ty-seq .kept .1 .1 .1 .1 .0
 
--- src/lib.rt:121:9
+-- src/lib.rt:189:9
 con-ty-returns : (t : ℕ) → con-ty-lts.Need-returns (
   ty-seq-below t,
   ty-seq.Post,
@@ -224,7 +265,7 @@ con-ty-returns : (t : ℕ) → con-ty-lts.Need-returns (
 unfolding Ty.ConTy
 con-ty-returns t c = record { is = λ kinds m. then-stop (plain (c .before .before .before .before .ty-seq .ensures)) (c .enum-told .given .1) }
 
--- src/lib.rt:123:5
+-- src/lib.rt:191:5
 con-ty-path-requires : (t : ℕ) → con-ty-lts.Need-path-requires (
   ty-seq-below t,
   ty-seq.Post,
@@ -233,7 +274,7 @@ con-ty-path-requires : (t : ℕ) → con-ty-lts.Need-path-requires (
 ) (con-ty-at t) con-ty.Post
 con-ty-path-requires t c κs = search needs
 
--- src/lib.rt:116:1
+-- src/lib.rt:176:1
 con-ty-same-length-2 : (t : ℕ) → con-ty-lts.Need-same-length-2 (
   ty-seq-below t,
   ty-seq.Post,
@@ -242,7 +283,7 @@ con-ty-same-length-2 : (t : ℕ) → con-ty-lts.Need-same-length-2 (
 ) (con-ty-at t) con-ty.Post
 con-ty-same-length-2 t c = c .before .before .path .kept .1 .1 .1 .1 .0 ∙ c .before .before .before .before .before .before .before .before .before .ty-seq .kept .1 .1 .1 .1 .0
 
--- src/lib.rt:116:1
+-- src/lib.rt:176:1
 con-ty-returns-2 : (t : ℕ) → con-ty-lts.Need-returns-2 (
   ty-seq-below t,
   ty-seq.Post,
@@ -252,7 +293,7 @@ con-ty-returns-2 : (t : ℕ) → con-ty-lts.Need-returns-2 (
 unfolding Ty.ConTy
 con-ty-returns-2 t c = record { is = λ kinds m. then-done (plain (c .before .before .before .before .before .before .before .before .before .ty-seq .ensures)) (c .before .before .before .before .before .r1 .given .1) (plain (c .before .before .path .ensures)) }
 
--- src/lib.rt:142:9
+-- src/lib.rt:272:9
 fn-ty-get-ty-requires : (t : ℕ) → fn-ty-lts.Need-get-ty-requires (
   get-ty-below t,
   get-ty.Post,
@@ -261,7 +302,7 @@ fn-ty-get-ty-requires : (t : ℕ) → fn-ty-lts.Need-get-ty-requires (
 ) (fn-ty-at t) fn-ty.Post
 fn-ty-get-ty-requires t c κs = omega (arith, c .before .before .before .before .before .before .pre .0)
 
--- src/lib.rt:143:22
+-- src/lib.rt:273:22
 fn-ty-enum-known-r1 : (t : ℕ) → fn-ty-lts.Need-enum-known-r1 (
   get-ty-below t,
   get-ty.Post,
@@ -270,7 +311,7 @@ fn-ty-enum-known-r1 : (t : ℕ) → fn-ty-lts.Need-enum-known-r1 (
 ) (fn-ty-at t) fn-ty.Post
 fn-ty-enum-known-r1 t c = search needs
 
--- src/lib.rt:144:9
+-- src/lib.rt:274:9
 fn-ty-enum-told : (t : ℕ) → fn-ty-lts.Need-enum-told (
   get-ty-below t,
   get-ty.Post,
@@ -279,7 +320,7 @@ fn-ty-enum-told : (t : ℕ) → fn-ty-lts.Need-enum-told (
 ) (fn-ty-at t) fn-ty.Post
 fn-ty-enum-told t c = search needs
 
--- src/lib.rt:144:9
+-- src/lib.rt:274:9
 fn-ty-same-length : (t : ℕ) → fn-ty-lts.Need-same-length (
   get-ty-below t,
   get-ty.Post,
@@ -288,7 +329,7 @@ fn-ty-same-length : (t : ℕ) → fn-ty-lts.Need-same-length (
 ) (fn-ty-at t) fn-ty.Post
 fn-ty-same-length t c = c .before .before .before .before .get-ty .kept .1 .1 .1 .1 .0
 
--- src/lib.rt:144:9
+-- src/lib.rt:274:9
 fn-ty-returns : (t : ℕ) → fn-ty-lts.Need-returns (
   get-ty-below t,
   get-ty.Post,
@@ -298,7 +339,7 @@ fn-ty-returns : (t : ℕ) → fn-ty-lts.Need-returns (
 unfolding Ty.FnTy
 fn-ty-returns t c = record { is = λ kinds m. then-stop (plain (c .before .before .before .before .get-ty .ensures)) (c .enum-told .given .1) }
 
--- src/lib.rt:146:9
+-- src/lib.rt:276:9
 fn-ty-word-requires : (t : ℕ) → fn-ty-lts.Need-word-requires (
   get-ty-below t,
   get-ty.Post,
@@ -307,7 +348,7 @@ fn-ty-word-requires : (t : ℕ) → fn-ty-lts.Need-word-requires (
 ) (fn-ty-at t) fn-ty.Post
 fn-ty-word-requires t c κs = search needs
 
--- src/lib.rt:147:5
+-- src/lib.rt:277:5
 fn-ty-get-ty-requires-2 : (t : ℕ) → fn-ty-lts.Need-get-ty-requires-2 (
   get-ty-below t,
   get-ty.Post,
@@ -316,7 +357,7 @@ fn-ty-get-ty-requires-2 : (t : ℕ) → fn-ty-lts.Need-get-ty-requires-2 (
 ) (fn-ty-at t) fn-ty.Post
 fn-ty-get-ty-requires-2 t c κs = omega (arith, c .before .before .before .before .before .before .before .before .before .before .before .before .before .before .before .before .before .pre .0)
 
--- src/lib.rt:139:1
+-- src/lib.rt:261:1
 fn-ty-same-length-2 : (t : ℕ) → fn-ty-lts.Need-same-length-2 (
   get-ty-below t,
   get-ty.Post,
@@ -325,7 +366,7 @@ fn-ty-same-length-2 : (t : ℕ) → fn-ty-lts.Need-same-length-2 (
 ) (fn-ty-at t) fn-ty.Post
 fn-ty-same-length-2 t c = c .before .before .get-ty2 .kept .1 .1 .1 .1 .0 ∙ c .before .before .before .before .before .before .word .kept .1 .0 ∙ c .before .before .before .before .before .before .before .before .before .before .before .before .before .get-ty .kept .1 .1 .1 .1 .0
 
--- src/lib.rt:139:1
+-- src/lib.rt:261:1
 fn-ty-returns-2 : (t : ℕ) → fn-ty-lts.Need-returns-2 (
   get-ty-below t,
   get-ty.Post,
@@ -335,7 +376,7 @@ fn-ty-returns-2 : (t : ℕ) → fn-ty-lts.Need-returns-2 (
 unfolding Ty.FnTy
 fn-ty-returns-2 t c = record { is = λ kinds m. then-done (plain (c .before .before .before .before .before .before .before .before .before .before .before .before .before .get-ty .ensures)) (c .before .before .before .before .before .before .before .before .before .r1 .given .1) (then-sure (c .before .before .before .before .before .before .word .ensures) (plain (c .before .before .get-ty2 .ensures))) }
 
--- src/lib.rt:168:9
+-- src/lib.rt:314:9
 get-ty-stop-requires : (t : ℕ) → get-ty-lts.Need-stop-requires (
   stop-reads.Asked,
   stop-reads.Learnt,
@@ -351,6 +392,8 @@ get-ty-stop-requires : (t : ℕ) → get-ty-lts.Need-stop-requires (
   con-ty.Post,
   one-arg-con-ty-below t,
   one-arg-con-ty.Post,
+  tuple-ty-below t,
+  tuple-ty.Post,
   fn-ty-below t,
   fn-ty.Post,
   paren-ty-below t,
@@ -358,7 +401,7 @@ get-ty-stop-requires : (t : ℕ) → get-ty-lts.Need-stop-requires (
 ) (get-ty-at t) get-ty.Post
 get-ty-stop-requires t c κs = search needs
 
--- src/lib.rt:168:9
+-- src/lib.rt:314:9
 get-ty-returns : (t : ℕ) → get-ty-lts.Need-returns (
   stop-reads.Asked,
   stop-reads.Learnt,
@@ -374,6 +417,8 @@ get-ty-returns : (t : ℕ) → get-ty-lts.Need-returns (
   con-ty.Post,
   one-arg-con-ty-below t,
   one-arg-con-ty.Post,
+  tuple-ty-below t,
+  tuple-ty.Post,
   fn-ty-below t,
   fn-ty.Post,
   paren-ty-below t,
@@ -382,7 +427,7 @@ get-ty-returns : (t : ℕ) → get-ty-lts.Need-returns (
 unfolding Ty.tys Ty.HoleTy Ty.WildcardTy Ty.TyVarTy
 get-ty-returns t c = record { is = λ kinds m. ty-zero _ (c .before .if1 .taken) (c .stop .ensures) }
 
--- src/lib.rt:170:26
+-- src/lib.rt:316:26
 get-ty-form-requires : (t : ℕ) → get-ty-lts.Need-form-requires (
   stop-reads.Asked,
   stop-reads.Learnt,
@@ -398,6 +443,8 @@ get-ty-form-requires : (t : ℕ) → get-ty-lts.Need-form-requires (
   con-ty.Post,
   one-arg-con-ty-below t,
   one-arg-con-ty.Post,
+  tuple-ty-below t,
+  tuple-ty.Post,
   fn-ty-below t,
   fn-ty.Post,
   paren-ty-below t,
@@ -405,7 +452,7 @@ get-ty-form-requires : (t : ℕ) → get-ty-lts.Need-form-requires (
 ) (get-ty-at t) get-ty.Post
 get-ty-form-requires t c κs = search needs
 
--- src/lib.rt:170:18
+-- src/lib.rt:316:18
 get-ty-enum-known-k : (t : ℕ) → get-ty-lts.Need-enum-known-k (
   stop-reads.Asked,
   stop-reads.Learnt,
@@ -421,6 +468,8 @@ get-ty-enum-known-k : (t : ℕ) → get-ty-lts.Need-enum-known-k (
   con-ty.Post,
   one-arg-con-ty-below t,
   one-arg-con-ty.Post,
+  tuple-ty-below t,
+  tuple-ty.Post,
   fn-ty-below t,
   fn-ty.Post,
   paren-ty-below t,
@@ -428,7 +477,7 @@ get-ty-enum-known-k : (t : ℕ) → get-ty-lts.Need-enum-known-k (
 ) (get-ty-at t) get-ty.Post
 get-ty-enum-known-k t c = search needs
 
--- src/lib.rt:171:9
+-- src/lib.rt:317:9
 get-ty-enum-told : (t : ℕ) → get-ty-lts.Need-enum-told (
   stop-reads.Asked,
   stop-reads.Learnt,
@@ -444,6 +493,8 @@ get-ty-enum-told : (t : ℕ) → get-ty-lts.Need-enum-told (
   con-ty.Post,
   one-arg-con-ty-below t,
   one-arg-con-ty.Post,
+  tuple-ty-below t,
+  tuple-ty.Post,
   fn-ty-below t,
   fn-ty.Post,
   paren-ty-below t,
@@ -451,7 +502,7 @@ get-ty-enum-told : (t : ℕ) → get-ty-lts.Need-enum-told (
 ) (get-ty-at t) get-ty.Post
 get-ty-enum-told t c = search needs
 
--- src/lib.rt:171:9
+-- src/lib.rt:317:9
 get-ty-stop-requires-2 : (t : ℕ) → get-ty-lts.Need-stop-requires-2 (
   stop-reads.Asked,
   stop-reads.Learnt,
@@ -467,6 +518,8 @@ get-ty-stop-requires-2 : (t : ℕ) → get-ty-lts.Need-stop-requires-2 (
   con-ty.Post,
   one-arg-con-ty-below t,
   one-arg-con-ty.Post,
+  tuple-ty-below t,
+  tuple-ty.Post,
   fn-ty-below t,
   fn-ty.Post,
   paren-ty-below t,
@@ -474,7 +527,7 @@ get-ty-stop-requires-2 : (t : ℕ) → get-ty-lts.Need-stop-requires-2 (
 ) (get-ty-at t) get-ty.Post
 get-ty-stop-requires-2 t c κs = search needs
 
--- src/lib.rt:171:9
+-- src/lib.rt:317:9
 get-ty-returns-2 : (t : ℕ) → get-ty-lts.Need-returns-2 (
   stop-reads.Asked,
   stop-reads.Learnt,
@@ -490,6 +543,8 @@ get-ty-returns-2 : (t : ℕ) → get-ty-lts.Need-returns-2 (
   con-ty.Post,
   one-arg-con-ty-below t,
   one-arg-con-ty.Post,
+  tuple-ty-below t,
+  tuple-ty.Post,
   fn-ty-below t,
   fn-ty.Post,
   paren-ty-below t,
@@ -498,7 +553,7 @@ get-ty-returns-2 : (t : ℕ) → get-ty-lts.Need-returns-2 (
 unfolding Ty.tys Ty.HoleTy Ty.WildcardTy Ty.TyVarTy
 get-ty-returns-2 t c = record { is = λ kinds m. ty-form _ (c .before .before .before .before .if1 .left) (form-not (c .stop2 .ensures) (c .before .before .before .form .ensures) (c .before .enum-told .given .1)) }
 
--- src/lib.rt:177:15
+-- src/lib.rt:323:15
 get-ty-sub-t15 : (t : ℕ) → get-ty-lts.Need-sub-t15 (
   stop-reads.Asked,
   stop-reads.Learnt,
@@ -514,6 +569,8 @@ get-ty-sub-t15 : (t : ℕ) → get-ty-lts.Need-sub-t15 (
   con-ty.Post,
   one-arg-con-ty-below t,
   one-arg-con-ty.Post,
+  tuple-ty-below t,
+  tuple-ty.Post,
   fn-ty-below t,
   fn-ty.Post,
   paren-ty-below t,
@@ -521,7 +578,7 @@ get-ty-sub-t15 : (t : ℕ) → get-ty-lts.Need-sub-t15 (
 ) (get-ty-at t) get-ty.Post
 get-ty-sub-t15 t c = search needs
 
--- src/lib.rt:180:27
+-- src/lib.rt:326:27
 get-ty-word-requires : (t : ℕ) → get-ty-lts.Need-word-requires (
   stop-reads.Asked,
   stop-reads.Learnt,
@@ -537,6 +594,8 @@ get-ty-word-requires : (t : ℕ) → get-ty-lts.Need-word-requires (
   con-ty.Post,
   one-arg-con-ty-below t,
   one-arg-con-ty.Post,
+  tuple-ty-below t,
+  tuple-ty.Post,
   fn-ty-below t,
   fn-ty.Post,
   paren-ty-below t,
@@ -544,7 +603,7 @@ get-ty-word-requires : (t : ℕ) → get-ty-lts.Need-word-requires (
 ) (get-ty-at t) get-ty.Post
 get-ty-word-requires t c κs = search needs
 
--- src/lib.rt:181:27
+-- src/lib.rt:327:27
 get-ty-word-requires-2 : (t : ℕ) → get-ty-lts.Need-word-requires-2 (
   stop-reads.Asked,
   stop-reads.Learnt,
@@ -560,6 +619,8 @@ get-ty-word-requires-2 : (t : ℕ) → get-ty-lts.Need-word-requires-2 (
   con-ty.Post,
   one-arg-con-ty-below t,
   one-arg-con-ty.Post,
+  tuple-ty-below t,
+  tuple-ty.Post,
   fn-ty-below t,
   fn-ty.Post,
   paren-ty-below t,
@@ -567,7 +628,7 @@ get-ty-word-requires-2 : (t : ℕ) → get-ty-lts.Need-word-requires-2 (
 ) (get-ty-at t) get-ty.Post
 get-ty-word-requires-2 t c κs = search needs
 
--- src/lib.rt:182:14
+-- src/lib.rt:328:14
 get-ty-text-of-requires : (t : ℕ) → get-ty-lts.Need-text-of-requires (
   stop-reads.Asked,
   stop-reads.Learnt,
@@ -583,6 +644,8 @@ get-ty-text-of-requires : (t : ℕ) → get-ty-lts.Need-text-of-requires (
   con-ty.Post,
   one-arg-con-ty-below t,
   one-arg-con-ty.Post,
+  tuple-ty-below t,
+  tuple-ty.Post,
   fn-ty-below t,
   fn-ty.Post,
   paren-ty-below t,
@@ -590,7 +653,7 @@ get-ty-text-of-requires : (t : ℕ) → get-ty-lts.Need-text-of-requires (
 ) (get-ty-at t) get-ty.Post
 get-ty-text-of-requires t c κs = search needs
 
--- src/lib.rt:183:14
+-- src/lib.rt:329:14
 get-ty-record-ty-requires : (t : ℕ) → get-ty-lts.Need-record-ty-requires (
   stop-reads.Asked,
   stop-reads.Learnt,
@@ -606,6 +669,8 @@ get-ty-record-ty-requires : (t : ℕ) → get-ty-lts.Need-record-ty-requires (
   con-ty.Post,
   one-arg-con-ty-below t,
   one-arg-con-ty.Post,
+  tuple-ty-below t,
+  tuple-ty.Post,
   fn-ty-below t,
   fn-ty.Post,
   paren-ty-below t,
@@ -613,7 +678,7 @@ get-ty-record-ty-requires : (t : ℕ) → get-ty-lts.Need-record-ty-requires (
 ) (get-ty-at t) get-ty.Post
 get-ty-record-ty-requires t c κs = omega (arith, c .before .before .before .before .before .before .before .before .before .before .before .before .pre .0, c .before .before .before .before .before .before .if1 .left)
 
--- src/lib.rt:184:14
+-- src/lib.rt:330:14
 get-ty-con-ty-requires : (t : ℕ) → get-ty-lts.Need-con-ty-requires (
   stop-reads.Asked,
   stop-reads.Learnt,
@@ -629,6 +694,8 @@ get-ty-con-ty-requires : (t : ℕ) → get-ty-lts.Need-con-ty-requires (
   con-ty.Post,
   one-arg-con-ty-below t,
   one-arg-con-ty.Post,
+  tuple-ty-below t,
+  tuple-ty.Post,
   fn-ty-below t,
   fn-ty.Post,
   paren-ty-below t,
@@ -636,7 +703,7 @@ get-ty-con-ty-requires : (t : ℕ) → get-ty-lts.Need-con-ty-requires (
 ) (get-ty-at t) get-ty.Post
 get-ty-con-ty-requires t c κs = omega (arith, c .before .before .before .before .before .before .before .before .before .before .before .before .pre .0, c .before .before .before .before .before .before .if1 .left)
 
--- src/lib.rt:185:14
+-- src/lib.rt:331:14
 get-ty-one-arg-con-ty-requires : (t : ℕ) → get-ty-lts.Need-one-arg-con-ty-requires (
   stop-reads.Asked,
   stop-reads.Learnt,
@@ -652,6 +719,8 @@ get-ty-one-arg-con-ty-requires : (t : ℕ) → get-ty-lts.Need-one-arg-con-ty-re
   con-ty.Post,
   one-arg-con-ty-below t,
   one-arg-con-ty.Post,
+  tuple-ty-below t,
+  tuple-ty.Post,
   fn-ty-below t,
   fn-ty.Post,
   paren-ty-below t,
@@ -659,7 +728,32 @@ get-ty-one-arg-con-ty-requires : (t : ℕ) → get-ty-lts.Need-one-arg-con-ty-re
 ) (get-ty-at t) get-ty.Post
 get-ty-one-arg-con-ty-requires t c κs = omega (arith, c .before .before .before .before .before .before .before .before .before .before .before .before .pre .0, c .before .before .before .before .before .before .if1 .left)
 
--- src/lib.rt:186:14
+-- src/lib.rt:332:14
+get-ty-tuple-ty-requires : (t : ℕ) → get-ty-lts.Need-tuple-ty-requires (
+  stop-reads.Asked,
+  stop-reads.Learnt,
+  form-reads.Asked,
+  form-reads.Learnt,
+  word-reads.Asked,
+  word-reads.Learnt,
+  text-of-reads.Asked,
+  text-of-reads.Learnt,
+  record-ty-below t,
+  record-ty.Post,
+  con-ty-below t,
+  con-ty.Post,
+  one-arg-con-ty-below t,
+  one-arg-con-ty.Post,
+  tuple-ty-below t,
+  tuple-ty.Post,
+  fn-ty-below t,
+  fn-ty.Post,
+  paren-ty-below t,
+  paren-ty.Post,
+) (get-ty-at t) get-ty.Post
+get-ty-tuple-ty-requires t c κs = omega (arith, c .before .before .before .before .before .before .before .before .before .before .before .before .pre .0, c .before .before .before .before .before .before .if1 .left)
+
+-- src/lib.rt:333:14
 get-ty-fn-ty-requires : (t : ℕ) → get-ty-lts.Need-fn-ty-requires (
   stop-reads.Asked,
   stop-reads.Learnt,
@@ -675,6 +769,8 @@ get-ty-fn-ty-requires : (t : ℕ) → get-ty-lts.Need-fn-ty-requires (
   con-ty.Post,
   one-arg-con-ty-below t,
   one-arg-con-ty.Post,
+  tuple-ty-below t,
+  tuple-ty.Post,
   fn-ty-below t,
   fn-ty.Post,
   paren-ty-below t,
@@ -682,7 +778,7 @@ get-ty-fn-ty-requires : (t : ℕ) → get-ty-lts.Need-fn-ty-requires (
 ) (get-ty-at t) get-ty.Post
 get-ty-fn-ty-requires t c κs = omega (arith, c .before .before .before .before .before .before .before .before .before .before .before .before .pre .0, c .before .before .before .before .before .before .if1 .left)
 
--- src/lib.rt:187:14
+-- src/lib.rt:334:14
 get-ty-paren-ty-requires : (t : ℕ) → get-ty-lts.Need-paren-ty-requires (
   stop-reads.Asked,
   stop-reads.Learnt,
@@ -698,6 +794,8 @@ get-ty-paren-ty-requires : (t : ℕ) → get-ty-lts.Need-paren-ty-requires (
   con-ty.Post,
   one-arg-con-ty-below t,
   one-arg-con-ty.Post,
+  tuple-ty-below t,
+  tuple-ty.Post,
   fn-ty-below t,
   fn-ty.Post,
   paren-ty-below t,
@@ -705,7 +803,7 @@ get-ty-paren-ty-requires : (t : ℕ) → get-ty-lts.Need-paren-ty-requires (
 ) (get-ty-at t) get-ty.Post
 get-ty-paren-ty-requires t c κs = omega (arith, c .before .before .before .before .before .before .before .before .before .before .before .before .pre .0, c .before .before .before .before .before .before .if1 .left)
 
--- src/lib.rt:188:14
+-- src/lib.rt:335:14
 get-ty-stop-requires-3 : (t : ℕ) → get-ty-lts.Need-stop-requires-3 (
   stop-reads.Asked,
   stop-reads.Learnt,
@@ -721,6 +819,8 @@ get-ty-stop-requires-3 : (t : ℕ) → get-ty-lts.Need-stop-requires-3 (
   con-ty.Post,
   one-arg-con-ty-below t,
   one-arg-con-ty.Post,
+  tuple-ty-below t,
+  tuple-ty.Post,
   fn-ty-below t,
   fn-ty.Post,
   paren-ty-below t,
@@ -728,7 +828,7 @@ get-ty-stop-requires-3 : (t : ℕ) → get-ty-lts.Need-stop-requires-3 (
 ) (get-ty-at t) get-ty.Post
 get-ty-stop-requires-3 t c κs = search needs
 
--- src/lib.rt:163:1
+-- src/lib.rt:301:1
 get-ty-same-length : (t : ℕ) → get-ty-lts.Need-same-length (
   stop-reads.Asked,
   stop-reads.Learnt,
@@ -744,6 +844,8 @@ get-ty-same-length : (t : ℕ) → get-ty-lts.Need-same-length (
   con-ty.Post,
   one-arg-con-ty-below t,
   one-arg-con-ty.Post,
+  tuple-ty-below t,
+  tuple-ty.Post,
   fn-ty-below t,
   fn-ty.Post,
   paren-ty-below t,
@@ -751,7 +853,7 @@ get-ty-same-length : (t : ℕ) → get-ty-lts.Need-same-length (
 ) (get-ty-at t) get-ty.Post
 get-ty-same-length t c = c .before .before .word .kept .1 .0
 
--- src/lib.rt:163:1
+-- src/lib.rt:301:1
 get-ty-returns-3 : (t : ℕ) → get-ty-lts.Need-returns-3 (
   stop-reads.Asked,
   stop-reads.Learnt,
@@ -767,6 +869,8 @@ get-ty-returns-3 : (t : ℕ) → get-ty-lts.Need-returns-3 (
   con-ty.Post,
   one-arg-con-ty-below t,
   one-arg-con-ty.Post,
+  tuple-ty-below t,
+  tuple-ty.Post,
   fn-ty-below t,
   fn-ty.Post,
   paren-ty-below t,
@@ -775,7 +879,7 @@ get-ty-returns-3 : (t : ℕ) → get-ty-lts.Need-returns-3 (
 unfolding Ty.tys Ty.HoleTy Ty.WildcardTy Ty.TyVarTy
 get-ty-returns-3 t c = record { is = λ kinds m. ty-form _ (c .before .before .before .before .before .before .before .before .before .if1 .left) (form-key (c .before .before .before .before .before .before .before .before .form .ensures) (c .before .before .before .before .before .before .k .given .1) (c .before .before .before .before .match2 .keys1) (last-sure (c .before .before .word .ensures))) }
 
--- src/lib.rt:163:1
+-- src/lib.rt:301:1
 get-ty-same-length-2 : (t : ℕ) → get-ty-lts.Need-same-length-2 (
   stop-reads.Asked,
   stop-reads.Learnt,
@@ -791,6 +895,8 @@ get-ty-same-length-2 : (t : ℕ) → get-ty-lts.Need-same-length-2 (
   con-ty.Post,
   one-arg-con-ty-below t,
   one-arg-con-ty.Post,
+  tuple-ty-below t,
+  tuple-ty.Post,
   fn-ty-below t,
   fn-ty.Post,
   paren-ty-below t,
@@ -798,7 +904,7 @@ get-ty-same-length-2 : (t : ℕ) → get-ty-lts.Need-same-length-2 (
 ) (get-ty-at t) get-ty.Post
 get-ty-same-length-2 t c = c .before .before .word2 .kept .1 .0
 
--- src/lib.rt:163:1
+-- src/lib.rt:301:1
 get-ty-returns-4 : (t : ℕ) → get-ty-lts.Need-returns-4 (
   stop-reads.Asked,
   stop-reads.Learnt,
@@ -814,6 +920,8 @@ get-ty-returns-4 : (t : ℕ) → get-ty-lts.Need-returns-4 (
   con-ty.Post,
   one-arg-con-ty-below t,
   one-arg-con-ty.Post,
+  tuple-ty-below t,
+  tuple-ty.Post,
   fn-ty-below t,
   fn-ty.Post,
   paren-ty-below t,
@@ -822,7 +930,7 @@ get-ty-returns-4 : (t : ℕ) → get-ty-lts.Need-returns-4 (
 unfolding Ty.tys Ty.HoleTy Ty.WildcardTy Ty.TyVarTy
 get-ty-returns-4 t c = record { is = λ kinds m. ty-form _ (c .before .before .before .before .before .before .before .before .before .if1 .left) (form-key (c .before .before .before .before .before .before .before .before .form .ensures) (c .before .before .before .before .before .before .k .given .1) (c .before .before .before .before .match2 .keys2) (last-sure (c .before .before .word2 .ensures))) }
 
--- src/lib.rt:163:1
+-- src/lib.rt:301:1
 get-ty-same-length-3 : (t : ℕ) → get-ty-lts.Need-same-length-3 (
   stop-reads.Asked,
   stop-reads.Learnt,
@@ -838,6 +946,8 @@ get-ty-same-length-3 : (t : ℕ) → get-ty-lts.Need-same-length-3 (
   con-ty.Post,
   one-arg-con-ty-below t,
   one-arg-con-ty.Post,
+  tuple-ty-below t,
+  tuple-ty.Post,
   fn-ty-below t,
   fn-ty.Post,
   paren-ty-below t,
@@ -845,7 +955,7 @@ get-ty-same-length-3 : (t : ℕ) → get-ty-lts.Need-same-length-3 (
 ) (get-ty-at t) get-ty.Post
 get-ty-same-length-3 t c = c .before .before .text-of .kept .1 .1 .1 .1 .0
 
--- src/lib.rt:163:1
+-- src/lib.rt:301:1
 get-ty-returns-5 : (t : ℕ) → get-ty-lts.Need-returns-5 (
   stop-reads.Asked,
   stop-reads.Learnt,
@@ -861,6 +971,8 @@ get-ty-returns-5 : (t : ℕ) → get-ty-lts.Need-returns-5 (
   con-ty.Post,
   one-arg-con-ty-below t,
   one-arg-con-ty.Post,
+  tuple-ty-below t,
+  tuple-ty.Post,
   fn-ty-below t,
   fn-ty.Post,
   paren-ty-below t,
@@ -869,7 +981,7 @@ get-ty-returns-5 : (t : ℕ) → get-ty-lts.Need-returns-5 (
 unfolding Ty.tys Ty.HoleTy Ty.WildcardTy Ty.TyVarTy
 get-ty-returns-5 t c = record { is = λ kinds m. ty-form _ (c .before .before .before .before .before .before .before .before .before .if1 .left) (form-key (c .before .before .before .before .before .before .before .before .form .ensures) (c .before .before .before .before .before .before .k .given .1) (c .before .before .before .before .match2 .keys3) (plain (c .before .before .text-of .ensures))) }
 
--- src/lib.rt:163:1
+-- src/lib.rt:301:1
 get-ty-same-length-4 : (t : ℕ) → get-ty-lts.Need-same-length-4 (
   stop-reads.Asked,
   stop-reads.Learnt,
@@ -885,6 +997,8 @@ get-ty-same-length-4 : (t : ℕ) → get-ty-lts.Need-same-length-4 (
   con-ty.Post,
   one-arg-con-ty-below t,
   one-arg-con-ty.Post,
+  tuple-ty-below t,
+  tuple-ty.Post,
   fn-ty-below t,
   fn-ty.Post,
   paren-ty-below t,
@@ -892,7 +1006,7 @@ get-ty-same-length-4 : (t : ℕ) → get-ty-lts.Need-same-length-4 (
 ) (get-ty-at t) get-ty.Post
 get-ty-same-length-4 t c = c .before .before .record-ty .kept .1 .1 .1 .1 .0
 
--- src/lib.rt:163:1
+-- src/lib.rt:301:1
 get-ty-returns-6 : (t : ℕ) → get-ty-lts.Need-returns-6 (
   stop-reads.Asked,
   stop-reads.Learnt,
@@ -908,6 +1022,8 @@ get-ty-returns-6 : (t : ℕ) → get-ty-lts.Need-returns-6 (
   con-ty.Post,
   one-arg-con-ty-below t,
   one-arg-con-ty.Post,
+  tuple-ty-below t,
+  tuple-ty.Post,
   fn-ty-below t,
   fn-ty.Post,
   paren-ty-below t,
@@ -916,7 +1032,7 @@ get-ty-returns-6 : (t : ℕ) → get-ty-lts.Need-returns-6 (
 unfolding Ty.tys Ty.HoleTy Ty.WildcardTy Ty.TyVarTy
 get-ty-returns-6 t c = record { is = λ kinds m. ty-form _ (c .before .before .before .before .before .before .before .before .before .if1 .left) (form-key (c .before .before .before .before .before .before .before .before .form .ensures) (c .before .before .before .before .before .before .k .given .1) (c .before .before .before .before .match2 .keys4) (plain (c .before .before .record-ty .ensures))) }
 
--- src/lib.rt:163:1
+-- src/lib.rt:301:1
 get-ty-same-length-5 : (t : ℕ) → get-ty-lts.Need-same-length-5 (
   stop-reads.Asked,
   stop-reads.Learnt,
@@ -932,6 +1048,8 @@ get-ty-same-length-5 : (t : ℕ) → get-ty-lts.Need-same-length-5 (
   con-ty.Post,
   one-arg-con-ty-below t,
   one-arg-con-ty.Post,
+  tuple-ty-below t,
+  tuple-ty.Post,
   fn-ty-below t,
   fn-ty.Post,
   paren-ty-below t,
@@ -939,7 +1057,7 @@ get-ty-same-length-5 : (t : ℕ) → get-ty-lts.Need-same-length-5 (
 ) (get-ty-at t) get-ty.Post
 get-ty-same-length-5 t c = c .before .before .con-ty .kept .1 .1 .1 .1 .0
 
--- src/lib.rt:163:1
+-- src/lib.rt:301:1
 get-ty-returns-7 : (t : ℕ) → get-ty-lts.Need-returns-7 (
   stop-reads.Asked,
   stop-reads.Learnt,
@@ -955,6 +1073,8 @@ get-ty-returns-7 : (t : ℕ) → get-ty-lts.Need-returns-7 (
   con-ty.Post,
   one-arg-con-ty-below t,
   one-arg-con-ty.Post,
+  tuple-ty-below t,
+  tuple-ty.Post,
   fn-ty-below t,
   fn-ty.Post,
   paren-ty-below t,
@@ -963,7 +1083,7 @@ get-ty-returns-7 : (t : ℕ) → get-ty-lts.Need-returns-7 (
 unfolding Ty.tys Ty.HoleTy Ty.WildcardTy Ty.TyVarTy
 get-ty-returns-7 t c = record { is = λ kinds m. ty-form _ (c .before .before .before .before .before .before .before .before .before .if1 .left) (form-key (c .before .before .before .before .before .before .before .before .form .ensures) (c .before .before .before .before .before .before .k .given .1) (c .before .before .before .before .match2 .keys5) (plain (c .before .before .con-ty .ensures))) }
 
--- src/lib.rt:163:1
+-- src/lib.rt:301:1
 get-ty-same-length-6 : (t : ℕ) → get-ty-lts.Need-same-length-6 (
   stop-reads.Asked,
   stop-reads.Learnt,
@@ -979,6 +1099,8 @@ get-ty-same-length-6 : (t : ℕ) → get-ty-lts.Need-same-length-6 (
   con-ty.Post,
   one-arg-con-ty-below t,
   one-arg-con-ty.Post,
+  tuple-ty-below t,
+  tuple-ty.Post,
   fn-ty-below t,
   fn-ty.Post,
   paren-ty-below t,
@@ -986,7 +1108,7 @@ get-ty-same-length-6 : (t : ℕ) → get-ty-lts.Need-same-length-6 (
 ) (get-ty-at t) get-ty.Post
 get-ty-same-length-6 t c = c .before .before .one-arg-con-ty .kept .1 .1 .1 .1 .0
 
--- src/lib.rt:163:1
+-- src/lib.rt:301:1
 get-ty-returns-8 : (t : ℕ) → get-ty-lts.Need-returns-8 (
   stop-reads.Asked,
   stop-reads.Learnt,
@@ -1002,6 +1124,8 @@ get-ty-returns-8 : (t : ℕ) → get-ty-lts.Need-returns-8 (
   con-ty.Post,
   one-arg-con-ty-below t,
   one-arg-con-ty.Post,
+  tuple-ty-below t,
+  tuple-ty.Post,
   fn-ty-below t,
   fn-ty.Post,
   paren-ty-below t,
@@ -1010,7 +1134,7 @@ get-ty-returns-8 : (t : ℕ) → get-ty-lts.Need-returns-8 (
 unfolding Ty.tys Ty.HoleTy Ty.WildcardTy Ty.TyVarTy
 get-ty-returns-8 t c = record { is = λ kinds m. ty-form _ (c .before .before .before .before .before .before .before .before .before .if1 .left) (form-key (c .before .before .before .before .before .before .before .before .form .ensures) (c .before .before .before .before .before .before .k .given .1) (c .before .before .before .before .match2 .keys6) (plain (c .before .before .one-arg-con-ty .ensures))) }
 
--- src/lib.rt:163:1
+-- src/lib.rt:301:1
 get-ty-same-length-7 : (t : ℕ) → get-ty-lts.Need-same-length-7 (
   stop-reads.Asked,
   stop-reads.Learnt,
@@ -1026,14 +1150,16 @@ get-ty-same-length-7 : (t : ℕ) → get-ty-lts.Need-same-length-7 (
   con-ty.Post,
   one-arg-con-ty-below t,
   one-arg-con-ty.Post,
+  tuple-ty-below t,
+  tuple-ty.Post,
   fn-ty-below t,
   fn-ty.Post,
   paren-ty-below t,
   paren-ty.Post,
 ) (get-ty-at t) get-ty.Post
-get-ty-same-length-7 t c = c .before .before .fn-ty .kept .1 .1 .1 .1 .0
+get-ty-same-length-7 t c = c .before .before .tuple-ty .kept .1 .1 .1 .1 .0
 
--- src/lib.rt:163:1
+-- src/lib.rt:301:1
 get-ty-returns-9 : (t : ℕ) → get-ty-lts.Need-returns-9 (
   stop-reads.Asked,
   stop-reads.Learnt,
@@ -1049,15 +1175,17 @@ get-ty-returns-9 : (t : ℕ) → get-ty-lts.Need-returns-9 (
   con-ty.Post,
   one-arg-con-ty-below t,
   one-arg-con-ty.Post,
+  tuple-ty-below t,
+  tuple-ty.Post,
   fn-ty-below t,
   fn-ty.Post,
   paren-ty-below t,
   paren-ty.Post,
 ) (get-ty-at t) get-ty.Post
 unfolding Ty.tys Ty.HoleTy Ty.WildcardTy Ty.TyVarTy
-get-ty-returns-9 t c = record { is = λ kinds m. ty-form _ (c .before .before .before .before .before .before .before .before .before .if1 .left) (form-key (c .before .before .before .before .before .before .before .before .form .ensures) (c .before .before .before .before .before .before .k .given .1) (c .before .before .before .before .match2 .keys7) (plain (c .before .before .fn-ty .ensures))) }
+get-ty-returns-9 t c = record { is = λ kinds m. ty-form _ (c .before .before .before .before .before .before .before .before .before .if1 .left) (form-key (c .before .before .before .before .before .before .before .before .form .ensures) (c .before .before .before .before .before .before .k .given .1) (c .before .before .before .before .match2 .keys7) (plain (c .before .before .tuple-ty .ensures))) }
 
--- src/lib.rt:163:1
+-- src/lib.rt:301:1
 get-ty-same-length-8 : (t : ℕ) → get-ty-lts.Need-same-length-8 (
   stop-reads.Asked,
   stop-reads.Learnt,
@@ -1073,14 +1201,16 @@ get-ty-same-length-8 : (t : ℕ) → get-ty-lts.Need-same-length-8 (
   con-ty.Post,
   one-arg-con-ty-below t,
   one-arg-con-ty.Post,
+  tuple-ty-below t,
+  tuple-ty.Post,
   fn-ty-below t,
   fn-ty.Post,
   paren-ty-below t,
   paren-ty.Post,
 ) (get-ty-at t) get-ty.Post
-get-ty-same-length-8 t c = c .before .before .paren-ty .kept .1 .1 .1 .1 .0
+get-ty-same-length-8 t c = c .before .before .fn-ty .kept .1 .1 .1 .1 .0
 
--- src/lib.rt:163:1
+-- src/lib.rt:301:1
 get-ty-returns-10 : (t : ℕ) → get-ty-lts.Need-returns-10 (
   stop-reads.Asked,
   stop-reads.Learnt,
@@ -1096,15 +1226,42 @@ get-ty-returns-10 : (t : ℕ) → get-ty-lts.Need-returns-10 (
   con-ty.Post,
   one-arg-con-ty-below t,
   one-arg-con-ty.Post,
+  tuple-ty-below t,
+  tuple-ty.Post,
   fn-ty-below t,
   fn-ty.Post,
   paren-ty-below t,
   paren-ty.Post,
 ) (get-ty-at t) get-ty.Post
 unfolding Ty.tys Ty.HoleTy Ty.WildcardTy Ty.TyVarTy
-get-ty-returns-10 t c = record { is = λ kinds m. ty-form _ (c .before .before .before .before .before .before .before .before .before .if1 .left) (form-key (c .before .before .before .before .before .before .before .before .form .ensures) (c .before .before .before .before .before .before .k .given .1) (c .before .before .before .before .match2 .keys8) (plain (c .before .before .paren-ty .ensures))) }
+get-ty-returns-10 t c = record { is = λ kinds m. ty-form _ (c .before .before .before .before .before .before .before .before .before .if1 .left) (form-key (c .before .before .before .before .before .before .before .before .form .ensures) (c .before .before .before .before .before .before .k .given .1) (c .before .before .before .before .match2 .keys8) (plain (c .before .before .fn-ty .ensures))) }
 
--- src/lib.rt:163:1
+-- src/lib.rt:301:1
+get-ty-same-length-9 : (t : ℕ) → get-ty-lts.Need-same-length-9 (
+  stop-reads.Asked,
+  stop-reads.Learnt,
+  form-reads.Asked,
+  form-reads.Learnt,
+  word-reads.Asked,
+  word-reads.Learnt,
+  text-of-reads.Asked,
+  text-of-reads.Learnt,
+  record-ty-below t,
+  record-ty.Post,
+  con-ty-below t,
+  con-ty.Post,
+  one-arg-con-ty-below t,
+  one-arg-con-ty.Post,
+  tuple-ty-below t,
+  tuple-ty.Post,
+  fn-ty-below t,
+  fn-ty.Post,
+  paren-ty-below t,
+  paren-ty.Post,
+) (get-ty-at t) get-ty.Post
+get-ty-same-length-9 t c = c .before .before .paren-ty .kept .1 .1 .1 .1 .0
+
+-- src/lib.rt:301:1
 get-ty-returns-11 : (t : ℕ) → get-ty-lts.Need-returns-11 (
   stop-reads.Asked,
   stop-reads.Learnt,
@@ -1120,15 +1277,43 @@ get-ty-returns-11 : (t : ℕ) → get-ty-lts.Need-returns-11 (
   con-ty.Post,
   one-arg-con-ty-below t,
   one-arg-con-ty.Post,
+  tuple-ty-below t,
+  tuple-ty.Post,
   fn-ty-below t,
   fn-ty.Post,
   paren-ty-below t,
   paren-ty.Post,
 ) (get-ty-at t) get-ty.Post
 unfolding Ty.tys Ty.HoleTy Ty.WildcardTy Ty.TyVarTy
-get-ty-returns-11 t c = record { is = λ kinds m. ty-form _ (c .before .before .before .before .before .before .if1 .left) (by-same (form-is (c .before .before .before .before .before .form .ensures) (c .before .before .before .k .given .1)) (beyond _ (c .before .before .before .k .given .0 .0) (omega (arith, c .before .match2 .rest .1, c .before .match2 .rest .0 .1, c .before .match2 .rest .0 .0 .1, c .before .match2 .rest .0 .0 .0 .1, c .before .match2 .rest .0 .0 .0 .0 .1, c .before .match2 .rest .0 .0 .0 .0 .0 .1, c .before .match2 .rest .0 .0 .0 .0 .0 .0 .1, c .before .match2 .rest .0 .0 .0 .0 .0 .0 .0 .1)) (c .stop3 .ensures))) }
+get-ty-returns-11 t c = record { is = λ kinds m. ty-form _ (c .before .before .before .before .before .before .before .before .before .if1 .left) (form-key (c .before .before .before .before .before .before .before .before .form .ensures) (c .before .before .before .before .before .before .k .given .1) (c .before .before .before .before .match2 .keys9) (plain (c .before .before .paren-ty .ensures))) }
 
--- src/lib.rt:130:9
+-- src/lib.rt:301:1
+get-ty-returns-12 : (t : ℕ) → get-ty-lts.Need-returns-12 (
+  stop-reads.Asked,
+  stop-reads.Learnt,
+  form-reads.Asked,
+  form-reads.Learnt,
+  word-reads.Asked,
+  word-reads.Learnt,
+  text-of-reads.Asked,
+  text-of-reads.Learnt,
+  record-ty-below t,
+  record-ty.Post,
+  con-ty-below t,
+  con-ty.Post,
+  one-arg-con-ty-below t,
+  one-arg-con-ty.Post,
+  tuple-ty-below t,
+  tuple-ty.Post,
+  fn-ty-below t,
+  fn-ty.Post,
+  paren-ty-below t,
+  paren-ty.Post,
+) (get-ty-at t) get-ty.Post
+unfolding Ty.tys Ty.HoleTy Ty.WildcardTy Ty.TyVarTy
+get-ty-returns-12 t c = record { is = λ kinds m. ty-form _ (c .before .before .before .before .before .before .if1 .left) (by-same (form-is (c .before .before .before .before .before .form .ensures) (c .before .before .before .k .given .1)) (beyond (Ty.tys (walks (c .before .before .before .before .before .before .before .before .before .before .before .before .args .cfg .left - 1))) (c .before .before .before .k .given .0 .0) 9 refl (past (past (past (past (past (past (past (past (past (zero-le) (c .before .match2 .rest .0 .0 .0 .0 .0 .0 .0 .0 .1)) (c .before .match2 .rest .0 .0 .0 .0 .0 .0 .0 .1)) (c .before .match2 .rest .0 .0 .0 .0 .0 .0 .1)) (c .before .match2 .rest .0 .0 .0 .0 .0 .1)) (c .before .match2 .rest .0 .0 .0 .0 .1)) (c .before .match2 .rest .0 .0 .0 .1)) (c .before .match2 .rest .0 .0 .1)) (c .before .match2 .rest .0 .1)) (c .before .match2 .rest .1)) (c .stop3 .ensures))) }
+
+-- src/lib.rt:206:9
 one-arg-con-ty-get-ty-requires : (t : ℕ) → one-arg-con-ty-lts.Need-get-ty-requires (
   get-ty-below t,
   get-ty.Post,
@@ -1139,7 +1324,7 @@ one-arg-con-ty-get-ty-requires : (t : ℕ) → one-arg-con-ty-lts.Need-get-ty-re
 ) (one-arg-con-ty-at t) one-arg-con-ty.Post
 one-arg-con-ty-get-ty-requires t c κs = omega (arith, c .before .before .before .before .before .before .pre .0)
 
--- src/lib.rt:131:22
+-- src/lib.rt:207:22
 one-arg-con-ty-enum-known-r1 : (t : ℕ) → one-arg-con-ty-lts.Need-enum-known-r1 (
   get-ty-below t,
   get-ty.Post,
@@ -1150,7 +1335,7 @@ one-arg-con-ty-enum-known-r1 : (t : ℕ) → one-arg-con-ty-lts.Need-enum-known-
 ) (one-arg-con-ty-at t) one-arg-con-ty.Post
 one-arg-con-ty-enum-known-r1 t c = search needs
 
--- src/lib.rt:132:9
+-- src/lib.rt:208:9
 one-arg-con-ty-enum-told : (t : ℕ) → one-arg-con-ty-lts.Need-enum-told (
   get-ty-below t,
   get-ty.Post,
@@ -1161,7 +1346,7 @@ one-arg-con-ty-enum-told : (t : ℕ) → one-arg-con-ty-lts.Need-enum-told (
 ) (one-arg-con-ty-at t) one-arg-con-ty.Post
 one-arg-con-ty-enum-told t c = search needs
 
--- src/lib.rt:132:9
+-- src/lib.rt:208:9
 one-arg-con-ty-same-length : (t : ℕ) → one-arg-con-ty-lts.Need-same-length (
   get-ty-below t,
   get-ty.Post,
@@ -1172,7 +1357,7 @@ one-arg-con-ty-same-length : (t : ℕ) → one-arg-con-ty-lts.Need-same-length (
 ) (one-arg-con-ty-at t) one-arg-con-ty.Post
 one-arg-con-ty-same-length t c = c .before .before .before .before .get-ty .kept .1 .1 .1 .1 .0
 
--- src/lib.rt:132:9
+-- src/lib.rt:208:9
 one-arg-con-ty-returns : (t : ℕ) → one-arg-con-ty-lts.Need-returns (
   get-ty-below t,
   get-ty.Post,
@@ -1184,7 +1369,7 @@ one-arg-con-ty-returns : (t : ℕ) → one-arg-con-ty-lts.Need-returns (
 unfolding Ty.OneArgConTy
 one-arg-con-ty-returns t c = record { is = λ kinds m. then-stop (plain (c .before .before .before .before .get-ty .ensures)) (c .enum-told .given .1) }
 
--- src/lib.rt:134:9
+-- src/lib.rt:210:9
 one-arg-con-ty-word-requires : (t : ℕ) → one-arg-con-ty-lts.Need-word-requires (
   get-ty-below t,
   get-ty.Post,
@@ -1195,7 +1380,7 @@ one-arg-con-ty-word-requires : (t : ℕ) → one-arg-con-ty-lts.Need-word-requir
 ) (one-arg-con-ty-at t) one-arg-con-ty.Post
 one-arg-con-ty-word-requires t c κs = search needs
 
--- src/lib.rt:135:5
+-- src/lib.rt:211:5
 one-arg-con-ty-path-requires : (t : ℕ) → one-arg-con-ty-lts.Need-path-requires (
   get-ty-below t,
   get-ty.Post,
@@ -1206,7 +1391,7 @@ one-arg-con-ty-path-requires : (t : ℕ) → one-arg-con-ty-lts.Need-path-requir
 ) (one-arg-con-ty-at t) one-arg-con-ty.Post
 one-arg-con-ty-path-requires t c κs = search needs
 
--- src/lib.rt:127:1
+-- src/lib.rt:195:1
 one-arg-con-ty-same-length-2 : (t : ℕ) → one-arg-con-ty-lts.Need-same-length-2 (
   get-ty-below t,
   get-ty.Post,
@@ -1217,7 +1402,7 @@ one-arg-con-ty-same-length-2 : (t : ℕ) → one-arg-con-ty-lts.Need-same-length
 ) (one-arg-con-ty-at t) one-arg-con-ty.Post
 one-arg-con-ty-same-length-2 t c = c .before .before .path .kept .1 .1 .1 .1 .0 ∙ c .before .before .before .before .before .before .word .kept .1 .0 ∙ c .before .before .before .before .before .before .before .before .before .before .before .before .before .get-ty .kept .1 .1 .1 .1 .0
 
--- src/lib.rt:127:1
+-- src/lib.rt:195:1
 one-arg-con-ty-returns-2 : (t : ℕ) → one-arg-con-ty-lts.Need-returns-2 (
   get-ty-below t,
   get-ty.Post,
@@ -1229,7 +1414,7 @@ one-arg-con-ty-returns-2 : (t : ℕ) → one-arg-con-ty-lts.Need-returns-2 (
 unfolding Ty.OneArgConTy
 one-arg-con-ty-returns-2 t c = record { is = λ kinds m. then-done (plain (c .before .before .before .before .before .before .before .before .before .before .before .before .before .get-ty .ensures)) (c .before .before .before .before .before .before .before .before .before .r1 .given .1) (then-sure (c .before .before .before .before .before .before .word .ensures) (plain (c .before .before .path .ensures))) }
 
--- src/lib.rt:154:9
+-- src/lib.rt:292:9
 paren-ty-word-requires : (t : ℕ) → paren-ty-lts.Need-word-requires (
   word-reads.Asked,
   word-reads.Learnt,
@@ -1238,7 +1423,7 @@ paren-ty-word-requires : (t : ℕ) → paren-ty-lts.Need-word-requires (
 ) (paren-ty-at t) paren-ty.Post
 paren-ty-word-requires t c κs = search needs
 
--- src/lib.rt:155:9
+-- src/lib.rt:293:9
 paren-ty-get-ty-requires : (t : ℕ) → paren-ty-lts.Need-get-ty-requires (
   word-reads.Asked,
   word-reads.Learnt,
@@ -1247,7 +1432,7 @@ paren-ty-get-ty-requires : (t : ℕ) → paren-ty-lts.Need-get-ty-requires (
 ) (paren-ty-at t) paren-ty.Post
 paren-ty-get-ty-requires t c κs = omega (arith, c .before .before .before .before .before .before .before .before .before .before .pre .0)
 
--- src/lib.rt:156:22
+-- src/lib.rt:294:22
 paren-ty-enum-known-r2 : (t : ℕ) → paren-ty-lts.Need-enum-known-r2 (
   word-reads.Asked,
   word-reads.Learnt,
@@ -1256,7 +1441,7 @@ paren-ty-enum-known-r2 : (t : ℕ) → paren-ty-lts.Need-enum-known-r2 (
 ) (paren-ty-at t) paren-ty.Post
 paren-ty-enum-known-r2 t c = search needs
 
--- src/lib.rt:157:9
+-- src/lib.rt:295:9
 paren-ty-enum-told : (t : ℕ) → paren-ty-lts.Need-enum-told (
   word-reads.Asked,
   word-reads.Learnt,
@@ -1265,7 +1450,7 @@ paren-ty-enum-told : (t : ℕ) → paren-ty-lts.Need-enum-told (
 ) (paren-ty-at t) paren-ty.Post
 paren-ty-enum-told t c = search needs
 
--- src/lib.rt:157:9
+-- src/lib.rt:295:9
 paren-ty-same-length : (t : ℕ) → paren-ty-lts.Need-same-length (
   word-reads.Asked,
   word-reads.Learnt,
@@ -1274,7 +1459,7 @@ paren-ty-same-length : (t : ℕ) → paren-ty-lts.Need-same-length (
 ) (paren-ty-at t) paren-ty.Post
 paren-ty-same-length t c = c .before .before .before .before .get-ty .kept .1 .1 .1 .1 .0 ∙ c .before .before .before .before .before .before .before .before .word .kept .1 .0
 
--- src/lib.rt:157:9
+-- src/lib.rt:295:9
 paren-ty-returns : (t : ℕ) → paren-ty-lts.Need-returns (
   word-reads.Asked,
   word-reads.Learnt,
@@ -1284,7 +1469,7 @@ paren-ty-returns : (t : ℕ) → paren-ty-lts.Need-returns (
 unfolding Ty.ParenTy
 paren-ty-returns t c = record { is = λ kinds m. then-sure (c .before .before .before .before .before .before .before .before .word .ensures) (then-stop (plain (c .before .before .before .before .get-ty .ensures)) (c .enum-told .given .1)) }
 
--- src/lib.rt:159:18
+-- src/lib.rt:297:18
 paren-ty-word-requires-2 : (t : ℕ) → paren-ty-lts.Need-word-requires-2 (
   word-reads.Asked,
   word-reads.Learnt,
@@ -1293,7 +1478,7 @@ paren-ty-word-requires-2 : (t : ℕ) → paren-ty-lts.Need-word-requires-2 (
 ) (paren-ty-at t) paren-ty.Post
 paren-ty-word-requires-2 t c κs = search needs
 
--- src/lib.rt:151:1
+-- src/lib.rt:281:1
 paren-ty-same-length-2 : (t : ℕ) → paren-ty-lts.Need-same-length-2 (
   word-reads.Asked,
   word-reads.Learnt,
@@ -1302,7 +1487,7 @@ paren-ty-same-length-2 : (t : ℕ) → paren-ty-lts.Need-same-length-2 (
 ) (paren-ty-at t) paren-ty.Post
 paren-ty-same-length-2 t c = c .before .before .word2 .kept .1 .0 ∙ c .before .before .before .before .before .before .before .before .before .get-ty .kept .1 .1 .1 .1 .0 ∙ c .before .before .before .before .before .before .before .before .before .before .before .before .before .word .kept .1 .0
 
--- src/lib.rt:151:1
+-- src/lib.rt:281:1
 paren-ty-returns-2 : (t : ℕ) → paren-ty-lts.Need-returns-2 (
   word-reads.Asked,
   word-reads.Learnt,
@@ -1312,7 +1497,7 @@ paren-ty-returns-2 : (t : ℕ) → paren-ty-lts.Need-returns-2 (
 unfolding Ty.ParenTy
 paren-ty-returns-2 t c = record { is = λ kinds m. then-sure (c .before .before .before .before .before .before .before .before .before .before .before .before .before .word .ensures) (then-done (plain (c .before .before .before .before .before .before .before .before .before .get-ty .ensures)) (c .before .before .before .before .before .r2 .given .1) (last-sure (c .before .before .word2 .ensures))) }
 
--- src/lib.rt:55:9
+-- src/lib.rt:91:9
 record-ty-word-requires : (t : ℕ) → record-ty-lts.Need-word-requires (
   word-reads.Asked,
   word-reads.Learnt,
@@ -1321,7 +1506,7 @@ record-ty-word-requires : (t : ℕ) → record-ty-lts.Need-word-requires (
 ) (record-ty-at t) record-ty.Post
 record-ty-word-requires t c κs = search needs
 
--- src/lib.rt:56:9
+-- src/lib.rt:92:9
 record-ty-ty-rows-requires : (t : ℕ) → record-ty-lts.Need-ty-rows-requires (
   word-reads.Asked,
   word-reads.Learnt,
@@ -1330,7 +1515,7 @@ record-ty-ty-rows-requires : (t : ℕ) → record-ty-lts.Need-ty-rows-requires (
 ) (record-ty-at t) record-ty.Post
 record-ty-ty-rows-requires t c κs = omega (arith, c .before .before .before .before .before .before .before .before .before .before .pre .0)
 
--- src/lib.rt:57:22
+-- src/lib.rt:93:22
 record-ty-enum-known-r2 : (t : ℕ) → record-ty-lts.Need-enum-known-r2 (
   word-reads.Asked,
   word-reads.Learnt,
@@ -1339,7 +1524,7 @@ record-ty-enum-known-r2 : (t : ℕ) → record-ty-lts.Need-enum-known-r2 (
 ) (record-ty-at t) record-ty.Post
 record-ty-enum-known-r2 t c = search needs
 
--- src/lib.rt:58:9
+-- src/lib.rt:94:9
 record-ty-enum-told : (t : ℕ) → record-ty-lts.Need-enum-told (
   word-reads.Asked,
   word-reads.Learnt,
@@ -1348,7 +1533,7 @@ record-ty-enum-told : (t : ℕ) → record-ty-lts.Need-enum-told (
 ) (record-ty-at t) record-ty.Post
 record-ty-enum-told t c = search needs
 
--- src/lib.rt:58:9
+-- src/lib.rt:94:9
 record-ty-same-length : (t : ℕ) → record-ty-lts.Need-same-length (
   word-reads.Asked,
   word-reads.Learnt,
@@ -1357,7 +1542,7 @@ record-ty-same-length : (t : ℕ) → record-ty-lts.Need-same-length (
 ) (record-ty-at t) record-ty.Post
 record-ty-same-length t c = c .before .before .before .before .ty-rows .kept .1 .1 .1 .1 .0 ∙ c .before .before .before .before .before .before .before .before .word .kept .1 .0
 
--- src/lib.rt:58:9
+-- src/lib.rt:94:9
 record-ty-returns : (t : ℕ) → record-ty-lts.Need-returns (
   word-reads.Asked,
   word-reads.Learnt,
@@ -1367,7 +1552,7 @@ record-ty-returns : (t : ℕ) → record-ty-lts.Need-returns (
 unfolding Ty.RecordTy
 record-ty-returns t c = record { is = λ kinds m. then-sure (c .before .before .before .before .before .before .before .before .word .ensures) (then-stop (plain (c .before .before .before .before .ty-rows .ensures)) (c .enum-told .given .1)) }
 
--- src/lib.rt:60:18
+-- src/lib.rt:96:18
 record-ty-word-requires-2 : (t : ℕ) → record-ty-lts.Need-word-requires-2 (
   word-reads.Asked,
   word-reads.Learnt,
@@ -1376,7 +1561,7 @@ record-ty-word-requires-2 : (t : ℕ) → record-ty-lts.Need-word-requires-2 (
 ) (record-ty-at t) record-ty.Post
 record-ty-word-requires-2 t c κs = search needs
 
--- src/lib.rt:52:1
+-- src/lib.rt:80:1
 record-ty-same-length-2 : (t : ℕ) → record-ty-lts.Need-same-length-2 (
   word-reads.Asked,
   word-reads.Learnt,
@@ -1385,7 +1570,7 @@ record-ty-same-length-2 : (t : ℕ) → record-ty-lts.Need-same-length-2 (
 ) (record-ty-at t) record-ty.Post
 record-ty-same-length-2 t c = c .before .before .word2 .kept .1 .0 ∙ c .before .before .before .before .before .before .before .before .before .ty-rows .kept .1 .1 .1 .1 .0 ∙ c .before .before .before .before .before .before .before .before .before .before .before .before .before .word .kept .1 .0
 
--- src/lib.rt:52:1
+-- src/lib.rt:80:1
 record-ty-returns-2 : (t : ℕ) → record-ty-lts.Need-returns-2 (
   word-reads.Asked,
   word-reads.Learnt,
@@ -1395,6 +1580,384 @@ record-ty-returns-2 : (t : ℕ) → record-ty-lts.Need-returns-2 (
 unfolding Ty.RecordTy
 record-ty-returns-2 t c = record { is = λ kinds m. then-sure (c .before .before .before .before .before .before .before .before .before .before .before .before .before .word .ensures) (then-done (plain (c .before .before .before .before .before .before .before .before .before .ty-rows .ensures)) (c .before .before .before .before .before .r2 .given .1) (last-sure (c .before .before .word2 .ensures))) }
 
+-- src/lib.rt:218:9
+star-ty-group-requires : (t : ℕ) → star-ty-lts.Need-group-requires (
+  group-reads.Asked,
+  group-reads.Learnt,
+  word-reads.Asked,
+  word-reads.Learnt,
+  get-ty-below t,
+  get-ty.Post,
+) (star-ty-at t) star-ty.Post
+star-ty-group-requires t c κs = search needs
+
+-- src/lib.rt:219:22
+star-ty-enum-known-r1 : (t : ℕ) → star-ty-lts.Need-enum-known-r1 (
+  group-reads.Asked,
+  group-reads.Learnt,
+  word-reads.Asked,
+  word-reads.Learnt,
+  get-ty-below t,
+  get-ty.Post,
+) (star-ty-at t) star-ty.Post
+star-ty-enum-known-r1 t c = search needs
+
+-- src/lib.rt:220:9
+star-ty-enum-told : (t : ℕ) → star-ty-lts.Need-enum-told (
+  group-reads.Asked,
+  group-reads.Learnt,
+  word-reads.Asked,
+  word-reads.Learnt,
+  get-ty-below t,
+  get-ty.Post,
+) (star-ty-at t) star-ty.Post
+star-ty-enum-told t c = search needs
+
+-- src/lib.rt:220:9
+star-ty-returns : (t : ℕ) → star-ty-lts.Need-returns (
+  group-reads.Asked,
+  group-reads.Learnt,
+  word-reads.Asked,
+  word-reads.Learnt,
+  get-ty-below t,
+  get-ty.Post,
+) (star-ty-at t) star-ty.Post
+unfolding Ty.star-ty
+star-ty-returns t c = record { is = λ kinds m. group-not (c .before .before .group .ensures) (c .enum-told .given .1) }
+
+-- src/lib.rt:222:9
+star-ty-word-requires : (t : ℕ) → star-ty-lts.Need-word-requires (
+  group-reads.Asked,
+  group-reads.Learnt,
+  word-reads.Asked,
+  word-reads.Learnt,
+  get-ty-below t,
+  get-ty.Post,
+) (star-ty-at t) star-ty.Post
+star-ty-word-requires t c κs = search needs
+
+-- src/lib.rt:223:5
+star-ty-get-ty-requires : (t : ℕ) → star-ty-lts.Need-get-ty-requires (
+  group-reads.Asked,
+  group-reads.Learnt,
+  word-reads.Asked,
+  word-reads.Learnt,
+  get-ty-below t,
+  get-ty.Post,
+) (star-ty-at t) star-ty.Post
+star-ty-get-ty-requires t c κs = omega (arith, c .before .before .before .before .before .before .before .before .before .before .before .before .before .before .pre .0)
+
+-- src/lib.rt:215:1
+star-ty-same-length : (t : ℕ) → star-ty-lts.Need-same-length (
+  group-reads.Asked,
+  group-reads.Learnt,
+  word-reads.Asked,
+  word-reads.Learnt,
+  get-ty-below t,
+  get-ty.Post,
+) (star-ty-at t) star-ty.Post
+star-ty-same-length t c = c .before .before .get-ty .kept .1 .1 .1 .1 .0 ∙ c .before .before .before .before .before .before .word .kept .1 .0
+
+-- src/lib.rt:215:1
+star-ty-returns-2 : (t : ℕ) → star-ty-lts.Need-returns-2 (
+  group-reads.Asked,
+  group-reads.Learnt,
+  word-reads.Asked,
+  word-reads.Learnt,
+  get-ty-below t,
+  get-ty.Post,
+) (star-ty-at t) star-ty.Post
+unfolding Ty.star-ty
+star-ty-returns-2 t c = record { is = λ kinds m. by-same (group-is (c .before .before .before .before .before .before .before .before .before .before .before .group .ensures) (c .before .before .before .before .before .before .before .before .before .r1 .given .1)) (then-sure (c .before .before .before .before .before .before .word .ensures) (plain (c .before .before .get-ty .ensures))) }
+
+abbrev star-tys-Inv-loop : star-tys-lts.InvT-loop
+star-tys-Inv-loop text rec starts lens out₀ cfg n s₀ i₀ out s i =
+    PlainTurn text rec starts lens (cfg .tab) (λ i k. times k (Ty.star-ty (walks (cfg .left)))) n s₀ out₀ i s out
+
+abbrev star-tys-μ-loop : star-tys-lts.MeasureT-loop
+star-tys-μ-loop text rec starts lens out₀ cfg n s₀ i₀ out s i = n - i
+
+-- src/lib.rt:230:27
+star-tys-list-requires : (t : ℕ) → star-tys-lts.Need-list-requires (
+  list-reads.Asked,
+  list-reads.Learnt,
+  stop-reads.Asked,
+  stop-reads.Learnt,
+  star-ty-below t,
+  star-ty.Post,
+) (star-tys-at t) star-tys.Post star-tys-Inv-loop star-tys-μ-loop
+star-tys-list-requires t c κs = search needs
+
+-- src/lib.rt:230:18
+star-tys-enum-known-n : (t : ℕ) → star-tys-lts.Need-enum-known-n (
+  list-reads.Asked,
+  list-reads.Learnt,
+  stop-reads.Asked,
+  stop-reads.Learnt,
+  star-ty-below t,
+  star-ty.Post,
+) (star-tys-at t) star-tys.Post star-tys-Inv-loop star-tys-μ-loop
+star-tys-enum-known-n t c = search needs
+
+-- src/lib.rt:231:9
+star-tys-enum-told : (t : ℕ) → star-tys-lts.Need-enum-told (
+  list-reads.Asked,
+  list-reads.Learnt,
+  stop-reads.Asked,
+  stop-reads.Learnt,
+  star-ty-below t,
+  star-ty.Post,
+) (star-tys-at t) star-tys.Post star-tys-Inv-loop star-tys-μ-loop
+star-tys-enum-told t c = search needs
+
+-- src/lib.rt:231:9
+star-tys-stop-requires : (t : ℕ) → star-tys-lts.Need-stop-requires (
+  list-reads.Asked,
+  list-reads.Learnt,
+  stop-reads.Asked,
+  stop-reads.Learnt,
+  star-ty-below t,
+  star-ty.Post,
+) (star-tys-at t) star-tys.Post star-tys-Inv-loop star-tys-μ-loop
+star-tys-stop-requires t c κs = search needs
+
+-- src/lib.rt:231:9
+star-tys-returns : (t : ℕ) → star-tys-lts.Need-returns (
+  list-reads.Asked,
+  list-reads.Learnt,
+  stop-reads.Asked,
+  stop-reads.Learnt,
+  star-ty-below t,
+  star-ty.Post,
+) (star-tys-at t) star-tys.Post star-tys-Inv-loop star-tys-μ-loop
+unfolding Ty.star-tys Helpers.for-each
+star-tys-returns t c = record { is = λ kinds m. list-not (c .stop .ensures) (c .before .before .before .list .ensures) (c .before .enum-told .given .1) }
+
+-- src/lib.rt:235:5
+star-tys-loop-holds : (t : ℕ) → star-tys-lts.Need-loop-holds (
+  list-reads.Asked,
+  list-reads.Learnt,
+  stop-reads.Asked,
+  stop-reads.Learnt,
+  star-ty-below t,
+  star-ty.Post,
+) (star-tys-at t) star-tys.Post star-tys-Inv-loop star-tys-μ-loop
+star-tys-loop-holds t c = (omega arith, λ kinds m r o h. h, refl)
+
+-- src/lib.rt:236:13
+star-tys-star-ty-requires : (t : ℕ) → star-tys-lts.Need-star-ty-requires (
+  list-reads.Asked,
+  list-reads.Learnt,
+  stop-reads.Asked,
+  stop-reads.Learnt,
+  star-ty-below t,
+  star-ty.Post,
+) (star-tys-at t) star-tys.Post star-tys-Inv-loop star-tys-μ-loop
+star-tys-star-ty-requires t c κs = omega (arith, c .before .before .before .before .before .before .before .before .before .before .before .before .pre .0)
+
+-- src/lib.rt:237:26
+star-tys-enum-known-r1 : (t : ℕ) → star-tys-lts.Need-enum-known-r1 (
+  list-reads.Asked,
+  list-reads.Learnt,
+  stop-reads.Asked,
+  stop-reads.Learnt,
+  star-ty-below t,
+  star-ty.Post,
+) (star-tys-at t) star-tys.Post star-tys-Inv-loop star-tys-μ-loop
+star-tys-enum-known-r1 t c = search needs
+
+-- src/lib.rt:238:13
+star-tys-enum-told-2 : (t : ℕ) → star-tys-lts.Need-enum-told-2 (
+  list-reads.Asked,
+  list-reads.Learnt,
+  stop-reads.Asked,
+  stop-reads.Learnt,
+  star-ty-below t,
+  star-ty.Post,
+) (star-tys-at t) star-tys.Post star-tys-Inv-loop star-tys-μ-loop
+star-tys-enum-told-2 t c = search needs
+
+-- src/lib.rt:238:13
+star-tys-same-length : (t : ℕ) → star-tys-lts.Need-same-length (
+  list-reads.Asked,
+  list-reads.Learnt,
+  stop-reads.Asked,
+  stop-reads.Learnt,
+  star-ty-below t,
+  star-ty.Post,
+) (star-tys-at t) star-tys.Post star-tys-Inv-loop star-tys-μ-loop
+star-tys-same-length t c = c .before .before .before .before .star-ty .kept .1 .1 .1 .1 .0 ∙ c .before .before .before .before .before .before .before .loop .inv .2
+
+-- src/lib.rt:238:13
+star-tys-returns-2 : (t : ℕ) → star-tys-lts.Need-returns-2 (
+  list-reads.Asked,
+  list-reads.Learnt,
+  stop-reads.Asked,
+  stop-reads.Learnt,
+  star-ty-below t,
+  star-ty.Post,
+) (star-tys-at t) star-tys.Post star-tys-Inv-loop star-tys-μ-loop
+unfolding Ty.star-tys Helpers.for-each
+star-tys-returns-2 t c = record { is = λ kinds m. by-same (list-is (c .before .before .before .before .before .before .before .before .before .before .before .list .ensures) (c .before .before .before .before .before .before .before .before .before .n .given .1)) (by-same (times-all _ _) (c .before .before .before .before .before .before .before .loop .inv .1 kinds m _ _ (times-more _ (c .before .before .before .before .before .before .loop-test .taken) (then-stop (plain (c .before .before .before .before .star-ty .ensures)) (c .enum-told2 .given .1))))) }
+
+-- src/lib.rt:241:9
+star-tys-add-i : (t : ℕ) → star-tys-lts.Need-add-i (
+  list-reads.Asked,
+  list-reads.Learnt,
+  stop-reads.Asked,
+  stop-reads.Learnt,
+  star-ty-below t,
+  star-ty.Post,
+) (star-tys-at t) star-tys.Post star-tys-Inv-loop star-tys-μ-loop
+star-tys-add-i t c = omega (arith, c .before .before .before .before .before .before .before .loop-test .taken, c .before .before .before .before .before .before .before .before .before .known-told)
+
+-- src/lib.rt:235:5
+star-tys-loop-less : (t : ℕ) → star-tys-lts.Need-loop-less (
+  list-reads.Asked,
+  list-reads.Learnt,
+  stop-reads.Asked,
+  stop-reads.Learnt,
+  star-ty-below t,
+  star-ty.Post,
+) (star-tys-at t) star-tys.Post star-tys-Inv-loop star-tys-μ-loop
+star-tys-loop-less t c = omega arith
+
+-- src/lib.rt:235:5
+star-tys-loop-again : (t : ℕ) → star-tys-lts.Need-loop-again (
+  list-reads.Asked,
+  list-reads.Learnt,
+  stop-reads.Asked,
+  stop-reads.Learnt,
+  star-ty-below t,
+  star-ty.Post,
+) (star-tys-at t) star-tys.Post star-tys-Inv-loop star-tys-μ-loop
+unfolding Ty.star-tys Helpers.for-each
+star-tys-loop-again t c = (omega (arith, c .before .before .before .before .before .before .before .before .loop .inv .0), λ kinds m r o h. c .before .before .before .before .before .before .before .before .loop .inv .1 kinds m r o (times-more _ (c .before .before .before .before .before .before .before .loop-test .taken) (then-done (plain (c .before .before .before .before .before .star-ty .ensures)) (c .before .r1 .given .1) h)), c .before .before .before .before .before .star-ty .kept .1 .1 .1 .1 .0 ∙ c .before .before .before .before .before .before .before .before .loop .inv .2)
+
+-- src/lib.rt:227:1
+star-tys-same-length-2 : (t : ℕ) → star-tys-lts.Need-same-length-2 (
+  list-reads.Asked,
+  list-reads.Learnt,
+  stop-reads.Asked,
+  stop-reads.Learnt,
+  star-ty-below t,
+  star-ty.Post,
+) (star-tys-at t) star-tys.Post star-tys-Inv-loop star-tys-μ-loop
+star-tys-same-length-2 t c = c .before .loop .inv .2
+
+-- src/lib.rt:227:1
+star-tys-returns-3 : (t : ℕ) → star-tys-lts.Need-returns-3 (
+  list-reads.Asked,
+  list-reads.Learnt,
+  stop-reads.Asked,
+  stop-reads.Learnt,
+  star-ty-below t,
+  star-ty.Post,
+) (star-tys-at t) star-tys.Post star-tys-Inv-loop star-tys-μ-loop
+unfolding Ty.star-tys Helpers.for-each
+star-tys-returns-3 t c = record { is = λ kinds m. by-same (list-is (c .before .before .before .before .before .list .ensures) (c .before .before .before .n .given .1)) (by-same (times-all _ _) (c .before .loop .inv .1 kinds m _ _ (times-none _ (c .loop-test .left)))) }
+
+-- src/lib.rt:252:9
+tuple-ty-get-ty-requires : (t : ℕ) → tuple-ty-lts.Need-get-ty-requires (
+  get-ty-below t,
+  get-ty.Post,
+  onwards-reads.Asked,
+  onwards-reads.Learnt,
+  star-tys-below t,
+  star-tys.Post,
+) (tuple-ty-at t) tuple-ty.Post
+tuple-ty-get-ty-requires t c κs = omega (arith, c .before .before .before .before .before .before .pre .0)
+
+-- src/lib.rt:253:9
+tuple-ty-onwards-requires : (t : ℕ) → tuple-ty-lts.Need-onwards-requires (
+  get-ty-below t,
+  get-ty.Post,
+  onwards-reads.Asked,
+  onwards-reads.Learnt,
+  star-tys-below t,
+  star-tys.Post,
+) (tuple-ty-at t) tuple-ty.Post
+tuple-ty-onwards-requires t c κs = search needs
+
+-- src/lib.rt:254:22
+tuple-ty-enum-known-r1 : (t : ℕ) → tuple-ty-lts.Need-enum-known-r1 (
+  get-ty-below t,
+  get-ty.Post,
+  onwards-reads.Asked,
+  onwards-reads.Learnt,
+  star-tys-below t,
+  star-tys.Post,
+) (tuple-ty-at t) tuple-ty.Post
+tuple-ty-enum-known-r1 t c = search needs
+
+-- src/lib.rt:255:9
+tuple-ty-enum-told : (t : ℕ) → tuple-ty-lts.Need-enum-told (
+  get-ty-below t,
+  get-ty.Post,
+  onwards-reads.Asked,
+  onwards-reads.Learnt,
+  star-tys-below t,
+  star-tys.Post,
+) (tuple-ty-at t) tuple-ty.Post
+tuple-ty-enum-told t c = search needs
+
+-- src/lib.rt:255:9
+tuple-ty-same-length : (t : ℕ) → tuple-ty-lts.Need-same-length (
+  get-ty-below t,
+  get-ty.Post,
+  onwards-reads.Asked,
+  onwards-reads.Learnt,
+  star-tys-below t,
+  star-tys.Post,
+) (tuple-ty-at t) tuple-ty.Post
+tuple-ty-same-length t c = c .before .before .before .before .before .get-ty .kept .1 .1 .1 .1 .0
+
+-- src/lib.rt:255:9
+tuple-ty-returns : (t : ℕ) → tuple-ty-lts.Need-returns (
+  get-ty-below t,
+  get-ty.Post,
+  onwards-reads.Asked,
+  onwards-reads.Learnt,
+  star-tys-below t,
+  star-tys.Post,
+) (tuple-ty-at t) tuple-ty.Post
+unfolding Ty.TupleTy
+tuple-ty-returns t c = record { is = λ kinds m. then-stop (dropped-by (plain (c .before .before .before .before .before .get-ty .ensures)) (c .before .before .onwards .ensures)) (c .enum-told .given .1) }
+
+-- src/lib.rt:257:5
+tuple-ty-star-tys-requires : (t : ℕ) → tuple-ty-lts.Need-star-tys-requires (
+  get-ty-below t,
+  get-ty.Post,
+  onwards-reads.Asked,
+  onwards-reads.Learnt,
+  star-tys-below t,
+  star-tys.Post,
+) (tuple-ty-at t) tuple-ty.Post
+tuple-ty-star-tys-requires t c κs = omega (arith, c .before .before .before .before .before .before .before .before .before .before .before .before .before .before .pre .0)
+
+-- src/lib.rt:247:1
+tuple-ty-same-length-2 : (t : ℕ) → tuple-ty-lts.Need-same-length-2 (
+  get-ty-below t,
+  get-ty.Post,
+  onwards-reads.Asked,
+  onwards-reads.Learnt,
+  star-tys-below t,
+  star-tys.Post,
+) (tuple-ty-at t) tuple-ty.Post
+tuple-ty-same-length-2 t c = c .before .before .star-tys .kept .1 .1 .1 .1 .0 ∙ c .before .before .before .before .before .before .before .before .before .before .get-ty .kept .1 .1 .1 .1 .0
+
+-- src/lib.rt:247:1
+tuple-ty-returns-2 : (t : ℕ) → tuple-ty-lts.Need-returns-2 (
+  get-ty-below t,
+  get-ty.Post,
+  onwards-reads.Asked,
+  onwards-reads.Learnt,
+  star-tys-below t,
+  star-tys.Post,
+) (tuple-ty-at t) tuple-ty.Post
+unfolding Ty.TupleTy
+tuple-ty-returns-2 t c = record { is = λ kinds m. then-done (dropped-by (plain (c .before .before .before .before .before .before .before .before .before .before .get-ty .ensures)) (c .before .before .before .before .before .before .before .onwards .ensures)) (c .before .before .before .before .before .r1 .given .1) (plain (c .before .before .star-tys .ensures)) }
+
 abbrev ty-args-Inv-loop : ty-args-lts.InvT-loop
 ty-args-Inv-loop text rec starts lens out₀ cfg n s₀ i₀ out s i =
     PlainTurn text rec starts lens (cfg .tab) (from (Layout.word ", ") (Layout.group (walks (cfg .left) .get-ty))) n s₀ out₀ i s out
@@ -1402,7 +1965,7 @@ ty-args-Inv-loop text rec starts lens out₀ cfg n s₀ i₀ out s i =
 abbrev ty-args-μ-loop : ty-args-lts.MeasureT-loop
 ty-args-μ-loop text rec starts lens out₀ cfg n s₀ i₀ out s i = n - i
 
--- src/lib.rt:67:27
+-- src/lib.rt:111:27
 ty-args-list-requires : (t : ℕ) → ty-args-lts.Need-list-requires (
   list-reads.Asked,
   list-reads.Learnt,
@@ -1417,7 +1980,7 @@ ty-args-list-requires : (t : ℕ) → ty-args-lts.Need-list-requires (
 ) (ty-args-at t) ty-args.Post ty-args-Inv-loop ty-args-μ-loop
 ty-args-list-requires t c κs = search needs
 
--- src/lib.rt:67:18
+-- src/lib.rt:111:18
 ty-args-enum-known-n : (t : ℕ) → ty-args-lts.Need-enum-known-n (
   list-reads.Asked,
   list-reads.Learnt,
@@ -1432,7 +1995,7 @@ ty-args-enum-known-n : (t : ℕ) → ty-args-lts.Need-enum-known-n (
 ) (ty-args-at t) ty-args.Post ty-args-Inv-loop ty-args-μ-loop
 ty-args-enum-known-n t c = search needs
 
--- src/lib.rt:68:9
+-- src/lib.rt:112:9
 ty-args-enum-told : (t : ℕ) → ty-args-lts.Need-enum-told (
   list-reads.Asked,
   list-reads.Learnt,
@@ -1447,7 +2010,7 @@ ty-args-enum-told : (t : ℕ) → ty-args-lts.Need-enum-told (
 ) (ty-args-at t) ty-args.Post ty-args-Inv-loop ty-args-μ-loop
 ty-args-enum-told t c = search needs
 
--- src/lib.rt:68:9
+-- src/lib.rt:112:9
 ty-args-stop-requires : (t : ℕ) → ty-args-lts.Need-stop-requires (
   list-reads.Asked,
   list-reads.Learnt,
@@ -1462,7 +2025,7 @@ ty-args-stop-requires : (t : ℕ) → ty-args-lts.Need-stop-requires (
 ) (ty-args-at t) ty-args.Post ty-args-Inv-loop ty-args-μ-loop
 ty-args-stop-requires t c κs = search needs
 
--- src/lib.rt:68:9
+-- src/lib.rt:112:9
 ty-args-returns : (t : ℕ) → ty-args-lts.Need-returns (
   list-reads.Asked,
   list-reads.Learnt,
@@ -1478,7 +2041,7 @@ ty-args-returns : (t : ℕ) → ty-args-lts.Need-returns (
 unfolding Ty.ty-args Helpers.sep
 ty-args-returns t c = record { is = λ kinds m. list-not (c .stop .ensures) (c .before .before .before .list .ensures) (c .before .enum-told .given .1) }
 
--- src/lib.rt:72:5
+-- src/lib.rt:116:5
 ty-args-loop-holds : (t : ℕ) → ty-args-lts.Need-loop-holds (
   list-reads.Asked,
   list-reads.Learnt,
@@ -1493,7 +2056,7 @@ ty-args-loop-holds : (t : ℕ) → ty-args-lts.Need-loop-holds (
 ) (ty-args-at t) ty-args.Post ty-args-Inv-loop ty-args-μ-loop
 ty-args-loop-holds t c = (omega arith, λ kinds m r o h. h, refl)
 
--- src/lib.rt:73:13
+-- src/lib.rt:117:13
 ty-args-between-requires : (t : ℕ) → ty-args-lts.Need-between-requires (
   list-reads.Asked,
   list-reads.Learnt,
@@ -1508,7 +2071,7 @@ ty-args-between-requires : (t : ℕ) → ty-args-lts.Need-between-requires (
 ) (ty-args-at t) ty-args.Post ty-args-Inv-loop ty-args-μ-loop
 ty-args-between-requires t c κs = search needs
 
--- src/lib.rt:74:13
+-- src/lib.rt:118:13
 ty-args-group-requires : (t : ℕ) → ty-args-lts.Need-group-requires (
   list-reads.Asked,
   list-reads.Learnt,
@@ -1523,7 +2086,7 @@ ty-args-group-requires : (t : ℕ) → ty-args-lts.Need-group-requires (
 ) (ty-args-at t) ty-args.Post ty-args-Inv-loop ty-args-μ-loop
 ty-args-group-requires t c κs = search needs
 
--- src/lib.rt:75:26
+-- src/lib.rt:119:26
 ty-args-enum-known-r2 : (t : ℕ) → ty-args-lts.Need-enum-known-r2 (
   list-reads.Asked,
   list-reads.Learnt,
@@ -1538,7 +2101,7 @@ ty-args-enum-known-r2 : (t : ℕ) → ty-args-lts.Need-enum-known-r2 (
 ) (ty-args-at t) ty-args.Post ty-args-Inv-loop ty-args-μ-loop
 ty-args-enum-known-r2 t c = search needs
 
--- src/lib.rt:76:13
+-- src/lib.rt:120:13
 ty-args-enum-told-2 : (t : ℕ) → ty-args-lts.Need-enum-told-2 (
   list-reads.Asked,
   list-reads.Learnt,
@@ -1553,7 +2116,7 @@ ty-args-enum-told-2 : (t : ℕ) → ty-args-lts.Need-enum-told-2 (
 ) (ty-args-at t) ty-args.Post ty-args-Inv-loop ty-args-μ-loop
 ty-args-enum-told-2 t c = search needs
 
--- src/lib.rt:76:13
+-- src/lib.rt:120:13
 ty-args-same-length : (t : ℕ) → ty-args-lts.Need-same-length (
   list-reads.Asked,
   list-reads.Learnt,
@@ -1568,7 +2131,7 @@ ty-args-same-length : (t : ℕ) → ty-args-lts.Need-same-length (
 ) (ty-args-at t) ty-args.Post ty-args-Inv-loop ty-args-μ-loop
 ty-args-same-length t c = c .before .before .before .before .before .between .kept .1 .0 ∙ c .before .before .before .before .before .before .before .before .loop .inv .2
 
--- src/lib.rt:76:13
+-- src/lib.rt:120:13
 ty-args-returns-2 : (t : ℕ) → ty-args-lts.Need-returns-2 (
   list-reads.Asked,
   list-reads.Learnt,
@@ -1584,7 +2147,7 @@ ty-args-returns-2 : (t : ℕ) → ty-args-lts.Need-returns-2 (
 unfolding Ty.ty-args Helpers.sep
 ty-args-returns-2 t c = record { is = λ kinds m. by-same (list-is (c .before .before .before .before .before .before .before .before .before .before .before .before .list .ensures) (c .before .before .before .before .before .before .before .before .before .before .n .given .1)) (by-same (items-all _ _ _) (c .before .before .before .before .before .before .before .before .loop .inv .1 kinds m _ _ (from-more _ _ (c .before .before .before .before .before .before .before .loop-test .taken) (then-sure (c .before .before .before .before .before .between .ensures) (then-stop (group-not (c .before .before .group .ensures) (c .enum-told2 .given .1)) (c .enum-told2 .given .1)))))) }
 
--- src/lib.rt:78:13
+-- src/lib.rt:122:13
 ty-args-get-ty-requires : (t : ℕ) → ty-args-lts.Need-get-ty-requires (
   list-reads.Asked,
   list-reads.Learnt,
@@ -1599,7 +2162,7 @@ ty-args-get-ty-requires : (t : ℕ) → ty-args-lts.Need-get-ty-requires (
 ) (ty-args-at t) ty-args.Post ty-args-Inv-loop ty-args-μ-loop
 ty-args-get-ty-requires t c κs = omega (arith, c .before .before .before .before .before .before .before .before .before .before .before .before .before .before .before .before .before .before .before .before .pre .0)
 
--- src/lib.rt:79:26
+-- src/lib.rt:123:26
 ty-args-enum-known-r3 : (t : ℕ) → ty-args-lts.Need-enum-known-r3 (
   list-reads.Asked,
   list-reads.Learnt,
@@ -1614,7 +2177,7 @@ ty-args-enum-known-r3 : (t : ℕ) → ty-args-lts.Need-enum-known-r3 (
 ) (ty-args-at t) ty-args.Post ty-args-Inv-loop ty-args-μ-loop
 ty-args-enum-known-r3 t c = search needs
 
--- src/lib.rt:80:13
+-- src/lib.rt:124:13
 ty-args-enum-told-3 : (t : ℕ) → ty-args-lts.Need-enum-told-3 (
   list-reads.Asked,
   list-reads.Learnt,
@@ -1629,7 +2192,7 @@ ty-args-enum-told-3 : (t : ℕ) → ty-args-lts.Need-enum-told-3 (
 ) (ty-args-at t) ty-args.Post ty-args-Inv-loop ty-args-μ-loop
 ty-args-enum-told-3 t c = search needs
 
--- src/lib.rt:80:13
+-- src/lib.rt:124:13
 ty-args-same-length-2 : (t : ℕ) → ty-args-lts.Need-same-length-2 (
   list-reads.Asked,
   list-reads.Learnt,
@@ -1644,7 +2207,7 @@ ty-args-same-length-2 : (t : ℕ) → ty-args-lts.Need-same-length-2 (
 ) (ty-args-at t) ty-args.Post ty-args-Inv-loop ty-args-μ-loop
 ty-args-same-length-2 t c = c .before .before .before .before .get-ty .kept .1 .1 .1 .1 .0 ∙ c .before .before .before .before .before .before .before .before .before .before .before .before .between .kept .1 .0 ∙ c .before .before .before .before .before .before .before .before .before .before .before .before .before .before .before .loop .inv .2
 
--- src/lib.rt:80:13
+-- src/lib.rt:124:13
 ty-args-returns-3 : (t : ℕ) → ty-args-lts.Need-returns-3 (
   list-reads.Asked,
   list-reads.Learnt,
@@ -1660,7 +2223,7 @@ ty-args-returns-3 : (t : ℕ) → ty-args-lts.Need-returns-3 (
 unfolding Ty.ty-args Helpers.sep
 ty-args-returns-3 t c = record { is = λ kinds m. by-same (list-is (c .before .before .before .before .before .before .before .before .before .before .before .before .before .before .before .before .before .before .before .list .ensures) (c .before .before .before .before .before .before .before .before .before .before .before .before .before .before .before .before .before .n .given .1)) (by-same (items-all _ _ _) (c .before .before .before .before .before .before .before .before .before .before .before .before .before .before .before .loop .inv .1 kinds m _ _ (from-more _ _ (c .before .before .before .before .before .before .before .before .before .before .before .before .before .before .loop-test .taken) (then-sure (c .before .before .before .before .before .before .before .before .before .before .before .before .between .ensures) (by-same (first-same (group-is (c .before .before .before .before .before .before .before .before .before .group .ensures) (c .before .before .before .before .before .before .before .r2 .given .1))) (then-stop (plain (c .before .before .before .before .get-ty .ensures)) (c .enum-told3 .given .1))))))) }
 
--- src/lib.rt:83:9
+-- src/lib.rt:127:9
 ty-args-add-i : (t : ℕ) → ty-args-lts.Need-add-i (
   list-reads.Asked,
   list-reads.Learnt,
@@ -1675,7 +2238,7 @@ ty-args-add-i : (t : ℕ) → ty-args-lts.Need-add-i (
 ) (ty-args-at t) ty-args.Post ty-args-Inv-loop ty-args-μ-loop
 ty-args-add-i t c = omega (arith, c .before .before .before .before .before .before .before .before .before .before .before .before .before .before .before .loop-test .taken, c .before .before .before .before .before .before .before .before .before .before .before .before .before .before .before .before .before .known-told)
 
--- src/lib.rt:72:5
+-- src/lib.rt:116:5
 ty-args-loop-less : (t : ℕ) → ty-args-lts.Need-loop-less (
   list-reads.Asked,
   list-reads.Learnt,
@@ -1690,7 +2253,7 @@ ty-args-loop-less : (t : ℕ) → ty-args-lts.Need-loop-less (
 ) (ty-args-at t) ty-args.Post ty-args-Inv-loop ty-args-μ-loop
 ty-args-loop-less t c = omega arith
 
--- src/lib.rt:72:5
+-- src/lib.rt:116:5
 ty-args-loop-again : (t : ℕ) → ty-args-lts.Need-loop-again (
   list-reads.Asked,
   list-reads.Learnt,
@@ -1706,7 +2269,7 @@ ty-args-loop-again : (t : ℕ) → ty-args-lts.Need-loop-again (
 unfolding Ty.ty-args Helpers.sep
 ty-args-loop-again t c = (omega (arith, c .before .before .before .before .before .before .before .before .before .before .before .before .before .before .before .before .loop .inv .0), λ kinds m r o h. c .before .before .before .before .before .before .before .before .before .before .before .before .before .before .before .before .loop .inv .1 kinds m r o (from-more _ _ (c .before .before .before .before .before .before .before .before .before .before .before .before .before .before .before .loop-test .taken) (then-sure (c .before .before .before .before .before .before .before .before .before .before .before .before .before .between .ensures) (by-same (first-same (group-is (c .before .before .before .before .before .before .before .before .before .before .group .ensures) (c .before .before .before .before .before .before .before .before .r2 .given .1))) (then-done (plain (c .before .before .before .before .before .get-ty .ensures)) (c .before .r3 .given .1) h)))), c .before .before .before .before .before .get-ty .kept .1 .1 .1 .1 .0 ∙ c .before .before .before .before .before .before .before .before .before .before .before .before .before .between .kept .1 .0 ∙ c .before .before .before .before .before .before .before .before .before .before .before .before .before .before .before .before .loop .inv .2)
 
--- src/lib.rt:64:1
+-- src/lib.rt:100:1
 ty-args-same-length-3 : (t : ℕ) → ty-args-lts.Need-same-length-3 (
   list-reads.Asked,
   list-reads.Learnt,
@@ -1721,7 +2284,7 @@ ty-args-same-length-3 : (t : ℕ) → ty-args-lts.Need-same-length-3 (
 ) (ty-args-at t) ty-args.Post ty-args-Inv-loop ty-args-μ-loop
 ty-args-same-length-3 t c = c .before .loop .inv .2
 
--- src/lib.rt:64:1
+-- src/lib.rt:100:1
 ty-args-returns-4 : (t : ℕ) → ty-args-lts.Need-returns-4 (
   list-reads.Asked,
   list-reads.Learnt,
@@ -1737,7 +2300,7 @@ ty-args-returns-4 : (t : ℕ) → ty-args-lts.Need-returns-4 (
 unfolding Ty.ty-args Helpers.sep
 ty-args-returns-4 t c = record { is = λ kinds m. by-same (list-is (c .before .before .before .before .before .list .ensures) (c .before .before .before .n .given .1)) (by-same (items-all _ _ _) (c .before .loop .inv .1 kinds m _ _ (from-none _ _ (c .loop-test .left)))) }
 
--- src/lib.rt:18:9
+-- src/lib.rt:38:9
 ty-row-group-requires : (t : ℕ) → ty-row-lts.Need-group-requires (
   group-reads.Asked,
   group-reads.Learnt,
@@ -1750,7 +2313,7 @@ ty-row-group-requires : (t : ℕ) → ty-row-lts.Need-group-requires (
 ) (ty-row-at t) ty-row.Post
 ty-row-group-requires t c κs = search needs
 
--- src/lib.rt:19:22
+-- src/lib.rt:39:22
 ty-row-enum-known-r1 : (t : ℕ) → ty-row-lts.Need-enum-known-r1 (
   group-reads.Asked,
   group-reads.Learnt,
@@ -1763,7 +2326,7 @@ ty-row-enum-known-r1 : (t : ℕ) → ty-row-lts.Need-enum-known-r1 (
 ) (ty-row-at t) ty-row.Post
 ty-row-enum-known-r1 t c = search needs
 
--- src/lib.rt:20:9
+-- src/lib.rt:40:9
 ty-row-enum-told : (t : ℕ) → ty-row-lts.Need-enum-told (
   group-reads.Asked,
   group-reads.Learnt,
@@ -1776,7 +2339,7 @@ ty-row-enum-told : (t : ℕ) → ty-row-lts.Need-enum-told (
 ) (ty-row-at t) ty-row.Post
 ty-row-enum-told t c = search needs
 
--- src/lib.rt:20:9
+-- src/lib.rt:40:9
 ty-row-returns : (t : ℕ) → ty-row-lts.Need-returns (
   group-reads.Asked,
   group-reads.Learnt,
@@ -1790,7 +2353,7 @@ ty-row-returns : (t : ℕ) → ty-row-lts.Need-returns (
 unfolding Ty.ty-row
 ty-row-returns t c = record { is = λ kinds m. group-not (c .before .before .group .ensures) (c .enum-told .given .1) }
 
--- src/lib.rt:22:9
+-- src/lib.rt:42:9
 ty-row-text-of-requires : (t : ℕ) → ty-row-lts.Need-text-of-requires (
   group-reads.Asked,
   group-reads.Learnt,
@@ -1803,7 +2366,7 @@ ty-row-text-of-requires : (t : ℕ) → ty-row-lts.Need-text-of-requires (
 ) (ty-row-at t) ty-row.Post
 ty-row-text-of-requires t c κs = search needs
 
--- src/lib.rt:23:22
+-- src/lib.rt:43:22
 ty-row-enum-known-r2 : (t : ℕ) → ty-row-lts.Need-enum-known-r2 (
   group-reads.Asked,
   group-reads.Learnt,
@@ -1816,7 +2379,7 @@ ty-row-enum-known-r2 : (t : ℕ) → ty-row-lts.Need-enum-known-r2 (
 ) (ty-row-at t) ty-row.Post
 ty-row-enum-known-r2 t c = search needs
 
--- src/lib.rt:24:9
+-- src/lib.rt:44:9
 ty-row-enum-told-2 : (t : ℕ) → ty-row-lts.Need-enum-told-2 (
   group-reads.Asked,
   group-reads.Learnt,
@@ -1829,7 +2392,7 @@ ty-row-enum-told-2 : (t : ℕ) → ty-row-lts.Need-enum-told-2 (
 ) (ty-row-at t) ty-row.Post
 ty-row-enum-told-2 t c = search needs
 
--- src/lib.rt:24:9
+-- src/lib.rt:44:9
 ty-row-same-length : (t : ℕ) → ty-row-lts.Need-same-length (
   group-reads.Asked,
   group-reads.Learnt,
@@ -1842,7 +2405,7 @@ ty-row-same-length : (t : ℕ) → ty-row-lts.Need-same-length (
 ) (ty-row-at t) ty-row.Post
 ty-row-same-length t c = c .before .before .before .before .text-of .kept .1 .1 .1 .1 .0
 
--- src/lib.rt:24:9
+-- src/lib.rt:44:9
 ty-row-returns-2 : (t : ℕ) → ty-row-lts.Need-returns-2 (
   group-reads.Asked,
   group-reads.Learnt,
@@ -1856,7 +2419,7 @@ ty-row-returns-2 : (t : ℕ) → ty-row-lts.Need-returns-2 (
 unfolding Ty.ty-row
 ty-row-returns-2 t c = record { is = λ kinds m. by-same (group-is (c .before .before .before .before .before .before .before .before .before .group .ensures) (c .before .before .before .before .before .before .before .r1 .given .1)) (then-stop (plain (c .before .before .before .before .text-of .ensures)) (c .enum-told2 .given .1)) }
 
--- src/lib.rt:26:9
+-- src/lib.rt:46:9
 ty-row-word-requires : (t : ℕ) → ty-row-lts.Need-word-requires (
   group-reads.Asked,
   group-reads.Learnt,
@@ -1869,7 +2432,7 @@ ty-row-word-requires : (t : ℕ) → ty-row-lts.Need-word-requires (
 ) (ty-row-at t) ty-row.Post
 ty-row-word-requires t c κs = search needs
 
--- src/lib.rt:27:5
+-- src/lib.rt:47:5
 ty-row-get-ty-requires : (t : ℕ) → ty-row-lts.Need-get-ty-requires (
   group-reads.Asked,
   group-reads.Learnt,
@@ -1882,7 +2445,7 @@ ty-row-get-ty-requires : (t : ℕ) → ty-row-lts.Need-get-ty-requires (
 ) (ty-row-at t) ty-row.Post
 ty-row-get-ty-requires t c κs = omega (arith, c .before .before .before .before .before .before .before .before .before .before .before .before .before .before .before .before .before .before .before .before .before .pre .0)
 
--- src/lib.rt:15:1
+-- src/lib.rt:27:1
 ty-row-same-length-2 : (t : ℕ) → ty-row-lts.Need-same-length-2 (
   group-reads.Asked,
   group-reads.Learnt,
@@ -1895,7 +2458,7 @@ ty-row-same-length-2 : (t : ℕ) → ty-row-lts.Need-same-length-2 (
 ) (ty-row-at t) ty-row.Post
 ty-row-same-length-2 t c = c .before .before .get-ty .kept .1 .1 .1 .1 .0 ∙ c .before .before .before .before .before .before .word .kept .1 .0 ∙ c .before .before .before .before .before .before .before .before .before .before .before .before .before .text-of .kept .1 .1 .1 .1 .0
 
--- src/lib.rt:15:1
+-- src/lib.rt:27:1
 ty-row-returns-3 : (t : ℕ) → ty-row-lts.Need-returns-3 (
   group-reads.Asked,
   group-reads.Learnt,
@@ -1916,7 +2479,7 @@ ty-rows-Inv-loop text rec starts lens out₀ cfg n s₀ i₀ out s i =
 abbrev ty-rows-μ-loop : ty-rows-lts.MeasureT-loop
 ty-rows-μ-loop text rec starts lens out₀ cfg n s₀ i₀ out s i = n - i
 
--- src/lib.rt:34:27
+-- src/lib.rt:62:27
 ty-rows-list-requires : (t : ℕ) → ty-rows-lts.Need-list-requires (
   list-reads.Asked,
   list-reads.Learnt,
@@ -1929,7 +2492,7 @@ ty-rows-list-requires : (t : ℕ) → ty-rows-lts.Need-list-requires (
 ) (ty-rows-at t) ty-rows.Post ty-rows-Inv-loop ty-rows-μ-loop
 ty-rows-list-requires t c κs = search needs
 
--- src/lib.rt:34:18
+-- src/lib.rt:62:18
 ty-rows-enum-known-n : (t : ℕ) → ty-rows-lts.Need-enum-known-n (
   list-reads.Asked,
   list-reads.Learnt,
@@ -1942,7 +2505,7 @@ ty-rows-enum-known-n : (t : ℕ) → ty-rows-lts.Need-enum-known-n (
 ) (ty-rows-at t) ty-rows.Post ty-rows-Inv-loop ty-rows-μ-loop
 ty-rows-enum-known-n t c = search needs
 
--- src/lib.rt:35:9
+-- src/lib.rt:63:9
 ty-rows-enum-told : (t : ℕ) → ty-rows-lts.Need-enum-told (
   list-reads.Asked,
   list-reads.Learnt,
@@ -1955,7 +2518,7 @@ ty-rows-enum-told : (t : ℕ) → ty-rows-lts.Need-enum-told (
 ) (ty-rows-at t) ty-rows.Post ty-rows-Inv-loop ty-rows-μ-loop
 ty-rows-enum-told t c = search needs
 
--- src/lib.rt:35:9
+-- src/lib.rt:63:9
 ty-rows-stop-requires : (t : ℕ) → ty-rows-lts.Need-stop-requires (
   list-reads.Asked,
   list-reads.Learnt,
@@ -1968,7 +2531,7 @@ ty-rows-stop-requires : (t : ℕ) → ty-rows-lts.Need-stop-requires (
 ) (ty-rows-at t) ty-rows.Post ty-rows-Inv-loop ty-rows-μ-loop
 ty-rows-stop-requires t c κs = search needs
 
--- src/lib.rt:35:9
+-- src/lib.rt:63:9
 ty-rows-returns : (t : ℕ) → ty-rows-lts.Need-returns (
   list-reads.Asked,
   list-reads.Learnt,
@@ -1982,7 +2545,7 @@ ty-rows-returns : (t : ℕ) → ty-rows-lts.Need-returns (
 unfolding Ty.ty-rows Helpers.sep
 ty-rows-returns t c = record { is = λ kinds m. list-not (c .stop .ensures) (c .before .before .before .list .ensures) (c .before .enum-told .given .1) }
 
--- src/lib.rt:39:5
+-- src/lib.rt:67:5
 ty-rows-loop-holds : (t : ℕ) → ty-rows-lts.Need-loop-holds (
   list-reads.Asked,
   list-reads.Learnt,
@@ -1995,7 +2558,7 @@ ty-rows-loop-holds : (t : ℕ) → ty-rows-lts.Need-loop-holds (
 ) (ty-rows-at t) ty-rows.Post ty-rows-Inv-loop ty-rows-μ-loop
 ty-rows-loop-holds t c = (omega arith, λ kinds m r o h. h, refl)
 
--- src/lib.rt:40:13
+-- src/lib.rt:68:13
 ty-rows-between-requires : (t : ℕ) → ty-rows-lts.Need-between-requires (
   list-reads.Asked,
   list-reads.Learnt,
@@ -2008,7 +2571,7 @@ ty-rows-between-requires : (t : ℕ) → ty-rows-lts.Need-between-requires (
 ) (ty-rows-at t) ty-rows.Post ty-rows-Inv-loop ty-rows-μ-loop
 ty-rows-between-requires t c κs = search needs
 
--- src/lib.rt:41:13
+-- src/lib.rt:69:13
 ty-rows-ty-row-requires : (t : ℕ) → ty-rows-lts.Need-ty-row-requires (
   list-reads.Asked,
   list-reads.Learnt,
@@ -2021,7 +2584,7 @@ ty-rows-ty-row-requires : (t : ℕ) → ty-rows-lts.Need-ty-row-requires (
 ) (ty-rows-at t) ty-rows.Post ty-rows-Inv-loop ty-rows-μ-loop
 ty-rows-ty-row-requires t c κs = omega (arith, c .before .before .before .before .before .before .before .before .before .before .before .before .before .before .before .before .pre .0)
 
--- src/lib.rt:42:26
+-- src/lib.rt:70:26
 ty-rows-enum-known-r2 : (t : ℕ) → ty-rows-lts.Need-enum-known-r2 (
   list-reads.Asked,
   list-reads.Learnt,
@@ -2034,7 +2597,7 @@ ty-rows-enum-known-r2 : (t : ℕ) → ty-rows-lts.Need-enum-known-r2 (
 ) (ty-rows-at t) ty-rows.Post ty-rows-Inv-loop ty-rows-μ-loop
 ty-rows-enum-known-r2 t c = search needs
 
--- src/lib.rt:43:13
+-- src/lib.rt:71:13
 ty-rows-enum-told-2 : (t : ℕ) → ty-rows-lts.Need-enum-told-2 (
   list-reads.Asked,
   list-reads.Learnt,
@@ -2047,7 +2610,7 @@ ty-rows-enum-told-2 : (t : ℕ) → ty-rows-lts.Need-enum-told-2 (
 ) (ty-rows-at t) ty-rows.Post ty-rows-Inv-loop ty-rows-μ-loop
 ty-rows-enum-told-2 t c = search needs
 
--- src/lib.rt:43:13
+-- src/lib.rt:71:13
 ty-rows-same-length : (t : ℕ) → ty-rows-lts.Need-same-length (
   list-reads.Asked,
   list-reads.Learnt,
@@ -2060,7 +2623,7 @@ ty-rows-same-length : (t : ℕ) → ty-rows-lts.Need-same-length (
 ) (ty-rows-at t) ty-rows.Post ty-rows-Inv-loop ty-rows-μ-loop
 ty-rows-same-length t c = c .before .before .before .before .ty-row .kept .1 .1 .1 .1 .0 ∙ c .before .before .before .before .before .before .before .before .between .kept .1 .0 ∙ c .before .before .before .before .before .before .before .before .before .before .before .loop .inv .2
 
--- src/lib.rt:43:13
+-- src/lib.rt:71:13
 ty-rows-returns-2 : (t : ℕ) → ty-rows-lts.Need-returns-2 (
   list-reads.Asked,
   list-reads.Learnt,
@@ -2074,7 +2637,7 @@ ty-rows-returns-2 : (t : ℕ) → ty-rows-lts.Need-returns-2 (
 unfolding Ty.ty-rows Helpers.sep
 ty-rows-returns-2 t c = record { is = λ kinds m. by-same (list-is (c .before .before .before .before .before .before .before .before .before .before .before .before .before .before .before .list .ensures) (c .before .before .before .before .before .before .before .before .before .before .before .before .before .n .given .1)) (by-same (items-all _ _ _) (c .before .before .before .before .before .before .before .before .before .before .before .loop .inv .1 kinds m _ _ (from-more _ _ (c .before .before .before .before .before .before .before .before .before .before .loop-test .taken) (then-sure (c .before .before .before .before .before .before .before .before .between .ensures) (then-stop (plain (c .before .before .before .before .ty-row .ensures)) (c .enum-told2 .given .1)))))) }
 
--- src/lib.rt:46:9
+-- src/lib.rt:74:9
 ty-rows-add-i : (t : ℕ) → ty-rows-lts.Need-add-i (
   list-reads.Asked,
   list-reads.Learnt,
@@ -2087,7 +2650,7 @@ ty-rows-add-i : (t : ℕ) → ty-rows-lts.Need-add-i (
 ) (ty-rows-at t) ty-rows.Post ty-rows-Inv-loop ty-rows-μ-loop
 ty-rows-add-i t c = omega (arith, c .before .before .before .before .before .before .before .before .before .before .before .loop-test .taken, c .before .before .before .before .before .before .before .before .before .before .before .before .before .known-told)
 
--- src/lib.rt:39:5
+-- src/lib.rt:67:5
 ty-rows-loop-less : (t : ℕ) → ty-rows-lts.Need-loop-less (
   list-reads.Asked,
   list-reads.Learnt,
@@ -2100,7 +2663,7 @@ ty-rows-loop-less : (t : ℕ) → ty-rows-lts.Need-loop-less (
 ) (ty-rows-at t) ty-rows.Post ty-rows-Inv-loop ty-rows-μ-loop
 ty-rows-loop-less t c = omega arith
 
--- src/lib.rt:39:5
+-- src/lib.rt:67:5
 ty-rows-loop-again : (t : ℕ) → ty-rows-lts.Need-loop-again (
   list-reads.Asked,
   list-reads.Learnt,
@@ -2114,7 +2677,7 @@ ty-rows-loop-again : (t : ℕ) → ty-rows-lts.Need-loop-again (
 unfolding Ty.ty-rows Helpers.sep
 ty-rows-loop-again t c = (omega (arith, c .before .before .before .before .before .before .before .before .before .before .before .before .loop .inv .0), λ kinds m r o h. c .before .before .before .before .before .before .before .before .before .before .before .before .loop .inv .1 kinds m r o (from-more _ _ (c .before .before .before .before .before .before .before .before .before .before .before .loop-test .taken) (then-sure (c .before .before .before .before .before .before .before .before .before .between .ensures) (then-done (plain (c .before .before .before .before .before .ty-row .ensures)) (c .before .r2 .given .1) h))), c .before .before .before .before .before .ty-row .kept .1 .1 .1 .1 .0 ∙ c .before .before .before .before .before .before .before .before .before .between .kept .1 .0 ∙ c .before .before .before .before .before .before .before .before .before .before .before .before .loop .inv .2)
 
--- src/lib.rt:31:1
+-- src/lib.rt:51:1
 ty-rows-same-length-2 : (t : ℕ) → ty-rows-lts.Need-same-length-2 (
   list-reads.Asked,
   list-reads.Learnt,
@@ -2127,7 +2690,7 @@ ty-rows-same-length-2 : (t : ℕ) → ty-rows-lts.Need-same-length-2 (
 ) (ty-rows-at t) ty-rows.Post ty-rows-Inv-loop ty-rows-μ-loop
 ty-rows-same-length-2 t c = c .before .loop .inv .2
 
--- src/lib.rt:31:1
+-- src/lib.rt:51:1
 ty-rows-returns-3 : (t : ℕ) → ty-rows-lts.Need-returns-3 (
   list-reads.Asked,
   list-reads.Learnt,
@@ -2141,7 +2704,7 @@ ty-rows-returns-3 : (t : ℕ) → ty-rows-lts.Need-returns-3 (
 unfolding Ty.ty-rows Helpers.sep
 ty-rows-returns-3 t c = record { is = λ kinds m. by-same (list-is (c .before .before .before .before .before .list .ensures) (c .before .before .before .n .given .1)) (by-same (items-all _ _ _) (c .before .loop .inv .1 kinds m _ _ (from-none _ _ (c .loop-test .left)))) }
 
--- src/lib.rt:92:9
+-- src/lib.rt:144:9
 ty-seq-absent-requires : (t : ℕ) → ty-seq-lts.Need-absent-requires (
   absent-reads.Asked,
   absent-reads.Learnt,
@@ -2150,7 +2713,7 @@ ty-seq-absent-requires : (t : ℕ) → ty-seq-lts.Need-absent-requires (
 ) (ty-seq-at t) ty-seq.Post
 ty-seq-absent-requires t c κs = search needs
 
--- src/lib.rt:94:20
+-- src/lib.rt:146:20
 ty-seq-enum-known-gone : (t : ℕ) → ty-seq-lts.Need-enum-known-gone (
   absent-reads.Asked,
   absent-reads.Learnt,
@@ -2159,7 +2722,7 @@ ty-seq-enum-known-gone : (t : ℕ) → ty-seq-lts.Need-enum-known-gone (
 ) (ty-seq-at t) ty-seq.Post
 ty-seq-enum-known-gone t c = search needs
 
--- src/lib.rt:95:62
+-- src/lib.rt:147:62
 ty-seq-enum-told : (t : ℕ) → ty-seq-lts.Need-enum-told (
   absent-reads.Asked,
   absent-reads.Learnt,
@@ -2168,7 +2731,7 @@ ty-seq-enum-told : (t : ℕ) → ty-seq-lts.Need-enum-told (
 ) (ty-seq-at t) ty-seq.Post
 ty-seq-enum-told t c = search needs
 
--- src/lib.rt:95:24
+-- src/lib.rt:147:24
 ty-seq-ty-seq-there-requires : (t : ℕ) → ty-seq-lts.Need-ty-seq-there-requires (
   absent-reads.Asked,
   absent-reads.Learnt,
@@ -2177,7 +2740,7 @@ ty-seq-ty-seq-there-requires : (t : ℕ) → ty-seq-lts.Need-ty-seq-there-requir
 ) (ty-seq-at t) ty-seq.Post
 ty-seq-ty-seq-there-requires t c κs = omega (arith, c .before .before .before .before .before .before .before .before .before .pre .0)
 
--- src/lib.rt:89:1
+-- src/lib.rt:133:1
 ty-seq-returns : (t : ℕ) → ty-seq-lts.Need-returns (
   absent-reads.Asked,
   absent-reads.Learnt,
@@ -2187,7 +2750,7 @@ ty-seq-returns : (t : ℕ) → ty-seq-lts.Need-returns (
 unfolding Ty.ty-seq
 ty-seq-returns t c = record { is = λ kinds m. maybe-past (c .before .before .before .absent .ensures) (c .before .gone .given .1) }
 
--- src/lib.rt:89:1
+-- src/lib.rt:133:1
 ty-seq-same-length : (t : ℕ) → ty-seq-lts.Need-same-length (
   absent-reads.Asked,
   absent-reads.Learnt,
@@ -2196,7 +2759,7 @@ ty-seq-same-length : (t : ℕ) → ty-seq-lts.Need-same-length (
 ) (ty-seq-at t) ty-seq.Post
 ty-seq-same-length t c = c .before .before .ty-seq-there .kept .1 .1 .1 .1 .0
 
--- src/lib.rt:89:1
+-- src/lib.rt:133:1
 ty-seq-returns-2 : (t : ℕ) → ty-seq-lts.Need-returns-2 (
   absent-reads.Asked,
   absent-reads.Learnt,
@@ -2206,7 +2769,7 @@ ty-seq-returns-2 : (t : ℕ) → ty-seq-lts.Need-returns-2 (
 unfolding Ty.ty-seq
 ty-seq-returns-2 t c = record { is = λ kinds m. by-same (maybe-there (c .before .before .before .before .before .before .absent .ensures) (c .before .before .before .before .enum-told .given .1)) (plain (c .before .before .ty-seq-there .ensures)) }
 
--- src/lib.rt:103:9
+-- src/lib.rt:163:9
 ty-seq-there-group-requires : (t : ℕ) → ty-seq-there-lts.Need-group-requires (
   group-reads.Asked,
   group-reads.Learnt,
@@ -2217,7 +2780,7 @@ ty-seq-there-group-requires : (t : ℕ) → ty-seq-there-lts.Need-group-requires
 ) (ty-seq-there-at t) ty-seq-there.Post
 ty-seq-there-group-requires t c κs = search needs
 
--- src/lib.rt:104:22
+-- src/lib.rt:164:22
 ty-seq-there-enum-known-r1 : (t : ℕ) → ty-seq-there-lts.Need-enum-known-r1 (
   group-reads.Asked,
   group-reads.Learnt,
@@ -2228,7 +2791,7 @@ ty-seq-there-enum-known-r1 : (t : ℕ) → ty-seq-there-lts.Need-enum-known-r1 (
 ) (ty-seq-there-at t) ty-seq-there.Post
 ty-seq-there-enum-known-r1 t c = search needs
 
--- src/lib.rt:105:9
+-- src/lib.rt:165:9
 ty-seq-there-enum-told : (t : ℕ) → ty-seq-there-lts.Need-enum-told (
   group-reads.Asked,
   group-reads.Learnt,
@@ -2239,7 +2802,7 @@ ty-seq-there-enum-told : (t : ℕ) → ty-seq-there-lts.Need-enum-told (
 ) (ty-seq-there-at t) ty-seq-there.Post
 ty-seq-there-enum-told t c = search needs
 
--- src/lib.rt:105:9
+-- src/lib.rt:165:9
 ty-seq-there-returns : (t : ℕ) → ty-seq-there-lts.Need-returns (
   group-reads.Asked,
   group-reads.Learnt,
@@ -2251,7 +2814,7 @@ ty-seq-there-returns : (t : ℕ) → ty-seq-there-lts.Need-returns (
 unfolding Ty.ty-seq-there
 ty-seq-there-returns t c = record { is = λ kinds m. group-not (c .before .before .group .ensures) (c .enum-told .given .1) }
 
--- src/lib.rt:107:9
+-- src/lib.rt:167:9
 ty-seq-there-word-requires : (t : ℕ) → ty-seq-there-lts.Need-word-requires (
   group-reads.Asked,
   group-reads.Learnt,
@@ -2262,7 +2825,7 @@ ty-seq-there-word-requires : (t : ℕ) → ty-seq-there-lts.Need-word-requires (
 ) (ty-seq-there-at t) ty-seq-there.Post
 ty-seq-there-word-requires t c κs = search needs
 
--- src/lib.rt:108:9
+-- src/lib.rt:168:9
 ty-seq-there-ty-args-requires : (t : ℕ) → ty-seq-there-lts.Need-ty-args-requires (
   group-reads.Asked,
   group-reads.Learnt,
@@ -2273,7 +2836,7 @@ ty-seq-there-ty-args-requires : (t : ℕ) → ty-seq-there-lts.Need-ty-args-requ
 ) (ty-seq-there-at t) ty-seq-there.Post
 ty-seq-there-ty-args-requires t c κs = omega (arith, c .before .before .before .before .before .before .before .before .before .before .before .before .before .before .pre .0)
 
--- src/lib.rt:109:22
+-- src/lib.rt:169:22
 ty-seq-there-enum-known-r3 : (t : ℕ) → ty-seq-there-lts.Need-enum-known-r3 (
   group-reads.Asked,
   group-reads.Learnt,
@@ -2284,7 +2847,7 @@ ty-seq-there-enum-known-r3 : (t : ℕ) → ty-seq-there-lts.Need-enum-known-r3 (
 ) (ty-seq-there-at t) ty-seq-there.Post
 ty-seq-there-enum-known-r3 t c = search needs
 
--- src/lib.rt:110:9
+-- src/lib.rt:170:9
 ty-seq-there-enum-told-2 : (t : ℕ) → ty-seq-there-lts.Need-enum-told-2 (
   group-reads.Asked,
   group-reads.Learnt,
@@ -2295,7 +2858,7 @@ ty-seq-there-enum-told-2 : (t : ℕ) → ty-seq-there-lts.Need-enum-told-2 (
 ) (ty-seq-there-at t) ty-seq-there.Post
 ty-seq-there-enum-told-2 t c = search needs
 
--- src/lib.rt:110:9
+-- src/lib.rt:170:9
 ty-seq-there-same-length : (t : ℕ) → ty-seq-there-lts.Need-same-length (
   group-reads.Asked,
   group-reads.Learnt,
@@ -2306,7 +2869,7 @@ ty-seq-there-same-length : (t : ℕ) → ty-seq-there-lts.Need-same-length (
 ) (ty-seq-there-at t) ty-seq-there.Post
 ty-seq-there-same-length t c = c .before .before .before .before .ty-args .kept .1 .1 .1 .1 .0 ∙ c .before .before .before .before .before .before .before .before .word .kept .1 .0
 
--- src/lib.rt:110:9
+-- src/lib.rt:170:9
 ty-seq-there-returns-2 : (t : ℕ) → ty-seq-there-lts.Need-returns-2 (
   group-reads.Asked,
   group-reads.Learnt,
@@ -2318,7 +2881,7 @@ ty-seq-there-returns-2 : (t : ℕ) → ty-seq-there-lts.Need-returns-2 (
 unfolding Ty.ty-seq-there
 ty-seq-there-returns-2 t c = record { is = λ kinds m. by-same (group-is (c .before .before .before .before .before .before .before .before .before .before .before .before .before .group .ensures) (c .before .before .before .before .before .before .before .before .before .before .before .r1 .given .1)) (then-sure (c .before .before .before .before .before .before .before .before .word .ensures) (then-stop (plain (c .before .before .before .before .ty-args .ensures)) (c .enum-told2 .given .1))) }
 
--- src/lib.rt:112:18
+-- src/lib.rt:172:18
 ty-seq-there-word-requires-2 : (t : ℕ) → ty-seq-there-lts.Need-word-requires-2 (
   group-reads.Asked,
   group-reads.Learnt,
@@ -2329,7 +2892,7 @@ ty-seq-there-word-requires-2 : (t : ℕ) → ty-seq-there-lts.Need-word-requires
 ) (ty-seq-there-at t) ty-seq-there.Post
 ty-seq-there-word-requires-2 t c κs = search needs
 
--- src/lib.rt:100:1
+-- src/lib.rt:152:1
 ty-seq-there-same-length-2 : (t : ℕ) → ty-seq-there-lts.Need-same-length-2 (
   group-reads.Asked,
   group-reads.Learnt,
@@ -2340,7 +2903,7 @@ ty-seq-there-same-length-2 : (t : ℕ) → ty-seq-there-lts.Need-same-length-2 (
 ) (ty-seq-there-at t) ty-seq-there.Post
 ty-seq-there-same-length-2 t c = c .before .before .word2 .kept .1 .0 ∙ c .before .before .before .before .before .before .before .before .before .ty-args .kept .1 .1 .1 .1 .0 ∙ c .before .before .before .before .before .before .before .before .before .before .before .before .before .word .kept .1 .0
 
--- src/lib.rt:100:1
+-- src/lib.rt:152:1
 ty-seq-there-returns-3 : (t : ℕ) → ty-seq-there-lts.Need-returns-3 (
   group-reads.Asked,
   group-reads.Learnt,
@@ -2352,9 +2915,9 @@ ty-seq-there-returns-3 : (t : ℕ) → ty-seq-there-lts.Need-returns-3 (
 unfolding Ty.ty-seq-there
 ty-seq-there-returns-3 t c = record { is = λ kinds m. by-same (group-is (c .before .before .before .before .before .before .before .before .before .before .before .before .before .before .before .before .before .before .group .ensures) (c .before .before .before .before .before .before .before .before .before .before .before .before .before .before .before .before .r1 .given .1)) (then-sure (c .before .before .before .before .before .before .before .before .before .before .before .before .before .word .ensures) (then-done (plain (c .before .before .before .before .before .before .before .before .before .ty-args .ensures)) (c .before .before .before .before .before .r3 .given .1) (last-sure (c .before .before .word2 .ensures)))) }
 
-pub +con-ty+fn-ty+get-ty+one-arg-con-ty+paren-ty+record-ty+ty-args+ty-row+ty-rows+ty-seq+ty-seq-there-spec :
+pub +con-ty+fn-ty+get-ty+one-arg-con-ty+paren-ty+record-ty+star-ty+star-tys+tuple-ty+ty-args+ty-row+ty-rows+ty-seq+ty-seq-there-spec :
     {M : Type 1} → statement M
-+con-ty+fn-ty+get-ty+one-arg-con-ty+paren-ty+record-ty+ty-args+ty-row+ty-rows+ty-seq+ty-seq-there-spec =
++con-ty+fn-ty+get-ty+one-arg-con-ty+paren-ty+record-ty+star-ty+star-tys+tuple-ty+ty-args+ty-row+ty-rows+ty-seq+ty-seq-there-spec =
     close
     μ-con-ty
     μ-fn-ty
@@ -2362,6 +2925,9 @@ pub +con-ty+fn-ty+get-ty+one-arg-con-ty+paren-ty+record-ty+ty-args+ty-row+ty-row
     μ-one-arg-con-ty
     μ-paren-ty
     μ-record-ty
+    μ-star-ty
+    μ-star-tys
+    μ-tuple-ty
     μ-ty-args
     μ-ty-row
     μ-ty-rows
@@ -2407,6 +2973,8 @@ pub +con-ty+fn-ty+get-ty+one-arg-con-ty+paren-ty+record-ty+ty-args+ty-row+ty-row
       con-ty.Post,
       one-arg-con-ty-below t,
       one-arg-con-ty.Post,
+      tuple-ty-below t,
+      tuple-ty.Post,
       fn-ty-below t,
       fn-ty.Post,
       paren-ty-below t,
@@ -2428,6 +2996,7 @@ pub +con-ty+fn-ty+get-ty+one-arg-con-ty+paren-ty+record-ty+ty-args+ty-row+ty-row
     (get-ty-record-ty-requires t)
     (get-ty-con-ty-requires t)
     (get-ty-one-arg-con-ty-requires t)
+    (get-ty-tuple-ty-requires t)
     (get-ty-fn-ty-requires t)
     (get-ty-paren-ty-requires t)
     (get-ty-stop-requires-3 t)
@@ -2447,7 +3016,9 @@ pub +con-ty+fn-ty+get-ty+one-arg-con-ty+paren-ty+record-ty+ty-args+ty-row+ty-row
     (get-ty-returns-9 t)
     (get-ty-same-length-8 t)
     (get-ty-returns-10 t)
-    (get-ty-returns-11 t))
+    (get-ty-same-length-9 t)
+    (get-ty-returns-11 t)
+    (get-ty-returns-12 t))
     (λ t. one-arg-con-ty-lts.spec (
       get-ty-below t,
       get-ty.Post,
@@ -2493,6 +3064,71 @@ pub +con-ty+fn-ty+get-ty+one-arg-con-ty+paren-ty+record-ty+ty-args+ty-row+ty-row
     (record-ty-word-requires-2 t)
     (record-ty-same-length-2 t)
     (record-ty-returns-2 t))
+    (λ t. star-ty-lts.spec (
+      group-reads.Asked,
+      group-reads.Learnt,
+      word-reads.Asked,
+      word-reads.Learnt,
+      get-ty-below t,
+      get-ty.Post,
+    )
+    (star-ty-at t)
+    star-ty.Post
+    (star-ty-group-requires t)
+    (star-ty-enum-known-r1 t)
+    (star-ty-enum-told t)
+    (star-ty-returns t)
+    (star-ty-word-requires t)
+    (star-ty-get-ty-requires t)
+    (star-ty-same-length t)
+    (star-ty-returns-2 t))
+    (λ t. star-tys-lts.spec (
+      list-reads.Asked,
+      list-reads.Learnt,
+      stop-reads.Asked,
+      stop-reads.Learnt,
+      star-ty-below t,
+      star-ty.Post,
+    )
+    (star-tys-at t)
+    star-tys.Post
+    star-tys-Inv-loop
+    star-tys-μ-loop
+    (star-tys-list-requires t)
+    (star-tys-enum-known-n t)
+    (star-tys-enum-told t)
+    (star-tys-stop-requires t)
+    (star-tys-returns t)
+    (star-tys-loop-holds t)
+    (star-tys-star-ty-requires t)
+    (star-tys-enum-known-r1 t)
+    (star-tys-enum-told-2 t)
+    (star-tys-same-length t)
+    (star-tys-returns-2 t)
+    (star-tys-add-i t)
+    (star-tys-loop-less t)
+    (star-tys-loop-again t)
+    (star-tys-same-length-2 t)
+    (star-tys-returns-3 t))
+    (λ t. tuple-ty-lts.spec (
+      get-ty-below t,
+      get-ty.Post,
+      onwards-reads.Asked,
+      onwards-reads.Learnt,
+      star-tys-below t,
+      star-tys.Post,
+    )
+    (tuple-ty-at t)
+    tuple-ty.Post
+    (tuple-ty-get-ty-requires t)
+    (tuple-ty-onwards-requires t)
+    (tuple-ty-enum-known-r1 t)
+    (tuple-ty-enum-told t)
+    (tuple-ty-same-length t)
+    (tuple-ty-returns t)
+    (tuple-ty-star-tys-requires t)
+    (tuple-ty-same-length-2 t)
+    (tuple-ty-returns-2 t))
     (λ t. ty-args-lts.spec (
       list-reads.Asked,
       list-reads.Learnt,

@@ -1,0 +1,98 @@
+-- Laws of a type whose answer is dropped.
+use native.Mathlib.Omega.{arith}
+use mathlib.Core.Path.{_≡_, refl, sym, ap, _∙_}
+use mathlib.Core.Bool.{Bool, false}
+use mathlib.Core.Option.{Option, none, some}
+use mathlib.Core.List.{List}
+use Prim.Native.Nat.{ℕ}
+use lib.ListN.{length}
+use Rattle.reader.specs.Fields as Fields
+use Rattle.reader.specs.Fields.{Ty}
+use Rattle.reader.specs.declared.commands.Family as Code
+use Rattle.reader.specs.declared.commands.Family.the-variants as Case
+use Rattle.reader.specs.declared.commands.Number.{Number}
+use Rattle.reader.specs.declared.tree.Checked as Tree
+use Rattle.reader.specs.Commands.{formAt, numberIn, FormAt}
+use Rattle.reader.specs.Check.{Checked, ok, malformed, tooDeep, fieldEnd}
+use Rattle.reader.specs.Tree.{checkedIn, Ends}
+use Rattle.layout.specs.declared.St.{St}
+use Rattle.layout.specs.declared.Answer.{Answer}
+use Rattle.layout.specs.declared.Answer.the-variants.{Done, Stopped}
+use Rattle.layout.specs.Layout.{Layout, dropped}
+use Rattle.layout.specs.Meaning.{Page, Event, Outcome, done, stopped, Stop, absent, outcome, onwards}
+use Rattle.layout.specs.State.{Run, runOf, at, Ran, went, fell, run, runs, effects, packed, stopOf, moved, Walked, Onwards, onwardsOf}
+
+never : {A : Type 0} → _≡_ {A = ℕ} 0 1 → A
+never e = absurd (omega (arith, e))
+
+-- ---- the code
+module _ {r : List ℕ} {count at : ℕ} {a : Answer} where
+  pub onwards-done : {s : St} → a ≡ Done s → Onwards r count at a a
+  unfolding onwardsOf
+  onwards-done e = record { is = e ∙ sym (ap (onwardsOf r count at) e) }
+
+  module _ {s : St} {place : ℕ} {import : Bool} {x : Number} (e : a ≡ Stopped s place import) (f : FormAt Case.Ty r at x) where
+    pub onwards-none : x ≡ Number.Not → Onwards r count at a (Stopped s place import)
+    unfolding onwardsOf numberIn
+    onwards-none g =
+        let q : formAt r Ty at ≡ none = sym (f .is) ∙ ap numberIn g in
+        record { is = rw (e, q, onwardsOf) refl }
+
+    module _ {k : ℕ} {y : Tree.Checked} (g : x ≡ Number.Is k) (h : Ends r count (Fields.form Ty) at y) where
+      pub onwards-ok : {next : ℕ} {s′ : St} → y ≡ Tree.Checked.Ok next → s′ ≡ moved next s → Onwards r count at a (Done s′)
+      unfolding onwardsOf numberIn
+      onwards-ok {next} i j =
+          let q : formAt r Ty at ≡ some k = sym (f .is) ∙ ap numberIn g in
+          let p : fieldEnd r count (Fields.form Ty) at ≡ ok next = sym (h .is) ∙ ap checkedIn i in
+          record { is = rw (e, q, p, j, onwardsOf) refl }
+
+      pub onwards-malformed : {other : ℕ} → y ≡ Tree.Checked.Malformed other → Onwards r count at a (Stopped s other false)
+      unfolding onwardsOf numberIn
+      onwards-malformed {other} i =
+          let q : formAt r Ty at ≡ some k = sym (f .is) ∙ ap numberIn g in
+          let p : fieldEnd r count (Fields.form Ty) at ≡ malformed other = sym (h .is) ∙ ap checkedIn i in
+          record { is = rw (e, q, p, onwardsOf) refl }
+
+      pub onwards-deep : {other : ℕ} → y ≡ Tree.Checked.TooDeep other → Onwards r count at a (Stopped s other false)
+      unfolding onwardsOf numberIn
+      onwards-deep {other} i =
+          let q : formAt r Ty at ≡ some k = sym (f .is) ∙ ap numberIn g in
+          let p : fieldEnd r count (Fields.form Ty) at ≡ tooDeep other = sym (h .is) ∙ ap checkedIn i in
+          record { is = rw (e, q, p, onwardsOf) refl }
+
+-- ---- the walk
+abbrev under : Ran → Run
+under (went g) = g
+under (fell why g) = g
+
+module _ (p : Page) (tab : ℕ) where
+  fell-on : (f : Option ℕ) (e : Checked) (s : St) (place : ℕ) (import : Bool) (o m : List ℕ) (why : Stop) (es : List Event) (g : Run)
+      → fell (stopOf place import) (at 0 (runOf s o m)) ≡ run p tab (stopped why es) g
+      → packed (elim f as (λ x. Answer) [
+        | some n ↦ elim e as (λ x. Answer) [ ok next ↦ Done (moved next s) | malformed other ↦ Stopped s other false | tooDeep other ↦ Stopped s other false ]
+        | none ↦ Stopped s place import
+      ]) o m
+      ≡ run p tab (elim f as (λ x. Outcome) [
+        | some n ↦ elim e as (λ x. Outcome) [ ok next ↦ done next es | malformed other ↦ stopped (absent other) es | tooDeep other ↦ stopped (absent other) es ]
+        | none ↦ stopped why es
+      ]) g
+  unfolding run stopOf
+  fell-on (some n) (ok next) s place import o m why es g h = ap (λ x. went (at next (under x))) h
+  fell-on (some n) (malformed other) s place import o m why es g h = ap (λ x. fell (absent other) (under x)) h
+  fell-on (some n) (tooDeep other) s place import o m why es g h = ap (λ x. fell (absent other) (under x)) h
+  fell-on none e s place import o m why es g h = h
+
+  dropped-run : (a : Answer) (x : Outcome) (i : ℕ) (o m : List ℕ) (g : Run) → packed a o m ≡ run p tab x g
+      → packed (onwardsOf (p .rec) (length (p .tokens .starts)) i a) o m ≡ run p tab (onwards p i x) g
+  unfolding onwardsOf onwards run
+  dropped-run (Done s) (done next es) i o m g h = h
+  dropped-run (Done s) (stopped why es) i o m g h = never (cc)
+  dropped-run (Stopped s place import) (done next es) i o m g h = never (cc)
+  dropped-run (Stopped s place import) (stopped why es) i o m g h =
+      fell-on (formAt (p .rec) Ty i) (fieldEnd (p .rec) (length (p .tokens .starts)) (Fields.form Ty) i) s place import o m why es g h
+
+pub dropped-by : {p : Page} {tab : ℕ} {w : Layout} {s : St} {o m o′ m′ : List ℕ} {a b : Answer} → Walked p tab w (runOf s o m) a o′ m′
+    → Onwards (p .rec) (length (p .tokens .starts)) (s .at) a b → Walked p tab (dropped w) (runOf s o m) b o′ m′
+unfolding runs outcome
+dropped-by {p} {tab} {w} {s} {o} {m} {o′} {m′} {a} e f =
+    record { is = ap (λ x. packed x o′ m′) (f .is) ∙ dropped-run p tab a (outcome p w (s .at)) (s .at) o′ m′ (runOf s o m) (e .is) }
