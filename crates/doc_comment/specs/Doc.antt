@@ -72,6 +72,10 @@ put text out =
     elim (leb (length text) (length out))
     [ true ↦ doc (looked 0 0 (some (length text))) (text ++ drop (length text) out) | false ↦ doc (looked 8 0 none) out ]
 
+-- The doc text of a comment in the output's first bytes; finding none, the output is unchanged.
+unfoldable pub docOf : List ℕ → List ℕ → Doc
+docOf comment out = elim (docText comment) [ none ↦ doc (looked 0 0 none) out | some found ↦ put found out ]
+
 -- `doc_comment_above` of a token.
 unfoldable pub docLookup : List ℕ → List ℕ → ℕ → List ℕ → Doc
 docLookup text rec token out =
@@ -79,6 +83,6 @@ docLookup text rec token out =
       | declined l ↦ doc l out
       | asked tokens ↦ elim (commentAbove (tokens .kinds) token) [
         | none ↦ doc (looked 0 0 none) out
-        | some k ↦ elim (docText (textOf text tokens k)) [ none ↦ doc (looked 0 0 none) out | some found ↦ put found out ]
+        | some k ↦ docOf (textOf text tokens k) out
       ]
     ]

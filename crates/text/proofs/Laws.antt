@@ -58,8 +58,8 @@ module _ (s : List ℕ) (i : ℕ) where
   unfolding firstWide
   wide-more h l = rw (add-one, drop-cons s i 0, firstWide, lt-leb _ _ l)
 
--- The scan backwards: the text up to a byte, read backwards.
-reverse-take : (s : List ℕ) (k : ℕ) → k < length s → reverse (take (suc k) s) ≡ getD s k 0 ∷ reverse (take k s)
+-- The text up to a byte, read backwards.
+pub reverse-take : (s : List ℕ) (k : ℕ) → k < length s → reverse (take (suc k) s) ≡ getD s k 0 ∷ reverse (take k s)
 reverse-take s k h = rw (take-suc s k 0, reverse-append)
 
 pub trim-end-none : (s : List ℕ) (i : ℕ) → i ≤ 0 → trimEnd (take i s) ≡ take i s
