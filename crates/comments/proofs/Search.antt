@@ -10,7 +10,7 @@ use lib.Dec.{eqb, leb}
 use lib.ListN.{length, getD, List·getD-eq-default}
 use Rattle.comments.specs.Set.{isComment}
 use Rattle.comments.specs.Above.{isKeyword, above, commentAbove}
-use Rattle.comments.specs.Answers.{stopped}
+use Rattle.comments.specs.Stop.{stopped}
 use Rattle.comments.specs.declared.Stop.the-variants.{Comment, Keyword, Start}
 
 module _ (kinds : List ℕ) where

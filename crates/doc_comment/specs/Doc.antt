@@ -8,6 +8,8 @@ use lib.Dec.{leb, eqb}
 use Rattle.text.specs.Bytes.{bytes, sameBytes}
 use Rattle.reader.specs.Tokens.{Tokens, textOf}
 use Rattle.comments.specs.Above.{commentAbove}
+use Rattle.doc_comment.specs.declared.DocText.{DocText}
+use Rattle.doc_comment.specs.declared.DocText.the-variants.{Found, NoRoom, Nothing}
 use Rattle.formatter.specs.Lookup.{Looked, looked, Asked, declined, asked, ask}
 
 -- A line, read backwards, without the carriage return at its end.
@@ -75,6 +77,12 @@ put text out =
 -- The doc text of a comment in the output's first bytes; finding none, the output is unchanged.
 unfoldable pub docOf : List ℕ → List ℕ → Doc
 docOf comment out = elim (docText comment) [ none ↦ doc (looked 0 0 none) out | some found ↦ put found out ]
+
+-- What an answer of `doc_text` and the final output stand for.
+unfoldable pub docSaid : DocText → List ℕ → Doc
+docSaid (Found n) out = doc (looked 0 0 (some n)) out
+docSaid NoRoom out = doc (looked 8 0 none) out
+docSaid Nothing out = doc (looked 0 0 none) out
 
 -- `doc_comment_above` of a token.
 unfoldable pub docLookup : List ℕ → List ℕ → ℕ → List ℕ → Doc

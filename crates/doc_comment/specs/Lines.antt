@@ -1,22 +1,18 @@
--- What the code says of a comment's lines, and of its answer.
+-- What the functions of the code say of a comment's lines.
 use Prim.Native.Nat.{ℕ, zero, suc, _+_, _-_, _≤_, _<_}
 use mathlib.Core.Path.{_≡_}
 use mathlib.Core.List.{List, [], _∷_, _++_}
 use mathlib.Core.Bool.{Bool, true, false}
-use mathlib.Core.Option.{Option, none, some}
 use lib.ListN.{length, take, drop, set}
 use lib.Dec.{eqb}
 use Rattle.text.specs.Bytes.{bytes}
-use Rattle.formatter.specs.Lookup.{looked}
-use Rattle.doc_comment.specs.Doc.{linesFrom, starred, joined, Doc}
+use Rattle.doc_comment.specs.Doc.{linesFrom, starred, joined}
 use Rattle.doc_comment.specs.declared.Start.{Start}
 use Rattle.doc_comment.specs.declared.Start.the-variants.{At, Nowhere}
 use Rattle.doc_comment.specs.declared.Next.{Next}
 use Rattle.doc_comment.specs.declared.Next.the-variants.{Line, End}
 use Rattle.doc_comment.specs.declared.Body.{Body}
 use Rattle.doc_comment.specs.declared.Body.the-variants.{Lines, Open}
-use Rattle.doc_comment.specs.declared.DocText.{DocText}
-use Rattle.doc_comment.specs.declared.DocText.the-variants.{Found, NoRoom, Nothing}
 
 -- The bytes before the first b.
 unfoldable pub before : ℕ → List ℕ → List ℕ
@@ -79,9 +75,3 @@ pub record Joins (lines : List (List ℕ)) (m : ℕ) (out out′ : List ℕ) : T
 unfoldable pub fed : List ℕ → ℕ → List ℕ
 fed out zero = out
 fed out (suc t) = set out t 10
-
--- The answer of `doc_text` and the final output.
-unfoldable pub docSaid : DocText → List ℕ → Doc
-docSaid (Found n) out = record { answer = looked 0 0 (some n); out = out }
-docSaid NoRoom out = record { answer = looked 8 0 none; out = out }
-docSaid Nothing out = record { answer = looked 0 0 none; out = out }

@@ -4,8 +4,8 @@ ghost use Prim.Native.Nat.{_+_, _≤_, _<_};
 ghost use lib.ListN.{length};
 ghost use lib.Seq.{paste};
 ghost use Rattle.text.specs.Bytes.{bytes, sameBytes};
-ghost use Rattle.doc_comment.specs.Doc.{docOf};
-ghost use Rattle.doc_comment.specs.Lines.{before, Cuts, Starts, kept, Nexts, Closes, Bodies, Joins, fed, docSaid};
+ghost use Rattle.doc_comment.specs.Doc.{docOf, docSaid};
+ghost use Rattle.doc_comment.specs.Lines.{before, Cuts, Starts, kept, Nexts, Closes, Bodies, Joins, fed};
 
 // How many bytes stand before the first b.
 fn find(s: &[u8], b: u8) -> usize

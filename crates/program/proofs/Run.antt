@@ -7,6 +7,7 @@ use Rattle.reader.specs.Check as Check
 use Rattle.reader.specs.Reading as Reading
 use Rattle.comments.specs.Set as Set
 use Rattle.comments.specs.Above as Above
+use Rattle.comments.specs.Stop as Stop
 use Rattle.walk.specs.Meaning as Meaning
 use Rattle.walk.specs.Helpers as Helpers
 use Rattle.walk.specs.GetDec as GetDec
@@ -21,10 +22,11 @@ use Rattle.walk.specs.Events as Events
 use Rattle.formatter.specs.Verdict as Verdict
 use Rattle.formatter.specs.Lookup as Lookup
 use Rattle.doc_comment.specs.Doc as Doc
+use Rattle.doc_comment.specs.Lines as Lines
 use Rattle.program.specs.Program as Program
 
 unfoldable pub runBytes : Unit {0}
-unfolding Bytes.bytes Bytes.between Bytes.isSpace Bytes.isLetter Bytes.isDigit Bytes.trimStart Bytes.trimEnd Bytes.trim Bytes.sameBytes Bytes.firstIs Bytes.firstWide
+unfolding Bytes.bytes Bytes.between Bytes.isSpace Bytes.isLetter Bytes.isDigit Bytes.trimStart Bytes.trimEnd Bytes.trim Bytes.sameBytes Bytes.firstIs Bytes.firstWide Bytes.wideAt
 runBytes = tt
 
 unfoldable pub runFields : Unit {0}
@@ -48,11 +50,11 @@ unfolding Reading.readTree Reading.readRecord Reading.readText Reading.read Read
 runReading = tt
 
 unfoldable pub runSet : Unit {0}
-unfolding Set.isComment Set.bit Set.holds Set.bits Set.wordsFrom Set.wordsOf Set.without Set.count Set.first
+unfolding Set.isComment Set.bit Set.holds Set.bits Set.wordsFrom Set.wordsOf Set.without Set.count Set.first Set.firstAt
 runSet = tt
 
 unfoldable pub runAbove : Unit {0}
-unfolding Above.isKeyword Above.above Above.commentAbove
+unfolding Above.isKeyword Above.above Above.commentAbove Above.commentOf Stop.stopped
 runAbove = tt
 
 unfoldable pub runMeaning : Unit {0}
@@ -108,7 +110,7 @@ unfolding Lookup.ask Lookup.lookup Lookup.numberOf Lookup.placeOf Lookup.answerO
 runLookup = tt
 
 unfoldable pub runDoc : Unit {0}
-unfolding Doc.withoutReturn Doc.linesFrom Doc.afterAsterisk Doc.withoutSpace Doc.starred Doc.joined Doc.closed Doc.opened Doc.docText Doc.put Doc.docOf Doc.docLookup
+unfolding Doc.withoutReturn Doc.linesFrom Doc.afterAsterisk Doc.withoutSpace Doc.starred Doc.joined Doc.closed Doc.opened Doc.docText Doc.put Doc.docOf Doc.docSaid Doc.docLookup Lines.before Lines.Starts Lines.kept Lines.Nexts Lines.size Lines.Bodies Lines.fed
 runDoc = tt
 
 unfoldable pub runProgram : Unit {0}

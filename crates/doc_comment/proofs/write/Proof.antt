@@ -22,19 +22,22 @@ module _ (c : tie.After-known-told Inv-loop μ-loop) where
   abbrev turn : tie.In-loop Inv-loop μ-loop
   turn = c .before .before .before .before
 
+  abbrev begin : tie.Start Inv-loop μ-loop
+  begin = turn .before .before .before .before
+
   abbrev start : ℕ
   start = c .before .start .given .0 .0
 
   abbrev end : ℕ
   end = c .before .start .given .0 .1 .0
 
-  first : FirstKept (now (turn .before .before .before .before .args .comment)) (turn .before .loop .at) start end (c .before .start .given .0 .1 .1 .0)
+  first : FirstKept (now (begin .args .comment)) (turn .before .loop .at) start end (c .before .start .given .0 .1 .1 .0)
   first = next-kept _ (c .before .before .before .next-line .ensures) (c .before .start .given .1)
 
-  room : turn .before .loop .t + length (part (now (turn .before .before .before .before .args .comment)) start end) ≤ length (turn .before .loop .out)
-  room = writing-room (turn .before .loop .inv) (turn .loop-test .taken) first (turn .before .before .before .before .pre .1 .1)
+  room : turn .before .loop .t + length (part (now (begin .args .comment)) start end) ≤ length (turn .before .loop .out)
+  room = writing-room (turn .before .loop .inv) (turn .loop-test .taken) first (begin .pre .1 .1)
 
-  line : length (part (now (turn .before .before .before .before .args .comment)) start end) ≡ end - start
+  line : length (part (now (begin .args .comment)) start end) ≡ end - start
   line = length-part _ start end (first .ordered) (first .inside)
 
 loop-holds : tie.Need-loop-holds Inv-loop μ-loop
@@ -74,16 +77,16 @@ sub-t : tie.Need-sub-t Inv-loop μ-loop
 sub-t c = first (c .before .before .before .before .before .before .before .before .before) .ordered
 
 add-t : tie.Need-add-t Inv-loop μ-loop
-add-t c = let f = first (c .before .before .before .before .before .before .before .before .before) in omega (arith, f .room, f .ends, c .before .before .before .before .before .before .before .before .before .before .before .before .before .before .before .before .before .good)
+add-t c = let told = c .before .before .before .before .before .before .before .before .before in omega (arith, first told .room, first told .ends, begin told .good)
 
 add-t-2 : tie.Need-add-t-2 Inv-loop μ-loop
-add-t-2 c = omega (arith, room (c .before .before .before .before .before .before .before .before .before), line (c .before .before .before .before .before .before .before .before .before), c .before .before .before .before .before .before .before .before .before .before .before .before .before .before .loop .inv .long, c .before .before .before .before .before .before .before .before .before .before .before .before .before .before .before .before .before .good)
+add-t-2 c = let told = c .before .before .before .before .before .before .before .before .before in omega (arith, room told, line told, turn told .before .loop .inv .long, begin told .good)
 
 loop-less : tie.Need-loop-less Inv-loop μ-loop
-loop-less c = omega (arith, c .before .before .before .before .before .before .before .before .before .before .before .before .before .loop-test .taken)
+loop-less c = omega (arith, turn (c .before .before .before .before .before .before .before .before .before) .loop-test .taken)
 
 loop-again : tie.Need-loop-again Inv-loop μ-loop
-loop-again c = writing-more (c .before .before .before .before .before .before .before .before .before .before .before .before .before .before .loop .inv) (c .before .before .before .before .before .before .before .before .before .before .before .before .before .loop-test .taken) (first (c .before .before .before .before .before .before .before .before .before)) (c .before .before .before .before .before .before .before .before .before .before .before .before .before .before .before .before .before .pre .1 .1) (c .before .before .before .before .before .before .before .feed .ensures) (c .before .before .copy .ensures) (c .before .before .copy .kept .0 ∙ c .before .before .before .before .before .before .before .feed .kept .0)
+loop-again c = let copied = c .before .before in let fed = copied .before .before .before .before .before in let told = fed .before .before in writing-more (turn told .before .loop .inv) (turn told .loop-test .taken) (first told) (begin told .pre .1 .1) (fed .feed .ensures) (copied .copy .ensures) (copied .copy .kept .0 ∙ fed .feed .kept .0)
 
 same-length-2 : tie.Need-same-length-2 Inv-loop μ-loop
 same-length-2 c = c .before .loop .inv .long
