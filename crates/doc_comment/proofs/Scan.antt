@@ -1,20 +1,20 @@
 -- Laws of the lines of a comment: how a scan over its bytes finds them. Assumes nothing.
 use Prim.Native.Nat.{ℕ, zero, suc, _+_, _-_, _≤_, _<_, zero-le, suc-le-suc}
-use native.Mathlib.Nat.{zero-add, sub-zero, zero-sub, le-of-suc-le-suc}
+use native.Mathlib.Nat.{sub-zero, zero-sub, le-of-suc-le-suc}
 use native.Mathlib.Numerals.{add-one}
 use native.Mathlib.Omega.{arith}
 use mathlib.Core.Path.{_≡_, refl, sym, ap, ap₂, _∙_}
 use mathlib.Core.Bool.{Bool, true, false}
 use mathlib.Core.Logic.{_⊎_, inl, inr, ⊎-elim}
-use mathlib.Core.List.{List, [], _∷_, _++_, reverse, reverseAux, reverse-reverse}
-use mathlib.Core.Option.{Option, none, some}
+use mathlib.Core.List.{List, [], _∷_, reverse, reverseAux, reverse-reverse}
+use mathlib.Core.Option.{none, some}
 use lib.Dec.{eqb}
 use lib.ListN.{length, getD, take, drop, length-take, length-drop, length-reverse, drop-of-length-le}
 use lib.Seq.{drop-cons, drop-drop, take-nil}
 use borrow.Author.Tests.{eq-eqb, ne-eqb, eqb-true, eqb-false}
 use Rattle.text.proofs.Laws.{reverse-take, take-rest}
 use Rattle.doc_comment.specs.Doc.{withoutReturn, linesFrom, afterAsterisk, withoutSpace, starred}
-use Rattle.doc_comment.specs.Lines.{before, part, Cuts, Starts, kept, FirstKept, Nexts}
+use Rattle.doc_comment.specs.Lines.{before, Cuts, Starts, kept, FirstKept, Nexts}
 use Rattle.doc_comment.specs.declared.Start.{Start}
 use Rattle.doc_comment.specs.declared.Start.the-variants.{At, Nowhere}
 use Rattle.doc_comment.specs.declared.Next.{Next}

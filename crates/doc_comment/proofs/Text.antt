@@ -3,16 +3,14 @@ use Prim.Native.Nat.{ℕ, zero, suc, _+_, _-_, _≤_, _<_}
 use native.Mathlib.Numerals.{add-one}
 use native.Mathlib.Omega.{arith}
 use mathlib.Core.Path.{_≡_, refl, sym, ap, ap₂, _∙_}
-use mathlib.Core.Bool.{Bool, true, false, true≢false, false≢true}
+use mathlib.Core.Bool.{Bool, true, false, false≢true}
 use mathlib.Core.List.{List, [], _∷_, _++_, append-assoc, append-nil, reverse, reverseAux, reverse-append, reverse-reverse}
-use mathlib.Core.Option.{Option, none, some}
-use lib.Dec.{leb}
-use lib.ListN.{length, getD, take, drop, set, length-append, length-take, length-drop, length-set}
-use lib.Seq.{paste, paste-suc, length-paste, append-snoc, drop-cons, drop-drop, set-at, take-at, drop-at, take-length}
+use mathlib.Core.Option.{none, some}
+use lib.ListN.{length, getD, take, drop, set, length-append, length-take, length-drop}
+use lib.Seq.{paste, paste-suc, append-snoc, drop-cons, drop-drop, set-at, take-at, drop-at, take-length}
 use borrow.Author.Tests.{le-leb, lt-leb}
 use Rattle.text.specs.Bytes.{bytes, sameBytes}
 use Rattle.text.proofs.Laws.{same-true, same-refl}
-use Rattle.formatter.specs.Lookup.{looked}
 use Rattle.doc_comment.specs.Doc.{joined, closed, opened, docText, put, docOf, docSaid}
 use Rattle.doc_comment.specs.Lines.{part, kept, FirstKept, size, Closes, Bodies, Joins, fed}
 use Rattle.doc_comment.specs.declared.Body.{Body}

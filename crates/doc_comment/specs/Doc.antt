@@ -1,16 +1,16 @@
 -- `doc_comment_above` of 001: the doc text of the comment above a token.
 use Prim.Native.Nat.{ℕ}
 use mathlib.Core.List.{List, [], _∷_, _++_, reverse}
-use mathlib.Core.Bool.{Bool, true, false}
+use mathlib.Core.Bool.{true, false}
 use mathlib.Core.Option.{Option, none, some}
 use lib.ListN.{length, drop}
 use lib.Dec.{leb, eqb}
 use Rattle.text.specs.Bytes.{bytes, sameBytes}
-use Rattle.reader.specs.Tokens.{Tokens, textOf}
+use Rattle.reader.specs.Tokens.{textOf}
 use Rattle.comments.specs.Above.{commentAbove}
 use Rattle.doc_comment.specs.declared.DocText.{DocText}
 use Rattle.doc_comment.specs.declared.DocText.the-variants.{Found, NoRoom, Nothing}
-use Rattle.formatter.specs.Lookup.{Looked, looked, Asked, declined, asked, ask}
+use Rattle.formatter.specs.Lookup.{Looked, looked, declined, asked, ask}
 
 -- A line, read backwards, without the carriage return at its end.
 unfoldable pub withoutReturn : List ℕ → List ℕ

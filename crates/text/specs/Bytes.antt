@@ -1,9 +1,9 @@
 -- Document 01, module 1: bytes. A run of bytes is a list of numbers below 256.
-use Prim.Native.Nat.{ℕ, zero, suc}
-use Prim.Native.Char.{Char, code}
+use Prim.Native.Nat.{ℕ, suc}
+use Prim.Native.Char.{code}
 use Prim.Native.String.{String}
 use mathlib.Core.List.{List, [], _∷_, reverse}
-use mathlib.Core.Bool.{Bool, true, false, cond, _&&_, _||_}
+use mathlib.Core.Bool.{Bool, true, false, _&&_, _||_}
 use mathlib.Core.Option.{Option, none, some}
 use lib.Dec.{leb, eqb}
 use Rattle.text.specs.declared.Wide.{Wide}

@@ -1,6 +1,6 @@
 -- `doc_comment::copy` meets its contract. The invariant: the first `j` bytes are copied. Assumes nothing.
 use denote.Ref.{now}
-use Prim.Native.Nat.{ℕ, _+_, _-_, _≤_}
+use Prim.Native.Nat.{ℕ, _-_, _≤_}
 use native.Mathlib.Omega.{arith}
 use mathlib.Core.Path.{_≡_, refl, ap, _∙_}
 use lib.ListN.{length, length-set}
