@@ -1,16 +1,15 @@
 -- Laws of `above`: a step of the search, and tokens past the last. Assumes nothing.
-use Prim.Native.Nat.{ℕ, zero, suc, _+_, _-_, _≤_, _<_}
+use Prim.Native.Nat.{ℕ, zero, suc, _+_, _-_, _≤_}
 use native.Mathlib.Nat.{add-zero, add-suc}
 use native.Mathlib.Omega.{arith}
-use mathlib.Core.Path.{_≡_, refl, sym, ap, _∙_}
-use mathlib.Core.Bool.{Bool, true, false}
+use mathlib.Core.Path.{_≡_, ap, _∙_}
+use mathlib.Core.Bool.{true, false}
 use mathlib.Core.List.{List}
-use mathlib.Core.Option.{Option, none, some}
-use lib.Dec.{eqb, leb}
-use lib.ListN.{length, getD, List·getD-eq-default}
+use mathlib.Core.Option.{Option}
+use lib.ListN.{length, List·getD-eq-default}
 use Rattle.comments.specs.Set.{isComment}
-use Rattle.comments.specs.Above.{isKeyword, above, commentAbove}
-use Rattle.comments.specs.Answers.{stopped}
+use Rattle.comments.specs.Above.{isKeyword, above}
+use Rattle.comments.specs.Stop.{stopped}
 use Rattle.comments.specs.declared.Stop.the-variants.{Comment, Keyword, Start}
 
 module _ (kinds : List ℕ) where

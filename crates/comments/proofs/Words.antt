@@ -1,15 +1,16 @@
 -- Laws of the comment set: a word and its bits, the words and the set that they mean, counts and the first token. Assumes nothing.
-use Prim.Native.Nat.{ℕ, zero, suc, _+_, _-_, _*_, _/_, _%_, _^_, _≤_, _<_, zero-le, suc-le-suc}
+use Prim.Native.Nat.{ℕ, zero, suc, _+_, _-_, _*_, _/_, _%_, _^_, _≤_, _<_}
 use native.Mathlib.Nat.{pow-suc, div-one, add-zero, zero-add, suc-add, one-mul}
-use native.Mathlib.Numerals.{add-one, one-add}
+use native.Mathlib.Numerals.{one-add}
 use native.Mathlib.Omega.{arith}
 use mathlib.Core.Path.{_≡_, refl, sym, ap, ap₂, _∙_}
-use mathlib.Core.Bool.{Bool, true, false, not, _&&_, true≢false, false≢true}
-use mathlib.Core.List.{List, [], _∷_}
+use mathlib.Core.Bool.{Bool, true, false, not, _&&_}
+use mathlib.Core.List.{List}
 use mathlib.Core.Option.{Option, none, some, Option·none-ne-some, Option·some-ne-none}
+use mathlib.Core.Logic.{_⊎_, inl, inr, ⊎-elim}
 use lib.Dec.{eqb, eqb·suc-suc, lit<}
 use lib.Pow.{shr-shr, shl-exact, pow-mono}
-use lib.Count.{ones, onesIn, ones-step, ones-le, trailingZeros, under}
+use lib.Count.{ones, onesIn, ones-step, trailingZeros}
 use lib.ListN.{length, getD, set, length-set}
 use lib.Seq.{ext-getD, getD-set-same, getD-set-other}
 use borrow.Author.Count.{below-more}
@@ -35,7 +36,46 @@ pub record Spells (member : ℕ → Bool) (k n x : ℕ) : Type 0 where
   pub below : x < 2 ^ n
   pub at : (i : ℕ) → i < n → member (k + i) ≡ bit x i
 
+-- A truth value, by cases.
+whether : (t : Bool) → (t ≡ true) ⊎ (t ≡ false)
+whether true = inl refl
+whether false = inr refl
+
+trailing-odd : (n x : ℕ) → x % 2 ≡ 1 → trailingZeros (suc n) x ≡ 0
+unfolding trailingZeros
+trailing-odd n x e = rw (trailingZeros, e)
+
+trailing-even : (n x : ℕ) → x % 2 ≡ 0 → trailingZeros (suc n) x ≡ suc (trailingZeros n (x / 2))
+unfolding trailingZeros
+trailing-even n x e = rw (trailingZeros, e)
+
 module _ (member : ℕ → Bool) where
+  -- One token more, which is in the set or is not.
+  module _ (k n : ℕ) where
+    bits-in : member k ≡ true → bits member k (suc n) ≡ 1 + 2 * bits member (k + 1) n
+    unfolding bits
+    bits-in e = rw (bits, e)
+
+    bits-out : member k ≡ false → bits member k (suc n) ≡ 2 * bits member (k + 1) n
+    unfolding bits
+    bits-out e = rw (bits, e)
+
+    count-in : member k ≡ true → count member k (suc n) ≡ 1 + count member (k + 1) n
+    unfolding count
+    count-in e = rw (count, e)
+
+    count-out : member k ≡ false → count member k (suc n) ≡ count member (k + 1) n
+    unfolding count
+    count-out e = rw (count, e)
+
+    first-in : member k ≡ true → first member k (suc n) ≡ some k
+    unfolding first
+    first-in e = rw (first, e)
+
+    first-out : member k ≡ false → first member k (suc n) ≡ first member (k + 1) n
+    unfolding first
+    first-out e = rw (first, e)
+
   spells-head : (n x k : ℕ) → Spells member k (suc n) x → member k ≡ eqb (x % 2) 1
   spells-head n x k s = ap member (omega arith) ∙ s .at 0 (omega arith) ∙ bit-zero x
 
@@ -49,51 +89,48 @@ module _ (member : ℕ → Bool) where
   spells-zero : (x k : ℕ) → Spells member k 0 x → x ≡ 0
   spells-zero x k s = omega (arith, s .below)
 
+  -- The lowest bit, by cases.
+  spells-cases : (n x k : ℕ) → Spells member k (suc n) x → ((member k ≡ true) × (x % 2 ≡ 1)) ⊎ ((member k ≡ false) × (x % 2 ≡ 0))
+  spells-cases n x k s =
+      let h = spells-head n x k s in
+      ⊎-elim (λ y. inl (y, eqb-true (x % 2) 1 (sym h ∙ y))) (λ z. inr (z, omega (arith, eqb-false (x % 2) 1 (sym h ∙ z)))) (whether (member k))
+
   -- The word is determined by its bits.
   pub bits-is : (n x k : ℕ) → Spells member k n x → bits member k n ≡ x
   unfolding bits
   bits-is zero x k s = sym (spells-zero x k s)
-  bits-is (suc n) x k s = go (member k) (spells-head n x k s) (bits-is n (x / 2) (k + 1) (spells-tail n x k s))
-    where
-      go : (t : Bool) → t ≡ eqb (x % 2) 1 → bits member (k + 1) n ≡ x / 2 → _≡_ {A = ℕ} (elim t as (λ y. ℕ) [ true ↦ 1 + 2 * bits member (k + 1) n | false ↦ 2 * bits member (k + 1) n ]) x
-      go true e b = omega (arith, eqb-true (x % 2) 1 (sym e), b)
-      go false e b = omega (arith, eqb-false (x % 2) 1 (sym e), b)
+  bits-is (suc n) x k s =
+      let ih = bits-is n (x / 2) (k + 1) (spells-tail n x k s) in
+      ⊎-elim (λ w. bits-in k n (w .0) ∙ omega (arith, ih, w .1)) (λ w. bits-out k n (w .0) ∙ omega (arith, ih, w .1)) (spells-cases n x k s)
 
   -- The count of ones counts the tokens.
   pub ones-count : (n x k : ℕ) → Spells member k n x → ones x ≡ count member k n
   unfolding count
   ones-count zero x k s = ap ones (spells-zero x k s) ∙ ones-zero
-  ones-count (suc n) x k s = go (member k) (spells-head n x k s) (ones-count n (x / 2) (k + 1) (spells-tail n x k s))
-    where
-      go : (t : Bool) → t ≡ eqb (x % 2) 1 → ones (x / 2) ≡ count member (k + 1) n → _≡_ {A = ℕ} (ones x) (elim t as (λ y. ℕ) [ true ↦ 1 + count member (k + 1) n | false ↦ count member (k + 1) n ])
-      go true e b = omega (arith, eqb-true (x % 2) 1 (sym e), b, ones-step x)
-      go false e b = omega (arith, eqb-false (x % 2) 1 (sym e), b, ones-step x)
+  ones-count (suc n) x k s =
+      let ih = ones-count n (x / 2) (k + 1) (spells-tail n x k s) in
+      ⊎-elim (λ w. omega (arith, ih, ones-step x, count-in k n (w .0), w .1)) (λ w. omega (arith, ih, ones-step x, count-out k n (w .0), w .1)) (spells-cases n x k s)
 
   -- The trailing zeros stand before the first token.
   pub first-trailing : (n x k : ℕ) → Spells member k n x → (x ≡ 0 → ⊥) → first member k n ≡ some (k + trailingZeros n x)
-  unfolding first trailingZeros
   first-trailing zero x k s h = absurd (h (spells-zero x k s))
-  first-trailing (suc n) x k s h = go (member k) (x % 2) refl (spells-head n x k s) (λ e. first-trailing n (x / 2) (k + 1) (spells-tail n x k s) (λ z. h (omega arith)))
-    where
-      go : (t : Bool) (d : ℕ) → x % 2 ≡ d → t ≡ eqb d 1 → (d ≡ 0 → first member (k + 1) n ≡ some (k + 1 + trailingZeros n (x / 2))) → _≡_ {A = Option ℕ} (elim t as (λ y. Option ℕ) [ true ↦ some k | false ↦ first member (k + 1) n ]) (some (k + under d (trailingZeros n (x / 2))))
-      go true zero p e f = absurd (true≢false e)
-      go false zero p e f = f refl ∙ ap some (omega arith)
-      go true (suc d) p e f = ap some (omega arith)
-      go false (suc d) p e f = absurd (eqb-false (suc d) 1 (sym e) (omega arith))
+  first-trailing (suc n) x k s h =
+      let ih = first-trailing n (x / 2) (k + 1) (spells-tail n x k s) in
+      ⊎-elim (λ w. first-in k n (w .0) ∙ ap some (omega (arith, trailing-odd n x (w .1))))
+      (λ w. first-out k n (w .0) ∙ ih (λ z. h (omega (arith, w .1))) ∙ ap some (omega (arith, trailing-even n x (w .1))))
+      (spells-cases n x k s)
 
   pub first-zero : (n k : ℕ) → Spells member k n 0 → first member k n ≡ none
   unfolding first
   first-zero zero k s = refl
-  first-zero (suc n) k s = rw (first, spells-head n 0 k s) (first-zero n (k + 1) (spells-tail n 0 k s))
+  first-zero (suc n) k s = first-out k n (spells-head n 0 k s) ∙ first-zero n (k + 1) (spells-tail n 0 k s)
 
   -- The bits of the word are the tokens.
   bits-half : (n k : ℕ) → (bits member k (suc n) / 2 ≡ bits member (k + 1) n) × (member k ≡ eqb (bits member k (suc n) % 2) 1)
-  unfolding bits
-  bits-half n k = go (member k) (bits member (k + 1) n)
-    where
-      go : (t : Bool) (b : ℕ) → ((elim t as (λ y. ℕ) [ true ↦ 1 + 2 * b | false ↦ 2 * b ]) / 2 ≡ b) × (t ≡ eqb ((elim t as (λ y. ℕ) [ true ↦ 1 + 2 * b | false ↦ 2 * b ]) % 2) 1)
-      go true b = (omega arith, sym (eq-eqb ((1 + 2 * b) % 2) 1 (omega arith)))
-      go false b = (omega arith, sym (ne-eqb (2 * b % 2) 1 (λ e. omega arith)))
+  bits-half n k =
+      ⊎-elim (λ y. let b = bits-in k n y in (omega (arith, b), y ∙ sym (eq-eqb (bits member k (suc n) % 2) 1 (omega (arith, b)))))
+      (λ z. let b = bits-out k n z in (omega (arith, b), z ∙ sym (ne-eqb (bits member k (suc n) % 2) 1 (λ e. omega (arith, b, e)))))
+      (whether (member k))
 
   bits-at : (n k i : ℕ) → i < n → member (k + i) ≡ bit (bits member k n) i
   bits-at zero k i h = absurd (omega arith)
@@ -107,11 +144,9 @@ module _ (member : ℕ → Bool) where
   pub bits-below : (n k : ℕ) → bits member k n < 2 ^ n
   unfolding bits
   bits-below zero k = lit< tt
-  bits-below (suc n) k = go (member k) (bits-below n (k + 1))
-    where
-      go : (t : Bool) → bits member (k + 1) n < 2 ^ n → (elim t as (λ y. ℕ) [ true ↦ 1 + 2 * bits member (k + 1) n | false ↦ 2 * bits member (k + 1) n ]) < 2 ^ suc n
-      go true h = omega (arith, pow-suc 2 n)
-      go false h = omega (arith, pow-suc 2 n)
+  bits-below (suc n) k =
+      let ih = bits-below n (k + 1) in
+      ⊎-elim (λ y. omega (arith, ih, bits-in k n y, pow-suc 2 n)) (λ z. omega (arith, ih, bits-out k n z, pow-suc 2 n)) (whether (member k))
 
   pub bits-spells : (n k : ℕ) → Spells member k n (bits member k n)
   bits-spells n k = record { below = bits-below n k; at = bits-at n k }
@@ -120,53 +155,51 @@ module _ (member : ℕ → Bool) where
   pub count-add : (n r k : ℕ) → count member k (n + r) ≡ count member k n + count member (k + n) r
   unfolding count
   count-add zero r k = ap (λ (i : ℕ). count member k i) (zero-add r) ∙ ap (λ (i : ℕ). count member i r) (sym (add-zero k)) ∙ sym (zero-add _)
-  count-add (suc n) r k = ap (λ (i : ℕ). count member k i) (suc-add n r) ∙ go (member k) (count-add n r (k + 1)) (ap (λ (i : ℕ). count member i r) (omega arith))
-    where
-      go : (t : Bool) → count member (k + 1) (n + r) ≡ count member (k + 1) n + count member (k + 1 + n) r → count member (k + 1 + n) r ≡ count member (k + suc n) r → _≡_ {A = ℕ} (elim t as (λ y. ℕ) [ true ↦ 1 + count member (k + 1) (n + r) | false ↦ count member (k + 1) (n + r) ]) ((elim t as (λ y. ℕ) [ true ↦ 1 + count member (k + 1) n | false ↦ count member (k + 1) n ]) + count member (k + suc n) r)
-      go true e f = omega (arith, e, f)
-      go false e f = omega (arith, e, f)
+  count-add (suc n) r k =
+      let ih = count-add n r (k + 1) in
+      let e : k + 1 + n ≡ k + suc n = omega arith in
+      let f = ap (λ (i : ℕ). count member i r) e in
+      ap (λ (i : ℕ). count member k i) (suc-add n r)
+      ∙ ⊎-elim (λ y. omega (arith, ih, f, count-in k n y, count-in k (n + r) y)) (λ z. omega (arith, ih, f, count-out k n z, count-out k (n + r) z)) (whether (member k))
 
   pub first-some : (n r k j : ℕ) → first member k n ≡ some j → first member k (n + r) ≡ some j
   unfolding first
   first-some zero r k j h = absurd (Option·none-ne-some j h)
-  first-some (suc n) r k j h = ap (λ (i : ℕ). first member k i) (suc-add n r) ∙ go (member k) h (first-some n r (k + 1) j)
-    where
-      go : (t : Bool) → _≡_ {A = Option ℕ} (elim t as (λ y. Option ℕ) [ true ↦ some k | false ↦ first member (k + 1) n ]) (some j) → (first member (k + 1) n ≡ some j → first member (k + 1) (n + r) ≡ some j) → _≡_ {A = Option ℕ} (elim t as (λ y. Option ℕ) [ true ↦ some k | false ↦ first member (k + 1) (n + r) ]) (some j)
-      go true e f = e
-      go false e f = f e
+  first-some (suc n) r k j h =
+      let ih = first-some n r (k + 1) j in
+      ap (λ (i : ℕ). first member k i) (suc-add n r)
+      ∙ ⊎-elim (λ y. first-in k (n + r) y ∙ sym (first-in k n y) ∙ h) (λ z. first-out k (n + r) z ∙ ih (sym (first-out k n z) ∙ h)) (whether (member k))
 
   pub first-none : (n r k : ℕ) → first member k n ≡ none → first member k (n + r) ≡ first member (k + n) r
   unfolding first
-  first-none zero r k h = ap (λ (i : ℕ). first member k i) (zero-add r) ∙ ap (λ (i : ℕ). first member i r) (omega arith)
-  first-none (suc n) r k h = ap (λ (i : ℕ). first member k i) (suc-add n r) ∙ go (member k) h (first-none n r (k + 1)) (ap (λ (i : ℕ). first member i r) (omega arith))
-    where
-      go : (t : Bool) → _≡_ {A = Option ℕ} (elim t as (λ y. Option ℕ) [ true ↦ some k | false ↦ first member (k + 1) n ]) none → (first member (k + 1) n ≡ none → first member (k + 1) (n + r) ≡ first member (k + 1 + n) r) → first member (k + 1 + n) r ≡ first member (k + suc n) r → _≡_ {A = Option ℕ} (elim t as (λ y. Option ℕ) [ true ↦ some k | false ↦ first member (k + 1) (n + r) ]) (first member (k + suc n) r)
-      go true e f g = absurd (Option·some-ne-none k e)
-      go false e f g = f e ∙ g
+  first-none zero r k h = ap (λ (i : ℕ). first member k i) (zero-add r) ∙ ap (λ (i : ℕ). first member i r) (sym (add-zero k))
+  first-none (suc n) r k h =
+      let ih = first-none n r (k + 1) in
+      let e : k + 1 + n ≡ k + suc n = omega arith in
+      ap (λ (i : ℕ). first member k i) (suc-add n r)
+      ∙ ⊎-elim (λ y. absurd (Option·some-ne-none k (sym (first-in k n y) ∙ h)))
+      (λ z. first-out k (n + r) z ∙ ih (sym (first-out k n z) ∙ h) ∙ ap (λ (i : ℕ). first member i r) e)
+      (whether (member k))
 
   -- No token is in the set.
   first-empty : (n k : ℕ) → ((i : ℕ) → k ≤ i → member i ≡ false) → first member k n ≡ none
   unfolding first
   first-empty zero k h = refl
-  first-empty (suc n) k h = rw (first, h k (omega arith)) (first-empty n (k + 1) (λ i l. h i (omega arith)))
+  first-empty (suc n) k h = first-out k n (h k (omega arith)) ∙ first-empty n (k + 1) (λ i l. h i (omega arith))
 
   pub count-none : (n k : ℕ) → count member k n ≡ 0 → first member k n ≡ none
-  unfolding count first
+  unfolding first
   count-none zero k h = refl
-  count-none (suc n) k h = go (member k) h (count-none n (k + 1))
-    where
-      go : (t : Bool) → _≡_ {A = ℕ} (elim t as (λ y. ℕ) [ true ↦ 1 + count member (k + 1) n | false ↦ count member (k + 1) n ]) 0 → (count member (k + 1) n ≡ 0 → first member (k + 1) n ≡ none) → _≡_ {A = Option ℕ} (elim t as (λ y. Option ℕ) [ true ↦ some k | false ↦ first member (k + 1) n ]) none
-      go true e f = absurd (omega (arith, e))
-      go false e f = f e
+  count-none (suc n) k h =
+      let ih = count-none n (k + 1) in
+      ⊎-elim (λ y. absurd (omega (arith, h, count-in k n y))) (λ z. first-out k n z ∙ ih (sym (count-out k n z) ∙ h)) (whether (member k))
 
   pub none-count : (n k : ℕ) → first member k n ≡ none → count member k n ≡ 0
-  unfolding count first
+  unfolding count
   none-count zero k h = refl
-  none-count (suc n) k h = go (member k) h (none-count n (k + 1))
-    where
-      go : (t : Bool) → _≡_ {A = Option ℕ} (elim t as (λ y. Option ℕ) [ true ↦ some k | false ↦ first member (k + 1) n ]) none → (first member (k + 1) n ≡ none → count member (k + 1) n ≡ 0) → _≡_ {A = ℕ} (elim t as (λ y. ℕ) [ true ↦ 1 + count member (k + 1) n | false ↦ count member (k + 1) n ]) 0
-      go true e f = absurd (Option·some-ne-none k e)
-      go false e f = f e
+  none-count (suc n) k h =
+      let ih = none-count n (k + 1) in
+      ⊎-elim (λ y. absurd (Option·some-ne-none k (sym (first-in k n y) ∙ h))) (λ z. count-out k n z ∙ ih (sym (first-out k n z) ∙ h)) (whether (member k))
 
 -- ---- two sets that agree
 

@@ -6,6 +6,8 @@ use mathlib.Core.Option.{Option, none, some}
 use lib.ListN.{getD}
 use lib.Dec.{leb}
 use Rattle.comments.specs.Set.{isComment}
+use Rattle.comments.specs.declared.Above.{Above}
+use Rattle.comments.specs.declared.Above.the-variants.{Comment, Nothing}
 
 -- Kinds 2 to 20: the keywords that a declaration starts with.
 unfoldable pub isKeyword : List ℕ → ℕ → Bool
@@ -24,3 +26,8 @@ module _ (kinds : List ℕ) where
   -- From the first token backwards. A block comment ends the search; a second keyword ends it with none, as does the start.
   unfoldable pub commentAbove : ℕ → Option ℕ
   commentAbove first = above none (suc first)
+
+-- The comment that an answer of the code gives.
+unfoldable pub commentOf : Above → Option ℕ
+commentOf (Comment k) = some k
+commentOf Nothing = none

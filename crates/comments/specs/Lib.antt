@@ -1,3 +1,3 @@
 pub mod Set
 pub mod Above
-pub mod Answers
+pub mod Stop

@@ -5,6 +5,8 @@ use mathlib.Core.Bool.{Bool, true, false, not, _&&_}
 use mathlib.Core.Option.{Option, none, some}
 use lib.ListN.{getD}
 use lib.Dec.{eqb}
+use Rattle.comments.specs.declared.First.{First}
+use Rattle.comments.specs.declared.First.the-variants.{At, Nowhere}
 
 -- Kind 1: a block comment.
 abbrev pub blockComment : ℕ
@@ -53,3 +55,8 @@ count member k (suc n) = elim (member k) [ true ↦ 1 + count member (k + 1) n |
 unfoldable pub first : (ℕ → Bool) → ℕ → ℕ → Option ℕ
 first member k zero = none
 first member k (suc n) = elim (member k) [ true ↦ some k | false ↦ first member (k + 1) n ]
+
+-- The token that an answer of the code gives.
+unfoldable pub firstAt : First → Option ℕ
+firstAt (At k) = some k
+firstAt Nowhere = none

@@ -4,9 +4,9 @@ ghost use mathlib.Core.Bool.{_&&_, not};
 ghost use mathlib.Core.Option.{Option};
 ghost use Prim.Native.Nat.{ℕ, suc, _≤_, _<_};
 ghost use lib.Dec.{eqb};
-ghost use Rattle.comments.specs.Set.{isComment, bit, bits, holds, wordsOf, room, without, count, first};
-ghost use Rattle.comments.specs.Above.{isKeyword, above, commentAbove};
-ghost use Rattle.comments.specs.Answers.{firstAt, stopped, commentOf};
+ghost use Rattle.comments.specs.Set.{isComment, bit, bits, holds, wordsOf, room, without, count, first, firstAt};
+ghost use Rattle.comments.specs.Above.{isKeyword, above, commentAbove, commentOf};
+ghost use Rattle.comments.specs.Stop.{stopped};
 
 fn is_comment(kinds: &[u8], k: usize) -> bool
     ensures { λ r. ⌜ r ≡ isComment (now (kinds .entry)) k ⌝ }
@@ -130,7 +130,7 @@ impl Set {
 }
 
 // Where a search backwards stops.
-pub enum Stop {
+enum Stop {
     Comment(usize),
     Keyword(usize),
     Start,

@@ -1,14 +1,16 @@
 -- `doc_comment_above` of 001: the doc text of the comment above a token.
 use Prim.Native.Nat.{ℕ}
 use mathlib.Core.List.{List, [], _∷_, _++_, reverse}
-use mathlib.Core.Bool.{Bool, true, false}
+use mathlib.Core.Bool.{true, false}
 use mathlib.Core.Option.{Option, none, some}
 use lib.ListN.{length, drop}
 use lib.Dec.{leb, eqb}
 use Rattle.text.specs.Bytes.{bytes, sameBytes}
-use Rattle.reader.specs.Tokens.{Tokens, textOf}
+use Rattle.reader.specs.Tokens.{textOf}
 use Rattle.comments.specs.Above.{commentAbove}
-use Rattle.formatter.specs.Lookup.{Looked, looked, Asked, declined, asked, ask}
+use Rattle.doc_comment.specs.declared.DocText.{DocText}
+use Rattle.doc_comment.specs.declared.DocText.the-variants.{Found, NoRoom, Nothing}
+use Rattle.formatter.specs.Lookup.{Looked, looked, declined, asked, ask}
 
 -- A line, read backwards, without the carriage return at its end.
 unfoldable pub withoutReturn : List ℕ → List ℕ
@@ -72,6 +74,16 @@ put text out =
     elim (leb (length text) (length out))
     [ true ↦ doc (looked 0 0 (some (length text))) (text ++ drop (length text) out) | false ↦ doc (looked 8 0 none) out ]
 
+-- The doc text of a comment in the output's first bytes; finding none, the output is unchanged.
+unfoldable pub docOf : List ℕ → List ℕ → Doc
+docOf comment out = elim (docText comment) [ none ↦ doc (looked 0 0 none) out | some found ↦ put found out ]
+
+-- What an answer of `doc_text` and the final output stand for.
+unfoldable pub docSaid : DocText → List ℕ → Doc
+docSaid (Found n) out = doc (looked 0 0 (some n)) out
+docSaid NoRoom out = doc (looked 8 0 none) out
+docSaid Nothing out = doc (looked 0 0 none) out
+
 -- `doc_comment_above` of a token.
 unfoldable pub docLookup : List ℕ → List ℕ → ℕ → List ℕ → Doc
 docLookup text rec token out =
@@ -79,6 +91,6 @@ docLookup text rec token out =
       | declined l ↦ doc l out
       | asked tokens ↦ elim (commentAbove (tokens .kinds) token) [
         | none ↦ doc (looked 0 0 none) out
-        | some k ↦ elim (docText (textOf text tokens k)) [ none ↦ doc (looked 0 0 none) out | some found ↦ put found out ]
+        | some k ↦ docOf (textOf text tokens k) out
       ]
     ]

@@ -1,14 +1,14 @@
--- `unfolding run` opens every definition of `specs/`, so that a theorem about a sheet is closed by computation.
+-- `unfolding run` opens every definition of specs/, so that a theorem about a sheet is closed by computation.
+-- Written by tools/unfold.py.
 use Rattle.text.specs.Bytes as Bytes
 use Rattle.reader.specs.Fields as Fields
 use Rattle.reader.specs.Commands as Commands
 use Rattle.reader.specs.Tokens as Tokens
 use Rattle.reader.specs.Check as Check
-use Rattle.reader.specs.Grammar as Grammar
-use Rattle.reader.specs.Tree as Tree
 use Rattle.reader.specs.Reading as Reading
 use Rattle.comments.specs.Set as Set
 use Rattle.comments.specs.Above as Above
+use Rattle.comments.specs.Stop as Stop
 use Rattle.layout.specs.Meaning as Meaning
 use Rattle.layout.specs.Helpers as Helpers
 use Rattle.layout.specs.GetDec as GetDec
@@ -23,10 +23,11 @@ use Rattle.layout.specs.Events as Events
 use Rattle.formatter.specs.Verdict as Verdict
 use Rattle.formatter.specs.Lookup as Lookup
 use Rattle.doc_comment.specs.Doc as Doc
+use Rattle.doc_comment.specs.Lines as Lines
 use Rattle.program.specs.Program as Program
 
 unfoldable pub runBytes : Unit {0}
-unfolding Bytes.bytes Bytes.between Bytes.isSpace Bytes.isLetter Bytes.isDigit Bytes.trimStart Bytes.trimEnd Bytes.trim Bytes.sameBytes Bytes.firstIs Bytes.firstWide
+unfolding Bytes.bytes Bytes.between Bytes.isSpace Bytes.isLetter Bytes.isDigit Bytes.trimStart Bytes.trimEnd Bytes.trim Bytes.sameBytes Bytes.firstIs Bytes.firstWide Bytes.wideAt
 runBytes = tt
 
 unfoldable pub runFields : Unit {0}
@@ -45,28 +46,24 @@ unfoldable pub runCheck : Unit {0}
 unfolding Check.andThen Check.items Check.operandFits Check.orAbsent Check.fields Check.formFits Check.formCheck Check.treeCheck Check.fieldEnd
 runCheck = tt
 
-unfoldable pub runGrammar : Unit {0}
-unfolding Grammar.groups Grammar.nodes Grammar.node Grammar.fieldOf Grammar.digits Grammar.inside Grammar.upTo Grammar.held Grammar.rows
-runGrammar = tt
-
-unfoldable pub runTree : Unit {0}
-unfolding Tree.firstRow Tree.opened
-runTree = tt
-
 unfoldable pub runReading : Unit {0}
 unfolding Reading.readTree Reading.readRecord Reading.readText Reading.read Reading.numberOf Reading.placeOf
 runReading = tt
 
 unfoldable pub runSet : Unit {0}
-unfolding Set.isComment Set.bit Set.holds Set.bits Set.wordsFrom Set.wordsOf Set.without Set.count Set.first
+unfolding Set.isComment Set.bit Set.holds Set.bits Set.wordsFrom Set.wordsOf Set.without Set.count Set.first Set.firstAt
 runSet = tt
 
 unfoldable pub runAbove : Unit {0}
-unfolding Above.isKeyword Above.above Above.commentAbove
+unfolding Above.isKeyword Above.above Above.commentAbove Above.commentOf
 runAbove = tt
 
+unfoldable pub runStop : Unit {0}
+unfolding Stop.stopped
+runStop = tt
+
 unfoldable pub runMeaning : Unit {0}
-unfolding Meaning.after Meaning.orStop Meaning.bind Meaning.tokenText Meaning.passes Meaning.needsNewline Meaning.sees Meaning.dotName Meaning.listName Meaning.pathName Meaning.opPathName Meaning.head Meaning.headsFrom Meaning.headsAt Meaning.onwards Meaning.outcome
+unfolding Meaning.after Meaning.bind Meaning.orStop Meaning.tokenText Meaning.passes Meaning.needsNewline Meaning.sees Meaning.dotName Meaning.listName Meaning.pathName Meaning.opPathName Meaning.head Meaning.headsFrom Meaning.headsAt Meaning.onwards Meaning.outcome
 runMeaning = tt
 
 unfoldable pub runHelpers : Unit {0}
@@ -78,7 +75,7 @@ unfolding GetDec.dec-in-seq GetDec.sharing-tail GetDec.dec GetDec.get-dec GetDec
 runGetDec = tt
 
 unfoldable pub runTy : Unit {0}
-unfolding Ty.HoleTy Ty.WildcardTy Ty.TyVarTy Ty.ty-row Ty.ty-rows Ty.ty-args Ty.ty-seq-there Ty.ty-seq Ty.star-ty Ty.star-tys Ty.RecordTy Ty.ConTy Ty.OneArgConTy Ty.TupleTy Ty.FnTy Ty.ParenTy Ty.tys Ty.ty-annotation
+unfolding Ty.HoleTy Ty.WildcardTy Ty.TyVarTy Ty.ty-row Ty.ty-rows Ty.RecordTy Ty.ty-args Ty.ty-seq-there Ty.ty-seq Ty.ConTy Ty.OneArgConTy Ty.star-ty Ty.star-tys Ty.TupleTy Ty.FnTy Ty.ParenTy Ty.tys Ty.ty-annotation
 runTy = tt
 
 unfoldable pub runPat : Unit {0}
@@ -118,13 +115,17 @@ unfolding Lookup.ask Lookup.lookup Lookup.numberOf Lookup.placeOf Lookup.answerO
 runLookup = tt
 
 unfoldable pub runDoc : Unit {0}
-unfolding Doc.withoutReturn Doc.linesFrom Doc.afterAsterisk Doc.withoutSpace Doc.starred Doc.joined Doc.closed Doc.opened Doc.docText Doc.put Doc.docLookup
+unfolding Doc.withoutReturn Doc.linesFrom Doc.afterAsterisk Doc.withoutSpace Doc.starred Doc.joined Doc.closed Doc.opened Doc.docText Doc.put Doc.docOf Doc.docSaid Doc.docLookup
 runDoc = tt
+
+unfoldable pub runLines : Unit {0}
+unfolding Lines.before Lines.Starts Lines.kept Lines.Nexts Lines.size Lines.Bodies Lines.fed
+runLines = tt
 
 unfoldable pub runProgram : Unit {0}
 unfolding Program.digits Program.decimal Program.line Program.printed Program.tabSize Program.textLength Program.formatInput Program.program
 runProgram = tt
 
 unfoldable pub run : Unit {0}
-unfolding runBytes runFields runCommands runTokens runCheck runGrammar runTree runReading runSet runAbove runMeaning runHelpers runGetDec runTy runPat runExp runSigExp runStrExp runDecOne runWalk runEvents runVerdict runLookup runDoc runProgram
+unfolding runBytes runFields runCommands runTokens runCheck runReading runSet runAbove runStop runMeaning runHelpers runGetDec runTy runPat runExp runSigExp runStrExp runDecOne runWalk runEvents runVerdict runLookup runDoc runLines runProgram
 run = tt

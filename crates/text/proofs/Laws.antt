@@ -1,12 +1,11 @@
 -- Laws of the definitions in specs/Bytes.antt: a scan's step and its end, trim as a part, equality of two runs. Assumes nothing.
 use Prim.Native.Nat.{ℕ, zero, suc, _+_, _-_, _≤_, _<_, zero-le, suc-le-suc}
-use native.Mathlib.Nat.{not-suc-le-zero}
 use native.Mathlib.Numerals.{add-one}
 use native.Mathlib.Omega.{arith}
 use mathlib.Core.Path.{_≡_, refl, sym, ap, _∙_}
 use mathlib.Core.Bool.{Bool, true, false, _&&_, _||_, false≢true}
 use mathlib.Core.List.{List, [], _∷_, _++_, reverse, reverse-append, reverse-reverse}
-use mathlib.Core.Option.{Option, none, some}
+use mathlib.Core.Option.{none, some}
 use lib.Dec.{eqb}
 use lib.ListN.{length, getD, take, drop, length-take, length-drop, length-reverse, drop-of-length-le, take-append-drop}
 use lib.Seq.{drop-cons, take-suc, take-all, drop-at}
@@ -58,8 +57,8 @@ module _ (s : List ℕ) (i : ℕ) where
   unfolding firstWide
   wide-more h l = rw (add-one, drop-cons s i 0, firstWide, lt-leb _ _ l)
 
--- The scan backwards: the text up to a byte, read backwards.
-reverse-take : (s : List ℕ) (k : ℕ) → k < length s → reverse (take (suc k) s) ≡ getD s k 0 ∷ reverse (take k s)
+-- The text up to a byte, read backwards.
+pub reverse-take : (s : List ℕ) (k : ℕ) → k < length s → reverse (take (suc k) s) ≡ getD s k 0 ∷ reverse (take k s)
 reverse-take s k h = rw (take-suc s k 0, reverse-append)
 
 pub trim-end-none : (s : List ℕ) (i : ℕ) → i ≤ 0 → trimEnd (take i s) ≡ take i s

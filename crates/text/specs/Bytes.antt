@@ -1,11 +1,13 @@
 -- Document 01, module 1: bytes. A run of bytes is a list of numbers below 256.
-use Prim.Native.Nat.{ℕ, zero, suc}
-use Prim.Native.Char.{Char, code}
+use Prim.Native.Nat.{ℕ, suc}
+use Prim.Native.Char.{code}
 use Prim.Native.String.{String}
 use mathlib.Core.List.{List, [], _∷_, reverse}
-use mathlib.Core.Bool.{Bool, true, false, cond, _&&_, _||_}
+use mathlib.Core.Bool.{Bool, true, false, _&&_, _||_}
 use mathlib.Core.Option.{Option, none, some}
 use lib.Dec.{leb, eqb}
+use Rattle.text.specs.declared.Wide.{Wide}
+use Rattle.text.specs.declared.Wide.the-variants.{At, Nowhere}
 
 -- The bytes of a quoted text.
 unfoldable pub bytes : String → List ℕ
@@ -57,3 +59,8 @@ firstIs test (b ∷ bs) = test b
 unfoldable pub firstWide : ℕ → List ℕ → Option ℕ
 firstWide i [] = none
 firstWide i (b ∷ bs) = elim (leb 128 b) [ true ↦ some i | false ↦ firstWide (suc i) bs ]
+
+-- The offset that an answer of the code gives.
+unfoldable pub wideAt : Wide → Option ℕ
+wideAt (At i) = some i
+wideAt Nowhere = none

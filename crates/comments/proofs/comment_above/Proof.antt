@@ -1,8 +1,8 @@
 -- `comments::comment_above` meets its contract: the search stops at most twice. Assumes nothing.
 use mathlib.Core.Path.{sym, ap, _∙_}
 use mathlib.Core.Option.{none, some}
-use Rattle.comments.specs.Above.{commentAbove}
-use Rattle.comments.specs.Answers.{stopped, commentOf}
+use Rattle.comments.specs.Above.{commentAbove, commentOf}
+use Rattle.comments.specs.Stop.{stopped}
 use borrow.Author.Needs.{needs}
 use Rattle.comments.proofs.comment_above.Statement.{statement}
 use Rattle.comments.proofs.comment_above.Tie as tie

@@ -1,7 +1,6 @@
 -- `comments::through` meets its contract: the tokens past the last are neither comments nor keywords. Assumes nothing.
 use native.Mathlib.Numerals.{add-one}
 use native.Mathlib.Omega.{arith}
-use mathlib.Core.Path.{refl}
 use Rattle.comments.proofs.Search.{from-last}
 use borrow.Author.Needs.{needs}
 use Rattle.comments.proofs.through.Statement.{statement}

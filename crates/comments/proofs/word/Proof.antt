@@ -1,8 +1,7 @@
 -- `comments::word` meets its contract. The invariant: x has the bits from `b` up, and is shifted as each lower one is put under them. Assumes nothing.
-use Prim.Native.Nat.{ℕ, _+_, _-_, _*_, _≤_, _<_, _^_}
+use Prim.Native.Nat.{_+_, _-_, _≤_}
 use native.Mathlib.Omega.{arith}
-use native.Mathlib.Nat.{add-zero}
-use mathlib.Core.Path.{_≡_, refl, sym, ap, _∙_}
+use mathlib.Core.Path.{_≡_, refl, sym, _∙_}
 use Rattle.comments.specs.Set.{isComment, bits}
 use Rattle.comments.proofs.Words.{made-fits, made-one, made-zero, made-all}
 use borrow.Author.Needs.{needs}

@@ -1,9 +1,8 @@
 -- `text::first_wide` meets its contract. The invariant: what the scan finds from the start is what it finds from `i`. Assumes nothing.
-use Prim.Native.Nat.{_≤_, _+_, _-_}
+use Prim.Native.Nat.{_≤_, _-_}
 use mathlib.Core.Path.{_≡_, refl, sym, _∙_}
 use lib.ListN.{length, drop}
-use Rattle.text.specs.Bytes.{firstWide}
-use Rattle.text.specs.Wide.{wideAt}
+use Rattle.text.specs.Bytes.{firstWide, wideAt}
 use Rattle.text.proofs.Laws.{wide-none, wide-at, wide-more}
 use borrow.Author.Needs.{needs}
 use Rattle.text.proofs.first_wide.Statement.{statement}

@@ -1,9 +1,8 @@
 -- `comments::Set::all` meets its contract. The invariant: each word before `w` has the bits of its tokens. Assumes nothing.
-use Prim.Native.Nat.{ℕ, _+_, _-_, _*_, _≤_, _<_}
+use Prim.Native.Nat.{ℕ, _-_, _*_, _≤_, _<_}
 use native.Mathlib.Omega.{arith}
 use mathlib.Core.Path.{_≡_, refl, _∙_}
 use lib.ListN.{length, getD, length-set}
-use borrow.Author.Count.{below-none}
 use Rattle.comments.specs.Set.{isComment, bits}
 use Rattle.comments.proofs.Words.{words-more, words-is}
 use borrow.Author.Needs.{needs}

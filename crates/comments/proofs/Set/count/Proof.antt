@@ -1,11 +1,11 @@
 -- `comments::Set::count` meets its contract. The invariant: n counts the tokens of the words before `w`. Assumes nothing.
 use mir.Syntax.{w64}
 use mir.Val.{Fits}
-use lib.ListN.{length, getD}
+use lib.ListN.{getD}
 use native.Mathlib.Omega.{arith}
-use Prim.Native.Nat.{ℕ, _+_, _-_, _*_, _≤_, _<_, _^_}
-use mathlib.Core.Path.{_≡_, refl, sym, ap, _∙_}
-use lib.Count.{ones, ones-le}
+use Prim.Native.Nat.{ℕ, _-_, _*_, _≤_, _<_, _^_}
+use mathlib.Core.Path.{_≡_, refl, ap, _∙_}
+use lib.Count.{ones-le}
 use Rattle.comments.specs.Set.{holds, count}
 use Rattle.comments.proofs.Words.{count-word}
 use borrow.Author.Needs.{needs}

@@ -1,13 +1,12 @@
 -- `comments::Set::first` meets its contract. The invariant: the words before `w` are 0. Assumes nothing.
 use mir.Syntax.{w64}
 use mir.Val.{Fits}
-use lib.ListN.{length, getD}
+use lib.ListN.{getD}
 use native.Mathlib.Omega.{arith}
-use Prim.Native.Nat.{ℕ, _+_, _-_, _*_, _≤_, _<_, _^_}
-use mathlib.Core.Path.{_≡_, refl, sym, ap, _∙_}
+use Prim.Native.Nat.{ℕ, _-_, _*_, _≤_, _<_, _^_}
+use mathlib.Core.Path.{_≡_, refl, sym, _∙_}
 use lib.Count.{trailing-le}
-use Rattle.comments.specs.Set.{holds, room, first}
-use Rattle.comments.specs.Answers.{firstAt}
+use Rattle.comments.specs.Set.{holds, room, first, firstAt}
 use Rattle.comments.proofs.Words.{first-here, first-later, first-behind}
 use borrow.Author.Needs.{needs}
 use Rattle.comments.proofs.Set.first.Statement.{statement}

@@ -2,7 +2,6 @@
 use mir.Syntax.{w64}
 use mir.Val.{Fits}
 use lib.ListN.{length, getD}
-use native.Mathlib.Omega.{arith}
 use Prim.Native.Nat.{ℕ, _<_, _^_}
 use mathlib.Core.Path.{_≡_}
 use Rattle.comments.proofs.Words.{words-struck, words-kept}

@@ -1,0 +1,89 @@
+-- `doc_comment::measure` meets its contract. The invariant: the lines before `at` were read, and the last of them is kept apart. Assumes nothing.
+use Prim.Native.Nat.{_-_}
+use native.Mathlib.Omega.{arith}
+use mathlib.Core.Path.{sym, _∙_}
+use lib.ListN.{length}
+use denote.Ref.{now}
+use Rattle.doc_comment.specs.Lines.{FirstKept}
+use Rattle.doc_comment.proofs.Scan.{next-kept, next-over}
+use Rattle.doc_comment.proofs.Text.{Seen, seen-none, seen-more, seen-closed, seen-open}
+use borrow.Author.Needs.{needs}
+use Rattle.doc_comment.proofs.measure.Statement.{statement}
+use Rattle.doc_comment.proofs.measure.Tie as tie
+
+abbrev Inv-loop : tie.InvT-loop
+Inv-loop comment from at₀ all₀ most₀ start₀ end₀ at all most start end = Seen comment from at all most start end
+
+abbrev μ-loop : tie.MeasureT-loop
+μ-loop comment from at₀ all₀ most₀ start₀ end₀ at all most start end = length comment - at
+
+-- the line that was read
+first : (c : tie.After-known-told Inv-loop μ-loop) → FirstKept (now (c .before .before .before .before .before .before .args .comment)) (c .before .before .before .before .loop .at) (c .before .s .given .0 .0) (c .before .s .given .0 .1 .0) (c .before .s .given .0 .1 .1 .0)
+first c = next-kept _ (c .before .before .before .next-line .ensures) (c .before .s .given .1)
+
+loop-holds : tie.Need-loop-holds Inv-loop μ-loop
+loop-holds c = seen-none _ _ (c .before .pre)
+
+next-line-requires : tie.Need-next-line-requires Inv-loop μ-loop
+next-line-requires c κs = c .loop .inv .here
+
+enum-known-s : tie.Need-enum-known-s Inv-loop μ-loop
+enum-known-s c = search needs
+
+enum-told : tie.Need-enum-told Inv-loop μ-loop
+enum-told c = search needs
+
+sub-closes : tie.Need-sub-closes Inv-loop μ-loop
+sub-closes c = c .before .before .before .loop .inv .ordered
+
+part-closes-start : tie.Need-part-closes-start Inv-loop μ-loop
+part-closes-start c = c .before .before .before .loop .inv .ordered
+
+part-closes-end : tie.Need-part-closes-end Inv-loop μ-loop
+part-closes-end c = c .before .before .before .loop .inv .inside
+
+closes-requires : tie.Need-closes-requires Inv-loop μ-loop
+closes-requires c κs = search needs
+
+returns : tie.Need-returns Inv-loop μ-loop
+returns c = seen-closed (c .before .before .before .before .before .before .loop .inv) (next-over _ _ _ (c .before .before .before .before .before .next-line .ensures) (c .before .before .before .enum-told .given .1)) (sym (c .before .closes .ensures) ∙ c .if1 .taken)
+
+returns-2 : tie.Need-returns-2 Inv-loop μ-loop
+returns-2 c = seen-open (c .before .before .before .before .before .before .loop .inv) (next-over _ _ _ (c .before .before .before .before .before .next-line .ensures) (c .before .before .before .enum-told .given .1)) (sym (c .before .closes .ensures) ∙ c .if1 .left)
+
+sub-all : tie.Need-sub-all Inv-loop μ-loop
+sub-all c = first c .ordered
+
+add-all : tie.Need-add-all Inv-loop μ-loop
+add-all c = let f = first c in omega (arith, f .room, f .ends)
+
+add-all-2 : tie.Need-add-all-2 Inv-loop μ-loop
+add-all-2 c = let f = first c in omega (arith, f .room, f .ends, c .before .before .before .before .loop .inv .within)
+
+loop-less : tie.Need-loop-less Inv-loop μ-loop
+loop-less c = let f = first c in omega (arith, f .room, f .ends)
+
+loop-again : tie.Need-loop-again Inv-loop μ-loop
+loop-again c = seen-more (c .before .before .before .before .loop .inv) (first c)
+
+pub measure-spec : {M : Type 1} → statement M
+measure-spec =
+    tie.close
+    (tie.spec
+    Inv-loop
+    μ-loop
+    loop-holds
+    next-line-requires
+    enum-known-s
+    enum-told
+    sub-closes
+    part-closes-start
+    part-closes-end
+    closes-requires
+    returns
+    returns-2
+    sub-all
+    add-all
+    add-all-2
+    loop-less
+    loop-again)
