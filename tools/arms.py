@@ -95,20 +95,27 @@ class Function:
 
     def apart(self, way, at):
         """How the answer of the call at this step is taken apart: ("is", path) or ("not", path)."""
+        key = None
         for place in range(at + 1, len(way)):
             record, thing, path = way[place]
             if self.kind(thing):
                 return None
+            key = re.search(r"keys(\d+)$", record).group(1) if re.search(r"keys\d+$", record) else key
             if base(thing) == "enum-told":
-                return ("not", path + " .given .1")
+                return ("not", path + " .given .1", key)
             if base(thing) == "known-told":
-                return ("is", way[place - 1][2] + " .given .1")
+                return ("is", way[place - 1][2] + " .given .1", key)
         return None
 
     def term(self, steps, last, stop):
         """The chain of steps; `last` ends it, or None where the last call does; `stop` is the path of a call of `stop`."""
         if not steps:
             return last or "last-skip"
+        if steps[0][1] in self.answers.get("skip", []):
+            return "by-same skip-same %s" % parenthesised(self.step(steps, last, stop))
+        return self.step(steps, last, stop)
+
+    def step(self, steps, last, stop):
         (kind, thing, path, apart), rest = steps[0], steps[1:]
         more = lambda: parenthesised(self.term(rest, last, stop))
         proof = "(%s .ensures)" % path
@@ -131,6 +138,12 @@ class Function:
             return "then-stop (%s) (%s)" % (term, apart[1]) if tail else term
         if kind == "gone":
             return self.gone(proof, apart, same)
+        if kind == "optional":
+            laws = {"1": "optional-is", "2": "optional-no"}
+            if apart[0] == "is":
+                return same("%s %s (%s)" % (laws[apart[2]], proof, apart[1]))
+            term = "optional-not (%s .ensures) %s (%s)" % (stop, proof, apart[1])
+            return "then-stop (%s) (%s .ensures)" % (term, stop) if tail else term
         if kind in ("loop", "turn", "left"):
             return self.loop(kind, path, more)
         raise SystemExit("arms: no step for '%s' in %s" % (thing, self.name))
@@ -251,7 +264,7 @@ def filled(function, text):
     text = re.sub(r"^(μ-loop .*) = \?$", r"\1 = n - i", text, flags=re.M)
     text = re.sub(r"^([a-z0-9-]+)( c(?: κs)?) = (?:\?|search needs)$", need, text, flags=re.M)
     unfold = function.answers.get("unfold")
-    if unfold:
+    if unfold:  # an empty text unfolds nothing
         text = re.sub(r"^((?:returns|loop-again)[-0-9]* c = )", "unfolding %s\n\\1" % unfold, text, flags=re.M)
     return "".join(line + "\n" for line in text.split("\n") if not re.match(r"^-- src/|^use .* as (reads|lts|[a-z-]+-reads)$", line)).rstrip("\n") + "\n"
 

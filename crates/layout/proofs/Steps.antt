@@ -21,7 +21,7 @@ use Rattle.layout.specs.declared.fields.Read.the-variants.{Is}
 use Rattle.layout.specs.declared.fields.Gone.{Gone}
 use Rattle.layout.specs.declared.fields.Given.{Given}
 use mathlib.Core.Option.{Option, none, some}
-use Rattle.layout.specs.Helpers.{times, items}
+use Rattle.layout.specs.Helpers.{times, items, when}
 use borrow.Author.Tests.{lt-ltb, le-ltb}
 
 never : {A : Type 0} → _≡_ {A = ℕ} 0 1 → A
@@ -424,3 +424,12 @@ sure-joint {i = i} h e = rw (lt-ltb 0 i h) e
 pub sure-no-joint : {tab : ℕ} (u : Layout) {s : St} {o : List ℕ} {i : ℕ} → i ≤ 0 → Sure tab (joint u i) s o s o
 unfolding joint
 sure-no-joint u {i = i} h = rw (le-ltb 0 i h) sure-skip
+
+-- ---- what a condition decides
+pub sure-when : {tab : ℕ} {w : Layout} {s s′ : St} {o o′ : List ℕ} {b : Bool} → b ≡ true → Sure tab w s o s′ o′ → Sure tab (when b w) s o s′ o′
+unfolding when
+sure-when e f = rw (e, when) f
+
+pub sure-unless : {tab : ℕ} (w : Layout) {s : St} {o : List ℕ} {b : Bool} → b ≡ false → Sure tab (when b w) s o s o
+unfolding when
+sure-unless w e = rw (e, when) sure-skip

@@ -7,7 +7,7 @@ use lib.ListN.{getD}
 use lib.Dec.{ltb}
 use Rattle.layout.specs.Layout.{Layout, Declared, skip, _⨾_, word, write, comment, group, choice, list, optional, maybe, above, halt, import}
 use Rattle.layout.specs.Helpers.{Cfg, Walkers, indented, indent, when-some, text, items, for-each, sep, new-line, sep-with-lines}
-use Rattle.layout.specs.Helpers.{in-end, path, ty-var-seq}
+use Rattle.layout.specs.Helpers.{in-end, path, ty-var-seq, word-if}
 use Rattle.layout.specs.Ty.{ty-annotation}
 use Rattle.layout.specs.Exp.{eq-body}
 use Rattle.layout.specs.SigExp.{ascription-tail}
@@ -59,7 +59,7 @@ module _ (ws : Walkers) where
   unfoldable pub val-bind : Cfg → Layout
   val-bind c =
       group
-      ((optional λ rec-kw. when-some rec-kw (word "rec "))
+      (word-if "rec "
       ⨾ get-pat
       ⨾ eq-body ws c)
 
@@ -67,7 +67,7 @@ module _ (ws : Walkers) where
   ValDec c = word "val " ⨾ sep-with-lines c "and " (val-bind c)
 
   unfoldable pub PrefixFunBindCaseHead : Layout
-  PrefixFunBindCaseHead = (optional λ op-kw. when-some op-kw (word "op ")) ⨾ text
+  PrefixFunBindCaseHead = word-if "op " ⨾ text
 
   unfoldable pub InfixFunBindCaseHead : Layout
   InfixFunBindCaseHead =

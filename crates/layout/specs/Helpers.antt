@@ -85,12 +85,20 @@ op-space (some k) = test isAlphanumeric k (λ needs-space. when needs-space (wor
 unfoldable pub op-path : Layout
 op-path = optional λ op. when-some op (word "op" ⨾ firstName op-space) ⨾ path
 
+-- The variables of a sequence, with a comma between.
+unfoldable pub ty-vars : Layout
+ty-vars = sep ", " (group text)
+
+unfoldable pub ty-var-seq-there : Layout
+ty-var-seq-there = group (optional λ parens. when-some parens (word "(") ⨾ ty-vars ⨾ when-some parens (word ")") ⨾ word " ")
+
 unfoldable pub ty-var-seq : Layout
-ty-var-seq =
-    maybe
-    (group
-    (optional λ parens. when-some parens (word "(") ⨾ sep ", " (group text) ⨾ when-some parens (word ")") ⨾ word " "))
+ty-var-seq = maybe ty-var-seq-there
+
+-- `if x().is_some() { st.write(w); }`.
+unfoldable pub word-if : String → Layout
+word-if w = optional λ there. when-some there (word w)
 
 -- `if dec.semicolon().is_some() { st.write(";"); }`.
 unfoldable pub semicolon : Layout
-semicolon = optional λ semi. when-some semi (word ";")
+semicolon = word-if ";"

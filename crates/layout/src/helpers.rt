@@ -3,7 +3,9 @@ use crate::Answer;
 use crate::Cfg;
 use crate::St;
 use crate::fields::Given;
+use crate::fields::Gone;
 use crate::fields::Read;
+use crate::fields::absent;
 use crate::fields::group;
 use crate::fields::list;
 use crate::fields::optional;
@@ -14,9 +16,9 @@ use crate::token;
 use crate::word;
 use crate::words;
 ghost use Rattle.layout.specs.Words.{wordOf};
-ghost use Rattle.layout.specs.Layout.{word as wordOf·, output-indent, _⨾_};
-ghost use Rattle.layout.specs.Helpers.{text as textField, path as pathLayout};
-ghost use Rattle.layout.specs.State.{Sure, Plain, joint};
+ghost use Rattle.layout.specs.Layout.{word as wordOf·, skip, _⨾_};
+ghost use Rattle.layout.specs.Helpers.{text as textField, path as pathLayout, word-if, ty-vars, ty-var-seq-there, ty-var-seq, indent as indentOf, when, new-line};
+ghost use Rattle.layout.specs.State.{Sure, Plain, joint, cfgOf};
 
 // A fixed word before an item that is not the first.
 pub fn between(text: &[u8], out: &mut [u8], st: St, tab: u32, w: usize, i: usize) -> St
@@ -81,4 +83,189 @@ pub fn path(
         i += 1;
     }
     Answer::Done(s)
+}
+
+// ---- words that a token's presence decides
+// A fixed word where the token at the cursor is there.
+pub fn word_if(
+    text: &[u8],
+    rec: &[u8],
+    starts: &[u16],
+    lens: &[u16],
+    out: &mut [u8],
+    st: St,
+    cfg: Cfg,
+    w: usize,
+) -> Answer
+    ensures { λ r. ⌜ Plain (now (text .entry)) (now (rec .entry)) (now (starts .entry)) (now (lens .entry)) (cfg .tab) (word-if (wordOf w)) st (now (out .entry)) r (now (out .exit)) ⌝ }
+{
+    let given = optional(rec, st);
+    match given {
+        Given::Token(_k, s) => Answer::Done(word(text, out, s, cfg.tab, w)),
+        Given::Absent(s) => Answer::Done(s),
+        Given::Neither => stop(st),
+    }
+}
+
+// The variables of a sequence, with a comma between.
+fn ty_vars(
+    text: &[u8],
+    rec: &[u8],
+    starts: &[u16],
+    lens: &[u16],
+    out: &mut [u8],
+    st: St,
+    cfg: Cfg,
+) -> Answer
+    ensures { λ r. ⌜ Plain (now (text .entry)) (now (rec .entry)) (now (starts .entry)) (now (lens .entry)) (cfg .tab) ty-vars st (now (out .entry)) r (now (out .exit)) ⌝ }
+{
+    let Read::Is(n, s0) = list(rec, st) else {
+        return stop(st);
+    };
+    let mut s = s0;
+    let mut i = 0;
+    while i < n {
+        let s1 = between(text, out, s, cfg.tab, words::COMMA, i);
+        let r2 = group(rec, s1);
+        let Answer::Done(s2) = r2 else {
+            return r2;
+        };
+        let r3 = text_of(text, rec, starts, lens, out, s2, cfg);
+        let Answer::Done(s3) = r3 else {
+            return r3;
+        };
+        s = s3;
+        i += 1;
+    }
+    Answer::Done(s)
+}
+
+// The variables in parentheses.
+fn ty_vars_in_parens(
+    text: &[u8],
+    rec: &[u8],
+    starts: &[u16],
+    lens: &[u16],
+    out: &mut [u8],
+    st: St,
+    cfg: Cfg,
+) -> Answer
+    ensures { λ r. ⌜ Plain (now (text .entry)) (now (rec .entry)) (now (starts .entry)) (now (lens .entry)) (cfg .tab) (wordOf· "(" ⨾ ty-vars ⨾ wordOf· ")" ⨾ wordOf· " ") st (now (out .entry)) r (now (out .exit)) ⌝ }
+{
+    let s1 = word(text, out, st, cfg.tab, words::L_ROUND);
+    let r2 = ty_vars(text, rec, starts, lens, out, s1, cfg);
+    let Answer::Done(s2) = r2 else {
+        return r2;
+    };
+    let s3 = word(text, out, s2, cfg.tab, words::R_ROUND);
+    Answer::Done(word(text, out, s3, cfg.tab, words::SPACE))
+}
+
+// The variables without parentheses.
+fn ty_vars_bare(
+    text: &[u8],
+    rec: &[u8],
+    starts: &[u16],
+    lens: &[u16],
+    out: &mut [u8],
+    st: St,
+    cfg: Cfg,
+) -> Answer
+    ensures { λ r. ⌜ Plain (now (text .entry)) (now (rec .entry)) (now (starts .entry)) (now (lens .entry)) (cfg .tab) (skip ⨾ ty-vars ⨾ skip ⨾ wordOf· " ") st (now (out .entry)) r (now (out .exit)) ⌝ }
+{
+    let r1 = ty_vars(text, rec, starts, lens, out, st, cfg);
+    let Answer::Done(s1) = r1 else {
+        return r1;
+    };
+    Answer::Done(word(text, out, s1, cfg.tab, words::SPACE))
+}
+
+// A sequence that is there.
+fn ty_var_seq_there(
+    text: &[u8],
+    rec: &[u8],
+    starts: &[u16],
+    lens: &[u16],
+    out: &mut [u8],
+    st: St,
+    cfg: Cfg,
+) -> Answer
+    ensures { λ r. ⌜ Plain (now (text .entry)) (now (rec .entry)) (now (starts .entry)) (now (lens .entry)) (cfg .tab) ty-var-seq-there st (now (out .entry)) r (now (out .exit)) ⌝ }
+{
+    let r1 = group(rec, st);
+    let Answer::Done(s1) = r1 else {
+        return r1;
+    };
+    let given = optional(rec, s1);
+    match given {
+        Given::Token(_k, s2) => ty_vars_in_parens(text, rec, starts, lens, out, s2, cfg),
+        Given::Absent(s2) => ty_vars_bare(text, rec, starts, lens, out, s2, cfg),
+        Given::Neither => stop(s1),
+    }
+}
+
+// A sequence of type variables, with a space behind it, where there is one.
+pub fn ty_var_seq(
+    text: &[u8],
+    rec: &[u8],
+    starts: &[u16],
+    lens: &[u16],
+    out: &mut [u8],
+    st: St,
+    cfg: Cfg,
+) -> Answer
+    ensures { λ r. ⌜ Plain (now (text .entry)) (now (rec .entry)) (now (starts .entry)) (now (lens .entry)) (cfg .tab) ty-var-seq st (now (out .entry)) r (now (out .exit)) ⌝ }
+{
+    let gone = absent(rec, st);
+    match gone {
+        Gone::Past(s) => Answer::Done(s),
+        Gone::There => ty_var_seq_there(text, rec, starts, lens, out, st, cfg),
+    }
+}
+
+// ---- lines
+// `cfg.output_indent(st)`.
+pub fn indent(out: &mut [u8], st: St, cfg: Cfg) -> St
+    ensures { λ r. ⌜ Sure (cfg .tab) (indentOf (cfgOf cfg)) st (now (out .entry)) r (now (out .exit)) ⌝ }
+{
+    indent_at(out, st, cfg.tab, cfg.depth)
+}
+
+// A line feed and an indent.
+pub fn line(text: &[u8], out: &mut [u8], st: St, cfg: Cfg) -> St
+    ensures { λ r. ⌜ Sure (cfg .tab) (wordOf· "\n" ⨾ indentOf (cfgOf cfg)) st (now (out .entry)) r (now (out .exit)) ⌝ }
+{
+    let s1 = word(text, out, st, cfg.tab, words::LINE_FEED);
+    indent(out, s1, cfg)
+}
+
+// A blank line where the configuration has them.
+fn blank(text: &[u8], out: &mut [u8], st: St, cfg: Cfg) -> St
+    ensures { λ r. ⌜ Sure (cfg .tab) (when (cfg .blank) (wordOf· "\n")) st (now (out .entry)) r (now (out .exit)) ⌝ }
+{
+    let blank = cfg.blank;
+    if blank {
+        return word(text, out, st, cfg.tab, words::LINE_FEED);
+    }
+    st
+}
+
+// What `sep_with_lines` writes before an item that is not the first.
+fn later_line(text: &[u8], out: &mut [u8], st: St, cfg: Cfg, w: usize) -> St
+    ensures { λ r. ⌜ Sure (cfg .tab) (new-line (cfgOf cfg) (wordOf w)) st (now (out .entry)) r (now (out .exit)) ⌝ }
+{
+    let s1 = word(text, out, st, cfg.tab, words::LINE_FEED);
+    let s2 = blank(text, out, s1, cfg);
+    let s3 = indent(out, s2, cfg);
+    word(text, out, s3, cfg.tab, w)
+}
+
+// The same before item i.
+pub fn new_line(text: &[u8], out: &mut [u8], st: St, cfg: Cfg, w: usize, i: usize) -> St
+    ensures { λ r. ⌜ Sure (cfg .tab) (joint (new-line (cfgOf cfg) (wordOf w)) i) st (now (out .entry)) r (now (out .exit)) ⌝ }
+{
+    if 0 < i {
+        return later_line(text, out, st, cfg, w);
+    }
+    st
 }

@@ -67,7 +67,7 @@ unfolding Meaning.after Meaning.bind Meaning.orStop Meaning.tokenText Meaning.pa
 runMeaning = tt
 
 unfoldable pub runHelpers : Unit {0}
-unfolding Helpers.with-extra-blank Helpers.indented Helpers.indent Helpers.when Helpers.when-some Helpers.text Helpers.times Helpers.items Helpers.for-each Helpers.sep Helpers.new-line Helpers.sep-with-lines Helpers.in-end Helpers.path Helpers.op-space Helpers.op-path Helpers.ty-var-seq Helpers.semicolon
+unfolding Helpers.with-extra-blank Helpers.indented Helpers.indent Helpers.when Helpers.when-some Helpers.text Helpers.times Helpers.items Helpers.for-each Helpers.sep Helpers.new-line Helpers.sep-with-lines Helpers.in-end Helpers.path Helpers.op-space Helpers.op-path Helpers.ty-vars Helpers.ty-var-seq-there Helpers.ty-var-seq Helpers.word-if Helpers.semicolon
 runHelpers = tt
 
 unfoldable pub runGetDec : Unit {0}

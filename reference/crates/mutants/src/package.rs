@@ -87,11 +87,13 @@ fn recording(copy: &str) -> Result<String, String> {
     }
 }
 
-/// The package's manifest. Overflow panics as in the reference.
+/// The package's manifest. Overflow panics as in the reference; the copies are not optimized,
+/// because there are many of them and each is run on few sheets.
 fn manifest() -> String {
     let mut manifest = String::from(
         "[package]\nname = \"copies\"\nversion = \"0.1.0\"\nedition = \"2021\"\npublish = false\n\n\
-         [workspace]\n\n[profile.release]\nopt-level = 1\noverflow-checks = true\n\n[dependencies]\n",
+         [workspace]\n\n[profile.release]\nopt-level = 0\noverflow-checks = true\n\n\
+         [profile.release.package.\"*\"]\nopt-level = 3\n\n[dependencies]\n",
     );
     for name in ["fast-hash", "mutants", "sml-comment", "sml-syntax", "text-size-util"] {
         writeln!(manifest, "{name} = {{ path = {:?} }}", crates().join(name)).expect("a String");

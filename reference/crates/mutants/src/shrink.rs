@@ -3,61 +3,77 @@
 use generate::{commands, Command, Role};
 use schema::command;
 use sheet::Sheet;
+use std::ops::Range;
+
+/// Of a longer list only the halves and the first items are left out.
+const MOST_ITEMS: usize = 20;
 
 /// A smaller sheet for which `keeps` is true, where this one is such. Each step leaves out an item
 /// of a list or a field, puts a form in place of one that holds it, or leaves out or shortens
-/// tokens.
+/// tokens; steps are tried until none is left that keeps the property.
 pub(crate) fn shrink(sheet: &Sheet, keeps: &dyn Fn(&Sheet) -> bool) -> Sheet {
     let mut smallest = sheet.clone();
     loop {
-        let smaller = smaller(&smallest).find(keeps);
-        match smaller {
-            Some(smaller) => smallest = smaller,
-            None => return smallest,
+        let before = smallest.record.len() + smallest.text.len();
+        let mut at = 0;
+        // A step that is taken leaves other commands at this place, so it is tried again.
+        while let Some(steps) = steps(&smallest, at) {
+            match steps.into_iter().find(|smaller| keeps(smaller)) {
+                Some(smaller) => smallest = smaller,
+                None => at += 1,
+            }
+        }
+        if smallest.record.len() + smallest.text.len() == before {
+            return smallest;
         }
     }
 }
 
-/// The sheets one step smaller.
-fn smaller(sheet: &Sheet) -> impl Iterator<Item = Sheet> {
+/// The sheets one step smaller at a command; none past the last command.
+fn steps(sheet: &Sheet, at: usize) -> Option<Vec<Sheet>> {
     let commands = commands(&sheet.record).unwrap_or_default();
-    let mut sheets = Vec::new();
-    for at in 0..commands.len() {
-        sheets.extend(without_items(sheet, &commands, at));
-        sheets.extend(absent(sheet, &commands[at]));
-        sheets.extend(inner_forms(sheet, &commands, at));
+    let command = commands.get(at)?;
+    let mut steps = Vec::new();
+    if command.role == Role::Token {
+        steps.extend(without_token(sheet, &commands, at));
+        steps.extend(shorter_token(sheet, &commands, at));
     }
-    let tokens = commands.iter().take_while(|command| command.role == Role::Token).count();
-    for token in 0..tokens {
-        sheets.extend(without_token(sheet, &commands, token));
-        sheets.extend(shorter_token(sheet, &commands, token));
-    }
-    sheets.into_iter()
+    steps.extend(absent(sheet, command));
+    steps.extend(inner_form(sheet, &commands, at));
+    steps.extend(without_items(sheet, &commands, at));
+    Some(steps)
 }
 
-fn spliced(sheet: &Sheet, range: std::ops::Range<usize>, bytes: &[u8]) -> Sheet {
+fn spliced(sheet: &Sheet, range: Range<usize>, bytes: &[u8]) -> Sheet {
     let mut record = sheet.record.clone();
     record.splice(range, bytes.iter().copied());
     Sheet { text: sheet.text.clone(), record }
 }
 
-/// The sheets in which the list that begins here has lost an item.
+/// The sheets in which the list that begins here has lost its last items or one item.
 fn without_items(sheet: &Sheet, commands: &[Command], at: usize) -> Vec<Sheet> {
     let list = &commands[at];
     let Role::List(count @ 1..) = list.role else { return Vec::new() };
     let inside = commands[at + 1..].iter().take_while(|inner| inner.bytes.start < list.end);
-    let mut next = list.bytes.end;
-    let mut sheets = Vec::new();
+    let mut items: Vec<Range<usize>> = Vec::new();
     for item in inside {
-        if item.bytes.start == next {
-            next = item.end;
-            let mut smaller = spliced(sheet, item.bytes.start..item.end, &[]);
-            let [low, high] = (count - 1).to_le_bytes();
-            smaller.record[list.bytes.start + 1..list.bytes.end].copy_from_slice(&[low, high]);
-            sheets.push(smaller);
+        if item.bytes.start == items.last().map_or(list.bytes.end, |last| last.end) {
+            items.push(item.bytes.start..item.end);
         }
     }
-    sheets
+    let half = usize::from(count / 2);
+    let without = |range: Range<usize>, left: usize| {
+        let mut smaller = spliced(sheet, range, &[]);
+        let left = u16::try_from(left).unwrap_or(0).to_le_bytes();
+        smaller.record[list.bytes.start + 1..list.bytes.end].copy_from_slice(&left);
+        smaller
+    };
+    let halves = [
+        without(items[half].start..list.end, half),
+        without(list.bytes.end..items[half].start, items.len() - half),
+    ];
+    let ones = items.iter().take(MOST_ITEMS).map(|item| without(item.clone(), items.len() - 1));
+    halves.into_iter().chain(ones).collect()
 }
 
 /// The sheet in which the field that begins here is absent.
@@ -68,18 +84,15 @@ fn absent(sheet: &Sheet, command: &Command) -> Option<Sheet> {
         .then(|| spliced(sheet, command.bytes.start..command.end, &[command::ABSENT]))
 }
 
-/// The sheets in which a form of the same family from inside stands in place of the form here.
-fn inner_forms(sheet: &Sheet, commands: &[Command], at: usize) -> Vec<Sheet> {
+/// The sheet in which the next form of the same family stands in place of the form that holds it.
+fn inner_form(sheet: &Sheet, commands: &[Command], at: usize) -> Option<Sheet> {
     let outer = &commands[at];
-    let Role::Form(family, _) = outer.role else { return Vec::new() };
-    let inside = commands[at + 1..].iter().take_while(|inner| inner.bytes.start < outer.end);
-    let inside =
-        inside.filter(|inner| matches!(inner.role, Role::Form(other, _) if other == family));
-    let replaced = |inner: &Command| {
-        let bytes = sheet.record[inner.bytes.start..inner.end].to_vec();
-        spliced(sheet, outer.bytes.start..outer.end, &bytes)
-    };
-    inside.map(replaced).collect()
+    let Role::Form(family, _) = outer.role else { return None };
+    let mut inside = commands[at + 1..].iter().take_while(|inner| inner.bytes.start < outer.end);
+    let inner =
+        inside.find(|inner| matches!(inner.role, Role::Form(other, _) if other == family))?;
+    let bytes = sheet.record[inner.bytes.start..inner.end].to_vec();
+    Some(spliced(sheet, outer.bytes.start..outer.end, &bytes))
 }
 
 /// The start and the length of a token in the text.

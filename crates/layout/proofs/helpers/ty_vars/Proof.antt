@@ -1,0 +1,118 @@
+-- `layout::helpers::ty_vars` equals its layout. Written by tools/arms.py.
+use borrow.Author.Needs.{needs}
+use native.Mathlib.Omega.{arith}
+use mathlib.Core.Path.{refl, _∙_}
+use Prim.Native.Nat.{_-_}
+use Rattle.layout.specs.Words.{wordOf}
+use Rattle.layout.specs.Layout as Layout
+use Rattle.layout.specs.Helpers as Helpers
+use Rattle.layout.proofs.Steps.{PlainTurn, from, plain, by-same, first-same, then-done, then-stop, then-sure, last-sure, then-write, last-write, last-skip, token-is, token-not, list-is, list-not, group-is, group-not, maybe-past, maybe-there, optional-is, optional-no, optional-not, skip-same, items-all, from-more, from-none}
+use Rattle.layout.proofs.helpers.ty_vars.Statement.{statement}
+use Rattle.layout.proofs.helpers.ty_vars.Tie as tie
+
+abbrev Inv-loop : tie.InvT-loop
+Inv-loop text rec starts lens out₀ cfg n s₀ i₀ out s i =
+    PlainTurn text rec starts lens (cfg .tab) (from (Layout.word ", ") (Layout.group Helpers.text)) n s₀ out₀ i s out
+
+abbrev μ-loop : tie.MeasureT-loop
+μ-loop text rec starts lens out₀ cfg n s₀ i₀ out s i = n - i
+
+list-requires : tie.Need-list-requires Inv-loop μ-loop
+list-requires c κs = search needs
+
+enum-known-n : tie.Need-enum-known-n Inv-loop μ-loop
+enum-known-n c = search needs
+
+enum-told : tie.Need-enum-told Inv-loop μ-loop
+enum-told c = search needs
+
+stop-requires : tie.Need-stop-requires Inv-loop μ-loop
+stop-requires c κs = search needs
+
+returns : tie.Need-returns Inv-loop μ-loop
+unfolding Helpers.ty-vars Helpers.sep
+returns c = record { is = λ kinds m. list-not (c .stop .ensures) (c .before .before .before .list .ensures) (c .before .enum-told .given .1) }
+
+loop-holds : tie.Need-loop-holds Inv-loop μ-loop
+loop-holds c = (omega arith, λ kinds m r o h. h, refl)
+
+between-requires : tie.Need-between-requires Inv-loop μ-loop
+between-requires c κs = search needs
+
+group-requires : tie.Need-group-requires Inv-loop μ-loop
+group-requires c κs = search needs
+
+enum-known-r2 : tie.Need-enum-known-r2 Inv-loop μ-loop
+enum-known-r2 c = search needs
+
+enum-told-2 : tie.Need-enum-told-2 Inv-loop μ-loop
+enum-told-2 c = search needs
+
+same-length : tie.Need-same-length Inv-loop μ-loop
+same-length c = c .before .before .before .before .before .between .kept .1 .0 ∙ c .before .before .before .before .before .before .before .before .loop .inv .2
+
+returns-2 : tie.Need-returns-2 Inv-loop μ-loop
+unfolding Helpers.ty-vars Helpers.sep
+returns-2 c = record { is = λ kinds m. by-same (list-is (c .before .before .before .before .before .before .before .before .before .before .before .before .list .ensures) (c .before .before .before .before .before .before .before .before .before .before .n .given .1)) (by-same (items-all _ _ _) (c .before .before .before .before .before .before .before .before .loop .inv .1 kinds m _ _ (from-more _ _ (c .before .before .before .before .before .before .before .loop-test .taken) (then-sure (c .before .before .before .before .before .between .ensures) (then-stop (group-not (c .before .before .group .ensures) (c .enum-told2 .given .1)) (c .enum-told2 .given .1)))))) }
+
+text-of-requires : tie.Need-text-of-requires Inv-loop μ-loop
+text-of-requires c κs = search needs
+
+enum-known-r3 : tie.Need-enum-known-r3 Inv-loop μ-loop
+enum-known-r3 c = search needs
+
+enum-told-3 : tie.Need-enum-told-3 Inv-loop μ-loop
+enum-told-3 c = search needs
+
+same-length-2 : tie.Need-same-length-2 Inv-loop μ-loop
+same-length-2 c = c .before .before .before .before .text-of .kept .1 .1 .1 .1 .0 ∙ c .before .before .before .before .before .before .before .before .before .before .before .before .between .kept .1 .0 ∙ c .before .before .before .before .before .before .before .before .before .before .before .before .before .before .before .loop .inv .2
+
+returns-3 : tie.Need-returns-3 Inv-loop μ-loop
+unfolding Helpers.ty-vars Helpers.sep
+returns-3 c = record { is = λ kinds m. by-same (list-is (c .before .before .before .before .before .before .before .before .before .before .before .before .before .before .before .before .before .before .before .list .ensures) (c .before .before .before .before .before .before .before .before .before .before .before .before .before .before .before .before .before .n .given .1)) (by-same (items-all _ _ _) (c .before .before .before .before .before .before .before .before .before .before .before .before .before .before .before .loop .inv .1 kinds m _ _ (from-more _ _ (c .before .before .before .before .before .before .before .before .before .before .before .before .before .before .loop-test .taken) (then-sure (c .before .before .before .before .before .before .before .before .before .before .before .before .between .ensures) (by-same (first-same (group-is (c .before .before .before .before .before .before .before .before .before .group .ensures) (c .before .before .before .before .before .before .before .r2 .given .1))) (then-stop (plain (c .before .before .before .before .text-of .ensures)) (c .enum-told3 .given .1))))))) }
+
+add-i : tie.Need-add-i Inv-loop μ-loop
+add-i c = omega (arith, c .before .before .before .before .before .before .before .before .before .before .before .before .before .before .before .loop-test .taken, c .before .before .before .before .before .before .before .before .before .before .before .before .before .before .before .before .before .known-told)
+
+loop-less : tie.Need-loop-less Inv-loop μ-loop
+loop-less c = omega arith
+
+loop-again : tie.Need-loop-again Inv-loop μ-loop
+unfolding Helpers.ty-vars Helpers.sep
+loop-again c = (omega (arith, c .before .before .before .before .before .before .before .before .before .before .before .before .before .before .before .before .loop .inv .0), λ kinds m r o h. c .before .before .before .before .before .before .before .before .before .before .before .before .before .before .before .before .loop .inv .1 kinds m r o (from-more _ _ (c .before .before .before .before .before .before .before .before .before .before .before .before .before .before .before .loop-test .taken) (then-sure (c .before .before .before .before .before .before .before .before .before .before .before .before .before .between .ensures) (by-same (first-same (group-is (c .before .before .before .before .before .before .before .before .before .before .group .ensures) (c .before .before .before .before .before .before .before .before .r2 .given .1))) (then-done (plain (c .before .before .before .before .before .text-of .ensures)) (c .before .r3 .given .1) h)))), c .before .before .before .before .before .text-of .kept .1 .1 .1 .1 .0 ∙ c .before .before .before .before .before .before .before .before .before .before .before .before .before .between .kept .1 .0 ∙ c .before .before .before .before .before .before .before .before .before .before .before .before .before .before .before .before .loop .inv .2)
+
+same-length-3 : tie.Need-same-length-3 Inv-loop μ-loop
+same-length-3 c = c .before .loop .inv .2
+
+returns-4 : tie.Need-returns-4 Inv-loop μ-loop
+unfolding Helpers.ty-vars Helpers.sep
+returns-4 c = record { is = λ kinds m. by-same (list-is (c .before .before .before .before .before .list .ensures) (c .before .before .before .n .given .1)) (by-same (items-all _ _ _) (c .before .loop .inv .1 kinds m _ _ (from-none _ _ (c .loop-test .left)))) }
+
+pub ty-vars-spec : {M : Type 1} → statement M
+ty-vars-spec =
+    tie.close
+    (tie.spec
+    Inv-loop
+    μ-loop
+    list-requires
+    enum-known-n
+    enum-told
+    stop-requires
+    returns
+    loop-holds
+    between-requires
+    group-requires
+    enum-known-r2
+    enum-told-2
+    same-length
+    returns-2
+    text-of-requires
+    enum-known-r3
+    enum-told-3
+    same-length-2
+    returns-3
+    add-i
+    loop-less
+    loop-again
+    same-length-3
+    returns-4)
