@@ -1,14 +1,16 @@
 -- Laws of `above`: a step of the search, and tokens past the last. Assumes nothing.
-use Prim.Native.Nat.{ℕ, zero, suc, _+_, _-_, _≤_}
-use native.Mathlib.Nat.{add-zero, add-suc}
+use Prim.Native.Nat.{ℕ, zero, suc, _+_, _-_, _≤_, _<_}
+use native.Mathlib.Nat.{add-zero, add-suc, lt-of-not-le}
 use native.Mathlib.Omega.{arith}
-use mathlib.Core.Path.{_≡_, ap, _∙_}
-use mathlib.Core.Bool.{true, false}
+use mathlib.Core.Path.{_≡_, refl, sym, ap, _∙_}
+use mathlib.Core.Bool.{true, false, false≢true}
+use mathlib.Core.Logic.{⊎-elim}
 use mathlib.Core.List.{List}
-use mathlib.Core.Option.{Option}
+use mathlib.Core.Option.{Option, none, some, Option·none-ne-some, Option·some-injective}
 use lib.ListN.{length, List·getD-eq-default}
 use Rattle.comments.specs.Set.{isComment}
-use Rattle.comments.specs.Above.{isKeyword, above}
+use Rattle.comments.proofs.Words.{whether}
+use Rattle.comments.specs.Above.{isKeyword, above, commentAbove}
 use Rattle.comments.specs.Stop.{stopped}
 use Rattle.comments.specs.declared.Stop.the-variants.{Comment, Keyword, Start}
 
@@ -48,3 +50,30 @@ module _ (kinds : List ℕ) where
   -- From a token past the last the search is that from the last.
   pub from-last : (saw : Option ℕ) (n : ℕ) → length kinds ≤ n → above kinds saw n ≡ above kinds saw (length kinds)
   from-last saw n h = let e : n ≡ length kinds + (n - length kinds) = omega arith in ap (λ (i : ℕ). above kinds saw i) e ∙ past saw (n - length kinds)
+
+  at-keyword-is : (n k : ℕ) (saw : Option ℕ) → ((saw : Option ℕ) → above kinds saw n ≡ some k → (k < n) × (isComment kinds k ≡ true)) → stopped kinds saw (Keyword n) ≡ some k → (k < suc n) × (isComment kinds k ≡ true)
+  unfolding stopped
+  at-keyword-is n k none ih h = let p = ih (some n) h in (omega (arith, p .0), p .1)
+  at-keyword-is n k (some j) ih h = absurd (Option·none-ne-some k h)
+
+  -- A block comment is one of the tokens.
+  pub comment-below : (k : ℕ) → isComment kinds k ≡ true → k < length kinds
+  comment-below k c = lt-of-not-le (λ h. false≢true (sym (no-comment k h) ∙ c))
+
+  -- What the search finds is a block comment among the tokens that it goes over.
+  pub above-is : (n k : ℕ) (saw : Option ℕ) → above kinds saw n ≡ some k → (k < n) × (isComment kinds k ≡ true)
+  unfolding stopped
+  above-is zero k saw h = absurd (Option·none-ne-some k (sym (at-start zero saw (omega arith)) ∙ h))
+  above-is (suc n) k saw h =
+      let ih = above-is n k in
+      ⊎-elim
+      (λ c. let e : n ≡ k = Option·some-injective n k (sym (at-comment (suc n) n refl saw c) ∙ h) in (omega (arith, e), ap (isComment kinds) (sym e) ∙ c))
+      (λ c.
+      ⊎-elim (λ w. at-keyword-is n k saw ih (sym (at-keyword (suc n) n refl saw c w) ∙ h))
+      (λ w. let p = ih saw (sym (at-other (suc n) n refl saw c w) ∙ h) in (omega (arith, p .0), p .1))
+      (whether (isKeyword kinds n)))
+      (whether (isComment kinds n))
+
+  pub comment-above-is : (first k : ℕ) → commentAbove kinds first ≡ some k → (k ≤ first) × (k < length kinds) × (isComment kinds k ≡ true)
+  unfolding commentAbove
+  comment-above-is first k h = let p = above-is (suc first) k none h in (omega (arith, p .0), comment-below k (p .1), p .1)

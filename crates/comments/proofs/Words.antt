@@ -6,7 +6,7 @@ use native.Mathlib.Omega.{arith}
 use mathlib.Core.Path.{_≡_, refl, sym, ap, ap₂, _∙_}
 use mathlib.Core.Bool.{Bool, true, false, not, _&&_}
 use mathlib.Core.List.{List}
-use mathlib.Core.Option.{Option, none, some, Option·none-ne-some, Option·some-ne-none}
+use mathlib.Core.Option.{Option, none, some, Option·none-ne-some, Option·some-ne-none, Option·some-injective}
 use mathlib.Core.Logic.{_⊎_, inl, inr, ⊎-elim}
 use lib.Dec.{eqb, eqb·suc-suc, lit<}
 use lib.Pow.{shr-shr, shl-exact, pow-mono}
@@ -37,7 +37,7 @@ pub record Spells (member : ℕ → Bool) (k n x : ℕ) : Type 0 where
   pub at : (i : ℕ) → i < n → member (k + i) ≡ bit x i
 
 -- A truth value, by cases.
-whether : (t : Bool) → (t ≡ true) ⊎ (t ≡ false)
+pub whether : (t : Bool) → (t ≡ true) ⊎ (t ≡ false)
 whether true = inl refl
 whether false = inr refl
 
@@ -179,6 +179,17 @@ module _ (member : ℕ → Bool) where
       ap (λ (i : ℕ). first member k i) (suc-add n r)
       ∙ ⊎-elim (λ y. absurd (Option·some-ne-none k (sym (first-in k n y) ∙ h)))
       (λ z. first-out k (n + r) z ∙ ih (sym (first-out k n z) ∙ h) ∙ ap (λ (i : ℕ). first member i r) e)
+      (whether (member k))
+
+  -- What is found is in the set.
+  pub first-is : (n k j : ℕ) → first member k n ≡ some j → (k ≤ j) × (j < k + n) × (member j ≡ true)
+  unfolding first
+  first-is zero k j h = absurd (Option·none-ne-some j h)
+  first-is (suc n) k j h =
+      let ih = first-is n (k + 1) j in
+      ⊎-elim
+      (λ y. let e : k ≡ j = Option·some-injective k j (sym (first-in k n y) ∙ h) in (omega (arith, e), omega (arith, e), ap member (sym e) ∙ y))
+      (λ z. let p = ih (sym (first-out k n z) ∙ h) in (omega (arith, p .0), omega (arith, p .1), p .2))
       (whether (member k))
 
   -- No token is in the set.

@@ -106,21 +106,25 @@ fn next_line(comment: &[u8], from: usize) -> Next
     Next::End
 }
 
+// The first line of a doc comment.
 fn opens(line: &[u8]) -> bool
     ensures { λ r. ⌜ r ≡ sameBytes (now (line .entry)) (bytes "!") ⌝ }
 {
     text::same(line, b"!")
 }
 
+// The last line of a doc comment.
 fn closes(line: &[u8]) -> bool
     ensures { λ r. ⌜ r ≡ sameBytes (now (line .entry)) (bytes ")") ⌝ }
 {
     text::same(line, b")")
 }
 
-// The bytes that the lines before the last take, each with a line feed behind it, where the last is `)`.
+// The answer of `measure`.
 enum Body {
+    // The bytes that the lines before the last take, each with a line feed behind it.
     Lines(usize),
+    // The last line is not `)`.
     Open,
 }
 
@@ -129,8 +133,8 @@ fn measure(comment: &[u8], from: usize) -> Body
     ensures { λ r. ⌜ Bodies (kept (now (comment .entry)) from) r ⌝ }
 {
     let mut at = from;
-    let mut all = 0;
-    let mut most = 0;
+    let mut total = 0;
+    let mut between = 0;
     let mut start = 0;
     let mut end = 0;
     loop {
@@ -141,18 +145,19 @@ fn measure(comment: &[u8], from: usize) -> Body
         } = next_line(comment, at)
         else {
             if closes(&comment[start..end]) {
-                return Body::Lines(most);
+                return Body::Lines(between);
             }
             return Body::Open;
         };
-        most = all;
-        all += e - s + 1;
+        between = total;
+        total += e - s + 1;
         start = s;
         end = e;
         at = next;
     }
 }
 
+// Writes a line feed before an offset, where that is not the start.
 fn feed(out: &mut [u8], t: usize)
     requires { ⌜ t ≤ length (now out) ⌝ }
     ensures { λ r. ⌜ now (out .exit) ≡ fed (now (out .entry)) t ⌝ }
@@ -162,6 +167,7 @@ fn feed(out: &mut [u8], t: usize)
     }
 }
 
+// Writes a line at an offset.
 fn copy(out: &mut [u8], at: usize, line: &[u8])
     requires { ⌜ at + length (now line) ≤ length (now out) ⌝ }
     ensures { λ r. ⌜ now (out .exit) ≡ paste (now (out .entry)) at (now (line .entry)) (length (now (line .entry))) ⌝ }

@@ -12,10 +12,10 @@ use Rattle.doc_comment.proofs.measure.Statement.{statement}
 use Rattle.doc_comment.proofs.measure.Tie as tie
 
 abbrev Inv-loop : tie.InvT-loop
-Inv-loop comment from at₀ all₀ most₀ start₀ end₀ at all most start end = Seen comment from at all most start end
+Inv-loop comment from at₀ total₀ between₀ start₀ end₀ at total between start end = Seen comment from at total between start end
 
 abbrev μ-loop : tie.MeasureT-loop
-μ-loop comment from at₀ all₀ most₀ start₀ end₀ at all most start end = length comment - at
+μ-loop comment from at₀ total₀ between₀ start₀ end₀ at total between start end = length comment - at
 
 -- the line that was read
 first : (c : tie.After-known-told Inv-loop μ-loop) → FirstKept (now (c .before .before .before .before .before .before .args .comment)) (c .before .before .before .before .loop .at) (c .before .s .given .0 .0) (c .before .s .given .0 .1 .0) (c .before .s .given .0 .1 .1 .0)
@@ -51,14 +51,14 @@ returns c = seen-closed (c .before .before .before .before .before .before .loop
 returns-2 : tie.Need-returns-2 Inv-loop μ-loop
 returns-2 c = seen-open (c .before .before .before .before .before .before .loop .inv) (next-over _ _ _ (c .before .before .before .before .before .next-line .ensures) (c .before .before .before .enum-told .given .1)) (sym (c .before .closes .ensures) ∙ c .if1 .left)
 
-sub-all : tie.Need-sub-all Inv-loop μ-loop
-sub-all c = first c .ordered
+sub-total : tie.Need-sub-total Inv-loop μ-loop
+sub-total c = first c .ordered
 
-add-all : tie.Need-add-all Inv-loop μ-loop
-add-all c = let f = first c in omega (arith, f .room, f .ends)
+add-total : tie.Need-add-total Inv-loop μ-loop
+add-total c = let f = first c in omega (arith, f .room, f .ends)
 
-add-all-2 : tie.Need-add-all-2 Inv-loop μ-loop
-add-all-2 c = let f = first c in omega (arith, f .room, f .ends, c .before .before .before .before .loop .inv .within)
+add-total-2 : tie.Need-add-total-2 Inv-loop μ-loop
+add-total-2 c = let f = first c in omega (arith, f .room, f .ends, c .before .before .before .before .loop .inv .within)
 
 loop-less : tie.Need-loop-less Inv-loop μ-loop
 loop-less c = let f = first c in omega (arith, f .room, f .ends)
@@ -82,8 +82,8 @@ measure-spec =
     closes-requires
     returns
     returns-2
-    sub-all
-    add-all
-    add-all-2
+    sub-total
+    add-total
+    add-total-2
     loop-less
     loop-again)

@@ -26,17 +26,17 @@ loop-holds : tie.Need-loop-holds Inv-loop μ-loop
 unfolding count
 loop-holds c = (search needs, refl, search needs)
 
-mul-n : tie.Need-mul-n Inv-loop μ-loop
-mul-n c = search needs
+mul-wide : tie.Need-mul-wide Inv-loop μ-loop
+mul-wide c = search needs
 
-array-read-n : tie.Need-array-read-n Inv-loop μ-loop
-array-read-n c = search needs
+array-read-wide : tie.Need-array-read-wide Inv-loop μ-loop
+array-read-wide c = search needs
 
-cast-n : tie.Need-cast-n Inv-loop μ-loop
-cast-n c = omega (arith, ones-le 64 _ (fit (c .before .before .before) (c .before .loop .w)))
+wide-requires : tie.Need-wide-requires Inv-loop μ-loop
+wide-requires c κs = search needs
 
 add-n : tie.Need-add-n Inv-loop μ-loop
-add-n c = omega (arith, ones-le 64 _ (fit (c .before .before .before) (c .before .loop .w)))
+add-n c = search needs
 
 add-w : tie.Need-add-w Inv-loop μ-loop
 add-w c = search needs
@@ -45,7 +45,7 @@ loop-less : tie.Need-loop-less Inv-loop μ-loop
 loop-less c = search needs
 
 loop-again : tie.Need-loop-again Inv-loop μ-loop
-loop-again c = let x = fit (c .before .before .before) (c .before .loop .w) in (omega arith, omega (arith, count-word (c .before .before .before .args .self .words) (c .before .loop .w) x), omega (arith, ones-le 64 _ x))
+loop-again c = let at = c .before .before in let x = fit (at .before .before) (at .loop .w) in (omega arith, omega (arith, c .wide .ensures .0, count-word (at .before .before .args .self .words) (at .loop .w) x), omega (arith, c .wide .ensures .0, ones-le 64 _ x))
 
 returns : tie.Need-returns Inv-loop μ-loop
 returns c = let full : c .before .loop .w ≡ 64 = omega arith in c .before .loop .inv .1 ∙ ap (λ (w : ℕ). count (holds (c .before .before .before .args .self .words)) 0 (64 * w)) full
@@ -57,9 +57,9 @@ count-spec =
     Inv-loop
     μ-loop
     loop-holds
-    mul-n
-    array-read-n
-    cast-n
+    mul-wide
+    array-read-wide
+    wide-requires
     add-n
     add-w
     loop-less

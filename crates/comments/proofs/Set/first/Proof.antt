@@ -3,9 +3,9 @@ use mir.Syntax.{w64}
 use mir.Val.{Fits}
 use lib.ListN.{getD}
 use native.Mathlib.Omega.{arith}
-use Prim.Native.Nat.{ℕ, _-_, _*_, _≤_, _<_, _^_}
-use mathlib.Core.Path.{_≡_, refl, sym, _∙_}
-use lib.Count.{trailing-le}
+use Prim.Native.Nat.{ℕ, _+_, _-_, _*_, _≤_, _<_, _^_}
+use mathlib.Core.Path.{_≡_, refl, sym, ap, _∙_}
+use mathlib.Core.Option.{some}
 use Rattle.comments.specs.Set.{holds, room, first, firstAt}
 use Rattle.comments.proofs.Words.{first-here, first-later, first-behind}
 use borrow.Author.Needs.{needs}
@@ -34,15 +34,15 @@ array-read-x c = search needs
 mul-t10 : tie.Need-mul-t10 Inv-loop μ-loop
 mul-t10 c = search needs
 
-cast-t12 : tie.Need-cast-t12 Inv-loop μ-loop
-cast-t12 c = let w = c .before .before .loop .w in omega (arith, trailing-le 64 (getD (c .before .before .before .before .args .self .words) w 0))
+wide-requires : tie.Need-wide-requires Inv-loop μ-loop
+wide-requires c κs = search needs
 
-add-t13 : tie.Need-add-t13 Inv-loop μ-loop
-add-t13 c = let w = c .before .before .loop .w in omega (arith, trailing-le 64 (getD (c .before .before .before .before .args .self .words) w 0))
+add-t14 : tie.Need-add-t14 Inv-loop μ-loop
+add-t14 c = search needs
 
 returns : tie.Need-returns Inv-loop μ-loop
 unfolding firstAt
-returns c = let at = c .before .before in sym (at .loop .inv .1 ∙ first-here _ _ (fit (at .before .before) (at .loop .w)) (c .before .loop-test .taken) (c .if1 .taken))
+returns c = let at = c .before .before .before in sym (at .loop .inv .1 ∙ first-here _ _ (fit (at .before .before) (at .loop .w)) (c .before .before .loop-test .taken) (c .before .if1 .taken) ∙ ap (λ (z : ℕ). some (64 * at .loop .w + z)) (sym (c .wide .ensures .0)))
 
 add-w : tie.Need-add-w Inv-loop μ-loop
 add-w c = search needs
@@ -67,8 +67,8 @@ first-spec =
     mul-x
     array-read-x
     mul-t10
-    cast-t12
-    add-t13
+    wide-requires
+    add-t14
     returns
     add-w
     loop-less
