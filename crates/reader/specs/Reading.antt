@@ -30,7 +30,7 @@ module _ (text : List ℕ) (rec : List ℕ) where
       [ ok end ↦ sheet ts at | malformed place ↦ refused 3 place | tooDeep place ↦ refused 4 place ]
 
   unfoldable pub readRecord : Read
-  readRecord = elim (tokens text rec) [ tiled ts at ↦ readTree ts at | untiled place ↦ refused 3 place ]
+  readRecord = elim (tokens (length text) rec) [ tiled ts at ↦ readTree ts at | untiled place ↦ refused 3 place ]
 
   unfoldable pub readText : Read
   readText = elim (firstWide 0 text) [ none ↦ readRecord | some place ↦ refused 2 place ]

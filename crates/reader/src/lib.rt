@@ -1,5 +1,6 @@
 // The record: commands, tokens, the record check, the end of a field (document 01, "The record" and module 3).
 pub mod commands; // commands.rt: the commands, each read at an offset
+pub mod tokens; // tokens.rt: the tokens
 mod grammar; // grammar.rt: the fields of every form, group and choice
 pub mod tree; // tree.rt: the record check behind the tokens
 
