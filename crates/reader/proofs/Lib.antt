@@ -3,3 +3,4 @@ pub mod GrammarLaws
 pub mod TreeLaws
 pub mod FieldLaws
 pub mod TokenLaws
+pub mod ReadingLaws

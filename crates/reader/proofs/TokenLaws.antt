@@ -6,7 +6,7 @@ use mathlib.Core.Bool.{Bool, true, false, _&&_}
 use native.Mathlib.Omega.{arith}
 use native.Mathlib.Numerals.{add-one}
 use lib.ListN.{length, getD, take, set, length-set}
-use lib.Seq.{take-suc-set}
+use lib.Seq.{take-suc-set, length-take-le}
 use lib.Dec.{leb, eqb}
 use borrow.Author.Tests.{le-leb, lt-leb, leb-true, eq-eqb, ne-eqb, eqb-true}
 use Rattle.reader.specs.Commands.{u16, command, CommandAt}
@@ -198,12 +198,15 @@ module _ {size : ℕ} {rec kinds starts lens : List ℕ} {count start at : ℕ} 
         counts = tt;
       }
 
+  counted-first : length (take count kinds) ≡ count
+  counted-first = length-take-le count kinds (rw (p .kinds-long) (p .below))
+
   ends : (b : Bool) → eqb start size ≡ b → prefix (tokensIn count kinds starts lens) (endTokens size rec start at) ≡ tokens size rec
       → Tiles size rec kinds starts lens (endAt size start at count)
   unfolding endAt
   ends true t f =
       rw (t, endAt)
-      record { is = sym (prefix-end (tokensIn count kinds starts lens) size rec start at true t) ∙ f; counts = p .below }
+      record { is = sym (prefix-end (tokensIn count kinds starts lens) size rec start at true t) ∙ f; counts = (counted-first, p .below) }
   ends false t f =
       rw (t, endAt) record { is = sym (prefix-end (tokensIn count kinds starts lens) size rec start at false t) ∙ f; counts = tt }
 

@@ -92,9 +92,10 @@ abbrev pub tilingIn : Code.Tiled → List ℕ → List ℕ → List ℕ → Tili
 tilingIn (Case.Tiled count tree) kinds starts lens = tiled (tokensIn count kinds starts lens) tree
 tilingIn (Case.Untiled place) kinds starts lens = untiled place
 
-abbrev pub few : Code.Tiled → Type 0
-few (Case.Tiled count tree) = count ≤ maxTokens
-few (Case.Untiled place) = Unit {0}
+-- Of the tables as many entries count as the answer says.
+abbrev pub counted : Code.Tiled → List ℕ → Type 0
+counted (Case.Tiled count tree) kinds = (length (take count kinds) ≡ count) × (count ≤ maxTokens)
+counted (Case.Untiled place) kinds = Unit {0}
 
 -- The answer after the last of count tokens.
 unfoldable pub endAt : ℕ → ℕ → ℕ → ℕ → Code.Tiled
@@ -107,4 +108,4 @@ Long kinds starts lens = (length kinds ≡ maxTokens) × (length starts ≡ maxT
 -- Contract: the tokens of a record stand in the tables.
 pub record Tiles (size : ℕ) (rec kinds starts lens : List ℕ) (r : Code.Tiled) : Type 0 where
   pub is : tilingIn r kinds starts lens ≡ tokens size rec
-  pub counts : few r
+  pub counts : counted r kinds
