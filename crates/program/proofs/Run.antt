@@ -39,7 +39,7 @@ unfolding Commands.formWidth Commands.u16 Commands.command Commands.absentAt Com
 runCommands = tt
 
 unfoldable pub runTokens : Unit {0}
-unfolding Tokens.textOf Tokens.isToken Tokens.endTokens Tokens.withToken Tokens.tokensFrom Tokens.tokens
+unfolding Tokens.textOf Tokens.isToken Tokens.endTokens Tokens.withToken Tokens.tokensFrom Tokens.tokens Tokens.nextAt Tokens.endAt
 runTokens = tt
 
 unfoldable pub runCheck : Unit {0}

@@ -2,3 +2,5 @@ pub mod CommandLaws
 pub mod GrammarLaws
 pub mod TreeLaws
 pub mod FieldLaws
+pub mod TokenLaws
+pub mod ReadingLaws

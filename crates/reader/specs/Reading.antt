@@ -1,12 +1,13 @@
 -- Refusals 1 to 4 of a text and a record, in this order, or what they are read as.
-use Prim.Native.Nat.{ℕ}
+use Prim.Native.Nat.{ℕ, _≤_}
+use mathlib.Core.Path.{_≡_}
 use mathlib.Core.List.{List}
 use mathlib.Core.Bool.{Bool, true, false, _&&_}
 use mathlib.Core.Option.{Option, none, some}
-use lib.ListN.{length}
+use lib.ListN.{length, take}
 use lib.Dec.{leb}
 use Rattle.text.specs.Bytes.{firstWide}
-use Rattle.reader.specs.Tokens.{Tokens, Tiling, tiled, untiled, tokens}
+use Rattle.reader.specs.Tokens.{Tokens, Tiling, tiled, untiled, tokens, tokensIn, maxTokens}
 use Rattle.reader.specs.Check.{Checked, ok, malformed, tooDeep, treeCheck}
 use Rattle.reader.specs.declared.Reading.{Reading}
 use Rattle.reader.specs.declared.Reading.the-variants.{Sheet, TooLong, NotAscii, Malformed, TooDeep}
@@ -22,18 +23,20 @@ pub data Read : Type 0 where
   refused : ℕ → ℕ → Read
   sheet : Tokens → ℕ → Read
 
-module _ (text : List ℕ) (rec : List ℕ) where
+module _ (rec : List ℕ) where
   -- 3 and 4: of both the earlier command's is told.
   unfoldable pub readTree : Tokens → ℕ → Read
   readTree ts at =
       elim (treeCheck rec (length (ts .kinds)) at)
       [ ok end ↦ sheet ts at | malformed place ↦ refused 3 place | tooDeep place ↦ refused 4 place ]
 
-  unfoldable pub readRecord : Read
-  readRecord = elim (tokens text rec) [ tiled ts at ↦ readTree ts at | untiled place ↦ refused 3 place ]
+  -- Over the length of the text.
+  unfoldable pub readRecord : ℕ → Read
+  readRecord size = elim (tokens size rec) [ tiled ts at ↦ readTree ts at | untiled place ↦ refused 3 place ]
 
+module _ (text : List ℕ) (rec : List ℕ) where
   unfoldable pub readText : Read
-  readText = elim (firstWide 0 text) [ none ↦ readRecord | some place ↦ refused 2 place ]
+  readText = elim (firstWide 0 text) [ none ↦ readRecord rec (length text) | some place ↦ refused 2 place ]
 
   unfoldable pub read : Read
   read = elim (leb (length text) maxText && leb (length rec) maxRecord) [ true ↦ readText | false ↦ refused 1 0 ]
@@ -53,3 +56,29 @@ placeOf TooLong = 0
 placeOf (NotAscii at) = at
 placeOf (Malformed at) = at
 placeOf (TooDeep at) = at
+
+-- What an answer says with the tables: refused, with number and place; or a sheet, with the tables' first entries.
+abbrev pub readIn : Reading → List ℕ → List ℕ → List ℕ → Read
+readIn (Sheet count tree) kinds starts lens = sheet (tokensIn count kinds starts lens) tree
+readIn TooLong kinds starts lens = refused (numberOf TooLong) (placeOf TooLong)
+readIn (NotAscii at) kinds starts lens = refused (numberOf (NotAscii at)) (placeOf (NotAscii at))
+readIn (Malformed at) kinds starts lens = refused (numberOf (Malformed at)) (placeOf (Malformed at))
+readIn (TooDeep at) kinds starts lens = refused (numberOf (TooDeep at)) (placeOf (TooDeep at))
+
+-- Of the tables as many entries count as the answer says.
+abbrev pub counted : Reading → List ℕ → Type 0
+counted (Sheet count tree) kinds = (length (take count kinds) ≡ count) × (count ≤ maxTokens)
+counted TooLong kinds = Unit {0}
+counted (NotAscii at) kinds = Unit {0}
+counted (Malformed at) kinds = Unit {0}
+counted (TooDeep at) kinds = Unit {0}
+
+-- Contract: refusals 3 and 4.
+pub record RecordReads (size : ℕ) (rec kinds starts lens : List ℕ) (r : Reading) : Type 0 where
+  pub is : readIn r kinds starts lens ≡ readRecord rec size
+  pub counts : counted r kinds
+
+-- Contract: refusals 1 to 4.
+pub record Reads (text rec kinds starts lens : List ℕ) (r : Reading) : Type 0 where
+  pub is : readIn r kinds starts lens ≡ read text rec
+  pub counts : counted r kinds

@@ -1,10 +1,15 @@
 -- The tokens of a record: they come first and tile the text in order.
-use Prim.Native.Nat.{ℕ, zero, suc, _+_}
+use Prim.Native.Nat.{ℕ, zero, suc, _+_, _≤_}
 use mathlib.Core.List.{List, [], _∷_}
 use mathlib.Core.Bool.{Bool, true, false, _&&_}
+use mathlib.Core.Path.{_≡_}
 use lib.ListN.{length, getD, take, drop}
 use lib.Dec.{leb, eqb}
 use Rattle.reader.specs.Commands.{u16, command}
+use Rattle.reader.specs.declared.tokens.Next.{Next}
+use Rattle.reader.specs.declared.tokens.Next.the-variants as Following
+use Rattle.reader.specs.declared.tokens.Tiled as Code
+use Rattle.reader.specs.declared.tokens.Tiled.the-variants as Case
 
 -- The tokens by number: kinds, offsets in the text, lengths.
 pub record Tokens : Type 0 where
@@ -35,7 +40,8 @@ pub data Tiling : Type 0 where
   tiled : Tokens → ℕ → Tiling
   untiled : ℕ → Tiling
 
-module _ (text : List ℕ) (rec : List ℕ) where
+-- Over the length of the text and the record.
+module _ (size : ℕ) (rec : List ℕ) where
   -- 0x05 kind(u8) length(u16) at the offset: a token that starts at the text's offset start.
   -- Its kind is known, its length at least 1, and it does not reach past the text's end.
   unfoldable pub isToken : ℕ → ℕ → Bool
@@ -43,11 +49,11 @@ module _ (text : List ℕ) (rec : List ℕ) where
       command rec 0x05 4 at
       && leb (getD rec (at + 1) 0) lastKind
       && leb 1 (u16 rec (at + 2))
-      && leb (start + u16 rec (at + 2)) (length text)
+      && leb (start + u16 rec (at + 2)) size
 
   -- After the last token: the text is tiled to its end, or the place is where the tokens end.
   unfoldable pub endTokens : ℕ → ℕ → Tiling
-  endTokens start at = elim (eqb start (length text)) [ true ↦ tiled noTokens at | false ↦ untiled at ]
+  endTokens start at = elim (eqb start size) [ true ↦ tiled noTokens at | false ↦ untiled at ]
 
   unfoldable pub withToken : ℕ → ℕ → Tiling → Tiling
   withToken start at (tiled ts end) = tiled (token∷ (getD rec (at + 1) 0) start (u16 rec (at + 2)) ts) end
@@ -65,3 +71,41 @@ module _ (text : List ℕ) (rec : List ℕ) where
 
   unfoldable pub tokens : Tiling
   tokens = tokensFrom maxTokens 0 0
+
+-- What the command at an offset says of the next token.
+module _ (size : ℕ) (rec : List ℕ) where
+  unfoldable pub nextAt : ℕ → ℕ → Next
+  nextAt start at =
+      elim (eqb (getD rec at 0) 0x05) [
+        | true ↦ elim (isToken size rec start at)
+            [ true ↦ Following.Is (getD rec (at + 1) 0) (u16 rec (at + 2)) | false ↦ Following.Malformed ]
+        | false ↦ Following.End
+      ]
+
+-- The first entries of the tables.
+abbrev pub tokensIn : ℕ → List ℕ → List ℕ → List ℕ → Tokens
+tokensIn count kinds starts lens =
+    record { kinds = take count kinds; starts = take count starts; lengths = take count lens }
+
+-- What an answer says with the tables.
+abbrev pub tilingIn : Code.Tiled → List ℕ → List ℕ → List ℕ → Tiling
+tilingIn (Case.Tiled count tree) kinds starts lens = tiled (tokensIn count kinds starts lens) tree
+tilingIn (Case.Untiled place) kinds starts lens = untiled place
+
+-- Of the tables as many entries count as the answer says.
+abbrev pub counted : Code.Tiled → List ℕ → Type 0
+counted (Case.Tiled count tree) kinds = (length (take count kinds) ≡ count) × (count ≤ maxTokens)
+counted (Case.Untiled place) kinds = Unit {0}
+
+-- The answer after the last of count tokens.
+unfoldable pub endAt : ℕ → ℕ → ℕ → ℕ → Code.Tiled
+endAt size start at count = elim (eqb start size) [ true ↦ Case.Tiled count at | false ↦ Case.Untiled at ]
+
+-- Each table has an entry for every token that there can be.
+abbrev pub Long : List ℕ → List ℕ → List ℕ → Type 0
+Long kinds starts lens = (length kinds ≡ maxTokens) × (length starts ≡ maxTokens) × (length lens ≡ maxTokens)
+
+-- Contract: the tokens of a record stand in the tables.
+pub record Tiles (size : ℕ) (rec kinds starts lens : List ℕ) (r : Code.Tiled) : Type 0 where
+  pub is : tilingIn r kinds starts lens ≡ tokens size rec
+  pub counts : counted r kinds

@@ -1,7 +1,18 @@
 // The record: commands, tokens, the record check, the end of a field (document 01, "The record" and module 3).
 pub mod commands; // commands.rt: the commands, each read at an offset
+pub mod tokens; // tokens.rt: the tokens
 mod grammar; // grammar.rt: the fields of every form, group and choice
 pub mod tree; // tree.rt: the record check behind the tokens
+
+use commands::Number;
+use tokens::Tiled;
+use tokens::read_tokens;
+use tree::Checked;
+use tree::tree_end;
+ghost use mathlib.Core.Path.{_≡_};
+ghost use Rattle.text.specs.Bytes.{firstWide};
+ghost use Rattle.reader.specs.Commands.{numberIn};
+ghost use Rattle.reader.specs.Reading.{RecordReads, Reads};
 
 // What the record check says of a text and a record.
 pub enum Reading {
@@ -15,4 +26,68 @@ pub enum Reading {
     Malformed(usize),
     // The offset in the record of the 201st form inside one another.
     TooDeep(usize),
+}
+
+const MAX_TEXT: usize = 32768;
+
+const MAX_RECORD: usize = 65536;
+
+// The offset of the first byte of 128 or more.
+fn first_wide(text: &[u8]) -> Number
+    ensures { λ r. ⌜ numberIn r ≡ firstWide 0 (now (text .entry)) ⌝ }
+{
+    let mut i = 0;
+    while i < text.len() {
+        if 128 <= text[i] {
+            return Number::Is(i);
+        }
+        i += 1;
+    }
+    Number::Not
+}
+
+// Refusals 3 and 4, over a text of this length.
+fn read_record(
+    size: u16,
+    rec: &[u8],
+    kinds: &mut [u8; 4096],
+    starts: &mut [u16; 4096],
+    lens: &mut [u16; 4096],
+) -> Reading
+    ensures { λ r. ⌜ RecordReads size (now (rec .entry)) (now (kinds .exit)) (now (starts .exit)) (now (lens .exit)) r ⌝ }
+{
+    let tokens = read_tokens(size, rec, kinds, starts, lens);
+    match tokens {
+        Tiled::Tiled { count, tree } => {
+            let found = tree_end(rec, count, tree);
+            match found {
+                Checked::Ok(_) => Reading::Sheet { count, tree },
+                Checked::Malformed(place) => Reading::Malformed(place),
+                Checked::TooDeep(place) => Reading::TooDeep(place),
+            }
+        }
+        Tiled::Untiled(place) => Reading::Malformed(place),
+    }
+}
+
+// Refusals 1 to 4, in this order; or the number of tokens, which stand in the tables, and where the list of declarations starts.
+pub fn check(
+    text: &[u8],
+    rec: &[u8],
+    kinds: &mut [u8; 4096],
+    starts: &mut [u16; 4096],
+    lens: &mut [u16; 4096],
+) -> Reading
+    ensures { λ r. ⌜ Reads (now (text .entry)) (now (rec .entry)) (now (kinds .exit)) (now (starts .exit)) (now (lens .exit)) r ⌝ }
+{
+    if MAX_TEXT < text.len() {
+        return Reading::TooLong;
+    }
+    if MAX_RECORD < rec.len() {
+        return Reading::TooLong;
+    }
+    if let Number::Is(place) = first_wide(text) {
+        return Reading::NotAscii(place);
+    }
+    read_record(text.len() as u16, rec, kinds, starts, lens)
 }

@@ -1,0 +1,126 @@
+-- Laws of refusals 1 to 4.
+use Prim.Native.Nat.{ℕ, suc, _+_, _≤_, _<_}
+use mathlib.Core.Path.{_≡_, refl, sym, _∙_, ap}
+use mathlib.Core.List.{List, [], _∷_}
+use mathlib.Core.Bool.{Bool, true, false, _&&_}
+use mathlib.Core.Option.{Option, none, some}
+use native.Mathlib.Omega.{arith}
+use native.Mathlib.Numerals.{add-one}
+use lib.ListN.{length, getD, take, drop, drop-of-length-le}
+use lib.Seq.{drop-cons}
+use lib.Dec.{leb}
+use borrow.Author.Tests.{le-leb, lt-leb}
+use Rattle.text.specs.Bytes.{firstWide}
+use Rattle.reader.specs.declared.commands.Number.{Number}
+use Rattle.reader.specs.declared.commands.Number.the-variants.{Is, Not}
+use Rattle.reader.specs.declared.tokens.Tiled as Tiled
+use Rattle.reader.specs.declared.tokens.Tiled.the-variants as Tokens
+use Rattle.reader.specs.declared.tree.Checked as Checked
+use Rattle.reader.specs.declared.tree.Checked.the-variants as Tree
+use Rattle.reader.specs.declared.Reading.{Reading}
+use Rattle.reader.specs.declared.Reading.the-variants.{Sheet, TooLong, NotAscii, Malformed, TooDeep}
+use Rattle.reader.specs.Commands.{numberIn}
+use Rattle.reader.specs.Tokens.{Tiling, tiled, untiled, tokens, tokensIn, tilingIn, Tiles}
+use Rattle.reader.specs.Check.{ok, malformed, tooDeep, treeCheck}
+use Rattle.reader.specs.Tree.{checkedIn, TreeEnd}
+use Rattle.reader.specs.Reading.{Read, refused, sheet, readTree, readRecord, readText, read, numberOf, placeOf, RecordReads, Reads}
+
+-- ---- 2: the first byte of 128 or more
+pub record Scanned (text : List ℕ) (i : ℕ) : Type 0 where
+  pub below : i ≤ length text
+  pub same : firstWide i (drop i text) ≡ firstWide 0 text
+
+pub scan-starts : {text : List ℕ} → Scanned text 0
+scan-starts {text} = record { below = omega arith; same = refl }
+
+module _ (i b : ℕ) (bs : List ℕ) where
+  wide-here : 128 ≤ b → firstWide i (b ∷ bs) ≡ some i
+  unfolding firstWide
+  wide-here h = rw (le-leb 128 b h, firstWide)
+
+  wide-later : b < 128 → firstWide i (b ∷ bs) ≡ firstWide (suc i) bs
+  unfolding firstWide
+  wide-later h = rw (lt-leb 128 b h, firstWide)
+
+module _ {text : List ℕ} {i : ℕ} (p : Scanned text i) where
+  pub scan-ends : length text ≤ i → numberIn Not ≡ firstWide 0 text
+  unfolding firstWide numberIn
+  scan-ends h = rw (drop-of-length-le text h) at (p .same)
+
+  module _ (h : i < length text) where
+    from-here : firstWide i (getD text i 0 ∷ drop (suc i) text) ≡ firstWide 0 text
+    from-here = ap (firstWide i) (sym (drop-cons text i 0 h)) ∙ p .same
+
+    pub scan-finds : 128 ≤ getD text i 0 → numberIn (Is i) ≡ firstWide 0 text
+    unfolding numberIn
+    scan-finds w = sym (wide-here i (getD text i 0) (drop (suc i) text) w) ∙ from-here
+
+    pub scan-goes : getD text i 0 < 128 → Scanned text (i + 1)
+    scan-goes w =
+        record { below = omega arith; same = rw add-one (sym (wide-later i (getD text i 0) (drop (suc i) text) w) ∙ from-here) }
+
+-- ---- 3 and 4
+module _ {size : ℕ} {rec kinds starts lens : List ℕ} {t : Tiled.Tiled} (s : Tiles size rec kinds starts lens t) where
+  pub record-untiled : {place : ℕ} → t ≡ Tokens.Untiled place → RecordReads size rec kinds starts lens (Malformed place)
+  unfolding readRecord numberOf placeOf
+  record-untiled {place} e =
+      let f : tokens size rec ≡ untiled place = sym (s .is) ∙ ap (λ (x : Tiled.Tiled). tilingIn x kinds starts lens) e in
+      record { is = rw (f, readRecord); counts = tt }
+
+  module _ {count tree : ℕ} (e : t ≡ Tokens.Tiled count tree) {r : Checked.Checked} (u : TreeEnd rec count tree r) where
+    tiles : tokens size rec ≡ tiled (tokensIn count kinds starts lens) tree
+    tiles = sym (s .is) ∙ ap (λ (x : Tiled.Tiled). tilingIn x kinds starts lens) e
+
+    counts : (length (take count kinds) ≡ count) × (count ≤ 4096)
+    counts = rw e at (s .counts)
+
+    tree-says : treeCheck rec (length (take count kinds)) tree ≡ checkedIn r
+    tree-says = rw (counts .0) (sym (u .is))
+
+    pub record-sheet : {end : ℕ} → r ≡ Tree.Ok end → RecordReads size rec kinds starts lens (Sheet count tree)
+    unfolding readRecord readTree
+    record-sheet f = record { is = rw (tiles, readRecord, tree-says ∙ ap checkedIn f, readTree); counts = counts }
+
+    pub record-malformed : {place : ℕ} → r ≡ Tree.Malformed place → RecordReads size rec kinds starts lens (Malformed place)
+    unfolding readRecord readTree numberOf placeOf
+    record-malformed f = record { is = rw (tiles, readRecord, tree-says ∙ ap checkedIn f, readTree); counts = tt }
+
+    pub record-deep : {place : ℕ} → r ≡ Tree.TooDeep place → RecordReads size rec kinds starts lens (TooDeep place)
+    unfolding readRecord readTree numberOf placeOf
+    record-deep f = record { is = rw (tiles, readRecord, tree-says ∙ ap checkedIn f, readTree); counts = tt }
+
+-- ---- 1 to 4
+module _ (text rec kinds starts lens : List ℕ) where
+  pub text-long : 32768 < length text → Reads text rec kinds starts lens TooLong
+  unfolding read numberOf placeOf
+  text-long h = record { is = rw (lt-leb (length text) 32768 h, read); counts = tt }
+
+  module _ (a : length text ≤ 32768) where
+    pub record-long : 65536 < length rec → Reads text rec kinds starts lens TooLong
+    unfolding read numberOf placeOf
+    record-long h = record { is = rw (le-leb (length text) 32768 a, lt-leb (length rec) 65536 h, read); counts = tt }
+
+    module _ (b : length rec ≤ 65536) where
+      short : readText text rec ≡ read text rec
+      unfolding read
+      short = rw (le-leb (length text) 32768 a, le-leb (length rec) 65536 b, read)
+
+      text-wide : {place : ℕ} → firstWide 0 text ≡ some place → refused 2 place ≡ readText text rec
+      unfolding readText
+      text-wide f = rw (f, readText)
+
+      text-ascii : firstWide 0 text ≡ none → readRecord rec (length text) ≡ readText text rec
+      unfolding readText
+      text-ascii f = rw (f, readText)
+
+      pub not-ascii : {n : Number} {place : ℕ} → numberIn n ≡ firstWide 0 text → n ≡ Is place → Reads text rec kinds starts lens (NotAscii place)
+      unfolding readText numberIn numberOf placeOf
+      not-ascii {n} {place} s e =
+          let f : firstWide 0 text ≡ some place = sym s ∙ ap numberIn e in
+          record { is = text-wide f ∙ short; counts = tt }
+
+      pub ascii : {n : Number} {r : Reading} → numberIn n ≡ firstWide 0 text → n ≡ Not → RecordReads (length text) rec kinds starts lens r → Reads text rec kinds starts lens r
+      unfolding readText numberIn
+      ascii {n} {r} s e u =
+          let f : firstWide 0 text ≡ none = sym s ∙ ap numberIn e in
+          record { is = u .is ∙ text-ascii f ∙ short; counts = u .counts }
