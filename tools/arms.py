@@ -1,5 +1,5 @@
 #!/usr/bin/env python3
-"""arms.py CRATE: writes the proofs of the functions of CRATE that are proved equal to a layout.
+"""arms.py CRATE [FUNCTION..]: writes the proofs of the functions of CRATE that are proved equal to a layout.
 
 A function of the walk is a chain of calls, and its proof is the chain of the steps that the laws of
 crates/layout/proofs/Steps.antt give for them. This tool reads the proof files that `rt dev` offers
@@ -337,13 +337,17 @@ def write_cycle(crate, root, path, text, answers, members):
 
 
 def main():
-    if len(sys.argv) != 2 or not os.path.exists("crates/%s/arms.json" % sys.argv[1]):
-        raise SystemExit("usage: tools/arms.py CRATE, from the root, where crates/CRATE/arms.json stands")
+    if len(sys.argv) < 2 or not os.path.exists("crates/%s/arms.json" % sys.argv[1]):
+        raise SystemExit("usage: tools/arms.py CRATE [FUNCTION..], from the root, where crates/CRATE/arms.json stands")
     crate = sys.argv[1]
     answers = json.load(open("crates/%s/arms.json" % crate))
+    wanted = sys.argv[2:] or list(answers["functions"])
+    unknown = [name for name in wanted if name not in answers["functions"]]
+    if unknown:
+        raise SystemExit("arms: crates/%s/arms.json has no function '%s'" % (crate, unknown[0]))
     members = dict((dashed(name.split("/")[-1]), entry["as"]) for name, entry in answers["functions"].items())
     members.update(answers.get("calls", {}))
-    for name in answers["functions"]:
+    for name in wanted:
         path = "crates/%s/proofs/%s/Proof.antt" % (crate, name)
         if os.path.exists(path):
             os.remove(path)
@@ -352,7 +356,7 @@ def main():
     while True:
         files = offered(crate)
         name_of = lambda path: path.split("/proofs/")[1][:-len("/Proof.antt")]
-        todo = [path for path in files if name_of(path) in answers["functions"] or name_of(path).startswith("+")]
+        todo = [path for path in files if name_of(path) in wanted or name_of(path).startswith("+")]
         if not todo:
             return
         with tempfile.TemporaryDirectory() as room:

@@ -10,14 +10,15 @@ use Rattle.text.specs.Bytes.{bytes}
 use Rattle.layout.specs.declared.St.{St}
 use Rattle.layout.specs.declared.Answer.{Answer}
 use Rattle.layout.specs.declared.Answer.the-variants.{Done, Stopped}
-use Rattle.layout.specs.Layout.{Layout, skip, _⨾_, word, write, output-indent, formed, token, group, choice, form, list, optional, maybe, halt}
-use Rattle.layout.specs.Meaning.{Page, Event, Word, Token, Comment, Formed, Indent, Outcome, done, stopped, Stop, absent, after, bind, orStop, outcome, tokenText}
-use Rattle.layout.specs.State.{Run, runOf, at, effect, effects, Ran, went, fell, run, runs, packed, page, Walked, Plain, Wrote, Sure, Texted, Indented, withDepth, stopOf, moved, readOf, ReadAt, FormRead, groupOf, GroupRead, goneOf, GoneRead, optionalOf, OptionalRead, joint}
+use Rattle.layout.specs.Layout.{Layout, skip, _⨾_, word, write, output-indent, formed, Test, token, group, choice, form, list, optional, maybe, test, firstName, halt}
+use Rattle.layout.specs.Meaning.{Page, Event, Word, Token, Comment, Formed, Indent, Outcome, done, stopped, Stop, absent, after, bind, orStop, outcome, tokenText, passes, pathName, Name, name, noName}
+use Rattle.layout.specs.State.{Run, runOf, at, effect, effects, Ran, went, fell, run, runs, packed, page, Walked, Plain, Wrote, Sure, Texted, Indented, withDepth, stopOf, moved, readOf, ReadAt, FormRead, groupOf, GroupRead, goneOf, GoneRead, optionalOf, OptionalRead, joint, nameIn, TestedText}
 use Rattle.reader.specs.Tokens.{textOf}
 use Rattle.reader.specs.declared.commands.Family as Code
 use Rattle.reader.specs.Commands.{absentAt, tokenAt, listAt, groupAt, choiceAt, formAt, formWidth, familyOf}
 use Rattle.layout.specs.declared.fields.Read.{Read}
 use Rattle.layout.specs.declared.fields.Read.the-variants.{Is}
+use Rattle.layout.specs.declared.names.Name as Code·
 use Rattle.layout.specs.declared.fields.Gone.{Gone}
 use Rattle.layout.specs.declared.fields.Given.{Given}
 use mathlib.Core.Option.{Option, none, some}
@@ -433,3 +434,25 @@ sure-when e f = rw (e, when) f
 pub sure-unless : {tab : ℕ} (w : Layout) {s : St} {o : List ℕ} {b : Bool} → b ≡ false → Sure tab (when b w) s o s o
 unfolding when
 sure-unless w e = rw (e, when) sure-skip
+
+-- ---- questions
+module _ {p : Page} {tab : ℕ} {s : St} {o m : List ℕ} {k : Option ℕ → Layout} {x : Code·.Name} where
+  pub name-is : {n j : ℕ} → nameIn x ≡ pathName (p .rec) (s .at) → x ≡ Code·.Name.Is n j → Same p tab (firstName k) (runOf s o m) (k (some n)) (runOf s o m)
+  unfolding runs outcome
+  name-is e f =
+      let q = sym e ∙ ap nameIn f in
+      record { is = rw (q, outcome) refl }
+
+  pub name-not : {place : ℕ} → nameIn x ≡ pathName (p .rec) (s .at) → x ≡ Code·.Name.Not place → Same p tab (firstName k) (runOf s o m) (k none) (runOf s o m)
+  unfolding runs outcome
+  name-not e f =
+      let q = sym e ∙ ap nameIn f in
+      record { is = rw (q, outcome) refl }
+
+-- What a test of a token's text answers.
+pub test-is : {x r kinds starts lens : List ℕ} {tab n : ℕ} {t : Test} {b c : Bool} {k : Bool → Layout} {g : Run} → TestedText x starts lens t n b → b ≡ c
+    → Same (page x r kinds starts lens) tab (test t n k) g (k c) g
+unfolding runs outcome
+test-is {r = r} {kinds = kinds} {k = k} e f =
+    let q = sym (e .is r kinds) ∙ f in
+    record { is = rw q refl }

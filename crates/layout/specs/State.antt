@@ -20,6 +20,7 @@ use Rattle.layout.specs.declared.fields.Gone.{Gone}
 use Rattle.layout.specs.declared.fields.Gone.the-variants.{Past}
 use Rattle.layout.specs.declared.fields.Given.{Given}
 use Rattle.layout.specs.declared.fields.Given.the-variants.{Absent, Neither}
+use Rattle.layout.specs.declared.names.Name as Code
 use Rattle.reader.specs.declared.commands.Family.{Family}
 use Rattle.reader.specs.Fields as Fields
 use Rattle.reader.specs.Fields.{Ty}
@@ -27,9 +28,9 @@ use Rattle.reader.specs.Check.{ok, malformed, tooDeep, fieldEnd}
 use Rattle.reader.specs.Commands.{absentAt, tokenAt, groupAt, formAt, formWidth, familyOf}
 use mathlib.Core.Option.{Option, none, some}
 use Rattle.layout.specs.declared.Answer.the-variants.{Done, Stopped}
-use Rattle.layout.specs.Layout.{Layout, skip}
+use Rattle.layout.specs.Layout.{Layout, Test, skip}
 use Rattle.layout.specs.Helpers as Helpers
-use Rattle.layout.specs.Meaning.{Page, Event, Word, Token, Comment, Formed, Indent, Outcome, done, stopped, Stop, absent, imported, outcome, tokenText}
+use Rattle.layout.specs.Meaning.{Page, Event, Word, Token, Comment, Formed, Indent, Outcome, done, stopped, Stop, absent, imported, outcome, tokenText, passes, Name, name, noName}
 use Rattle.layout.specs.Events.{trimmed}
 
 abbrev pub cap : ℕ
@@ -209,3 +210,12 @@ onwardsOf r count at (Stopped s place import) =
 
 pub record Onwards (r : List ℕ) (count at : ℕ) (a b : Answer) : Type 0 where
   pub is : b ≡ onwardsOf r count at a
+
+-- The first name that an answer holds.
+abbrev pub nameIn : Code.Name → Name
+nameIn (Code.Name.Is k n) = name k n
+nameIn (Code.Name.Not place) = noName place
+
+-- The answer of a test of a token's text.
+pub record TestedText (x starts lens : List ℕ) (t : Test) (k : ℕ) (b : Bool) : Type 0 where
+  pub is : (r kinds : List ℕ) → b ≡ passes (page x r kinds starts lens) t k

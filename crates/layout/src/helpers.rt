@@ -2,6 +2,7 @@
 use crate::Answer;
 use crate::Cfg;
 use crate::St;
+use crate::entry;
 use crate::fields::Given;
 use crate::fields::Gone;
 use crate::fields::Read;
@@ -12,13 +13,17 @@ use crate::fields::optional;
 use crate::fields::stop;
 use crate::fields::token_no;
 use crate::indent_at;
+use crate::names::Name;
+use crate::names::path_name;
+use crate::part;
 use crate::token;
 use crate::word;
 use crate::words;
+use text::starts_alphanumeric;
 ghost use Rattle.layout.specs.Words.{wordOf};
-ghost use Rattle.layout.specs.Layout.{word as wordOf·, skip, _⨾_};
-ghost use Rattle.layout.specs.Helpers.{text as textField, path as pathLayout, word-if, ty-vars, ty-var-seq-there, ty-var-seq, indent as indentOf, when, new-line};
-ghost use Rattle.layout.specs.State.{Sure, Plain, joint, cfgOf};
+ghost use Rattle.layout.specs.Layout.{word as wordOf·, firstName, isAlphanumeric, skip, _⨾_};
+ghost use Rattle.layout.specs.Helpers.{text as textField, path as pathLayout, word-if, ty-vars, ty-var-seq-there, ty-var-seq, indent as indentOf, when, new-line, op-space, op-path};
+ghost use Rattle.layout.specs.State.{Sure, Plain, TestedText, joint, cfgOf};
 
 // A fixed word before an item that is not the first.
 pub fn between(text: &[u8], out: &mut [u8], st: St, tab: u32, w: usize, i: usize) -> St
@@ -268,4 +273,72 @@ pub fn new_line(text: &[u8], out: &mut [u8], st: St, cfg: Cfg, w: usize, i: usiz
         return later_line(text, out, st, cfg, w);
     }
     st
+}
+
+// ---- paths behind `op`
+// Whether a token's text starts with a letter or a digit.
+fn alphanumeric(text: &[u8], starts: &[u16], lens: &[u16], k: usize) -> bool
+    ensures { λ r. ⌜ TestedText (now (text .entry)) (now (starts .entry)) (now (lens .entry)) isAlphanumeric k r ⌝ }
+{
+    let n = entry(lens, k);
+    starts_alphanumeric(part(text, entry(starts, k), n))
+}
+
+// A space where the first name of the path starts with a letter or a digit.
+fn op_space(
+    text: &[u8],
+    rec: &[u8],
+    starts: &[u16],
+    lens: &[u16],
+    out: &mut [u8],
+    st: St,
+    cfg: Cfg,
+) -> St
+    ensures { λ r. ⌜ Plain (now (text .entry)) (now (rec .entry)) (now (starts .entry)) (now (lens .entry)) (cfg .tab) (firstName op-space) st (now (out .entry)) (Answer.Done r) (now (out .exit)) ⌝ }
+{
+    let at = st.at;
+    let Name::Is(k, _n) = path_name(rec, at) else {
+        return st;
+    };
+    if alphanumeric(text, starts, lens, k) {
+        return word(text, out, st, cfg.tab, words::SPACE);
+    }
+    st
+}
+
+// `op` and a path.
+fn op_path_there(
+    text: &[u8],
+    rec: &[u8],
+    starts: &[u16],
+    lens: &[u16],
+    out: &mut [u8],
+    st: St,
+    cfg: Cfg,
+) -> Answer
+    ensures { λ r. ⌜ Plain (now (text .entry)) (now (rec .entry)) (now (starts .entry)) (now (lens .entry)) (cfg .tab) ((wordOf· "op" ⨾ firstName op-space) ⨾ pathLayout) st (now (out .entry)) r (now (out .exit)) ⌝ }
+{
+    let s1 = word(text, out, st, cfg.tab, words::OP);
+    let s2 = op_space(text, rec, starts, lens, out, s1, cfg);
+    path(text, rec, starts, lens, out, s2, cfg)
+}
+
+// The fields `op_kw` and `path`.
+pub fn op_path(
+    text: &[u8],
+    rec: &[u8],
+    starts: &[u16],
+    lens: &[u16],
+    out: &mut [u8],
+    st: St,
+    cfg: Cfg,
+) -> Answer
+    ensures { λ r. ⌜ Plain (now (text .entry)) (now (rec .entry)) (now (starts .entry)) (now (lens .entry)) (cfg .tab) op-path st (now (out .entry)) r (now (out .exit)) ⌝ }
+{
+    let given = optional(rec, st);
+    match given {
+        Given::Token(_k, s) => op_path_there(text, rec, starts, lens, out, s, cfg),
+        Given::Absent(s) => path(text, rec, starts, lens, out, s, cfg),
+        Given::Neither => stop(st),
+    }
 }

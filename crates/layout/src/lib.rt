@@ -2,6 +2,7 @@
 // and reading the fields of a record (document 01, module 5).
 pub mod words; // words.rt: the fixed words of 000
 pub mod fields; // fields.rt: the fields of a record, each read at the cursor
+pub mod names; // names.rt: the first name of a path
 pub mod helpers; // helpers.rt: helpers of 000 that serve more than one family
 
 ghost use mathlib.Core.Path.{_≡_};
@@ -200,7 +201,7 @@ pub fn word(text: &[u8], out: &mut [u8], st: St, tab: u32, w: usize) -> St
 }
 
 // The entry of a table, 0 past its end.
-fn entry(table: &[u16], k: usize) -> usize
+pub fn entry(table: &[u16], k: usize) -> usize
     ensures { λ r. ⌜ r ≡ getD (now (table .entry)) k 0 ⌝ }
 {
     if k < table.len() {

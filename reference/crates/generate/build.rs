@@ -8,8 +8,7 @@ use std::{env, fs};
 const IMPORT: &str = "ast::DecOne::EsImportDec(_) => return None,";
 
 fn main() {
-    let source = Path::new(&variable("CARGO_MANIFEST_DIR"))
-        .join("../sml-naive-fmt/src/lib.rs");
+    let source = Path::new(&variable("CARGO_MANIFEST_DIR")).join("../sml-naive-fmt/src/lib.rs");
     println!("cargo::rerun-if-changed={}", source.display());
     let text = fs::read_to_string(&source).expect("000 can be read");
     let (copy, table) = instrumented(&text);

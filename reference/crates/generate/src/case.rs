@@ -84,7 +84,8 @@ pub struct Calls {
     pub doc_output: usize,
 }
 
-/// One sheet in this many is damaged three times out of ten.
+/// The share of sheets that are damaged; a little less, because some have no place for the damage
+/// picked first.
 const DAMAGED: (usize, usize) = (3, 10);
 
 impl Generator {

@@ -184,12 +184,12 @@ impl<'r> Grammar<'r> {
                 self.out.word(SyntaxKind::Other, &name)
             }
             _ => {
-                let is_func =
-                    node == Node::NameStarEqDot && take(&mut self.operand) == Operand::Func;
-                let text = if is_func && self.out.rng.chance(1, 3) {
-                    "!"
-                } else {
-                    words::of_field(self.out.rng, node, field.accessor)
+                let is_name = node == Node::NameStarEqDot;
+                let operand = if is_name { take(&mut self.operand) } else { Operand::No };
+                let text = match operand {
+                    Operand::Func => words::func(self.out.rng),
+                    Operand::Arg => words::arg(self.out.rng),
+                    Operand::No => words::of_field(self.out.rng, node, field.accessor),
                 };
                 self.out.word(SyntaxKind::of_text(text.as_bytes()), text)
             }
@@ -239,12 +239,13 @@ impl<'r> Grammar<'r> {
     }
 
     /// Any form of the family that the course allows, a terminal one where the budget is spent.
-    /// The operands of an `AppExp` are often paths, and an `if` often follows `else`.
+    /// An `AppExp` is frequent, its operands are often paths, and an `if` often follows `else`.
     fn choose(&mut self, family: Family, accessor: &str, carries: bool) -> Node {
         let rng = &mut *self.out.rng;
         let frequent = match accessor {
             "func" | "arg" if rng.chance(1, 2) => Some(Node::PathExp),
             "no" if rng.chance(1, 3) => Some(Node::IfExp),
+            _ if family == Family::Exp && rng.chance(1, 12) => Some(Node::AppExp),
             _ => None,
         };
         match frequent {

@@ -61,6 +61,21 @@ pub fn name(rng: &mut Rng) -> &'static str {
     }
 }
 
+/// A name for the function of an `AppExp`, often `!` or one that begins so.
+pub fn func(rng: &mut Rng) -> &'static str {
+    if rng.chance(1, 2) {
+        rng.pick(&["!", "!", "!", "!!", "!x"])
+    } else {
+        name(rng)
+    }
+}
+
+/// A name for the argument of an `AppExp`: a letter, a symbol or a digit first.
+pub fn arg(rng: &mut Rng) -> &'static str {
+    let names = rng.pick(&[PLAIN, SYMBOLIC, ODD, &["1", "9x"]]);
+    rng.pick(names)
+}
+
 /// White space between tokens.
 pub fn gap(rng: &mut Rng) -> &'static str {
     rng.pick(GAPS)

@@ -1,5 +1,7 @@
 //! The tool `generate`.
 
+use decode::program::Input;
+use generate::Generator;
 use std::process::{Command, Output};
 
 fn run(arguments: &[&str]) -> Output {
@@ -20,12 +22,25 @@ fn a_report_lists_what_is_reached() {
 }
 
 #[test]
+fn the_input_is_that_of_the_case() {
+    for index in 0..20 {
+        let output = run(&["input", "7", &index.to_string()]);
+        assert!(output.status.success());
+        let case = Generator::new(7).case(index);
+        let input = Input::parse(&output.stdout).expect("a small sheet");
+        assert_eq!(input.tab_size, case.tab_size);
+        assert_eq!((input.text, input.record), (&case.sheet.text[..], &case.sheet.record[..]));
+    }
+}
+
+#[test]
 fn bad_arguments_get_a_message_and_exit_2() {
     for (arguments, message) in [
         (&[][..], "unknown arguments []"),
         (&["report", "5"], "unknown arguments [\"report\", \"5\"]"),
         (&["reprot", "5", "1"], "unknown arguments"),
         (&["report", "x", "1"], "the count \"x\" is no number below 2^64"),
+        (&["input", "5", "x"], "the index \"x\" is no number below 2^64"),
         (&["report", "5", "-1"], "the seed \"-1\" is no number below 2^64"),
     ] {
         let output = run(arguments);

@@ -39,7 +39,7 @@ fn steps(sheet: &Sheet, at: usize) -> Option<Vec<Sheet>> {
         steps.extend(shorter_token(sheet, &commands, at));
     }
     steps.extend(absent(sheet, command));
-    steps.extend(inner_form(sheet, &commands, at));
+    steps.extend(inner_forms(sheet, &commands, at));
     steps.extend(without_items(sheet, &commands, at));
     Some(steps)
 }
@@ -68,12 +68,13 @@ fn without_items(sheet: &Sheet, commands: &[Command], at: usize) -> Vec<Sheet> {
         smaller.record[list.bytes.start + 1..list.bytes.end].copy_from_slice(&left);
         smaller
     };
-    let halves = [
-        without(items[half].start..list.end, half),
-        without(list.bytes.end..items[half].start, items.len() - half),
-    ];
+    let halves = (half > 0).then(|| {
+        let middle = items[half].start;
+        let first = without(middle..list.end, half);
+        [first, without(list.bytes.end..middle, items.len() - half)]
+    });
     let ones = items.iter().take(MOST_ITEMS).map(|item| without(item.clone(), items.len() - 1));
-    halves.into_iter().chain(ones).collect()
+    halves.into_iter().flatten().chain(ones).collect()
 }
 
 /// The sheet in which the field that begins here is absent.
@@ -84,15 +85,23 @@ fn absent(sheet: &Sheet, command: &Command) -> Option<Sheet> {
         .then(|| spliced(sheet, command.bytes.start..command.end, &[command::ABSENT]))
 }
 
-/// The sheet in which the next form of the same family stands in place of the form that holds it.
-fn inner_form(sheet: &Sheet, commands: &[Command], at: usize) -> Option<Sheet> {
+/// The sheets in which a form of the same family stands in place of the one that holds it.
+fn inner_forms(sheet: &Sheet, commands: &[Command], at: usize) -> Vec<Sheet> {
     let outer = &commands[at];
-    let Role::Form(family, _) = outer.role else { return None };
-    let mut inside = commands[at + 1..].iter().take_while(|inner| inner.bytes.start < outer.end);
-    let inner =
-        inside.find(|inner| matches!(inner.role, Role::Form(other, _) if other == family))?;
-    let bytes = sheet.record[inner.bytes.start..inner.end].to_vec();
-    Some(spliced(sheet, outer.bytes.start..outer.end, &bytes))
+    let Role::Form(family, _) = outer.role else { return Vec::new() };
+    let inside = commands[at + 1..].iter().take_while(|inner| inner.bytes.start < outer.end);
+    let mut sheets = Vec::new();
+    // What stands inside an inner form of the family comes with a later step.
+    let mut behind = outer.bytes.end;
+    for inner in inside {
+        let is_same = matches!(inner.role, Role::Form(other, _) if other == family);
+        if is_same && inner.bytes.start >= behind {
+            behind = inner.end;
+            let bytes = &sheet.record[inner.bytes.start..inner.end];
+            sheets.push(spliced(sheet, outer.bytes.start..outer.end, bytes));
+        }
+    }
+    sheets
 }
 
 /// The start and the length of a token in the text.

@@ -33,6 +33,11 @@ fn sizes_are_small(vectors: &[Vector], file: usize) {
         let size = bytes(std::slice::from_ref(vector)).len();
         assert!(size < 200_000, "{}: {size}", vector.name);
     }
+    // The README names these for a replaying program's buffers.
+    let most = |length: fn(&Vector) -> usize| vectors.iter().map(length).max();
+    assert_eq!(most(|vector| vector.sheet.text.len()), Some(32_769));
+    assert_eq!(most(|vector| vector.sheet.record.len()), Some(65_537));
+    assert!(most(|vector| vector.answer.output.len()) <= Some(1_000));
     let sheets: HashSet<_> = vectors.iter().map(|vector| &vector.sheet).collect();
     assert!(sheets.len() > 300, "{}", sheets.len());
 }
