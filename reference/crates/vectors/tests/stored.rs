@@ -37,7 +37,8 @@ fn sizes_are_small(vectors: &[Vector], file: usize) {
     let most = |length: fn(&Vector) -> usize| vectors.iter().map(length).max();
     assert_eq!(most(|vector| vector.sheet.text.len()), Some(32_769));
     assert_eq!(most(|vector| vector.sheet.record.len()), Some(65_537));
-    assert!(most(|vector| vector.answer.output.len()) <= Some(1_000));
+    assert!(most(|vector| vector.output) <= Some(1_000));
+    assert!(most(|vector| vector.answer.output.len()) <= Some(21_000));
     let sheets: HashSet<_> = vectors.iter().map(|vector| &vector.sheet).collect();
     assert!(sheets.len() > 300, "{}", sheets.len());
 }
