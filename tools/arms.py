@@ -189,7 +189,7 @@ class Function:
             chain = self.term(self.steps(way), None, self.stop(way)) if "%chain" in given else ""
             return re.sub(r"@([a-z0-9-]+)", lambda found: paths[found.group(1)], given.replace("%chain", chain))
         if need.startswith("returns"):
-            return self.wrapped(self.dispatched(way) if "walk" in self.answers else self.term(self.steps(way), None, self.stop(way)))
+            return self.wrapped(self.returned(way))
         if need.startswith("same-length"):
             return self.kept(way)
         if need.startswith("loop"):
@@ -202,6 +202,32 @@ class Function:
             return "omega (arith, %s .pre .0%s)" % (paths["start"], left)
         return "search needs"
 
+    def returned(self, way):
+        if "walk" in self.answers:
+            return self.dispatched(way)
+        if "which" in self.answers:
+            return self.chosen(way)
+        return self.term(self.steps(way), None, self.stop(way))
+
+    def past(self, path, thing):
+        """A number that is none of a match's keys is at least their count: (the count, the proof)."""
+        count, past = len([name for name in self.places.records if re.match(r"At-%s-keys\d+$" % thing, name)]), "zero-le"
+        for k in range(count):
+            past = "past %s (%s .rest %s.1)" % (parenthesised(past), path, ".0 " * (count - 1 - k))
+        return count, past
+
+    def chosen(self, way):
+        """A return of a function that dispatches by the number `which`."""
+        start = way[0][2]
+        record, thing, path = [place for place in way if place[1].startswith("match")][-1]
+        if record.endswith("-rest"):
+            count, past = self.past(path, thing)
+            return "beyond (%s) (%s .args .which) %d refl (%s) (%s .ensures)" % (
+                self.answers["arms"].replace("@start", start), start, count, past, self.stop(way))
+        key = re.search(r"keys\d+$", record).group(0)
+        return "at-key (%s) (%s .%s) %s" % (
+            self.answers["which"].replace("@start", start), path, key, parenthesised(self.term(self.steps(way), None, None)))
+
     def dispatched(self, way):
         """A return of the function that dispatches a form by number: no form left, no form there, an arm, no such arm."""
         walk, paths = self.answers["walk"], dict((thing, path) for record, thing, path in way)
@@ -213,10 +239,7 @@ class Function:
         form, found = paths["form"], steps[0][3][1]
         record, thing, path = [place for place in way if place[1].startswith("match")][-1]
         if record.endswith("-rest"):
-            count = len([name for name in self.places.records if re.match(r"At-%s-keys\d+$" % thing, name)])
-            past = "zero-le"
-            for k in range(count):
-                past = "past (%s) (%s .rest %s.1)" % (past, path, ".0 " * (count - 1 - k))
+            count, past = self.past(path, thing)
             number = found[:-len(" .1")] + " .0 .0"
             return head + "(by-same (form-is (%s .ensures) (%s)) (beyond (%s) (%s) %d refl (%s) (%s .ensures)))" % (
                 form, found, self.answers["arms"].replace("@start", paths["start"]), number, count, past, self.stop(way))
@@ -353,16 +376,18 @@ def main():
             os.remove(path)
     for folder in glob.glob("crates/%s/proofs/+*" % crate):
         shutil.rmtree(folder)
-    while True:
+    left = set(wanted)
+    while left:
         files = offered(crate)
         name_of = lambda path: path.split("/proofs/")[1][:-len("/Proof.antt")]
         todo = [path for path in files if name_of(path) in wanted or name_of(path).startswith("+")]
         if not todo:
-            return
+            raise SystemExit("arms: nothing is offered for %s" % ", ".join(sorted(left)))
         with tempfile.TemporaryDirectory() as room:
             root = generated(crate, room)
             for path in todo:
                 name = name_of(path)
+                left -= set(name[1:].split("+") if name.startswith("+") else [name])
                 if name.startswith("+"):
                     write_cycle(crate, root, path, files[path], answers, members)
                     continue

@@ -40,6 +40,10 @@ module _ {p : Page} {tab : ℕ} where
   beyond arms n k {s} {o} {m} {a} l h e =
       subst (λ w. Walked p tab w (runOf s o m) a o m) (sym (List·getD-eq-default arms halt (omega (arith, l)))) (halted e)
 
+  -- The layout of the number that was matched.
+  pub at-key : (f : ℕ → Layout) {n key : ℕ} {g : Run} {r : Answer} {o m : List ℕ} → n ≡ key → Walked p tab (f key) g r o m → Walked p tab (f n) g r o m
+  at-key f {g = g} {r = r} {o = o} {m = m} h w = subst (λ i. Walked p tab (f i) g r o m) (sym h) w
+
   -- The arm of the number that was read.
   pub form-key : {family : Code.Family} {k : ℕ → Layout} {n key : ℕ} {s s′ : St} {o m o′ m′ : List ℕ} {x : Read} {r : Answer} → FormRead family (p .rec) s x
       → x ≡ Is n s′ → n ≡ key → Walked p tab (k key) (runOf s′ o m) r o′ m′ → Walked p tab (form (familyOf family) k) (runOf s o m) r o′ m′

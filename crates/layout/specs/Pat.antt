@@ -1,4 +1,5 @@
 -- `get_pat` of 000: a layout for each arm, over the walks one form deeper.
+use Prim.Native.Nat.{ℕ}
 use mathlib.Core.List.{List, [], _∷_}
 use lib.ListN.{getD}
 use Rattle.layout.specs.Layout.{Layout, _⨾_, word, group, choice, maybe, halt}
@@ -14,8 +15,14 @@ module _ (ws : Walkers) where
   unfoldable pub SConPat : Layout
   SConPat = text
 
+  unfoldable pub con-arg-there : Layout
+  con-arg-there = word " " ⨾ get-pat
+
+  unfoldable pub con-arg : Layout
+  con-arg = maybe con-arg-there
+
   unfoldable pub ConPat : Layout
-  ConPat = op-path ⨾ maybe (word " " ⨾ get-pat)
+  ConPat = op-path ⨾ con-arg
 
   unfoldable pub RestPatRow : Layout
   RestPatRow = word "..."
@@ -23,14 +30,26 @@ module _ (ws : Walkers) where
   unfoldable pub LabAndPatPatRow : Layout
   LabAndPatPatRow = text ⨾ word " = " ⨾ get-pat
 
+  unfoldable pub as-tail-there : Layout
+  as-tail-there = group (word " as " ⨾ get-pat)
+
+  unfoldable pub as-tail : Layout
+  as-tail = maybe as-tail-there
+
   unfoldable pub LabPatRow : Layout
-  LabPatRow = text ⨾ ty-annotation ws ⨾ maybe (group (word " as " ⨾ get-pat))
+  LabPatRow = text ⨾ ty-annotation ws ⨾ as-tail
+
+  unfoldable pub pat-row-inner : ℕ → Layout
+  pat-row-inner which = getD (RestPatRow ∷ LabAndPatPatRow ∷ LabPatRow ∷ []) which halt
 
   unfoldable pub pat-row : Layout
-  pat-row = group (choice λ which. getD (RestPatRow ∷ LabAndPatPatRow ∷ LabPatRow ∷ []) which halt)
+  pat-row = group (choice pat-row-inner)
+
+  unfoldable pub pat-rows : Layout
+  pat-rows = sep ", " pat-row
 
   unfoldable pub RecordPat : Layout
-  RecordPat = word "{ " ⨾ sep ", " pat-row ⨾ word " }"
+  RecordPat = word "{ " ⨾ pat-rows ⨾ word " }"
 
   unfoldable pub ParenPat : Layout
   ParenPat = word "(" ⨾ get-pat ⨾ word ")"

@@ -60,5 +60,8 @@ module _ (ws : Walkers) where
   tys = HoleTy ∷ WildcardTy ∷ TyVarTy ∷ RecordTy ∷ ConTy ∷ OneArgConTy ∷ TupleTy ∷ FnTy ∷ ParenTy ∷ []
 
   -- ---- helpers of other families that walk into a type
+  unfoldable pub ty-annotation-there : Layout
+  ty-annotation-there = group (word " : " ⨾ get-ty)
+
   unfoldable pub ty-annotation : Layout
-  ty-annotation = maybe (group (word " : " ⨾ get-ty))
+  ty-annotation = maybe ty-annotation-there

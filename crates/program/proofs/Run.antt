@@ -75,11 +75,11 @@ unfolding GetDec.dec-in-seq GetDec.sharing-tail GetDec.dec GetDec.get-dec GetDec
 runGetDec = tt
 
 unfoldable pub runTy : Unit {0}
-unfolding Ty.HoleTy Ty.WildcardTy Ty.TyVarTy Ty.ty-row Ty.ty-rows Ty.RecordTy Ty.ty-args Ty.ty-seq-there Ty.ty-seq Ty.ConTy Ty.OneArgConTy Ty.star-ty Ty.star-tys Ty.TupleTy Ty.FnTy Ty.ParenTy Ty.tys Ty.ty-annotation
+unfolding Ty.HoleTy Ty.WildcardTy Ty.TyVarTy Ty.ty-row Ty.ty-rows Ty.RecordTy Ty.ty-args Ty.ty-seq-there Ty.ty-seq Ty.ConTy Ty.OneArgConTy Ty.star-ty Ty.star-tys Ty.TupleTy Ty.FnTy Ty.ParenTy Ty.tys Ty.ty-annotation-there Ty.ty-annotation
 runTy = tt
 
 unfoldable pub runPat : Unit {0}
-unfolding Pat.WildcardPat Pat.SConPat Pat.ConPat Pat.RestPatRow Pat.LabAndPatPatRow Pat.LabPatRow Pat.pat-row Pat.RecordPat Pat.ParenPat Pat.pat-args Pat.TuplePat Pat.ListPat Pat.VectorPat Pat.InfixPat Pat.TypedPat Pat.AsPat Pat.OrPat Pat.pats
+unfolding Pat.WildcardPat Pat.SConPat Pat.con-arg-there Pat.con-arg Pat.ConPat Pat.RestPatRow Pat.LabAndPatPatRow Pat.as-tail-there Pat.as-tail Pat.LabPatRow Pat.pat-row-inner Pat.pat-row Pat.pat-rows Pat.RecordPat Pat.ParenPat Pat.pat-args Pat.TuplePat Pat.ListPat Pat.VectorPat Pat.InfixPat Pat.TypedPat Pat.AsPat Pat.OrPat Pat.pats
 runPat = tt
 
 unfoldable pub runExp : Unit {0}

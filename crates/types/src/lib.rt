@@ -21,7 +21,7 @@ ghost use Rattle.layout.specs.State.{Plain};
 ghost use Rattle.layout.specs.Helpers.{sep, for-each};
 ghost use Rattle.layout.specs.Layout.{group as groupOf, maybe as maybeOf};
 ghost use Rattle.layout.specs.Walk.{walks};
-ghost use Rattle.layout.specs.Ty.{ty-row, ty-rows, RecordTy, ty-seq, ty-seq-there, ty-args, ConTy, OneArgConTy, star-ty, star-tys, TupleTy, FnTy, ParenTy};
+ghost use Rattle.layout.specs.Ty.{ty-row, ty-rows, RecordTy, ty-seq, ty-seq-there, ty-args, ConTy, OneArgConTy, star-ty, star-tys, TupleTy, FnTy, ParenTy, ty-annotation-there, ty-annotation};
 
 // A row of a record type.
 fn ty_row(
@@ -357,5 +357,44 @@ pub fn get_ty(
         7 => fn_ty(text, rec, starts, lens, out, s, sub),
         8 => paren_ty(text, rec, starts, lens, out, s, sub),
         _ => stop(s),
+    }
+}
+
+// An annotation that is there.
+fn ty_annotation_there(
+    text: &[u8],
+    rec: &[u8],
+    starts: &[u16],
+    lens: &[u16],
+    out: &mut [u8],
+    st: St,
+    cfg: Cfg,
+) -> Answer
+    ensures { λ r. ⌜ Plain (now (text .entry)) (now (rec .entry)) (now (starts .entry)) (now (lens .entry)) (cfg .tab) (ty-annotation-there (walks (cfg .left))) st (now (out .entry)) r (now (out .exit)) ⌝ }
+{
+    let r1 = group(rec, st);
+    let Answer::Done(s1) = r1 else {
+        return r1;
+    };
+    let s2 = word(text, out, s1, cfg.tab, words::COLON);
+    get_ty(text, rec, starts, lens, out, s2, cfg)
+}
+
+// A colon and a type, where there are any.
+pub fn ty_annotation(
+    text: &[u8],
+    rec: &[u8],
+    starts: &[u16],
+    lens: &[u16],
+    out: &mut [u8],
+    st: St,
+    cfg: Cfg,
+) -> Answer
+    ensures { λ r. ⌜ Plain (now (text .entry)) (now (rec .entry)) (now (starts .entry)) (now (lens .entry)) (cfg .tab) (ty-annotation (walks (cfg .left))) st (now (out .entry)) r (now (out .exit)) ⌝ }
+{
+    let gone = absent(rec, st);
+    match gone {
+        Gone::Past(s) => Answer::Done(s),
+        Gone::There => ty_annotation_there(text, rec, starts, lens, out, st, cfg),
     }
 }

@@ -293,7 +293,7 @@ con-ty-returns-2 : (t : ℕ) → con-ty-lts.Need-returns-2 (
 unfolding Ty.ConTy
 con-ty-returns-2 t c = record { is = λ kinds m. then-done (plain (c .before .before .before .before .before .before .before .before .before .ty-seq .ensures)) (c .before .before .before .before .before .r1 .given .1) (plain (c .before .before .path .ensures)) }
 
--- src/lib.rt:272:9
+-- src/lib.rt:296:9
 fn-ty-get-ty-requires : (t : ℕ) → fn-ty-lts.Need-get-ty-requires (
   get-ty-below t,
   get-ty.Post,
@@ -302,7 +302,7 @@ fn-ty-get-ty-requires : (t : ℕ) → fn-ty-lts.Need-get-ty-requires (
 ) (fn-ty-at t) fn-ty.Post
 fn-ty-get-ty-requires t c κs = omega (arith, c .before .before .before .before .before .before .pre .0)
 
--- src/lib.rt:273:22
+-- src/lib.rt:297:22
 fn-ty-enum-known-r1 : (t : ℕ) → fn-ty-lts.Need-enum-known-r1 (
   get-ty-below t,
   get-ty.Post,
@@ -311,7 +311,7 @@ fn-ty-enum-known-r1 : (t : ℕ) → fn-ty-lts.Need-enum-known-r1 (
 ) (fn-ty-at t) fn-ty.Post
 fn-ty-enum-known-r1 t c = search needs
 
--- src/lib.rt:274:9
+-- src/lib.rt:298:9
 fn-ty-enum-told : (t : ℕ) → fn-ty-lts.Need-enum-told (
   get-ty-below t,
   get-ty.Post,
@@ -320,7 +320,7 @@ fn-ty-enum-told : (t : ℕ) → fn-ty-lts.Need-enum-told (
 ) (fn-ty-at t) fn-ty.Post
 fn-ty-enum-told t c = search needs
 
--- src/lib.rt:274:9
+-- src/lib.rt:298:9
 fn-ty-same-length : (t : ℕ) → fn-ty-lts.Need-same-length (
   get-ty-below t,
   get-ty.Post,
@@ -329,7 +329,7 @@ fn-ty-same-length : (t : ℕ) → fn-ty-lts.Need-same-length (
 ) (fn-ty-at t) fn-ty.Post
 fn-ty-same-length t c = c .before .before .before .before .get-ty .kept .1 .1 .1 .1 .0
 
--- src/lib.rt:274:9
+-- src/lib.rt:298:9
 fn-ty-returns : (t : ℕ) → fn-ty-lts.Need-returns (
   get-ty-below t,
   get-ty.Post,
@@ -339,7 +339,7 @@ fn-ty-returns : (t : ℕ) → fn-ty-lts.Need-returns (
 unfolding Ty.FnTy
 fn-ty-returns t c = record { is = λ kinds m. then-stop (plain (c .before .before .before .before .get-ty .ensures)) (c .enum-told .given .1) }
 
--- src/lib.rt:276:9
+-- src/lib.rt:300:9
 fn-ty-word-requires : (t : ℕ) → fn-ty-lts.Need-word-requires (
   get-ty-below t,
   get-ty.Post,
@@ -348,7 +348,7 @@ fn-ty-word-requires : (t : ℕ) → fn-ty-lts.Need-word-requires (
 ) (fn-ty-at t) fn-ty.Post
 fn-ty-word-requires t c κs = search needs
 
--- src/lib.rt:277:5
+-- src/lib.rt:301:5
 fn-ty-get-ty-requires-2 : (t : ℕ) → fn-ty-lts.Need-get-ty-requires-2 (
   get-ty-below t,
   get-ty.Post,
@@ -357,7 +357,7 @@ fn-ty-get-ty-requires-2 : (t : ℕ) → fn-ty-lts.Need-get-ty-requires-2 (
 ) (fn-ty-at t) fn-ty.Post
 fn-ty-get-ty-requires-2 t c κs = omega (arith, c .before .before .before .before .before .before .before .before .before .before .before .before .before .before .before .before .before .pre .0)
 
--- src/lib.rt:261:1
+-- src/lib.rt:285:1
 fn-ty-same-length-2 : (t : ℕ) → fn-ty-lts.Need-same-length-2 (
   get-ty-below t,
   get-ty.Post,
@@ -366,7 +366,7 @@ fn-ty-same-length-2 : (t : ℕ) → fn-ty-lts.Need-same-length-2 (
 ) (fn-ty-at t) fn-ty.Post
 fn-ty-same-length-2 t c = c .before .before .get-ty2 .kept .1 .1 .1 .1 .0 ∙ c .before .before .before .before .before .before .word .kept .1 .0 ∙ c .before .before .before .before .before .before .before .before .before .before .before .before .before .get-ty .kept .1 .1 .1 .1 .0
 
--- src/lib.rt:261:1
+-- src/lib.rt:285:1
 fn-ty-returns-2 : (t : ℕ) → fn-ty-lts.Need-returns-2 (
   get-ty-below t,
   get-ty.Post,
@@ -376,7 +376,7 @@ fn-ty-returns-2 : (t : ℕ) → fn-ty-lts.Need-returns-2 (
 unfolding Ty.FnTy
 fn-ty-returns-2 t c = record { is = λ kinds m. then-done (plain (c .before .before .before .before .before .before .before .before .before .before .before .before .before .get-ty .ensures)) (c .before .before .before .before .before .before .before .before .before .r1 .given .1) (then-sure (c .before .before .before .before .before .before .word .ensures) (plain (c .before .before .get-ty2 .ensures))) }
 
--- src/lib.rt:314:9
+-- src/lib.rt:338:9
 get-ty-stop-requires : (t : ℕ) → get-ty-lts.Need-stop-requires (
   stop-reads.Asked,
   stop-reads.Learnt,
@@ -401,7 +401,7 @@ get-ty-stop-requires : (t : ℕ) → get-ty-lts.Need-stop-requires (
 ) (get-ty-at t) get-ty.Post
 get-ty-stop-requires t c κs = search needs
 
--- src/lib.rt:314:9
+-- src/lib.rt:338:9
 get-ty-returns : (t : ℕ) → get-ty-lts.Need-returns (
   stop-reads.Asked,
   stop-reads.Learnt,
@@ -427,7 +427,7 @@ get-ty-returns : (t : ℕ) → get-ty-lts.Need-returns (
 unfolding Ty.tys Ty.HoleTy Ty.WildcardTy Ty.TyVarTy
 get-ty-returns t c = record { is = λ kinds m. ty-zero _ (c .before .if1 .taken) (c .stop .ensures) }
 
--- src/lib.rt:316:26
+-- src/lib.rt:340:26
 get-ty-form-requires : (t : ℕ) → get-ty-lts.Need-form-requires (
   stop-reads.Asked,
   stop-reads.Learnt,
@@ -452,7 +452,7 @@ get-ty-form-requires : (t : ℕ) → get-ty-lts.Need-form-requires (
 ) (get-ty-at t) get-ty.Post
 get-ty-form-requires t c κs = search needs
 
--- src/lib.rt:316:18
+-- src/lib.rt:340:18
 get-ty-enum-known-k : (t : ℕ) → get-ty-lts.Need-enum-known-k (
   stop-reads.Asked,
   stop-reads.Learnt,
@@ -477,7 +477,7 @@ get-ty-enum-known-k : (t : ℕ) → get-ty-lts.Need-enum-known-k (
 ) (get-ty-at t) get-ty.Post
 get-ty-enum-known-k t c = search needs
 
--- src/lib.rt:317:9
+-- src/lib.rt:341:9
 get-ty-enum-told : (t : ℕ) → get-ty-lts.Need-enum-told (
   stop-reads.Asked,
   stop-reads.Learnt,
@@ -502,7 +502,7 @@ get-ty-enum-told : (t : ℕ) → get-ty-lts.Need-enum-told (
 ) (get-ty-at t) get-ty.Post
 get-ty-enum-told t c = search needs
 
--- src/lib.rt:317:9
+-- src/lib.rt:341:9
 get-ty-stop-requires-2 : (t : ℕ) → get-ty-lts.Need-stop-requires-2 (
   stop-reads.Asked,
   stop-reads.Learnt,
@@ -527,7 +527,7 @@ get-ty-stop-requires-2 : (t : ℕ) → get-ty-lts.Need-stop-requires-2 (
 ) (get-ty-at t) get-ty.Post
 get-ty-stop-requires-2 t c κs = search needs
 
--- src/lib.rt:317:9
+-- src/lib.rt:341:9
 get-ty-returns-2 : (t : ℕ) → get-ty-lts.Need-returns-2 (
   stop-reads.Asked,
   stop-reads.Learnt,
@@ -553,7 +553,7 @@ get-ty-returns-2 : (t : ℕ) → get-ty-lts.Need-returns-2 (
 unfolding Ty.tys Ty.HoleTy Ty.WildcardTy Ty.TyVarTy
 get-ty-returns-2 t c = record { is = λ kinds m. ty-form _ (c .before .before .before .before .if1 .left) (form-not (c .stop2 .ensures) (c .before .before .before .form .ensures) (c .before .enum-told .given .1)) }
 
--- src/lib.rt:323:15
+-- src/lib.rt:347:15
 get-ty-sub-t15 : (t : ℕ) → get-ty-lts.Need-sub-t15 (
   stop-reads.Asked,
   stop-reads.Learnt,
@@ -578,7 +578,7 @@ get-ty-sub-t15 : (t : ℕ) → get-ty-lts.Need-sub-t15 (
 ) (get-ty-at t) get-ty.Post
 get-ty-sub-t15 t c = search needs
 
--- src/lib.rt:326:27
+-- src/lib.rt:350:27
 get-ty-word-requires : (t : ℕ) → get-ty-lts.Need-word-requires (
   stop-reads.Asked,
   stop-reads.Learnt,
@@ -603,7 +603,7 @@ get-ty-word-requires : (t : ℕ) → get-ty-lts.Need-word-requires (
 ) (get-ty-at t) get-ty.Post
 get-ty-word-requires t c κs = search needs
 
--- src/lib.rt:327:27
+-- src/lib.rt:351:27
 get-ty-word-requires-2 : (t : ℕ) → get-ty-lts.Need-word-requires-2 (
   stop-reads.Asked,
   stop-reads.Learnt,
@@ -628,7 +628,7 @@ get-ty-word-requires-2 : (t : ℕ) → get-ty-lts.Need-word-requires-2 (
 ) (get-ty-at t) get-ty.Post
 get-ty-word-requires-2 t c κs = search needs
 
--- src/lib.rt:328:14
+-- src/lib.rt:352:14
 get-ty-text-of-requires : (t : ℕ) → get-ty-lts.Need-text-of-requires (
   stop-reads.Asked,
   stop-reads.Learnt,
@@ -653,7 +653,7 @@ get-ty-text-of-requires : (t : ℕ) → get-ty-lts.Need-text-of-requires (
 ) (get-ty-at t) get-ty.Post
 get-ty-text-of-requires t c κs = search needs
 
--- src/lib.rt:329:14
+-- src/lib.rt:353:14
 get-ty-record-ty-requires : (t : ℕ) → get-ty-lts.Need-record-ty-requires (
   stop-reads.Asked,
   stop-reads.Learnt,
@@ -678,7 +678,7 @@ get-ty-record-ty-requires : (t : ℕ) → get-ty-lts.Need-record-ty-requires (
 ) (get-ty-at t) get-ty.Post
 get-ty-record-ty-requires t c κs = omega (arith, c .before .before .before .before .before .before .before .before .before .before .before .before .pre .0, c .before .before .before .before .before .before .if1 .left)
 
--- src/lib.rt:330:14
+-- src/lib.rt:354:14
 get-ty-con-ty-requires : (t : ℕ) → get-ty-lts.Need-con-ty-requires (
   stop-reads.Asked,
   stop-reads.Learnt,
@@ -703,7 +703,7 @@ get-ty-con-ty-requires : (t : ℕ) → get-ty-lts.Need-con-ty-requires (
 ) (get-ty-at t) get-ty.Post
 get-ty-con-ty-requires t c κs = omega (arith, c .before .before .before .before .before .before .before .before .before .before .before .before .pre .0, c .before .before .before .before .before .before .if1 .left)
 
--- src/lib.rt:331:14
+-- src/lib.rt:355:14
 get-ty-one-arg-con-ty-requires : (t : ℕ) → get-ty-lts.Need-one-arg-con-ty-requires (
   stop-reads.Asked,
   stop-reads.Learnt,
@@ -728,7 +728,7 @@ get-ty-one-arg-con-ty-requires : (t : ℕ) → get-ty-lts.Need-one-arg-con-ty-re
 ) (get-ty-at t) get-ty.Post
 get-ty-one-arg-con-ty-requires t c κs = omega (arith, c .before .before .before .before .before .before .before .before .before .before .before .before .pre .0, c .before .before .before .before .before .before .if1 .left)
 
--- src/lib.rt:332:14
+-- src/lib.rt:356:14
 get-ty-tuple-ty-requires : (t : ℕ) → get-ty-lts.Need-tuple-ty-requires (
   stop-reads.Asked,
   stop-reads.Learnt,
@@ -753,7 +753,7 @@ get-ty-tuple-ty-requires : (t : ℕ) → get-ty-lts.Need-tuple-ty-requires (
 ) (get-ty-at t) get-ty.Post
 get-ty-tuple-ty-requires t c κs = omega (arith, c .before .before .before .before .before .before .before .before .before .before .before .before .pre .0, c .before .before .before .before .before .before .if1 .left)
 
--- src/lib.rt:333:14
+-- src/lib.rt:357:14
 get-ty-fn-ty-requires : (t : ℕ) → get-ty-lts.Need-fn-ty-requires (
   stop-reads.Asked,
   stop-reads.Learnt,
@@ -778,7 +778,7 @@ get-ty-fn-ty-requires : (t : ℕ) → get-ty-lts.Need-fn-ty-requires (
 ) (get-ty-at t) get-ty.Post
 get-ty-fn-ty-requires t c κs = omega (arith, c .before .before .before .before .before .before .before .before .before .before .before .before .pre .0, c .before .before .before .before .before .before .if1 .left)
 
--- src/lib.rt:334:14
+-- src/lib.rt:358:14
 get-ty-paren-ty-requires : (t : ℕ) → get-ty-lts.Need-paren-ty-requires (
   stop-reads.Asked,
   stop-reads.Learnt,
@@ -803,7 +803,7 @@ get-ty-paren-ty-requires : (t : ℕ) → get-ty-lts.Need-paren-ty-requires (
 ) (get-ty-at t) get-ty.Post
 get-ty-paren-ty-requires t c κs = omega (arith, c .before .before .before .before .before .before .before .before .before .before .before .before .pre .0, c .before .before .before .before .before .before .if1 .left)
 
--- src/lib.rt:335:14
+-- src/lib.rt:359:14
 get-ty-stop-requires-3 : (t : ℕ) → get-ty-lts.Need-stop-requires-3 (
   stop-reads.Asked,
   stop-reads.Learnt,
@@ -828,7 +828,7 @@ get-ty-stop-requires-3 : (t : ℕ) → get-ty-lts.Need-stop-requires-3 (
 ) (get-ty-at t) get-ty.Post
 get-ty-stop-requires-3 t c κs = search needs
 
--- src/lib.rt:301:1
+-- src/lib.rt:325:1
 get-ty-same-length : (t : ℕ) → get-ty-lts.Need-same-length (
   stop-reads.Asked,
   stop-reads.Learnt,
@@ -853,7 +853,7 @@ get-ty-same-length : (t : ℕ) → get-ty-lts.Need-same-length (
 ) (get-ty-at t) get-ty.Post
 get-ty-same-length t c = c .before .before .word .kept .1 .0
 
--- src/lib.rt:301:1
+-- src/lib.rt:325:1
 get-ty-returns-3 : (t : ℕ) → get-ty-lts.Need-returns-3 (
   stop-reads.Asked,
   stop-reads.Learnt,
@@ -879,7 +879,7 @@ get-ty-returns-3 : (t : ℕ) → get-ty-lts.Need-returns-3 (
 unfolding Ty.tys Ty.HoleTy Ty.WildcardTy Ty.TyVarTy
 get-ty-returns-3 t c = record { is = λ kinds m. ty-form _ (c .before .before .before .before .before .before .before .before .before .if1 .left) (form-key (c .before .before .before .before .before .before .before .before .form .ensures) (c .before .before .before .before .before .before .k .given .1) (c .before .before .before .before .match2 .keys1) (last-sure (c .before .before .word .ensures))) }
 
--- src/lib.rt:301:1
+-- src/lib.rt:325:1
 get-ty-same-length-2 : (t : ℕ) → get-ty-lts.Need-same-length-2 (
   stop-reads.Asked,
   stop-reads.Learnt,
@@ -904,7 +904,7 @@ get-ty-same-length-2 : (t : ℕ) → get-ty-lts.Need-same-length-2 (
 ) (get-ty-at t) get-ty.Post
 get-ty-same-length-2 t c = c .before .before .word2 .kept .1 .0
 
--- src/lib.rt:301:1
+-- src/lib.rt:325:1
 get-ty-returns-4 : (t : ℕ) → get-ty-lts.Need-returns-4 (
   stop-reads.Asked,
   stop-reads.Learnt,
@@ -930,7 +930,7 @@ get-ty-returns-4 : (t : ℕ) → get-ty-lts.Need-returns-4 (
 unfolding Ty.tys Ty.HoleTy Ty.WildcardTy Ty.TyVarTy
 get-ty-returns-4 t c = record { is = λ kinds m. ty-form _ (c .before .before .before .before .before .before .before .before .before .if1 .left) (form-key (c .before .before .before .before .before .before .before .before .form .ensures) (c .before .before .before .before .before .before .k .given .1) (c .before .before .before .before .match2 .keys2) (last-sure (c .before .before .word2 .ensures))) }
 
--- src/lib.rt:301:1
+-- src/lib.rt:325:1
 get-ty-same-length-3 : (t : ℕ) → get-ty-lts.Need-same-length-3 (
   stop-reads.Asked,
   stop-reads.Learnt,
@@ -955,7 +955,7 @@ get-ty-same-length-3 : (t : ℕ) → get-ty-lts.Need-same-length-3 (
 ) (get-ty-at t) get-ty.Post
 get-ty-same-length-3 t c = c .before .before .text-of .kept .1 .1 .1 .1 .0
 
--- src/lib.rt:301:1
+-- src/lib.rt:325:1
 get-ty-returns-5 : (t : ℕ) → get-ty-lts.Need-returns-5 (
   stop-reads.Asked,
   stop-reads.Learnt,
@@ -981,7 +981,7 @@ get-ty-returns-5 : (t : ℕ) → get-ty-lts.Need-returns-5 (
 unfolding Ty.tys Ty.HoleTy Ty.WildcardTy Ty.TyVarTy
 get-ty-returns-5 t c = record { is = λ kinds m. ty-form _ (c .before .before .before .before .before .before .before .before .before .if1 .left) (form-key (c .before .before .before .before .before .before .before .before .form .ensures) (c .before .before .before .before .before .before .k .given .1) (c .before .before .before .before .match2 .keys3) (plain (c .before .before .text-of .ensures))) }
 
--- src/lib.rt:301:1
+-- src/lib.rt:325:1
 get-ty-same-length-4 : (t : ℕ) → get-ty-lts.Need-same-length-4 (
   stop-reads.Asked,
   stop-reads.Learnt,
@@ -1006,7 +1006,7 @@ get-ty-same-length-4 : (t : ℕ) → get-ty-lts.Need-same-length-4 (
 ) (get-ty-at t) get-ty.Post
 get-ty-same-length-4 t c = c .before .before .record-ty .kept .1 .1 .1 .1 .0
 
--- src/lib.rt:301:1
+-- src/lib.rt:325:1
 get-ty-returns-6 : (t : ℕ) → get-ty-lts.Need-returns-6 (
   stop-reads.Asked,
   stop-reads.Learnt,
@@ -1032,7 +1032,7 @@ get-ty-returns-6 : (t : ℕ) → get-ty-lts.Need-returns-6 (
 unfolding Ty.tys Ty.HoleTy Ty.WildcardTy Ty.TyVarTy
 get-ty-returns-6 t c = record { is = λ kinds m. ty-form _ (c .before .before .before .before .before .before .before .before .before .if1 .left) (form-key (c .before .before .before .before .before .before .before .before .form .ensures) (c .before .before .before .before .before .before .k .given .1) (c .before .before .before .before .match2 .keys4) (plain (c .before .before .record-ty .ensures))) }
 
--- src/lib.rt:301:1
+-- src/lib.rt:325:1
 get-ty-same-length-5 : (t : ℕ) → get-ty-lts.Need-same-length-5 (
   stop-reads.Asked,
   stop-reads.Learnt,
@@ -1057,7 +1057,7 @@ get-ty-same-length-5 : (t : ℕ) → get-ty-lts.Need-same-length-5 (
 ) (get-ty-at t) get-ty.Post
 get-ty-same-length-5 t c = c .before .before .con-ty .kept .1 .1 .1 .1 .0
 
--- src/lib.rt:301:1
+-- src/lib.rt:325:1
 get-ty-returns-7 : (t : ℕ) → get-ty-lts.Need-returns-7 (
   stop-reads.Asked,
   stop-reads.Learnt,
@@ -1083,7 +1083,7 @@ get-ty-returns-7 : (t : ℕ) → get-ty-lts.Need-returns-7 (
 unfolding Ty.tys Ty.HoleTy Ty.WildcardTy Ty.TyVarTy
 get-ty-returns-7 t c = record { is = λ kinds m. ty-form _ (c .before .before .before .before .before .before .before .before .before .if1 .left) (form-key (c .before .before .before .before .before .before .before .before .form .ensures) (c .before .before .before .before .before .before .k .given .1) (c .before .before .before .before .match2 .keys5) (plain (c .before .before .con-ty .ensures))) }
 
--- src/lib.rt:301:1
+-- src/lib.rt:325:1
 get-ty-same-length-6 : (t : ℕ) → get-ty-lts.Need-same-length-6 (
   stop-reads.Asked,
   stop-reads.Learnt,
@@ -1108,7 +1108,7 @@ get-ty-same-length-6 : (t : ℕ) → get-ty-lts.Need-same-length-6 (
 ) (get-ty-at t) get-ty.Post
 get-ty-same-length-6 t c = c .before .before .one-arg-con-ty .kept .1 .1 .1 .1 .0
 
--- src/lib.rt:301:1
+-- src/lib.rt:325:1
 get-ty-returns-8 : (t : ℕ) → get-ty-lts.Need-returns-8 (
   stop-reads.Asked,
   stop-reads.Learnt,
@@ -1134,7 +1134,7 @@ get-ty-returns-8 : (t : ℕ) → get-ty-lts.Need-returns-8 (
 unfolding Ty.tys Ty.HoleTy Ty.WildcardTy Ty.TyVarTy
 get-ty-returns-8 t c = record { is = λ kinds m. ty-form _ (c .before .before .before .before .before .before .before .before .before .if1 .left) (form-key (c .before .before .before .before .before .before .before .before .form .ensures) (c .before .before .before .before .before .before .k .given .1) (c .before .before .before .before .match2 .keys6) (plain (c .before .before .one-arg-con-ty .ensures))) }
 
--- src/lib.rt:301:1
+-- src/lib.rt:325:1
 get-ty-same-length-7 : (t : ℕ) → get-ty-lts.Need-same-length-7 (
   stop-reads.Asked,
   stop-reads.Learnt,
@@ -1159,7 +1159,7 @@ get-ty-same-length-7 : (t : ℕ) → get-ty-lts.Need-same-length-7 (
 ) (get-ty-at t) get-ty.Post
 get-ty-same-length-7 t c = c .before .before .tuple-ty .kept .1 .1 .1 .1 .0
 
--- src/lib.rt:301:1
+-- src/lib.rt:325:1
 get-ty-returns-9 : (t : ℕ) → get-ty-lts.Need-returns-9 (
   stop-reads.Asked,
   stop-reads.Learnt,
@@ -1185,7 +1185,7 @@ get-ty-returns-9 : (t : ℕ) → get-ty-lts.Need-returns-9 (
 unfolding Ty.tys Ty.HoleTy Ty.WildcardTy Ty.TyVarTy
 get-ty-returns-9 t c = record { is = λ kinds m. ty-form _ (c .before .before .before .before .before .before .before .before .before .if1 .left) (form-key (c .before .before .before .before .before .before .before .before .form .ensures) (c .before .before .before .before .before .before .k .given .1) (c .before .before .before .before .match2 .keys7) (plain (c .before .before .tuple-ty .ensures))) }
 
--- src/lib.rt:301:1
+-- src/lib.rt:325:1
 get-ty-same-length-8 : (t : ℕ) → get-ty-lts.Need-same-length-8 (
   stop-reads.Asked,
   stop-reads.Learnt,
@@ -1210,7 +1210,7 @@ get-ty-same-length-8 : (t : ℕ) → get-ty-lts.Need-same-length-8 (
 ) (get-ty-at t) get-ty.Post
 get-ty-same-length-8 t c = c .before .before .fn-ty .kept .1 .1 .1 .1 .0
 
--- src/lib.rt:301:1
+-- src/lib.rt:325:1
 get-ty-returns-10 : (t : ℕ) → get-ty-lts.Need-returns-10 (
   stop-reads.Asked,
   stop-reads.Learnt,
@@ -1236,7 +1236,7 @@ get-ty-returns-10 : (t : ℕ) → get-ty-lts.Need-returns-10 (
 unfolding Ty.tys Ty.HoleTy Ty.WildcardTy Ty.TyVarTy
 get-ty-returns-10 t c = record { is = λ kinds m. ty-form _ (c .before .before .before .before .before .before .before .before .before .if1 .left) (form-key (c .before .before .before .before .before .before .before .before .form .ensures) (c .before .before .before .before .before .before .k .given .1) (c .before .before .before .before .match2 .keys8) (plain (c .before .before .fn-ty .ensures))) }
 
--- src/lib.rt:301:1
+-- src/lib.rt:325:1
 get-ty-same-length-9 : (t : ℕ) → get-ty-lts.Need-same-length-9 (
   stop-reads.Asked,
   stop-reads.Learnt,
@@ -1261,7 +1261,7 @@ get-ty-same-length-9 : (t : ℕ) → get-ty-lts.Need-same-length-9 (
 ) (get-ty-at t) get-ty.Post
 get-ty-same-length-9 t c = c .before .before .paren-ty .kept .1 .1 .1 .1 .0
 
--- src/lib.rt:301:1
+-- src/lib.rt:325:1
 get-ty-returns-11 : (t : ℕ) → get-ty-lts.Need-returns-11 (
   stop-reads.Asked,
   stop-reads.Learnt,
@@ -1287,7 +1287,7 @@ get-ty-returns-11 : (t : ℕ) → get-ty-lts.Need-returns-11 (
 unfolding Ty.tys Ty.HoleTy Ty.WildcardTy Ty.TyVarTy
 get-ty-returns-11 t c = record { is = λ kinds m. ty-form _ (c .before .before .before .before .before .before .before .before .before .if1 .left) (form-key (c .before .before .before .before .before .before .before .before .form .ensures) (c .before .before .before .before .before .before .k .given .1) (c .before .before .before .before .match2 .keys9) (plain (c .before .before .paren-ty .ensures))) }
 
--- src/lib.rt:301:1
+-- src/lib.rt:325:1
 get-ty-returns-12 : (t : ℕ) → get-ty-lts.Need-returns-12 (
   stop-reads.Asked,
   stop-reads.Learnt,
@@ -1311,7 +1311,7 @@ get-ty-returns-12 : (t : ℕ) → get-ty-lts.Need-returns-12 (
   paren-ty.Post,
 ) (get-ty-at t) get-ty.Post
 unfolding Ty.tys Ty.HoleTy Ty.WildcardTy Ty.TyVarTy
-get-ty-returns-12 t c = record { is = λ kinds m. ty-form _ (c .before .before .before .before .before .before .if1 .left) (by-same (form-is (c .before .before .before .before .before .form .ensures) (c .before .before .before .k .given .1)) (beyond (Ty.tys (walks (c .before .before .before .before .before .before .before .before .before .before .before .before .args .cfg .left - 1))) (c .before .before .before .k .given .0 .0) 9 refl (past (past (past (past (past (past (past (past (past (zero-le) (c .before .match2 .rest .0 .0 .0 .0 .0 .0 .0 .0 .1)) (c .before .match2 .rest .0 .0 .0 .0 .0 .0 .0 .1)) (c .before .match2 .rest .0 .0 .0 .0 .0 .0 .1)) (c .before .match2 .rest .0 .0 .0 .0 .0 .1)) (c .before .match2 .rest .0 .0 .0 .0 .1)) (c .before .match2 .rest .0 .0 .0 .1)) (c .before .match2 .rest .0 .0 .1)) (c .before .match2 .rest .0 .1)) (c .before .match2 .rest .1)) (c .stop3 .ensures))) }
+get-ty-returns-12 t c = record { is = λ kinds m. ty-form _ (c .before .before .before .before .before .before .if1 .left) (by-same (form-is (c .before .before .before .before .before .form .ensures) (c .before .before .before .k .given .1)) (beyond (Ty.tys (walks (c .before .before .before .before .before .before .before .before .before .before .before .before .args .cfg .left - 1))) (c .before .before .before .k .given .0 .0) 9 refl (past (past (past (past (past (past (past (past (past zero-le (c .before .match2 .rest .0 .0 .0 .0 .0 .0 .0 .0 .1)) (c .before .match2 .rest .0 .0 .0 .0 .0 .0 .0 .1)) (c .before .match2 .rest .0 .0 .0 .0 .0 .0 .1)) (c .before .match2 .rest .0 .0 .0 .0 .0 .1)) (c .before .match2 .rest .0 .0 .0 .0 .1)) (c .before .match2 .rest .0 .0 .0 .1)) (c .before .match2 .rest .0 .0 .1)) (c .before .match2 .rest .0 .1)) (c .before .match2 .rest .1)) (c .stop3 .ensures))) }
 
 -- src/lib.rt:206:9
 one-arg-con-ty-get-ty-requires : (t : ℕ) → one-arg-con-ty-lts.Need-get-ty-requires (
@@ -1414,7 +1414,7 @@ one-arg-con-ty-returns-2 : (t : ℕ) → one-arg-con-ty-lts.Need-returns-2 (
 unfolding Ty.OneArgConTy
 one-arg-con-ty-returns-2 t c = record { is = λ kinds m. then-done (plain (c .before .before .before .before .before .before .before .before .before .before .before .before .before .get-ty .ensures)) (c .before .before .before .before .before .before .before .before .before .r1 .given .1) (then-sure (c .before .before .before .before .before .before .word .ensures) (plain (c .before .before .path .ensures))) }
 
--- src/lib.rt:292:9
+-- src/lib.rt:316:9
 paren-ty-word-requires : (t : ℕ) → paren-ty-lts.Need-word-requires (
   word-reads.Asked,
   word-reads.Learnt,
@@ -1423,7 +1423,7 @@ paren-ty-word-requires : (t : ℕ) → paren-ty-lts.Need-word-requires (
 ) (paren-ty-at t) paren-ty.Post
 paren-ty-word-requires t c κs = search needs
 
--- src/lib.rt:293:9
+-- src/lib.rt:317:9
 paren-ty-get-ty-requires : (t : ℕ) → paren-ty-lts.Need-get-ty-requires (
   word-reads.Asked,
   word-reads.Learnt,
@@ -1432,7 +1432,7 @@ paren-ty-get-ty-requires : (t : ℕ) → paren-ty-lts.Need-get-ty-requires (
 ) (paren-ty-at t) paren-ty.Post
 paren-ty-get-ty-requires t c κs = omega (arith, c .before .before .before .before .before .before .before .before .before .before .pre .0)
 
--- src/lib.rt:294:22
+-- src/lib.rt:318:22
 paren-ty-enum-known-r2 : (t : ℕ) → paren-ty-lts.Need-enum-known-r2 (
   word-reads.Asked,
   word-reads.Learnt,
@@ -1441,7 +1441,7 @@ paren-ty-enum-known-r2 : (t : ℕ) → paren-ty-lts.Need-enum-known-r2 (
 ) (paren-ty-at t) paren-ty.Post
 paren-ty-enum-known-r2 t c = search needs
 
--- src/lib.rt:295:9
+-- src/lib.rt:319:9
 paren-ty-enum-told : (t : ℕ) → paren-ty-lts.Need-enum-told (
   word-reads.Asked,
   word-reads.Learnt,
@@ -1450,7 +1450,7 @@ paren-ty-enum-told : (t : ℕ) → paren-ty-lts.Need-enum-told (
 ) (paren-ty-at t) paren-ty.Post
 paren-ty-enum-told t c = search needs
 
--- src/lib.rt:295:9
+-- src/lib.rt:319:9
 paren-ty-same-length : (t : ℕ) → paren-ty-lts.Need-same-length (
   word-reads.Asked,
   word-reads.Learnt,
@@ -1459,7 +1459,7 @@ paren-ty-same-length : (t : ℕ) → paren-ty-lts.Need-same-length (
 ) (paren-ty-at t) paren-ty.Post
 paren-ty-same-length t c = c .before .before .before .before .get-ty .kept .1 .1 .1 .1 .0 ∙ c .before .before .before .before .before .before .before .before .word .kept .1 .0
 
--- src/lib.rt:295:9
+-- src/lib.rt:319:9
 paren-ty-returns : (t : ℕ) → paren-ty-lts.Need-returns (
   word-reads.Asked,
   word-reads.Learnt,
@@ -1469,7 +1469,7 @@ paren-ty-returns : (t : ℕ) → paren-ty-lts.Need-returns (
 unfolding Ty.ParenTy
 paren-ty-returns t c = record { is = λ kinds m. then-sure (c .before .before .before .before .before .before .before .before .word .ensures) (then-stop (plain (c .before .before .before .before .get-ty .ensures)) (c .enum-told .given .1)) }
 
--- src/lib.rt:297:18
+-- src/lib.rt:321:18
 paren-ty-word-requires-2 : (t : ℕ) → paren-ty-lts.Need-word-requires-2 (
   word-reads.Asked,
   word-reads.Learnt,
@@ -1478,7 +1478,7 @@ paren-ty-word-requires-2 : (t : ℕ) → paren-ty-lts.Need-word-requires-2 (
 ) (paren-ty-at t) paren-ty.Post
 paren-ty-word-requires-2 t c κs = search needs
 
--- src/lib.rt:281:1
+-- src/lib.rt:305:1
 paren-ty-same-length-2 : (t : ℕ) → paren-ty-lts.Need-same-length-2 (
   word-reads.Asked,
   word-reads.Learnt,
@@ -1487,7 +1487,7 @@ paren-ty-same-length-2 : (t : ℕ) → paren-ty-lts.Need-same-length-2 (
 ) (paren-ty-at t) paren-ty.Post
 paren-ty-same-length-2 t c = c .before .before .word2 .kept .1 .0 ∙ c .before .before .before .before .before .before .before .before .before .get-ty .kept .1 .1 .1 .1 .0 ∙ c .before .before .before .before .before .before .before .before .before .before .before .before .before .word .kept .1 .0
 
--- src/lib.rt:281:1
+-- src/lib.rt:305:1
 paren-ty-returns-2 : (t : ℕ) → paren-ty-lts.Need-returns-2 (
   word-reads.Asked,
   word-reads.Learnt,
@@ -1580,7 +1580,7 @@ record-ty-returns-2 : (t : ℕ) → record-ty-lts.Need-returns-2 (
 unfolding Ty.RecordTy
 record-ty-returns-2 t c = record { is = λ kinds m. then-sure (c .before .before .before .before .before .before .before .before .before .before .before .before .before .word .ensures) (then-done (plain (c .before .before .before .before .before .before .before .before .before .ty-rows .ensures)) (c .before .before .before .before .before .r2 .given .1) (last-sure (c .before .before .word2 .ensures))) }
 
--- src/lib.rt:218:9
+-- src/lib.rt:226:9
 star-ty-group-requires : (t : ℕ) → star-ty-lts.Need-group-requires (
   group-reads.Asked,
   group-reads.Learnt,
@@ -1591,7 +1591,7 @@ star-ty-group-requires : (t : ℕ) → star-ty-lts.Need-group-requires (
 ) (star-ty-at t) star-ty.Post
 star-ty-group-requires t c κs = search needs
 
--- src/lib.rt:219:22
+-- src/lib.rt:227:22
 star-ty-enum-known-r1 : (t : ℕ) → star-ty-lts.Need-enum-known-r1 (
   group-reads.Asked,
   group-reads.Learnt,
@@ -1602,7 +1602,7 @@ star-ty-enum-known-r1 : (t : ℕ) → star-ty-lts.Need-enum-known-r1 (
 ) (star-ty-at t) star-ty.Post
 star-ty-enum-known-r1 t c = search needs
 
--- src/lib.rt:220:9
+-- src/lib.rt:228:9
 star-ty-enum-told : (t : ℕ) → star-ty-lts.Need-enum-told (
   group-reads.Asked,
   group-reads.Learnt,
@@ -1613,7 +1613,7 @@ star-ty-enum-told : (t : ℕ) → star-ty-lts.Need-enum-told (
 ) (star-ty-at t) star-ty.Post
 star-ty-enum-told t c = search needs
 
--- src/lib.rt:220:9
+-- src/lib.rt:228:9
 star-ty-returns : (t : ℕ) → star-ty-lts.Need-returns (
   group-reads.Asked,
   group-reads.Learnt,
@@ -1625,7 +1625,7 @@ star-ty-returns : (t : ℕ) → star-ty-lts.Need-returns (
 unfolding Ty.star-ty
 star-ty-returns t c = record { is = λ kinds m. group-not (c .before .before .group .ensures) (c .enum-told .given .1) }
 
--- src/lib.rt:222:9
+-- src/lib.rt:230:9
 star-ty-word-requires : (t : ℕ) → star-ty-lts.Need-word-requires (
   group-reads.Asked,
   group-reads.Learnt,
@@ -1636,7 +1636,7 @@ star-ty-word-requires : (t : ℕ) → star-ty-lts.Need-word-requires (
 ) (star-ty-at t) star-ty.Post
 star-ty-word-requires t c κs = search needs
 
--- src/lib.rt:223:5
+-- src/lib.rt:231:5
 star-ty-get-ty-requires : (t : ℕ) → star-ty-lts.Need-get-ty-requires (
   group-reads.Asked,
   group-reads.Learnt,
@@ -1677,7 +1677,7 @@ star-tys-Inv-loop text rec starts lens out₀ cfg n s₀ i₀ out s i =
 abbrev star-tys-μ-loop : star-tys-lts.MeasureT-loop
 star-tys-μ-loop text rec starts lens out₀ cfg n s₀ i₀ out s i = n - i
 
--- src/lib.rt:230:27
+-- src/lib.rt:246:27
 star-tys-list-requires : (t : ℕ) → star-tys-lts.Need-list-requires (
   list-reads.Asked,
   list-reads.Learnt,
@@ -1688,7 +1688,7 @@ star-tys-list-requires : (t : ℕ) → star-tys-lts.Need-list-requires (
 ) (star-tys-at t) star-tys.Post star-tys-Inv-loop star-tys-μ-loop
 star-tys-list-requires t c κs = search needs
 
--- src/lib.rt:230:18
+-- src/lib.rt:246:18
 star-tys-enum-known-n : (t : ℕ) → star-tys-lts.Need-enum-known-n (
   list-reads.Asked,
   list-reads.Learnt,
@@ -1699,7 +1699,7 @@ star-tys-enum-known-n : (t : ℕ) → star-tys-lts.Need-enum-known-n (
 ) (star-tys-at t) star-tys.Post star-tys-Inv-loop star-tys-μ-loop
 star-tys-enum-known-n t c = search needs
 
--- src/lib.rt:231:9
+-- src/lib.rt:247:9
 star-tys-enum-told : (t : ℕ) → star-tys-lts.Need-enum-told (
   list-reads.Asked,
   list-reads.Learnt,
@@ -1710,7 +1710,7 @@ star-tys-enum-told : (t : ℕ) → star-tys-lts.Need-enum-told (
 ) (star-tys-at t) star-tys.Post star-tys-Inv-loop star-tys-μ-loop
 star-tys-enum-told t c = search needs
 
--- src/lib.rt:231:9
+-- src/lib.rt:247:9
 star-tys-stop-requires : (t : ℕ) → star-tys-lts.Need-stop-requires (
   list-reads.Asked,
   list-reads.Learnt,
@@ -1721,7 +1721,7 @@ star-tys-stop-requires : (t : ℕ) → star-tys-lts.Need-stop-requires (
 ) (star-tys-at t) star-tys.Post star-tys-Inv-loop star-tys-μ-loop
 star-tys-stop-requires t c κs = search needs
 
--- src/lib.rt:231:9
+-- src/lib.rt:247:9
 star-tys-returns : (t : ℕ) → star-tys-lts.Need-returns (
   list-reads.Asked,
   list-reads.Learnt,
@@ -1733,7 +1733,7 @@ star-tys-returns : (t : ℕ) → star-tys-lts.Need-returns (
 unfolding Ty.star-tys Helpers.for-each
 star-tys-returns t c = record { is = λ kinds m. list-not (c .stop .ensures) (c .before .before .before .list .ensures) (c .before .enum-told .given .1) }
 
--- src/lib.rt:235:5
+-- src/lib.rt:251:5
 star-tys-loop-holds : (t : ℕ) → star-tys-lts.Need-loop-holds (
   list-reads.Asked,
   list-reads.Learnt,
@@ -1744,7 +1744,7 @@ star-tys-loop-holds : (t : ℕ) → star-tys-lts.Need-loop-holds (
 ) (star-tys-at t) star-tys.Post star-tys-Inv-loop star-tys-μ-loop
 star-tys-loop-holds t c = (omega arith, λ kinds m r o h. h, refl)
 
--- src/lib.rt:236:13
+-- src/lib.rt:252:13
 star-tys-star-ty-requires : (t : ℕ) → star-tys-lts.Need-star-ty-requires (
   list-reads.Asked,
   list-reads.Learnt,
@@ -1755,7 +1755,7 @@ star-tys-star-ty-requires : (t : ℕ) → star-tys-lts.Need-star-ty-requires (
 ) (star-tys-at t) star-tys.Post star-tys-Inv-loop star-tys-μ-loop
 star-tys-star-ty-requires t c κs = omega (arith, c .before .before .before .before .before .before .before .before .before .before .before .before .pre .0)
 
--- src/lib.rt:237:26
+-- src/lib.rt:253:26
 star-tys-enum-known-r1 : (t : ℕ) → star-tys-lts.Need-enum-known-r1 (
   list-reads.Asked,
   list-reads.Learnt,
@@ -1766,7 +1766,7 @@ star-tys-enum-known-r1 : (t : ℕ) → star-tys-lts.Need-enum-known-r1 (
 ) (star-tys-at t) star-tys.Post star-tys-Inv-loop star-tys-μ-loop
 star-tys-enum-known-r1 t c = search needs
 
--- src/lib.rt:238:13
+-- src/lib.rt:254:13
 star-tys-enum-told-2 : (t : ℕ) → star-tys-lts.Need-enum-told-2 (
   list-reads.Asked,
   list-reads.Learnt,
@@ -1777,7 +1777,7 @@ star-tys-enum-told-2 : (t : ℕ) → star-tys-lts.Need-enum-told-2 (
 ) (star-tys-at t) star-tys.Post star-tys-Inv-loop star-tys-μ-loop
 star-tys-enum-told-2 t c = search needs
 
--- src/lib.rt:238:13
+-- src/lib.rt:254:13
 star-tys-same-length : (t : ℕ) → star-tys-lts.Need-same-length (
   list-reads.Asked,
   list-reads.Learnt,
@@ -1788,7 +1788,7 @@ star-tys-same-length : (t : ℕ) → star-tys-lts.Need-same-length (
 ) (star-tys-at t) star-tys.Post star-tys-Inv-loop star-tys-μ-loop
 star-tys-same-length t c = c .before .before .before .before .star-ty .kept .1 .1 .1 .1 .0 ∙ c .before .before .before .before .before .before .before .loop .inv .2
 
--- src/lib.rt:238:13
+-- src/lib.rt:254:13
 star-tys-returns-2 : (t : ℕ) → star-tys-lts.Need-returns-2 (
   list-reads.Asked,
   list-reads.Learnt,
@@ -1800,7 +1800,7 @@ star-tys-returns-2 : (t : ℕ) → star-tys-lts.Need-returns-2 (
 unfolding Ty.star-tys Helpers.for-each
 star-tys-returns-2 t c = record { is = λ kinds m. by-same (list-is (c .before .before .before .before .before .before .before .before .before .before .before .list .ensures) (c .before .before .before .before .before .before .before .before .before .n .given .1)) (by-same (times-all _ _) (c .before .before .before .before .before .before .before .loop .inv .1 kinds m _ _ (times-more _ (c .before .before .before .before .before .before .loop-test .taken) (then-stop (plain (c .before .before .before .before .star-ty .ensures)) (c .enum-told2 .given .1))))) }
 
--- src/lib.rt:241:9
+-- src/lib.rt:257:9
 star-tys-add-i : (t : ℕ) → star-tys-lts.Need-add-i (
   list-reads.Asked,
   list-reads.Learnt,
@@ -1811,7 +1811,7 @@ star-tys-add-i : (t : ℕ) → star-tys-lts.Need-add-i (
 ) (star-tys-at t) star-tys.Post star-tys-Inv-loop star-tys-μ-loop
 star-tys-add-i t c = omega (arith, c .before .before .before .before .before .before .before .loop-test .taken, c .before .before .before .before .before .before .before .before .before .known-told)
 
--- src/lib.rt:235:5
+-- src/lib.rt:251:5
 star-tys-loop-less : (t : ℕ) → star-tys-lts.Need-loop-less (
   list-reads.Asked,
   list-reads.Learnt,
@@ -1822,7 +1822,7 @@ star-tys-loop-less : (t : ℕ) → star-tys-lts.Need-loop-less (
 ) (star-tys-at t) star-tys.Post star-tys-Inv-loop star-tys-μ-loop
 star-tys-loop-less t c = omega arith
 
--- src/lib.rt:235:5
+-- src/lib.rt:251:5
 star-tys-loop-again : (t : ℕ) → star-tys-lts.Need-loop-again (
   list-reads.Asked,
   list-reads.Learnt,
@@ -1834,7 +1834,7 @@ star-tys-loop-again : (t : ℕ) → star-tys-lts.Need-loop-again (
 unfolding Ty.star-tys Helpers.for-each
 star-tys-loop-again t c = (omega (arith, c .before .before .before .before .before .before .before .before .loop .inv .0), λ kinds m r o h. c .before .before .before .before .before .before .before .before .loop .inv .1 kinds m r o (times-more _ (c .before .before .before .before .before .before .before .loop-test .taken) (then-done (plain (c .before .before .before .before .before .star-ty .ensures)) (c .before .r1 .given .1) h)), c .before .before .before .before .before .star-ty .kept .1 .1 .1 .1 .0 ∙ c .before .before .before .before .before .before .before .before .loop .inv .2)
 
--- src/lib.rt:227:1
+-- src/lib.rt:235:1
 star-tys-same-length-2 : (t : ℕ) → star-tys-lts.Need-same-length-2 (
   list-reads.Asked,
   list-reads.Learnt,
@@ -1845,7 +1845,7 @@ star-tys-same-length-2 : (t : ℕ) → star-tys-lts.Need-same-length-2 (
 ) (star-tys-at t) star-tys.Post star-tys-Inv-loop star-tys-μ-loop
 star-tys-same-length-2 t c = c .before .loop .inv .2
 
--- src/lib.rt:227:1
+-- src/lib.rt:235:1
 star-tys-returns-3 : (t : ℕ) → star-tys-lts.Need-returns-3 (
   list-reads.Asked,
   list-reads.Learnt,
@@ -1857,7 +1857,7 @@ star-tys-returns-3 : (t : ℕ) → star-tys-lts.Need-returns-3 (
 unfolding Ty.star-tys Helpers.for-each
 star-tys-returns-3 t c = record { is = λ kinds m. by-same (list-is (c .before .before .before .before .before .list .ensures) (c .before .before .before .n .given .1)) (by-same (times-all _ _) (c .before .loop .inv .1 kinds m _ _ (times-none _ (c .loop-test .left)))) }
 
--- src/lib.rt:252:9
+-- src/lib.rt:276:9
 tuple-ty-get-ty-requires : (t : ℕ) → tuple-ty-lts.Need-get-ty-requires (
   get-ty-below t,
   get-ty.Post,
@@ -1868,7 +1868,7 @@ tuple-ty-get-ty-requires : (t : ℕ) → tuple-ty-lts.Need-get-ty-requires (
 ) (tuple-ty-at t) tuple-ty.Post
 tuple-ty-get-ty-requires t c κs = omega (arith, c .before .before .before .before .before .before .pre .0)
 
--- src/lib.rt:253:9
+-- src/lib.rt:277:9
 tuple-ty-onwards-requires : (t : ℕ) → tuple-ty-lts.Need-onwards-requires (
   get-ty-below t,
   get-ty.Post,
@@ -1879,7 +1879,7 @@ tuple-ty-onwards-requires : (t : ℕ) → tuple-ty-lts.Need-onwards-requires (
 ) (tuple-ty-at t) tuple-ty.Post
 tuple-ty-onwards-requires t c κs = search needs
 
--- src/lib.rt:254:22
+-- src/lib.rt:278:22
 tuple-ty-enum-known-r1 : (t : ℕ) → tuple-ty-lts.Need-enum-known-r1 (
   get-ty-below t,
   get-ty.Post,
@@ -1890,7 +1890,7 @@ tuple-ty-enum-known-r1 : (t : ℕ) → tuple-ty-lts.Need-enum-known-r1 (
 ) (tuple-ty-at t) tuple-ty.Post
 tuple-ty-enum-known-r1 t c = search needs
 
--- src/lib.rt:255:9
+-- src/lib.rt:279:9
 tuple-ty-enum-told : (t : ℕ) → tuple-ty-lts.Need-enum-told (
   get-ty-below t,
   get-ty.Post,
@@ -1901,7 +1901,7 @@ tuple-ty-enum-told : (t : ℕ) → tuple-ty-lts.Need-enum-told (
 ) (tuple-ty-at t) tuple-ty.Post
 tuple-ty-enum-told t c = search needs
 
--- src/lib.rt:255:9
+-- src/lib.rt:279:9
 tuple-ty-same-length : (t : ℕ) → tuple-ty-lts.Need-same-length (
   get-ty-below t,
   get-ty.Post,
@@ -1912,7 +1912,7 @@ tuple-ty-same-length : (t : ℕ) → tuple-ty-lts.Need-same-length (
 ) (tuple-ty-at t) tuple-ty.Post
 tuple-ty-same-length t c = c .before .before .before .before .before .get-ty .kept .1 .1 .1 .1 .0
 
--- src/lib.rt:255:9
+-- src/lib.rt:279:9
 tuple-ty-returns : (t : ℕ) → tuple-ty-lts.Need-returns (
   get-ty-below t,
   get-ty.Post,
@@ -1924,7 +1924,7 @@ tuple-ty-returns : (t : ℕ) → tuple-ty-lts.Need-returns (
 unfolding Ty.TupleTy
 tuple-ty-returns t c = record { is = λ kinds m. then-stop (dropped-by (plain (c .before .before .before .before .before .get-ty .ensures)) (c .before .before .onwards .ensures)) (c .enum-told .given .1) }
 
--- src/lib.rt:257:5
+-- src/lib.rt:281:5
 tuple-ty-star-tys-requires : (t : ℕ) → tuple-ty-lts.Need-star-tys-requires (
   get-ty-below t,
   get-ty.Post,
@@ -1935,7 +1935,7 @@ tuple-ty-star-tys-requires : (t : ℕ) → tuple-ty-lts.Need-star-tys-requires (
 ) (tuple-ty-at t) tuple-ty.Post
 tuple-ty-star-tys-requires t c κs = omega (arith, c .before .before .before .before .before .before .before .before .before .before .before .before .before .before .pre .0)
 
--- src/lib.rt:247:1
+-- src/lib.rt:263:1
 tuple-ty-same-length-2 : (t : ℕ) → tuple-ty-lts.Need-same-length-2 (
   get-ty-below t,
   get-ty.Post,
@@ -1946,7 +1946,7 @@ tuple-ty-same-length-2 : (t : ℕ) → tuple-ty-lts.Need-same-length-2 (
 ) (tuple-ty-at t) tuple-ty.Post
 tuple-ty-same-length-2 t c = c .before .before .star-tys .kept .1 .1 .1 .1 .0 ∙ c .before .before .before .before .before .before .before .before .before .before .get-ty .kept .1 .1 .1 .1 .0
 
--- src/lib.rt:247:1
+-- src/lib.rt:263:1
 tuple-ty-returns-2 : (t : ℕ) → tuple-ty-lts.Need-returns-2 (
   get-ty-below t,
   get-ty.Post,

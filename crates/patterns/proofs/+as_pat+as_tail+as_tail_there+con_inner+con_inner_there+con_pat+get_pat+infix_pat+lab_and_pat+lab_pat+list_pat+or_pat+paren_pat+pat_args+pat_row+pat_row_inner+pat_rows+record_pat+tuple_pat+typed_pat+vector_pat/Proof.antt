@@ -1,0 +1,4813 @@
+use mathlib.Core.List.{[], _∷_}
+use borrow.Author.Needs.{needs}
+use native.Mathlib.Omega.{arith}
+use mathlib.Core.Path.{refl, _∙_}
+use Prim.Native.Nat.{zero-le, _+_, _-_, _*_}
+use Rattle.layout.specs.Words.{wordOf}
+use Rattle.layout.specs.Layout as Layout
+use Rattle.layout.specs.Helpers as Helpers
+use Rattle.layout.specs.Walk.{walks}
+use Rattle.layout.specs.Pat as Pat
+use Rattle.layout.proofs.Steps.{PlainTurn, from, plain, by-same, first-same, then-done, then-stop, then-sure, last-sure, last-skip, list-is, list-not, choice-is, choice-not, form-is, form-not, group-is, group-not, maybe-past, maybe-there, items-all, from-more, from-none, regroup}
+use Rattle.layout.proofs.Knot.{past, beyond, form-key, pat-zero, pat-form, at-key}
+use Prim.Native.Nat.{ℕ, _<_}
+use borrow.Fn.Kinds.{In}
+use borrow.Fn.PlainCycle.{Measures, is, falls, and}
+use Rattle.patterns.proofs.as_pat.Reads as as-pat
+use Rattle.patterns.proofs.as_pat.Kinds as as-pat-kinds
+use Rattle.patterns.proofs.+as_pat+as_tail+as_tail_there+con_inner+con_inner_there+con_pat+get_pat+infix_pat+lab_and_pat+lab_pat+list_pat+or_pat+paren_pat+pat_args+pat_row+pat_row_inner+pat_rows+record_pat+tuple_pat+typed_pat+vector_pat.Lts-as_pat as as-pat-lts
+use Rattle.patterns.proofs.as_tail.Reads as as-tail
+use Rattle.patterns.proofs.as_tail.Kinds as as-tail-kinds
+use Rattle.patterns.proofs.+as_pat+as_tail+as_tail_there+con_inner+con_inner_there+con_pat+get_pat+infix_pat+lab_and_pat+lab_pat+list_pat+or_pat+paren_pat+pat_args+pat_row+pat_row_inner+pat_rows+record_pat+tuple_pat+typed_pat+vector_pat.Lts-as_tail as as-tail-lts
+use Rattle.patterns.proofs.as_tail_there.Reads as as-tail-there
+use Rattle.patterns.proofs.as_tail_there.Kinds as as-tail-there-kinds
+use Rattle.patterns.proofs.+as_pat+as_tail+as_tail_there+con_inner+con_inner_there+con_pat+get_pat+infix_pat+lab_and_pat+lab_pat+list_pat+or_pat+paren_pat+pat_args+pat_row+pat_row_inner+pat_rows+record_pat+tuple_pat+typed_pat+vector_pat.Lts-as_tail_there as as-tail-there-lts
+use Rattle.patterns.proofs.con_inner.Reads as con-inner
+use Rattle.patterns.proofs.con_inner.Kinds as con-inner-kinds
+use Rattle.patterns.proofs.+as_pat+as_tail+as_tail_there+con_inner+con_inner_there+con_pat+get_pat+infix_pat+lab_and_pat+lab_pat+list_pat+or_pat+paren_pat+pat_args+pat_row+pat_row_inner+pat_rows+record_pat+tuple_pat+typed_pat+vector_pat.Lts-con_inner as con-inner-lts
+use Rattle.patterns.proofs.con_inner_there.Reads as con-inner-there
+use Rattle.patterns.proofs.con_inner_there.Kinds as con-inner-there-kinds
+use Rattle.patterns.proofs.+as_pat+as_tail+as_tail_there+con_inner+con_inner_there+con_pat+get_pat+infix_pat+lab_and_pat+lab_pat+list_pat+or_pat+paren_pat+pat_args+pat_row+pat_row_inner+pat_rows+record_pat+tuple_pat+typed_pat+vector_pat.Lts-con_inner_there as con-inner-there-lts
+use Rattle.patterns.proofs.con_pat.Reads as con-pat
+use Rattle.patterns.proofs.con_pat.Kinds as con-pat-kinds
+use Rattle.patterns.proofs.+as_pat+as_tail+as_tail_there+con_inner+con_inner_there+con_pat+get_pat+infix_pat+lab_and_pat+lab_pat+list_pat+or_pat+paren_pat+pat_args+pat_row+pat_row_inner+pat_rows+record_pat+tuple_pat+typed_pat+vector_pat.Lts-con_pat as con-pat-lts
+use Rattle.patterns.proofs.get_pat.Reads as get-pat
+use Rattle.patterns.proofs.get_pat.Kinds as get-pat-kinds
+use Rattle.patterns.proofs.+as_pat+as_tail+as_tail_there+con_inner+con_inner_there+con_pat+get_pat+infix_pat+lab_and_pat+lab_pat+list_pat+or_pat+paren_pat+pat_args+pat_row+pat_row_inner+pat_rows+record_pat+tuple_pat+typed_pat+vector_pat.Lts-get_pat as get-pat-lts
+use Rattle.patterns.proofs.infix_pat.Reads as infix-pat
+use Rattle.patterns.proofs.infix_pat.Kinds as infix-pat-kinds
+use Rattle.patterns.proofs.+as_pat+as_tail+as_tail_there+con_inner+con_inner_there+con_pat+get_pat+infix_pat+lab_and_pat+lab_pat+list_pat+or_pat+paren_pat+pat_args+pat_row+pat_row_inner+pat_rows+record_pat+tuple_pat+typed_pat+vector_pat.Lts-infix_pat as infix-pat-lts
+use Rattle.patterns.proofs.lab_and_pat.Reads as lab-and-pat
+use Rattle.patterns.proofs.lab_and_pat.Kinds as lab-and-pat-kinds
+use Rattle.patterns.proofs.+as_pat+as_tail+as_tail_there+con_inner+con_inner_there+con_pat+get_pat+infix_pat+lab_and_pat+lab_pat+list_pat+or_pat+paren_pat+pat_args+pat_row+pat_row_inner+pat_rows+record_pat+tuple_pat+typed_pat+vector_pat.Lts-lab_and_pat as lab-and-pat-lts
+use Rattle.patterns.proofs.lab_pat.Reads as lab-pat
+use Rattle.patterns.proofs.lab_pat.Kinds as lab-pat-kinds
+use Rattle.patterns.proofs.+as_pat+as_tail+as_tail_there+con_inner+con_inner_there+con_pat+get_pat+infix_pat+lab_and_pat+lab_pat+list_pat+or_pat+paren_pat+pat_args+pat_row+pat_row_inner+pat_rows+record_pat+tuple_pat+typed_pat+vector_pat.Lts-lab_pat as lab-pat-lts
+use Rattle.patterns.proofs.list_pat.Reads as list-pat
+use Rattle.patterns.proofs.list_pat.Kinds as list-pat-kinds
+use Rattle.patterns.proofs.+as_pat+as_tail+as_tail_there+con_inner+con_inner_there+con_pat+get_pat+infix_pat+lab_and_pat+lab_pat+list_pat+or_pat+paren_pat+pat_args+pat_row+pat_row_inner+pat_rows+record_pat+tuple_pat+typed_pat+vector_pat.Lts-list_pat as list-pat-lts
+use Rattle.patterns.proofs.or_pat.Reads as or-pat
+use Rattle.patterns.proofs.or_pat.Kinds as or-pat-kinds
+use Rattle.patterns.proofs.+as_pat+as_tail+as_tail_there+con_inner+con_inner_there+con_pat+get_pat+infix_pat+lab_and_pat+lab_pat+list_pat+or_pat+paren_pat+pat_args+pat_row+pat_row_inner+pat_rows+record_pat+tuple_pat+typed_pat+vector_pat.Lts-or_pat as or-pat-lts
+use Rattle.patterns.proofs.paren_pat.Reads as paren-pat
+use Rattle.patterns.proofs.paren_pat.Kinds as paren-pat-kinds
+use Rattle.patterns.proofs.+as_pat+as_tail+as_tail_there+con_inner+con_inner_there+con_pat+get_pat+infix_pat+lab_and_pat+lab_pat+list_pat+or_pat+paren_pat+pat_args+pat_row+pat_row_inner+pat_rows+record_pat+tuple_pat+typed_pat+vector_pat.Lts-paren_pat as paren-pat-lts
+use Rattle.patterns.proofs.pat_args.Reads as pat-args
+use Rattle.patterns.proofs.pat_args.Kinds as pat-args-kinds
+use Rattle.patterns.proofs.+as_pat+as_tail+as_tail_there+con_inner+con_inner_there+con_pat+get_pat+infix_pat+lab_and_pat+lab_pat+list_pat+or_pat+paren_pat+pat_args+pat_row+pat_row_inner+pat_rows+record_pat+tuple_pat+typed_pat+vector_pat.Lts-pat_args as pat-args-lts
+use Rattle.patterns.proofs.pat_row.Reads as pat-row
+use Rattle.patterns.proofs.pat_row.Kinds as pat-row-kinds
+use Rattle.patterns.proofs.+as_pat+as_tail+as_tail_there+con_inner+con_inner_there+con_pat+get_pat+infix_pat+lab_and_pat+lab_pat+list_pat+or_pat+paren_pat+pat_args+pat_row+pat_row_inner+pat_rows+record_pat+tuple_pat+typed_pat+vector_pat.Lts-pat_row as pat-row-lts
+use Rattle.patterns.proofs.pat_row_inner.Reads as pat-row-inner
+use Rattle.patterns.proofs.pat_row_inner.Kinds as pat-row-inner-kinds
+use Rattle.patterns.proofs.+as_pat+as_tail+as_tail_there+con_inner+con_inner_there+con_pat+get_pat+infix_pat+lab_and_pat+lab_pat+list_pat+or_pat+paren_pat+pat_args+pat_row+pat_row_inner+pat_rows+record_pat+tuple_pat+typed_pat+vector_pat.Lts-pat_row_inner as pat-row-inner-lts
+use Rattle.patterns.proofs.pat_rows.Reads as pat-rows
+use Rattle.patterns.proofs.pat_rows.Kinds as pat-rows-kinds
+use Rattle.patterns.proofs.+as_pat+as_tail+as_tail_there+con_inner+con_inner_there+con_pat+get_pat+infix_pat+lab_and_pat+lab_pat+list_pat+or_pat+paren_pat+pat_args+pat_row+pat_row_inner+pat_rows+record_pat+tuple_pat+typed_pat+vector_pat.Lts-pat_rows as pat-rows-lts
+use Rattle.patterns.proofs.record_pat.Reads as record-pat
+use Rattle.patterns.proofs.record_pat.Kinds as record-pat-kinds
+use Rattle.patterns.proofs.+as_pat+as_tail+as_tail_there+con_inner+con_inner_there+con_pat+get_pat+infix_pat+lab_and_pat+lab_pat+list_pat+or_pat+paren_pat+pat_args+pat_row+pat_row_inner+pat_rows+record_pat+tuple_pat+typed_pat+vector_pat.Lts-record_pat as record-pat-lts
+use Rattle.patterns.proofs.tuple_pat.Reads as tuple-pat
+use Rattle.patterns.proofs.tuple_pat.Kinds as tuple-pat-kinds
+use Rattle.patterns.proofs.+as_pat+as_tail+as_tail_there+con_inner+con_inner_there+con_pat+get_pat+infix_pat+lab_and_pat+lab_pat+list_pat+or_pat+paren_pat+pat_args+pat_row+pat_row_inner+pat_rows+record_pat+tuple_pat+typed_pat+vector_pat.Lts-tuple_pat as tuple-pat-lts
+use Rattle.patterns.proofs.typed_pat.Reads as typed-pat
+use Rattle.patterns.proofs.typed_pat.Kinds as typed-pat-kinds
+use Rattle.patterns.proofs.+as_pat+as_tail+as_tail_there+con_inner+con_inner_there+con_pat+get_pat+infix_pat+lab_and_pat+lab_pat+list_pat+or_pat+paren_pat+pat_args+pat_row+pat_row_inner+pat_rows+record_pat+tuple_pat+typed_pat+vector_pat.Lts-typed_pat as typed-pat-lts
+use Rattle.patterns.proofs.vector_pat.Reads as vector-pat
+use Rattle.patterns.proofs.vector_pat.Kinds as vector-pat-kinds
+use Rattle.patterns.proofs.+as_pat+as_tail+as_tail_there+con_inner+con_inner_there+con_pat+get_pat+infix_pat+lab_and_pat+lab_pat+list_pat+or_pat+paren_pat+pat_args+pat_row+pat_row_inner+pat_rows+record_pat+tuple_pat+typed_pat+vector_pat.Lts-vector_pat as vector-pat-lts
+use Rattle.layout.proofs.fields.absent.Reads as absent-reads
+use Rattle.layout.proofs.fields.choice.Reads as choice-reads
+use Rattle.layout.proofs.fields.form.Reads as form-reads
+use Rattle.layout.proofs.fields.group.Reads as group-reads
+use Rattle.layout.proofs.fields.list.Reads as list-reads
+use Rattle.layout.proofs.fields.stop.Reads as stop-reads
+use Rattle.layout.proofs.helpers.between.Reads as between-reads
+use Rattle.layout.proofs.helpers.op_path.Reads as op-path-reads
+use Rattle.layout.proofs.helpers.text_of.Reads as text-of-reads
+use Rattle.layout.proofs.word.Reads as word-reads
+use Rattle.types.proofs.get_ty.Reads as get-ty-reads
+use Rattle.types.proofs.ty_annotation.Reads as ty-annotation-reads
+use Rattle.patterns.proofs.+as_pat+as_tail+as_tail_there+con_inner+con_inner_there+con_pat+get_pat+infix_pat+lab_and_pat+lab_pat+list_pat+or_pat+paren_pat+pat_args+pat_row+pat_row_inner+pat_rows+record_pat+tuple_pat+typed_pat+vector_pat.{
+  statement,
+}
+use Rattle.patterns.proofs.+as_pat+as_tail+as_tail_there+con_inner+con_inner_there+con_pat+get_pat+infix_pat+lab_and_pat+lab_pat+list_pat+or_pat+paren_pat+pat_args+pat_row+pat_row_inner+pat_rows+record_pat+tuple_pat+typed_pat+vector_pat.Tie.{
+  close,
+}
+
+abbrev μ-as-pat : Measures 5 as-pat-kinds.ps ℕ
+μ-as-pat κs a = 16 * a .1 .1 .1 .1 .1 .1 .0 .left + 1
+
+abbrev μ-as-tail : Measures 5 as-tail-kinds.ps ℕ
+μ-as-tail κs a = 16 * a .1 .1 .1 .1 .1 .1 .0 .left + 2
+
+abbrev μ-as-tail-there : Measures 5 as-tail-there-kinds.ps ℕ
+μ-as-tail-there κs a = 16 * a .1 .1 .1 .1 .1 .1 .0 .left + 1
+
+abbrev μ-con-inner : Measures 5 con-inner-kinds.ps ℕ
+μ-con-inner κs a = 16 * a .1 .1 .1 .1 .1 .1 .0 .left + 2
+
+abbrev μ-con-inner-there : Measures 5 con-inner-there-kinds.ps ℕ
+μ-con-inner-there κs a = 16 * a .1 .1 .1 .1 .1 .1 .0 .left + 1
+
+abbrev μ-con-pat : Measures 5 con-pat-kinds.ps ℕ
+μ-con-pat κs a = 16 * a .1 .1 .1 .1 .1 .1 .0 .left + 3
+
+abbrev μ-get-pat : Measures 5 get-pat-kinds.ps ℕ
+μ-get-pat κs a = 16 * a .1 .1 .1 .1 .1 .1 .0 .left + 0
+
+abbrev μ-infix-pat : Measures 5 infix-pat-kinds.ps ℕ
+μ-infix-pat κs a = 16 * a .1 .1 .1 .1 .1 .1 .0 .left + 1
+
+abbrev μ-lab-and-pat : Measures 5 lab-and-pat-kinds.ps ℕ
+μ-lab-and-pat κs a = 16 * a .1 .1 .1 .1 .1 .1 .0 .left + 1
+
+abbrev μ-lab-pat : Measures 5 lab-pat-kinds.ps ℕ
+μ-lab-pat κs a = 16 * a .1 .1 .1 .1 .1 .1 .0 .left + 3
+
+abbrev μ-list-pat : Measures 5 list-pat-kinds.ps ℕ
+μ-list-pat κs a = 16 * a .1 .1 .1 .1 .1 .1 .0 .left + 2
+
+abbrev μ-or-pat : Measures 5 or-pat-kinds.ps ℕ
+μ-or-pat κs a = 16 * a .1 .1 .1 .1 .1 .1 .0 .left + 1
+
+abbrev μ-paren-pat : Measures 5 paren-pat-kinds.ps ℕ
+μ-paren-pat κs a = 16 * a .1 .1 .1 .1 .1 .1 .0 .left + 1
+
+abbrev μ-pat-args : Measures 5 pat-args-kinds.ps ℕ
+μ-pat-args κs a = 16 * a .1 .1 .1 .1 .1 .1 .0 .left + 1
+
+abbrev μ-pat-row : Measures 5 pat-row-kinds.ps ℕ
+μ-pat-row κs a = 16 * a .1 .1 .1 .1 .1 .1 .0 .left + 5
+
+abbrev μ-pat-row-inner : Measures 5 pat-row-inner-kinds.ps ℕ
+μ-pat-row-inner κs a = 16 * a .1 .1 .1 .1 .1 .1 .0 .left + 4
+
+abbrev μ-pat-rows : Measures 5 pat-rows-kinds.ps ℕ
+μ-pat-rows κs a = 16 * a .1 .1 .1 .1 .1 .1 .0 .left + 6
+
+abbrev μ-record-pat : Measures 5 record-pat-kinds.ps ℕ
+μ-record-pat κs a = 16 * a .1 .1 .1 .1 .1 .1 .0 .left + 7
+
+abbrev μ-tuple-pat : Measures 5 tuple-pat-kinds.ps ℕ
+μ-tuple-pat κs a = 16 * a .1 .1 .1 .1 .1 .1 .0 .left + 2
+
+abbrev μ-typed-pat : Measures 5 typed-pat-kinds.ps ℕ
+μ-typed-pat κs a = 16 * a .1 .1 .1 .1 .1 .1 .0 .left + 1
+
+abbrev μ-vector-pat : Measures 5 vector-pat-kinds.ps ℕ
+μ-vector-pat κs a = 16 * a .1 .1 .1 .1 .1 .1 .0 .left + 2
+
+abbrev as-pat-at : ℕ → In 5 as-pat-kinds.ps
+as-pat-at t = and 5 as-pat-kinds.ps (is 5 as-pat-kinds.ps μ-as-pat t) as-pat.Pre
+
+abbrev as-pat-below : ℕ → In 5 as-pat-kinds.ps
+as-pat-below t = and 5 as-pat-kinds.ps (falls 5 as-pat-kinds.ps _<_ μ-as-pat t) as-pat.Pre
+
+abbrev as-tail-at : ℕ → In 5 as-tail-kinds.ps
+as-tail-at t = and 5 as-tail-kinds.ps (is 5 as-tail-kinds.ps μ-as-tail t) as-tail.Pre
+
+abbrev as-tail-below : ℕ → In 5 as-tail-kinds.ps
+as-tail-below t = and 5 as-tail-kinds.ps (falls 5 as-tail-kinds.ps _<_ μ-as-tail t) as-tail.Pre
+
+abbrev as-tail-there-at : ℕ → In 5 as-tail-there-kinds.ps
+as-tail-there-at t =
+    and 5 as-tail-there-kinds.ps (is 5 as-tail-there-kinds.ps μ-as-tail-there t) as-tail-there.Pre
+
+abbrev as-tail-there-below : ℕ → In 5 as-tail-there-kinds.ps
+as-tail-there-below t =
+    and
+    5
+    as-tail-there-kinds.ps
+    (falls 5 as-tail-there-kinds.ps _<_ μ-as-tail-there t)
+    as-tail-there.Pre
+
+abbrev con-inner-at : ℕ → In 5 con-inner-kinds.ps
+con-inner-at t = and 5 con-inner-kinds.ps (is 5 con-inner-kinds.ps μ-con-inner t) con-inner.Pre
+
+abbrev con-inner-below : ℕ → In 5 con-inner-kinds.ps
+con-inner-below t =
+    and 5 con-inner-kinds.ps (falls 5 con-inner-kinds.ps _<_ μ-con-inner t) con-inner.Pre
+
+abbrev con-inner-there-at : ℕ → In 5 con-inner-there-kinds.ps
+con-inner-there-at t =
+    and
+    5
+    con-inner-there-kinds.ps
+    (is 5 con-inner-there-kinds.ps μ-con-inner-there t)
+    con-inner-there.Pre
+
+abbrev con-inner-there-below : ℕ → In 5 con-inner-there-kinds.ps
+con-inner-there-below t =
+    and
+    5
+    con-inner-there-kinds.ps
+    (falls 5 con-inner-there-kinds.ps _<_ μ-con-inner-there t)
+    con-inner-there.Pre
+
+abbrev con-pat-at : ℕ → In 5 con-pat-kinds.ps
+con-pat-at t = and 5 con-pat-kinds.ps (is 5 con-pat-kinds.ps μ-con-pat t) con-pat.Pre
+
+abbrev con-pat-below : ℕ → In 5 con-pat-kinds.ps
+con-pat-below t = and 5 con-pat-kinds.ps (falls 5 con-pat-kinds.ps _<_ μ-con-pat t) con-pat.Pre
+
+abbrev get-pat-at : ℕ → In 5 get-pat-kinds.ps
+get-pat-at t = and 5 get-pat-kinds.ps (is 5 get-pat-kinds.ps μ-get-pat t) get-pat.Pre
+
+abbrev get-pat-below : ℕ → In 5 get-pat-kinds.ps
+get-pat-below t = and 5 get-pat-kinds.ps (falls 5 get-pat-kinds.ps _<_ μ-get-pat t) get-pat.Pre
+
+abbrev infix-pat-at : ℕ → In 5 infix-pat-kinds.ps
+infix-pat-at t = and 5 infix-pat-kinds.ps (is 5 infix-pat-kinds.ps μ-infix-pat t) infix-pat.Pre
+
+abbrev infix-pat-below : ℕ → In 5 infix-pat-kinds.ps
+infix-pat-below t =
+    and 5 infix-pat-kinds.ps (falls 5 infix-pat-kinds.ps _<_ μ-infix-pat t) infix-pat.Pre
+
+abbrev lab-and-pat-at : ℕ → In 5 lab-and-pat-kinds.ps
+lab-and-pat-at t =
+    and 5 lab-and-pat-kinds.ps (is 5 lab-and-pat-kinds.ps μ-lab-and-pat t) lab-and-pat.Pre
+
+abbrev lab-and-pat-below : ℕ → In 5 lab-and-pat-kinds.ps
+lab-and-pat-below t =
+    and 5 lab-and-pat-kinds.ps (falls 5 lab-and-pat-kinds.ps _<_ μ-lab-and-pat t) lab-and-pat.Pre
+
+abbrev lab-pat-at : ℕ → In 5 lab-pat-kinds.ps
+lab-pat-at t = and 5 lab-pat-kinds.ps (is 5 lab-pat-kinds.ps μ-lab-pat t) lab-pat.Pre
+
+abbrev lab-pat-below : ℕ → In 5 lab-pat-kinds.ps
+lab-pat-below t = and 5 lab-pat-kinds.ps (falls 5 lab-pat-kinds.ps _<_ μ-lab-pat t) lab-pat.Pre
+
+abbrev list-pat-at : ℕ → In 5 list-pat-kinds.ps
+list-pat-at t = and 5 list-pat-kinds.ps (is 5 list-pat-kinds.ps μ-list-pat t) list-pat.Pre
+
+abbrev list-pat-below : ℕ → In 5 list-pat-kinds.ps
+list-pat-below t =
+    and 5 list-pat-kinds.ps (falls 5 list-pat-kinds.ps _<_ μ-list-pat t) list-pat.Pre
+
+abbrev or-pat-at : ℕ → In 5 or-pat-kinds.ps
+or-pat-at t = and 5 or-pat-kinds.ps (is 5 or-pat-kinds.ps μ-or-pat t) or-pat.Pre
+
+abbrev or-pat-below : ℕ → In 5 or-pat-kinds.ps
+or-pat-below t = and 5 or-pat-kinds.ps (falls 5 or-pat-kinds.ps _<_ μ-or-pat t) or-pat.Pre
+
+abbrev paren-pat-at : ℕ → In 5 paren-pat-kinds.ps
+paren-pat-at t = and 5 paren-pat-kinds.ps (is 5 paren-pat-kinds.ps μ-paren-pat t) paren-pat.Pre
+
+abbrev paren-pat-below : ℕ → In 5 paren-pat-kinds.ps
+paren-pat-below t =
+    and 5 paren-pat-kinds.ps (falls 5 paren-pat-kinds.ps _<_ μ-paren-pat t) paren-pat.Pre
+
+abbrev pat-args-at : ℕ → In 5 pat-args-kinds.ps
+pat-args-at t = and 5 pat-args-kinds.ps (is 5 pat-args-kinds.ps μ-pat-args t) pat-args.Pre
+
+abbrev pat-args-below : ℕ → In 5 pat-args-kinds.ps
+pat-args-below t =
+    and 5 pat-args-kinds.ps (falls 5 pat-args-kinds.ps _<_ μ-pat-args t) pat-args.Pre
+
+abbrev pat-row-at : ℕ → In 5 pat-row-kinds.ps
+pat-row-at t = and 5 pat-row-kinds.ps (is 5 pat-row-kinds.ps μ-pat-row t) pat-row.Pre
+
+abbrev pat-row-below : ℕ → In 5 pat-row-kinds.ps
+pat-row-below t = and 5 pat-row-kinds.ps (falls 5 pat-row-kinds.ps _<_ μ-pat-row t) pat-row.Pre
+
+abbrev pat-row-inner-at : ℕ → In 5 pat-row-inner-kinds.ps
+pat-row-inner-at t =
+    and 5 pat-row-inner-kinds.ps (is 5 pat-row-inner-kinds.ps μ-pat-row-inner t) pat-row-inner.Pre
+
+abbrev pat-row-inner-below : ℕ → In 5 pat-row-inner-kinds.ps
+pat-row-inner-below t =
+    and
+    5
+    pat-row-inner-kinds.ps
+    (falls 5 pat-row-inner-kinds.ps _<_ μ-pat-row-inner t)
+    pat-row-inner.Pre
+
+abbrev pat-rows-at : ℕ → In 5 pat-rows-kinds.ps
+pat-rows-at t = and 5 pat-rows-kinds.ps (is 5 pat-rows-kinds.ps μ-pat-rows t) pat-rows.Pre
+
+abbrev pat-rows-below : ℕ → In 5 pat-rows-kinds.ps
+pat-rows-below t =
+    and 5 pat-rows-kinds.ps (falls 5 pat-rows-kinds.ps _<_ μ-pat-rows t) pat-rows.Pre
+
+abbrev record-pat-at : ℕ → In 5 record-pat-kinds.ps
+record-pat-at t =
+    and 5 record-pat-kinds.ps (is 5 record-pat-kinds.ps μ-record-pat t) record-pat.Pre
+
+abbrev record-pat-below : ℕ → In 5 record-pat-kinds.ps
+record-pat-below t =
+    and 5 record-pat-kinds.ps (falls 5 record-pat-kinds.ps _<_ μ-record-pat t) record-pat.Pre
+
+abbrev tuple-pat-at : ℕ → In 5 tuple-pat-kinds.ps
+tuple-pat-at t = and 5 tuple-pat-kinds.ps (is 5 tuple-pat-kinds.ps μ-tuple-pat t) tuple-pat.Pre
+
+abbrev tuple-pat-below : ℕ → In 5 tuple-pat-kinds.ps
+tuple-pat-below t =
+    and 5 tuple-pat-kinds.ps (falls 5 tuple-pat-kinds.ps _<_ μ-tuple-pat t) tuple-pat.Pre
+
+abbrev typed-pat-at : ℕ → In 5 typed-pat-kinds.ps
+typed-pat-at t = and 5 typed-pat-kinds.ps (is 5 typed-pat-kinds.ps μ-typed-pat t) typed-pat.Pre
+
+abbrev typed-pat-below : ℕ → In 5 typed-pat-kinds.ps
+typed-pat-below t =
+    and 5 typed-pat-kinds.ps (falls 5 typed-pat-kinds.ps _<_ μ-typed-pat t) typed-pat.Pre
+
+abbrev vector-pat-at : ℕ → In 5 vector-pat-kinds.ps
+vector-pat-at t =
+    and 5 vector-pat-kinds.ps (is 5 vector-pat-kinds.ps μ-vector-pat t) vector-pat.Pre
+
+abbrev vector-pat-below : ℕ → In 5 vector-pat-kinds.ps
+vector-pat-below t =
+    and 5 vector-pat-kinds.ps (falls 5 vector-pat-kinds.ps _<_ μ-vector-pat t) vector-pat.Pre
+
+-- src/lib.rt:428:9
+as-pat-get-pat-requires : (t : ℕ) → as-pat-lts.Need-get-pat-requires (
+  get-pat-below t,
+  get-pat.Post,
+  word-reads.Asked,
+  word-reads.Learnt,
+  group-reads.Asked,
+  group-reads.Learnt,
+) (as-pat-at t) as-pat.Post
+as-pat-get-pat-requires t c κs = omega (arith, c .before .before .before .before .before .before .pre .0)
+
+-- src/lib.rt:429:22
+as-pat-enum-known-r1 : (t : ℕ) → as-pat-lts.Need-enum-known-r1 (
+  get-pat-below t,
+  get-pat.Post,
+  word-reads.Asked,
+  word-reads.Learnt,
+  group-reads.Asked,
+  group-reads.Learnt,
+) (as-pat-at t) as-pat.Post
+as-pat-enum-known-r1 t c = search needs
+
+-- src/lib.rt:430:9
+as-pat-enum-told : (t : ℕ) → as-pat-lts.Need-enum-told (
+  get-pat-below t,
+  get-pat.Post,
+  word-reads.Asked,
+  word-reads.Learnt,
+  group-reads.Asked,
+  group-reads.Learnt,
+) (as-pat-at t) as-pat.Post
+as-pat-enum-told t c = search needs
+
+-- src/lib.rt:430:9
+as-pat-same-length : (t : ℕ) → as-pat-lts.Need-same-length (
+  get-pat-below t,
+  get-pat.Post,
+  word-reads.Asked,
+  word-reads.Learnt,
+  group-reads.Asked,
+  group-reads.Learnt,
+) (as-pat-at t) as-pat.Post
+as-pat-same-length t c = c .before .before .before .before .get-pat .kept .1 .1 .1 .1 .0
+
+-- src/lib.rt:430:9
+as-pat-returns : (t : ℕ) → as-pat-lts.Need-returns (
+  get-pat-below t,
+  get-pat.Post,
+  word-reads.Asked,
+  word-reads.Learnt,
+  group-reads.Asked,
+  group-reads.Learnt,
+) (as-pat-at t) as-pat.Post
+unfolding Pat.AsPat
+as-pat-returns t c = record { is = λ kinds m. then-stop (plain (c .before .before .before .before .get-pat .ensures)) (c .enum-told .given .1) }
+
+-- src/lib.rt:432:9
+as-pat-word-requires : (t : ℕ) → as-pat-lts.Need-word-requires (
+  get-pat-below t,
+  get-pat.Post,
+  word-reads.Asked,
+  word-reads.Learnt,
+  group-reads.Asked,
+  group-reads.Learnt,
+) (as-pat-at t) as-pat.Post
+as-pat-word-requires t c κs = search needs
+
+-- src/lib.rt:433:9
+as-pat-group-requires : (t : ℕ) → as-pat-lts.Need-group-requires (
+  get-pat-below t,
+  get-pat.Post,
+  word-reads.Asked,
+  word-reads.Learnt,
+  group-reads.Asked,
+  group-reads.Learnt,
+) (as-pat-at t) as-pat.Post
+as-pat-group-requires t c κs = search needs
+
+-- src/lib.rt:434:22
+as-pat-enum-known-r3 : (t : ℕ) → as-pat-lts.Need-enum-known-r3 (
+  get-pat-below t,
+  get-pat.Post,
+  word-reads.Asked,
+  word-reads.Learnt,
+  group-reads.Asked,
+  group-reads.Learnt,
+) (as-pat-at t) as-pat.Post
+as-pat-enum-known-r3 t c = search needs
+
+-- src/lib.rt:435:9
+as-pat-enum-told-2 : (t : ℕ) → as-pat-lts.Need-enum-told-2 (
+  get-pat-below t,
+  get-pat.Post,
+  word-reads.Asked,
+  word-reads.Learnt,
+  group-reads.Asked,
+  group-reads.Learnt,
+) (as-pat-at t) as-pat.Post
+as-pat-enum-told-2 t c = search needs
+
+-- src/lib.rt:435:9
+as-pat-same-length-2 : (t : ℕ) → as-pat-lts.Need-same-length-2 (
+  get-pat-below t,
+  get-pat.Post,
+  word-reads.Asked,
+  word-reads.Learnt,
+  group-reads.Asked,
+  group-reads.Learnt,
+) (as-pat-at t) as-pat.Post
+as-pat-same-length-2 t c = c .before .before .before .before .before .word .kept .1 .0 ∙ c .before .before .before .before .before .before .before .before .before .before .before .before .get-pat .kept .1 .1 .1 .1 .0
+
+-- src/lib.rt:435:9
+as-pat-returns-2 : (t : ℕ) → as-pat-lts.Need-returns-2 (
+  get-pat-below t,
+  get-pat.Post,
+  word-reads.Asked,
+  word-reads.Learnt,
+  group-reads.Asked,
+  group-reads.Learnt,
+) (as-pat-at t) as-pat.Post
+unfolding Pat.AsPat
+as-pat-returns-2 t c = record { is = λ kinds m. then-done (plain (c .before .before .before .before .before .before .before .before .before .before .before .before .get-pat .ensures)) (c .before .before .before .before .before .before .before .before .r1 .given .1) (then-sure (c .before .before .before .before .before .word .ensures) (group-not (c .before .before .group .ensures) (c .enum-told2 .given .1))) }
+
+-- src/lib.rt:437:5
+as-pat-get-pat-requires-2 : (t : ℕ) → as-pat-lts.Need-get-pat-requires-2 (
+  get-pat-below t,
+  get-pat.Post,
+  word-reads.Asked,
+  word-reads.Learnt,
+  group-reads.Asked,
+  group-reads.Learnt,
+) (as-pat-at t) as-pat.Post
+as-pat-get-pat-requires-2 t c κs = omega (arith, c .before .before .before .before .before .before .before .before .before .before .before .before .before .before .before .before .before .before .before .before .before .pre .0)
+
+-- src/lib.rt:417:1
+as-pat-same-length-3 : (t : ℕ) → as-pat-lts.Need-same-length-3 (
+  get-pat-below t,
+  get-pat.Post,
+  word-reads.Asked,
+  word-reads.Learnt,
+  group-reads.Asked,
+  group-reads.Learnt,
+) (as-pat-at t) as-pat.Post
+as-pat-same-length-3 t c = c .before .before .get-pat2 .kept .1 .1 .1 .1 .0 ∙ c .before .before .before .before .before .before .before .before .before .before .word .kept .1 .0 ∙ c .before .before .before .before .before .before .before .before .before .before .before .before .before .before .before .before .before .get-pat .kept .1 .1 .1 .1 .0
+
+-- src/lib.rt:417:1
+as-pat-returns-3 : (t : ℕ) → as-pat-lts.Need-returns-3 (
+  get-pat-below t,
+  get-pat.Post,
+  word-reads.Asked,
+  word-reads.Learnt,
+  group-reads.Asked,
+  group-reads.Learnt,
+) (as-pat-at t) as-pat.Post
+unfolding Pat.AsPat
+as-pat-returns-3 t c = record { is = λ kinds m. then-done (plain (c .before .before .before .before .before .before .before .before .before .before .before .before .before .before .before .before .before .get-pat .ensures)) (c .before .before .before .before .before .before .before .before .before .before .before .before .before .r1 .given .1) (then-sure (c .before .before .before .before .before .before .before .before .before .before .word .ensures) (by-same (group-is (c .before .before .before .before .before .before .before .group .ensures) (c .before .before .before .before .before .r3 .given .1)) (plain (c .before .before .get-pat2 .ensures)))) }
+
+-- src/lib.rt:132:9
+as-tail-absent-requires : (t : ℕ) → as-tail-lts.Need-absent-requires (
+  absent-reads.Asked,
+  absent-reads.Learnt,
+  as-tail-there-below t,
+  as-tail-there.Post,
+) (as-tail-at t) as-tail.Post
+as-tail-absent-requires t c κs = search needs
+
+-- src/lib.rt:134:20
+as-tail-enum-known-gone : (t : ℕ) → as-tail-lts.Need-enum-known-gone (
+  absent-reads.Asked,
+  absent-reads.Learnt,
+  as-tail-there-below t,
+  as-tail-there.Post,
+) (as-tail-at t) as-tail.Post
+as-tail-enum-known-gone t c = search needs
+
+-- src/lib.rt:135:63
+as-tail-enum-told : (t : ℕ) → as-tail-lts.Need-enum-told (
+  absent-reads.Asked,
+  absent-reads.Learnt,
+  as-tail-there-below t,
+  as-tail-there.Post,
+) (as-tail-at t) as-tail.Post
+as-tail-enum-told t c = search needs
+
+-- src/lib.rt:135:24
+as-tail-as-tail-there-requires : (t : ℕ) → as-tail-lts.Need-as-tail-there-requires (
+  absent-reads.Asked,
+  absent-reads.Learnt,
+  as-tail-there-below t,
+  as-tail-there.Post,
+) (as-tail-at t) as-tail.Post
+as-tail-as-tail-there-requires t c κs = omega (arith, c .before .before .before .before .before .before .before .before .before .pre .0)
+
+-- src/lib.rt:121:1
+as-tail-returns : (t : ℕ) → as-tail-lts.Need-returns (
+  absent-reads.Asked,
+  absent-reads.Learnt,
+  as-tail-there-below t,
+  as-tail-there.Post,
+) (as-tail-at t) as-tail.Post
+unfolding Pat.as-tail
+as-tail-returns t c = record { is = λ kinds m. maybe-past (c .before .before .before .absent .ensures) (c .before .gone .given .1) }
+
+-- src/lib.rt:121:1
+as-tail-same-length : (t : ℕ) → as-tail-lts.Need-same-length (
+  absent-reads.Asked,
+  absent-reads.Learnt,
+  as-tail-there-below t,
+  as-tail-there.Post,
+) (as-tail-at t) as-tail.Post
+as-tail-same-length t c = c .before .before .as-tail-there .kept .1 .1 .1 .1 .0
+
+-- src/lib.rt:121:1
+as-tail-returns-2 : (t : ℕ) → as-tail-lts.Need-returns-2 (
+  absent-reads.Asked,
+  absent-reads.Learnt,
+  as-tail-there-below t,
+  as-tail-there.Post,
+) (as-tail-at t) as-tail.Post
+unfolding Pat.as-tail
+as-tail-returns-2 t c = record { is = λ kinds m. by-same (maybe-there (c .before .before .before .before .before .before .absent .ensures) (c .before .before .before .before .enum-told .given .1)) (plain (c .before .before .as-tail-there .ensures)) }
+
+-- src/lib.rt:112:9
+as-tail-there-group-requires : (t : ℕ) → as-tail-there-lts.Need-group-requires (
+  group-reads.Asked,
+  group-reads.Learnt,
+  word-reads.Asked,
+  word-reads.Learnt,
+  get-pat-below t,
+  get-pat.Post,
+) (as-tail-there-at t) as-tail-there.Post
+as-tail-there-group-requires t c κs = search needs
+
+-- src/lib.rt:113:22
+as-tail-there-enum-known-r1 : (t : ℕ) → as-tail-there-lts.Need-enum-known-r1 (
+  group-reads.Asked,
+  group-reads.Learnt,
+  word-reads.Asked,
+  word-reads.Learnt,
+  get-pat-below t,
+  get-pat.Post,
+) (as-tail-there-at t) as-tail-there.Post
+as-tail-there-enum-known-r1 t c = search needs
+
+-- src/lib.rt:114:9
+as-tail-there-enum-told : (t : ℕ) → as-tail-there-lts.Need-enum-told (
+  group-reads.Asked,
+  group-reads.Learnt,
+  word-reads.Asked,
+  word-reads.Learnt,
+  get-pat-below t,
+  get-pat.Post,
+) (as-tail-there-at t) as-tail-there.Post
+as-tail-there-enum-told t c = search needs
+
+-- src/lib.rt:114:9
+as-tail-there-returns : (t : ℕ) → as-tail-there-lts.Need-returns (
+  group-reads.Asked,
+  group-reads.Learnt,
+  word-reads.Asked,
+  word-reads.Learnt,
+  get-pat-below t,
+  get-pat.Post,
+) (as-tail-there-at t) as-tail-there.Post
+unfolding Pat.as-tail-there
+as-tail-there-returns t c = record { is = λ kinds m. group-not (c .before .before .group .ensures) (c .enum-told .given .1) }
+
+-- src/lib.rt:116:9
+as-tail-there-word-requires : (t : ℕ) → as-tail-there-lts.Need-word-requires (
+  group-reads.Asked,
+  group-reads.Learnt,
+  word-reads.Asked,
+  word-reads.Learnt,
+  get-pat-below t,
+  get-pat.Post,
+) (as-tail-there-at t) as-tail-there.Post
+as-tail-there-word-requires t c κs = search needs
+
+-- src/lib.rt:117:5
+as-tail-there-get-pat-requires : (t : ℕ) → as-tail-there-lts.Need-get-pat-requires (
+  group-reads.Asked,
+  group-reads.Learnt,
+  word-reads.Asked,
+  word-reads.Learnt,
+  get-pat-below t,
+  get-pat.Post,
+) (as-tail-there-at t) as-tail-there.Post
+as-tail-there-get-pat-requires t c κs = omega (arith, c .before .before .before .before .before .before .before .before .before .before .before .before .before .before .pre .0)
+
+-- src/lib.rt:101:1
+as-tail-there-same-length : (t : ℕ) → as-tail-there-lts.Need-same-length (
+  group-reads.Asked,
+  group-reads.Learnt,
+  word-reads.Asked,
+  word-reads.Learnt,
+  get-pat-below t,
+  get-pat.Post,
+) (as-tail-there-at t) as-tail-there.Post
+as-tail-there-same-length t c = c .before .before .get-pat .kept .1 .1 .1 .1 .0 ∙ c .before .before .before .before .before .before .word .kept .1 .0
+
+-- src/lib.rt:101:1
+as-tail-there-returns-2 : (t : ℕ) → as-tail-there-lts.Need-returns-2 (
+  group-reads.Asked,
+  group-reads.Learnt,
+  word-reads.Asked,
+  word-reads.Learnt,
+  get-pat-below t,
+  get-pat.Post,
+) (as-tail-there-at t) as-tail-there.Post
+unfolding Pat.as-tail-there
+as-tail-there-returns-2 t c = record { is = λ kinds m. by-same (group-is (c .before .before .before .before .before .before .before .before .before .before .before .group .ensures) (c .before .before .before .before .before .before .before .before .before .r1 .given .1)) (then-sure (c .before .before .before .before .before .before .word .ensures) (plain (c .before .before .get-pat .ensures))) }
+
+-- src/lib.rt:54:9
+con-inner-absent-requires : (t : ℕ) → con-inner-lts.Need-absent-requires (
+  absent-reads.Asked,
+  absent-reads.Learnt,
+  con-inner-there-below t,
+  con-inner-there.Post,
+) (con-inner-at t) con-inner.Post
+con-inner-absent-requires t c κs = search needs
+
+-- src/lib.rt:56:20
+con-inner-enum-known-gone : (t : ℕ) → con-inner-lts.Need-enum-known-gone (
+  absent-reads.Asked,
+  absent-reads.Learnt,
+  con-inner-there-below t,
+  con-inner-there.Post,
+) (con-inner-at t) con-inner.Post
+con-inner-enum-known-gone t c = search needs
+
+-- src/lib.rt:57:65
+con-inner-enum-told : (t : ℕ) → con-inner-lts.Need-enum-told (
+  absent-reads.Asked,
+  absent-reads.Learnt,
+  con-inner-there-below t,
+  con-inner-there.Post,
+) (con-inner-at t) con-inner.Post
+con-inner-enum-told t c = search needs
+
+-- src/lib.rt:57:24
+con-inner-con-inner-there-requires : (t : ℕ) → con-inner-lts.Need-con-inner-there-requires (
+  absent-reads.Asked,
+  absent-reads.Learnt,
+  con-inner-there-below t,
+  con-inner-there.Post,
+) (con-inner-at t) con-inner.Post
+con-inner-con-inner-there-requires t c κs = omega (arith, c .before .before .before .before .before .before .before .before .before .pre .0)
+
+-- src/lib.rt:43:1
+con-inner-returns : (t : ℕ) → con-inner-lts.Need-returns (
+  absent-reads.Asked,
+  absent-reads.Learnt,
+  con-inner-there-below t,
+  con-inner-there.Post,
+) (con-inner-at t) con-inner.Post
+unfolding Pat.con-arg
+con-inner-returns t c = record { is = λ kinds m. maybe-past (c .before .before .before .absent .ensures) (c .before .gone .given .1) }
+
+-- src/lib.rt:43:1
+con-inner-same-length : (t : ℕ) → con-inner-lts.Need-same-length (
+  absent-reads.Asked,
+  absent-reads.Learnt,
+  con-inner-there-below t,
+  con-inner-there.Post,
+) (con-inner-at t) con-inner.Post
+con-inner-same-length t c = c .before .before .con-inner-there .kept .1 .1 .1 .1 .0
+
+-- src/lib.rt:43:1
+con-inner-returns-2 : (t : ℕ) → con-inner-lts.Need-returns-2 (
+  absent-reads.Asked,
+  absent-reads.Learnt,
+  con-inner-there-below t,
+  con-inner-there.Post,
+) (con-inner-at t) con-inner.Post
+unfolding Pat.con-arg
+con-inner-returns-2 t c = record { is = λ kinds m. by-same (maybe-there (c .before .before .before .before .before .before .absent .ensures) (c .before .before .before .before .enum-told .given .1)) (plain (c .before .before .con-inner-there .ensures)) }
+
+-- src/lib.rt:38:9
+con-inner-there-word-requires : (t : ℕ) → con-inner-there-lts.Need-word-requires (
+  word-reads.Asked,
+  word-reads.Learnt,
+  get-pat-below t,
+  get-pat.Post,
+) (con-inner-there-at t) con-inner-there.Post
+con-inner-there-word-requires t c κs = search needs
+
+-- src/lib.rt:39:5
+con-inner-there-get-pat-requires : (t : ℕ) → con-inner-there-lts.Need-get-pat-requires (
+  word-reads.Asked,
+  word-reads.Learnt,
+  get-pat-below t,
+  get-pat.Post,
+) (con-inner-there-at t) con-inner-there.Post
+con-inner-there-get-pat-requires t c κs = omega (arith, c .before .before .before .before .before .before .before .before .before .before .pre .0)
+
+-- src/lib.rt:27:1
+con-inner-there-same-length : (t : ℕ) → con-inner-there-lts.Need-same-length (
+  word-reads.Asked,
+  word-reads.Learnt,
+  get-pat-below t,
+  get-pat.Post,
+) (con-inner-there-at t) con-inner-there.Post
+con-inner-there-same-length t c = c .before .before .get-pat .kept .1 .1 .1 .1 .0 ∙ c .before .before .before .before .before .before .word .kept .1 .0
+
+-- src/lib.rt:27:1
+con-inner-there-returns : (t : ℕ) → con-inner-there-lts.Need-returns (
+  word-reads.Asked,
+  word-reads.Learnt,
+  get-pat-below t,
+  get-pat.Post,
+) (con-inner-there-at t) con-inner-there.Post
+unfolding Pat.con-arg-there
+con-inner-there-returns t c = record { is = λ kinds m. then-sure (c .before .before .before .before .before .before .word .ensures) (plain (c .before .before .get-pat .ensures)) }
+
+-- src/lib.rt:73:9
+con-pat-op-path-requires : (t : ℕ) → con-pat-lts.Need-op-path-requires (
+  op-path-reads.Asked,
+  op-path-reads.Learnt,
+  con-inner-below t,
+  con-inner.Post,
+) (con-pat-at t) con-pat.Post
+con-pat-op-path-requires t c κs = search needs
+
+-- src/lib.rt:74:22
+con-pat-enum-known-r1 : (t : ℕ) → con-pat-lts.Need-enum-known-r1 (
+  op-path-reads.Asked,
+  op-path-reads.Learnt,
+  con-inner-below t,
+  con-inner.Post,
+) (con-pat-at t) con-pat.Post
+con-pat-enum-known-r1 t c = search needs
+
+-- src/lib.rt:75:9
+con-pat-enum-told : (t : ℕ) → con-pat-lts.Need-enum-told (
+  op-path-reads.Asked,
+  op-path-reads.Learnt,
+  con-inner-below t,
+  con-inner.Post,
+) (con-pat-at t) con-pat.Post
+con-pat-enum-told t c = search needs
+
+-- src/lib.rt:75:9
+con-pat-same-length : (t : ℕ) → con-pat-lts.Need-same-length (
+  op-path-reads.Asked,
+  op-path-reads.Learnt,
+  con-inner-below t,
+  con-inner.Post,
+) (con-pat-at t) con-pat.Post
+con-pat-same-length t c = c .before .before .before .before .op-path .kept .1 .1 .1 .1 .0
+
+-- src/lib.rt:75:9
+con-pat-returns : (t : ℕ) → con-pat-lts.Need-returns (
+  op-path-reads.Asked,
+  op-path-reads.Learnt,
+  con-inner-below t,
+  con-inner.Post,
+) (con-pat-at t) con-pat.Post
+unfolding Pat.ConPat
+con-pat-returns t c = record { is = λ kinds m. then-stop (plain (c .before .before .before .before .op-path .ensures)) (c .enum-told .given .1) }
+
+-- src/lib.rt:77:5
+con-pat-con-inner-requires : (t : ℕ) → con-pat-lts.Need-con-inner-requires (
+  op-path-reads.Asked,
+  op-path-reads.Learnt,
+  con-inner-below t,
+  con-inner.Post,
+) (con-pat-at t) con-pat.Post
+con-pat-con-inner-requires t c κs = omega (arith, c .before .before .before .before .before .before .before .before .before .before .before .before .before .pre .0)
+
+-- src/lib.rt:62:1
+con-pat-same-length-2 : (t : ℕ) → con-pat-lts.Need-same-length-2 (
+  op-path-reads.Asked,
+  op-path-reads.Learnt,
+  con-inner-below t,
+  con-inner.Post,
+) (con-pat-at t) con-pat.Post
+con-pat-same-length-2 t c = c .before .before .con-inner .kept .1 .1 .1 .1 .0 ∙ c .before .before .before .before .before .before .before .before .before .op-path .kept .1 .1 .1 .1 .0
+
+-- src/lib.rt:62:1
+con-pat-returns-2 : (t : ℕ) → con-pat-lts.Need-returns-2 (
+  op-path-reads.Asked,
+  op-path-reads.Learnt,
+  con-inner-below t,
+  con-inner.Post,
+) (con-pat-at t) con-pat.Post
+unfolding Pat.ConPat
+con-pat-returns-2 t c = record { is = λ kinds m. then-done (plain (c .before .before .before .before .before .before .before .before .before .op-path .ensures)) (c .before .before .before .before .before .r1 .given .1) (plain (c .before .before .con-inner .ensures)) }
+
+-- src/lib.rt:474:9
+get-pat-stop-requires : (t : ℕ) → get-pat-lts.Need-stop-requires (
+  stop-reads.Asked,
+  stop-reads.Learnt,
+  form-reads.Asked,
+  form-reads.Learnt,
+  word-reads.Asked,
+  word-reads.Learnt,
+  text-of-reads.Asked,
+  text-of-reads.Learnt,
+  con-pat-below t,
+  con-pat.Post,
+  record-pat-below t,
+  record-pat.Post,
+  paren-pat-below t,
+  paren-pat.Post,
+  tuple-pat-below t,
+  tuple-pat.Post,
+  list-pat-below t,
+  list-pat.Post,
+  vector-pat-below t,
+  vector-pat.Post,
+  infix-pat-below t,
+  infix-pat.Post,
+  typed-pat-below t,
+  typed-pat.Post,
+  as-pat-below t,
+  as-pat.Post,
+  or-pat-below t,
+  or-pat.Post,
+) (get-pat-at t) get-pat.Post
+get-pat-stop-requires t c κs = search needs
+
+-- src/lib.rt:474:9
+get-pat-returns : (t : ℕ) → get-pat-lts.Need-returns (
+  stop-reads.Asked,
+  stop-reads.Learnt,
+  form-reads.Asked,
+  form-reads.Learnt,
+  word-reads.Asked,
+  word-reads.Learnt,
+  text-of-reads.Asked,
+  text-of-reads.Learnt,
+  con-pat-below t,
+  con-pat.Post,
+  record-pat-below t,
+  record-pat.Post,
+  paren-pat-below t,
+  paren-pat.Post,
+  tuple-pat-below t,
+  tuple-pat.Post,
+  list-pat-below t,
+  list-pat.Post,
+  vector-pat-below t,
+  vector-pat.Post,
+  infix-pat-below t,
+  infix-pat.Post,
+  typed-pat-below t,
+  typed-pat.Post,
+  as-pat-below t,
+  as-pat.Post,
+  or-pat-below t,
+  or-pat.Post,
+) (get-pat-at t) get-pat.Post
+unfolding Pat.pats Pat.WildcardPat Pat.SConPat
+get-pat-returns t c = record { is = λ kinds m. pat-zero _ (c .before .if1 .taken) (c .stop .ensures) }
+
+-- src/lib.rt:476:26
+get-pat-form-requires : (t : ℕ) → get-pat-lts.Need-form-requires (
+  stop-reads.Asked,
+  stop-reads.Learnt,
+  form-reads.Asked,
+  form-reads.Learnt,
+  word-reads.Asked,
+  word-reads.Learnt,
+  text-of-reads.Asked,
+  text-of-reads.Learnt,
+  con-pat-below t,
+  con-pat.Post,
+  record-pat-below t,
+  record-pat.Post,
+  paren-pat-below t,
+  paren-pat.Post,
+  tuple-pat-below t,
+  tuple-pat.Post,
+  list-pat-below t,
+  list-pat.Post,
+  vector-pat-below t,
+  vector-pat.Post,
+  infix-pat-below t,
+  infix-pat.Post,
+  typed-pat-below t,
+  typed-pat.Post,
+  as-pat-below t,
+  as-pat.Post,
+  or-pat-below t,
+  or-pat.Post,
+) (get-pat-at t) get-pat.Post
+get-pat-form-requires t c κs = search needs
+
+-- src/lib.rt:476:18
+get-pat-enum-known-k : (t : ℕ) → get-pat-lts.Need-enum-known-k (
+  stop-reads.Asked,
+  stop-reads.Learnt,
+  form-reads.Asked,
+  form-reads.Learnt,
+  word-reads.Asked,
+  word-reads.Learnt,
+  text-of-reads.Asked,
+  text-of-reads.Learnt,
+  con-pat-below t,
+  con-pat.Post,
+  record-pat-below t,
+  record-pat.Post,
+  paren-pat-below t,
+  paren-pat.Post,
+  tuple-pat-below t,
+  tuple-pat.Post,
+  list-pat-below t,
+  list-pat.Post,
+  vector-pat-below t,
+  vector-pat.Post,
+  infix-pat-below t,
+  infix-pat.Post,
+  typed-pat-below t,
+  typed-pat.Post,
+  as-pat-below t,
+  as-pat.Post,
+  or-pat-below t,
+  or-pat.Post,
+) (get-pat-at t) get-pat.Post
+get-pat-enum-known-k t c = search needs
+
+-- src/lib.rt:477:9
+get-pat-enum-told : (t : ℕ) → get-pat-lts.Need-enum-told (
+  stop-reads.Asked,
+  stop-reads.Learnt,
+  form-reads.Asked,
+  form-reads.Learnt,
+  word-reads.Asked,
+  word-reads.Learnt,
+  text-of-reads.Asked,
+  text-of-reads.Learnt,
+  con-pat-below t,
+  con-pat.Post,
+  record-pat-below t,
+  record-pat.Post,
+  paren-pat-below t,
+  paren-pat.Post,
+  tuple-pat-below t,
+  tuple-pat.Post,
+  list-pat-below t,
+  list-pat.Post,
+  vector-pat-below t,
+  vector-pat.Post,
+  infix-pat-below t,
+  infix-pat.Post,
+  typed-pat-below t,
+  typed-pat.Post,
+  as-pat-below t,
+  as-pat.Post,
+  or-pat-below t,
+  or-pat.Post,
+) (get-pat-at t) get-pat.Post
+get-pat-enum-told t c = search needs
+
+-- src/lib.rt:477:9
+get-pat-stop-requires-2 : (t : ℕ) → get-pat-lts.Need-stop-requires-2 (
+  stop-reads.Asked,
+  stop-reads.Learnt,
+  form-reads.Asked,
+  form-reads.Learnt,
+  word-reads.Asked,
+  word-reads.Learnt,
+  text-of-reads.Asked,
+  text-of-reads.Learnt,
+  con-pat-below t,
+  con-pat.Post,
+  record-pat-below t,
+  record-pat.Post,
+  paren-pat-below t,
+  paren-pat.Post,
+  tuple-pat-below t,
+  tuple-pat.Post,
+  list-pat-below t,
+  list-pat.Post,
+  vector-pat-below t,
+  vector-pat.Post,
+  infix-pat-below t,
+  infix-pat.Post,
+  typed-pat-below t,
+  typed-pat.Post,
+  as-pat-below t,
+  as-pat.Post,
+  or-pat-below t,
+  or-pat.Post,
+) (get-pat-at t) get-pat.Post
+get-pat-stop-requires-2 t c κs = search needs
+
+-- src/lib.rt:477:9
+get-pat-returns-2 : (t : ℕ) → get-pat-lts.Need-returns-2 (
+  stop-reads.Asked,
+  stop-reads.Learnt,
+  form-reads.Asked,
+  form-reads.Learnt,
+  word-reads.Asked,
+  word-reads.Learnt,
+  text-of-reads.Asked,
+  text-of-reads.Learnt,
+  con-pat-below t,
+  con-pat.Post,
+  record-pat-below t,
+  record-pat.Post,
+  paren-pat-below t,
+  paren-pat.Post,
+  tuple-pat-below t,
+  tuple-pat.Post,
+  list-pat-below t,
+  list-pat.Post,
+  vector-pat-below t,
+  vector-pat.Post,
+  infix-pat-below t,
+  infix-pat.Post,
+  typed-pat-below t,
+  typed-pat.Post,
+  as-pat-below t,
+  as-pat.Post,
+  or-pat-below t,
+  or-pat.Post,
+) (get-pat-at t) get-pat.Post
+unfolding Pat.pats Pat.WildcardPat Pat.SConPat
+get-pat-returns-2 t c = record { is = λ kinds m. pat-form _ (c .before .before .before .before .if1 .left) (form-not (c .stop2 .ensures) (c .before .before .before .form .ensures) (c .before .enum-told .given .1)) }
+
+-- src/lib.rt:483:15
+get-pat-sub-t15 : (t : ℕ) → get-pat-lts.Need-sub-t15 (
+  stop-reads.Asked,
+  stop-reads.Learnt,
+  form-reads.Asked,
+  form-reads.Learnt,
+  word-reads.Asked,
+  word-reads.Learnt,
+  text-of-reads.Asked,
+  text-of-reads.Learnt,
+  con-pat-below t,
+  con-pat.Post,
+  record-pat-below t,
+  record-pat.Post,
+  paren-pat-below t,
+  paren-pat.Post,
+  tuple-pat-below t,
+  tuple-pat.Post,
+  list-pat-below t,
+  list-pat.Post,
+  vector-pat-below t,
+  vector-pat.Post,
+  infix-pat-below t,
+  infix-pat.Post,
+  typed-pat-below t,
+  typed-pat.Post,
+  as-pat-below t,
+  as-pat.Post,
+  or-pat-below t,
+  or-pat.Post,
+) (get-pat-at t) get-pat.Post
+get-pat-sub-t15 t c = search needs
+
+-- src/lib.rt:486:27
+get-pat-word-requires : (t : ℕ) → get-pat-lts.Need-word-requires (
+  stop-reads.Asked,
+  stop-reads.Learnt,
+  form-reads.Asked,
+  form-reads.Learnt,
+  word-reads.Asked,
+  word-reads.Learnt,
+  text-of-reads.Asked,
+  text-of-reads.Learnt,
+  con-pat-below t,
+  con-pat.Post,
+  record-pat-below t,
+  record-pat.Post,
+  paren-pat-below t,
+  paren-pat.Post,
+  tuple-pat-below t,
+  tuple-pat.Post,
+  list-pat-below t,
+  list-pat.Post,
+  vector-pat-below t,
+  vector-pat.Post,
+  infix-pat-below t,
+  infix-pat.Post,
+  typed-pat-below t,
+  typed-pat.Post,
+  as-pat-below t,
+  as-pat.Post,
+  or-pat-below t,
+  or-pat.Post,
+) (get-pat-at t) get-pat.Post
+get-pat-word-requires t c κs = search needs
+
+-- src/lib.rt:487:14
+get-pat-text-of-requires : (t : ℕ) → get-pat-lts.Need-text-of-requires (
+  stop-reads.Asked,
+  stop-reads.Learnt,
+  form-reads.Asked,
+  form-reads.Learnt,
+  word-reads.Asked,
+  word-reads.Learnt,
+  text-of-reads.Asked,
+  text-of-reads.Learnt,
+  con-pat-below t,
+  con-pat.Post,
+  record-pat-below t,
+  record-pat.Post,
+  paren-pat-below t,
+  paren-pat.Post,
+  tuple-pat-below t,
+  tuple-pat.Post,
+  list-pat-below t,
+  list-pat.Post,
+  vector-pat-below t,
+  vector-pat.Post,
+  infix-pat-below t,
+  infix-pat.Post,
+  typed-pat-below t,
+  typed-pat.Post,
+  as-pat-below t,
+  as-pat.Post,
+  or-pat-below t,
+  or-pat.Post,
+) (get-pat-at t) get-pat.Post
+get-pat-text-of-requires t c κs = search needs
+
+-- src/lib.rt:488:14
+get-pat-con-pat-requires : (t : ℕ) → get-pat-lts.Need-con-pat-requires (
+  stop-reads.Asked,
+  stop-reads.Learnt,
+  form-reads.Asked,
+  form-reads.Learnt,
+  word-reads.Asked,
+  word-reads.Learnt,
+  text-of-reads.Asked,
+  text-of-reads.Learnt,
+  con-pat-below t,
+  con-pat.Post,
+  record-pat-below t,
+  record-pat.Post,
+  paren-pat-below t,
+  paren-pat.Post,
+  tuple-pat-below t,
+  tuple-pat.Post,
+  list-pat-below t,
+  list-pat.Post,
+  vector-pat-below t,
+  vector-pat.Post,
+  infix-pat-below t,
+  infix-pat.Post,
+  typed-pat-below t,
+  typed-pat.Post,
+  as-pat-below t,
+  as-pat.Post,
+  or-pat-below t,
+  or-pat.Post,
+) (get-pat-at t) get-pat.Post
+get-pat-con-pat-requires t c κs = omega (arith, c .before .before .before .before .before .before .before .before .before .before .before .before .pre .0, c .before .before .before .before .before .before .if1 .left)
+
+-- src/lib.rt:489:14
+get-pat-record-pat-requires : (t : ℕ) → get-pat-lts.Need-record-pat-requires (
+  stop-reads.Asked,
+  stop-reads.Learnt,
+  form-reads.Asked,
+  form-reads.Learnt,
+  word-reads.Asked,
+  word-reads.Learnt,
+  text-of-reads.Asked,
+  text-of-reads.Learnt,
+  con-pat-below t,
+  con-pat.Post,
+  record-pat-below t,
+  record-pat.Post,
+  paren-pat-below t,
+  paren-pat.Post,
+  tuple-pat-below t,
+  tuple-pat.Post,
+  list-pat-below t,
+  list-pat.Post,
+  vector-pat-below t,
+  vector-pat.Post,
+  infix-pat-below t,
+  infix-pat.Post,
+  typed-pat-below t,
+  typed-pat.Post,
+  as-pat-below t,
+  as-pat.Post,
+  or-pat-below t,
+  or-pat.Post,
+) (get-pat-at t) get-pat.Post
+get-pat-record-pat-requires t c κs = omega (arith, c .before .before .before .before .before .before .before .before .before .before .before .before .pre .0, c .before .before .before .before .before .before .if1 .left)
+
+-- src/lib.rt:490:14
+get-pat-paren-pat-requires : (t : ℕ) → get-pat-lts.Need-paren-pat-requires (
+  stop-reads.Asked,
+  stop-reads.Learnt,
+  form-reads.Asked,
+  form-reads.Learnt,
+  word-reads.Asked,
+  word-reads.Learnt,
+  text-of-reads.Asked,
+  text-of-reads.Learnt,
+  con-pat-below t,
+  con-pat.Post,
+  record-pat-below t,
+  record-pat.Post,
+  paren-pat-below t,
+  paren-pat.Post,
+  tuple-pat-below t,
+  tuple-pat.Post,
+  list-pat-below t,
+  list-pat.Post,
+  vector-pat-below t,
+  vector-pat.Post,
+  infix-pat-below t,
+  infix-pat.Post,
+  typed-pat-below t,
+  typed-pat.Post,
+  as-pat-below t,
+  as-pat.Post,
+  or-pat-below t,
+  or-pat.Post,
+) (get-pat-at t) get-pat.Post
+get-pat-paren-pat-requires t c κs = omega (arith, c .before .before .before .before .before .before .before .before .before .before .before .before .pre .0, c .before .before .before .before .before .before .if1 .left)
+
+-- src/lib.rt:491:14
+get-pat-tuple-pat-requires : (t : ℕ) → get-pat-lts.Need-tuple-pat-requires (
+  stop-reads.Asked,
+  stop-reads.Learnt,
+  form-reads.Asked,
+  form-reads.Learnt,
+  word-reads.Asked,
+  word-reads.Learnt,
+  text-of-reads.Asked,
+  text-of-reads.Learnt,
+  con-pat-below t,
+  con-pat.Post,
+  record-pat-below t,
+  record-pat.Post,
+  paren-pat-below t,
+  paren-pat.Post,
+  tuple-pat-below t,
+  tuple-pat.Post,
+  list-pat-below t,
+  list-pat.Post,
+  vector-pat-below t,
+  vector-pat.Post,
+  infix-pat-below t,
+  infix-pat.Post,
+  typed-pat-below t,
+  typed-pat.Post,
+  as-pat-below t,
+  as-pat.Post,
+  or-pat-below t,
+  or-pat.Post,
+) (get-pat-at t) get-pat.Post
+get-pat-tuple-pat-requires t c κs = omega (arith, c .before .before .before .before .before .before .before .before .before .before .before .before .pre .0, c .before .before .before .before .before .before .if1 .left)
+
+-- src/lib.rt:492:14
+get-pat-list-pat-requires : (t : ℕ) → get-pat-lts.Need-list-pat-requires (
+  stop-reads.Asked,
+  stop-reads.Learnt,
+  form-reads.Asked,
+  form-reads.Learnt,
+  word-reads.Asked,
+  word-reads.Learnt,
+  text-of-reads.Asked,
+  text-of-reads.Learnt,
+  con-pat-below t,
+  con-pat.Post,
+  record-pat-below t,
+  record-pat.Post,
+  paren-pat-below t,
+  paren-pat.Post,
+  tuple-pat-below t,
+  tuple-pat.Post,
+  list-pat-below t,
+  list-pat.Post,
+  vector-pat-below t,
+  vector-pat.Post,
+  infix-pat-below t,
+  infix-pat.Post,
+  typed-pat-below t,
+  typed-pat.Post,
+  as-pat-below t,
+  as-pat.Post,
+  or-pat-below t,
+  or-pat.Post,
+) (get-pat-at t) get-pat.Post
+get-pat-list-pat-requires t c κs = omega (arith, c .before .before .before .before .before .before .before .before .before .before .before .before .pre .0, c .before .before .before .before .before .before .if1 .left)
+
+-- src/lib.rt:493:14
+get-pat-vector-pat-requires : (t : ℕ) → get-pat-lts.Need-vector-pat-requires (
+  stop-reads.Asked,
+  stop-reads.Learnt,
+  form-reads.Asked,
+  form-reads.Learnt,
+  word-reads.Asked,
+  word-reads.Learnt,
+  text-of-reads.Asked,
+  text-of-reads.Learnt,
+  con-pat-below t,
+  con-pat.Post,
+  record-pat-below t,
+  record-pat.Post,
+  paren-pat-below t,
+  paren-pat.Post,
+  tuple-pat-below t,
+  tuple-pat.Post,
+  list-pat-below t,
+  list-pat.Post,
+  vector-pat-below t,
+  vector-pat.Post,
+  infix-pat-below t,
+  infix-pat.Post,
+  typed-pat-below t,
+  typed-pat.Post,
+  as-pat-below t,
+  as-pat.Post,
+  or-pat-below t,
+  or-pat.Post,
+) (get-pat-at t) get-pat.Post
+get-pat-vector-pat-requires t c κs = omega (arith, c .before .before .before .before .before .before .before .before .before .before .before .before .pre .0, c .before .before .before .before .before .before .if1 .left)
+
+-- src/lib.rt:494:14
+get-pat-infix-pat-requires : (t : ℕ) → get-pat-lts.Need-infix-pat-requires (
+  stop-reads.Asked,
+  stop-reads.Learnt,
+  form-reads.Asked,
+  form-reads.Learnt,
+  word-reads.Asked,
+  word-reads.Learnt,
+  text-of-reads.Asked,
+  text-of-reads.Learnt,
+  con-pat-below t,
+  con-pat.Post,
+  record-pat-below t,
+  record-pat.Post,
+  paren-pat-below t,
+  paren-pat.Post,
+  tuple-pat-below t,
+  tuple-pat.Post,
+  list-pat-below t,
+  list-pat.Post,
+  vector-pat-below t,
+  vector-pat.Post,
+  infix-pat-below t,
+  infix-pat.Post,
+  typed-pat-below t,
+  typed-pat.Post,
+  as-pat-below t,
+  as-pat.Post,
+  or-pat-below t,
+  or-pat.Post,
+) (get-pat-at t) get-pat.Post
+get-pat-infix-pat-requires t c κs = omega (arith, c .before .before .before .before .before .before .before .before .before .before .before .before .pre .0, c .before .before .before .before .before .before .if1 .left)
+
+-- src/lib.rt:495:14
+get-pat-typed-pat-requires : (t : ℕ) → get-pat-lts.Need-typed-pat-requires (
+  stop-reads.Asked,
+  stop-reads.Learnt,
+  form-reads.Asked,
+  form-reads.Learnt,
+  word-reads.Asked,
+  word-reads.Learnt,
+  text-of-reads.Asked,
+  text-of-reads.Learnt,
+  con-pat-below t,
+  con-pat.Post,
+  record-pat-below t,
+  record-pat.Post,
+  paren-pat-below t,
+  paren-pat.Post,
+  tuple-pat-below t,
+  tuple-pat.Post,
+  list-pat-below t,
+  list-pat.Post,
+  vector-pat-below t,
+  vector-pat.Post,
+  infix-pat-below t,
+  infix-pat.Post,
+  typed-pat-below t,
+  typed-pat.Post,
+  as-pat-below t,
+  as-pat.Post,
+  or-pat-below t,
+  or-pat.Post,
+) (get-pat-at t) get-pat.Post
+get-pat-typed-pat-requires t c κs = omega (arith, c .before .before .before .before .before .before .before .before .before .before .before .before .pre .0, c .before .before .before .before .before .before .if1 .left)
+
+-- src/lib.rt:496:15
+get-pat-as-pat-requires : (t : ℕ) → get-pat-lts.Need-as-pat-requires (
+  stop-reads.Asked,
+  stop-reads.Learnt,
+  form-reads.Asked,
+  form-reads.Learnt,
+  word-reads.Asked,
+  word-reads.Learnt,
+  text-of-reads.Asked,
+  text-of-reads.Learnt,
+  con-pat-below t,
+  con-pat.Post,
+  record-pat-below t,
+  record-pat.Post,
+  paren-pat-below t,
+  paren-pat.Post,
+  tuple-pat-below t,
+  tuple-pat.Post,
+  list-pat-below t,
+  list-pat.Post,
+  vector-pat-below t,
+  vector-pat.Post,
+  infix-pat-below t,
+  infix-pat.Post,
+  typed-pat-below t,
+  typed-pat.Post,
+  as-pat-below t,
+  as-pat.Post,
+  or-pat-below t,
+  or-pat.Post,
+) (get-pat-at t) get-pat.Post
+get-pat-as-pat-requires t c κs = omega (arith, c .before .before .before .before .before .before .before .before .before .before .before .before .pre .0, c .before .before .before .before .before .before .if1 .left)
+
+-- src/lib.rt:497:15
+get-pat-or-pat-requires : (t : ℕ) → get-pat-lts.Need-or-pat-requires (
+  stop-reads.Asked,
+  stop-reads.Learnt,
+  form-reads.Asked,
+  form-reads.Learnt,
+  word-reads.Asked,
+  word-reads.Learnt,
+  text-of-reads.Asked,
+  text-of-reads.Learnt,
+  con-pat-below t,
+  con-pat.Post,
+  record-pat-below t,
+  record-pat.Post,
+  paren-pat-below t,
+  paren-pat.Post,
+  tuple-pat-below t,
+  tuple-pat.Post,
+  list-pat-below t,
+  list-pat.Post,
+  vector-pat-below t,
+  vector-pat.Post,
+  infix-pat-below t,
+  infix-pat.Post,
+  typed-pat-below t,
+  typed-pat.Post,
+  as-pat-below t,
+  as-pat.Post,
+  or-pat-below t,
+  or-pat.Post,
+) (get-pat-at t) get-pat.Post
+get-pat-or-pat-requires t c κs = omega (arith, c .before .before .before .before .before .before .before .before .before .before .before .before .pre .0, c .before .before .before .before .before .before .if1 .left)
+
+-- src/lib.rt:498:14
+get-pat-stop-requires-3 : (t : ℕ) → get-pat-lts.Need-stop-requires-3 (
+  stop-reads.Asked,
+  stop-reads.Learnt,
+  form-reads.Asked,
+  form-reads.Learnt,
+  word-reads.Asked,
+  word-reads.Learnt,
+  text-of-reads.Asked,
+  text-of-reads.Learnt,
+  con-pat-below t,
+  con-pat.Post,
+  record-pat-below t,
+  record-pat.Post,
+  paren-pat-below t,
+  paren-pat.Post,
+  tuple-pat-below t,
+  tuple-pat.Post,
+  list-pat-below t,
+  list-pat.Post,
+  vector-pat-below t,
+  vector-pat.Post,
+  infix-pat-below t,
+  infix-pat.Post,
+  typed-pat-below t,
+  typed-pat.Post,
+  as-pat-below t,
+  as-pat.Post,
+  or-pat-below t,
+  or-pat.Post,
+) (get-pat-at t) get-pat.Post
+get-pat-stop-requires-3 t c κs = search needs
+
+-- src/lib.rt:461:1
+get-pat-same-length : (t : ℕ) → get-pat-lts.Need-same-length (
+  stop-reads.Asked,
+  stop-reads.Learnt,
+  form-reads.Asked,
+  form-reads.Learnt,
+  word-reads.Asked,
+  word-reads.Learnt,
+  text-of-reads.Asked,
+  text-of-reads.Learnt,
+  con-pat-below t,
+  con-pat.Post,
+  record-pat-below t,
+  record-pat.Post,
+  paren-pat-below t,
+  paren-pat.Post,
+  tuple-pat-below t,
+  tuple-pat.Post,
+  list-pat-below t,
+  list-pat.Post,
+  vector-pat-below t,
+  vector-pat.Post,
+  infix-pat-below t,
+  infix-pat.Post,
+  typed-pat-below t,
+  typed-pat.Post,
+  as-pat-below t,
+  as-pat.Post,
+  or-pat-below t,
+  or-pat.Post,
+) (get-pat-at t) get-pat.Post
+get-pat-same-length t c = c .before .before .word .kept .1 .0
+
+-- src/lib.rt:461:1
+get-pat-returns-3 : (t : ℕ) → get-pat-lts.Need-returns-3 (
+  stop-reads.Asked,
+  stop-reads.Learnt,
+  form-reads.Asked,
+  form-reads.Learnt,
+  word-reads.Asked,
+  word-reads.Learnt,
+  text-of-reads.Asked,
+  text-of-reads.Learnt,
+  con-pat-below t,
+  con-pat.Post,
+  record-pat-below t,
+  record-pat.Post,
+  paren-pat-below t,
+  paren-pat.Post,
+  tuple-pat-below t,
+  tuple-pat.Post,
+  list-pat-below t,
+  list-pat.Post,
+  vector-pat-below t,
+  vector-pat.Post,
+  infix-pat-below t,
+  infix-pat.Post,
+  typed-pat-below t,
+  typed-pat.Post,
+  as-pat-below t,
+  as-pat.Post,
+  or-pat-below t,
+  or-pat.Post,
+) (get-pat-at t) get-pat.Post
+unfolding Pat.pats Pat.WildcardPat Pat.SConPat
+get-pat-returns-3 t c = record { is = λ kinds m. pat-form _ (c .before .before .before .before .before .before .before .before .before .if1 .left) (form-key (c .before .before .before .before .before .before .before .before .form .ensures) (c .before .before .before .before .before .before .k .given .1) (c .before .before .before .before .match2 .keys1) (last-sure (c .before .before .word .ensures))) }
+
+-- src/lib.rt:461:1
+get-pat-same-length-2 : (t : ℕ) → get-pat-lts.Need-same-length-2 (
+  stop-reads.Asked,
+  stop-reads.Learnt,
+  form-reads.Asked,
+  form-reads.Learnt,
+  word-reads.Asked,
+  word-reads.Learnt,
+  text-of-reads.Asked,
+  text-of-reads.Learnt,
+  con-pat-below t,
+  con-pat.Post,
+  record-pat-below t,
+  record-pat.Post,
+  paren-pat-below t,
+  paren-pat.Post,
+  tuple-pat-below t,
+  tuple-pat.Post,
+  list-pat-below t,
+  list-pat.Post,
+  vector-pat-below t,
+  vector-pat.Post,
+  infix-pat-below t,
+  infix-pat.Post,
+  typed-pat-below t,
+  typed-pat.Post,
+  as-pat-below t,
+  as-pat.Post,
+  or-pat-below t,
+  or-pat.Post,
+) (get-pat-at t) get-pat.Post
+get-pat-same-length-2 t c = c .before .before .text-of .kept .1 .1 .1 .1 .0
+
+-- src/lib.rt:461:1
+get-pat-returns-4 : (t : ℕ) → get-pat-lts.Need-returns-4 (
+  stop-reads.Asked,
+  stop-reads.Learnt,
+  form-reads.Asked,
+  form-reads.Learnt,
+  word-reads.Asked,
+  word-reads.Learnt,
+  text-of-reads.Asked,
+  text-of-reads.Learnt,
+  con-pat-below t,
+  con-pat.Post,
+  record-pat-below t,
+  record-pat.Post,
+  paren-pat-below t,
+  paren-pat.Post,
+  tuple-pat-below t,
+  tuple-pat.Post,
+  list-pat-below t,
+  list-pat.Post,
+  vector-pat-below t,
+  vector-pat.Post,
+  infix-pat-below t,
+  infix-pat.Post,
+  typed-pat-below t,
+  typed-pat.Post,
+  as-pat-below t,
+  as-pat.Post,
+  or-pat-below t,
+  or-pat.Post,
+) (get-pat-at t) get-pat.Post
+unfolding Pat.pats Pat.WildcardPat Pat.SConPat
+get-pat-returns-4 t c = record { is = λ kinds m. pat-form _ (c .before .before .before .before .before .before .before .before .before .if1 .left) (form-key (c .before .before .before .before .before .before .before .before .form .ensures) (c .before .before .before .before .before .before .k .given .1) (c .before .before .before .before .match2 .keys2) (plain (c .before .before .text-of .ensures))) }
+
+-- src/lib.rt:461:1
+get-pat-same-length-3 : (t : ℕ) → get-pat-lts.Need-same-length-3 (
+  stop-reads.Asked,
+  stop-reads.Learnt,
+  form-reads.Asked,
+  form-reads.Learnt,
+  word-reads.Asked,
+  word-reads.Learnt,
+  text-of-reads.Asked,
+  text-of-reads.Learnt,
+  con-pat-below t,
+  con-pat.Post,
+  record-pat-below t,
+  record-pat.Post,
+  paren-pat-below t,
+  paren-pat.Post,
+  tuple-pat-below t,
+  tuple-pat.Post,
+  list-pat-below t,
+  list-pat.Post,
+  vector-pat-below t,
+  vector-pat.Post,
+  infix-pat-below t,
+  infix-pat.Post,
+  typed-pat-below t,
+  typed-pat.Post,
+  as-pat-below t,
+  as-pat.Post,
+  or-pat-below t,
+  or-pat.Post,
+) (get-pat-at t) get-pat.Post
+get-pat-same-length-3 t c = c .before .before .con-pat .kept .1 .1 .1 .1 .0
+
+-- src/lib.rt:461:1
+get-pat-returns-5 : (t : ℕ) → get-pat-lts.Need-returns-5 (
+  stop-reads.Asked,
+  stop-reads.Learnt,
+  form-reads.Asked,
+  form-reads.Learnt,
+  word-reads.Asked,
+  word-reads.Learnt,
+  text-of-reads.Asked,
+  text-of-reads.Learnt,
+  con-pat-below t,
+  con-pat.Post,
+  record-pat-below t,
+  record-pat.Post,
+  paren-pat-below t,
+  paren-pat.Post,
+  tuple-pat-below t,
+  tuple-pat.Post,
+  list-pat-below t,
+  list-pat.Post,
+  vector-pat-below t,
+  vector-pat.Post,
+  infix-pat-below t,
+  infix-pat.Post,
+  typed-pat-below t,
+  typed-pat.Post,
+  as-pat-below t,
+  as-pat.Post,
+  or-pat-below t,
+  or-pat.Post,
+) (get-pat-at t) get-pat.Post
+unfolding Pat.pats Pat.WildcardPat Pat.SConPat
+get-pat-returns-5 t c = record { is = λ kinds m. pat-form _ (c .before .before .before .before .before .before .before .before .before .if1 .left) (form-key (c .before .before .before .before .before .before .before .before .form .ensures) (c .before .before .before .before .before .before .k .given .1) (c .before .before .before .before .match2 .keys3) (plain (c .before .before .con-pat .ensures))) }
+
+-- src/lib.rt:461:1
+get-pat-same-length-4 : (t : ℕ) → get-pat-lts.Need-same-length-4 (
+  stop-reads.Asked,
+  stop-reads.Learnt,
+  form-reads.Asked,
+  form-reads.Learnt,
+  word-reads.Asked,
+  word-reads.Learnt,
+  text-of-reads.Asked,
+  text-of-reads.Learnt,
+  con-pat-below t,
+  con-pat.Post,
+  record-pat-below t,
+  record-pat.Post,
+  paren-pat-below t,
+  paren-pat.Post,
+  tuple-pat-below t,
+  tuple-pat.Post,
+  list-pat-below t,
+  list-pat.Post,
+  vector-pat-below t,
+  vector-pat.Post,
+  infix-pat-below t,
+  infix-pat.Post,
+  typed-pat-below t,
+  typed-pat.Post,
+  as-pat-below t,
+  as-pat.Post,
+  or-pat-below t,
+  or-pat.Post,
+) (get-pat-at t) get-pat.Post
+get-pat-same-length-4 t c = c .before .before .record-pat .kept .1 .1 .1 .1 .0
+
+-- src/lib.rt:461:1
+get-pat-returns-6 : (t : ℕ) → get-pat-lts.Need-returns-6 (
+  stop-reads.Asked,
+  stop-reads.Learnt,
+  form-reads.Asked,
+  form-reads.Learnt,
+  word-reads.Asked,
+  word-reads.Learnt,
+  text-of-reads.Asked,
+  text-of-reads.Learnt,
+  con-pat-below t,
+  con-pat.Post,
+  record-pat-below t,
+  record-pat.Post,
+  paren-pat-below t,
+  paren-pat.Post,
+  tuple-pat-below t,
+  tuple-pat.Post,
+  list-pat-below t,
+  list-pat.Post,
+  vector-pat-below t,
+  vector-pat.Post,
+  infix-pat-below t,
+  infix-pat.Post,
+  typed-pat-below t,
+  typed-pat.Post,
+  as-pat-below t,
+  as-pat.Post,
+  or-pat-below t,
+  or-pat.Post,
+) (get-pat-at t) get-pat.Post
+unfolding Pat.pats Pat.WildcardPat Pat.SConPat
+get-pat-returns-6 t c = record { is = λ kinds m. pat-form _ (c .before .before .before .before .before .before .before .before .before .if1 .left) (form-key (c .before .before .before .before .before .before .before .before .form .ensures) (c .before .before .before .before .before .before .k .given .1) (c .before .before .before .before .match2 .keys4) (plain (c .before .before .record-pat .ensures))) }
+
+-- src/lib.rt:461:1
+get-pat-same-length-5 : (t : ℕ) → get-pat-lts.Need-same-length-5 (
+  stop-reads.Asked,
+  stop-reads.Learnt,
+  form-reads.Asked,
+  form-reads.Learnt,
+  word-reads.Asked,
+  word-reads.Learnt,
+  text-of-reads.Asked,
+  text-of-reads.Learnt,
+  con-pat-below t,
+  con-pat.Post,
+  record-pat-below t,
+  record-pat.Post,
+  paren-pat-below t,
+  paren-pat.Post,
+  tuple-pat-below t,
+  tuple-pat.Post,
+  list-pat-below t,
+  list-pat.Post,
+  vector-pat-below t,
+  vector-pat.Post,
+  infix-pat-below t,
+  infix-pat.Post,
+  typed-pat-below t,
+  typed-pat.Post,
+  as-pat-below t,
+  as-pat.Post,
+  or-pat-below t,
+  or-pat.Post,
+) (get-pat-at t) get-pat.Post
+get-pat-same-length-5 t c = c .before .before .paren-pat .kept .1 .1 .1 .1 .0
+
+-- src/lib.rt:461:1
+get-pat-returns-7 : (t : ℕ) → get-pat-lts.Need-returns-7 (
+  stop-reads.Asked,
+  stop-reads.Learnt,
+  form-reads.Asked,
+  form-reads.Learnt,
+  word-reads.Asked,
+  word-reads.Learnt,
+  text-of-reads.Asked,
+  text-of-reads.Learnt,
+  con-pat-below t,
+  con-pat.Post,
+  record-pat-below t,
+  record-pat.Post,
+  paren-pat-below t,
+  paren-pat.Post,
+  tuple-pat-below t,
+  tuple-pat.Post,
+  list-pat-below t,
+  list-pat.Post,
+  vector-pat-below t,
+  vector-pat.Post,
+  infix-pat-below t,
+  infix-pat.Post,
+  typed-pat-below t,
+  typed-pat.Post,
+  as-pat-below t,
+  as-pat.Post,
+  or-pat-below t,
+  or-pat.Post,
+) (get-pat-at t) get-pat.Post
+unfolding Pat.pats Pat.WildcardPat Pat.SConPat
+get-pat-returns-7 t c = record { is = λ kinds m. pat-form _ (c .before .before .before .before .before .before .before .before .before .if1 .left) (form-key (c .before .before .before .before .before .before .before .before .form .ensures) (c .before .before .before .before .before .before .k .given .1) (c .before .before .before .before .match2 .keys5) (plain (c .before .before .paren-pat .ensures))) }
+
+-- src/lib.rt:461:1
+get-pat-same-length-6 : (t : ℕ) → get-pat-lts.Need-same-length-6 (
+  stop-reads.Asked,
+  stop-reads.Learnt,
+  form-reads.Asked,
+  form-reads.Learnt,
+  word-reads.Asked,
+  word-reads.Learnt,
+  text-of-reads.Asked,
+  text-of-reads.Learnt,
+  con-pat-below t,
+  con-pat.Post,
+  record-pat-below t,
+  record-pat.Post,
+  paren-pat-below t,
+  paren-pat.Post,
+  tuple-pat-below t,
+  tuple-pat.Post,
+  list-pat-below t,
+  list-pat.Post,
+  vector-pat-below t,
+  vector-pat.Post,
+  infix-pat-below t,
+  infix-pat.Post,
+  typed-pat-below t,
+  typed-pat.Post,
+  as-pat-below t,
+  as-pat.Post,
+  or-pat-below t,
+  or-pat.Post,
+) (get-pat-at t) get-pat.Post
+get-pat-same-length-6 t c = c .before .before .tuple-pat .kept .1 .1 .1 .1 .0
+
+-- src/lib.rt:461:1
+get-pat-returns-8 : (t : ℕ) → get-pat-lts.Need-returns-8 (
+  stop-reads.Asked,
+  stop-reads.Learnt,
+  form-reads.Asked,
+  form-reads.Learnt,
+  word-reads.Asked,
+  word-reads.Learnt,
+  text-of-reads.Asked,
+  text-of-reads.Learnt,
+  con-pat-below t,
+  con-pat.Post,
+  record-pat-below t,
+  record-pat.Post,
+  paren-pat-below t,
+  paren-pat.Post,
+  tuple-pat-below t,
+  tuple-pat.Post,
+  list-pat-below t,
+  list-pat.Post,
+  vector-pat-below t,
+  vector-pat.Post,
+  infix-pat-below t,
+  infix-pat.Post,
+  typed-pat-below t,
+  typed-pat.Post,
+  as-pat-below t,
+  as-pat.Post,
+  or-pat-below t,
+  or-pat.Post,
+) (get-pat-at t) get-pat.Post
+unfolding Pat.pats Pat.WildcardPat Pat.SConPat
+get-pat-returns-8 t c = record { is = λ kinds m. pat-form _ (c .before .before .before .before .before .before .before .before .before .if1 .left) (form-key (c .before .before .before .before .before .before .before .before .form .ensures) (c .before .before .before .before .before .before .k .given .1) (c .before .before .before .before .match2 .keys6) (plain (c .before .before .tuple-pat .ensures))) }
+
+-- src/lib.rt:461:1
+get-pat-same-length-7 : (t : ℕ) → get-pat-lts.Need-same-length-7 (
+  stop-reads.Asked,
+  stop-reads.Learnt,
+  form-reads.Asked,
+  form-reads.Learnt,
+  word-reads.Asked,
+  word-reads.Learnt,
+  text-of-reads.Asked,
+  text-of-reads.Learnt,
+  con-pat-below t,
+  con-pat.Post,
+  record-pat-below t,
+  record-pat.Post,
+  paren-pat-below t,
+  paren-pat.Post,
+  tuple-pat-below t,
+  tuple-pat.Post,
+  list-pat-below t,
+  list-pat.Post,
+  vector-pat-below t,
+  vector-pat.Post,
+  infix-pat-below t,
+  infix-pat.Post,
+  typed-pat-below t,
+  typed-pat.Post,
+  as-pat-below t,
+  as-pat.Post,
+  or-pat-below t,
+  or-pat.Post,
+) (get-pat-at t) get-pat.Post
+get-pat-same-length-7 t c = c .before .before .list-pat .kept .1 .1 .1 .1 .0
+
+-- src/lib.rt:461:1
+get-pat-returns-9 : (t : ℕ) → get-pat-lts.Need-returns-9 (
+  stop-reads.Asked,
+  stop-reads.Learnt,
+  form-reads.Asked,
+  form-reads.Learnt,
+  word-reads.Asked,
+  word-reads.Learnt,
+  text-of-reads.Asked,
+  text-of-reads.Learnt,
+  con-pat-below t,
+  con-pat.Post,
+  record-pat-below t,
+  record-pat.Post,
+  paren-pat-below t,
+  paren-pat.Post,
+  tuple-pat-below t,
+  tuple-pat.Post,
+  list-pat-below t,
+  list-pat.Post,
+  vector-pat-below t,
+  vector-pat.Post,
+  infix-pat-below t,
+  infix-pat.Post,
+  typed-pat-below t,
+  typed-pat.Post,
+  as-pat-below t,
+  as-pat.Post,
+  or-pat-below t,
+  or-pat.Post,
+) (get-pat-at t) get-pat.Post
+unfolding Pat.pats Pat.WildcardPat Pat.SConPat
+get-pat-returns-9 t c = record { is = λ kinds m. pat-form _ (c .before .before .before .before .before .before .before .before .before .if1 .left) (form-key (c .before .before .before .before .before .before .before .before .form .ensures) (c .before .before .before .before .before .before .k .given .1) (c .before .before .before .before .match2 .keys7) (plain (c .before .before .list-pat .ensures))) }
+
+-- src/lib.rt:461:1
+get-pat-same-length-8 : (t : ℕ) → get-pat-lts.Need-same-length-8 (
+  stop-reads.Asked,
+  stop-reads.Learnt,
+  form-reads.Asked,
+  form-reads.Learnt,
+  word-reads.Asked,
+  word-reads.Learnt,
+  text-of-reads.Asked,
+  text-of-reads.Learnt,
+  con-pat-below t,
+  con-pat.Post,
+  record-pat-below t,
+  record-pat.Post,
+  paren-pat-below t,
+  paren-pat.Post,
+  tuple-pat-below t,
+  tuple-pat.Post,
+  list-pat-below t,
+  list-pat.Post,
+  vector-pat-below t,
+  vector-pat.Post,
+  infix-pat-below t,
+  infix-pat.Post,
+  typed-pat-below t,
+  typed-pat.Post,
+  as-pat-below t,
+  as-pat.Post,
+  or-pat-below t,
+  or-pat.Post,
+) (get-pat-at t) get-pat.Post
+get-pat-same-length-8 t c = c .before .before .vector-pat .kept .1 .1 .1 .1 .0
+
+-- src/lib.rt:461:1
+get-pat-returns-10 : (t : ℕ) → get-pat-lts.Need-returns-10 (
+  stop-reads.Asked,
+  stop-reads.Learnt,
+  form-reads.Asked,
+  form-reads.Learnt,
+  word-reads.Asked,
+  word-reads.Learnt,
+  text-of-reads.Asked,
+  text-of-reads.Learnt,
+  con-pat-below t,
+  con-pat.Post,
+  record-pat-below t,
+  record-pat.Post,
+  paren-pat-below t,
+  paren-pat.Post,
+  tuple-pat-below t,
+  tuple-pat.Post,
+  list-pat-below t,
+  list-pat.Post,
+  vector-pat-below t,
+  vector-pat.Post,
+  infix-pat-below t,
+  infix-pat.Post,
+  typed-pat-below t,
+  typed-pat.Post,
+  as-pat-below t,
+  as-pat.Post,
+  or-pat-below t,
+  or-pat.Post,
+) (get-pat-at t) get-pat.Post
+unfolding Pat.pats Pat.WildcardPat Pat.SConPat
+get-pat-returns-10 t c = record { is = λ kinds m. pat-form _ (c .before .before .before .before .before .before .before .before .before .if1 .left) (form-key (c .before .before .before .before .before .before .before .before .form .ensures) (c .before .before .before .before .before .before .k .given .1) (c .before .before .before .before .match2 .keys8) (plain (c .before .before .vector-pat .ensures))) }
+
+-- src/lib.rt:461:1
+get-pat-same-length-9 : (t : ℕ) → get-pat-lts.Need-same-length-9 (
+  stop-reads.Asked,
+  stop-reads.Learnt,
+  form-reads.Asked,
+  form-reads.Learnt,
+  word-reads.Asked,
+  word-reads.Learnt,
+  text-of-reads.Asked,
+  text-of-reads.Learnt,
+  con-pat-below t,
+  con-pat.Post,
+  record-pat-below t,
+  record-pat.Post,
+  paren-pat-below t,
+  paren-pat.Post,
+  tuple-pat-below t,
+  tuple-pat.Post,
+  list-pat-below t,
+  list-pat.Post,
+  vector-pat-below t,
+  vector-pat.Post,
+  infix-pat-below t,
+  infix-pat.Post,
+  typed-pat-below t,
+  typed-pat.Post,
+  as-pat-below t,
+  as-pat.Post,
+  or-pat-below t,
+  or-pat.Post,
+) (get-pat-at t) get-pat.Post
+get-pat-same-length-9 t c = c .before .before .infix-pat .kept .1 .1 .1 .1 .0
+
+-- src/lib.rt:461:1
+get-pat-returns-11 : (t : ℕ) → get-pat-lts.Need-returns-11 (
+  stop-reads.Asked,
+  stop-reads.Learnt,
+  form-reads.Asked,
+  form-reads.Learnt,
+  word-reads.Asked,
+  word-reads.Learnt,
+  text-of-reads.Asked,
+  text-of-reads.Learnt,
+  con-pat-below t,
+  con-pat.Post,
+  record-pat-below t,
+  record-pat.Post,
+  paren-pat-below t,
+  paren-pat.Post,
+  tuple-pat-below t,
+  tuple-pat.Post,
+  list-pat-below t,
+  list-pat.Post,
+  vector-pat-below t,
+  vector-pat.Post,
+  infix-pat-below t,
+  infix-pat.Post,
+  typed-pat-below t,
+  typed-pat.Post,
+  as-pat-below t,
+  as-pat.Post,
+  or-pat-below t,
+  or-pat.Post,
+) (get-pat-at t) get-pat.Post
+unfolding Pat.pats Pat.WildcardPat Pat.SConPat
+get-pat-returns-11 t c = record { is = λ kinds m. pat-form _ (c .before .before .before .before .before .before .before .before .before .if1 .left) (form-key (c .before .before .before .before .before .before .before .before .form .ensures) (c .before .before .before .before .before .before .k .given .1) (c .before .before .before .before .match2 .keys9) (plain (c .before .before .infix-pat .ensures))) }
+
+-- src/lib.rt:461:1
+get-pat-same-length-10 : (t : ℕ) → get-pat-lts.Need-same-length-10 (
+  stop-reads.Asked,
+  stop-reads.Learnt,
+  form-reads.Asked,
+  form-reads.Learnt,
+  word-reads.Asked,
+  word-reads.Learnt,
+  text-of-reads.Asked,
+  text-of-reads.Learnt,
+  con-pat-below t,
+  con-pat.Post,
+  record-pat-below t,
+  record-pat.Post,
+  paren-pat-below t,
+  paren-pat.Post,
+  tuple-pat-below t,
+  tuple-pat.Post,
+  list-pat-below t,
+  list-pat.Post,
+  vector-pat-below t,
+  vector-pat.Post,
+  infix-pat-below t,
+  infix-pat.Post,
+  typed-pat-below t,
+  typed-pat.Post,
+  as-pat-below t,
+  as-pat.Post,
+  or-pat-below t,
+  or-pat.Post,
+) (get-pat-at t) get-pat.Post
+get-pat-same-length-10 t c = c .before .before .typed-pat .kept .1 .1 .1 .1 .0
+
+-- src/lib.rt:461:1
+get-pat-returns-12 : (t : ℕ) → get-pat-lts.Need-returns-12 (
+  stop-reads.Asked,
+  stop-reads.Learnt,
+  form-reads.Asked,
+  form-reads.Learnt,
+  word-reads.Asked,
+  word-reads.Learnt,
+  text-of-reads.Asked,
+  text-of-reads.Learnt,
+  con-pat-below t,
+  con-pat.Post,
+  record-pat-below t,
+  record-pat.Post,
+  paren-pat-below t,
+  paren-pat.Post,
+  tuple-pat-below t,
+  tuple-pat.Post,
+  list-pat-below t,
+  list-pat.Post,
+  vector-pat-below t,
+  vector-pat.Post,
+  infix-pat-below t,
+  infix-pat.Post,
+  typed-pat-below t,
+  typed-pat.Post,
+  as-pat-below t,
+  as-pat.Post,
+  or-pat-below t,
+  or-pat.Post,
+) (get-pat-at t) get-pat.Post
+unfolding Pat.pats Pat.WildcardPat Pat.SConPat
+get-pat-returns-12 t c = record { is = λ kinds m. pat-form _ (c .before .before .before .before .before .before .before .before .before .if1 .left) (form-key (c .before .before .before .before .before .before .before .before .form .ensures) (c .before .before .before .before .before .before .k .given .1) (c .before .before .before .before .match2 .keys10) (plain (c .before .before .typed-pat .ensures))) }
+
+-- src/lib.rt:461:1
+get-pat-same-length-11 : (t : ℕ) → get-pat-lts.Need-same-length-11 (
+  stop-reads.Asked,
+  stop-reads.Learnt,
+  form-reads.Asked,
+  form-reads.Learnt,
+  word-reads.Asked,
+  word-reads.Learnt,
+  text-of-reads.Asked,
+  text-of-reads.Learnt,
+  con-pat-below t,
+  con-pat.Post,
+  record-pat-below t,
+  record-pat.Post,
+  paren-pat-below t,
+  paren-pat.Post,
+  tuple-pat-below t,
+  tuple-pat.Post,
+  list-pat-below t,
+  list-pat.Post,
+  vector-pat-below t,
+  vector-pat.Post,
+  infix-pat-below t,
+  infix-pat.Post,
+  typed-pat-below t,
+  typed-pat.Post,
+  as-pat-below t,
+  as-pat.Post,
+  or-pat-below t,
+  or-pat.Post,
+) (get-pat-at t) get-pat.Post
+get-pat-same-length-11 t c = c .before .before .as-pat .kept .1 .1 .1 .1 .0
+
+-- src/lib.rt:461:1
+get-pat-returns-13 : (t : ℕ) → get-pat-lts.Need-returns-13 (
+  stop-reads.Asked,
+  stop-reads.Learnt,
+  form-reads.Asked,
+  form-reads.Learnt,
+  word-reads.Asked,
+  word-reads.Learnt,
+  text-of-reads.Asked,
+  text-of-reads.Learnt,
+  con-pat-below t,
+  con-pat.Post,
+  record-pat-below t,
+  record-pat.Post,
+  paren-pat-below t,
+  paren-pat.Post,
+  tuple-pat-below t,
+  tuple-pat.Post,
+  list-pat-below t,
+  list-pat.Post,
+  vector-pat-below t,
+  vector-pat.Post,
+  infix-pat-below t,
+  infix-pat.Post,
+  typed-pat-below t,
+  typed-pat.Post,
+  as-pat-below t,
+  as-pat.Post,
+  or-pat-below t,
+  or-pat.Post,
+) (get-pat-at t) get-pat.Post
+unfolding Pat.pats Pat.WildcardPat Pat.SConPat
+get-pat-returns-13 t c = record { is = λ kinds m. pat-form _ (c .before .before .before .before .before .before .before .before .before .if1 .left) (form-key (c .before .before .before .before .before .before .before .before .form .ensures) (c .before .before .before .before .before .before .k .given .1) (c .before .before .before .before .match2 .keys11) (plain (c .before .before .as-pat .ensures))) }
+
+-- src/lib.rt:461:1
+get-pat-same-length-12 : (t : ℕ) → get-pat-lts.Need-same-length-12 (
+  stop-reads.Asked,
+  stop-reads.Learnt,
+  form-reads.Asked,
+  form-reads.Learnt,
+  word-reads.Asked,
+  word-reads.Learnt,
+  text-of-reads.Asked,
+  text-of-reads.Learnt,
+  con-pat-below t,
+  con-pat.Post,
+  record-pat-below t,
+  record-pat.Post,
+  paren-pat-below t,
+  paren-pat.Post,
+  tuple-pat-below t,
+  tuple-pat.Post,
+  list-pat-below t,
+  list-pat.Post,
+  vector-pat-below t,
+  vector-pat.Post,
+  infix-pat-below t,
+  infix-pat.Post,
+  typed-pat-below t,
+  typed-pat.Post,
+  as-pat-below t,
+  as-pat.Post,
+  or-pat-below t,
+  or-pat.Post,
+) (get-pat-at t) get-pat.Post
+get-pat-same-length-12 t c = c .before .before .or-pat .kept .1 .1 .1 .1 .0
+
+-- src/lib.rt:461:1
+get-pat-returns-14 : (t : ℕ) → get-pat-lts.Need-returns-14 (
+  stop-reads.Asked,
+  stop-reads.Learnt,
+  form-reads.Asked,
+  form-reads.Learnt,
+  word-reads.Asked,
+  word-reads.Learnt,
+  text-of-reads.Asked,
+  text-of-reads.Learnt,
+  con-pat-below t,
+  con-pat.Post,
+  record-pat-below t,
+  record-pat.Post,
+  paren-pat-below t,
+  paren-pat.Post,
+  tuple-pat-below t,
+  tuple-pat.Post,
+  list-pat-below t,
+  list-pat.Post,
+  vector-pat-below t,
+  vector-pat.Post,
+  infix-pat-below t,
+  infix-pat.Post,
+  typed-pat-below t,
+  typed-pat.Post,
+  as-pat-below t,
+  as-pat.Post,
+  or-pat-below t,
+  or-pat.Post,
+) (get-pat-at t) get-pat.Post
+unfolding Pat.pats Pat.WildcardPat Pat.SConPat
+get-pat-returns-14 t c = record { is = λ kinds m. pat-form _ (c .before .before .before .before .before .before .before .before .before .if1 .left) (form-key (c .before .before .before .before .before .before .before .before .form .ensures) (c .before .before .before .before .before .before .k .given .1) (c .before .before .before .before .match2 .keys12) (plain (c .before .before .or-pat .ensures))) }
+
+-- src/lib.rt:461:1
+get-pat-returns-15 : (t : ℕ) → get-pat-lts.Need-returns-15 (
+  stop-reads.Asked,
+  stop-reads.Learnt,
+  form-reads.Asked,
+  form-reads.Learnt,
+  word-reads.Asked,
+  word-reads.Learnt,
+  text-of-reads.Asked,
+  text-of-reads.Learnt,
+  con-pat-below t,
+  con-pat.Post,
+  record-pat-below t,
+  record-pat.Post,
+  paren-pat-below t,
+  paren-pat.Post,
+  tuple-pat-below t,
+  tuple-pat.Post,
+  list-pat-below t,
+  list-pat.Post,
+  vector-pat-below t,
+  vector-pat.Post,
+  infix-pat-below t,
+  infix-pat.Post,
+  typed-pat-below t,
+  typed-pat.Post,
+  as-pat-below t,
+  as-pat.Post,
+  or-pat-below t,
+  or-pat.Post,
+) (get-pat-at t) get-pat.Post
+unfolding Pat.pats Pat.WildcardPat Pat.SConPat
+get-pat-returns-15 t c = record { is = λ kinds m. pat-form _ (c .before .before .before .before .before .before .if1 .left) (by-same (form-is (c .before .before .before .before .before .form .ensures) (c .before .before .before .k .given .1)) (beyond (Pat.pats (walks (c .before .before .before .before .before .before .before .before .before .before .before .before .args .cfg .left - 1))) (c .before .before .before .k .given .0 .0) 12 refl (past (past (past (past (past (past (past (past (past (past (past (past zero-le (c .before .match2 .rest .0 .0 .0 .0 .0 .0 .0 .0 .0 .0 .0 .1)) (c .before .match2 .rest .0 .0 .0 .0 .0 .0 .0 .0 .0 .0 .1)) (c .before .match2 .rest .0 .0 .0 .0 .0 .0 .0 .0 .0 .1)) (c .before .match2 .rest .0 .0 .0 .0 .0 .0 .0 .0 .1)) (c .before .match2 .rest .0 .0 .0 .0 .0 .0 .0 .1)) (c .before .match2 .rest .0 .0 .0 .0 .0 .0 .1)) (c .before .match2 .rest .0 .0 .0 .0 .0 .1)) (c .before .match2 .rest .0 .0 .0 .0 .1)) (c .before .match2 .rest .0 .0 .0 .1)) (c .before .match2 .rest .0 .0 .1)) (c .before .match2 .rest .0 .1)) (c .before .match2 .rest .1)) (c .stop3 .ensures))) }
+
+-- src/lib.rt:383:9
+infix-pat-get-pat-requires : (t : ℕ) → infix-pat-lts.Need-get-pat-requires (
+  get-pat-below t,
+  get-pat.Post,
+  word-reads.Asked,
+  word-reads.Learnt,
+  text-of-reads.Asked,
+  text-of-reads.Learnt,
+) (infix-pat-at t) infix-pat.Post
+infix-pat-get-pat-requires t c κs = omega (arith, c .before .before .before .before .before .before .pre .0)
+
+-- src/lib.rt:384:22
+infix-pat-enum-known-r1 : (t : ℕ) → infix-pat-lts.Need-enum-known-r1 (
+  get-pat-below t,
+  get-pat.Post,
+  word-reads.Asked,
+  word-reads.Learnt,
+  text-of-reads.Asked,
+  text-of-reads.Learnt,
+) (infix-pat-at t) infix-pat.Post
+infix-pat-enum-known-r1 t c = search needs
+
+-- src/lib.rt:385:9
+infix-pat-enum-told : (t : ℕ) → infix-pat-lts.Need-enum-told (
+  get-pat-below t,
+  get-pat.Post,
+  word-reads.Asked,
+  word-reads.Learnt,
+  text-of-reads.Asked,
+  text-of-reads.Learnt,
+) (infix-pat-at t) infix-pat.Post
+infix-pat-enum-told t c = search needs
+
+-- src/lib.rt:385:9
+infix-pat-same-length : (t : ℕ) → infix-pat-lts.Need-same-length (
+  get-pat-below t,
+  get-pat.Post,
+  word-reads.Asked,
+  word-reads.Learnt,
+  text-of-reads.Asked,
+  text-of-reads.Learnt,
+) (infix-pat-at t) infix-pat.Post
+infix-pat-same-length t c = c .before .before .before .before .get-pat .kept .1 .1 .1 .1 .0
+
+-- src/lib.rt:385:9
+infix-pat-returns : (t : ℕ) → infix-pat-lts.Need-returns (
+  get-pat-below t,
+  get-pat.Post,
+  word-reads.Asked,
+  word-reads.Learnt,
+  text-of-reads.Asked,
+  text-of-reads.Learnt,
+) (infix-pat-at t) infix-pat.Post
+unfolding Pat.InfixPat
+infix-pat-returns t c = record { is = λ kinds m. then-stop (plain (c .before .before .before .before .get-pat .ensures)) (c .enum-told .given .1) }
+
+-- src/lib.rt:387:9
+infix-pat-word-requires : (t : ℕ) → infix-pat-lts.Need-word-requires (
+  get-pat-below t,
+  get-pat.Post,
+  word-reads.Asked,
+  word-reads.Learnt,
+  text-of-reads.Asked,
+  text-of-reads.Learnt,
+) (infix-pat-at t) infix-pat.Post
+infix-pat-word-requires t c κs = search needs
+
+-- src/lib.rt:388:9
+infix-pat-text-of-requires : (t : ℕ) → infix-pat-lts.Need-text-of-requires (
+  get-pat-below t,
+  get-pat.Post,
+  word-reads.Asked,
+  word-reads.Learnt,
+  text-of-reads.Asked,
+  text-of-reads.Learnt,
+) (infix-pat-at t) infix-pat.Post
+infix-pat-text-of-requires t c κs = search needs
+
+-- src/lib.rt:389:22
+infix-pat-enum-known-r3 : (t : ℕ) → infix-pat-lts.Need-enum-known-r3 (
+  get-pat-below t,
+  get-pat.Post,
+  word-reads.Asked,
+  word-reads.Learnt,
+  text-of-reads.Asked,
+  text-of-reads.Learnt,
+) (infix-pat-at t) infix-pat.Post
+infix-pat-enum-known-r3 t c = search needs
+
+-- src/lib.rt:390:9
+infix-pat-enum-told-2 : (t : ℕ) → infix-pat-lts.Need-enum-told-2 (
+  get-pat-below t,
+  get-pat.Post,
+  word-reads.Asked,
+  word-reads.Learnt,
+  text-of-reads.Asked,
+  text-of-reads.Learnt,
+) (infix-pat-at t) infix-pat.Post
+infix-pat-enum-told-2 t c = search needs
+
+-- src/lib.rt:390:9
+infix-pat-same-length-2 : (t : ℕ) → infix-pat-lts.Need-same-length-2 (
+  get-pat-below t,
+  get-pat.Post,
+  word-reads.Asked,
+  word-reads.Learnt,
+  text-of-reads.Asked,
+  text-of-reads.Learnt,
+) (infix-pat-at t) infix-pat.Post
+infix-pat-same-length-2 t c = c .before .before .before .before .text-of .kept .1 .1 .1 .1 .0 ∙ c .before .before .before .before .before .before .before .before .word .kept .1 .0 ∙ c .before .before .before .before .before .before .before .before .before .before .before .before .before .before .before .get-pat .kept .1 .1 .1 .1 .0
+
+-- src/lib.rt:390:9
+infix-pat-returns-2 : (t : ℕ) → infix-pat-lts.Need-returns-2 (
+  get-pat-below t,
+  get-pat.Post,
+  word-reads.Asked,
+  word-reads.Learnt,
+  text-of-reads.Asked,
+  text-of-reads.Learnt,
+) (infix-pat-at t) infix-pat.Post
+unfolding Pat.InfixPat
+infix-pat-returns-2 t c = record { is = λ kinds m. then-done (plain (c .before .before .before .before .before .before .before .before .before .before .before .before .before .before .before .get-pat .ensures)) (c .before .before .before .before .before .before .before .before .before .before .before .r1 .given .1) (then-sure (c .before .before .before .before .before .before .before .before .word .ensures) (then-stop (plain (c .before .before .before .before .text-of .ensures)) (c .enum-told2 .given .1))) }
+
+-- src/lib.rt:392:9
+infix-pat-word-requires-2 : (t : ℕ) → infix-pat-lts.Need-word-requires-2 (
+  get-pat-below t,
+  get-pat.Post,
+  word-reads.Asked,
+  word-reads.Learnt,
+  text-of-reads.Asked,
+  text-of-reads.Learnt,
+) (infix-pat-at t) infix-pat.Post
+infix-pat-word-requires-2 t c κs = search needs
+
+-- src/lib.rt:393:5
+infix-pat-get-pat-requires-2 : (t : ℕ) → infix-pat-lts.Need-get-pat-requires-2 (
+  get-pat-below t,
+  get-pat.Post,
+  word-reads.Asked,
+  word-reads.Learnt,
+  text-of-reads.Asked,
+  text-of-reads.Learnt,
+) (infix-pat-at t) infix-pat.Post
+infix-pat-get-pat-requires-2 t c κs = omega (arith, c .before .before .before .before .before .before .before .before .before .before .before .before .before .before .before .before .before .before .before .before .before .before .before .before .before .before .before .before .pre .0)
+
+-- src/lib.rt:372:1
+infix-pat-same-length-3 : (t : ℕ) → infix-pat-lts.Need-same-length-3 (
+  get-pat-below t,
+  get-pat.Post,
+  word-reads.Asked,
+  word-reads.Learnt,
+  text-of-reads.Asked,
+  text-of-reads.Learnt,
+) (infix-pat-at t) infix-pat.Post
+infix-pat-same-length-3 t c = c .before .before .get-pat2 .kept .1 .1 .1 .1 .0 ∙ c .before .before .before .before .before .before .word2 .kept .1 .0 ∙ c .before .before .before .before .before .before .before .before .before .before .before .before .before .text-of .kept .1 .1 .1 .1 .0 ∙ c .before .before .before .before .before .before .before .before .before .before .before .before .before .before .before .before .before .word .kept .1 .0 ∙ c .before .before .before .before .before .before .before .before .before .before .before .before .before .before .before .before .before .before .before .before .before .before .before .before .get-pat .kept .1 .1 .1 .1 .0
+
+-- src/lib.rt:372:1
+infix-pat-returns-3 : (t : ℕ) → infix-pat-lts.Need-returns-3 (
+  get-pat-below t,
+  get-pat.Post,
+  word-reads.Asked,
+  word-reads.Learnt,
+  text-of-reads.Asked,
+  text-of-reads.Learnt,
+) (infix-pat-at t) infix-pat.Post
+unfolding Pat.InfixPat
+infix-pat-returns-3 t c = record { is = λ kinds m. then-done (plain (c .before .before .before .before .before .before .before .before .before .before .before .before .before .before .before .before .before .before .before .before .before .before .before .before .get-pat .ensures)) (c .before .before .before .before .before .before .before .before .before .before .before .before .before .before .before .before .before .before .before .before .r1 .given .1) (then-sure (c .before .before .before .before .before .before .before .before .before .before .before .before .before .before .before .before .before .word .ensures) (then-done (plain (c .before .before .before .before .before .before .before .before .before .before .before .before .before .text-of .ensures)) (c .before .before .before .before .before .before .before .before .before .r3 .given .1) (then-sure (c .before .before .before .before .before .before .word2 .ensures) (plain (c .before .before .get-pat2 .ensures))))) }
+
+-- src/lib.rt:92:9
+lab-and-pat-text-of-requires : (t : ℕ) → lab-and-pat-lts.Need-text-of-requires (
+  text-of-reads.Asked,
+  text-of-reads.Learnt,
+  word-reads.Asked,
+  word-reads.Learnt,
+  get-pat-below t,
+  get-pat.Post,
+) (lab-and-pat-at t) lab-and-pat.Post
+lab-and-pat-text-of-requires t c κs = search needs
+
+-- src/lib.rt:93:22
+lab-and-pat-enum-known-r1 : (t : ℕ) → lab-and-pat-lts.Need-enum-known-r1 (
+  text-of-reads.Asked,
+  text-of-reads.Learnt,
+  word-reads.Asked,
+  word-reads.Learnt,
+  get-pat-below t,
+  get-pat.Post,
+) (lab-and-pat-at t) lab-and-pat.Post
+lab-and-pat-enum-known-r1 t c = search needs
+
+-- src/lib.rt:94:9
+lab-and-pat-enum-told : (t : ℕ) → lab-and-pat-lts.Need-enum-told (
+  text-of-reads.Asked,
+  text-of-reads.Learnt,
+  word-reads.Asked,
+  word-reads.Learnt,
+  get-pat-below t,
+  get-pat.Post,
+) (lab-and-pat-at t) lab-and-pat.Post
+lab-and-pat-enum-told t c = search needs
+
+-- src/lib.rt:94:9
+lab-and-pat-same-length : (t : ℕ) → lab-and-pat-lts.Need-same-length (
+  text-of-reads.Asked,
+  text-of-reads.Learnt,
+  word-reads.Asked,
+  word-reads.Learnt,
+  get-pat-below t,
+  get-pat.Post,
+) (lab-and-pat-at t) lab-and-pat.Post
+lab-and-pat-same-length t c = c .before .before .before .before .text-of .kept .1 .1 .1 .1 .0
+
+-- src/lib.rt:94:9
+lab-and-pat-returns : (t : ℕ) → lab-and-pat-lts.Need-returns (
+  text-of-reads.Asked,
+  text-of-reads.Learnt,
+  word-reads.Asked,
+  word-reads.Learnt,
+  get-pat-below t,
+  get-pat.Post,
+) (lab-and-pat-at t) lab-and-pat.Post
+unfolding Pat.LabAndPatPatRow
+lab-and-pat-returns t c = record { is = λ kinds m. then-stop (plain (c .before .before .before .before .text-of .ensures)) (c .enum-told .given .1) }
+
+-- src/lib.rt:96:9
+lab-and-pat-word-requires : (t : ℕ) → lab-and-pat-lts.Need-word-requires (
+  text-of-reads.Asked,
+  text-of-reads.Learnt,
+  word-reads.Asked,
+  word-reads.Learnt,
+  get-pat-below t,
+  get-pat.Post,
+) (lab-and-pat-at t) lab-and-pat.Post
+lab-and-pat-word-requires t c κs = search needs
+
+-- src/lib.rt:97:5
+lab-and-pat-get-pat-requires : (t : ℕ) → lab-and-pat-lts.Need-get-pat-requires (
+  text-of-reads.Asked,
+  text-of-reads.Learnt,
+  word-reads.Asked,
+  word-reads.Learnt,
+  get-pat-below t,
+  get-pat.Post,
+) (lab-and-pat-at t) lab-and-pat.Post
+lab-and-pat-get-pat-requires t c κs = omega (arith, c .before .before .before .before .before .before .before .before .before .before .before .before .before .before .before .before .before .pre .0)
+
+-- src/lib.rt:81:1
+lab-and-pat-same-length-2 : (t : ℕ) → lab-and-pat-lts.Need-same-length-2 (
+  text-of-reads.Asked,
+  text-of-reads.Learnt,
+  word-reads.Asked,
+  word-reads.Learnt,
+  get-pat-below t,
+  get-pat.Post,
+) (lab-and-pat-at t) lab-and-pat.Post
+lab-and-pat-same-length-2 t c = c .before .before .get-pat .kept .1 .1 .1 .1 .0 ∙ c .before .before .before .before .before .before .word .kept .1 .0 ∙ c .before .before .before .before .before .before .before .before .before .before .before .before .before .text-of .kept .1 .1 .1 .1 .0
+
+-- src/lib.rt:81:1
+lab-and-pat-returns-2 : (t : ℕ) → lab-and-pat-lts.Need-returns-2 (
+  text-of-reads.Asked,
+  text-of-reads.Learnt,
+  word-reads.Asked,
+  word-reads.Learnt,
+  get-pat-below t,
+  get-pat.Post,
+) (lab-and-pat-at t) lab-and-pat.Post
+unfolding Pat.LabAndPatPatRow
+lab-and-pat-returns-2 t c = record { is = λ kinds m. then-done (plain (c .before .before .before .before .before .before .before .before .before .before .before .before .before .text-of .ensures)) (c .before .before .before .before .before .before .before .before .before .r1 .given .1) (then-sure (c .before .before .before .before .before .before .word .ensures) (plain (c .before .before .get-pat .ensures))) }
+
+-- src/lib.rt:151:9
+lab-pat-text-of-requires : (t : ℕ) → lab-pat-lts.Need-text-of-requires (
+  text-of-reads.Asked,
+  text-of-reads.Learnt,
+  ty-annotation-reads.Asked,
+  ty-annotation-reads.Learnt,
+  as-tail-below t,
+  as-tail.Post,
+) (lab-pat-at t) lab-pat.Post
+lab-pat-text-of-requires t c κs = search needs
+
+-- src/lib.rt:152:22
+lab-pat-enum-known-r1 : (t : ℕ) → lab-pat-lts.Need-enum-known-r1 (
+  text-of-reads.Asked,
+  text-of-reads.Learnt,
+  ty-annotation-reads.Asked,
+  ty-annotation-reads.Learnt,
+  as-tail-below t,
+  as-tail.Post,
+) (lab-pat-at t) lab-pat.Post
+lab-pat-enum-known-r1 t c = search needs
+
+-- src/lib.rt:153:9
+lab-pat-enum-told : (t : ℕ) → lab-pat-lts.Need-enum-told (
+  text-of-reads.Asked,
+  text-of-reads.Learnt,
+  ty-annotation-reads.Asked,
+  ty-annotation-reads.Learnt,
+  as-tail-below t,
+  as-tail.Post,
+) (lab-pat-at t) lab-pat.Post
+lab-pat-enum-told t c = search needs
+
+-- src/lib.rt:153:9
+lab-pat-same-length : (t : ℕ) → lab-pat-lts.Need-same-length (
+  text-of-reads.Asked,
+  text-of-reads.Learnt,
+  ty-annotation-reads.Asked,
+  ty-annotation-reads.Learnt,
+  as-tail-below t,
+  as-tail.Post,
+) (lab-pat-at t) lab-pat.Post
+lab-pat-same-length t c = c .before .before .before .before .text-of .kept .1 .1 .1 .1 .0
+
+-- src/lib.rt:153:9
+lab-pat-returns : (t : ℕ) → lab-pat-lts.Need-returns (
+  text-of-reads.Asked,
+  text-of-reads.Learnt,
+  ty-annotation-reads.Asked,
+  ty-annotation-reads.Learnt,
+  as-tail-below t,
+  as-tail.Post,
+) (lab-pat-at t) lab-pat.Post
+unfolding Pat.LabPatRow
+lab-pat-returns t c = record { is = λ kinds m. then-stop (plain (c .before .before .before .before .text-of .ensures)) (c .enum-told .given .1) }
+
+-- src/lib.rt:155:9
+lab-pat-ty-annotation-requires : (t : ℕ) → lab-pat-lts.Need-ty-annotation-requires (
+  text-of-reads.Asked,
+  text-of-reads.Learnt,
+  ty-annotation-reads.Asked,
+  ty-annotation-reads.Learnt,
+  as-tail-below t,
+  as-tail.Post,
+) (lab-pat-at t) lab-pat.Post
+lab-pat-ty-annotation-requires t c κs = search needs
+
+-- src/lib.rt:156:22
+lab-pat-enum-known-r2 : (t : ℕ) → lab-pat-lts.Need-enum-known-r2 (
+  text-of-reads.Asked,
+  text-of-reads.Learnt,
+  ty-annotation-reads.Asked,
+  ty-annotation-reads.Learnt,
+  as-tail-below t,
+  as-tail.Post,
+) (lab-pat-at t) lab-pat.Post
+lab-pat-enum-known-r2 t c = search needs
+
+-- src/lib.rt:157:9
+lab-pat-enum-told-2 : (t : ℕ) → lab-pat-lts.Need-enum-told-2 (
+  text-of-reads.Asked,
+  text-of-reads.Learnt,
+  ty-annotation-reads.Asked,
+  ty-annotation-reads.Learnt,
+  as-tail-below t,
+  as-tail.Post,
+) (lab-pat-at t) lab-pat.Post
+lab-pat-enum-told-2 t c = search needs
+
+-- src/lib.rt:157:9
+lab-pat-same-length-2 : (t : ℕ) → lab-pat-lts.Need-same-length-2 (
+  text-of-reads.Asked,
+  text-of-reads.Learnt,
+  ty-annotation-reads.Asked,
+  ty-annotation-reads.Learnt,
+  as-tail-below t,
+  as-tail.Post,
+) (lab-pat-at t) lab-pat.Post
+lab-pat-same-length-2 t c = c .before .before .before .before .ty-annotation .kept .1 .1 .1 .1 .0 ∙ c .before .before .before .before .before .before .before .before .before .before .before .text-of .kept .1 .1 .1 .1 .0
+
+-- src/lib.rt:157:9
+lab-pat-returns-2 : (t : ℕ) → lab-pat-lts.Need-returns-2 (
+  text-of-reads.Asked,
+  text-of-reads.Learnt,
+  ty-annotation-reads.Asked,
+  ty-annotation-reads.Learnt,
+  as-tail-below t,
+  as-tail.Post,
+) (lab-pat-at t) lab-pat.Post
+unfolding Pat.LabPatRow
+lab-pat-returns-2 t c = record { is = λ kinds m. then-done (plain (c .before .before .before .before .before .before .before .before .before .before .before .text-of .ensures)) (c .before .before .before .before .before .before .before .r1 .given .1) (then-stop (plain (c .before .before .before .before .ty-annotation .ensures)) (c .enum-told2 .given .1)) }
+
+-- src/lib.rt:159:5
+lab-pat-as-tail-requires : (t : ℕ) → lab-pat-lts.Need-as-tail-requires (
+  text-of-reads.Asked,
+  text-of-reads.Learnt,
+  ty-annotation-reads.Asked,
+  ty-annotation-reads.Learnt,
+  as-tail-below t,
+  as-tail.Post,
+) (lab-pat-at t) lab-pat.Post
+lab-pat-as-tail-requires t c κs = omega (arith, c .before .before .before .before .before .before .before .before .before .before .before .before .before .before .before .before .before .before .before .before .pre .0)
+
+-- src/lib.rt:140:1
+lab-pat-same-length-3 : (t : ℕ) → lab-pat-lts.Need-same-length-3 (
+  text-of-reads.Asked,
+  text-of-reads.Learnt,
+  ty-annotation-reads.Asked,
+  ty-annotation-reads.Learnt,
+  as-tail-below t,
+  as-tail.Post,
+) (lab-pat-at t) lab-pat.Post
+lab-pat-same-length-3 t c = c .before .before .as-tail .kept .1 .1 .1 .1 .0 ∙ c .before .before .before .before .before .before .before .before .before .ty-annotation .kept .1 .1 .1 .1 .0 ∙ c .before .before .before .before .before .before .before .before .before .before .before .before .before .before .before .before .text-of .kept .1 .1 .1 .1 .0
+
+-- src/lib.rt:140:1
+lab-pat-returns-3 : (t : ℕ) → lab-pat-lts.Need-returns-3 (
+  text-of-reads.Asked,
+  text-of-reads.Learnt,
+  ty-annotation-reads.Asked,
+  ty-annotation-reads.Learnt,
+  as-tail-below t,
+  as-tail.Post,
+) (lab-pat-at t) lab-pat.Post
+unfolding Pat.LabPatRow
+lab-pat-returns-3 t c = record { is = λ kinds m. then-done (plain (c .before .before .before .before .before .before .before .before .before .before .before .before .before .before .before .before .text-of .ensures)) (c .before .before .before .before .before .before .before .before .before .before .before .before .r1 .given .1) (then-done (plain (c .before .before .before .before .before .before .before .before .before .ty-annotation .ensures)) (c .before .before .before .before .before .r2 .given .1) (plain (c .before .before .as-tail .ensures))) }
+
+-- src/lib.rt:339:9
+list-pat-word-requires : (t : ℕ) → list-pat-lts.Need-word-requires (
+  word-reads.Asked,
+  word-reads.Learnt,
+  pat-args-below t,
+  pat-args.Post,
+) (list-pat-at t) list-pat.Post
+list-pat-word-requires t c κs = search needs
+
+-- src/lib.rt:340:9
+list-pat-pat-args-requires : (t : ℕ) → list-pat-lts.Need-pat-args-requires (
+  word-reads.Asked,
+  word-reads.Learnt,
+  pat-args-below t,
+  pat-args.Post,
+) (list-pat-at t) list-pat.Post
+list-pat-pat-args-requires t c κs = omega (arith, c .before .before .before .before .before .before .before .before .before .before .pre .0)
+
+-- src/lib.rt:341:22
+list-pat-enum-known-r2 : (t : ℕ) → list-pat-lts.Need-enum-known-r2 (
+  word-reads.Asked,
+  word-reads.Learnt,
+  pat-args-below t,
+  pat-args.Post,
+) (list-pat-at t) list-pat.Post
+list-pat-enum-known-r2 t c = search needs
+
+-- src/lib.rt:342:9
+list-pat-enum-told : (t : ℕ) → list-pat-lts.Need-enum-told (
+  word-reads.Asked,
+  word-reads.Learnt,
+  pat-args-below t,
+  pat-args.Post,
+) (list-pat-at t) list-pat.Post
+list-pat-enum-told t c = search needs
+
+-- src/lib.rt:342:9
+list-pat-same-length : (t : ℕ) → list-pat-lts.Need-same-length (
+  word-reads.Asked,
+  word-reads.Learnt,
+  pat-args-below t,
+  pat-args.Post,
+) (list-pat-at t) list-pat.Post
+list-pat-same-length t c = c .before .before .before .before .pat-args .kept .1 .1 .1 .1 .0 ∙ c .before .before .before .before .before .before .before .before .word .kept .1 .0
+
+-- src/lib.rt:342:9
+list-pat-returns : (t : ℕ) → list-pat-lts.Need-returns (
+  word-reads.Asked,
+  word-reads.Learnt,
+  pat-args-below t,
+  pat-args.Post,
+) (list-pat-at t) list-pat.Post
+unfolding Pat.ListPat
+list-pat-returns t c = record { is = λ kinds m. then-sure (c .before .before .before .before .before .before .before .before .word .ensures) (then-stop (plain (c .before .before .before .before .pat-args .ensures)) (c .enum-told .given .1)) }
+
+-- src/lib.rt:344:18
+list-pat-word-requires-2 : (t : ℕ) → list-pat-lts.Need-word-requires-2 (
+  word-reads.Asked,
+  word-reads.Learnt,
+  pat-args-below t,
+  pat-args.Post,
+) (list-pat-at t) list-pat.Post
+list-pat-word-requires-2 t c κs = search needs
+
+-- src/lib.rt:328:1
+list-pat-same-length-2 : (t : ℕ) → list-pat-lts.Need-same-length-2 (
+  word-reads.Asked,
+  word-reads.Learnt,
+  pat-args-below t,
+  pat-args.Post,
+) (list-pat-at t) list-pat.Post
+list-pat-same-length-2 t c = c .before .before .word2 .kept .1 .0 ∙ c .before .before .before .before .before .before .before .before .before .pat-args .kept .1 .1 .1 .1 .0 ∙ c .before .before .before .before .before .before .before .before .before .before .before .before .before .word .kept .1 .0
+
+-- src/lib.rt:328:1
+list-pat-returns-2 : (t : ℕ) → list-pat-lts.Need-returns-2 (
+  word-reads.Asked,
+  word-reads.Learnt,
+  pat-args-below t,
+  pat-args.Post,
+) (list-pat-at t) list-pat.Post
+unfolding Pat.ListPat
+list-pat-returns-2 t c = record { is = λ kinds m. then-sure (c .before .before .before .before .before .before .before .before .before .before .before .before .before .word .ensures) (then-done (plain (c .before .before .before .before .before .before .before .before .before .pat-args .ensures)) (c .before .before .before .before .before .r2 .given .1) (last-sure (c .before .before .word2 .ensures))) }
+
+-- src/lib.rt:452:9
+or-pat-get-pat-requires : (t : ℕ) → or-pat-lts.Need-get-pat-requires (
+  get-pat-below t,
+  get-pat.Post,
+  word-reads.Asked,
+  word-reads.Learnt,
+) (or-pat-at t) or-pat.Post
+or-pat-get-pat-requires t c κs = omega (arith, c .before .before .before .before .before .before .pre .0)
+
+-- src/lib.rt:453:22
+or-pat-enum-known-r1 : (t : ℕ) → or-pat-lts.Need-enum-known-r1 (
+  get-pat-below t,
+  get-pat.Post,
+  word-reads.Asked,
+  word-reads.Learnt,
+) (or-pat-at t) or-pat.Post
+or-pat-enum-known-r1 t c = search needs
+
+-- src/lib.rt:454:9
+or-pat-enum-told : (t : ℕ) → or-pat-lts.Need-enum-told (
+  get-pat-below t,
+  get-pat.Post,
+  word-reads.Asked,
+  word-reads.Learnt,
+) (or-pat-at t) or-pat.Post
+or-pat-enum-told t c = search needs
+
+-- src/lib.rt:454:9
+or-pat-same-length : (t : ℕ) → or-pat-lts.Need-same-length (
+  get-pat-below t,
+  get-pat.Post,
+  word-reads.Asked,
+  word-reads.Learnt,
+) (or-pat-at t) or-pat.Post
+or-pat-same-length t c = c .before .before .before .before .get-pat .kept .1 .1 .1 .1 .0
+
+-- src/lib.rt:454:9
+or-pat-returns : (t : ℕ) → or-pat-lts.Need-returns (
+  get-pat-below t,
+  get-pat.Post,
+  word-reads.Asked,
+  word-reads.Learnt,
+) (or-pat-at t) or-pat.Post
+unfolding Pat.OrPat
+or-pat-returns t c = record { is = λ kinds m. then-stop (plain (c .before .before .before .before .get-pat .ensures)) (c .enum-told .given .1) }
+
+-- src/lib.rt:456:9
+or-pat-word-requires : (t : ℕ) → or-pat-lts.Need-word-requires (
+  get-pat-below t,
+  get-pat.Post,
+  word-reads.Asked,
+  word-reads.Learnt,
+) (or-pat-at t) or-pat.Post
+or-pat-word-requires t c κs = search needs
+
+-- src/lib.rt:457:5
+or-pat-get-pat-requires-2 : (t : ℕ) → or-pat-lts.Need-get-pat-requires-2 (
+  get-pat-below t,
+  get-pat.Post,
+  word-reads.Asked,
+  word-reads.Learnt,
+) (or-pat-at t) or-pat.Post
+or-pat-get-pat-requires-2 t c κs = omega (arith, c .before .before .before .before .before .before .before .before .before .before .before .before .before .before .before .before .before .pre .0)
+
+-- src/lib.rt:441:1
+or-pat-same-length-2 : (t : ℕ) → or-pat-lts.Need-same-length-2 (
+  get-pat-below t,
+  get-pat.Post,
+  word-reads.Asked,
+  word-reads.Learnt,
+) (or-pat-at t) or-pat.Post
+or-pat-same-length-2 t c = c .before .before .get-pat2 .kept .1 .1 .1 .1 .0 ∙ c .before .before .before .before .before .before .word .kept .1 .0 ∙ c .before .before .before .before .before .before .before .before .before .before .before .before .before .get-pat .kept .1 .1 .1 .1 .0
+
+-- src/lib.rt:441:1
+or-pat-returns-2 : (t : ℕ) → or-pat-lts.Need-returns-2 (
+  get-pat-below t,
+  get-pat.Post,
+  word-reads.Asked,
+  word-reads.Learnt,
+) (or-pat-at t) or-pat.Post
+unfolding Pat.OrPat
+or-pat-returns-2 t c = record { is = λ kinds m. then-done (plain (c .before .before .before .before .before .before .before .before .before .before .before .before .before .get-pat .ensures)) (c .before .before .before .before .before .before .before .before .before .r1 .given .1) (then-sure (c .before .before .before .before .before .before .word .ensures) (plain (c .before .before .get-pat2 .ensures))) }
+
+-- src/lib.rt:266:9
+paren-pat-word-requires : (t : ℕ) → paren-pat-lts.Need-word-requires (
+  word-reads.Asked,
+  word-reads.Learnt,
+  get-pat-below t,
+  get-pat.Post,
+) (paren-pat-at t) paren-pat.Post
+paren-pat-word-requires t c κs = search needs
+
+-- src/lib.rt:267:9
+paren-pat-get-pat-requires : (t : ℕ) → paren-pat-lts.Need-get-pat-requires (
+  word-reads.Asked,
+  word-reads.Learnt,
+  get-pat-below t,
+  get-pat.Post,
+) (paren-pat-at t) paren-pat.Post
+paren-pat-get-pat-requires t c κs = omega (arith, c .before .before .before .before .before .before .before .before .before .before .pre .0)
+
+-- src/lib.rt:268:22
+paren-pat-enum-known-r2 : (t : ℕ) → paren-pat-lts.Need-enum-known-r2 (
+  word-reads.Asked,
+  word-reads.Learnt,
+  get-pat-below t,
+  get-pat.Post,
+) (paren-pat-at t) paren-pat.Post
+paren-pat-enum-known-r2 t c = search needs
+
+-- src/lib.rt:269:9
+paren-pat-enum-told : (t : ℕ) → paren-pat-lts.Need-enum-told (
+  word-reads.Asked,
+  word-reads.Learnt,
+  get-pat-below t,
+  get-pat.Post,
+) (paren-pat-at t) paren-pat.Post
+paren-pat-enum-told t c = search needs
+
+-- src/lib.rt:269:9
+paren-pat-same-length : (t : ℕ) → paren-pat-lts.Need-same-length (
+  word-reads.Asked,
+  word-reads.Learnt,
+  get-pat-below t,
+  get-pat.Post,
+) (paren-pat-at t) paren-pat.Post
+paren-pat-same-length t c = c .before .before .before .before .get-pat .kept .1 .1 .1 .1 .0 ∙ c .before .before .before .before .before .before .before .before .word .kept .1 .0
+
+-- src/lib.rt:269:9
+paren-pat-returns : (t : ℕ) → paren-pat-lts.Need-returns (
+  word-reads.Asked,
+  word-reads.Learnt,
+  get-pat-below t,
+  get-pat.Post,
+) (paren-pat-at t) paren-pat.Post
+unfolding Pat.ParenPat
+paren-pat-returns t c = record { is = λ kinds m. then-sure (c .before .before .before .before .before .before .before .before .word .ensures) (then-stop (plain (c .before .before .before .before .get-pat .ensures)) (c .enum-told .given .1)) }
+
+-- src/lib.rt:271:18
+paren-pat-word-requires-2 : (t : ℕ) → paren-pat-lts.Need-word-requires-2 (
+  word-reads.Asked,
+  word-reads.Learnt,
+  get-pat-below t,
+  get-pat.Post,
+) (paren-pat-at t) paren-pat.Post
+paren-pat-word-requires-2 t c κs = search needs
+
+-- src/lib.rt:255:1
+paren-pat-same-length-2 : (t : ℕ) → paren-pat-lts.Need-same-length-2 (
+  word-reads.Asked,
+  word-reads.Learnt,
+  get-pat-below t,
+  get-pat.Post,
+) (paren-pat-at t) paren-pat.Post
+paren-pat-same-length-2 t c = c .before .before .word2 .kept .1 .0 ∙ c .before .before .before .before .before .before .before .before .before .get-pat .kept .1 .1 .1 .1 .0 ∙ c .before .before .before .before .before .before .before .before .before .before .before .before .before .word .kept .1 .0
+
+-- src/lib.rt:255:1
+paren-pat-returns-2 : (t : ℕ) → paren-pat-lts.Need-returns-2 (
+  word-reads.Asked,
+  word-reads.Learnt,
+  get-pat-below t,
+  get-pat.Post,
+) (paren-pat-at t) paren-pat.Post
+unfolding Pat.ParenPat
+paren-pat-returns-2 t c = record { is = λ kinds m. then-sure (c .before .before .before .before .before .before .before .before .before .before .before .before .before .word .ensures) (then-done (plain (c .before .before .before .before .before .before .before .before .before .get-pat .ensures)) (c .before .before .before .before .before .r2 .given .1) (last-sure (c .before .before .word2 .ensures))) }
+
+abbrev pat-args-Inv-loop : pat-args-lts.InvT-loop
+pat-args-Inv-loop text rec starts lens out₀ cfg n s₀ i₀ out s i =
+    PlainTurn text rec starts lens (cfg .tab) (from (Layout.word ", ") (Layout.group (walks (cfg .left) .get-pat))) n s₀ out₀ i s out
+
+abbrev pat-args-μ-loop : pat-args-lts.MeasureT-loop
+pat-args-μ-loop text rec starts lens out₀ cfg n s₀ i₀ out s i = n - i
+
+-- src/lib.rt:286:27
+pat-args-list-requires : (t : ℕ) → pat-args-lts.Need-list-requires (
+  list-reads.Asked,
+  list-reads.Learnt,
+  stop-reads.Asked,
+  stop-reads.Learnt,
+  between-reads.Asked,
+  between-reads.Learnt,
+  group-reads.Asked,
+  group-reads.Learnt,
+  get-pat-below t,
+  get-pat.Post,
+) (pat-args-at t) pat-args.Post pat-args-Inv-loop pat-args-μ-loop
+pat-args-list-requires t c κs = search needs
+
+-- src/lib.rt:286:18
+pat-args-enum-known-n : (t : ℕ) → pat-args-lts.Need-enum-known-n (
+  list-reads.Asked,
+  list-reads.Learnt,
+  stop-reads.Asked,
+  stop-reads.Learnt,
+  between-reads.Asked,
+  between-reads.Learnt,
+  group-reads.Asked,
+  group-reads.Learnt,
+  get-pat-below t,
+  get-pat.Post,
+) (pat-args-at t) pat-args.Post pat-args-Inv-loop pat-args-μ-loop
+pat-args-enum-known-n t c = search needs
+
+-- src/lib.rt:287:9
+pat-args-enum-told : (t : ℕ) → pat-args-lts.Need-enum-told (
+  list-reads.Asked,
+  list-reads.Learnt,
+  stop-reads.Asked,
+  stop-reads.Learnt,
+  between-reads.Asked,
+  between-reads.Learnt,
+  group-reads.Asked,
+  group-reads.Learnt,
+  get-pat-below t,
+  get-pat.Post,
+) (pat-args-at t) pat-args.Post pat-args-Inv-loop pat-args-μ-loop
+pat-args-enum-told t c = search needs
+
+-- src/lib.rt:287:9
+pat-args-stop-requires : (t : ℕ) → pat-args-lts.Need-stop-requires (
+  list-reads.Asked,
+  list-reads.Learnt,
+  stop-reads.Asked,
+  stop-reads.Learnt,
+  between-reads.Asked,
+  between-reads.Learnt,
+  group-reads.Asked,
+  group-reads.Learnt,
+  get-pat-below t,
+  get-pat.Post,
+) (pat-args-at t) pat-args.Post pat-args-Inv-loop pat-args-μ-loop
+pat-args-stop-requires t c κs = search needs
+
+-- src/lib.rt:287:9
+pat-args-returns : (t : ℕ) → pat-args-lts.Need-returns (
+  list-reads.Asked,
+  list-reads.Learnt,
+  stop-reads.Asked,
+  stop-reads.Learnt,
+  between-reads.Asked,
+  between-reads.Learnt,
+  group-reads.Asked,
+  group-reads.Learnt,
+  get-pat-below t,
+  get-pat.Post,
+) (pat-args-at t) pat-args.Post pat-args-Inv-loop pat-args-μ-loop
+unfolding Pat.pat-args Helpers.sep
+pat-args-returns t c = record { is = λ kinds m. list-not (c .stop .ensures) (c .before .before .before .list .ensures) (c .before .enum-told .given .1) }
+
+-- src/lib.rt:291:5
+pat-args-loop-holds : (t : ℕ) → pat-args-lts.Need-loop-holds (
+  list-reads.Asked,
+  list-reads.Learnt,
+  stop-reads.Asked,
+  stop-reads.Learnt,
+  between-reads.Asked,
+  between-reads.Learnt,
+  group-reads.Asked,
+  group-reads.Learnt,
+  get-pat-below t,
+  get-pat.Post,
+) (pat-args-at t) pat-args.Post pat-args-Inv-loop pat-args-μ-loop
+pat-args-loop-holds t c = (omega arith, λ kinds m r o h. h, refl)
+
+-- src/lib.rt:292:13
+pat-args-between-requires : (t : ℕ) → pat-args-lts.Need-between-requires (
+  list-reads.Asked,
+  list-reads.Learnt,
+  stop-reads.Asked,
+  stop-reads.Learnt,
+  between-reads.Asked,
+  between-reads.Learnt,
+  group-reads.Asked,
+  group-reads.Learnt,
+  get-pat-below t,
+  get-pat.Post,
+) (pat-args-at t) pat-args.Post pat-args-Inv-loop pat-args-μ-loop
+pat-args-between-requires t c κs = search needs
+
+-- src/lib.rt:293:13
+pat-args-group-requires : (t : ℕ) → pat-args-lts.Need-group-requires (
+  list-reads.Asked,
+  list-reads.Learnt,
+  stop-reads.Asked,
+  stop-reads.Learnt,
+  between-reads.Asked,
+  between-reads.Learnt,
+  group-reads.Asked,
+  group-reads.Learnt,
+  get-pat-below t,
+  get-pat.Post,
+) (pat-args-at t) pat-args.Post pat-args-Inv-loop pat-args-μ-loop
+pat-args-group-requires t c κs = search needs
+
+-- src/lib.rt:294:26
+pat-args-enum-known-r2 : (t : ℕ) → pat-args-lts.Need-enum-known-r2 (
+  list-reads.Asked,
+  list-reads.Learnt,
+  stop-reads.Asked,
+  stop-reads.Learnt,
+  between-reads.Asked,
+  between-reads.Learnt,
+  group-reads.Asked,
+  group-reads.Learnt,
+  get-pat-below t,
+  get-pat.Post,
+) (pat-args-at t) pat-args.Post pat-args-Inv-loop pat-args-μ-loop
+pat-args-enum-known-r2 t c = search needs
+
+-- src/lib.rt:295:13
+pat-args-enum-told-2 : (t : ℕ) → pat-args-lts.Need-enum-told-2 (
+  list-reads.Asked,
+  list-reads.Learnt,
+  stop-reads.Asked,
+  stop-reads.Learnt,
+  between-reads.Asked,
+  between-reads.Learnt,
+  group-reads.Asked,
+  group-reads.Learnt,
+  get-pat-below t,
+  get-pat.Post,
+) (pat-args-at t) pat-args.Post pat-args-Inv-loop pat-args-μ-loop
+pat-args-enum-told-2 t c = search needs
+
+-- src/lib.rt:295:13
+pat-args-same-length : (t : ℕ) → pat-args-lts.Need-same-length (
+  list-reads.Asked,
+  list-reads.Learnt,
+  stop-reads.Asked,
+  stop-reads.Learnt,
+  between-reads.Asked,
+  between-reads.Learnt,
+  group-reads.Asked,
+  group-reads.Learnt,
+  get-pat-below t,
+  get-pat.Post,
+) (pat-args-at t) pat-args.Post pat-args-Inv-loop pat-args-μ-loop
+pat-args-same-length t c = c .before .before .before .before .before .between .kept .1 .0 ∙ c .before .before .before .before .before .before .before .before .loop .inv .2
+
+-- src/lib.rt:295:13
+pat-args-returns-2 : (t : ℕ) → pat-args-lts.Need-returns-2 (
+  list-reads.Asked,
+  list-reads.Learnt,
+  stop-reads.Asked,
+  stop-reads.Learnt,
+  between-reads.Asked,
+  between-reads.Learnt,
+  group-reads.Asked,
+  group-reads.Learnt,
+  get-pat-below t,
+  get-pat.Post,
+) (pat-args-at t) pat-args.Post pat-args-Inv-loop pat-args-μ-loop
+unfolding Pat.pat-args Helpers.sep
+pat-args-returns-2 t c = record { is = λ kinds m. by-same (list-is (c .before .before .before .before .before .before .before .before .before .before .before .before .list .ensures) (c .before .before .before .before .before .before .before .before .before .before .n .given .1)) (by-same (items-all _ _ _) (c .before .before .before .before .before .before .before .before .loop .inv .1 kinds m _ _ (from-more _ _ (c .before .before .before .before .before .before .before .loop-test .taken) (then-sure (c .before .before .before .before .before .between .ensures) (then-stop (group-not (c .before .before .group .ensures) (c .enum-told2 .given .1)) (c .enum-told2 .given .1)))))) }
+
+-- src/lib.rt:297:13
+pat-args-get-pat-requires : (t : ℕ) → pat-args-lts.Need-get-pat-requires (
+  list-reads.Asked,
+  list-reads.Learnt,
+  stop-reads.Asked,
+  stop-reads.Learnt,
+  between-reads.Asked,
+  between-reads.Learnt,
+  group-reads.Asked,
+  group-reads.Learnt,
+  get-pat-below t,
+  get-pat.Post,
+) (pat-args-at t) pat-args.Post pat-args-Inv-loop pat-args-μ-loop
+pat-args-get-pat-requires t c κs = omega (arith, c .before .before .before .before .before .before .before .before .before .before .before .before .before .before .before .before .before .before .before .before .pre .0)
+
+-- src/lib.rt:298:26
+pat-args-enum-known-r3 : (t : ℕ) → pat-args-lts.Need-enum-known-r3 (
+  list-reads.Asked,
+  list-reads.Learnt,
+  stop-reads.Asked,
+  stop-reads.Learnt,
+  between-reads.Asked,
+  between-reads.Learnt,
+  group-reads.Asked,
+  group-reads.Learnt,
+  get-pat-below t,
+  get-pat.Post,
+) (pat-args-at t) pat-args.Post pat-args-Inv-loop pat-args-μ-loop
+pat-args-enum-known-r3 t c = search needs
+
+-- src/lib.rt:299:13
+pat-args-enum-told-3 : (t : ℕ) → pat-args-lts.Need-enum-told-3 (
+  list-reads.Asked,
+  list-reads.Learnt,
+  stop-reads.Asked,
+  stop-reads.Learnt,
+  between-reads.Asked,
+  between-reads.Learnt,
+  group-reads.Asked,
+  group-reads.Learnt,
+  get-pat-below t,
+  get-pat.Post,
+) (pat-args-at t) pat-args.Post pat-args-Inv-loop pat-args-μ-loop
+pat-args-enum-told-3 t c = search needs
+
+-- src/lib.rt:299:13
+pat-args-same-length-2 : (t : ℕ) → pat-args-lts.Need-same-length-2 (
+  list-reads.Asked,
+  list-reads.Learnt,
+  stop-reads.Asked,
+  stop-reads.Learnt,
+  between-reads.Asked,
+  between-reads.Learnt,
+  group-reads.Asked,
+  group-reads.Learnt,
+  get-pat-below t,
+  get-pat.Post,
+) (pat-args-at t) pat-args.Post pat-args-Inv-loop pat-args-μ-loop
+pat-args-same-length-2 t c = c .before .before .before .before .get-pat .kept .1 .1 .1 .1 .0 ∙ c .before .before .before .before .before .before .before .before .before .before .before .before .between .kept .1 .0 ∙ c .before .before .before .before .before .before .before .before .before .before .before .before .before .before .before .loop .inv .2
+
+-- src/lib.rt:299:13
+pat-args-returns-3 : (t : ℕ) → pat-args-lts.Need-returns-3 (
+  list-reads.Asked,
+  list-reads.Learnt,
+  stop-reads.Asked,
+  stop-reads.Learnt,
+  between-reads.Asked,
+  between-reads.Learnt,
+  group-reads.Asked,
+  group-reads.Learnt,
+  get-pat-below t,
+  get-pat.Post,
+) (pat-args-at t) pat-args.Post pat-args-Inv-loop pat-args-μ-loop
+unfolding Pat.pat-args Helpers.sep
+pat-args-returns-3 t c = record { is = λ kinds m. by-same (list-is (c .before .before .before .before .before .before .before .before .before .before .before .before .before .before .before .before .before .before .before .list .ensures) (c .before .before .before .before .before .before .before .before .before .before .before .before .before .before .before .before .before .n .given .1)) (by-same (items-all _ _ _) (c .before .before .before .before .before .before .before .before .before .before .before .before .before .before .before .loop .inv .1 kinds m _ _ (from-more _ _ (c .before .before .before .before .before .before .before .before .before .before .before .before .before .before .loop-test .taken) (then-sure (c .before .before .before .before .before .before .before .before .before .before .before .before .between .ensures) (by-same (first-same (group-is (c .before .before .before .before .before .before .before .before .before .group .ensures) (c .before .before .before .before .before .before .before .r2 .given .1))) (then-stop (plain (c .before .before .before .before .get-pat .ensures)) (c .enum-told3 .given .1))))))) }
+
+-- src/lib.rt:302:9
+pat-args-add-i : (t : ℕ) → pat-args-lts.Need-add-i (
+  list-reads.Asked,
+  list-reads.Learnt,
+  stop-reads.Asked,
+  stop-reads.Learnt,
+  between-reads.Asked,
+  between-reads.Learnt,
+  group-reads.Asked,
+  group-reads.Learnt,
+  get-pat-below t,
+  get-pat.Post,
+) (pat-args-at t) pat-args.Post pat-args-Inv-loop pat-args-μ-loop
+pat-args-add-i t c = omega (arith, c .before .before .before .before .before .before .before .before .before .before .before .before .before .before .before .loop-test .taken, c .before .before .before .before .before .before .before .before .before .before .before .before .before .before .before .before .before .known-told)
+
+-- src/lib.rt:291:5
+pat-args-loop-less : (t : ℕ) → pat-args-lts.Need-loop-less (
+  list-reads.Asked,
+  list-reads.Learnt,
+  stop-reads.Asked,
+  stop-reads.Learnt,
+  between-reads.Asked,
+  between-reads.Learnt,
+  group-reads.Asked,
+  group-reads.Learnt,
+  get-pat-below t,
+  get-pat.Post,
+) (pat-args-at t) pat-args.Post pat-args-Inv-loop pat-args-μ-loop
+pat-args-loop-less t c = omega arith
+
+-- src/lib.rt:291:5
+pat-args-loop-again : (t : ℕ) → pat-args-lts.Need-loop-again (
+  list-reads.Asked,
+  list-reads.Learnt,
+  stop-reads.Asked,
+  stop-reads.Learnt,
+  between-reads.Asked,
+  between-reads.Learnt,
+  group-reads.Asked,
+  group-reads.Learnt,
+  get-pat-below t,
+  get-pat.Post,
+) (pat-args-at t) pat-args.Post pat-args-Inv-loop pat-args-μ-loop
+unfolding Pat.pat-args Helpers.sep
+pat-args-loop-again t c = (omega (arith, c .before .before .before .before .before .before .before .before .before .before .before .before .before .before .before .before .loop .inv .0), λ kinds m r o h. c .before .before .before .before .before .before .before .before .before .before .before .before .before .before .before .before .loop .inv .1 kinds m r o (from-more _ _ (c .before .before .before .before .before .before .before .before .before .before .before .before .before .before .before .loop-test .taken) (then-sure (c .before .before .before .before .before .before .before .before .before .before .before .before .before .between .ensures) (by-same (first-same (group-is (c .before .before .before .before .before .before .before .before .before .before .group .ensures) (c .before .before .before .before .before .before .before .before .r2 .given .1))) (then-done (plain (c .before .before .before .before .before .get-pat .ensures)) (c .before .r3 .given .1) h)))), c .before .before .before .before .before .get-pat .kept .1 .1 .1 .1 .0 ∙ c .before .before .before .before .before .before .before .before .before .before .before .before .before .between .kept .1 .0 ∙ c .before .before .before .before .before .before .before .before .before .before .before .before .before .before .before .before .loop .inv .2)
+
+-- src/lib.rt:275:1
+pat-args-same-length-3 : (t : ℕ) → pat-args-lts.Need-same-length-3 (
+  list-reads.Asked,
+  list-reads.Learnt,
+  stop-reads.Asked,
+  stop-reads.Learnt,
+  between-reads.Asked,
+  between-reads.Learnt,
+  group-reads.Asked,
+  group-reads.Learnt,
+  get-pat-below t,
+  get-pat.Post,
+) (pat-args-at t) pat-args.Post pat-args-Inv-loop pat-args-μ-loop
+pat-args-same-length-3 t c = c .before .loop .inv .2
+
+-- src/lib.rt:275:1
+pat-args-returns-4 : (t : ℕ) → pat-args-lts.Need-returns-4 (
+  list-reads.Asked,
+  list-reads.Learnt,
+  stop-reads.Asked,
+  stop-reads.Learnt,
+  between-reads.Asked,
+  between-reads.Learnt,
+  group-reads.Asked,
+  group-reads.Learnt,
+  get-pat-below t,
+  get-pat.Post,
+) (pat-args-at t) pat-args.Post pat-args-Inv-loop pat-args-μ-loop
+unfolding Pat.pat-args Helpers.sep
+pat-args-returns-4 t c = record { is = λ kinds m. by-same (list-is (c .before .before .before .before .before .list .ensures) (c .before .before .before .n .given .1)) (by-same (items-all _ _ _) (c .before .loop .inv .1 kinds m _ _ (from-none _ _ (c .loop-test .left)))) }
+
+-- src/lib.rt:195:9
+pat-row-group-requires : (t : ℕ) → pat-row-lts.Need-group-requires (
+  group-reads.Asked,
+  group-reads.Learnt,
+  choice-reads.Asked,
+  choice-reads.Learnt,
+  stop-reads.Asked,
+  stop-reads.Learnt,
+  pat-row-inner-below t,
+  pat-row-inner.Post,
+) (pat-row-at t) pat-row.Post
+pat-row-group-requires t c κs = search needs
+
+-- src/lib.rt:196:22
+pat-row-enum-known-r1 : (t : ℕ) → pat-row-lts.Need-enum-known-r1 (
+  group-reads.Asked,
+  group-reads.Learnt,
+  choice-reads.Asked,
+  choice-reads.Learnt,
+  stop-reads.Asked,
+  stop-reads.Learnt,
+  pat-row-inner-below t,
+  pat-row-inner.Post,
+) (pat-row-at t) pat-row.Post
+pat-row-enum-known-r1 t c = search needs
+
+-- src/lib.rt:197:9
+pat-row-enum-told : (t : ℕ) → pat-row-lts.Need-enum-told (
+  group-reads.Asked,
+  group-reads.Learnt,
+  choice-reads.Asked,
+  choice-reads.Learnt,
+  stop-reads.Asked,
+  stop-reads.Learnt,
+  pat-row-inner-below t,
+  pat-row-inner.Post,
+) (pat-row-at t) pat-row.Post
+pat-row-enum-told t c = search needs
+
+-- src/lib.rt:197:9
+pat-row-returns : (t : ℕ) → pat-row-lts.Need-returns (
+  group-reads.Asked,
+  group-reads.Learnt,
+  choice-reads.Asked,
+  choice-reads.Learnt,
+  stop-reads.Asked,
+  stop-reads.Learnt,
+  pat-row-inner-below t,
+  pat-row-inner.Post,
+) (pat-row-at t) pat-row.Post
+unfolding Pat.pat-row
+pat-row-returns t c = record { is = λ kinds m. group-not (c .before .before .group .ensures) (c .enum-told .given .1) }
+
+-- src/lib.rt:199:27
+pat-row-choice-requires : (t : ℕ) → pat-row-lts.Need-choice-requires (
+  group-reads.Asked,
+  group-reads.Learnt,
+  choice-reads.Asked,
+  choice-reads.Learnt,
+  stop-reads.Asked,
+  stop-reads.Learnt,
+  pat-row-inner-below t,
+  pat-row-inner.Post,
+) (pat-row-at t) pat-row.Post
+pat-row-choice-requires t c κs = search needs
+
+-- src/lib.rt:199:18
+pat-row-enum-known-k : (t : ℕ) → pat-row-lts.Need-enum-known-k (
+  group-reads.Asked,
+  group-reads.Learnt,
+  choice-reads.Asked,
+  choice-reads.Learnt,
+  stop-reads.Asked,
+  stop-reads.Learnt,
+  pat-row-inner-below t,
+  pat-row-inner.Post,
+) (pat-row-at t) pat-row.Post
+pat-row-enum-known-k t c = search needs
+
+-- src/lib.rt:200:9
+pat-row-enum-told-2 : (t : ℕ) → pat-row-lts.Need-enum-told-2 (
+  group-reads.Asked,
+  group-reads.Learnt,
+  choice-reads.Asked,
+  choice-reads.Learnt,
+  stop-reads.Asked,
+  stop-reads.Learnt,
+  pat-row-inner-below t,
+  pat-row-inner.Post,
+) (pat-row-at t) pat-row.Post
+pat-row-enum-told-2 t c = search needs
+
+-- src/lib.rt:200:9
+pat-row-stop-requires : (t : ℕ) → pat-row-lts.Need-stop-requires (
+  group-reads.Asked,
+  group-reads.Learnt,
+  choice-reads.Asked,
+  choice-reads.Learnt,
+  stop-reads.Asked,
+  stop-reads.Learnt,
+  pat-row-inner-below t,
+  pat-row-inner.Post,
+) (pat-row-at t) pat-row.Post
+pat-row-stop-requires t c κs = search needs
+
+-- src/lib.rt:200:9
+pat-row-returns-2 : (t : ℕ) → pat-row-lts.Need-returns-2 (
+  group-reads.Asked,
+  group-reads.Learnt,
+  choice-reads.Asked,
+  choice-reads.Learnt,
+  stop-reads.Asked,
+  stop-reads.Learnt,
+  pat-row-inner-below t,
+  pat-row-inner.Post,
+) (pat-row-at t) pat-row.Post
+unfolding Pat.pat-row
+pat-row-returns-2 t c = record { is = λ kinds m. by-same (group-is (c .before .before .before .before .before .before .before .group .ensures) (c .before .before .before .before .before .r1 .given .1)) (choice-not (c .stop .ensures) (c .before .before .before .choice .ensures) (c .before .enum-told2 .given .1)) }
+
+-- src/lib.rt:202:5
+pat-row-pat-row-inner-requires : (t : ℕ) → pat-row-lts.Need-pat-row-inner-requires (
+  group-reads.Asked,
+  group-reads.Learnt,
+  choice-reads.Asked,
+  choice-reads.Learnt,
+  stop-reads.Asked,
+  stop-reads.Learnt,
+  pat-row-inner-below t,
+  pat-row-inner.Post,
+) (pat-row-at t) pat-row.Post
+pat-row-pat-row-inner-requires t c κs = omega (arith, c .before .before .before .before .before .before .before .before .before .before .before .before .before .before .pre .0)
+
+-- src/lib.rt:184:1
+pat-row-same-length : (t : ℕ) → pat-row-lts.Need-same-length (
+  group-reads.Asked,
+  group-reads.Learnt,
+  choice-reads.Asked,
+  choice-reads.Learnt,
+  stop-reads.Asked,
+  stop-reads.Learnt,
+  pat-row-inner-below t,
+  pat-row-inner.Post,
+) (pat-row-at t) pat-row.Post
+pat-row-same-length t c = c .before .before .pat-row-inner .kept .1 .1 .1 .1 .0
+
+-- src/lib.rt:184:1
+pat-row-returns-3 : (t : ℕ) → pat-row-lts.Need-returns-3 (
+  group-reads.Asked,
+  group-reads.Learnt,
+  choice-reads.Asked,
+  choice-reads.Learnt,
+  stop-reads.Asked,
+  stop-reads.Learnt,
+  pat-row-inner-below t,
+  pat-row-inner.Post,
+) (pat-row-at t) pat-row.Post
+unfolding Pat.pat-row
+pat-row-returns-3 t c = record { is = λ kinds m. by-same (group-is (c .before .before .before .before .before .before .before .before .before .before .before .group .ensures) (c .before .before .before .before .before .before .before .before .before .r1 .given .1)) (by-same (choice-is (c .before .before .before .before .before .before .before .choice .ensures) (c .before .before .before .before .before .k .given .1)) (plain (c .before .before .pat-row-inner .ensures))) }
+
+-- src/lib.rt:176:27
+pat-row-inner-word-requires : (t : ℕ) → pat-row-inner-lts.Need-word-requires (
+  word-reads.Asked,
+  word-reads.Learnt,
+  lab-and-pat-below t,
+  lab-and-pat.Post,
+  lab-pat-below t,
+  lab-pat.Post,
+  stop-reads.Asked,
+  stop-reads.Learnt,
+) (pat-row-inner-at t) pat-row-inner.Post
+pat-row-inner-word-requires t c κs = search needs
+
+-- src/lib.rt:177:14
+pat-row-inner-lab-and-pat-requires : (t : ℕ) → pat-row-inner-lts.Need-lab-and-pat-requires (
+  word-reads.Asked,
+  word-reads.Learnt,
+  lab-and-pat-below t,
+  lab-and-pat.Post,
+  lab-pat-below t,
+  lab-pat.Post,
+  stop-reads.Asked,
+  stop-reads.Learnt,
+) (pat-row-inner-at t) pat-row-inner.Post
+pat-row-inner-lab-and-pat-requires t c κs = omega (arith, c .before .before .before .before .before .before .before .pre .0)
+
+-- src/lib.rt:178:14
+pat-row-inner-lab-pat-requires : (t : ℕ) → pat-row-inner-lts.Need-lab-pat-requires (
+  word-reads.Asked,
+  word-reads.Learnt,
+  lab-and-pat-below t,
+  lab-and-pat.Post,
+  lab-pat-below t,
+  lab-pat.Post,
+  stop-reads.Asked,
+  stop-reads.Learnt,
+) (pat-row-inner-at t) pat-row-inner.Post
+pat-row-inner-lab-pat-requires t c κs = omega (arith, c .before .before .before .before .before .before .before .pre .0)
+
+-- src/lib.rt:179:14
+pat-row-inner-stop-requires : (t : ℕ) → pat-row-inner-lts.Need-stop-requires (
+  word-reads.Asked,
+  word-reads.Learnt,
+  lab-and-pat-below t,
+  lab-and-pat.Post,
+  lab-pat-below t,
+  lab-pat.Post,
+  stop-reads.Asked,
+  stop-reads.Learnt,
+) (pat-row-inner-at t) pat-row-inner.Post
+pat-row-inner-stop-requires t c κs = search needs
+
+-- src/lib.rt:163:1
+pat-row-inner-same-length : (t : ℕ) → pat-row-inner-lts.Need-same-length (
+  word-reads.Asked,
+  word-reads.Learnt,
+  lab-and-pat-below t,
+  lab-and-pat.Post,
+  lab-pat-below t,
+  lab-pat.Post,
+  stop-reads.Asked,
+  stop-reads.Learnt,
+) (pat-row-inner-at t) pat-row-inner.Post
+pat-row-inner-same-length t c = c .before .before .word .kept .1 .0
+
+-- src/lib.rt:163:1
+pat-row-inner-returns : (t : ℕ) → pat-row-inner-lts.Need-returns (
+  word-reads.Asked,
+  word-reads.Learnt,
+  lab-and-pat-below t,
+  lab-and-pat.Post,
+  lab-pat-below t,
+  lab-pat.Post,
+  stop-reads.Asked,
+  stop-reads.Learnt,
+) (pat-row-inner-at t) pat-row-inner.Post
+unfolding Pat.pat-row-inner Pat.RestPatRow
+pat-row-inner-returns t c = record { is = λ kinds m. at-key (Pat.pat-row-inner (walks (c .before .before .before .before .before .before .before .before .before .before .args .cfg .left))) (c .before .before .before .before .match .keys1) (last-sure (c .before .before .word .ensures)) }
+
+-- src/lib.rt:163:1
+pat-row-inner-same-length-2 : (t : ℕ) → pat-row-inner-lts.Need-same-length-2 (
+  word-reads.Asked,
+  word-reads.Learnt,
+  lab-and-pat-below t,
+  lab-and-pat.Post,
+  lab-pat-below t,
+  lab-pat.Post,
+  stop-reads.Asked,
+  stop-reads.Learnt,
+) (pat-row-inner-at t) pat-row-inner.Post
+pat-row-inner-same-length-2 t c = c .before .before .lab-and-pat .kept .1 .1 .1 .1 .0
+
+-- src/lib.rt:163:1
+pat-row-inner-returns-2 : (t : ℕ) → pat-row-inner-lts.Need-returns-2 (
+  word-reads.Asked,
+  word-reads.Learnt,
+  lab-and-pat-below t,
+  lab-and-pat.Post,
+  lab-pat-below t,
+  lab-pat.Post,
+  stop-reads.Asked,
+  stop-reads.Learnt,
+) (pat-row-inner-at t) pat-row-inner.Post
+unfolding Pat.pat-row-inner Pat.RestPatRow
+pat-row-inner-returns-2 t c = record { is = λ kinds m. at-key (Pat.pat-row-inner (walks (c .before .before .before .before .before .before .before .before .before .before .args .cfg .left))) (c .before .before .before .before .match .keys2) (plain (c .before .before .lab-and-pat .ensures)) }
+
+-- src/lib.rt:163:1
+pat-row-inner-same-length-3 : (t : ℕ) → pat-row-inner-lts.Need-same-length-3 (
+  word-reads.Asked,
+  word-reads.Learnt,
+  lab-and-pat-below t,
+  lab-and-pat.Post,
+  lab-pat-below t,
+  lab-pat.Post,
+  stop-reads.Asked,
+  stop-reads.Learnt,
+) (pat-row-inner-at t) pat-row-inner.Post
+pat-row-inner-same-length-3 t c = c .before .before .lab-pat .kept .1 .1 .1 .1 .0
+
+-- src/lib.rt:163:1
+pat-row-inner-returns-3 : (t : ℕ) → pat-row-inner-lts.Need-returns-3 (
+  word-reads.Asked,
+  word-reads.Learnt,
+  lab-and-pat-below t,
+  lab-and-pat.Post,
+  lab-pat-below t,
+  lab-pat.Post,
+  stop-reads.Asked,
+  stop-reads.Learnt,
+) (pat-row-inner-at t) pat-row-inner.Post
+unfolding Pat.pat-row-inner Pat.RestPatRow
+pat-row-inner-returns-3 t c = record { is = λ kinds m. at-key (Pat.pat-row-inner (walks (c .before .before .before .before .before .before .before .before .before .before .args .cfg .left))) (c .before .before .before .before .match .keys3) (plain (c .before .before .lab-pat .ensures)) }
+
+-- src/lib.rt:163:1
+pat-row-inner-returns-4 : (t : ℕ) → pat-row-inner-lts.Need-returns-4 (
+  word-reads.Asked,
+  word-reads.Learnt,
+  lab-and-pat-below t,
+  lab-and-pat.Post,
+  lab-pat-below t,
+  lab-pat.Post,
+  stop-reads.Asked,
+  stop-reads.Learnt,
+) (pat-row-inner-at t) pat-row-inner.Post
+unfolding Pat.pat-row-inner Pat.RestPatRow
+pat-row-inner-returns-4 t c = record { is = λ kinds m. beyond (Pat.RestPatRow (walks (c .before .before .before .before .before .before .before .args .cfg .left)) ∷ Pat.LabAndPatPatRow (walks (c .before .before .before .before .before .before .before .args .cfg .left)) ∷ Pat.LabPatRow (walks (c .before .before .before .before .before .before .before .args .cfg .left)) ∷ []) (c .before .before .before .before .before .before .before .args .which) 3 refl (past (past (past zero-le (c .before .match .rest .0 .0 .1)) (c .before .match .rest .0 .1)) (c .before .match .rest .1)) (c .stop .ensures) }
+
+abbrev pat-rows-Inv-loop : pat-rows-lts.InvT-loop
+pat-rows-Inv-loop text rec starts lens out₀ cfg n s₀ i₀ out s i =
+    PlainTurn text rec starts lens (cfg .tab) (from (Layout.word ", ") (Pat.pat-row (walks (cfg .left)))) n s₀ out₀ i s out
+
+abbrev pat-rows-μ-loop : pat-rows-lts.MeasureT-loop
+pat-rows-μ-loop text rec starts lens out₀ cfg n s₀ i₀ out s i = n - i
+
+-- src/lib.rt:217:27
+pat-rows-list-requires : (t : ℕ) → pat-rows-lts.Need-list-requires (
+  list-reads.Asked,
+  list-reads.Learnt,
+  stop-reads.Asked,
+  stop-reads.Learnt,
+  between-reads.Asked,
+  between-reads.Learnt,
+  pat-row-below t,
+  pat-row.Post,
+) (pat-rows-at t) pat-rows.Post pat-rows-Inv-loop pat-rows-μ-loop
+pat-rows-list-requires t c κs = search needs
+
+-- src/lib.rt:217:18
+pat-rows-enum-known-n : (t : ℕ) → pat-rows-lts.Need-enum-known-n (
+  list-reads.Asked,
+  list-reads.Learnt,
+  stop-reads.Asked,
+  stop-reads.Learnt,
+  between-reads.Asked,
+  between-reads.Learnt,
+  pat-row-below t,
+  pat-row.Post,
+) (pat-rows-at t) pat-rows.Post pat-rows-Inv-loop pat-rows-μ-loop
+pat-rows-enum-known-n t c = search needs
+
+-- src/lib.rt:218:9
+pat-rows-enum-told : (t : ℕ) → pat-rows-lts.Need-enum-told (
+  list-reads.Asked,
+  list-reads.Learnt,
+  stop-reads.Asked,
+  stop-reads.Learnt,
+  between-reads.Asked,
+  between-reads.Learnt,
+  pat-row-below t,
+  pat-row.Post,
+) (pat-rows-at t) pat-rows.Post pat-rows-Inv-loop pat-rows-μ-loop
+pat-rows-enum-told t c = search needs
+
+-- src/lib.rt:218:9
+pat-rows-stop-requires : (t : ℕ) → pat-rows-lts.Need-stop-requires (
+  list-reads.Asked,
+  list-reads.Learnt,
+  stop-reads.Asked,
+  stop-reads.Learnt,
+  between-reads.Asked,
+  between-reads.Learnt,
+  pat-row-below t,
+  pat-row.Post,
+) (pat-rows-at t) pat-rows.Post pat-rows-Inv-loop pat-rows-μ-loop
+pat-rows-stop-requires t c κs = search needs
+
+-- src/lib.rt:218:9
+pat-rows-returns : (t : ℕ) → pat-rows-lts.Need-returns (
+  list-reads.Asked,
+  list-reads.Learnt,
+  stop-reads.Asked,
+  stop-reads.Learnt,
+  between-reads.Asked,
+  between-reads.Learnt,
+  pat-row-below t,
+  pat-row.Post,
+) (pat-rows-at t) pat-rows.Post pat-rows-Inv-loop pat-rows-μ-loop
+unfolding Pat.pat-rows Helpers.sep
+pat-rows-returns t c = record { is = λ kinds m. list-not (c .stop .ensures) (c .before .before .before .list .ensures) (c .before .enum-told .given .1) }
+
+-- src/lib.rt:222:5
+pat-rows-loop-holds : (t : ℕ) → pat-rows-lts.Need-loop-holds (
+  list-reads.Asked,
+  list-reads.Learnt,
+  stop-reads.Asked,
+  stop-reads.Learnt,
+  between-reads.Asked,
+  between-reads.Learnt,
+  pat-row-below t,
+  pat-row.Post,
+) (pat-rows-at t) pat-rows.Post pat-rows-Inv-loop pat-rows-μ-loop
+pat-rows-loop-holds t c = (omega arith, λ kinds m r o h. h, refl)
+
+-- src/lib.rt:223:13
+pat-rows-between-requires : (t : ℕ) → pat-rows-lts.Need-between-requires (
+  list-reads.Asked,
+  list-reads.Learnt,
+  stop-reads.Asked,
+  stop-reads.Learnt,
+  between-reads.Asked,
+  between-reads.Learnt,
+  pat-row-below t,
+  pat-row.Post,
+) (pat-rows-at t) pat-rows.Post pat-rows-Inv-loop pat-rows-μ-loop
+pat-rows-between-requires t c κs = search needs
+
+-- src/lib.rt:224:13
+pat-rows-pat-row-requires : (t : ℕ) → pat-rows-lts.Need-pat-row-requires (
+  list-reads.Asked,
+  list-reads.Learnt,
+  stop-reads.Asked,
+  stop-reads.Learnt,
+  between-reads.Asked,
+  between-reads.Learnt,
+  pat-row-below t,
+  pat-row.Post,
+) (pat-rows-at t) pat-rows.Post pat-rows-Inv-loop pat-rows-μ-loop
+pat-rows-pat-row-requires t c κs = omega (arith, c .before .before .before .before .before .before .before .before .before .before .before .before .before .before .before .before .pre .0)
+
+-- src/lib.rt:225:26
+pat-rows-enum-known-r2 : (t : ℕ) → pat-rows-lts.Need-enum-known-r2 (
+  list-reads.Asked,
+  list-reads.Learnt,
+  stop-reads.Asked,
+  stop-reads.Learnt,
+  between-reads.Asked,
+  between-reads.Learnt,
+  pat-row-below t,
+  pat-row.Post,
+) (pat-rows-at t) pat-rows.Post pat-rows-Inv-loop pat-rows-μ-loop
+pat-rows-enum-known-r2 t c = search needs
+
+-- src/lib.rt:226:13
+pat-rows-enum-told-2 : (t : ℕ) → pat-rows-lts.Need-enum-told-2 (
+  list-reads.Asked,
+  list-reads.Learnt,
+  stop-reads.Asked,
+  stop-reads.Learnt,
+  between-reads.Asked,
+  between-reads.Learnt,
+  pat-row-below t,
+  pat-row.Post,
+) (pat-rows-at t) pat-rows.Post pat-rows-Inv-loop pat-rows-μ-loop
+pat-rows-enum-told-2 t c = search needs
+
+-- src/lib.rt:226:13
+pat-rows-same-length : (t : ℕ) → pat-rows-lts.Need-same-length (
+  list-reads.Asked,
+  list-reads.Learnt,
+  stop-reads.Asked,
+  stop-reads.Learnt,
+  between-reads.Asked,
+  between-reads.Learnt,
+  pat-row-below t,
+  pat-row.Post,
+) (pat-rows-at t) pat-rows.Post pat-rows-Inv-loop pat-rows-μ-loop
+pat-rows-same-length t c = c .before .before .before .before .pat-row .kept .1 .1 .1 .1 .0 ∙ c .before .before .before .before .before .before .before .before .between .kept .1 .0 ∙ c .before .before .before .before .before .before .before .before .before .before .before .loop .inv .2
+
+-- src/lib.rt:226:13
+pat-rows-returns-2 : (t : ℕ) → pat-rows-lts.Need-returns-2 (
+  list-reads.Asked,
+  list-reads.Learnt,
+  stop-reads.Asked,
+  stop-reads.Learnt,
+  between-reads.Asked,
+  between-reads.Learnt,
+  pat-row-below t,
+  pat-row.Post,
+) (pat-rows-at t) pat-rows.Post pat-rows-Inv-loop pat-rows-μ-loop
+unfolding Pat.pat-rows Helpers.sep
+pat-rows-returns-2 t c = record { is = λ kinds m. by-same (list-is (c .before .before .before .before .before .before .before .before .before .before .before .before .before .before .before .list .ensures) (c .before .before .before .before .before .before .before .before .before .before .before .before .before .n .given .1)) (by-same (items-all _ _ _) (c .before .before .before .before .before .before .before .before .before .before .before .loop .inv .1 kinds m _ _ (from-more _ _ (c .before .before .before .before .before .before .before .before .before .before .loop-test .taken) (then-sure (c .before .before .before .before .before .before .before .before .between .ensures) (then-stop (plain (c .before .before .before .before .pat-row .ensures)) (c .enum-told2 .given .1)))))) }
+
+-- src/lib.rt:229:9
+pat-rows-add-i : (t : ℕ) → pat-rows-lts.Need-add-i (
+  list-reads.Asked,
+  list-reads.Learnt,
+  stop-reads.Asked,
+  stop-reads.Learnt,
+  between-reads.Asked,
+  between-reads.Learnt,
+  pat-row-below t,
+  pat-row.Post,
+) (pat-rows-at t) pat-rows.Post pat-rows-Inv-loop pat-rows-μ-loop
+pat-rows-add-i t c = omega (arith, c .before .before .before .before .before .before .before .before .before .before .before .loop-test .taken, c .before .before .before .before .before .before .before .before .before .before .before .before .before .known-told)
+
+-- src/lib.rt:222:5
+pat-rows-loop-less : (t : ℕ) → pat-rows-lts.Need-loop-less (
+  list-reads.Asked,
+  list-reads.Learnt,
+  stop-reads.Asked,
+  stop-reads.Learnt,
+  between-reads.Asked,
+  between-reads.Learnt,
+  pat-row-below t,
+  pat-row.Post,
+) (pat-rows-at t) pat-rows.Post pat-rows-Inv-loop pat-rows-μ-loop
+pat-rows-loop-less t c = omega arith
+
+-- src/lib.rt:222:5
+pat-rows-loop-again : (t : ℕ) → pat-rows-lts.Need-loop-again (
+  list-reads.Asked,
+  list-reads.Learnt,
+  stop-reads.Asked,
+  stop-reads.Learnt,
+  between-reads.Asked,
+  between-reads.Learnt,
+  pat-row-below t,
+  pat-row.Post,
+) (pat-rows-at t) pat-rows.Post pat-rows-Inv-loop pat-rows-μ-loop
+unfolding Pat.pat-rows Helpers.sep
+pat-rows-loop-again t c = (omega (arith, c .before .before .before .before .before .before .before .before .before .before .before .before .loop .inv .0), λ kinds m r o h. c .before .before .before .before .before .before .before .before .before .before .before .before .loop .inv .1 kinds m r o (from-more _ _ (c .before .before .before .before .before .before .before .before .before .before .before .loop-test .taken) (then-sure (c .before .before .before .before .before .before .before .before .before .between .ensures) (then-done (plain (c .before .before .before .before .before .pat-row .ensures)) (c .before .r2 .given .1) h))), c .before .before .before .before .before .pat-row .kept .1 .1 .1 .1 .0 ∙ c .before .before .before .before .before .before .before .before .before .between .kept .1 .0 ∙ c .before .before .before .before .before .before .before .before .before .before .before .before .loop .inv .2)
+
+-- src/lib.rt:206:1
+pat-rows-same-length-2 : (t : ℕ) → pat-rows-lts.Need-same-length-2 (
+  list-reads.Asked,
+  list-reads.Learnt,
+  stop-reads.Asked,
+  stop-reads.Learnt,
+  between-reads.Asked,
+  between-reads.Learnt,
+  pat-row-below t,
+  pat-row.Post,
+) (pat-rows-at t) pat-rows.Post pat-rows-Inv-loop pat-rows-μ-loop
+pat-rows-same-length-2 t c = c .before .loop .inv .2
+
+-- src/lib.rt:206:1
+pat-rows-returns-3 : (t : ℕ) → pat-rows-lts.Need-returns-3 (
+  list-reads.Asked,
+  list-reads.Learnt,
+  stop-reads.Asked,
+  stop-reads.Learnt,
+  between-reads.Asked,
+  between-reads.Learnt,
+  pat-row-below t,
+  pat-row.Post,
+) (pat-rows-at t) pat-rows.Post pat-rows-Inv-loop pat-rows-μ-loop
+unfolding Pat.pat-rows Helpers.sep
+pat-rows-returns-3 t c = record { is = λ kinds m. by-same (list-is (c .before .before .before .before .before .list .ensures) (c .before .before .before .n .given .1)) (by-same (items-all _ _ _) (c .before .loop .inv .1 kinds m _ _ (from-none _ _ (c .loop-test .left)))) }
+
+-- src/lib.rt:246:9
+record-pat-word-requires : (t : ℕ) → record-pat-lts.Need-word-requires (
+  word-reads.Asked,
+  word-reads.Learnt,
+  pat-rows-below t,
+  pat-rows.Post,
+) (record-pat-at t) record-pat.Post
+record-pat-word-requires t c κs = search needs
+
+-- src/lib.rt:247:9
+record-pat-pat-rows-requires : (t : ℕ) → record-pat-lts.Need-pat-rows-requires (
+  word-reads.Asked,
+  word-reads.Learnt,
+  pat-rows-below t,
+  pat-rows.Post,
+) (record-pat-at t) record-pat.Post
+record-pat-pat-rows-requires t c κs = omega (arith, c .before .before .before .before .before .before .before .before .before .before .pre .0)
+
+-- src/lib.rt:248:22
+record-pat-enum-known-r2 : (t : ℕ) → record-pat-lts.Need-enum-known-r2 (
+  word-reads.Asked,
+  word-reads.Learnt,
+  pat-rows-below t,
+  pat-rows.Post,
+) (record-pat-at t) record-pat.Post
+record-pat-enum-known-r2 t c = search needs
+
+-- src/lib.rt:249:9
+record-pat-enum-told : (t : ℕ) → record-pat-lts.Need-enum-told (
+  word-reads.Asked,
+  word-reads.Learnt,
+  pat-rows-below t,
+  pat-rows.Post,
+) (record-pat-at t) record-pat.Post
+record-pat-enum-told t c = search needs
+
+-- src/lib.rt:249:9
+record-pat-same-length : (t : ℕ) → record-pat-lts.Need-same-length (
+  word-reads.Asked,
+  word-reads.Learnt,
+  pat-rows-below t,
+  pat-rows.Post,
+) (record-pat-at t) record-pat.Post
+record-pat-same-length t c = c .before .before .before .before .pat-rows .kept .1 .1 .1 .1 .0 ∙ c .before .before .before .before .before .before .before .before .word .kept .1 .0
+
+-- src/lib.rt:249:9
+record-pat-returns : (t : ℕ) → record-pat-lts.Need-returns (
+  word-reads.Asked,
+  word-reads.Learnt,
+  pat-rows-below t,
+  pat-rows.Post,
+) (record-pat-at t) record-pat.Post
+unfolding Pat.RecordPat
+record-pat-returns t c = record { is = λ kinds m. then-sure (c .before .before .before .before .before .before .before .before .word .ensures) (then-stop (plain (c .before .before .before .before .pat-rows .ensures)) (c .enum-told .given .1)) }
+
+-- src/lib.rt:251:18
+record-pat-word-requires-2 : (t : ℕ) → record-pat-lts.Need-word-requires-2 (
+  word-reads.Asked,
+  word-reads.Learnt,
+  pat-rows-below t,
+  pat-rows.Post,
+) (record-pat-at t) record-pat.Post
+record-pat-word-requires-2 t c κs = search needs
+
+-- src/lib.rt:235:1
+record-pat-same-length-2 : (t : ℕ) → record-pat-lts.Need-same-length-2 (
+  word-reads.Asked,
+  word-reads.Learnt,
+  pat-rows-below t,
+  pat-rows.Post,
+) (record-pat-at t) record-pat.Post
+record-pat-same-length-2 t c = c .before .before .word2 .kept .1 .0 ∙ c .before .before .before .before .before .before .before .before .before .pat-rows .kept .1 .1 .1 .1 .0 ∙ c .before .before .before .before .before .before .before .before .before .before .before .before .before .word .kept .1 .0
+
+-- src/lib.rt:235:1
+record-pat-returns-2 : (t : ℕ) → record-pat-lts.Need-returns-2 (
+  word-reads.Asked,
+  word-reads.Learnt,
+  pat-rows-below t,
+  pat-rows.Post,
+) (record-pat-at t) record-pat.Post
+unfolding Pat.RecordPat
+record-pat-returns-2 t c = record { is = λ kinds m. then-sure (c .before .before .before .before .before .before .before .before .before .before .before .before .before .word .ensures) (then-done (plain (c .before .before .before .before .before .before .before .before .before .pat-rows .ensures)) (c .before .before .before .before .before .r2 .given .1) (last-sure (c .before .before .word2 .ensures))) }
+
+-- src/lib.rt:319:9
+tuple-pat-word-requires : (t : ℕ) → tuple-pat-lts.Need-word-requires (
+  word-reads.Asked,
+  word-reads.Learnt,
+  pat-args-below t,
+  pat-args.Post,
+) (tuple-pat-at t) tuple-pat.Post
+tuple-pat-word-requires t c κs = search needs
+
+-- src/lib.rt:320:9
+tuple-pat-pat-args-requires : (t : ℕ) → tuple-pat-lts.Need-pat-args-requires (
+  word-reads.Asked,
+  word-reads.Learnt,
+  pat-args-below t,
+  pat-args.Post,
+) (tuple-pat-at t) tuple-pat.Post
+tuple-pat-pat-args-requires t c κs = omega (arith, c .before .before .before .before .before .before .before .before .before .before .pre .0)
+
+-- src/lib.rt:321:22
+tuple-pat-enum-known-r2 : (t : ℕ) → tuple-pat-lts.Need-enum-known-r2 (
+  word-reads.Asked,
+  word-reads.Learnt,
+  pat-args-below t,
+  pat-args.Post,
+) (tuple-pat-at t) tuple-pat.Post
+tuple-pat-enum-known-r2 t c = search needs
+
+-- src/lib.rt:322:9
+tuple-pat-enum-told : (t : ℕ) → tuple-pat-lts.Need-enum-told (
+  word-reads.Asked,
+  word-reads.Learnt,
+  pat-args-below t,
+  pat-args.Post,
+) (tuple-pat-at t) tuple-pat.Post
+tuple-pat-enum-told t c = search needs
+
+-- src/lib.rt:322:9
+tuple-pat-same-length : (t : ℕ) → tuple-pat-lts.Need-same-length (
+  word-reads.Asked,
+  word-reads.Learnt,
+  pat-args-below t,
+  pat-args.Post,
+) (tuple-pat-at t) tuple-pat.Post
+tuple-pat-same-length t c = c .before .before .before .before .pat-args .kept .1 .1 .1 .1 .0 ∙ c .before .before .before .before .before .before .before .before .word .kept .1 .0
+
+-- src/lib.rt:322:9
+tuple-pat-returns : (t : ℕ) → tuple-pat-lts.Need-returns (
+  word-reads.Asked,
+  word-reads.Learnt,
+  pat-args-below t,
+  pat-args.Post,
+) (tuple-pat-at t) tuple-pat.Post
+unfolding Pat.TuplePat
+tuple-pat-returns t c = record { is = λ kinds m. then-sure (c .before .before .before .before .before .before .before .before .word .ensures) (then-stop (plain (c .before .before .before .before .pat-args .ensures)) (c .enum-told .given .1)) }
+
+-- src/lib.rt:324:18
+tuple-pat-word-requires-2 : (t : ℕ) → tuple-pat-lts.Need-word-requires-2 (
+  word-reads.Asked,
+  word-reads.Learnt,
+  pat-args-below t,
+  pat-args.Post,
+) (tuple-pat-at t) tuple-pat.Post
+tuple-pat-word-requires-2 t c κs = search needs
+
+-- src/lib.rt:308:1
+tuple-pat-same-length-2 : (t : ℕ) → tuple-pat-lts.Need-same-length-2 (
+  word-reads.Asked,
+  word-reads.Learnt,
+  pat-args-below t,
+  pat-args.Post,
+) (tuple-pat-at t) tuple-pat.Post
+tuple-pat-same-length-2 t c = c .before .before .word2 .kept .1 .0 ∙ c .before .before .before .before .before .before .before .before .before .pat-args .kept .1 .1 .1 .1 .0 ∙ c .before .before .before .before .before .before .before .before .before .before .before .before .before .word .kept .1 .0
+
+-- src/lib.rt:308:1
+tuple-pat-returns-2 : (t : ℕ) → tuple-pat-lts.Need-returns-2 (
+  word-reads.Asked,
+  word-reads.Learnt,
+  pat-args-below t,
+  pat-args.Post,
+) (tuple-pat-at t) tuple-pat.Post
+unfolding Pat.TuplePat
+tuple-pat-returns-2 t c = record { is = λ kinds m. then-sure (c .before .before .before .before .before .before .before .before .before .before .before .before .before .word .ensures) (then-done (plain (c .before .before .before .before .before .before .before .before .before .pat-args .ensures)) (c .before .before .before .before .before .r2 .given .1) (last-sure (c .before .before .word2 .ensures))) }
+
+-- src/lib.rt:408:9
+typed-pat-get-pat-requires : (t : ℕ) → typed-pat-lts.Need-get-pat-requires (
+  get-pat-below t,
+  get-pat.Post,
+  word-reads.Asked,
+  word-reads.Learnt,
+  get-ty-reads.Asked,
+  get-ty-reads.Learnt,
+) (typed-pat-at t) typed-pat.Post
+typed-pat-get-pat-requires t c κs = omega (arith, c .before .before .before .before .before .before .pre .0)
+
+-- src/lib.rt:409:22
+typed-pat-enum-known-r1 : (t : ℕ) → typed-pat-lts.Need-enum-known-r1 (
+  get-pat-below t,
+  get-pat.Post,
+  word-reads.Asked,
+  word-reads.Learnt,
+  get-ty-reads.Asked,
+  get-ty-reads.Learnt,
+) (typed-pat-at t) typed-pat.Post
+typed-pat-enum-known-r1 t c = search needs
+
+-- src/lib.rt:410:9
+typed-pat-enum-told : (t : ℕ) → typed-pat-lts.Need-enum-told (
+  get-pat-below t,
+  get-pat.Post,
+  word-reads.Asked,
+  word-reads.Learnt,
+  get-ty-reads.Asked,
+  get-ty-reads.Learnt,
+) (typed-pat-at t) typed-pat.Post
+typed-pat-enum-told t c = search needs
+
+-- src/lib.rt:410:9
+typed-pat-same-length : (t : ℕ) → typed-pat-lts.Need-same-length (
+  get-pat-below t,
+  get-pat.Post,
+  word-reads.Asked,
+  word-reads.Learnt,
+  get-ty-reads.Asked,
+  get-ty-reads.Learnt,
+) (typed-pat-at t) typed-pat.Post
+typed-pat-same-length t c = c .before .before .before .before .get-pat .kept .1 .1 .1 .1 .0
+
+-- src/lib.rt:410:9
+typed-pat-returns : (t : ℕ) → typed-pat-lts.Need-returns (
+  get-pat-below t,
+  get-pat.Post,
+  word-reads.Asked,
+  word-reads.Learnt,
+  get-ty-reads.Asked,
+  get-ty-reads.Learnt,
+) (typed-pat-at t) typed-pat.Post
+unfolding Pat.TypedPat
+typed-pat-returns t c = record { is = λ kinds m. then-stop (plain (c .before .before .before .before .get-pat .ensures)) (c .enum-told .given .1) }
+
+-- src/lib.rt:412:9
+typed-pat-word-requires : (t : ℕ) → typed-pat-lts.Need-word-requires (
+  get-pat-below t,
+  get-pat.Post,
+  word-reads.Asked,
+  word-reads.Learnt,
+  get-ty-reads.Asked,
+  get-ty-reads.Learnt,
+) (typed-pat-at t) typed-pat.Post
+typed-pat-word-requires t c κs = search needs
+
+-- src/lib.rt:413:5
+typed-pat-get-ty-requires : (t : ℕ) → typed-pat-lts.Need-get-ty-requires (
+  get-pat-below t,
+  get-pat.Post,
+  word-reads.Asked,
+  word-reads.Learnt,
+  get-ty-reads.Asked,
+  get-ty-reads.Learnt,
+) (typed-pat-at t) typed-pat.Post
+typed-pat-get-ty-requires t c κs = search needs
+
+-- src/lib.rt:397:1
+typed-pat-same-length-2 : (t : ℕ) → typed-pat-lts.Need-same-length-2 (
+  get-pat-below t,
+  get-pat.Post,
+  word-reads.Asked,
+  word-reads.Learnt,
+  get-ty-reads.Asked,
+  get-ty-reads.Learnt,
+) (typed-pat-at t) typed-pat.Post
+typed-pat-same-length-2 t c = c .before .before .get-ty .kept .1 .1 .1 .1 .0 ∙ c .before .before .before .before .before .before .word .kept .1 .0 ∙ c .before .before .before .before .before .before .before .before .before .before .before .before .before .get-pat .kept .1 .1 .1 .1 .0
+
+-- src/lib.rt:397:1
+typed-pat-returns-2 : (t : ℕ) → typed-pat-lts.Need-returns-2 (
+  get-pat-below t,
+  get-pat.Post,
+  word-reads.Asked,
+  word-reads.Learnt,
+  get-ty-reads.Asked,
+  get-ty-reads.Learnt,
+) (typed-pat-at t) typed-pat.Post
+unfolding Pat.TypedPat
+typed-pat-returns-2 t c = record { is = λ kinds m. then-done (plain (c .before .before .before .before .before .before .before .before .before .before .before .before .before .get-pat .ensures)) (c .before .before .before .before .before .before .before .before .before .r1 .given .1) (then-sure (c .before .before .before .before .before .before .word .ensures) (plain (c .before .before .get-ty .ensures))) }
+
+-- src/lib.rt:359:9
+vector-pat-word-requires : (t : ℕ) → vector-pat-lts.Need-word-requires (
+  word-reads.Asked,
+  word-reads.Learnt,
+  group-reads.Asked,
+  group-reads.Learnt,
+  pat-args-below t,
+  pat-args.Post,
+) (vector-pat-at t) vector-pat.Post
+vector-pat-word-requires t c κs = search needs
+
+-- src/lib.rt:360:9
+vector-pat-group-requires : (t : ℕ) → vector-pat-lts.Need-group-requires (
+  word-reads.Asked,
+  word-reads.Learnt,
+  group-reads.Asked,
+  group-reads.Learnt,
+  pat-args-below t,
+  pat-args.Post,
+) (vector-pat-at t) vector-pat.Post
+vector-pat-group-requires t c κs = search needs
+
+-- src/lib.rt:361:22
+vector-pat-enum-known-r2 : (t : ℕ) → vector-pat-lts.Need-enum-known-r2 (
+  word-reads.Asked,
+  word-reads.Learnt,
+  group-reads.Asked,
+  group-reads.Learnt,
+  pat-args-below t,
+  pat-args.Post,
+) (vector-pat-at t) vector-pat.Post
+vector-pat-enum-known-r2 t c = search needs
+
+-- src/lib.rt:362:9
+vector-pat-enum-told : (t : ℕ) → vector-pat-lts.Need-enum-told (
+  word-reads.Asked,
+  word-reads.Learnt,
+  group-reads.Asked,
+  group-reads.Learnt,
+  pat-args-below t,
+  pat-args.Post,
+) (vector-pat-at t) vector-pat.Post
+vector-pat-enum-told t c = search needs
+
+-- src/lib.rt:362:9
+vector-pat-same-length : (t : ℕ) → vector-pat-lts.Need-same-length (
+  word-reads.Asked,
+  word-reads.Learnt,
+  group-reads.Asked,
+  group-reads.Learnt,
+  pat-args-below t,
+  pat-args.Post,
+) (vector-pat-at t) vector-pat.Post
+vector-pat-same-length t c = c .before .before .before .before .before .word .kept .1 .0
+
+-- src/lib.rt:362:9
+vector-pat-returns : (t : ℕ) → vector-pat-lts.Need-returns (
+  word-reads.Asked,
+  word-reads.Learnt,
+  group-reads.Asked,
+  group-reads.Learnt,
+  pat-args-below t,
+  pat-args.Post,
+) (vector-pat-at t) vector-pat.Post
+unfolding Pat.VectorPat
+vector-pat-returns t c = record { is = λ kinds m. then-sure (c .before .before .before .before .before .word .ensures) (then-stop (group-not (c .before .before .group .ensures) (c .enum-told .given .1)) (c .enum-told .given .1)) }
+
+-- src/lib.rt:364:9
+vector-pat-pat-args-requires : (t : ℕ) → vector-pat-lts.Need-pat-args-requires (
+  word-reads.Asked,
+  word-reads.Learnt,
+  group-reads.Asked,
+  group-reads.Learnt,
+  pat-args-below t,
+  pat-args.Post,
+) (vector-pat-at t) vector-pat.Post
+vector-pat-pat-args-requires t c κs = omega (arith, c .before .before .before .before .before .before .before .before .before .before .before .before .before .before .pre .0)
+
+-- src/lib.rt:365:22
+vector-pat-enum-known-r3 : (t : ℕ) → vector-pat-lts.Need-enum-known-r3 (
+  word-reads.Asked,
+  word-reads.Learnt,
+  group-reads.Asked,
+  group-reads.Learnt,
+  pat-args-below t,
+  pat-args.Post,
+) (vector-pat-at t) vector-pat.Post
+vector-pat-enum-known-r3 t c = search needs
+
+-- src/lib.rt:366:9
+vector-pat-enum-told-2 : (t : ℕ) → vector-pat-lts.Need-enum-told-2 (
+  word-reads.Asked,
+  word-reads.Learnt,
+  group-reads.Asked,
+  group-reads.Learnt,
+  pat-args-below t,
+  pat-args.Post,
+) (vector-pat-at t) vector-pat.Post
+vector-pat-enum-told-2 t c = search needs
+
+-- src/lib.rt:366:9
+vector-pat-same-length-2 : (t : ℕ) → vector-pat-lts.Need-same-length-2 (
+  word-reads.Asked,
+  word-reads.Learnt,
+  group-reads.Asked,
+  group-reads.Learnt,
+  pat-args-below t,
+  pat-args.Post,
+) (vector-pat-at t) vector-pat.Post
+vector-pat-same-length-2 t c = c .before .before .before .before .pat-args .kept .1 .1 .1 .1 .0 ∙ c .before .before .before .before .before .before .before .before .before .before .before .before .word .kept .1 .0
+
+-- src/lib.rt:366:9
+vector-pat-returns-2 : (t : ℕ) → vector-pat-lts.Need-returns-2 (
+  word-reads.Asked,
+  word-reads.Learnt,
+  group-reads.Asked,
+  group-reads.Learnt,
+  pat-args-below t,
+  pat-args.Post,
+) (vector-pat-at t) vector-pat.Post
+unfolding Pat.VectorPat
+vector-pat-returns-2 t c = record { is = λ kinds m. then-sure (c .before .before .before .before .before .before .before .before .before .before .before .before .word .ensures) (by-same (first-same (group-is (c .before .before .before .before .before .before .before .before .before .group .ensures) (c .before .before .before .before .before .before .before .r2 .given .1))) (then-stop (plain (c .before .before .before .before .pat-args .ensures)) (c .enum-told2 .given .1))) }
+
+-- src/lib.rt:368:18
+vector-pat-word-requires-2 : (t : ℕ) → vector-pat-lts.Need-word-requires-2 (
+  word-reads.Asked,
+  word-reads.Learnt,
+  group-reads.Asked,
+  group-reads.Learnt,
+  pat-args-below t,
+  pat-args.Post,
+) (vector-pat-at t) vector-pat.Post
+vector-pat-word-requires-2 t c κs = search needs
+
+-- src/lib.rt:348:1
+vector-pat-same-length-3 : (t : ℕ) → vector-pat-lts.Need-same-length-3 (
+  word-reads.Asked,
+  word-reads.Learnt,
+  group-reads.Asked,
+  group-reads.Learnt,
+  pat-args-below t,
+  pat-args.Post,
+) (vector-pat-at t) vector-pat.Post
+vector-pat-same-length-3 t c = c .before .before .word2 .kept .1 .0 ∙ c .before .before .before .before .before .before .before .before .before .pat-args .kept .1 .1 .1 .1 .0 ∙ c .before .before .before .before .before .before .before .before .before .before .before .before .before .before .before .before .before .word .kept .1 .0
+
+-- src/lib.rt:348:1
+vector-pat-returns-3 : (t : ℕ) → vector-pat-lts.Need-returns-3 (
+  word-reads.Asked,
+  word-reads.Learnt,
+  group-reads.Asked,
+  group-reads.Learnt,
+  pat-args-below t,
+  pat-args.Post,
+) (vector-pat-at t) vector-pat.Post
+unfolding Pat.VectorPat
+vector-pat-returns-3 t c = record { is = λ kinds m. then-sure (c .before .before .before .before .before .before .before .before .before .before .before .before .before .before .before .before .before .word .ensures) (by-same (first-same (group-is (c .before .before .before .before .before .before .before .before .before .before .before .before .before .before .group .ensures) (c .before .before .before .before .before .before .before .before .before .before .before .before .r2 .given .1))) (then-done (plain (c .before .before .before .before .before .before .before .before .before .pat-args .ensures)) (c .before .before .before .before .before .r3 .given .1) (last-sure (c .before .before .word2 .ensures)))) }
+
+pub +as-pat+as-tail+as-tail-there+con-inner+con-inner-there+con-pat+get-pat+infix-pat+lab-and-pat+lab-pat+list-pat+or-pat+paren-pat+pat-args+pat-row+pat-row-inner+pat-rows+record-pat+tuple-pat+typed-pat+vector-pat-spec :
+    {M : Type 1} → statement M
++as-pat+as-tail+as-tail-there+con-inner+con-inner-there+con-pat+get-pat+infix-pat+lab-and-pat+lab-pat+list-pat+or-pat+paren-pat+pat-args+pat-row+pat-row-inner+pat-rows+record-pat+tuple-pat+typed-pat+vector-pat-spec =
+    close
+    μ-as-pat
+    μ-as-tail
+    μ-as-tail-there
+    μ-con-inner
+    μ-con-inner-there
+    μ-con-pat
+    μ-get-pat
+    μ-infix-pat
+    μ-lab-and-pat
+    μ-lab-pat
+    μ-list-pat
+    μ-or-pat
+    μ-paren-pat
+    μ-pat-args
+    μ-pat-row
+    μ-pat-row-inner
+    μ-pat-rows
+    μ-record-pat
+    μ-tuple-pat
+    μ-typed-pat
+    μ-vector-pat
+    (λ t. as-pat-lts.spec (
+      get-pat-below t,
+      get-pat.Post,
+      word-reads.Asked,
+      word-reads.Learnt,
+      group-reads.Asked,
+      group-reads.Learnt,
+    )
+    (as-pat-at t)
+    as-pat.Post
+    (as-pat-get-pat-requires t)
+    (as-pat-enum-known-r1 t)
+    (as-pat-enum-told t)
+    (as-pat-same-length t)
+    (as-pat-returns t)
+    (as-pat-word-requires t)
+    (as-pat-group-requires t)
+    (as-pat-enum-known-r3 t)
+    (as-pat-enum-told-2 t)
+    (as-pat-same-length-2 t)
+    (as-pat-returns-2 t)
+    (as-pat-get-pat-requires-2 t)
+    (as-pat-same-length-3 t)
+    (as-pat-returns-3 t))
+    (λ t. as-tail-lts.spec (
+      absent-reads.Asked,
+      absent-reads.Learnt,
+      as-tail-there-below t,
+      as-tail-there.Post,
+    )
+    (as-tail-at t)
+    as-tail.Post
+    (as-tail-absent-requires t)
+    (as-tail-enum-known-gone t)
+    (as-tail-enum-told t)
+    (as-tail-as-tail-there-requires t)
+    (as-tail-returns t)
+    (as-tail-same-length t)
+    (as-tail-returns-2 t))
+    (λ t. as-tail-there-lts.spec (
+      group-reads.Asked,
+      group-reads.Learnt,
+      word-reads.Asked,
+      word-reads.Learnt,
+      get-pat-below t,
+      get-pat.Post,
+    )
+    (as-tail-there-at t)
+    as-tail-there.Post
+    (as-tail-there-group-requires t)
+    (as-tail-there-enum-known-r1 t)
+    (as-tail-there-enum-told t)
+    (as-tail-there-returns t)
+    (as-tail-there-word-requires t)
+    (as-tail-there-get-pat-requires t)
+    (as-tail-there-same-length t)
+    (as-tail-there-returns-2 t))
+    (λ t. con-inner-lts.spec (
+      absent-reads.Asked,
+      absent-reads.Learnt,
+      con-inner-there-below t,
+      con-inner-there.Post,
+    )
+    (con-inner-at t)
+    con-inner.Post
+    (con-inner-absent-requires t)
+    (con-inner-enum-known-gone t)
+    (con-inner-enum-told t)
+    (con-inner-con-inner-there-requires t)
+    (con-inner-returns t)
+    (con-inner-same-length t)
+    (con-inner-returns-2 t))
+    (λ t. con-inner-there-lts.spec (
+      word-reads.Asked,
+      word-reads.Learnt,
+      get-pat-below t,
+      get-pat.Post,
+    )
+    (con-inner-there-at t)
+    con-inner-there.Post
+    (con-inner-there-word-requires t)
+    (con-inner-there-get-pat-requires t)
+    (con-inner-there-same-length t)
+    (con-inner-there-returns t))
+    (λ t. con-pat-lts.spec (
+      op-path-reads.Asked,
+      op-path-reads.Learnt,
+      con-inner-below t,
+      con-inner.Post,
+    )
+    (con-pat-at t)
+    con-pat.Post
+    (con-pat-op-path-requires t)
+    (con-pat-enum-known-r1 t)
+    (con-pat-enum-told t)
+    (con-pat-same-length t)
+    (con-pat-returns t)
+    (con-pat-con-inner-requires t)
+    (con-pat-same-length-2 t)
+    (con-pat-returns-2 t))
+    (λ t. get-pat-lts.spec (
+      stop-reads.Asked,
+      stop-reads.Learnt,
+      form-reads.Asked,
+      form-reads.Learnt,
+      word-reads.Asked,
+      word-reads.Learnt,
+      text-of-reads.Asked,
+      text-of-reads.Learnt,
+      con-pat-below t,
+      con-pat.Post,
+      record-pat-below t,
+      record-pat.Post,
+      paren-pat-below t,
+      paren-pat.Post,
+      tuple-pat-below t,
+      tuple-pat.Post,
+      list-pat-below t,
+      list-pat.Post,
+      vector-pat-below t,
+      vector-pat.Post,
+      infix-pat-below t,
+      infix-pat.Post,
+      typed-pat-below t,
+      typed-pat.Post,
+      as-pat-below t,
+      as-pat.Post,
+      or-pat-below t,
+      or-pat.Post,
+    )
+    (get-pat-at t)
+    get-pat.Post
+    (get-pat-stop-requires t)
+    (get-pat-returns t)
+    (get-pat-form-requires t)
+    (get-pat-enum-known-k t)
+    (get-pat-enum-told t)
+    (get-pat-stop-requires-2 t)
+    (get-pat-returns-2 t)
+    (get-pat-sub-t15 t)
+    (get-pat-word-requires t)
+    (get-pat-text-of-requires t)
+    (get-pat-con-pat-requires t)
+    (get-pat-record-pat-requires t)
+    (get-pat-paren-pat-requires t)
+    (get-pat-tuple-pat-requires t)
+    (get-pat-list-pat-requires t)
+    (get-pat-vector-pat-requires t)
+    (get-pat-infix-pat-requires t)
+    (get-pat-typed-pat-requires t)
+    (get-pat-as-pat-requires t)
+    (get-pat-or-pat-requires t)
+    (get-pat-stop-requires-3 t)
+    (get-pat-same-length t)
+    (get-pat-returns-3 t)
+    (get-pat-same-length-2 t)
+    (get-pat-returns-4 t)
+    (get-pat-same-length-3 t)
+    (get-pat-returns-5 t)
+    (get-pat-same-length-4 t)
+    (get-pat-returns-6 t)
+    (get-pat-same-length-5 t)
+    (get-pat-returns-7 t)
+    (get-pat-same-length-6 t)
+    (get-pat-returns-8 t)
+    (get-pat-same-length-7 t)
+    (get-pat-returns-9 t)
+    (get-pat-same-length-8 t)
+    (get-pat-returns-10 t)
+    (get-pat-same-length-9 t)
+    (get-pat-returns-11 t)
+    (get-pat-same-length-10 t)
+    (get-pat-returns-12 t)
+    (get-pat-same-length-11 t)
+    (get-pat-returns-13 t)
+    (get-pat-same-length-12 t)
+    (get-pat-returns-14 t)
+    (get-pat-returns-15 t))
+    (λ t. infix-pat-lts.spec (
+      get-pat-below t,
+      get-pat.Post,
+      word-reads.Asked,
+      word-reads.Learnt,
+      text-of-reads.Asked,
+      text-of-reads.Learnt,
+    )
+    (infix-pat-at t)
+    infix-pat.Post
+    (infix-pat-get-pat-requires t)
+    (infix-pat-enum-known-r1 t)
+    (infix-pat-enum-told t)
+    (infix-pat-same-length t)
+    (infix-pat-returns t)
+    (infix-pat-word-requires t)
+    (infix-pat-text-of-requires t)
+    (infix-pat-enum-known-r3 t)
+    (infix-pat-enum-told-2 t)
+    (infix-pat-same-length-2 t)
+    (infix-pat-returns-2 t)
+    (infix-pat-word-requires-2 t)
+    (infix-pat-get-pat-requires-2 t)
+    (infix-pat-same-length-3 t)
+    (infix-pat-returns-3 t))
+    (λ t. lab-and-pat-lts.spec (
+      text-of-reads.Asked,
+      text-of-reads.Learnt,
+      word-reads.Asked,
+      word-reads.Learnt,
+      get-pat-below t,
+      get-pat.Post,
+    )
+    (lab-and-pat-at t)
+    lab-and-pat.Post
+    (lab-and-pat-text-of-requires t)
+    (lab-and-pat-enum-known-r1 t)
+    (lab-and-pat-enum-told t)
+    (lab-and-pat-same-length t)
+    (lab-and-pat-returns t)
+    (lab-and-pat-word-requires t)
+    (lab-and-pat-get-pat-requires t)
+    (lab-and-pat-same-length-2 t)
+    (lab-and-pat-returns-2 t))
+    (λ t. lab-pat-lts.spec (
+      text-of-reads.Asked,
+      text-of-reads.Learnt,
+      ty-annotation-reads.Asked,
+      ty-annotation-reads.Learnt,
+      as-tail-below t,
+      as-tail.Post,
+    )
+    (lab-pat-at t)
+    lab-pat.Post
+    (lab-pat-text-of-requires t)
+    (lab-pat-enum-known-r1 t)
+    (lab-pat-enum-told t)
+    (lab-pat-same-length t)
+    (lab-pat-returns t)
+    (lab-pat-ty-annotation-requires t)
+    (lab-pat-enum-known-r2 t)
+    (lab-pat-enum-told-2 t)
+    (lab-pat-same-length-2 t)
+    (lab-pat-returns-2 t)
+    (lab-pat-as-tail-requires t)
+    (lab-pat-same-length-3 t)
+    (lab-pat-returns-3 t))
+    (λ t. list-pat-lts.spec
+    (word-reads.Asked, word-reads.Learnt, pat-args-below t, pat-args.Post)
+    (list-pat-at t)
+    list-pat.Post
+    (list-pat-word-requires t)
+    (list-pat-pat-args-requires t)
+    (list-pat-enum-known-r2 t)
+    (list-pat-enum-told t)
+    (list-pat-same-length t)
+    (list-pat-returns t)
+    (list-pat-word-requires-2 t)
+    (list-pat-same-length-2 t)
+    (list-pat-returns-2 t))
+    (λ t. or-pat-lts.spec
+    (get-pat-below t, get-pat.Post, word-reads.Asked, word-reads.Learnt)
+    (or-pat-at t)
+    or-pat.Post
+    (or-pat-get-pat-requires t)
+    (or-pat-enum-known-r1 t)
+    (or-pat-enum-told t)
+    (or-pat-same-length t)
+    (or-pat-returns t)
+    (or-pat-word-requires t)
+    (or-pat-get-pat-requires-2 t)
+    (or-pat-same-length-2 t)
+    (or-pat-returns-2 t))
+    (λ t. paren-pat-lts.spec
+    (word-reads.Asked, word-reads.Learnt, get-pat-below t, get-pat.Post)
+    (paren-pat-at t)
+    paren-pat.Post
+    (paren-pat-word-requires t)
+    (paren-pat-get-pat-requires t)
+    (paren-pat-enum-known-r2 t)
+    (paren-pat-enum-told t)
+    (paren-pat-same-length t)
+    (paren-pat-returns t)
+    (paren-pat-word-requires-2 t)
+    (paren-pat-same-length-2 t)
+    (paren-pat-returns-2 t))
+    (λ t. pat-args-lts.spec (
+      list-reads.Asked,
+      list-reads.Learnt,
+      stop-reads.Asked,
+      stop-reads.Learnt,
+      between-reads.Asked,
+      between-reads.Learnt,
+      group-reads.Asked,
+      group-reads.Learnt,
+      get-pat-below t,
+      get-pat.Post,
+    )
+    (pat-args-at t)
+    pat-args.Post
+    pat-args-Inv-loop
+    pat-args-μ-loop
+    (pat-args-list-requires t)
+    (pat-args-enum-known-n t)
+    (pat-args-enum-told t)
+    (pat-args-stop-requires t)
+    (pat-args-returns t)
+    (pat-args-loop-holds t)
+    (pat-args-between-requires t)
+    (pat-args-group-requires t)
+    (pat-args-enum-known-r2 t)
+    (pat-args-enum-told-2 t)
+    (pat-args-same-length t)
+    (pat-args-returns-2 t)
+    (pat-args-get-pat-requires t)
+    (pat-args-enum-known-r3 t)
+    (pat-args-enum-told-3 t)
+    (pat-args-same-length-2 t)
+    (pat-args-returns-3 t)
+    (pat-args-add-i t)
+    (pat-args-loop-less t)
+    (pat-args-loop-again t)
+    (pat-args-same-length-3 t)
+    (pat-args-returns-4 t))
+    (λ t. pat-row-lts.spec (
+      group-reads.Asked,
+      group-reads.Learnt,
+      choice-reads.Asked,
+      choice-reads.Learnt,
+      stop-reads.Asked,
+      stop-reads.Learnt,
+      pat-row-inner-below t,
+      pat-row-inner.Post,
+    )
+    (pat-row-at t)
+    pat-row.Post
+    (pat-row-group-requires t)
+    (pat-row-enum-known-r1 t)
+    (pat-row-enum-told t)
+    (pat-row-returns t)
+    (pat-row-choice-requires t)
+    (pat-row-enum-known-k t)
+    (pat-row-enum-told-2 t)
+    (pat-row-stop-requires t)
+    (pat-row-returns-2 t)
+    (pat-row-pat-row-inner-requires t)
+    (pat-row-same-length t)
+    (pat-row-returns-3 t))
+    (λ t. pat-row-inner-lts.spec (
+      word-reads.Asked,
+      word-reads.Learnt,
+      lab-and-pat-below t,
+      lab-and-pat.Post,
+      lab-pat-below t,
+      lab-pat.Post,
+      stop-reads.Asked,
+      stop-reads.Learnt,
+    )
+    (pat-row-inner-at t)
+    pat-row-inner.Post
+    (pat-row-inner-word-requires t)
+    (pat-row-inner-lab-and-pat-requires t)
+    (pat-row-inner-lab-pat-requires t)
+    (pat-row-inner-stop-requires t)
+    (pat-row-inner-same-length t)
+    (pat-row-inner-returns t)
+    (pat-row-inner-same-length-2 t)
+    (pat-row-inner-returns-2 t)
+    (pat-row-inner-same-length-3 t)
+    (pat-row-inner-returns-3 t)
+    (pat-row-inner-returns-4 t))
+    (λ t. pat-rows-lts.spec (
+      list-reads.Asked,
+      list-reads.Learnt,
+      stop-reads.Asked,
+      stop-reads.Learnt,
+      between-reads.Asked,
+      between-reads.Learnt,
+      pat-row-below t,
+      pat-row.Post,
+    )
+    (pat-rows-at t)
+    pat-rows.Post
+    pat-rows-Inv-loop
+    pat-rows-μ-loop
+    (pat-rows-list-requires t)
+    (pat-rows-enum-known-n t)
+    (pat-rows-enum-told t)
+    (pat-rows-stop-requires t)
+    (pat-rows-returns t)
+    (pat-rows-loop-holds t)
+    (pat-rows-between-requires t)
+    (pat-rows-pat-row-requires t)
+    (pat-rows-enum-known-r2 t)
+    (pat-rows-enum-told-2 t)
+    (pat-rows-same-length t)
+    (pat-rows-returns-2 t)
+    (pat-rows-add-i t)
+    (pat-rows-loop-less t)
+    (pat-rows-loop-again t)
+    (pat-rows-same-length-2 t)
+    (pat-rows-returns-3 t))
+    (λ t. record-pat-lts.spec (
+      word-reads.Asked,
+      word-reads.Learnt,
+      pat-rows-below t,
+      pat-rows.Post,
+    )
+    (record-pat-at t)
+    record-pat.Post
+    (record-pat-word-requires t)
+    (record-pat-pat-rows-requires t)
+    (record-pat-enum-known-r2 t)
+    (record-pat-enum-told t)
+    (record-pat-same-length t)
+    (record-pat-returns t)
+    (record-pat-word-requires-2 t)
+    (record-pat-same-length-2 t)
+    (record-pat-returns-2 t))
+    (λ t. tuple-pat-lts.spec (
+      word-reads.Asked,
+      word-reads.Learnt,
+      pat-args-below t,
+      pat-args.Post,
+    )
+    (tuple-pat-at t)
+    tuple-pat.Post
+    (tuple-pat-word-requires t)
+    (tuple-pat-pat-args-requires t)
+    (tuple-pat-enum-known-r2 t)
+    (tuple-pat-enum-told t)
+    (tuple-pat-same-length t)
+    (tuple-pat-returns t)
+    (tuple-pat-word-requires-2 t)
+    (tuple-pat-same-length-2 t)
+    (tuple-pat-returns-2 t))
+    (λ t. typed-pat-lts.spec (
+      get-pat-below t,
+      get-pat.Post,
+      word-reads.Asked,
+      word-reads.Learnt,
+      get-ty-reads.Asked,
+      get-ty-reads.Learnt,
+    )
+    (typed-pat-at t)
+    typed-pat.Post
+    (typed-pat-get-pat-requires t)
+    (typed-pat-enum-known-r1 t)
+    (typed-pat-enum-told t)
+    (typed-pat-same-length t)
+    (typed-pat-returns t)
+    (typed-pat-word-requires t)
+    (typed-pat-get-ty-requires t)
+    (typed-pat-same-length-2 t)
+    (typed-pat-returns-2 t))
+    λ t. vector-pat-lts.spec (
+      word-reads.Asked,
+      word-reads.Learnt,
+      group-reads.Asked,
+      group-reads.Learnt,
+      pat-args-below t,
+      pat-args.Post,
+    )
+    (vector-pat-at t)
+    vector-pat.Post
+    (vector-pat-word-requires t)
+    (vector-pat-group-requires t)
+    (vector-pat-enum-known-r2 t)
+    (vector-pat-enum-told t)
+    (vector-pat-same-length t)
+    (vector-pat-returns t)
+    (vector-pat-pat-args-requires t)
+    (vector-pat-enum-known-r3 t)
+    (vector-pat-enum-told-2 t)
+    (vector-pat-same-length-2 t)
+    (vector-pat-returns-2 t)
+    (vector-pat-word-requires-2 t)
+    (vector-pat-same-length-3 t)
+    (vector-pat-returns-3 t)
