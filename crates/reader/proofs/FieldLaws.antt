@@ -37,7 +37,7 @@ then-grows at end (ok m) k f g e = let a : at ≤ m = f m refl in let b : m ≤ 
 then-grows at end (malformed p) k f g e = never (cc)
 then-grows at end (tooDeep p) k f g e = never (cc)
 
-items-grow : (n : ℕ) (k : ℕ → Checked) → Grows k → Grows (items n k)
+pub items-grow : (n : ℕ) (k : ℕ → Checked) → Grows k → Grows (items n k)
 unfolding items
 items-grow zero k g at end e = let z : at ≡ end = cc in omega arith
 items-grow (suc n) k g at end e = then-grows at end (k at) (λ next. items n k next) (λ m f. g at m f) (items-grow n k g) e
@@ -72,7 +72,7 @@ module _ (rec : List ℕ) (count : ℕ) where
   choice-grows none n k at end g e = never (cc)
   choice-grows (some which) n k at end g e = if-grows (ltb which n) (k which) at 2 end (g which) e
 
-  fields-grow : (inner : Family → ℕ → Checked) → ((family : Family) → Grows (inner family)) → (may : Bool) (f : Fields) → Grows (λ next. fields rec count inner may f next)
+  pub fields-grow : (inner : Family → ℕ → Checked) → ((family : Family) → Grows (inner family)) → (may : Bool) (f : Fields) → Grows (λ next. fields rec count inner may f next)
   unfolding fields
   fields-grow inner g may Fields.none at end e = let z : at ≡ end = cc in omega arith
   fields-grow inner g may (f ▸ h) at end e =
@@ -97,7 +97,7 @@ module _ (rec : List ℕ) (count : ℕ) where
   deep-grows none at end e = never (cc)
   deep-grows (some n) at end e = never (cc)
 
-  form-grows : (depth : ℕ) (family : Family) → Grows (formCheck rec count depth family)
+  pub form-grows : (depth : ℕ) (family : Family) → Grows (formCheck rec count depth family)
   unfolding formCheck
   form-grows zero family at end e = deep-grows (formFits rec count family at) at end e
   form-grows (suc depth) family at end e =
