@@ -1,23 +1,23 @@
 -- Laws of the check of fields: it never goes back, and how fields, items and a row of codes are passed.
 use Prim.Native.Nat.{ℕ, zero, suc, _+_, _-_, _*_, _/_, _%_, _^_, _≤_, _<_}
 use mathlib.Core.Path.{_≡_, refl, sym, _∙_, ap}
-use mathlib.Core.List.{List, [], _∷_, map}
+use mathlib.Core.List.{List, [], _∷_}
 use mathlib.Core.Logic.{⊎-elim}
 use types.Run.{OneOf}
 use denote.Enum.Declared.{tagOf}
 use Rattle.reader.proofs.tree.Checked.{the-type}
-use mathlib.Core.Bool.{Bool, true, false, _&&_, _||_}
+use mathlib.Core.Bool.{Bool, true, false, _&&_}
 use mathlib.Core.Option.{Option, none, some}
 use native.Mathlib.Omega.{arith}
-use lib.ListN.{length, getD, replicate, List·getD-map, getD-replicate, List·getD-eq-default}
-use lib.Dec.{leb, ltb, eqb}
-use borrow.Author.Tests.{lt-ltb, le-ltb, ltb-true, eq-eqb, ne-eqb, eqb-true, eqb-false}
+use lib.ListN.{length, getD, replicate, List·getD-map}
+use lib.Dec.{ltb, eqb}
+use borrow.Author.Tests.{lt-ltb, le-ltb, eq-eqb, ne-eqb, eqb-true, eqb-false}
 use Rattle.reader.specs.Fields as Fields
 use Rattle.reader.specs.Fields.{Family, Fields, _▸_, token, list, group, choice, form, forms, Dec}
 use Rattle.reader.specs.Commands.{absentAt, tokenAt, listAt, groupAt, choiceAt, formWidth}
 use Rattle.reader.specs.Check.{Checked, ok, malformed, tooDeep, andThen, items, orAbsent, fields, formFits, formCheck, treeCheck}
 use Rattle.reader.specs.Grammar.{groups, nodes, node, fieldOf, digits, fieldsOf}
-use Rattle.reader.specs.Tree.{checkedIn, opened, ahead, Opens, FieldsEnd, ItemsEnd, TreeEnd}
+use Rattle.reader.specs.Tree.{checkedIn, opened, Opens, FieldsEnd, ItemsEnd, TreeEnd}
 use Rattle.reader.specs.declared.tree.Checked as Code
 use Rattle.reader.specs.declared.tree.Checked.the-variants.{Ok, Malformed, TooDeep}
 use Rattle.reader.specs.declared.tree.Opened.{Opened}
