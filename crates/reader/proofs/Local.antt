@@ -13,7 +13,7 @@ use Rattle.reader.specs.Fields as Fields
 use Rattle.reader.specs.Fields.{Family, DecOne, StrExp, SigExp, Exp, Pat, Ty, Fields, _▸_, token, list, group, choice, form, forms, firstForm}
 use Rattle.reader.specs.Commands.{u16, command, absentAt, tokenAt, listAt, groupAt, choiceAt, formAt, formWidth}
 use Rattle.reader.specs.Check.{Checked, ok, malformed, tooDeep, andThen, items, operandFits, orAbsent, fields, formFits, formCheck, fieldEnd}
-use Rattle.reader.proofs.CommandLaws.{and-left, and-right, some-true, form-wide}
+use Rattle.reader.proofs.CommandLaws.{and-left, and-right, some-true, form-wide, token-fits, group-fits, choice-fits, form-fits}
 use Rattle.reader.proofs.FieldLaws.{Grows, fields-grow, form-grows, items-grow}
 
 never : {P : Type 0} → _≡_ {A = ℕ} 0 1 → P
@@ -28,11 +28,15 @@ and-second true b e = e
 and-second false b e = refl
 
 -- Two records that have n bytes in common, from `base` in the one and from `base′` in the other.
-module _ (rec rec′ : List ℕ) (base base′ n : ℕ) (here : base + n ≤ length rec) (there : base′ + n ≤ length rec′)
+module _ (rec rec′ : List ℕ) (base base′ n : ℕ) (there : base′ + n ≤ length rec′)
     (same : (i : ℕ) → i < n → getD rec (base + i) 0 ≡ getD rec′ (base′ + i) 0) where
   -- A place in the one and the place in the other.
   abbrev Meets : ℕ → ℕ → Type 0
   Meets at at′ = (base ≤ at) × (at + base′ ≡ at′ + base)
+
+  -- A command stands at the place, and the check goes on behind it.
+  abbrev Ahead : ℕ → ℕ → Type 0
+  Ahead at end = (at < end) × (at < length rec)
 
   byte-same : (at at′ : ℕ) → Meets at at′ → at < base + n → getD rec at 0 ≡ getD rec′ at′ 0
   byte-same at at′ m h =
@@ -54,9 +58,9 @@ module _ (rec rec′ : List ℕ) (base base′ n : ℕ) (here : base + n ≤ len
   unfolding absentAt
   absent-same at at′ m h e = command-same 0 1 at at′ m (omega arith) (omega arith) e
 
-  present-same : (at at′ : ℕ) → Meets at at′ → at < base + n → absentAt rec at ≡ false → absentAt rec′ at′ ≡ false
+  present-same : (at at′ : ℕ) → Meets at at′ → at < base + n → at < length rec → absentAt rec at ≡ false → absentAt rec′ at′ ≡ false
   unfolding absentAt command
-  present-same at at′ m h e =
+  present-same at at′ m h l e =
       and-second (leb (at′ + 1) (length rec′)) (eqb (getD rec′ at′ 0) 0)
       (rw (← byte-same at at′ m h) (rw (le-leb (at + 1) (length rec) (omega arith)) at e))
 
@@ -160,7 +164,7 @@ module _ (rec rec′ : List ℕ) (base base′ n : ℕ) (here : base + n ≤ len
 
     -- A field that may be absent.
     module _ (at at′ end : ℕ) (meets : Meets at at′) (h : end ≤ base + n) (x x′ : Checked)
-        (on : x ≡ ok end → at < end) (f : x ≡ ok end → x′ ≡ ok (at′ + (end - at))) where
+        (on : x ≡ ok end → Ahead at end) (f : x ≡ ok end → x′ ≡ ok (at′ + (end - at))) where
       or-local : (may b : Bool) → (may && absentAt rec at) ≡ b → orAbsent rec count may at x ≡ ok end → orAbsent rec′ count may at′ x′ ≡ ok (at′ + (end - at))
       or-local true true a e =
           let y : ok (at + 1) ≡ ok end = sym (or-gone true at x a) ∙ e in
@@ -169,8 +173,8 @@ module _ (rec rec′ : List ℕ) (base base′ n : ℕ) (here : base + n ≤ len
           or-there true at′ x′ true (absent-same at at′ meets (omega arith) a) ∙ ap ok w
       or-local true false a e =
           let y : x ≡ ok end = sym (or-here true at x a) ∙ e in
-          let z : at < end = on y in
-          or-there true at′ x′ false (present-same at at′ meets (omega arith) a) ∙ f y
+          let z : Ahead at end = on y in
+          or-there true at′ x′ false (present-same at at′ meets (omega arith) (z .1) a) ∙ f y
       or-local false true a e = never (cc)
       or-local false false a e = or-there false at′ x′ false refl ∙ f (sym (or-here false at x a) ∙ e)
 
@@ -209,17 +213,17 @@ module _ (rec rec′ : List ℕ) (base base′ n : ℕ) (here : base + n ≤ len
             rw (group-same at at′ meets (omega arith) o) (step-local k k′ grows local at at′ 1 end meets h e)
         group-local false o e = never (cc)
 
-        group-ahead : (b : Bool) → _≡_ {A = Checked} (elim b [ true ↦ k (at + 1) | false ↦ malformed at ]) (ok end) → at < end
-        group-ahead true e = let z : at + 1 ≤ end = grows (at + 1) end e in omega arith
-        group-ahead false e = never (cc)
+        group-ahead : (b : Bool) → groupAt rec at ≡ b → _≡_ {A = Checked} (elim b [ true ↦ k (at + 1) | false ↦ malformed at ]) (ok end) → Ahead at end
+        group-ahead true o e = let z : at + 1 ≤ end = grows (at + 1) end e in let l : at + 1 ≤ length rec = group-fits rec at o in omega arith
+        group-ahead false o e = never (cc)
 
-      token-ahead : (o : Option ℕ) → _≡_ {A = Checked} (elim o [ none ↦ malformed at | some k ↦ elim (ltb k count) [ true ↦ ok (at + 3) | false ↦ malformed at ] ]) (ok end) → at < end
-      token-ahead none e = never (cc)
-      token-ahead (some k) e = go (ltb k count) e
-        where
-          go : (b : Bool) → _≡_ {A = Checked} (elim b [ true ↦ ok (at + 3) | false ↦ malformed at ]) (ok end) → at < end
-          go true x = let z : at + 3 ≡ end = cc in omega arith
-          go false x = never (cc)
+      below-ahead : (b : Bool) → at + 3 ≤ length rec → _≡_ {A = Checked} (elim b [ true ↦ ok (at + 3) | false ↦ malformed at ]) (ok end) → Ahead at end
+      below-ahead true l e = let z : at + 3 ≡ end = cc in omega arith
+      below-ahead false l e = never (cc)
+
+      token-ahead : (o : Option ℕ) → tokenAt rec at ≡ o → _≡_ {A = Checked} (elim o [ none ↦ malformed at | some k ↦ elim (ltb k count) [ true ↦ ok (at + 3) | false ↦ malformed at ] ]) (ok end) → Ahead at end
+      token-ahead none o e = never (cc)
+      token-ahead (some k) o e = below-ahead (ltb k count) (token-fits rec at k o) e
 
       module _ (m : ℕ) (k k′ : ℕ → ℕ → Checked) (grows : (which : ℕ) → Grows (k which)) (local : (which : ℕ) → Local (k which) (k′ which)) where
         which-local : (which : ℕ) (b : Bool) → ltb which m ≡ b → choiceAt rec at ≡ some which
@@ -237,17 +241,17 @@ module _ (rec rec′ : List ℕ) (base base′ n : ℕ) (here : base + n ≤ len
         choice-local none o e = never (cc)
         choice-local (some which) o e = which-local which (ltb which m) refl o e
 
-        which-ahead : (which : ℕ) (b : Bool) → _≡_ {A = Checked} (elim b [ true ↦ k which (at + 2) | false ↦ malformed at ]) (ok end) → at < end
-        which-ahead which true e = let z : at + 2 ≤ end = grows which (at + 2) end e in omega arith
-        which-ahead which false e = never (cc)
+        which-ahead : (which : ℕ) (b : Bool) → at + 2 ≤ length rec → _≡_ {A = Checked} (elim b [ true ↦ k which (at + 2) | false ↦ malformed at ]) (ok end) → Ahead at end
+        which-ahead which true l e = let z : at + 2 ≤ end = grows which (at + 2) end e in omega arith
+        which-ahead which false l e = never (cc)
 
-        choice-ahead : (o : Option ℕ) → _≡_ {A = Checked} (elim o [ none ↦ malformed at | some which ↦ elim (ltb which m) [ true ↦ k which (at + 2) | false ↦ malformed at ] ]) (ok end) → at < end
-        choice-ahead none e = never (cc)
-        choice-ahead (some which) e = which-ahead which (ltb which m) e
+        choice-ahead : (o : Option ℕ) → choiceAt rec at ≡ o → _≡_ {A = Checked} (elim o [ none ↦ malformed at | some which ↦ elim (ltb which m) [ true ↦ k which (at + 2) | false ↦ malformed at ] ]) (ok end) → Ahead at end
+        choice-ahead none o e = never (cc)
+        choice-ahead (some which) o e = which-ahead which (ltb which m) (choice-fits rec at which o) e
 
     -- ---- fields, over the checks of forms
     module _ (inner inner′ : Family → ℕ → Checked) (grows : (family : Family) → Grows (inner family))
-        (ahead : (family : Family) (at end : ℕ) → inner family at ≡ ok end → at < end) (local : (family : Family) → Local (inner family) (inner′ family)) where
+        (ahead : (family : Family) (at end : ℕ) → inner family at ≡ ok end → Ahead at end) (local : (family : Family) → Local (inner family) (inner′ family)) where
       fields-local : (may : Bool) (f : Fields) → Local (λ next. fields rec count inner may f next) (λ next. fields rec′ count inner′ may f next)
       unfolding fields
       fields-local may Fields.none at at′ end meets h e = let z : at ≡ end = cc in ap ok (omega arith)
@@ -256,7 +260,7 @@ module _ (rec rec′ : List ℕ) (base base′ n : ℕ) (here : base + n ≤ len
           (fields-grow rec count inner grows may g) (fields-local may g) at at′ end _ _ meets h
           (λ m x. fields-grow rec count inner grows may f at m x) (λ m i x. fields-local may f at at′ m meets i x) e
       fields-local may token at at′ end meets h e =
-          or-local at at′ end meets h _ _ (token-ahead at at′ end meets h (tokenAt rec at)) (token-local at at′ end meets h (tokenAt rec at) refl)
+          or-local at at′ end meets h _ _ (token-ahead at at′ end meets h (tokenAt rec at) refl) (token-local at at′ end meets h (tokenAt rec at) refl)
           may (may && absentAt rec at) refl e
       fields-local may (list f) at at′ end meets h e =
           list-local at at′ end meets h (λ next. fields rec count inner false f next) (λ next. fields rec′ count inner′ false f next)
@@ -265,14 +269,14 @@ module _ (rec rec′ : List ℕ) (base base′ n : ℕ) (here : base + n ≤ len
           let k : ℕ → Checked = λ next. fields rec count inner true f next in
           let k′ : ℕ → Checked = λ next. fields rec′ count inner′ true f next in
           or-local at at′ end meets h _ _
-          (group-ahead at at′ end meets h k k′ (fields-grow rec count inner grows true f) (fields-local true f) (groupAt rec at))
+          (group-ahead at at′ end meets h k k′ (fields-grow rec count inner grows true f) (fields-local true f) (groupAt rec at) refl)
           (group-local at at′ end meets h k k′ (fields-grow rec count inner grows true f) (fields-local true f) (groupAt rec at) refl)
           may (may && absentAt rec at) refl e
       fields-local may (choice m f) at at′ end meets h e =
           let k : ℕ → ℕ → Checked = λ which next. fields rec count inner true (f which) next in
           let k′ : ℕ → ℕ → Checked = λ which next. fields rec′ count inner′ true (f which) next in
           or-local at at′ end meets h _ _
-          (choice-ahead at at′ end meets h m k k′ (λ which. fields-grow rec count inner grows true (f which)) (λ which. fields-local true (f which)) (choiceAt rec at))
+          (choice-ahead at at′ end meets h m k k′ (λ which. fields-grow rec count inner grows true (f which)) (λ which. fields-local true (f which)) (choiceAt rec at) refl)
           (choice-local at at′ end meets h m k k′ (λ which. fields-grow rec count inner grows true (f which)) (λ which. fields-local true (f which)) (choiceAt rec at) refl)
           may (may && absentAt rec at) refl e
       fields-local may (form family) at at′ end meets h e =
@@ -294,25 +298,27 @@ module _ (rec rec′ : List ℕ) (base base′ n : ℕ) (here : base + n ≤ len
         let p = fits-parts family at k (formAt rec family at) e in
         rw (form-same family at at′ k meets h (p .0), formFits, sym (operand-same count family at at′ meets h) ∙ p .1)
 
-    inside-ahead : (family : Family) (at end : ℕ) (o : Option ℕ) (k : ℕ → ℕ → Checked) → ((m : ℕ) → Grows (k m))
-        → _≡_ {A = Checked} (elim o [ none ↦ malformed at | some m ↦ k m (at + formWidth family) ]) (ok end) → at < end
-    inside-ahead family at end none k grows e = never (cc)
-    inside-ahead family at end (some m) k grows e =
+    inside-ahead : (family : Family) (at end : ℕ) (o : Option ℕ) (k : ℕ → ℕ → Checked) → ((m : ℕ) → Grows (k m)) → formFits rec count family at ≡ o
+        → _≡_ {A = Checked} (elim o [ none ↦ malformed at | some m ↦ k m (at + formWidth family) ]) (ok end) → Ahead at end
+    unfolding formFits
+    inside-ahead family at end none k grows o e = never (cc)
+    inside-ahead family at end (some m) k grows o e =
         let w : 1 ≤ formWidth family = form-wide family in
         let z : at + formWidth family ≤ end = grows m (at + formWidth family) end e in
+        let l : at + formWidth family ≤ length rec = form-fits rec at family m (fits-parts family at m (formAt rec family at) o .0) in
         omega arith
 
     deep-never : {P : Type 0} (at end : ℕ) (o : Option ℕ) → _≡_ {A = Checked} (elim o [ none ↦ malformed at | some m ↦ tooDeep at ]) (ok end) → P
     deep-never at end none e = never (cc)
     deep-never at end (some m) e = never (cc)
 
-    form-ahead : (depth : ℕ) (family : Family) (at end : ℕ) → formCheck rec count depth family at ≡ ok end → at < end
+    form-ahead : (depth : ℕ) (family : Family) (at end : ℕ) → formCheck rec count depth family at ≡ ok end → Ahead at end
     unfolding formCheck
     form-ahead zero family at end e = deep-never at end (formFits rec count family at) e
     form-ahead (suc depth) family at end e =
         inside-ahead family at end (formFits rec count family at)
         (λ m next. fields rec count (λ f next. formCheck rec count depth f next) true (getD (forms family) m Fields.none) next)
-        (λ m. fields-grow rec count (λ f next. formCheck rec count depth f next) (form-grows rec count depth) true (getD (forms family) m Fields.none)) e
+        (λ m. fields-grow rec count (λ f next. formCheck rec count depth f next) (form-grows rec count depth) true (getD (forms family) m Fields.none)) refl e
 
     inside-local : (family : Family) (at at′ end : ℕ) (o : Option ℕ) (k k′ : ℕ → ℕ → Checked) → ((m : ℕ) → Grows (k m)) → ((m : ℕ) → Local (k m) (k′ m))
         → Meets at at′ → end ≤ base + n → formFits rec count family at ≡ o
@@ -342,10 +348,10 @@ module _ (rec rec′ : List ℕ) (base base′ n : ℕ) (here : base + n ≤ len
 
 -- A field that passes, `size` bytes long, passes in any other record in which these bytes stand, wherever they stand.
 pub local : (rec rec′ : List ℕ) (count : ℕ) (f : Fields) (at at′ size : ℕ)
-    → at + size ≤ length rec → at′ + size ≤ length rec′ → take size (drop at rec) ≡ take size (drop at′ rec′)
+    → at′ + size ≤ length rec′ → take size (drop at rec) ≡ take size (drop at′ rec′)
     → fieldEnd rec count f at ≡ ok (at + size) → fieldEnd rec′ count f at′ ≡ ok (at′ + size)
-local rec rec′ count f at at′ size here there same e =
+local rec rec′ count f at at′ size there same e =
     let bytes : (i : ℕ) → i < size → getD rec (at + i) 0 ≡ getD rec′ (at′ + i) 0
     = λ i h. sym (getD-drop at rec i 0) ∙ sym (getD-take size (drop at rec) i 0 h) ∙ ap (λ (l : List ℕ). getD l i 0) same ∙ getD-take size (drop at′ rec′) i 0 h ∙ getD-drop at′ rec′ i 0 in
     let z : at′ + (at + size - at) ≡ at′ + size = omega arith in
-    field-local rec rec′ at at′ size here there bytes count f at at′ (at + size) (omega arith) (omega arith) e ∙ ap ok z
+    field-local rec rec′ at at′ size there bytes count f at at′ (at + size) (omega arith) (omega arith) e ∙ ap ok z
