@@ -35,7 +35,7 @@ unfolding Fields.forms Fields.firstForm
 runFields = tt
 
 unfoldable pub runCommands : Unit {0}
-unfolding Commands.formWidth Commands.u16 Commands.command Commands.absentAt Commands.tokenAt Commands.listAt Commands.groupAt Commands.choiceAt Commands.formAt Commands.firstToken Commands.numberIn
+unfolding Commands.formWidth Commands.u16 Commands.command Commands.absentAt Commands.tokenAt Commands.listAt Commands.groupAt Commands.choiceAt Commands.formAt Commands.firstToken Commands.declarationAt Commands.numberIn Commands.declarationIn
 runCommands = tt
 
 unfoldable pub runTokens : Unit {0}

@@ -9,11 +9,13 @@ use lib.ListN.{length, getD, List·getD-eq-default}
 use lib.Dec.{leb, ltb, eqb}
 use borrow.Author.Tests.{le-leb, lt-leb, leb-true, leb-false, ltb-true, lt-ltb, le-ltb, eq-eqb, ne-eqb, eqb-false}
 use Rattle.reader.specs.declared.commands.Family.{Family}
+use Rattle.reader.specs.declared.commands.Family.the-variants as Code
+use Rattle.reader.specs.declared.commands.Declaration.the-variants as Whole
 use Rattle.reader.specs.declared.commands.Number.{Number}
 use Rattle.reader.specs.declared.commands.Number.the-variants.{Is, Not}
 use Rattle.reader.specs.Fields as Fields
 use Rattle.reader.specs.Fields.{forms, firstForm}
-use Rattle.reader.specs.Commands.{u16, command, absentAt, tokenAt, listAt, groupAt, choiceAt, formAt, firstToken, noToken, formWidth, familyOf, numberIn, CommandAt, NumberAt, FormAt}
+use Rattle.reader.specs.Commands.{u16, command, absentAt, tokenAt, listAt, groupAt, choiceAt, formAt, firstToken, noToken, formWidth, familyOf, numberIn, CommandAt, NumberAt, FormAt, declarationAt, declarationIn, DeclarationAt}
 
 pub and-left : (a b : Bool) → (a && b) ≡ true → a ≡ true
 and-left true b e = refl
@@ -183,3 +185,14 @@ form-wide Fields.SigExp = omega arith
 form-wide Fields.Exp = omega arith
 form-wide Fields.Pat = omega arith
 form-wide Fields.Ty = omega arith
+
+-- The whole command of a declaration.
+module _ {rec : List ℕ} {at : ℕ} {r : Number} (s : FormAt Code.DecOne rec at r) where
+  pub declaration-not : r ≡ Not → DeclarationAt rec at Whole.Not
+  unfolding declarationAt declarationIn
+  declaration-not e = record { is = rw (form-not s e, declarationAt) }
+
+  pub declaration-is : {number next : ℕ} {first : Number} → r ≡ Is number → NumberAt firstToken rec at first → at + formWidth Fields.DecOne ≡ next
+      → DeclarationAt rec at (Whole.Is number first next)
+  unfolding declarationAt declarationIn
+  declaration-is e f g = record { is = rw (form-read s e, declarationAt, f .is, g) }

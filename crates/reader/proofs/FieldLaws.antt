@@ -1,23 +1,23 @@
 -- Laws of the check of fields: it never goes back, and how fields, items and a row of codes are passed.
 use Prim.Native.Nat.{ℕ, zero, suc, _+_, _-_, _*_, _/_, _%_, _^_, _≤_, _<_}
 use mathlib.Core.Path.{_≡_, refl, sym, _∙_, ap}
-use mathlib.Core.List.{List, [], _∷_, map}
+use mathlib.Core.List.{List, [], _∷_}
 use mathlib.Core.Logic.{⊎-elim}
 use types.Run.{OneOf}
 use denote.Enum.Declared.{tagOf}
 use Rattle.reader.proofs.tree.Checked.{the-type}
-use mathlib.Core.Bool.{Bool, true, false, _&&_, _||_}
+use mathlib.Core.Bool.{Bool, true, false, _&&_}
 use mathlib.Core.Option.{Option, none, some}
 use native.Mathlib.Omega.{arith}
-use lib.ListN.{length, getD, replicate, List·getD-map, getD-replicate, List·getD-eq-default}
-use lib.Dec.{leb, ltb, eqb}
-use borrow.Author.Tests.{lt-ltb, le-ltb, ltb-true, eq-eqb, ne-eqb, eqb-true, eqb-false}
+use lib.ListN.{length, getD, replicate, List·getD-map}
+use lib.Dec.{ltb, eqb}
+use borrow.Author.Tests.{lt-ltb, le-ltb, eq-eqb, ne-eqb, eqb-true, eqb-false}
 use Rattle.reader.specs.Fields as Fields
 use Rattle.reader.specs.Fields.{Family, Fields, _▸_, token, list, group, choice, form, forms, Dec}
 use Rattle.reader.specs.Commands.{absentAt, tokenAt, listAt, groupAt, choiceAt, formWidth}
 use Rattle.reader.specs.Check.{Checked, ok, malformed, tooDeep, andThen, items, orAbsent, fields, formFits, formCheck, treeCheck}
 use Rattle.reader.specs.Grammar.{groups, nodes, node, fieldOf, digits, fieldsOf}
-use Rattle.reader.specs.Tree.{checkedIn, opened, ahead, Opens, FieldsEnd, ItemsEnd, TreeEnd}
+use Rattle.reader.specs.Tree.{checkedIn, opened, Opens, FieldsEnd, ItemsEnd, TreeEnd}
 use Rattle.reader.specs.declared.tree.Checked as Code
 use Rattle.reader.specs.declared.tree.Checked.the-variants.{Ok, Malformed, TooDeep}
 use Rattle.reader.specs.declared.tree.Opened.{Opened}
@@ -37,7 +37,7 @@ then-grows at end (ok m) k f g e = let a : at ≤ m = f m refl in let b : m ≤ 
 then-grows at end (malformed p) k f g e = never (cc)
 then-grows at end (tooDeep p) k f g e = never (cc)
 
-items-grow : (n : ℕ) (k : ℕ → Checked) → Grows k → Grows (items n k)
+pub items-grow : (n : ℕ) (k : ℕ → Checked) → Grows k → Grows (items n k)
 unfolding items
 items-grow zero k g at end e = let z : at ≡ end = cc in omega arith
 items-grow (suc n) k g at end e = then-grows at end (k at) (λ next. items n k next) (λ m f. g at m f) (items-grow n k g) e
@@ -72,7 +72,7 @@ module _ (rec : List ℕ) (count : ℕ) where
   choice-grows none n k at end g e = never (cc)
   choice-grows (some which) n k at end g e = if-grows (ltb which n) (k which) at 2 end (g which) e
 
-  fields-grow : (inner : Family → ℕ → Checked) → ((family : Family) → Grows (inner family)) → (may : Bool) (f : Fields) → Grows (λ next. fields rec count inner may f next)
+  pub fields-grow : (inner : Family → ℕ → Checked) → ((family : Family) → Grows (inner family)) → (may : Bool) (f : Fields) → Grows (λ next. fields rec count inner may f next)
   unfolding fields
   fields-grow inner g may Fields.none at end e = let z : at ≡ end = cc in omega arith
   fields-grow inner g may (f ▸ h) at end e =
@@ -97,7 +97,7 @@ module _ (rec : List ℕ) (count : ℕ) where
   deep-grows none at end e = never (cc)
   deep-grows (some n) at end e = never (cc)
 
-  form-grows : (depth : ℕ) (family : Family) → Grows (formCheck rec count depth family)
+  pub form-grows : (depth : ℕ) (family : Family) → Grows (formCheck rec count depth family)
   unfolding formCheck
   form-grows zero family at end e = deep-grows (formFits rec count family at) at end e
   form-grows (suc depth) family at end e =

@@ -1,15 +1,14 @@
 -- Laws of the table: its rule, and what a code and a row stand for.
-use Prim.Native.Nat.{ℕ, zero, suc, _+_, _-_, _*_, _/_, _%_, _≤_, _<_}
+use Prim.Native.Nat.{ℕ, zero, suc, _+_, _-_, _≤_, _<_}
 use mathlib.Core.Path.{_≡_, refl, sym, _∙_, ap}
 use mathlib.Core.List.{List, [], _∷_, _++_, map}
-use mathlib.Core.Bool.{Bool, true, false}
 use native.Mathlib.Omega.{arith}
 use lib.ListN.{length, getD, take, drop, List·getD-map, List·getD-append, List·getD-eq-default}
 use lib.Seq.{getD-append-add}
 use Rattle.reader.specs.Fields.{Fields, none, token, group, forms, Family, DecOne, StrExp, SigExp, Exp, Pat, Ty}
 use Rattle.reader.specs.Fields.{PatRowInner, FunBindCaseHead, ExBindInner, FunctorArg, AppStrExpArg}
 use Rattle.reader.specs.Tree.{firstRow}
-use Rattle.reader.specs.Grammar.{groups, nodes, node, fieldOf, digits, fieldsOf, inside, upTo, held, rows}
+use Rattle.reader.specs.Grammar.{groups, nodes, node, digits, fieldsOf, inside, upTo, held, rows}
 
 -- The rule of a table whose rows stand for these fields.
 pub row-at : (l : List ℕ) → map fieldsOf l ≡ rows → (row : ℕ) → fieldsOf (getD l row 0) ≡ getD rows row none

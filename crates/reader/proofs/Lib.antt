@@ -4,3 +4,4 @@ pub mod TreeLaws
 pub mod FieldLaws
 pub mod TokenLaws
 pub mod ReadingLaws
+pub mod Local

@@ -1,14 +1,12 @@
 -- Laws of refusals 1 to 4.
 use Prim.Native.Nat.{ℕ, suc, _+_, _≤_, _<_}
 use mathlib.Core.Path.{_≡_, refl, sym, _∙_, ap}
-use mathlib.Core.List.{List, [], _∷_}
-use mathlib.Core.Bool.{Bool, true, false, _&&_}
-use mathlib.Core.Option.{Option, none, some}
+use mathlib.Core.List.{List, _∷_}
+use mathlib.Core.Option.{none, some}
 use native.Mathlib.Omega.{arith}
 use native.Mathlib.Numerals.{add-one}
 use lib.ListN.{length, getD, take, drop, drop-of-length-le}
 use lib.Seq.{drop-cons}
-use lib.Dec.{leb}
 use borrow.Author.Tests.{le-leb, lt-leb}
 use Rattle.text.specs.Bytes.{firstWide}
 use Rattle.reader.specs.declared.commands.Number.{Number}
@@ -20,10 +18,10 @@ use Rattle.reader.specs.declared.tree.Checked.the-variants as Tree
 use Rattle.reader.specs.declared.Reading.{Reading}
 use Rattle.reader.specs.declared.Reading.the-variants.{Sheet, TooLong, NotAscii, Malformed, TooDeep}
 use Rattle.reader.specs.Commands.{numberIn}
-use Rattle.reader.specs.Tokens.{Tiling, tiled, untiled, tokens, tokensIn, tilingIn, Tiles}
-use Rattle.reader.specs.Check.{ok, malformed, tooDeep, treeCheck}
+use Rattle.reader.specs.Tokens.{tiled, untiled, tokens, tokensIn, tilingIn, Tiles}
+use Rattle.reader.specs.Check.{treeCheck}
 use Rattle.reader.specs.Tree.{checkedIn, TreeEnd}
-use Rattle.reader.specs.Reading.{Read, refused, sheet, readTree, readRecord, readText, read, numberOf, placeOf, RecordReads, Reads}
+use Rattle.reader.specs.Reading.{refused, readTree, readRecord, readText, read, numberOf, placeOf, RecordReads, Reads}
 
 -- ---- 2: the first byte of 128 or more
 pub record Scanned (text : List ℕ) (i : ℕ) : Type 0 where

@@ -1,5 +1,5 @@
 -- Laws of the tokens: the tables, filled from the front, hold what the definition puts together from the back.
-use Prim.Native.Nat.{ℕ, zero, suc, _+_, _-_, _*_, _≤_, _<_}
+use Prim.Native.Nat.{ℕ, suc, _+_, _-_, _≤_, _<_}
 use mathlib.Core.Path.{_≡_, refl, sym, _∙_, ap}
 use mathlib.Core.List.{List, [], _∷_, _++_, append-assoc, append-nil}
 use mathlib.Core.Bool.{Bool, true, false, _&&_}
@@ -8,13 +8,13 @@ use native.Mathlib.Numerals.{add-one}
 use lib.ListN.{length, getD, take, set, length-set}
 use lib.Seq.{take-suc-set, length-take-le}
 use lib.Dec.{leb, eqb}
-use borrow.Author.Tests.{le-leb, lt-leb, leb-true, eq-eqb, ne-eqb, eqb-true}
+use borrow.Author.Tests.{le-leb, lt-leb, leb-true, eq-eqb, ne-eqb}
 use Rattle.reader.specs.Commands.{u16, command, CommandAt}
 use Rattle.reader.specs.declared.tokens.Next.{Next}
 use Rattle.reader.specs.declared.tokens.Next.the-variants.{Is, Malformed, End}
 use Rattle.reader.specs.declared.tokens.Tiled as Code
 use Rattle.reader.specs.declared.tokens.Tiled.the-variants as Case
-use Rattle.reader.specs.Tokens.{Tokens, noTokens, Tiling, tiled, untiled, isToken, endTokens, withToken, tokensFrom, tokens, nextAt, tokensIn, tilingIn, endAt, Tiles}
+use Rattle.reader.specs.Tokens.{Tokens, noTokens, Tiling, tiled, untiled, isToken, endTokens, withToken, tokensFrom, tokens, nextAt, tokensIn, endAt, Tiles}
 use Rattle.reader.proofs.CommandLaws.{and-left, and-right, command-fits}
 
 -- ---- the next token

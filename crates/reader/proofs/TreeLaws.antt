@@ -1,12 +1,12 @@
 -- Laws of the record check behind the tokens: what the command of a node says, and how a row of codes is passed.
-use Prim.Native.Nat.{ℕ, zero, suc, _+_, _-_, _*_, _/_, _%_, _≤_, _<_}
+use Prim.Native.Nat.{ℕ, zero, suc, _+_, _-_, _≤_, _<_}
 use mathlib.Core.Path.{_≡_, refl, sym, _∙_, ap}
 use mathlib.Core.List.{List}
-use mathlib.Core.Bool.{Bool, true, false, _&&_, _||_}
+use mathlib.Core.Bool.{Bool, true, false, _||_}
 use mathlib.Core.Option.{Option, none, some}
 use native.Mathlib.Omega.{arith}
 use lib.ListN.{length, getD}
-use lib.Dec.{leb, ltb, eqb}
+use lib.Dec.{ltb, eqb}
 use borrow.Author.Tests.{lt-ltb, le-ltb, ltb-true}
 use Rattle.reader.specs.declared.commands.Family.{Family}
 use Rattle.reader.specs.declared.commands.Number.{Number}
@@ -14,12 +14,12 @@ use Rattle.reader.specs.declared.commands.Number.the-variants.{Is, Not}
 use Rattle.reader.specs.declared.tree.Opened.{Opened}
 use Rattle.reader.specs.declared.tree.Opened.the-variants.{Token, Inside, Malformed, TooDeep}
 use Rattle.reader.specs.Fields as Fields
-use Rattle.reader.specs.Fields.{Fields, _▸_, token, list, group, choice, form, forms}
-use Rattle.reader.specs.Commands.{u16, tokenAt, listAt, groupAt, choiceAt, formAt, formWidth, firstToken, noToken, familyOf, NumberAt, SignAt, FormAt}
-use Rattle.reader.specs.Check.{Checked, ok, malformed, tooDeep, andThen, items, operandFits, orAbsent, fields, formFits, formCheck}
-use Rattle.reader.specs.Grammar.{fieldsOf, rows}
-use Rattle.reader.specs.Tree.{opened, ahead, firstRow, Opens}
-use Rattle.reader.proofs.CommandLaws.{read-not, read-is, form-not, form-read, token-fits, group-fits, choice-fits, form-fits, form-wide}
+use Rattle.reader.specs.Fields.{Fields, token, group, choice, form, forms}
+use Rattle.reader.specs.Commands.{u16, tokenAt, groupAt, choiceAt, formAt, formWidth, firstToken, noToken, familyOf, NumberAt, SignAt, FormAt}
+use Rattle.reader.specs.Check.{malformed, tooDeep, operandFits, orAbsent, fields, formFits, formCheck}
+use Rattle.reader.specs.Grammar.{fieldsOf}
+use Rattle.reader.specs.Tree.{opened, Opens}
+use Rattle.reader.proofs.CommandLaws.{read-not, read-is, form-not, form-read, group-fits, choice-fits, form-fits, form-wide}
 
 module _ {rec : List ℕ} {count left at : ℕ} {r : Number} where
   -- ---- a token

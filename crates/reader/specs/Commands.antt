@@ -10,6 +10,8 @@ use Rattle.reader.specs.declared.commands.Family as Code
 use Rattle.reader.specs.declared.commands.Family.the-variants as Case
 use Rattle.reader.specs.declared.commands.Number.{Number}
 use Rattle.reader.specs.declared.commands.Number.the-variants.{Is, Not}
+use Rattle.reader.specs.declared.commands.Declaration.{Declaration}
+use Rattle.reader.specs.declared.commands.Declaration.the-variants as Whole
 use Rattle.reader.specs.Fields.{Family, DecOne, StrExp, SigExp, Exp, Pat, Ty, forms, firstForm}
 
 -- How many bytes a form's command has: a declaration's has one operand, the first token.
@@ -65,6 +67,11 @@ noToken = 0xFFFF
 unfoldable pub firstToken : List ℕ → ℕ → Option ℕ
 firstToken rec at = elim (eqb (u16 rec (at + 1)) noToken) [ true ↦ none | false ↦ some (u16 rec (at + 1)) ]
 
+-- The command of a declaration: the number of its form, its first token, the place of its fields.
+unfoldable pub declarationAt : List ℕ → ℕ → Option (ℕ × Option ℕ × ℕ)
+declarationAt rec at =
+    elim (formAt rec DecOne at) [ none ↦ none | some n ↦ some (n, firstToken rec at, at + formWidth DecOne) ]
+
 -- The family that the code names.
 abbrev pub familyOf : Code.Family → Family
 familyOf Case.DecOne = DecOne
@@ -79,6 +86,10 @@ unfoldable pub numberIn : Number → Option ℕ
 numberIn (Is n) = some n
 numberIn Not = none
 
+unfoldable pub declarationIn : Declaration → Option (ℕ × Option ℕ × ℕ)
+declarationIn (Whole.Is number first next) = some (number, numberIn first, next)
+declarationIn Whole.Not = none
+
 -- Contracts: an answer is what the definition reads at the offset.
 pub record CommandAt (tag width : ℕ) (rec : List ℕ) (at : ℕ) (r : Bool) : Type 0 where
   pub is : r ≡ command rec tag width at
@@ -91,3 +102,6 @@ pub record NumberAt (reads : List ℕ → ℕ → Option ℕ) (rec : List ℕ) (
 
 pub record FormAt (family : Code.Family) (rec : List ℕ) (at : ℕ) (r : Number) : Type 0 where
   pub is : numberIn r ≡ formAt rec (familyOf family) at
+
+pub record DeclarationAt (rec : List ℕ) (at : ℕ) (r : Declaration) : Type 0 where
+  pub is : declarationIn r ≡ declarationAt rec at

@@ -107,6 +107,9 @@ const THIRD: u32 = 65536;
 
 const FOURTH: u32 = 16777216;
 
+// With a group's code: its row.
+pub const BEFORE_GROUPS: usize = 85;
+
 // Rows of the table.
 const ROWS: usize = 120;
 

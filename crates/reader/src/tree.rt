@@ -9,9 +9,19 @@ use crate::commands::form_width;
 use crate::commands::group_at;
 use crate::commands::list_at;
 use crate::commands::token_at;
+use crate::grammar::APP_STR_EXP_ARG;
+use crate::grammar::BEFORE_GROUPS;
 use crate::grammar::DEC;
+use crate::grammar::DEC_ONE;
+use crate::grammar::EX_BIND_INNER;
 use crate::grammar::EXP;
+use crate::grammar::FUN_BIND_CASE_HEAD;
+use crate::grammar::FUNCTOR_ARG;
 use crate::grammar::LIST;
+use crate::grammar::PAT;
+use crate::grammar::PAT_ROW_INNER;
+use crate::grammar::SIG_EXP;
+use crate::grammar::STR_EXP;
 use crate::grammar::TY;
 use crate::grammar::codes_of;
 ghost use mathlib.Core.Path.{_≡_};
@@ -152,21 +162,21 @@ fn open_node(rec: &[u8], count: usize, code: u32, at: usize, left: usize) -> Ope
     if code == 0 {
         return open_token(rec, count, at, left);
     }
-    if code < 35 {
-        return open_group(rec, count, code as usize + 85, at, left);
+    if code < DEC_ONE {
+        return open_group(rec, count, code as usize + BEFORE_GROUPS, at, left);
     }
     match code {
-        35 => open_form(rec, count, Family::DecOne, at, left),
-        36 => open_form(rec, count, Family::StrExp, at, left),
-        37 => open_form(rec, count, Family::SigExp, at, left),
-        38 => open_form(rec, count, Family::Exp, at, left),
-        39 => open_form(rec, count, Family::Pat, at, left),
-        40 => open_form(rec, count, Family::Ty, at, left),
-        41 => open_choice(rec, count, 3, 75, at, left),
-        42 => open_choice(rec, count, 2, 78, at, left),
-        43 => open_choice(rec, count, 2, 80, at, left),
-        44 => open_choice(rec, count, 2, 82, at, left),
-        45 => open_choice(rec, count, 2, 84, at, left),
+        DEC_ONE => open_form(rec, count, Family::DecOne, at, left),
+        STR_EXP => open_form(rec, count, Family::StrExp, at, left),
+        SIG_EXP => open_form(rec, count, Family::SigExp, at, left),
+        EXP => open_form(rec, count, Family::Exp, at, left),
+        PAT => open_form(rec, count, Family::Pat, at, left),
+        TY => open_form(rec, count, Family::Ty, at, left),
+        PAT_ROW_INNER => open_choice(rec, count, 3, 75, at, left),
+        FUN_BIND_CASE_HEAD => open_choice(rec, count, 2, 78, at, left),
+        EX_BIND_INNER => open_choice(rec, count, 2, 80, at, left),
+        FUNCTOR_ARG => open_choice(rec, count, 2, 82, at, left),
+        APP_STR_EXP_ARG => open_choice(rec, count, 2, 84, at, left),
         _ => open_token(rec, count, at, left),
     }
 }

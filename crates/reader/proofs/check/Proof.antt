@@ -1,44 +1,33 @@
+-- `check` meets its contract.
 use Rattle.reader.proofs.ReadingLaws.{text-long, record-long, not-ascii, ascii}
 use borrow.Author.Needs.{needs}
 use Rattle.reader.proofs.check.Statement.{statement}
 use Rattle.reader.proofs.check.Tie as tie
-use Rattle.reader.proofs.check.Reads as reads
-use Rattle.reader.proofs.check.Lts as lts
-use Rattle.reader.proofs.first_wide.Reads as first-wide-reads
-use Rattle.reader.proofs.read_record.Reads as read-record-reads
 
--- src/lib.rt:84:9
 returns : tie.Need-returns
 returns c = text-long _ _ _ _ _ (c .if1 .taken)
 
--- src/lib.rt:87:9
 returns-2 : tie.Need-returns-2
 returns-2 c = record-long _ _ _ _ _ (c .before .if1 .left) (c .if2 .taken)
 
--- src/lib.rt:89:32
 first-wide-requires : tie.Need-first-wide-requires
 first-wide-requires c κs = search needs
 
--- src/lib.rt:89:23
 enum-known-place : tie.Need-enum-known-place
 enum-known-place c = search needs
 
--- src/lib.rt:90:9
 returns-3 : tie.Need-returns-3
 returns-3 c = not-ascii _ _ _ _ _ (c .before .before .before .before .before .if1 .left) (c .before .before .before .before .if2 .left) (c .before .before .before .first-wide .ensures) (c .before .place .given .1)
 
 enum-told : tie.Need-enum-told
 enum-told c = search needs
 
--- src/lib.rt:92:17
 cast-read-record : tie.Need-cast-read-record
 cast-read-record c = search needs
 
--- src/lib.rt:92:5
 read-record-requires : tie.Need-read-record-requires
 read-record-requires c κs = search needs
 
--- src/lib.rt:74:1
 returns-4 : tie.Need-returns-4
 returns-4 c = ascii _ _ _ _ _ (c .before .before .before .before .before .before .before .before .if1 .left) (c .before .before .before .before .before .before .before .if2 .left) (c .before .before .before .before .before .before .first-wide .ensures) (c .before .before .before .before .enum-told .given .1) (c .read-record .ensures)
 

@@ -1,3 +1,4 @@
+-- `first_wide` meets its contract.
 use native.Mathlib.Omega.{arith}
 use Prim.Native.Nat.{_-_}
 use lib.ListN.{length}
@@ -5,8 +6,6 @@ use borrow.Author.Needs.{needs}
 use Rattle.reader.proofs.ReadingLaws.{Scanned, scan-starts, scan-ends, scan-finds, scan-goes}
 use Rattle.reader.proofs.first_wide.Statement.{statement}
 use Rattle.reader.proofs.first_wide.Tie as tie
-use Rattle.reader.proofs.first_wide.Reads as reads
-use Rattle.reader.proofs.first_wide.Lts as lts
 
 abbrev Inv-loop : tie.InvT-loop
 Inv-loop text i₀ i = Scanned text i
@@ -14,31 +13,24 @@ Inv-loop text i₀ i = Scanned text i
 abbrev μ-loop : tie.MeasureT-loop
 μ-loop text i₀ i = length text - i
 
--- src/lib.rt:40:5
 loop-holds : tie.Need-loop-holds Inv-loop μ-loop
 loop-holds c = scan-starts
 
--- src/lib.rt:41:19
 shared-slice-read-if1 : tie.Need-shared-slice-read-if1 Inv-loop μ-loop
 shared-slice-read-if1 c = search needs
 
--- src/lib.rt:42:13
 returns : tie.Need-returns Inv-loop μ-loop
 returns c = scan-finds (c .before .before .before .loop .inv) (c .before .before .loop-test .taken) (c .if1 .taken)
 
--- src/lib.rt:44:9
 add-i : tie.Need-add-i Inv-loop μ-loop
 add-i c = omega arith
 
--- src/lib.rt:40:5
 loop-less : tie.Need-loop-less Inv-loop μ-loop
 loop-less c = omega arith
 
--- src/lib.rt:40:5
 loop-again : tie.Need-loop-again Inv-loop μ-loop
 loop-again c = scan-goes (c .before .before .before .loop .inv) (c .before .before .loop-test .taken) (c .if1 .left)
 
--- src/lib.rt:36:1
 returns-2 : tie.Need-returns-2 Inv-loop μ-loop
 returns-2 c = scan-ends (c .before .loop .inv) (c .loop-test .left)
 

@@ -1,53 +1,39 @@
+-- `read_record` meets its contract.
 use Rattle.reader.proofs.ReadingLaws.{record-sheet, record-malformed, record-deep, record-untiled}
 use borrow.Author.Needs.{needs}
 use Rattle.reader.proofs.read_record.Statement.{statement}
 use Rattle.reader.proofs.read_record.Tie as tie
-use Rattle.reader.proofs.read_record.Reads as reads
-use Rattle.reader.proofs.read_record.Lts as lts
-use Rattle.reader.proofs.tokens.read_tokens.Reads as read-tokens-reads
-use Rattle.reader.proofs.tree.tree_end.Reads as tree-end-reads
 
--- src/lib.rt:59:9
 read-tokens-requires : tie.Need-read-tokens-requires
 read-tokens-requires c κs = search needs
 
--- src/lib.rt:61:24
 enum-known-tokens : tie.Need-enum-known-tokens
 enum-known-tokens c = search needs
 
--- src/lib.rt:62:17
 tree-end-requires : tie.Need-tree-end-requires
 tree-end-requires c κs = search needs
 
--- src/lib.rt:64:35
 enum-told : tie.Need-enum-told
 enum-told c = search needs
 
--- src/lib.rt:65:36
 enum-known-found : tie.Need-enum-known-found
 enum-known-found c = search needs
 
--- src/lib.rt:66:34
 enum-known-found-2 : tie.Need-enum-known-found-2
 enum-known-found-2 c = search needs
 
--- src/lib.rt:69:24
 enum-known-tokens-2 : tie.Need-enum-known-tokens-2
 enum-known-tokens-2 c = search needs
 
--- src/lib.rt:50:1
 returns : tie.Need-returns
 returns c = record-sheet (c .before .before .before .before .before .before .read-tokens .ensures) (c .before .before .before .before .tokens .given .1) (c .before .before .tree-end .ensures) (c .enum-told .given .1)
 
--- src/lib.rt:50:1
 returns-2 : tie.Need-returns-2
 returns-2 c = record-malformed (c .before .before .before .before .before .before .before .read-tokens .ensures) (c .before .before .before .before .before .tokens .given .1) (c .before .before .before .tree-end .ensures) (c .before .found .given .1)
 
--- src/lib.rt:50:1
 returns-3 : tie.Need-returns-3
 returns-3 c = record-deep (c .before .before .before .before .before .before .before .read-tokens .ensures) (c .before .before .before .before .before .tokens .given .1) (c .before .before .before .tree-end .ensures) (c .before .found2 .given .1)
 
--- src/lib.rt:50:1
 returns-4 : tie.Need-returns-4
 returns-4 c = record-untiled (c .before .before .before .read-tokens .ensures) (c .before .tokens2 .given .1)
 

@@ -1,16 +1,12 @@
+-- `absent_at` meets its contract.
 use Rattle.reader.specs.Commands.{absentAt}
 use borrow.Author.Needs.{needs}
 use Rattle.reader.proofs.commands.absent_at.Statement.{statement}
 use Rattle.reader.proofs.commands.absent_at.Tie as tie
-use Rattle.reader.proofs.commands.absent_at.Reads as reads
-use Rattle.reader.proofs.commands.absent_at.Lts as lts
-use Rattle.reader.proofs.commands.command.Reads as command-reads
 
--- src/commands.rt:74:5
 command-requires : tie.Need-command-requires
 command-requires c κs = search needs
 
--- src/commands.rt:71:1
 returns : tie.Need-returns
 unfolding absentAt
 returns c = record { is = c .command .ensures .is }

@@ -1,34 +1,25 @@
+-- `choice_at` meets its contract.
 use native.Mathlib.Omega.{arith}
 use Rattle.reader.proofs.CommandLaws.{fits, choice-yes, choice-no}
 use borrow.Author.Needs.{needs}
 use Rattle.reader.proofs.commands.choice_at.Statement.{statement}
 use Rattle.reader.proofs.commands.choice_at.Tie as tie
-use Rattle.reader.proofs.commands.choice_at.Reads as reads
-use Rattle.reader.proofs.commands.choice_at.Lts as lts
-use Rattle.reader.proofs.commands.byte_at.Reads as byte-at-reads
-use Rattle.reader.proofs.commands.command.Reads as command-reads
 
--- src/commands.rt:108:8
 command-requires : tie.Need-command-requires
 command-requires c κs = search needs
 
--- src/commands.rt:109:40
 add-byte-at : tie.Need-add-byte-at
 add-byte-at c = omega (arith, fits (c .before .command .ensures) (c .if1 .taken))
 
--- src/commands.rt:109:27
 byte-at-requires : tie.Need-byte-at-requires
 byte-at-requires c κs = search needs
 
--- src/commands.rt:109:27
 cast-t6 : tie.Need-cast-t6
 cast-t6 c = search needs
 
--- src/commands.rt:109:9
 returns : tie.Need-returns
 returns c = choice-yes (c .before .before .command .ensures) (c .before .if1 .taken) (c .byte-at .ensures)
 
--- src/commands.rt:105:1
 returns-2 : tie.Need-returns-2
 returns-2 c = choice-no (c .before .command .ensures) (c .if1 .left)
 

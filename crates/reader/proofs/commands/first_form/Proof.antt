@@ -1,60 +1,47 @@
+-- `first_form` meets its contract.
 use Rattle.reader.specs.Fields.{firstForm}
 use borrow.Author.Needs.{needs}
 use Rattle.reader.proofs.commands.first_form.Statement.{statement}
 use Rattle.reader.proofs.commands.first_form.Tie as tie
-use Rattle.reader.proofs.commands.first_form.Reads as reads
-use Rattle.reader.proofs.commands.first_form.Lts as lts
 
--- src/commands.rt:119:27
 enum-told : tie.Need-enum-told
 enum-told c = search needs
 
--- src/commands.rt:120:27
 enum-told-2 : tie.Need-enum-told-2
 enum-told-2 c = search needs
 
--- src/commands.rt:121:27
 enum-told-3 : tie.Need-enum-told-3
 enum-told-3 c = search needs
 
--- src/commands.rt:122:24
 enum-told-4 : tie.Need-enum-told-4
 enum-told-4 c = search needs
 
--- src/commands.rt:123:24
 enum-told-5 : tie.Need-enum-told-5
 enum-told-5 c = search needs
 
--- src/commands.rt:124:23
 enum-told-6 : tie.Need-enum-told-6
 enum-told-6 c = search needs
 
--- src/commands.rt:115:1
 returns : tie.Need-returns
 unfolding firstForm
 returns c = cc
 
--- src/commands.rt:115:1
 returns-2 : tie.Need-returns-2
 unfolding firstForm
 returns-2 c = cc
 
--- src/commands.rt:115:1
 returns-3 : tie.Need-returns-3
 unfolding firstForm
 returns-3 c = cc
 
--- src/commands.rt:115:1
 returns-4 : tie.Need-returns-4
 unfolding firstForm
 returns-4 c = cc
 
--- src/commands.rt:115:1
 returns-5 : tie.Need-returns-5
 unfolding firstForm
 returns-5 c = cc
 
--- src/commands.rt:115:1
 returns-6 : tie.Need-returns-6
 unfolding firstForm
 returns-6 c = cc

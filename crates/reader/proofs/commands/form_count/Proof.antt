@@ -1,60 +1,47 @@
+-- `form_count` meets its contract.
 use Rattle.reader.specs.Fields.{forms}
 use borrow.Author.Needs.{needs}
 use Rattle.reader.proofs.commands.form_count.Statement.{statement}
 use Rattle.reader.proofs.commands.form_count.Tie as tie
-use Rattle.reader.proofs.commands.form_count.Reads as reads
-use Rattle.reader.proofs.commands.form_count.Lts as lts
 
--- src/commands.rt:133:27
 enum-told : tie.Need-enum-told
 enum-told c = search needs
 
--- src/commands.rt:134:27
 enum-told-2 : tie.Need-enum-told-2
 enum-told-2 c = search needs
 
--- src/commands.rt:135:27
 enum-told-3 : tie.Need-enum-told-3
 enum-told-3 c = search needs
 
--- src/commands.rt:136:24
 enum-told-4 : tie.Need-enum-told-4
 enum-told-4 c = search needs
 
--- src/commands.rt:137:24
 enum-told-5 : tie.Need-enum-told-5
 enum-told-5 c = search needs
 
--- src/commands.rt:138:23
 enum-told-6 : tie.Need-enum-told-6
 enum-told-6 c = search needs
 
--- src/commands.rt:129:1
 returns : tie.Need-returns
 unfolding forms
 returns c = cc
 
--- src/commands.rt:129:1
 returns-2 : tie.Need-returns-2
 unfolding forms
 returns-2 c = cc
 
--- src/commands.rt:129:1
 returns-3 : tie.Need-returns-3
 unfolding forms
 returns-3 c = cc
 
--- src/commands.rt:129:1
 returns-4 : tie.Need-returns-4
 unfolding forms
 returns-4 c = cc
 
--- src/commands.rt:129:1
 returns-5 : tie.Need-returns-5
 unfolding forms
 returns-5 c = cc
 
--- src/commands.rt:129:1
 returns-6 : tie.Need-returns-6
 unfolding forms
 returns-6 c = cc

@@ -1,60 +1,47 @@
+-- `form_width` meets its contract.
 use Rattle.reader.specs.Commands.{formWidth}
 use borrow.Author.Needs.{needs}
 use Rattle.reader.proofs.commands.form_width.Statement.{statement}
 use Rattle.reader.proofs.commands.form_width.Tie as tie
-use Rattle.reader.proofs.commands.form_width.Reads as reads
-use Rattle.reader.proofs.commands.form_width.Lts as lts
 
--- src/commands.rt:147:27
 enum-told : tie.Need-enum-told
 enum-told c = search needs
 
--- src/commands.rt:148:27
 enum-told-2 : tie.Need-enum-told-2
 enum-told-2 c = search needs
 
--- src/commands.rt:149:27
 enum-told-3 : tie.Need-enum-told-3
 enum-told-3 c = search needs
 
--- src/commands.rt:150:24
 enum-told-4 : tie.Need-enum-told-4
 enum-told-4 c = search needs
 
--- src/commands.rt:151:24
 enum-told-5 : tie.Need-enum-told-5
 enum-told-5 c = search needs
 
--- src/commands.rt:152:23
 enum-told-6 : tie.Need-enum-told-6
 enum-told-6 c = search needs
 
--- src/commands.rt:143:1
 returns : tie.Need-returns
 unfolding formWidth
 returns c = cc
 
--- src/commands.rt:143:1
 returns-2 : tie.Need-returns-2
 unfolding formWidth
 returns-2 c = cc
 
--- src/commands.rt:143:1
 returns-3 : tie.Need-returns-3
 unfolding formWidth
 returns-3 c = cc
 
--- src/commands.rt:143:1
 returns-4 : tie.Need-returns-4
 unfolding formWidth
 returns-4 c = cc
 
--- src/commands.rt:143:1
 returns-5 : tie.Need-returns-5
 unfolding formWidth
 returns-5 c = cc
 
--- src/commands.rt:143:1
 returns-6 : tie.Need-returns-6
 unfolding formWidth
 returns-6 c = cc

@@ -1,3 +1,4 @@
+-- `stands` meets its contract.
 use Prim.Native.Nat.{_+_}
 use native.Mathlib.Omega.{arith}
 use mathlib.Core.Path.{sym}
@@ -6,14 +7,10 @@ use borrow.Author.Tests.{lt-leb}
 use Rattle.reader.proofs.CommandLaws.{stands-eq}
 use Rattle.reader.proofs.commands.stands.Statement.{statement}
 use Rattle.reader.proofs.commands.stands.Tie as tie
-use Rattle.reader.proofs.commands.stands.Reads as reads
-use Rattle.reader.proofs.commands.stands.Lts as lts
 
--- src/commands.rt:55:9
 returns : tie.Need-returns
 returns c = sym (lt-leb (c .before .args .at + c .before .args .width) (length (c .before .args .rec .now)) (omega arith))
 
--- src/commands.rt:50:1
 returns-2 : tie.Need-returns-2
 returns-2 c = stands-eq (c .before .args .at) (c .before .args .width) (length (c .before .args .rec .now)) (c .if1 .left)
 

@@ -1,30 +1,22 @@
+-- `token_at` meets its contract.
 use native.Mathlib.Omega.{arith}
 use Rattle.reader.proofs.CommandLaws.{fits, token-yes, token-no}
 use borrow.Author.Needs.{needs}
 use Rattle.reader.proofs.commands.token_at.Statement.{statement}
 use Rattle.reader.proofs.commands.token_at.Tie as tie
-use Rattle.reader.proofs.commands.token_at.Reads as reads
-use Rattle.reader.proofs.commands.token_at.Lts as lts
-use Rattle.reader.proofs.commands.command.Reads as command-reads
-use Rattle.reader.proofs.commands.u16_at.Reads as u16-at-reads
 
--- src/commands.rt:81:8
 command-requires : tie.Need-command-requires
 command-requires c κs = search needs
 
--- src/commands.rt:82:39
 add-u16-at : tie.Need-add-u16-at
 add-u16-at c = omega (arith, fits (c .before .command .ensures) (c .if1 .taken))
 
--- src/commands.rt:82:27
 u16-at-requires : tie.Need-u16-at-requires
 u16-at-requires c κs = search needs
 
--- src/commands.rt:82:9
 returns : tie.Need-returns
 returns c = token-yes (c .before .before .command .ensures) (c .before .if1 .taken) (c .u16-at .ensures)
 
--- src/commands.rt:78:1
 returns-2 : tie.Need-returns-2
 returns-2 c = token-no (c .before .command .ensures) (c .if1 .left)
 

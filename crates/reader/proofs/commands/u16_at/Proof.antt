@@ -1,35 +1,26 @@
+-- `u16_at` meets its contract.
 use Rattle.reader.proofs.CommandLaws.{u16-past}
 use Rattle.reader.specs.Commands.{u16}
 use borrow.Author.Needs.{needs}
 use Rattle.reader.proofs.commands.u16_at.Statement.{statement}
 use Rattle.reader.proofs.commands.u16_at.Tie as tie
-use Rattle.reader.proofs.commands.u16_at.Reads as reads
-use Rattle.reader.proofs.commands.u16_at.Lts as lts
-use Rattle.reader.proofs.commands.byte_at.Reads as byte-at-reads
-use Rattle.reader.proofs.commands.two.Reads as two-reads
 
--- src/commands.rt:44:20
 byte-at-requires : tie.Need-byte-at-requires
 byte-at-requires c κs = search needs
 
--- src/commands.rt:44:51
 add-byte-at : tie.Need-add-byte-at
 add-byte-at c = search needs
 
--- src/commands.rt:44:38
 byte-at-requires-2 : tie.Need-byte-at-requires-2
 byte-at-requires-2 c κs = search needs
 
--- src/commands.rt:44:9
 two-requires : tie.Need-two-requires
 two-requires c κs = search needs
 
--- src/commands.rt:44:9
 returns : tie.Need-returns
 unfolding u16
 returns c = simp (c .two .ensures .0, c .before .byte-at2 .ensures, c .before .before .byte-at .ensures)
 
--- src/commands.rt:40:1
 returns-2 : tie.Need-returns-2
 returns-2 c = u16-past (c .before .before .args .rec .now) (c .before .before .args .at) (c .if1 .left)
 

@@ -1,3 +1,4 @@
+-- `codes_of` meets its contract.
 use Prim.Native.Nat.{ℕ}
 use mathlib.Core.List.{List, [], _∷_}
 use Rattle.reader.proofs.GrammarLaws.{row-at, row-past}
@@ -7,8 +8,6 @@ use mathlib.Core.Path.{refl}
 use borrow.Author.Needs.{needs}
 use Rattle.reader.proofs.grammar.codes_of.Statement.{statement}
 use Rattle.reader.proofs.grammar.codes_of.Tie as tie
-use Rattle.reader.proofs.grammar.codes_of.Reads as reads
-use Rattle.reader.proofs.grammar.codes_of.Lts as lts
 
 -- The numbers of `GRAMMAR`.
 abbrev table : List ℕ
@@ -22,20 +21,16 @@ table =
     163591 ∷ 138 ∷ 639 ∷ 140 ∷ 884487 ∷ 41 ∷ 131 ∷ 1151 ∷ 132 ∷ 32550 ∷ 9767 ∷ 148 ∷ 272255 ∷ 67282730 ∷
     151 ∷ 11135 ∷ 9599 ∷ 334463 ∷ 6 ∷ 156 ∷ 32547 ∷ 40350 ∷ 32543 ∷ 160 ∷ 605727871 ∷ []
 
--- src/grammar.rt:253:21
 mul-result : tie.Need-mul-result
 mul-result c = search needs
 
--- src/grammar.rt:253:21
 array-read-result : tie.Need-array-read-result
 array-read-result c = search needs
 
--- src/grammar.rt:250:1
 returns : tie.Need-returns
 unfolding groups nodes node fieldOf digits inside upTo held rows forms
 returns c = row-at table refl (c .before .args .row)
 
--- src/grammar.rt:250:1
 returns-2 : tie.Need-returns-2
 returns-2 c = row-past (c .before .args .row) (c .if1 .left)
 

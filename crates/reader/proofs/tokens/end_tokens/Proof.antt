@@ -1,16 +1,13 @@
+-- `end_tokens` meets its contract.
 use borrow.Author.Tests.{eq-eqb, ne-eqb}
 use Rattle.reader.specs.Tokens.{endAt}
 use Rattle.reader.proofs.tokens.end_tokens.Statement.{statement}
 use Rattle.reader.proofs.tokens.end_tokens.Tie as tie
-use Rattle.reader.proofs.tokens.end_tokens.Reads as reads
-use Rattle.reader.proofs.tokens.end_tokens.Lts as lts
 
--- src/tokens.rt:60:9
 returns : tie.Need-returns
 unfolding endAt
 returns c = rw (eq-eqb _ _ (c .if1 .taken), endAt)
 
--- src/tokens.rt:56:1
 returns-2 : tie.Need-returns-2
 unfolding endAt
 returns-2 c = rw (ne-eqb _ _ (c .if1 .left), endAt)

@@ -1,3 +1,4 @@
+-- `fill` meets its contract.
 use native.Mathlib.Omega.{arith}
 use Prim.Native.Nat.{_-_}
 use borrow.Author.Needs.{needs}
@@ -5,11 +6,6 @@ use mathlib.Core.Path.{sym, _∙_}
 use Rattle.reader.proofs.TokenLaws.{Filled, filled-none, filled-more, filled-malformed, filled-end, filled-past, filled-all, is-within, is-whole}
 use Rattle.reader.proofs.tokens.fill.Statement.{statement}
 use Rattle.reader.proofs.tokens.fill.Tie as tie
-use Rattle.reader.proofs.tokens.fill.Reads as reads
-use Rattle.reader.proofs.tokens.fill.Lts as lts
-use Rattle.reader.proofs.commands.byte_at.Reads as byte-at-reads
-use Rattle.reader.proofs.tokens.end_tokens.Reads as end-tokens-reads
-use Rattle.reader.proofs.tokens.next_token.Reads as next-token-reads
 
 abbrev Inv-loop : tie.InvT-loop
 Inv-loop size rec kinds₀ starts₀ lens₀ count₀ start₀ at₀ kinds starts lens count start at =
@@ -18,139 +14,105 @@ Inv-loop size rec kinds₀ starts₀ lens₀ count₀ start₀ at₀ kinds start
 abbrev μ-loop : tie.MeasureT-loop
 μ-loop size rec kinds₀ starts₀ lens₀ count₀ start₀ at₀ kinds starts lens count start at = 4096 - count
 
--- src/tokens.rt:73:5
 loop-holds : tie.Need-loop-holds Inv-loop μ-loop
 loop-holds c = filled-none _ _ _ _ _ (c .before .before .before .before .pre .0) (c .before .before .before .before .pre .1) (c .before .before .before .before .pre .2)
 
--- src/tokens.rt:74:13
 next-token-requires : tie.Need-next-token-requires Inv-loop μ-loop
 next-token-requires c κs = search needs
 
--- src/tokens.rt:76:24
 enum-known-next : tie.Need-enum-known-next Inv-loop μ-loop
 enum-known-next c = search needs
 
--- src/tokens.rt:77:17
 slice-write-kinds : tie.Need-slice-write-kinds Inv-loop μ-loop
 slice-write-kinds c = omega (arith, c .before .before .before .before .before .loop .inv .kinds-long, c .before .before .before .before .loop-test .taken)
 
--- src/tokens.rt:78:17
 mul-starts : tie.Need-mul-starts Inv-loop μ-loop
 mul-starts c = omega (arith, c .before .before .before .before .loop-test .taken)
 
--- src/tokens.rt:78:17
 slice-write-starts : tie.Need-slice-write-starts Inv-loop μ-loop
 slice-write-starts c = omega (arith, c .before .before .before .before .before .loop .inv .starts-long, c .before .before .before .before .loop-test .taken)
 
--- src/tokens.rt:79:17
 mul-lens : tie.Need-mul-lens Inv-loop μ-loop
 mul-lens c = omega (arith, c .before .before .before .before .loop-test .taken)
 
--- src/tokens.rt:79:17
 slice-write-lens : tie.Need-slice-write-lens Inv-loop μ-loop
 slice-write-lens c = omega (arith, c .before .before .before .before .before .loop .inv .lens-long, c .before .before .before .before .loop-test .taken)
 
--- src/tokens.rt:80:17
 add-start : tie.Need-add-start Inv-loop μ-loop
 add-start c = omega (arith, c .before .before .before .before .before .before .before .before .before .before .fits .size, is-within _ _ _ _ (sym (c .before .next .given .1) ∙ c .before .before .before .next-token .ensures))
 
--- src/tokens.rt:81:17
 add-at : tie.Need-add-at Inv-loop μ-loop
 add-at c = omega (arith, is-whole _ _ _ _ (sym (c .before .next .given .1) ∙ c .before .before .before .next-token .ensures))
 
--- src/tokens.rt:82:17
 add-count : tie.Need-add-count Inv-loop μ-loop
 add-count c = omega arith
 
--- src/tokens.rt:73:5
 loop-less : tie.Need-loop-less Inv-loop μ-loop
 loop-less c = omega arith
 
--- src/tokens.rt:73:5
 loop-again : tie.Need-loop-again Inv-loop μ-loop
 loop-again c = filled-more (c .before .before .before .before .before .loop .inv) (c .before .before .before .before .loop-test .taken) (sym (c .before .next .given .1) ∙ c .before .before .before .next-token .ensures)
 
--- src/tokens.rt:85:17
 enum-told : tie.Need-enum-told Inv-loop μ-loop
 enum-told c = search needs
 
--- src/tokens.rt:85:17
 same-length : tie.Need-same-length Inv-loop μ-loop
 same-length c = c .before .before .before .before .loop .inv .kinds-long ∙ sym (c .before .before .before .before .before .before .before .before .before .pre .0)
 
--- src/tokens.rt:85:17
 same-length-2 : tie.Need-same-length-2 Inv-loop μ-loop
 same-length-2 c = c .before .before .before .before .loop .inv .starts-long ∙ sym (c .before .before .before .before .before .before .before .before .before .pre .1)
 
--- src/tokens.rt:85:17
 same-length-3 : tie.Need-same-length-3 Inv-loop μ-loop
 same-length-3 c = c .before .before .before .before .loop .inv .lens-long ∙ sym (c .before .before .before .before .before .before .before .before .before .pre .2)
 
--- src/tokens.rt:85:17
 returns : tie.Need-returns Inv-loop μ-loop
 returns c = filled-malformed (c .before .before .before .before .loop .inv) (c .before .before .before .loop-test .taken) (sym (c .enum-told .given .1) ∙ c .before .before .next-token .ensures)
 
--- src/tokens.rt:88:17
 enum-told-2 : tie.Need-enum-told-2 Inv-loop μ-loop
 enum-told-2 c = search needs
 
--- src/tokens.rt:88:17
 end-tokens-requires : tie.Need-end-tokens-requires Inv-loop μ-loop
 end-tokens-requires c κs = search needs
 
--- src/tokens.rt:88:17
 same-length-4 : tie.Need-same-length-4 Inv-loop μ-loop
 same-length-4 c = c .before .before .before .before .before .loop .inv .kinds-long ∙ sym (c .before .before .before .before .before .before .before .before .before .before .pre .0)
 
--- src/tokens.rt:88:17
 same-length-5 : tie.Need-same-length-5 Inv-loop μ-loop
 same-length-5 c = c .before .before .before .before .before .loop .inv .starts-long ∙ sym (c .before .before .before .before .before .before .before .before .before .before .pre .1)
 
--- src/tokens.rt:88:17
 same-length-6 : tie.Need-same-length-6 Inv-loop μ-loop
 same-length-6 c = c .before .before .before .before .before .loop .inv .lens-long ∙ sym (c .before .before .before .before .before .before .before .before .before .before .pre .2)
 
--- src/tokens.rt:88:17
 returns-2 : tie.Need-returns-2 Inv-loop μ-loop
 returns-2 c = filled-end (c .before .before .before .before .before .loop .inv) (c .before .before .before .before .loop-test .taken) (sym (c .before .enum-told2 .given .1) ∙ c .before .before .before .next-token .ensures) (c .end-tokens .ensures)
 
--- src/tokens.rt:92:8
 byte-at-requires : tie.Need-byte-at-requires Inv-loop μ-loop
 byte-at-requires c κs = search needs
 
--- src/tokens.rt:93:9
 same-length-7 : tie.Need-same-length-7 Inv-loop μ-loop
 same-length-7 c = c .before .before .before .loop .inv .kinds-long ∙ sym (c .before .before .before .before .before .before .before .before .pre .0)
 
--- src/tokens.rt:93:9
 same-length-8 : tie.Need-same-length-8 Inv-loop μ-loop
 same-length-8 c = c .before .before .before .loop .inv .starts-long ∙ sym (c .before .before .before .before .before .before .before .before .pre .1)
 
--- src/tokens.rt:93:9
 same-length-9 : tie.Need-same-length-9 Inv-loop μ-loop
 same-length-9 c = c .before .before .before .loop .inv .lens-long ∙ sym (c .before .before .before .before .before .before .before .before .pre .2)
 
--- src/tokens.rt:93:9
 returns-3 : tie.Need-returns-3 Inv-loop μ-loop
 returns-3 c = filled-past (c .before .before .before .loop .inv) (c .before .before .loop-test .left) (sym (c .before .byte-at .ensures) ∙ c .if1 .taken)
 
--- src/tokens.rt:95:5
 end-tokens-requires-2 : tie.Need-end-tokens-requires-2 Inv-loop μ-loop
 end-tokens-requires-2 c κs = search needs
 
--- src/tokens.rt:66:1
 same-length-10 : tie.Need-same-length-10 Inv-loop μ-loop
 same-length-10 c = c .before .before .before .before .loop .inv .kinds-long ∙ sym (c .before .before .before .before .before .before .before .before .before .pre .0)
 
--- src/tokens.rt:66:1
 same-length-11 : tie.Need-same-length-11 Inv-loop μ-loop
 same-length-11 c = c .before .before .before .before .loop .inv .starts-long ∙ sym (c .before .before .before .before .before .before .before .before .before .pre .1)
 
--- src/tokens.rt:66:1
 same-length-12 : tie.Need-same-length-12 Inv-loop μ-loop
 same-length-12 c = c .before .before .before .before .loop .inv .lens-long ∙ sym (c .before .before .before .before .before .before .before .before .before .pre .2)
 
--- src/tokens.rt:66:1
 returns-4 : tie.Need-returns-4 Inv-loop μ-loop
 returns-4 c = filled-all (c .before .before .before .before .loop .inv) (c .before .before .before .loop-test .left) (λ e. c .before .if1 .left (c .before .before .byte-at .ensures ∙ e)) (c .end-tokens2 .ensures)
 

@@ -1,3 +1,4 @@
+-- `next_token` meets its contract.
 use native.Mathlib.Omega.{arith}
 use Prim.Native.Nat.{_+_}
 use mathlib.Core.Path.{sym, _∙_}
@@ -8,66 +9,47 @@ use Rattle.reader.specs.Commands.{u16}
 use borrow.Author.Needs.{needs}
 use Rattle.reader.proofs.tokens.next_token.Statement.{statement}
 use Rattle.reader.proofs.tokens.next_token.Tie as tie
-use Rattle.reader.proofs.tokens.next_token.Reads as reads
-use Rattle.reader.proofs.tokens.next_token.Lts as lts
-use Rattle.reader.proofs.commands.byte_at.Reads as byte-at-reads
-use Rattle.reader.proofs.commands.command.Reads as command-reads
-use Rattle.reader.proofs.commands.u16_at.Reads as u16-at-reads
 
--- src/tokens.rt:32:8
 byte-at-requires : tie.Need-byte-at-requires
 byte-at-requires c κs = search needs
 
--- src/tokens.rt:33:9
 returns : tie.Need-returns
 returns c = next-end (c .before .before .before .args .size) (c .before .before .before .args .rec .now) (c .before .before .before .args .start) (c .before .before .before .args .at) (λ e. c .if1 .taken (c .before .byte-at .ensures ∙ e))
 
--- src/tokens.rt:35:9
 command-requires : tie.Need-command-requires
 command-requires c κs = search needs
 
--- src/tokens.rt:36:9
 returns-2 : tie.Need-returns-2
 returns-2 c = next-cut (c .before .before .before .before .before .args .size) (c .before .before .before .before .before .args .rec .now) (c .before .before .before .before .before .args .start) (c .before .before .before .before .before .args .at) (sym (c .before .before .before .byte-at .ensures) ∙ c .before .before .if1 .left) (c .before .command .ensures) (not-true _ (c .if2 .taken))
 
--- src/tokens.rt:38:29
 add-byte-at : tie.Need-add-byte-at
 add-byte-at c = omega (arith, fits (c .before .command .ensures) (not-false _ (c .if2 .left)))
 
--- src/tokens.rt:38:9
 byte-at-requires-2 : tie.Need-byte-at-requires-2
 byte-at-requires-2 c κs = search needs
 
--- src/tokens.rt:40:9
 returns-3 : tie.Need-returns-3
 returns-3 c = next-kind (c .before .before .before .before .before .before .before .args .size) (c .before .before .before .before .before .before .before .args .rec .now) (c .before .before .before .before .before .before .before .args .start) (c .before .before .before .before .before .before .before .args .at) (sym (c .before .before .before .before .before .byte-at .ensures) ∙ c .before .before .before .before .if1 .left) (c .before .before .before .command .ensures) (not-false _ (c .before .before .if2 .left)) (c .before .byte-at2 .ensures) (c .if3 .taken)
 
--- src/tokens.rt:42:27
 add-u16-at : tie.Need-add-u16-at
 add-u16-at c = omega (arith, fits (c .before .before .before .command .ensures) (not-false _ (c .before .before .if2 .left)))
 
--- src/tokens.rt:42:9
 u16-at-requires : tie.Need-u16-at-requires
 u16-at-requires c κs = search needs
 
--- src/tokens.rt:44:9
 returns-4 : tie.Need-returns-4
 returns-4 c = next-empty (c .before .before .before .before .before .before .before .before .before .args .size) (c .before .before .before .before .before .before .before .before .before .args .rec .now) (c .before .before .before .before .before .before .before .before .before .args .start) (c .before .before .before .before .before .before .before .before .before .args .at) (sym (c .before .before .before .before .before .before .before .byte-at .ensures) ∙ c .before .before .before .before .before .before .if1 .left) (c .before .before .before .before .before .command .ensures) (not-false _ (c .before .before .before .before .if2 .left)) (c .before .before .before .byte-at2 .ensures) (c .before .before .if3 .left) (c .before .u16-at .ensures) (c .if4 .taken)
 
--- src/tokens.rt:46:26
 add-if5 : tie.Need-add-if5
 unfolding u16
 add-if5 c = omega (arith, c .before .u16-at .ensures, c .before .before .before .before .before .before .before .before .shared-slice-known .given (c .before .before .before .before .before .before .before .before .before .args .at + 2), c .before .before .before .before .before .before .before .before .shared-slice-known .given (c .before .before .before .before .before .before .before .before .before .args .at + 2 + 1))
 
--- src/tokens.rt:47:9
 returns-5 : tie.Need-returns-5
 returns-5 c = next-past (c .before .before .before .before .before .before .before .before .before .before .args .size) (c .before .before .before .before .before .before .before .before .before .before .args .rec .now) (c .before .before .before .before .before .before .before .before .before .before .args .start) (c .before .before .before .before .before .before .before .before .before .before .args .at) (sym (c .before .before .before .before .before .before .before .before .byte-at .ensures) ∙ c .before .before .before .before .before .before .before .if1 .left) (c .before .before .before .before .before .before .command .ensures) (not-false _ (c .before .before .before .before .before .if2 .left)) (c .before .before .before .before .byte-at2 .ensures) (c .before .before .before .if3 .left) (c .before .before .u16-at .ensures) (c .before .if4 .left) (c .if5 .taken)
 
--- src/tokens.rt:51:14
 cast-t13 : tie.Need-cast-t13
 cast-t13 c = search needs
 
--- src/tokens.rt:29:1
 returns-6 : tie.Need-returns-6
 returns-6 c = next-token (c .before .before .before .before .before .before .before .before .before .before .args .size) (c .before .before .before .before .before .before .before .before .before .before .args .rec .now) (c .before .before .before .before .before .before .before .before .before .before .args .start) (c .before .before .before .before .before .before .before .before .before .before .args .at) (sym (c .before .before .before .before .before .before .before .before .byte-at .ensures) ∙ c .before .before .before .before .before .before .before .if1 .left) (c .before .before .before .before .before .before .command .ensures) (not-false _ (c .before .before .before .before .before .if2 .left)) (c .before .before .before .before .byte-at2 .ensures) (c .before .before .before .if3 .left) (c .before .before .u16-at .ensures) (c .before .if4 .left) (c .if5 .left)
 

@@ -1,4 +1,5 @@
-use Prim.Native.Nat.{ℕ, _<_}
+-- `field`, `fields`, `item` and `items` meet their contracts. They end because the record left falls.
+use Prim.Native.Nat.{ℕ, _<_, _+_, _*_, _-_}
 use borrow.Fn.Kinds.{In}
 use borrow.Fn.PlainCycle.{Measures, is, falls, and}
 use Rattle.reader.proofs.tree.field.Reads as field
@@ -18,7 +19,6 @@ use Rattle.reader.proofs.commands.list_at.Reads as list-at-reads
 use Rattle.reader.proofs.tree.open_node.Reads as open-node-reads
 use Rattle.reader.proofs.tree.+field+fields+item+items.{statement}
 use Rattle.reader.proofs.tree.+field+fields+item+items.Tie.{close}
-use Prim.Native.Nat.{_+_, _*_, _-_}
 use mathlib.Core.Path.{sym, _∙_}
 use borrow.Author.Needs.{needs}
 use native.Mathlib.Omega.{arith}

@@ -1,28 +1,21 @@
+-- `first_fits` meets its contract.
 use Rattle.reader.proofs.TreeLaws.{first-absent, first-below}
 use borrow.Author.Needs.{needs}
 use Rattle.reader.proofs.tree.first_fits.Statement.{statement}
 use Rattle.reader.proofs.tree.first_fits.Tie as tie
-use Rattle.reader.proofs.tree.first_fits.Reads as reads
-use Rattle.reader.proofs.tree.first_fits.Lts as lts
-use Rattle.reader.proofs.commands.first_token.Reads as first-token-reads
 
--- src/tree.rt:88:25
 first-token-requires : tie.Need-first-token-requires
 first-token-requires c κs = search needs
 
--- src/tree.rt:88:20
 enum-known-k : tie.Need-enum-known-k
 enum-known-k c = search needs
 
--- src/tree.rt:89:9
 enum-told : tie.Need-enum-told
 enum-told c = search needs
 
--- src/tree.rt:89:9
 returns : tie.Need-returns
 returns c = first-absent (c .before .before .before .before .args .count) (c .before .before .first-token .ensures) (c .enum-told .given .1)
 
--- src/tree.rt:85:1
 returns-2 : tie.Need-returns-2
 returns-2 c = first-below (c .before .before .before .before .before .args .count) (c .before .before .before .first-token .ensures) (c .before .k .given .1)
 

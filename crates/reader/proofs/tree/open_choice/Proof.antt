@@ -1,47 +1,35 @@
+-- `open_choice` meets its contract.
 use native.Mathlib.Omega.{arith}
 use Rattle.reader.proofs.TreeLaws.{choice-none, choice-opens, choice-past}
 use Rattle.reader.proofs.CommandLaws.{choice-fits, read-is}
 use borrow.Author.Needs.{needs}
 use Rattle.reader.proofs.tree.open_choice.Statement.{statement}
 use Rattle.reader.proofs.tree.open_choice.Tie as tie
-use Rattle.reader.proofs.tree.open_choice.Reads as reads
-use Rattle.reader.proofs.tree.open_choice.Lts as lts
-use Rattle.reader.proofs.commands.choice_at.Reads as choice-at-reads
-use Rattle.reader.proofs.grammar.codes_of.Reads as codes-of-reads
 
--- src/tree.rt:71:29
 choice-at-requires : tie.Need-choice-at-requires
 choice-at-requires c κs = search needs
 
--- src/tree.rt:71:20
 enum-known-which : tie.Need-enum-known-which
 enum-known-which c = search needs
 
--- src/tree.rt:72:9
 enum-told : tie.Need-enum-told
 enum-told c = search needs
 
--- src/tree.rt:72:9
 returns : tie.Need-returns
 returns c = choice-none (c .before .before .choice-at .ensures) (c .enum-told .given .1)
 
--- src/tree.rt:76:29
 add-codes-of : tie.Need-add-codes-of
 add-codes-of c = search needs
 
--- src/tree.rt:76:20
 codes-of-requires : tie.Need-codes-of-requires
 codes-of-requires c κs = search needs
 
--- src/tree.rt:77:17
 add-t14 : tie.Need-add-t14
 add-t14 c = omega (arith, choice-fits _ _ _ (read-is (c .before .before .before .before .before .choice-at .ensures) (c .before .before .before .which .given .1)))
 
--- src/tree.rt:75:9
 returns-2 : tie.Need-returns-2
 returns-2 c = choice-opens (c .before .before .before .before .before .choice-at .ensures) (c .before .before .before .which .given .1) (c .before .if1 .taken) (c .codes-of .ensures)
 
--- src/tree.rt:68:1
 returns-3 : tie.Need-returns-3
 returns-3 c = choice-past (c .before .before .before .before .choice-at .ensures) (c .before .before .which .given .1) (c .if1 .left)
 

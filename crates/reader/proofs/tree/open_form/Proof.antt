@@ -1,81 +1,60 @@
+-- `open_form` meets its contract.
 use Prim.Native.Nat.{ℕ, _+_}
 use Rattle.reader.proofs.GrammarLaws.{form-row, row-small}
 use native.Mathlib.Omega.{arith}
-use mathlib.Core.Path.{sym, ap, _∙_}
-use lib.ListN.{getD, length}
+use mathlib.Core.Path.{ap, _∙_}
+use lib.ListN.{getD}
 use Rattle.reader.proofs.TreeLaws.{form-none, form-out, form-deep, form-opens}
 use Rattle.reader.proofs.CommandLaws.{form-fits, form-number, form-read}
-use Rattle.reader.proofs.GrammarLaws.{form-row}
 use Rattle.reader.specs.Fields.{none}
 use Rattle.reader.specs.Grammar.{rows}
 use Rattle.reader.specs.Commands.{familyOf}
 use borrow.Author.Needs.{needs}
 use Rattle.reader.proofs.tree.open_form.Statement.{statement}
 use Rattle.reader.proofs.tree.open_form.Tie as tie
-use Rattle.reader.proofs.tree.open_form.Reads as reads
-use Rattle.reader.proofs.tree.open_form.Lts as lts
-use Rattle.reader.proofs.commands.form_at.Reads as form-at-reads
-use Rattle.reader.proofs.commands.form_width.Reads as form-width-reads
-use Rattle.reader.proofs.grammar.codes_of.Reads as codes-of-reads
-use Rattle.reader.proofs.tree.first_row.Reads as first-row-reads
-use Rattle.reader.proofs.tree.operand_fits.Reads as operand-fits-reads
 
--- src/tree.rt:126:25
 form-at-requires : tie.Need-form-at-requires
 form-at-requires c κs = search needs
 
--- src/tree.rt:126:20
 enum-known-n : tie.Need-enum-known-n
 enum-known-n c = search needs
 
--- src/tree.rt:127:9
 enum-told : tie.Need-enum-told
 enum-told c = search needs
 
--- src/tree.rt:127:9
 returns : tie.Need-returns
 returns c = form-none (c .before .before .before .before .args .count) (c .before .before .form-at .ensures) (c .enum-told .given .1)
 
--- src/tree.rt:129:8
 operand-fits-requires : tie.Need-operand-fits-requires
 operand-fits-requires c κs = search needs
 
--- src/tree.rt:131:13
 returns-2 : tie.Need-returns-2
 returns-2 c = form-deep (c .before .before .before .before .before .before .before .before .args .count) (c .before .before .before .before .before .before .form-at .ensures) (c .before .before .before .before .n .given .1) (c .before .before .operand-fits .ensures) (c .before .if1 .taken) (c .if2 .taken)
 
--- src/tree.rt:134:29
 first-row-requires : tie.Need-first-row-requires
 first-row-requires c κs = search needs
 
--- src/tree.rt:134:29
 add-codes-of : tie.Need-add-codes-of
 add-codes-of c = omega (arith, c .first-row .ensures, row-small (familyOf (c .before .before .before .before .before .before .before .before .before .args .family)) (c .before .before .before .before .before .n .given .0 .0) (form-number _ _ (familyOf (c .before .before .before .before .before .before .before .before .before .args .family)) (c .before .before .before .before .before .n .given .0 .0) (form-read (c .before .before .before .before .before .before .before .form-at .ensures) (c .before .before .before .before .before .n .given .1))))
 
--- src/tree.rt:134:20
 codes-of-requires : tie.Need-codes-of-requires
 codes-of-requires c κs = search needs
 
--- src/tree.rt:135:22
 form-width-requires : tie.Need-form-width-requires
 form-width-requires c κs = search needs
 
--- src/tree.rt:135:17
 add-t14 : tie.Need-add-t14
 add-t14 c = omega (arith, c .form-width .ensures, form-fits _ _ (familyOf (c .before .before .before .before .before .before .before .before .before .before .before .args .family)) (c .before .before .before .before .before .before .before .n .given .0 .0) (form-read (c .before .before .before .before .before .before .before .before .before .form-at .ensures) (c .before .before .before .before .before .before .before .n .given .1)))
 
--- src/tree.rt:136:19
 sub-t15 : tie.Need-sub-t15
 sub-t15 c = search needs
 
--- src/tree.rt:133:9
 returns-3 : tie.Need-returns-3
 returns-3 c = form-opens (c .before .before .before .before .before .before .before .before .before .before .before .args .count) (c .before .before .before .before .before .before .before .before .before .form-at .ensures) (c .before .before .before .before .before .before .before .n .given .1) (c .before .before .before .before .before .operand-fits .ensures) (c .before .before .before .before .if1 .taken) (c .before .before .before .if2 .left) (c .form-width .ensures)
     (c .before .codes-of .ensures
     ∙ ap (λ (k : ℕ). getD rows (k + c .before .before .before .before .before .before .before .n .given .0 .0) none) (c .before .before .first-row .ensures)
     ∙ form-row (familyOf (c .before .before .before .before .before .before .before .before .before .before .before .args .family)) (c .before .before .before .before .before .before .before .n .given .0 .0) (form-number _ _ (familyOf (c .before .before .before .before .before .before .before .before .before .before .before .args .family)) (c .before .before .before .before .before .before .before .n .given .0 .0) (form-read (c .before .before .before .before .before .before .before .before .before .form-at .ensures) (c .before .before .before .before .before .before .before .n .given .1))))
 
--- src/tree.rt:123:1
 returns-4 : tie.Need-returns-4
 returns-4 c = form-out (c .before .before .before .before .before .before .before .args .count) (c .before .before .before .before .before .form-at .ensures) (c .before .before .before .n .given .1) (c .before .operand-fits .ensures) (c .if1 .left)
 

@@ -1,38 +1,29 @@
+-- `open_token` meets its contract.
 use native.Mathlib.Omega.{arith}
 use Rattle.reader.proofs.TreeLaws.{token-none, token-opens, token-past}
 use Rattle.reader.proofs.CommandLaws.{token-fits, read-is}
 use borrow.Author.Needs.{needs}
 use Rattle.reader.proofs.tree.open_token.Statement.{statement}
 use Rattle.reader.proofs.tree.open_token.Tie as tie
-use Rattle.reader.proofs.tree.open_token.Reads as reads
-use Rattle.reader.proofs.tree.open_token.Lts as lts
-use Rattle.reader.proofs.commands.token_at.Reads as token-at-reads
 
--- src/tree.rt:44:25
 token-at-requires : tie.Need-token-at-requires
 token-at-requires c κs = search needs
 
--- src/tree.rt:44:20
 enum-known-k : tie.Need-enum-known-k
 enum-known-k c = search needs
 
--- src/tree.rt:45:9
 enum-told : tie.Need-enum-told
 enum-told c = search needs
 
--- src/tree.rt:45:9
 returns : tie.Need-returns
 returns c = token-none (c .before .before .token-at .ensures) (c .enum-told .given .1)
 
--- src/tree.rt:48:30
 add-t8 : tie.Need-add-t8
 add-t8 c = omega (arith, token-fits _ _ _ (read-is (c .before .before .before .before .token-at .ensures) (c .before .before .k .given .1)))
 
--- src/tree.rt:48:9
 returns-2 : tie.Need-returns-2
 returns-2 c = token-opens (c .before .before .before .before .token-at .ensures) (c .before .before .k .given .1) (c .if1 .taken)
 
--- src/tree.rt:41:1
 returns-3 : tie.Need-returns-3
 returns-3 c = token-past (c .before .before .before .before .token-at .ensures) (c .before .before .k .given .1) (c .if1 .left)
 

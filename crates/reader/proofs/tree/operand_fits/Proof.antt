@@ -1,65 +1,50 @@
+-- `operand_fits` meets its contract.
 use Rattle.reader.specs.Check.{operandFits}
 use borrow.Author.Needs.{needs}
 use Rattle.reader.proofs.tree.operand_fits.Statement.{statement}
 use Rattle.reader.proofs.tree.operand_fits.Tie as tie
-use Rattle.reader.proofs.tree.operand_fits.Reads as reads
-use Rattle.reader.proofs.tree.operand_fits.Lts as lts
-use Rattle.reader.proofs.tree.first_fits.Reads as first-fits-reads
 
--- src/tree.rt:99:27
 enum-told : tie.Need-enum-told
 enum-told c = search needs
 
--- src/tree.rt:99:27
 first-fits-requires : tie.Need-first-fits-requires
 first-fits-requires c κs = search needs
 
--- src/tree.rt:100:27
 enum-told-2 : tie.Need-enum-told-2
 enum-told-2 c = search needs
 
--- src/tree.rt:101:27
 enum-told-3 : tie.Need-enum-told-3
 enum-told-3 c = search needs
 
--- src/tree.rt:102:24
 enum-told-4 : tie.Need-enum-told-4
 enum-told-4 c = search needs
 
--- src/tree.rt:103:24
 enum-told-5 : tie.Need-enum-told-5
 enum-told-5 c = search needs
 
--- src/tree.rt:104:23
 enum-told-6 : tie.Need-enum-told-6
 enum-told-6 c = search needs
 
--- src/tree.rt:95:1
 returns : tie.Need-returns
 unfolding operandFits
 returns c = cc
 
--- src/tree.rt:95:1
 returns-2 : tie.Need-returns-2
 unfolding operandFits
 returns-2 c = cc
 
--- src/tree.rt:95:1
 returns-3 : tie.Need-returns-3
 unfolding operandFits
 returns-3 c = cc
 
--- src/tree.rt:95:1
 returns-4 : tie.Need-returns-4
 unfolding operandFits
 returns-4 c = cc
 
--- src/tree.rt:95:1
 returns-5 : tie.Need-returns-5
 unfolding operandFits
 returns-5 c = cc
 
--- src/tree.rt:95:1
 returns-6 : tie.Need-returns-6
 unfolding operandFits
 returns-6 c = cc

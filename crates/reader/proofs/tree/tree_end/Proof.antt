@@ -1,35 +1,27 @@
+-- `tree_end` meets its contract.
 use Rattle.reader.specs.Grammar.{groups, nodes, node, fieldOf}
 use Rattle.reader.proofs.FieldLaws.{tree-stops, tree-whole, tree-over}
 use borrow.Author.Needs.{needs}
 use Rattle.reader.proofs.tree.tree_end.Statement.{statement}
 use Rattle.reader.proofs.tree.tree_end.Tie as tie
-use Rattle.reader.proofs.tree.tree_end.Reads as reads
-use Rattle.reader.proofs.tree.tree_end.Lts as lts
-use Rattle.reader.proofs.tree.field.Reads as field-reads
 
--- src/tree.rt:259:35
 add-field : tie.Need-add-field
 add-field c = search needs
 
--- src/tree.rt:259:9
 field-requires : tie.Need-field-requires
 field-requires c κs = search needs
 
--- src/tree.rt:260:21
 enum-known-found : tie.Need-enum-known-found
 enum-known-found c = search needs
 
--- src/tree.rt:261:9
 returns : tie.Need-returns
 unfolding fieldOf node nodes groups
 returns c = tree-stops (c .before .field .ensures) (c .match .keys2)
 
--- src/tree.rt:264:9
 returns-2 : tie.Need-returns-2
 unfolding fieldOf node nodes groups
 returns-2 c = tree-whole (c .before .before .before .before .field .ensures) (c .before .before .found .given .1) (c .if1 .taken)
 
--- src/tree.rt:256:1
 returns-3 : tie.Need-returns-3
 unfolding fieldOf node nodes groups
 returns-3 c = tree-over (c .before .before .before .before .field .ensures) (c .before .before .found .given .1) (c .if1 .left)
