@@ -8,7 +8,8 @@ use native.Mathlib.Numerals.{add-one}
 use lib.ListN.{length, getD, take, drop, drop-of-length-le}
 use lib.Seq.{drop-cons}
 use borrow.Author.Tests.{le-leb, lt-leb}
-use Rattle.text.specs.Bytes.{firstWide}
+use Rattle.text.specs.declared.Wide.{Wide}
+use Rattle.text.specs.Bytes.{firstWide, wideAt}
 use Rattle.reader.specs.declared.commands.Number.{Number}
 use Rattle.reader.specs.declared.commands.Number.the-variants.{Is, Not}
 use Rattle.reader.specs.declared.tokens.Tiled as Tiled
@@ -22,40 +23,6 @@ use Rattle.reader.specs.Tokens.{tiled, untiled, tokens, tokensIn, tiling
 use Rattle.reader.specs.Check.{treeCheck}
 use Rattle.reader.specs.Tree.{checkedIn, TreeEnd}
 use Rattle.reader.specs.Reading.{refused, readTree, readRecord, readText, read, numberOf, placeOf, RecordReads, Reads}
-
--- ---- 2: the first byte of 128 or more
-pub record Scanned (text : List ℕ) (i : ℕ) : Type 0 where
-  pub below : i ≤ length text
-  pub same : firstWide i (drop i text) ≡ firstWide 0 text
-
-pub scan-starts : {text : List ℕ} → Scanned text 0
-scan-starts {text} = record { below = omega arith; same = refl }
-
-module _ (i b : ℕ) (bs : List ℕ) where
-  wide-here : 128 ≤ b → firstWide i (b ∷ bs) ≡ some i
-  unfolding firstWide
-  wide-here h = rw (le-leb 128 b h, firstWide)
-
-  wide-later : b < 128 → firstWide i (b ∷ bs) ≡ firstWide (suc i) bs
-  unfolding firstWide
-  wide-later h = rw (lt-leb 128 b h, firstWide)
-
-module _ {text : List ℕ} {i : ℕ} (p : Scanned text i) where
-  pub scan-ends : length text ≤ i → numberIn Not ≡ firstWide 0 text
-  unfolding firstWide numberIn
-  scan-ends h = rw (drop-of-length-le text h) at (p .same)
-
-  module _ (h : i < length text) where
-    from-here : firstWide i (getD text i 0 ∷ drop (suc i) text) ≡ firstWide 0 text
-    from-here = ap (firstWide i) (sym (drop-cons text i 0 h)) ∙ p .same
-
-    pub scan-finds : 128 ≤ getD text i 0 → numberIn (Is i) ≡ firstWide 0 text
-    unfolding numberIn
-    scan-finds w = sym (wide-here i (getD text i 0) (drop (suc i) text) w) ∙ from-here
-
-    pub scan-goes : getD text i 0 < 128 → Scanned text (i + 1)
-    scan-goes w =
-        record { below = omega arith; same = rw add-one (sym (wide-later i (getD text i 0) (drop (suc i) text) w) ∙ from-here) }
 
 -- ---- 3 and 4
 module _ {size : ℕ} {rec kinds starts lens : List ℕ} {t : Tiled.Tiled} (s : Tiles size rec kinds starts lens t) where
@@ -111,14 +78,14 @@ module _ (text rec kinds starts lens : List ℕ) where
       unfolding readText
       text-ascii f = rw (f, readText)
 
-      pub not-ascii : {n : Number} {place : ℕ} → numberIn n ≡ firstWide 0 text → n ≡ Is place → Reads text rec kinds starts lens (NotAscii place)
-      unfolding readText numberIn numberOf placeOf
-      not-ascii {n} {place} s e =
-          let f : firstWide 0 text ≡ some place = sym s ∙ ap numberIn e in
+      pub not-ascii : {w : Wide} {place : ℕ} → wideAt w ≡ firstWide 0 text → w ≡ Wide.At place → Reads text rec kinds starts lens (NotAscii place)
+      unfolding readText wideAt numberOf placeOf
+      not-ascii {w} {place} s e =
+          let f : firstWide 0 text ≡ some place = sym s ∙ ap wideAt e in
           record { is = text-wide f ∙ short; counts = tt }
 
-      pub ascii : {n : Number} {r : Reading} → numberIn n ≡ firstWide 0 text → n ≡ Not → RecordReads (length text) rec kinds starts lens r → Reads text rec kinds starts lens r
-      unfolding readText numberIn
-      ascii {n} {r} s e u =
-          let f : firstWide 0 text ≡ none = sym s ∙ ap numberIn e in
+      pub ascii : {w : Wide} {r : Reading} → wideAt w ≡ firstWide 0 text → w ≡ Wide.Nowhere → RecordReads (length text) rec kinds starts lens r → Reads text rec kinds starts lens r
+      unfolding readText wideAt
+      ascii {w} {r} s e u =
+          let f : firstWide 0 text ≡ none = sym s ∙ ap wideAt e in
           record { is = u .is ∙ text-ascii f ∙ short; counts = u .counts }

@@ -4,7 +4,8 @@ pub mod tokens; // tokens.rt: the tokens
 mod grammar; // grammar.rt: the fields of every form, group and choice
 pub mod tree; // tree.rt: the record check behind the tokens
 
-use commands::Number;
+use text::Wide;
+use text::first_wide;
 use tokens::Tiled;
 use tokens::read_tokens;
 use tree::Checked;
@@ -31,20 +32,6 @@ pub enum Reading {
 const MAX_TEXT: usize = 32768;
 
 const MAX_RECORD: usize = 65536;
-
-// The offset of the first byte of 128 or more.
-fn first_wide(text: &[u8]) -> Number
-    ensures { λ r. ⌜ numberIn r ≡ firstWide 0 (now (text .entry)) ⌝ }
-{
-    let mut i = 0;
-    while i < text.len() {
-        if 128 <= text[i] {
-            return Number::Is(i);
-        }
-        i += 1;
-    }
-    Number::Not
-}
 
 // Refusals 3 and 4, over a text of this length.
 fn read_record(
@@ -86,7 +73,7 @@ pub fn check(
     if MAX_RECORD < rec.len() {
         return Reading::TooLong;
     }
-    if let Number::Is(place) = first_wide(text) {
+    if let Wide::At(place) = first_wide(text) {
         return Reading::NotAscii(place);
     }
     read_record(text.len() as u16, rec, kinds, starts, lens)
