@@ -297,8 +297,7 @@ def ranks(functions):
     known = dict((name, 0) for name, function in functions.items() if "walk" in function.answers)
     while len(known) < len(functions):
         for name, function in functions.items():
-            called = set(base(need[5:].replace("-requires", "").rstrip("-")) if False else re.sub(r"-requires(-\d+)?$", "", need[5:]) for need in function.places.needs if "-requires" in need)
-            called &= set(functions)
+            called = set(re.sub(r"-requires(-\d+)?$", "", need[5:]) for need in function.places.needs) & set(functions)
             if name not in known and called <= set(known):
                 known[name] = 1 + max(known[other] for other in called)
     return known
@@ -355,7 +354,8 @@ def write_cycle(crate, root, path, text, answers, members):
     os.makedirs(folder, exist_ok=True)
     filled_text = filled_cycle(functions, text, answers["left"])
     at = filled_text.index("\n\nabbrev")
-    open(path, "w").write("".join(line + "\n" for line in answers["use"]) + filled_text[:at] + filled_text[at:])
+    head = "-- The functions of a cycle of calls equal their layouts. Written by tools/arms.py.\n"
+    open(path, "w").write(head + "".join(line + "\n" for line in answers["use"]) + filled_text[:at] + filled_text[at:])
     print("wrote", os.path.basename(folder))
 
 

@@ -5,3 +5,4 @@ pub mod NameLaws
 pub mod Steps
 pub mod Dropping
 pub mod Knot
+pub mod Exact

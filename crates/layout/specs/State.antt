@@ -1,5 +1,5 @@
 -- What the walk's functions do to their state and to what is lent to them, event by event.
--- Their sums stop at a cap; proofs/Exact says that on a sheet that passes 1 to 4 none is met.
+-- Their sums stop at a cap; proofs/Exact says that below it they are the sums of Events.
 use Prim.Native.Nat.{ℕ, _+_, _-_, _*_, min, max}
 use Prim.Native.String.{String}
 use mathlib.Core.List.{List, [], _∷_}

@@ -15,7 +15,6 @@ use Rattle.layout.specs.Meaning.{Page, Event}
 use Rattle.layout.specs.Events.{deepest}
 use Rattle.formatter.specs.Verdict.{Verdict, Result, verdict, noMeasures, check, get, judge, accepted, format, put, maxWidth}
 use Rattle.formatter.specs.Lookup.{lookup, looked}
-use Rattle.doc_comment.specs.Doc.{docLookup}
 use Rattle.program.specs.Program.{program}
 use Rattle.program.proofs.Run.{run}
 

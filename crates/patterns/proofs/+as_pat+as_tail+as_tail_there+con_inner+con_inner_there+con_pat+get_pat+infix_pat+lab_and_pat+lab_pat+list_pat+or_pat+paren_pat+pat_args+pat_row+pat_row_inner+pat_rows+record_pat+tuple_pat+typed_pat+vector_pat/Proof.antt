@@ -1,3 +1,4 @@
+-- The functions of a cycle of calls equal their layouts. Written by tools/arms.py.
 use mathlib.Core.List.{[], _∷_}
 use borrow.Author.Needs.{needs}
 use native.Mathlib.Omega.{arith}

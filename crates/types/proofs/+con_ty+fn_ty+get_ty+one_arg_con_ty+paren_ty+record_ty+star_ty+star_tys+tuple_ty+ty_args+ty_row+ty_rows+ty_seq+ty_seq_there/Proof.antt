@@ -1,3 +1,4 @@
+-- The functions of a cycle of calls equal their layouts. Written by tools/arms.py.
 use borrow.Author.Needs.{needs}
 use native.Mathlib.Omega.{arith}
 use mathlib.Core.Path.{refl, _∙_}
