@@ -63,8 +63,11 @@ module _ (ws : Walkers) where
       ⨾ get-pat
       ⨾ eq-body ws c)
 
+  unfoldable pub val-binds : Cfg → Layout
+  val-binds c = sep-with-lines c "and " (val-bind c)
+
   unfoldable pub ValDec : Cfg → Layout
-  ValDec c = word "val " ⨾ sep-with-lines c "and " (val-bind c)
+  ValDec c = word "val " ⨾ val-binds c
 
   unfoldable pub PrefixFunBindCaseHead : Layout
   PrefixFunBindCaseHead = word-if "op " ⨾ text

@@ -35,25 +35,31 @@ module _ (ws : Walkers) where
   unfoldable pub get-matcher-arm : Cfg → Layout
   get-matcher-arm c = group (get-pat ⨾ word " =>" ⨾ get-body-exp-level c 2)
 
+  unfoldable pub arms-on-lines : Cfg → Layout
+  arms-on-lines c = sep-with-lines c "| " (get-matcher-arm c)
+
   -- No matcher is allowed.
   unfoldable pub get-matcher-across-lines : Cfg → Layout
-  get-matcher-across-lines c = maybe (group (indented c indent ⨾ sep-with-lines c "| " (get-matcher-arm c)))
+  get-matcher-across-lines c = maybe (group (indented c indent ⨾ arms-on-lines c))
 
   unfoldable pub exp-args : Cfg → Layout
   exp-args c = sep ", " (group (get-exp c))
 
+  -- An item of a sequence, with its semicolon where that is written.
+  unfoldable pub exp-semi-item : Cfg → Bool → Layout
+  exp-semi-item c write-semi = group (get-exp c ⨾ optional λ semi. when-some semi (when write-semi (word ";")))
+
   -- The n items of a sequence after the first. The last one's semicolon is written where that is allowed.
   unfoldable pub exp-semi-more : Cfg → Bool → ℕ → Layout
   exp-semi-more c allow-last-semi zero = skip
-  exp-semi-more c allow-last-semi (suc zero) =
-      word ";\n" ⨾ indent c ⨾ group (get-exp c ⨾ optional λ last. when-some last (when allow-last-semi (word ";")))
+  exp-semi-more c allow-last-semi (suc zero) = word ";\n" ⨾ indent c ⨾ exp-semi-item c allow-last-semi
   exp-semi-more c allow-last-semi (suc (suc n)) =
-      word ";\n" ⨾ indent c ⨾ group (get-exp c ⨾ optional λ semi. skip) ⨾ exp-semi-more c allow-last-semi (suc n)
+      word ";\n" ⨾ indent c ⨾ exp-semi-item c false ⨾ exp-semi-more c allow-last-semi (suc n)
 
-  -- The first item's semicolon is never read.
+  -- The first item's semicolon is never written.
   unfoldable pub exp-semi-items : Cfg → Bool → ℕ → Layout
   exp-semi-items c allow-last-semi zero = skip
-  exp-semi-items c allow-last-semi (suc n) = group (get-exp c ⨾ optional λ semi. skip) ⨾ exp-semi-more c allow-last-semi n
+  exp-semi-items c allow-last-semi (suc n) = exp-semi-item c false ⨾ exp-semi-more c allow-last-semi n
 
   unfoldable pub exp-semi-seq : Cfg → Bool → Layout
   exp-semi-seq c allow-last-semi = list (λ n. exp-semi-items c allow-last-semi n)
@@ -77,11 +83,18 @@ module _ (ws : Walkers) where
   unfoldable pub PathExp : Layout
   PathExp = op-path
 
+  -- `eq_exp` of a row.
+  unfoldable pub eq-exp : Cfg → Layout
+  eq-exp c = maybe (group (word " = " ⨾ get-exp c))
+
   unfoldable pub exp-row : Cfg → Layout
-  exp-row c = group (text ⨾ maybe (group (word " = " ⨾ get-exp c)))
+  exp-row c = group (text ⨾ eq-exp c)
+
+  unfoldable pub exp-rows : Cfg → Layout
+  exp-rows c = sep ", " (exp-row c)
 
   unfoldable pub RecordExp : Cfg → Layout
-  RecordExp c = word "{ " ⨾ sep ", " (exp-row c) ⨾ word " }"
+  RecordExp c = word "{ " ⨾ exp-rows c ⨾ word " }"
 
   unfoldable pub SelectorExp : Layout
   SelectorExp = word "#" ⨾ text
@@ -172,8 +185,11 @@ module _ (ws : Walkers) where
   unfoldable pub CaseExp : Cfg → Layout
   CaseExp c = word "case " ⨾ get-exp c ⨾ word " of\n" ⨾ get-matcher-across-lines c
 
+  unfoldable pub fn-arms : Cfg → Layout
+  fn-arms c = sep " | " (get-matcher-arm c)
+
   unfoldable pub FnExp : Cfg → Layout
-  FnExp c = word "fn " ⨾ group (sep " | " (get-matcher-arm c))
+  FnExp c = word "fn " ⨾ group (fn-arms c)
 
   -- The arms in order.
   unfoldable pub exps : Cfg → List Layout
