@@ -2,6 +2,7 @@ pub mod Placing
 pub mod Pieces
 pub mod Reading
 pub mod NameLaws
+pub mod LookLaws
 pub mod Steps
 pub mod Dropping
 pub mod Knot

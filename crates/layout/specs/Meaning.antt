@@ -66,20 +66,20 @@ passes p isPipe k = sameBytes (tokenText p k) (bytes "|>")
 passes p isAlphabetic k = firstIs isLetter (tokenText p k)
 passes p isAlphanumeric k = firstIs (λ b. isLetter b || isDigit b) (tokenText p k)
 
+-- The commands of the forms whose body stands on a new line.
+unfoldable pub onNewLine : ℕ → Bool
+onNewLine b =
+    eqb b 0x4C  -- SeqExp
+    || eqb b 0x4D  -- LetExp
+    || eqb b 0x53  -- HandleExp
+    || eqb b 0x55  -- IfExp
+    || eqb b 0x56  -- WhileExp
+    || eqb b 0x57  -- CaseExp
+
 -- `body_exp_needs_newline` of the form whose command is first in these bytes: it looks through ParenExp.
 unfoldable pub needsNewline : List ℕ → Bool
 needsNewline [] = false
-needsNewline (b ∷ bs) =
-    elim (eqb b 0x48)  -- ParenExp
-    [
-      | true ↦ needsNewline bs
-      | false ↦ eqb b 0x4C  -- SeqExp
-          || eqb b 0x4D  -- LetExp
-          || eqb b 0x53  -- HandleExp
-          || eqb b 0x55  -- IfExp
-          || eqb b 0x56  -- WhileExp
-          || eqb b 0x57
-    ]  -- CaseExp
+needsNewline (b ∷ bs) = elim (eqb b 0x48) [ true ↦ needsNewline bs | false ↦ onNewLine b ]
 
 unfoldable pub sees : Page → Look → ℕ → Bool
 sees p isIfExp at = eqb (getD (p .rec) at 0) 0x55

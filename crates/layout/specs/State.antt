@@ -28,9 +28,9 @@ use Rattle.reader.specs.Check.{ok, malformed, tooDeep, fieldEnd}
 use Rattle.reader.specs.Commands.{absentAt, tokenAt, groupAt, formAt, formWidth, familyOf}
 use mathlib.Core.Option.{Option, none, some}
 use Rattle.layout.specs.declared.Answer.the-variants.{Done, Stopped}
-use Rattle.layout.specs.Layout.{Layout, Test, skip}
+use Rattle.layout.specs.Layout.{Layout, Look, Test, skip}
 use Rattle.layout.specs.Helpers as Helpers
-use Rattle.layout.specs.Meaning.{Page, Event, Word, Token, Comment, Formed, Indent, Outcome, done, stopped, Stop, absent, imported, outcome, tokenText, passes, Name, name, noName}
+use Rattle.layout.specs.Meaning.{Page, Event, Word, Token, Comment, Formed, Indent, Outcome, done, stopped, Stop, absent, imported, outcome, tokenText, passes, sees, Name, name, noName}
 use Rattle.layout.specs.Events.{trimmed}
 
 abbrev pub cap : ℕ
@@ -219,3 +219,7 @@ nameIn (Code.Name.Not place) = noName place
 -- The answer of a test of a token's text.
 pub record TestedText (x starts lens : List ℕ) (t : Test) (k : ℕ) (b : Bool) : Type 0 where
   pub is : (r kinds : List ℕ) → b ≡ passes (page x r kinds starts lens) t k
+
+-- The answer of a question about the form at an offset.
+pub record Looked (r : List ℕ) (l : Look) (at : ℕ) (b : Bool) : Type 0 where
+  pub is : (x kinds starts lens : List ℕ) → b ≡ sees (page x r kinds starts lens) l at

@@ -2,7 +2,6 @@
 use crate::Answer;
 use crate::Cfg;
 use crate::St;
-use crate::entry;
 use crate::fields::Given;
 use crate::fields::Gone;
 use crate::fields::Read;
@@ -13,17 +12,16 @@ use crate::fields::optional;
 use crate::fields::stop;
 use crate::fields::token_no;
 use crate::indent_at;
+use crate::looks::alphanumeric;
 use crate::names::Name;
 use crate::names::path_name;
-use crate::part;
 use crate::token;
 use crate::word;
 use crate::words;
-use text::starts_alphanumeric;
 ghost use Rattle.layout.specs.Words.{wordOf};
-ghost use Rattle.layout.specs.Layout.{word as wordOf·, firstName, isAlphanumeric, skip, _⨾_};
+ghost use Rattle.layout.specs.Layout.{word as wordOf·, firstName, skip, _⨾_};
 ghost use Rattle.layout.specs.Helpers.{text as textField, path as pathLayout, word-if, ty-vars, ty-var-seq-there, ty-var-seq, indent as indentOf, when, new-line, op-space, op-path};
-ghost use Rattle.layout.specs.State.{Sure, Plain, TestedText, joint, cfgOf};
+ghost use Rattle.layout.specs.State.{Sure, Plain, joint, cfgOf};
 
 // A fixed word before an item that is not the first.
 pub fn between(text: &[u8], out: &mut [u8], st: St, tab: u32, w: usize, i: usize) -> St
@@ -276,14 +274,6 @@ pub fn new_line(text: &[u8], out: &mut [u8], st: St, cfg: Cfg, w: usize, i: usiz
 }
 
 // ---- paths behind `op`
-// Whether a token's text starts with a letter or a digit.
-fn alphanumeric(text: &[u8], starts: &[u16], lens: &[u16], k: usize) -> bool
-    ensures { λ r. ⌜ TestedText (now (text .entry)) (now (starts .entry)) (now (lens .entry)) isAlphanumeric k r ⌝ }
-{
-    let n = entry(lens, k);
-    starts_alphanumeric(part(text, entry(starts, k), n))
-}
-
 // A space where the first name of the path starts with a letter or a digit.
 fn op_space(
     text: &[u8],

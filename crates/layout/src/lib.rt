@@ -3,6 +3,7 @@
 pub mod words; // words.rt: the fixed words of 000
 pub mod fields; // fields.rt: the fields of a record, each read at the cursor
 pub mod names; // names.rt: the first name of a path
+pub mod looks; // looks.rt: questions about the form at the cursor and about a token's text
 pub mod helpers; // helpers.rt: helpers of 000 that serve more than one family
 
 ghost use mathlib.Core.Path.{_≡_};

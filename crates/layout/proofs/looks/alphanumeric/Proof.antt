@@ -1,12 +1,12 @@
--- `layout::helpers::alphanumeric` equals its layout.
+-- `layout::looks::alphanumeric` equals its layout.
 use mathlib.Core.Path.{ap, _∙_}
 use mathlib.Core.Bool.{_||_}
 use Rattle.text.specs.Bytes.{firstIs, isLetter, isDigit}
 use Rattle.reader.specs.Tokens.{textOf}
 use Rattle.layout.specs.Meaning.{passes, tokenText}
 use borrow.Author.Needs.{needs}
-use Rattle.layout.proofs.helpers.alphanumeric.Statement.{statement}
-use Rattle.layout.proofs.helpers.alphanumeric.Tie as tie
+use Rattle.layout.proofs.looks.alphanumeric.Statement.{statement}
+use Rattle.layout.proofs.looks.alphanumeric.Tie as tie
 
 entry-requires : tie.Need-entry-requires
 entry-requires c κs = search needs
