@@ -10,9 +10,9 @@ use Rattle.text.specs.Bytes.{bytes}
 use Rattle.layout.specs.declared.St.{St}
 use Rattle.layout.specs.declared.Answer.{Answer}
 use Rattle.layout.specs.declared.Answer.the-variants.{Done, Stopped}
-use Rattle.layout.specs.Layout.{Layout, skip, _⨾_, word, write, output-indent, formed, Test, token, group, choice, form, list, optional, maybe, test, firstName, halt}
+use Rattle.layout.specs.Layout.{Layout, skip, _⨾_, word, write, output-indent, formed, Test, token, group, choice, form, list, optional, maybe, test, firstName, Look, look, above, comment, halt}
 use Rattle.layout.specs.Meaning.{Page, Event, Word, Token, Comment, Formed, Indent, Outcome, done, stopped, Stop, absent, after, bind, orStop, outcome, tokenText, passes, pathName, Name, name, noName}
-use Rattle.layout.specs.State.{Run, runOf, at, effect, effects, Ran, went, fell, run, runs, packed, page, Walked, Plain, Wrote, Sure, Texted, Indented, withDepth, stopOf, moved, readOf, ReadAt, FormRead, groupOf, GroupRead, goneOf, GoneRead, optionalOf, OptionalRead, joint, nameIn, TestedText}
+use Rattle.layout.specs.State.{Run, runOf, at, effect, effects, Ran, went, fell, run, runs, packed, page, Walked, Plain, Wrote, Sure, Texted, Indented, withDepth, stopOf, moved, readOf, ReadAt, FormRead, groupOf, GroupRead, goneOf, GoneRead, optionalOf, OptionalRead, joint, nameIn, TestedText, Looked, Commented, struck}
 use Rattle.reader.specs.Tokens.{textOf}
 use Rattle.reader.specs.declared.commands.Family as Code
 use Rattle.reader.specs.Commands.{absentAt, tokenAt, listAt, groupAt, choiceAt, formAt, formWidth, familyOf}
@@ -23,6 +23,8 @@ use Rattle.layout.specs.declared.fields.Gone.{Gone}
 use Rattle.layout.specs.declared.fields.Given.{Given}
 use mathlib.Core.Option.{Option, none, some}
 use Rattle.layout.specs.Helpers.{times, items, when}
+use Rattle.layout.specs.Events.{trimmed}
+use Rattle.comments.specs.Above.{commentAbove}
 use borrow.Author.Tests.{lt-ltb, le-ltb}
 
 never : {A : Type 0} → _≡_ {A = ℕ} 0 1 → A
@@ -456,3 +458,24 @@ unfolding runs outcome
 test-is {r = r} {kinds = kinds} {k = k} e f =
     let q = sym (e .is r kinds) ∙ f in
     record { is = rw q refl }
+
+-- ---- comments
+module _ {p : Page} {tab : ℕ} where
+  pub last-comment : {s s′ : St} {o m o′ m′ : List ℕ} {k : ℕ} → Commented (p .text) (p .tokens .starts) (p .tokens .lengths) tab k s o m s′ o′ m′
+      → Walked p tab (comment k) (runOf s o m) (Done s′) o′ m′
+  unfolding runs outcome run effects effect trimmed tokenText textOf
+  last-comment {s′ = s′} {m = m} {o′ = o′} {k = k} e =
+      record { is = ap (λ y. went (runOf s′ o′ y)) (e .left) ∙ ap₂ (λ x y. went (runOf x y (struck m k))) (e .wrote .st) (e .wrote .out) }
+
+  -- The comment above a token, from the kinds.
+  pub above-is : {g : Run} {n : ℕ} {k : Option ℕ → Layout} {x : Option ℕ} → x ≡ commentAbove (p .tokens .kinds) n → Same p tab (above n k) g (k x) g
+  unfolding runs outcome
+  above-is {g} {n} {k} {x} e = record { is = ap (λ y. run p tab (outcome p (k y) (g .st .at)) g) (sym e) }
+
+  -- The form at the cursor.
+  pub look-is : {s : St} {o m : List ℕ} {l : Look} {k : Bool → Layout} {b c : Bool} → Looked (p .rec) l (s .at) b → b ≡ c
+      → Same p tab (look l k) (runOf s o m) (k c) (runOf s o m)
+  unfolding runs outcome
+  look-is {s} {o} {m} {l} {k} e f =
+      let q = sym (e .is (p .text) (p .tokens .kinds) (p .tokens .starts) (p .tokens .lengths)) ∙ f in
+      record { is = ap (λ y. run p tab (outcome p (k y) (s .at)) (runOf s o m)) q }

@@ -8,7 +8,7 @@ use mathlib.Core.Path.{_≡_}
 use lib.ListN.{length, getD, take, drop, replicate}
 use lib.Seq.{paste}
 use lib.Dec.{leb, ltb}
-use Rattle.text.specs.Bytes.{bytes}
+use Rattle.text.specs.Bytes.{bytes, trim}
 use Rattle.comments.specs.Set.{wordsOf, holds, without}
 use Rattle.layout.specs.declared.St.{St}
 use Rattle.layout.specs.declared.Cfg.{Cfg}
@@ -223,3 +223,8 @@ pub record TestedText (x starts lens : List ℕ) (t : Test) (k : ℕ) (b : Bool)
 -- The answer of a question about the form at an offset.
 pub record Looked (r : List ℕ) (l : Look) (at : ℕ) (b : Bool) : Type 0 where
   pub is : (x kinds starts lens : List ℕ) → b ≡ sees (page x r kinds starts lens) l at
+
+-- A comment's trimmed text is written, and the comment is not left any more.
+pub record Commented (x starts lens : List ℕ) (tab k : ℕ) (s : St) (o m : List ℕ) (s′ : St) (o′ m′ : List ℕ) : Type 0 where
+  pub wrote : Wrote tab (trim (take (getD lens k 0) (drop (getD starts k 0) x))) s o s′ o′
+  pub left : m′ ≡ struck m k

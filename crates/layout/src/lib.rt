@@ -6,6 +6,8 @@ pub mod names; // names.rt: the first name of a path
 pub mod looks; // looks.rt: questions about the form at the cursor and about a token's text
 pub mod helpers; // helpers.rt: helpers of 000 that serve more than one family
 
+use comments::Set;
+use text::trim;
 ghost use mathlib.Core.Path.{_≡_};
 ghost use Prim.Native.Nat.{ℕ, _+_, _*_, min, max};
 ghost use lib.ListN.{length, take, drop, getD};
@@ -13,7 +15,7 @@ ghost use Rattle.layout.specs.Words.{wordOf, wordRun};
 ghost use Rattle.text.specs.Bytes.{bytes};
 ghost use mathlib.Core.List.{List};
 ghost use Rattle.layout.specs.Layout.{word};
-ghost use Rattle.layout.specs.State.{cap, satOf, placeOf, placed, spaced, withDepth, Wrote, Sure, Texted, Indented, pieceOf};
+ghost use Rattle.layout.specs.State.{cap, satOf, placeOf, placed, spaced, withDepth, Wrote, Sure, Texted, Indented, Commented, struck, pieceOf};
 
 const CAP: u64 = 0x8000_0000;
 
@@ -227,4 +229,34 @@ pub fn token(
     let run = words::RUN;
     let which = Piece::Text(entry(starts, k), entry(lens, k));
     write(out, st, tab, piece_of(&run, text, which))
+}
+
+// ---- comments
+// Strikes a token out of the set of comments left, whose words are lent.
+fn strike(left: &mut [u64; 64], k: usize)
+    ensures { λ _. ⌜ now (left .exit) ≡ struck (now (left .entry)) k ⌝ }
+{
+    let words = *left;
+    let set = Set { words };
+    let without = set.without(k);
+    let kept = without.words;
+    *left = kept;
+}
+
+// The trimmed text of a comment, by number; it is then not left any more.
+pub fn comment(
+    text: &[u8],
+    starts: &[u16],
+    lens: &[u16],
+    out: &mut [u8],
+    left: &mut [u64; 64],
+    st: St,
+    tab: u32,
+    k: usize,
+) -> St
+    ensures { λ r. ⌜ Commented (now (text .entry)) (now (starts .entry)) (now (lens .entry)) tab k st (now (out .entry)) (now (left .entry)) r (now (out .exit)) (now (left .exit)) ⌝ }
+{
+    strike(left, k);
+    let n = entry(lens, k);
+    write(out, st, tab, trim(part(text, entry(starts, k), n)))
 }
