@@ -10,7 +10,8 @@ use Rattle.reader.specs.Tokens.{textOf}
 use Rattle.comments.specs.Above.{commentAbove}
 use Rattle.doc_comment.specs.declared.DocText.{DocText}
 use Rattle.doc_comment.specs.declared.DocText.the-variants.{Found, NoRoom, Nothing}
-use Rattle.formatter.specs.Lookup.{Looked, looked, declined, asked, ask}
+use Rattle.formatter.specs.declared.Lookup.{Lookup}
+use Rattle.formatter.specs.Lookup.{Looked, looked, declined, asked, ask, lookedOf}
 
 -- A line, read backwards, without the carriage return at its end.
 unfoldable pub withoutReturn : List ℕ → List ℕ
@@ -94,3 +95,7 @@ docLookup text rec token out =
         | some k ↦ docOf (textOf text tokens k) out
       ]
     ]
+
+-- What an answer of `doc_comment_above` and the final output stand for.
+unfoldable pub docLooked : Lookup → List ℕ → Doc
+docLooked l out = doc (lookedOf l) out

@@ -1,10 +1,13 @@
 // `doc_comment_above` of 001 (document 01, above its modules).
+use comments::Above;
+use formatter::Asked;
+use formatter::Lookup;
 ghost use mathlib.Core.Path.{_≡_};
 ghost use Prim.Native.Nat.{_+_, _≤_, _<_};
-ghost use lib.ListN.{length};
+ghost use lib.ListN.{length, take, drop};
 ghost use lib.Seq.{paste};
 ghost use Rattle.text.specs.Bytes.{bytes, sameBytes};
-ghost use Rattle.doc_comment.specs.Doc.{docOf, docSaid};
+ghost use Rattle.doc_comment.specs.Doc.{docOf, docSaid, docLookup, docLooked};
 ghost use Rattle.doc_comment.specs.Lines.{before, Cuts, Starts, kept, Nexts, Closes, Bodies, Joins, fed};
 
 // How many bytes stand before the first b.
@@ -229,4 +232,34 @@ pub fn doc_text(comment: &[u8], out: &mut [u8]) -> DocText
     }
     write(comment, next, m, out);
     DocText::Found(m - 1)
+}
+
+// The doc text of a part of the text.
+fn doc_of(text: &[u8], start: u16, len: u16, out: &mut [u8]) -> Lookup
+    ensures { λ r. ⌜ docLooked r (now (out .exit)) ≡ docOf (take len (drop start (now (text .entry)))) (now (out .entry)) ⌝ }
+{
+    match doc_text(layout::part(text, start as usize, len as usize), out) {
+        DocText::Found(n) => Lookup::Found(n),
+        DocText::NoRoom => Lookup::NoRoom,
+        DocText::Nothing => Lookup::Nothing,
+    }
+}
+
+// The doc comment above a token, into the output's first bytes.
+pub fn doc_comment_above(text: &[u8], rec: &[u8], token: usize, out: &mut [u8]) -> Lookup
+    ensures { λ r. ⌜ docLooked r (now (out .exit)) ≡ docLookup (now (text .entry)) (now (rec .entry)) token (now (out .entry)) ⌝ }
+{
+    let mut kinds = [0u8; 4096];
+    let mut starts = [0u16; 4096];
+    let mut lens = [0u16; 4096];
+    let asked = formatter::ask(text, rec, token, &mut kinds, &mut starts, &mut lens);
+    match asked {
+        Asked::Tokens(count) => {
+            let Above::Comment { comment } = comments::comment_above(&kinds[..count], token) else {
+                return Lookup::Nothing;
+            };
+            doc_of(text, starts[comment], lens[comment], out)
+        }
+        Asked::Declined(why) => why,
+    }
 }

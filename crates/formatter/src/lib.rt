@@ -1,4 +1,8 @@
 // The public calls `check`, `get` and the lookup `comment_above` (document 01, module 6).
+use comments::Above;
+use reader::Reading;
+ghost use mathlib.Core.Path.{_≡_};
+ghost use Rattle.formatter.specs.Lookup.{Asks, lookedOf, lookup};
 
 // Deepest, letters and units of a walk (document 01, module 5).
 pub struct Measures {
@@ -45,4 +49,56 @@ pub enum Lookup {
     NoRoom,
     // The token number is not below the count.
     NoToken,
+}
+
+// The sheet of a lookup.
+pub enum Asked {
+    // The number of tokens, which stand in the tables.
+    Tokens(usize),
+    Declined(Lookup),
+}
+
+// Refusals 1 to 4, then 9; or the tokens.
+pub fn ask(
+    text: &[u8],
+    rec: &[u8],
+    token: usize,
+    kinds: &mut [u8; 4096],
+    starts: &mut [u16; 4096],
+    lens: &mut [u16; 4096],
+) -> Asked
+    ensures { λ r. ⌜ Asks (now (text .entry)) (now (rec .entry)) token (now (kinds .exit)) (now (starts .exit)) (now (lens .exit)) r ⌝ }
+{
+    let reading = reader::check(text, rec, kinds, starts, lens);
+    match reading {
+        Reading::Sheet { count, tree: _ } => {
+            if token < count {
+                return Asked::Tokens(count);
+            }
+            Asked::Declined(Lookup::NoToken)
+        }
+        Reading::TooLong => Asked::Declined(Lookup::TooLong),
+        Reading::NotAscii(place) => Asked::Declined(Lookup::NotAscii(place)),
+        Reading::Malformed(place) => Asked::Declined(Lookup::Malformed(place)),
+        Reading::TooDeep(place) => Asked::Declined(Lookup::TooDeep(place)),
+    }
+}
+
+// The comment above a token.
+pub fn comment_above(text: &[u8], rec: &[u8], token: usize) -> Lookup
+    ensures { λ r. ⌜ lookedOf r ≡ lookup (now (text .entry)) (now (rec .entry)) token ⌝ }
+{
+    let mut kinds = [0u8; 4096];
+    let mut starts = [0u16; 4096];
+    let mut lens = [0u16; 4096];
+    let asked = ask(text, rec, token, &mut kinds, &mut starts, &mut lens);
+    match asked {
+        Asked::Tokens(count) => {
+            let Above::Comment { comment } = comments::comment_above(&kinds[..count], token) else {
+                return Lookup::Nothing;
+            };
+            Lookup::Found(comment)
+        }
+        Asked::Declined(why) => why,
+    }
 }

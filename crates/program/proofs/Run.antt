@@ -115,7 +115,7 @@ unfolding Lookup.ask Lookup.lookup Lookup.numberOf Lookup.placeOf Lookup.answerO
 runLookup = tt
 
 unfoldable pub runDoc : Unit {0}
-unfolding Doc.withoutReturn Doc.linesFrom Doc.afterAsterisk Doc.withoutSpace Doc.starred Doc.joined Doc.closed Doc.opened Doc.docText Doc.put Doc.docOf Doc.docSaid Doc.docLookup
+unfolding Doc.withoutReturn Doc.linesFrom Doc.afterAsterisk Doc.withoutSpace Doc.starred Doc.joined Doc.closed Doc.opened Doc.docText Doc.put Doc.docOf Doc.docSaid Doc.docLookup Doc.docLooked
 runDoc = tt
 
 unfoldable pub runLines : Unit {0}

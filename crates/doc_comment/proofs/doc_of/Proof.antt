@@ -1,0 +1,63 @@
+-- `doc_comment::doc_of` meets its contract: each case of `doc_text`. Assumes nothing.
+use mathlib.Core.List.{List}
+use mathlib.Core.Path.{ap, _∙_}
+use Prim.Native.Nat.{ℕ}
+use denote.Ref.{now}
+use Rattle.formatter.specs.Lookup.{numberOf, placeOf, answerOf, lookedOf}
+use Rattle.doc_comment.specs.Doc.{docOf, docSaid, docLooked}
+use Rattle.doc_comment.proofs.Lookup.{said-case}
+use borrow.Author.Needs.{needs}
+use Rattle.doc_comment.proofs.doc_of.Statement.{statement}
+use Rattle.doc_comment.proofs.doc_of.Tie as tie
+
+part-requires : tie.Need-part-requires
+part-requires c κs = search needs
+
+doc-text-requires : tie.Need-doc-text-requires
+doc-text-requires c κs = search needs
+
+enum-known-n : tie.Need-enum-known-n
+enum-known-n c = search needs
+
+enum-told : tie.Need-enum-told
+enum-told c = search needs
+
+enum-told-2 : tie.Need-enum-told-2
+enum-told-2 c = search needs
+
+same-length : tie.Need-same-length
+same-length c = search needs
+
+returns : tie.Need-returns
+unfolding docSaid docLooked lookedOf numberOf placeOf answerOf
+returns c = let at = c .before .before .before .before .before in said-case _ (c .before .n .given .1) ∙ at .doc-text .ensures ∙ ap (λ (s : List ℕ). docOf s (now (at .before .before .before .before .before .args .out))) (at .before .before .part .ensures)
+
+same-length-2 : tie.Need-same-length-2
+same-length-2 c = search needs
+
+returns-2 : tie.Need-returns-2
+unfolding docSaid docLooked lookedOf numberOf placeOf answerOf
+returns-2 c = let at = c .before .before .before .before in said-case _ (c .enum-told .given .1) ∙ at .doc-text .ensures ∙ ap (λ (s : List ℕ). docOf s (now (at .before .before .before .before .before .args .out))) (at .before .before .part .ensures)
+
+same-length-3 : tie.Need-same-length-3
+same-length-3 c = search needs
+
+returns-3 : tie.Need-returns-3
+unfolding docSaid docLooked lookedOf numberOf placeOf answerOf
+returns-3 c = let at = c .before .before .before .before in said-case _ (c .enum-told2 .given .1) ∙ at .doc-text .ensures ∙ ap (λ (s : List ℕ). docOf s (now (at .before .before .before .before .before .args .out))) (at .before .before .part .ensures)
+
+pub doc-of-spec : {M : Type 1} → statement M
+doc-of-spec =
+    tie.close
+    (tie.spec
+    part-requires
+    doc-text-requires
+    enum-known-n
+    enum-told
+    enum-told-2
+    same-length
+    returns
+    same-length-2
+    returns-2
+    same-length-3
+    returns-3)

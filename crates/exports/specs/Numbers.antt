@@ -1,0 +1,46 @@
+-- The answers of the exported calls, as numbers.
+use Prim.Native.Nat.{ℕ}
+use mathlib.Core.Path.{_≡_}
+use mathlib.Core.List.{List, [], _∷_}
+use mathlib.Core.Option.{Option, none, some}
+use lib.ListN.{length}
+use Rattle.reader.specs.Tokens.{tokensIn}
+use Rattle.reader.specs.Check.{Checked, ok, malformed, tooDeep}
+use Rattle.reader.specs.Reading.{Read, refused, sheet, read}
+use Rattle.formatter.specs.Lookup.{Looked}
+use Rattle.doc_comment.specs.Doc.{docLookup}
+
+-- A field's end, or a refusal's number and place.
+unfoldable pub endNumbers : Checked → List ℕ
+endNumbers (ok at) = 0 ∷ at ∷ []
+endNumbers (malformed place) = 3 ∷ place ∷ []
+endNumbers (tooDeep place) = 4 ∷ place ∷ []
+
+-- None is the largest u64.
+unfoldable pub orNone : Option ℕ → ℕ
+orNone none = 0xFFFF_FFFF_FFFF_FFFF
+orNone (some k) = k
+
+-- Number, place, and the comment's token number or the length of the doc text.
+unfoldable pub lookedNumbers : Looked → List ℕ
+lookedNumbers l = l .number ∷ l .place ∷ orNone (l .answer) ∷ []
+
+-- Number, place, how many tokens there are, where the list of declarations starts.
+unfoldable pub readNumbers : Read → List ℕ
+readNumbers (refused number place) = number ∷ place ∷ 0 ∷ 0 ∷ []
+readNumbers (sheet tokens tree) = 0 ∷ 0 ∷ length (tokens .kinds) ∷ tree ∷ []
+
+-- The tokens of a sheet stand first in the tables.
+unfoldable pub Tabled : Read → List ℕ → List ℕ → List ℕ → Type 0
+Tabled (refused number place) kinds starts lens = Unit {0}
+Tabled (sheet tokens tree) kinds starts lens = tokensIn (length (tokens .kinds)) kinds starts lens ≡ tokens
+
+-- Contract: refusals 1 to 4, or the tokens.
+pub record ReadOut (text rec answer kinds starts lens : List ℕ) : Type 0 where
+  pub numbers : answer ≡ readNumbers (read text rec)
+  pub tables : Tabled (read text rec) kinds starts lens
+
+-- Contract: the doc lookup's answer and the final output.
+pub record DocOut (text rec : List ℕ) (token : ℕ) (out out′ answer : List ℕ) : Type 0 where
+  pub numbers : answer ≡ lookedNumbers (docLookup text rec token out .answer)
+  pub written : out′ ≡ docLookup text rec token out .out
