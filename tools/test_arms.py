@@ -1,0 +1,76 @@
+#!/usr/bin/env python3
+"""Tests of arms.py: the terms that it writes for small functions, from their places."""
+import os
+import subprocess
+import sys
+import unittest
+
+sys.path.insert(0, os.path.dirname(os.path.abspath(__file__)))
+import arms  # noqa: E402
+
+
+def places(ways):
+    """The generated module of a function: for each need its places from the entry on, as (record, thing)."""
+    records, needs = {}, {}
+    for need, way in ways.items():
+        before = "Start"
+        for record, thing in way:
+            records[record] = (before, thing)
+            before = record
+        needs["Need-" + need] = before
+    text = "".join(
+        "pub record %s : Type 0 where\n  pub before : %s\n  pub %s : own\n" % (record, before, thing)
+        for record, (before, thing) in records.items())
+    return arms.Places(text + "".join("\n  %s =\n    (c : %s)" % need for need in needs.items()))
+
+
+PAREN = [("After-word", "word"), ("After-exp", "exp"), ("At-match-keys1", "match"), ("After-r", "r2"), ("After-told", "known-told"), ("After-word2", "word2")]
+STOP = [("After-word", "word"), ("After-exp", "exp"), ("At-match-keys2", "match"), ("After-enum", "enum-told")]
+TURN = [("After-list", "list"), ("At-match-keys1", "match"), ("After-n", "n"), ("After-known", "known-told"), ("At-loop", "loop"), ("In-loop", "loop-test"),
+        ("After-between", "between"), ("After-item", "item"), ("At-match2-keys1", "match2"), ("After-r", "r2"), ("After-told", "known-told2")]
+
+
+class Arms(unittest.TestCase):
+    def function(self, ways, answers, members):
+        return arms.Function("f", places(ways), answers, members, list(members))
+
+    def test_straight_arm(self):
+        f = self.function({"returns": PAREN, "returns-2": STOP}, {"as": "walked"}, {"exp": "walked"})
+        self.assertEqual(f.answer("returns"),
+                         "then-sure (c .before .before .before .before .before .word .ensures) "
+                         "(then-done (c .before .before .before .before .exp .ensures) (c .before .before .r2 .given .1) "
+                         "(last-sure (c .word2 .ensures)))")
+        self.assertEqual(f.answer("returns-2"),
+                         "then-sure (c .before .before .before .word .ensures) (then-stop (c .before .before .exp .ensures) (c .enum-told .given .1))")
+
+    def test_plain_contract(self):
+        f = self.function({"returns": PAREN}, {"as": "plain"}, {"exp": "plain"})
+        self.assertTrue(f.answer("returns").startswith("record { is = λ kinds m. then-sure ("))
+        self.assertIn("(plain (c .before .before .before .before .exp .ensures))", f.answer("returns"))
+
+    def test_turn_of_a_loop(self):
+        f = self.function({"loop-again": TURN}, {"as": "walked", "loop": ["from", "u", "w"]}, {"item": "walked"})
+        answer = f.answer("loop-again")
+        self.assertIn("from-more _ _ (c .before .before .before .before .before .loop-test .taken)", answer)
+        self.assertIn("(then-done (c .before .before .before .item .ensures) (c .before .r2 .given .1) h)", answer)
+
+    def test_ranks(self):
+        dispatch = self.function({"arm-requires": []}, {"as": "plain", "walk": "ty"}, {})
+        arm = self.function({"get-requires": [], "row-requires-2": []}, {"as": "plain"}, {})
+        row = self.function({"get-requires": []}, {"as": "plain"}, {})
+        self.assertEqual(arms.ranks({"get": dispatch, "arm": arm, "row": row}), {"get": 0, "row": 1, "arm": 2})
+
+    def test_a_call_without_a_step(self):
+        f = self.function({"returns": [("After-odd", "odd")]}, {"as": "walked"}, {"odd": "unheard"})
+        with self.assertRaises(SystemExit):
+            f.answer("returns")
+
+    def test_usage(self):
+        tool = os.path.join(os.path.dirname(os.path.abspath(__file__)), "arms.py")
+        run = subprocess.run([sys.executable, tool, "no_such_crate"], capture_output=True, text=True)
+        self.assertNotEqual(run.returncode, 0)
+        self.assertIn("usage", run.stderr)
+
+
+if __name__ == "__main__":
+    unittest.main()
