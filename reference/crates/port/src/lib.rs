@@ -1,0 +1,150 @@
+//! The port's exported calls behind safe wrappers, and their comparison with the reference.
+//!
+//! The calls stand in the archive that `rt staticlib exports` writes. Each answer is an array that
+//! the call fills; the wrappers fill it with [`UNWRITTEN`] before.
+
+pub mod compare;
+mod skip;
+
+use schema::{limit, Family};
+
+/// What stands in an answer before a call.
+pub const UNWRITTEN: u64 = 0x5A5A_5A5A_5A5A_5A5A;
+
+/// What stands in an answer for none.
+pub const NONE: u64 = u64::MAX;
+
+// A slice is passed as its pointer and its length.
+extern "C" {
+    fn diverplume_test_read(
+        text: *const u8,
+        text_length: usize,
+        record: *const u8,
+        record_length: usize,
+        answer: &mut [u64; 4],
+        kinds: &mut [u8; limit::TOKENS],
+        starts: &mut [u16; limit::TOKENS],
+        lengths: &mut [u16; limit::TOKENS],
+    );
+    fn diverplume_test_exp_end(
+        record: *const u8,
+        record_length: usize,
+        count: u64,
+        at: u64,
+        answer: &mut [u64; 2],
+    );
+    fn diverplume_test_ty_end(
+        record: *const u8,
+        record_length: usize,
+        count: u64,
+        at: u64,
+        answer: &mut [u64; 2],
+    );
+    fn diverplume_comment_above(
+        text: *const u8,
+        text_length: usize,
+        record: *const u8,
+        record_length: usize,
+        token: u64,
+        answer: &mut [u64; 3],
+    );
+    fn diverplume_doc_comment_above(
+        text: *const u8,
+        text_length: usize,
+        record: *const u8,
+        record_length: usize,
+        token: u64,
+        output: *mut u8,
+        output_length: usize,
+        answer: &mut [u64; 3],
+    );
+}
+
+/// What the record check gives.
+#[derive(Debug, Clone, PartialEq, Eq)]
+pub struct Reading {
+    /// Number, place, count of tokens, where the list of declarations starts.
+    pub answer: [u64; 4],
+    /// Kind, start and length of each token.
+    pub tokens: Vec<(u8, u16, u16)>,
+}
+
+/// The record check.
+#[must_use]
+pub fn read(text: &[u8], record: &[u8]) -> Reading {
+    let mut answer = [UNWRITTEN; 4];
+    let mut kinds = [0; limit::TOKENS];
+    let (mut starts, mut lengths) = ([0; limit::TOKENS], [0; limit::TOKENS]);
+    // SAFETY: each pointer comes from a slice or array of the length passed with it.
+    unsafe {
+        diverplume_test_read(
+            text.as_ptr(),
+            text.len(),
+            record.as_ptr(),
+            record.len(),
+            &mut answer,
+            &mut kinds,
+            &mut starts,
+            &mut lengths,
+        );
+    }
+    let count = usize::try_from(answer[2]).expect("a count of tokens");
+    let tokens = (0..count).map(|token| (kinds[token], starts[token], lengths[token])).collect();
+    Reading { answer, tokens }
+}
+
+/// The end of a field that holds an expression or a type: 0, 3 or 4, and a place.
+///
+/// # Panics
+///
+/// For another family; the port has no call for it.
+#[must_use]
+pub fn end(family: Family, record: &[u8], count: u64, at: u64) -> [u64; 2] {
+    let call = match family {
+        Family::Exp => diverplume_test_exp_end,
+        Family::Ty => diverplume_test_ty_end,
+        _ => panic!("no call for the end of a {}", family.name()),
+    };
+    let mut answer = [UNWRITTEN; 2];
+    // SAFETY: the pointer comes from a slice of the length passed with it.
+    unsafe { call(record.as_ptr(), record.len(), count, at, &mut answer) };
+    answer
+}
+
+/// The comment above a token: number, place, the comment's token number.
+#[must_use]
+pub fn comment_above(text: &[u8], record: &[u8], token: u64) -> [u64; 3] {
+    let mut answer = [UNWRITTEN; 3];
+    // SAFETY: each pointer comes from a slice of the length passed with it.
+    unsafe {
+        diverplume_comment_above(
+            text.as_ptr(),
+            text.len(),
+            record.as_ptr(),
+            record.len(),
+            token,
+            &mut answer,
+        );
+    }
+    answer
+}
+
+/// The doc comment above a token: number, place, the length written to the output's start.
+#[must_use]
+pub fn doc_comment_above(text: &[u8], record: &[u8], token: u64, output: &mut [u8]) -> [u64; 3] {
+    let mut answer = [UNWRITTEN; 3];
+    // SAFETY: each pointer comes from a slice of the length passed with it.
+    unsafe {
+        diverplume_doc_comment_above(
+            text.as_ptr(),
+            text.len(),
+            record.as_ptr(),
+            record.len(),
+            token,
+            output.as_mut_ptr(),
+            output.len(),
+            &mut answer,
+        );
+    }
+    answer
+}
