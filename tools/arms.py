@@ -24,7 +24,9 @@ import sys
 import tempfile
 
 READS = {"token-no": "token", "list": "list", "choice": "choice", "form": "form"}
-SURE = {"word", "between", "line", "indent-at", "new-line", "indent-in"}
+SURE = {"word", "between", "indent-at", "indent", "new-line"}
+BOTH = {"line"}
+LOOKS = {"is-if-exp", "body-exp-needs-newline"}
 STEPS = "Rattle.layout.proofs.Steps"
 
 
@@ -78,7 +80,11 @@ class Function:
             return "read"
         if name in SURE or thing in SURE:
             return "sure"
-        kinds = {"group": "group", "absent": "gone", "optional": "optional", "token": "write"}
+        if name in BOTH:
+            return "both"
+        if name in LOOKS:
+            return "look"
+        kinds = {"group": "group", "absent": "gone", "optional": "optional", "token": "write", "formed": "formed"}
         return kinds.get(name) or self.members.get(name) or self.members.get(thing)
 
     def steps(self, way):
@@ -92,6 +98,12 @@ class Function:
             elif self.kind(thing):
                 found.append((self.kind(thing), thing, path, self.apart(way, at)))
         return found
+
+    def decided(self, thing):
+        """What the `if` behind a question found."""
+        at = [place for place in range(len(self.now)) if self.now[place][1] == thing][0]
+        record, test, path = next(place for place in self.now[at:] if re.fullmatch(r"if\d+", place[1]))
+        return path + (" .taken" if record.startswith("Then") else " .left")
 
     def apart(self, way, at):
         """How the answer of the call at this step is taken apart: ("is", path) or ("not", path)."""
@@ -123,6 +135,10 @@ class Function:
         same = lambda law: "by-same %s %s" % ("(first-same (%s))" % law if tail else "(%s)" % law, more())
         if kind == "sure" or kind == "write":
             return ("last-%s %s" % (kind, proof)) if not rest and last is None else "then-%s %s %s" % (kind, proof, more())
+        if kind in ("both", "formed"):
+            return "then-%s %s %s" % (("both", proof, more()) if kind == "both" else ("sure", "(sure-formed %s)" % proof, more()))
+        if kind == "look":
+            return same("look-is %s (%s)" % (proof, self.decided(thing)))
         if kind in ("plain", "walked"):
             return self.walked(kind, proof, apart, rest, more)
         if kind == "read":
@@ -182,7 +198,7 @@ class Function:
 
     def answer(self, need):
         """The term for a need, by its name."""
-        way = self.places.way(need)
+        way = self.now = self.places.way(need)
         given = self.answers.get("needs", {}).get(need)
         paths = dict((thing, path) for record, thing, path in way)
         if given:
@@ -197,9 +213,12 @@ class Function:
         if need.startswith("add-") and "loop" in paths:
             count = [place for place in range(len(way)) if way[place][1] == "n"][0]
             return "omega (arith, %s .taken, %s)" % (paths["loop-test"], way[count + 1][2])
+        if need.startswith("add-") and self.answers["as"] == "walked":
+            return "omega (arith, %s .pre .1)" % paths["start"]
         if re.sub(r"-requires(-\d+)?$", "", need) in self.cycle:
             left = ", %s .left" % paths["if1"] if "walk" in self.answers else ""
-            return "omega (arith, %s .pre .0%s)" % (paths["start"], left)
+            bound = ", %s .pre .1" % paths["start"] if self.answers["as"] == "walked" else ""
+            return "omega (arith, %s .pre .0%s%s)" % (paths["start"], bound, left)
         return "search needs"
 
     def returned(self, way):
@@ -232,8 +251,8 @@ class Function:
         """A return of the function that dispatches a form by number: no form left, no form there, an arm, no such arm."""
         walk, paths = self.answers["walk"], dict((thing, path) for record, thing, path in way)
         if "form" not in paths:
-            return "%s-zero _ (%s .taken) (%s .ensures)" % (walk, paths["if1"], self.stop(way))
-        head, steps = "%s-form _ (%s .left) " % (walk, paths["if1"]), self.steps(way)
+            return "%s-zero %s (%s .taken) (%s .ensures)" % (walk, self.answers.get("of", "_"), paths["if1"], self.stop(way))
+        head, steps = "%s-form %s (%s .left) " % (walk, self.answers.get("of", "_"), paths["if1"]), self.steps(way)
         if steps[0][3][0] == "not":
             return head + parenthesised(self.term(steps, None, self.stop(way)))
         form, found = paths["form"], steps[0][3][1]
@@ -263,13 +282,14 @@ class Function:
         for record, thing, path in way:
             if thing == "loop":
                 kept.append(path + " .inv .2")
-            elif self.kind(thing) in ("sure", "write", "plain", "walked"):
+            elif self.kind(thing) in ("sure", "both", "write", "plain", "walked"):
                 kept.append(path + " .kept " + self.answers_lent(thing))
         return " ∙ ".join(kept[::-1]) or "search needs"
 
     def answers_lent(self, thing):
-        lent = {"word": ".1 .0", "between": ".1 .0", "line": ".1 .0", "indent-at": ".0", "token": ".1 .1 .1 .0"}
-        return lent.get(base(thing)) or lent.get(thing) or ".1 .1 .1 .1 .0"
+        lent = {"word": ".1 .0", "between": ".1 .0", "line": ".1 .0", "indent-at": ".0", "indent": ".0", "new-line": ".1 .0", "token": ".1 .1 .1 .0"}
+        member = ".1 .1 .1 .1 .1 .0" if self.members.get(base(thing)) == "walked" else ".1 .1 .1 .1 .0"
+        return lent.get(base(thing)) or lent.get(thing) or member
 
     def invariant(self):
         if self.answers["loop"][0] == "from":

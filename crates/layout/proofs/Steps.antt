@@ -479,3 +479,18 @@ module _ {p : Page} {tab : ℕ} where
   look-is {s} {o} {m} {l} {k} e f =
       let q = sym (e .is (p .text) (p .tokens .kinds) (p .tokens .starts) (p .tokens .lengths)) ∙ f in
       record { is = ap (λ y. run p tab (outcome p (k y) (s .at)) (runOf s o m)) q }
+
+-- ---- two writes in one call
+module _ {p : Page} {tab : ℕ} where
+  ungroup : {g : Run} {o m : List ℕ} {u v w : Layout} {r : Answer} → Walked p tab ((u ⨾ v) ⨾ w) g r o m → Walked p tab (u ⨾ v ⨾ w) g r o m
+  ungroup {g} {o} {m} {u} {v} {w} {r} f =
+      record {
+        is = f .is
+            ∙ (runs-seq p tab (u ⨾ v) w g ∙ ap (λ x. andThen x (runs p tab w)) (runs-seq p tab u v g) ∙ andThen-assoc (runs p tab u g) (runs p tab v) (runs p tab w))
+            ∙ sym (runs-seq p tab u (v ⨾ w) g
+            ∙ andThen-same (runs p tab u g) (runs p tab (v ⨾ w)) (λ x. andThen (runs p tab v x) (runs p tab w)) (runs-seq p tab v w));
+      }
+
+  pub then-both : {s s′ : St} {o o′ m o″ m″ : List ℕ} {u v w : Layout} {r : Answer} → Sure tab (u ⨾ v) s o s′ o′
+      → Walked p tab w (runOf s′ o′ m) r o″ m″ → Walked p tab (u ⨾ v ⨾ w) (runOf s o m) r o″ m″
+  then-both e h = ungroup (then-sure e h)
