@@ -118,30 +118,40 @@ module _ (rec : List ℕ) where
       [ some k ↦ pathName (at + 3) | none ↦ elim (absentAt rec at) [ true ↦ pathName (at + 1) | false ↦ noName at ] ]
 
 -- The number of PathExp among the expressions.
-abbrev pathExpNumber : ℕ
+abbrev pub pathExpNumber : ℕ
 pathExpNumber = 5
 
-module _ (rec : List ℕ) (count : ℕ) where
-  -- What is seen of the expression at the offset, the n-th form, handed on.
-  unfoldable pub head : ℕ → ℕ → (Head → Heads) → Heads
-  head n at k =
-      elim (eqb n pathExpNumber)
-      [ true ↦ elim (opPathName rec (at + 1)) [ name t m ↦ k (pathExp t m) | noName place ↦ missing place ] | false ↦ k otherExp ]
+-- What is seen of one expression, or the offset of the first part that is not there.
+pub data Seen : Type 0 where
+  seen : Head → Seen
+  unseen : ℕ → Seen
 
-  -- The second expression stands at `arg`. It is there before names are looked for, those of the first expression first.
+-- Of two expressions, the first one's parts come first.
+unfoldable pub bothSeen : Seen → Seen → Heads
+bothSeen (unseen place) a = missing place
+bothSeen (seen f) (unseen place) = missing place
+bothSeen (seen f) (seen a) = both f a
+
+module _ (rec : List ℕ) where
+  -- The expression of a form's number, whose fields stand at the offset.
+  unfoldable pub headOf : ℕ → ℕ → Seen
+  headOf n fields =
+      elim (eqb n pathExpNumber)
+      [ true ↦ elim (opPathName rec fields) [ name t m ↦ seen (pathExp t m) | noName place ↦ unseen place ] | false ↦ seen otherExp ]
+
+  -- The second expression stands at `arg`. It is there before names are looked for.
   unfoldable pub headsFrom : ℕ → ℕ → ℕ → Heads
   headsFrom n func arg =
-      elim (formAt rec Exp arg)
-      [ some m ↦ head n func (λ f. head m arg (λ a. both f a)) | none ↦ missing arg ]
+      elim (formAt rec Exp arg) [ some m ↦ bothSeen (headOf n (func + 1)) (headOf m (arg + 1)) | none ↦ missing arg ]
 
-  -- `func` stands at the offset and `arg` behind it.
-  unfoldable pub headsAt : ℕ → Heads
-  headsAt func =
-      elim (formAt rec Exp func) [
-        | some n ↦ elim (fieldEnd rec count (Fields.form Exp) func)
-            [ ok arg ↦ headsFrom n func arg | malformed place ↦ missing place | tooDeep place ↦ missing place ]
-        | none ↦ missing func
-      ]
+-- `func` stands at the offset and `arg` behind it.
+unfoldable pub headsAt : List ℕ → ℕ → ℕ → Heads
+headsAt rec count func =
+    elim (formAt rec Exp func) [
+      | some n ↦ elim (fieldEnd rec count (Fields.form Exp) func)
+          [ ok arg ↦ headsFrom rec n func arg | malformed place ↦ missing place | tooDeep place ↦ missing place ]
+      | none ↦ missing func
+    ]
 
 module _ (p : Page) where
   abbrev count : ℕ

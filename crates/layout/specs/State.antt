@@ -21,6 +21,9 @@ use Rattle.layout.specs.declared.fields.Gone.the-variants.{Past}
 use Rattle.layout.specs.declared.fields.Given.{Given}
 use Rattle.layout.specs.declared.fields.Given.the-variants.{Absent, Neither}
 use Rattle.layout.specs.declared.names.Name as Code
+use Rattle.layout.specs.declared.looks.Head as Looks
+use Rattle.layout.specs.declared.looks.Seen as One
+use Rattle.layout.specs.declared.looks.BothSeen as Both
 use Rattle.reader.specs.declared.commands.Family.{Family}
 use Rattle.reader.specs.Fields as Fields
 use Rattle.reader.specs.Fields.{Ty}
@@ -28,9 +31,9 @@ use Rattle.reader.specs.Check.{ok, malformed, tooDeep, fieldEnd}
 use Rattle.reader.specs.Commands.{absentAt, tokenAt, groupAt, formAt, formWidth, familyOf}
 use mathlib.Core.Option.{Option, none, some}
 use Rattle.layout.specs.declared.Answer.the-variants.{Done, Stopped}
-use Rattle.layout.specs.Layout.{Layout, Look, Test, skip}
+use Rattle.layout.specs.Layout.{Layout, Look, Test, Head, pathExp, otherExp, skip}
 use Rattle.layout.specs.Helpers as Helpers
-use Rattle.layout.specs.Meaning.{Page, Event, Word, Token, Comment, Formed, Indent, Outcome, done, stopped, Stop, absent, imported, outcome, tokenText, passes, sees, Name, name, noName}
+use Rattle.layout.specs.Meaning.{Page, Event, Word, Token, Comment, Formed, Indent, Outcome, done, stopped, Stop, absent, imported, outcome, tokenText, passes, sees, Name, name, noName, Seen, seen, unseen, Heads, both, missing}
 use Rattle.layout.specs.Events.{trimmed}
 
 abbrev pub cap : ℕ
@@ -228,3 +231,16 @@ pub record Looked (r : List ℕ) (l : Look) (at : ℕ) (b : Bool) : Type 0 where
 pub record Commented (x starts lens : List ℕ) (tab k : ℕ) (s : St) (o m : List ℕ) (s′ : St) (o′ m′ : List ℕ) : Type 0 where
   pub wrote : Wrote tab (trim (take (getD lens k 0) (drop (getD starts k 0) x))) s o s′ o′
   pub left : m′ ≡ struck m k
+
+-- What answers about AppExp's expressions stand for.
+abbrev pub headIn : Looks.Head → Head
+headIn (Looks.Head.PathExp k n) = pathExp k n
+headIn Looks.Head.OtherExp = otherExp
+
+abbrev pub seenIn : One.Seen → Seen
+seenIn (One.Seen.Is h) = seen (headIn h)
+seenIn (One.Seen.Missing place) = unseen place
+
+abbrev pub headsIn : Both.BothSeen → Heads
+headsIn (Both.BothSeen.Are f a) = both (headIn f) (headIn a)
+headsIn (Both.BothSeen.Missing place) = missing place

@@ -13,10 +13,13 @@ use text::same;
 use text::starts_alphanumeric;
 use text::starts_with_letter;
 ghost use mathlib.Core.Path.{_≡_};
-ghost use lib.ListN.{length, drop};
+ghost use Prim.Native.Nat.{ℕ, _+_};
 ghost use Rattle.layout.specs.Layout.{isBang, isPipe, isAlphabetic, isAlphanumeric, isIfExp, bodyExpNeedsNewline};
-ghost use Rattle.layout.specs.Meaning.{onNewLine};
-ghost use Rattle.layout.specs.State.{TestedText, Looked};
+ghost use Rattle.layout.specs.Meaning.{onNewLine, headOf, bothSeen, headsFrom, headsAt};
+ghost use Rattle.layout.specs.State.{TestedText, Looked, seenIn, headsIn};
+
+// The number of `PathExp` among the expressions.
+const PATH_EXP: usize = 5;
 
 // ---- a token's text
 pub fn is_bang(text: &[u8], starts: &[u16], lens: &[u16], k: usize) -> bool
@@ -89,4 +92,77 @@ pub fn body_exp_needs_newline(rec: &[u8], at: usize) -> bool
         i += 1;
     }
     false
+}
+
+// ---- what `AppExp` sees of its expressions
+// The first name of a `PathExp` and the number of its names, or any other form.
+pub enum Head {
+    PathExp(usize, usize),
+    OtherExp,
+}
+
+// What is seen of one expression, or the offset of the first part that is not there.
+pub enum Seen {
+    Is(Head),
+    Missing(usize),
+}
+
+// What is seen of both.
+pub enum BothSeen {
+    Are(Head, Head),
+    Missing(usize),
+}
+
+// The expression of a form's number, whose fields stand at the offset.
+fn head_of(rec: &[u8], number: usize, fields: usize) -> Seen
+    ensures { λ r. ⌜ seenIn r ≡ headOf (now (rec .entry)) number fields ⌝ }
+{
+    if number != PATH_EXP {
+        return Seen::Is(Head::OtherExp);
+    }
+    let name = op_path_name(rec, fields);
+    match name {
+        Name::Is(k, n) => Seen::Is(Head::PathExp(k, n)),
+        Name::Not(place) => Seen::Missing(place),
+    }
+}
+
+// Of two expressions, the first one's parts come first.
+fn both_seen(func: Seen, arg: Seen) -> BothSeen
+    ensures { λ r. ⌜ headsIn r ≡ bothSeen (seenIn func) (seenIn arg) ⌝ }
+{
+    match func {
+        Seen::Missing(place) => BothSeen::Missing(place),
+        Seen::Is(f) => match arg {
+            Seen::Missing(place) => BothSeen::Missing(place),
+            Seen::Is(a) => BothSeen::Are(f, a),
+        },
+    }
+}
+
+// The second expression stands at `arg`. It is there before names are looked for.
+fn heads_from(rec: &[u8], number: usize, fields: usize, arg: usize) -> BothSeen
+    ensures { λ r. ⌜ ((func : ℕ) → fields ≡ func + 1 → headsIn r ≡ headsFrom (now (rec .entry)) number func arg) ⌝ }
+{
+    let Number::Is(other) = form_at(rec, Family::Exp, arg) else {
+        return BothSeen::Missing(arg);
+    };
+    let f = head_of(rec, number, fields);
+    let a = head_of(rec, other, arg + 1);
+    both_seen(f, a)
+}
+
+// What `AppExp` sees of `func`, at the offset, and of `arg`, behind it, before it walks into the first.
+pub fn heads(rec: &[u8], count: usize, func: usize) -> BothSeen
+    ensures { λ r. ⌜ headsIn r ≡ headsAt (now (rec .entry)) count func ⌝ }
+{
+    let Number::Is(number) = form_at(rec, Family::Exp, func) else {
+        return BothSeen::Missing(func);
+    };
+    let end = exp_end(rec, count, func);
+    match end {
+        Checked::Ok(arg) => heads_from(rec, number, func + 1, arg),
+        Checked::Malformed(place) => BothSeen::Missing(place),
+        Checked::TooDeep(place) => BothSeen::Missing(place),
+    }
 }

@@ -63,7 +63,7 @@ unfolding Stop.stopped
 runStop = tt
 
 unfoldable pub runMeaning : Unit {0}
-unfolding Meaning.after Meaning.bind Meaning.orStop Meaning.tokenText Meaning.passes Meaning.onNewLine Meaning.needsNewline Meaning.sees Meaning.dotName Meaning.listName Meaning.pathName Meaning.opPathName Meaning.head Meaning.headsFrom Meaning.headsAt Meaning.onwards Meaning.outcome
+unfolding Meaning.after Meaning.bind Meaning.orStop Meaning.tokenText Meaning.passes Meaning.onNewLine Meaning.needsNewline Meaning.sees Meaning.dotName Meaning.listName Meaning.pathName Meaning.opPathName Meaning.bothSeen Meaning.headOf Meaning.headsFrom Meaning.headsAt Meaning.onwards Meaning.outcome
 runMeaning = tt
 
 unfoldable pub runHelpers : Unit {0}

@@ -1,0 +1,104 @@
+-- Laws of what AppExp sees of its expressions.
+use mathlib.Core.Path.{_≡_, refl, sym, ap, _∙_}
+use mathlib.Core.Bool.{Bool, false}
+use mathlib.Core.Option.{none, some}
+use mathlib.Core.List.{List}
+use Prim.Native.Nat.{ℕ, _+_}
+use lib.ListN.{length}
+use borrow.Author.Tests.{eq-eqb, ne-eqb}
+use Rattle.reader.specs.Fields as Fields
+use Rattle.reader.specs.Fields.{Exp}
+use Rattle.reader.specs.declared.commands.Family.the-variants as Case
+use Rattle.reader.specs.declared.commands.Number.{Number}
+use Rattle.reader.specs.declared.tree.Checked as Tree
+use Rattle.reader.specs.Commands.{formAt, numberIn, FormAt}
+use Rattle.reader.specs.Check.{ok, malformed, tooDeep, fieldEnd}
+use Rattle.reader.specs.Tree.{checkedIn, Ends}
+use Rattle.layout.specs.declared.St.{St}
+use Rattle.layout.specs.declared.Answer.{Answer}
+use Rattle.layout.specs.declared.Answer.the-variants.{Stopped}
+use Rattle.layout.specs.declared.names.Name as Code
+use Rattle.layout.specs.declared.looks.Head as Looks
+use Rattle.layout.specs.declared.looks.BothSeen as Both
+use Rattle.layout.specs.Layout.{Layout, Head, pathExp, otherExp, heads}
+use Rattle.layout.specs.Meaning.{Page, opPathName, Seen, seen, unseen, headOf, Heads, both, missing, bothSeen, headsFrom, headsAt, outcome}
+use Rattle.layout.specs.State.{runOf, run, runs, effects, packed, stopOf, Walked, nameIn, headIn, headsIn}
+use Rattle.layout.proofs.Steps.{Same}
+
+-- ---- one expression
+module _ (rec : List ℕ) (n fields : ℕ) where
+  pub head-other : (n ≡ 5 → ⊥) → seen otherExp ≡ headOf rec n fields
+  unfolding headOf
+  head-other h = rw (ne-eqb n 5 h, headOf) refl
+
+  pub head-named : {x : Code.Name} {k m : ℕ} → n ≡ 5 → nameIn x ≡ opPathName rec fields → x ≡ Code.Name.Is k m → seen (pathExp k m) ≡ headOf rec n fields
+  unfolding headOf
+  head-named h e f =
+      let q = sym e ∙ ap nameIn f in
+      rw (eq-eqb n 5 h, headOf, q) refl
+
+  pub head-missing : {x : Code.Name} {place : ℕ} → n ≡ 5 → nameIn x ≡ opPathName rec fields → x ≡ Code.Name.Not place → unseen place ≡ headOf rec n fields
+  unfolding headOf
+  head-missing h e f =
+      let q = sym e ∙ ap nameIn f in
+      rw (eq-eqb n 5 h, headOf, q) refl
+
+-- ---- both
+module _ {rec : List ℕ} {arg : ℕ} {x : Number} (e : FormAt Case.Exp rec arg x) (n func : ℕ) where
+  pub from-missing : x ≡ Number.Not → missing arg ≡ headsFrom rec n func arg
+  unfolding headsFrom numberIn
+  from-missing f =
+      let q : formAt rec Exp arg ≡ none = sym (e .is) ∙ ap numberIn f in
+      rw (q, headsFrom) refl
+
+  pub from-both : {m fields : ℕ} {y : Heads} {f a : Seen} → x ≡ Number.Is m → fields ≡ func + 1 → f ≡ headOf rec n fields → a ≡ headOf rec m (arg + 1)
+      → y ≡ bothSeen f a → y ≡ headsFrom rec n func arg
+  unfolding headsFrom numberIn
+  from-both {m} h i p r s =
+      let q : formAt rec Exp arg ≡ some m = sym (e .is) ∙ ap numberIn h in
+      rw (q, headsFrom, ← i, ← p, ← r) s
+
+module _ {rec : List ℕ} {func : ℕ} {x : Number} (e : FormAt Case.Exp rec func x) (count : ℕ) where
+  pub at-missing : x ≡ Number.Not → missing func ≡ headsAt rec count func
+  unfolding headsAt numberIn
+  at-missing f =
+      let q : formAt rec Exp func ≡ none = sym (e .is) ∙ ap numberIn f in
+      rw (q, headsAt) refl
+
+  module _ {n : ℕ} {y : Tree.Checked} (f : x ≡ Number.Is n) (h : Ends rec count (Fields.form Exp) func y) where
+    pub at-both : {arg : ℕ} {z : Heads} → y ≡ Tree.Checked.Ok arg → z ≡ headsFrom rec n func arg → z ≡ headsAt rec count func
+    unfolding headsAt numberIn
+    at-both {arg} i j =
+        let q : formAt rec Exp func ≡ some n = sym (e .is) ∙ ap numberIn f in
+        let p : fieldEnd rec count (Fields.form Exp) func ≡ ok arg = sym (h .is) ∙ ap checkedIn i in
+        rw (q, headsAt, p) j
+
+    pub at-malformed : {place : ℕ} → y ≡ Tree.Checked.Malformed place → missing place ≡ headsAt rec count func
+    unfolding headsAt numberIn
+    at-malformed {place} i =
+        let q : formAt rec Exp func ≡ some n = sym (e .is) ∙ ap numberIn f in
+        let p : fieldEnd rec count (Fields.form Exp) func ≡ malformed place = sym (h .is) ∙ ap checkedIn i in
+        rw (q, headsAt, p) refl
+
+    pub at-deep : {place : ℕ} → y ≡ Tree.Checked.TooDeep place → missing place ≡ headsAt rec count func
+    unfolding headsAt numberIn
+    at-deep {place} i =
+        let q : formAt rec Exp func ≡ some n = sym (e .is) ∙ ap numberIn f in
+        let p : fieldEnd rec count (Fields.form Exp) func ≡ tooDeep place = sym (h .is) ∙ ap checkedIn i in
+        rw (q, headsAt, p) refl
+
+-- ---- the walk
+module _ {p : Page} {tab : ℕ} {s : St} {o m : List ℕ} {k : Head → Head → Layout} {x : Both.BothSeen} where
+  pub heads-are : {f a : Looks.Head} → headsIn x ≡ headsAt (p .rec) (length (p .tokens .starts)) (s .at) → x ≡ Both.BothSeen.Are f a
+      → Same p tab (heads k) (runOf s o m) (k (headIn f) (headIn a)) (runOf s o m)
+  unfolding runs outcome
+  heads-are e f =
+      let q = sym e ∙ ap headsIn f in
+      record { is = rw (q, outcome) refl }
+
+  pub heads-missing : {place : ℕ} {r : Answer} → headsIn x ≡ headsAt (p .rec) (length (p .tokens .starts)) (s .at) → x ≡ Both.BothSeen.Missing place
+      → r ≡ Stopped s place false → Walked p tab (heads k) (runOf s o m) r o m
+  unfolding runs outcome run effects stopOf
+  heads-missing e f h =
+      let q = sym e ∙ ap headsIn f in
+      record { is = ap (λ y. packed y o m) h ∙ rw (q, outcome) refl }
