@@ -5,6 +5,7 @@ pub mod NameLaws
 pub mod LookLaws
 pub mod Steps
 pub mod HeadLaws
+pub mod DecLaws
 pub mod Dropping
 pub mod Knot
 pub mod Exact

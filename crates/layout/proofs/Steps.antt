@@ -148,7 +148,7 @@ module _ {p : Page} {tab : ℕ} where
   skip-same {w} {g} = record { is = runs-seq p tab skip w g }
 
 -- ---- fields
-moved-run : (p : Page) (tab a : ℕ) (w : Layout) (s s′ : St) (o m : List ℕ) → s′ ≡ moved a s → run p tab (outcome p w a) (runOf s o m) ≡ runs p tab w (runOf s′ o m)
+pub moved-run : (p : Page) (tab a : ℕ) (w : Layout) (s s′ : St) (o m : List ℕ) → s′ ≡ moved a s → run p tab (outcome p w a) (runOf s o m) ≡ runs p tab w (runOf s′ o m)
 unfolding runs
 moved-run p tab a w s s′ o m e =
     sym (run-at p tab (outcome p w a) a (runOf s o m)) ∙ ap (λ x. run p tab (outcome p w (x .at)) (runOf x o m)) (sym e)

@@ -1,0 +1,58 @@
+-- Laws of a declaration's command.
+use native.Mathlib.Omega.{arith}
+use mathlib.Core.Path.{_≡_, refl, sym, ap, _∙_}
+use mathlib.Core.Bool.{false}
+use mathlib.Core.Option.{Option, none, some}
+use mathlib.Core.List.{List}
+use Prim.Native.Nat.{ℕ, _+_}
+use Rattle.reader.specs.Fields.{DecOne}
+use Rattle.reader.specs.declared.commands.Declaration.{Declaration}
+use Rattle.reader.specs.declared.commands.Declaration.the-variants as Whole
+use Rattle.reader.specs.declared.commands.Number.{Number}
+use Rattle.reader.specs.Commands.{formAt, formWidth, firstToken, declarationAt, numberIn, declarationIn, DeclarationAt}
+use Rattle.layout.specs.declared.St.{St}
+use Rattle.layout.specs.declared.Answer.{Answer}
+use Rattle.layout.specs.declared.Answer.the-variants.{Stopped}
+use Rattle.layout.specs.Layout.{Layout, Declared, declaration}
+use Rattle.layout.specs.Meaning.{Page, orStop, outcome}
+use Rattle.layout.specs.State.{runOf, run, runs, effects, packed, stopOf, moved, Walked}
+use Rattle.layout.proofs.Steps.{Same, moved-run}
+
+never : {A : Type 0} → _≡_ {A = ℕ} 0 1 → A
+never e = absurd (omega (arith, e))
+
+abbrev Read : Type 0
+Read = ℕ × Option ℕ × ℕ
+
+abbrev held : Read → Option Read → Read
+held other (some r) = r
+held other none = other
+
+is-there : (f : Option ℕ) (t : Option ℕ) (w n : ℕ) (first : Option ℕ) (next : ℕ)
+    → _≡_ {A = Option Read} (some (n, first, next)) (elim f as (λ x. Option Read) [ none ↦ none | some k ↦ some (k, t, w) ])
+    → (f ≡ some n) × (first ≡ t) × (next ≡ w)
+is-there none t w n first next e = never (cc)
+is-there (some k) t w n first next e =
+    let q : _≡_ {A = Read} (n, first, next) (k, t, w) = ap (held (n, first, next)) e in
+    (ap (λ (r : Read). some (r .0)) (sym q), ap (λ (r : Read). r .1) q, ap (λ (r : Read). r .2) q)
+
+is-gone : (f : Option ℕ) (t : Option ℕ) (w : ℕ) → _≡_ {A = Option Read} none (elim f as (λ x. Option Read) [ none ↦ none | some k ↦ some (k, t, w) ]) → f ≡ none
+is-gone none t w e = refl
+is-gone (some k) t w e = never (cc)
+
+module _ {p : Page} {tab : ℕ} {s : St} {o m : List ℕ} {k : Declared → Layout} {x : Declaration} where
+  pub declaration-is : {n next : ℕ} {first : Number} {s′ : St} → DeclarationAt (p .rec) (s .at) x → x ≡ Whole.Is n first next → s′ ≡ moved next s
+      → Same p tab (declaration k) (runOf s o m) (k (record { place = s .at; number = n; first = numberIn first })) (runOf s′ o m)
+  unfolding runs outcome declarationAt declarationIn orStop
+  declaration-is {n} {next} {first} {s′} e f g =
+      let q = is-there (formAt (p .rec) DecOne (s .at)) (firstToken (p .rec) (s .at)) (s .at + formWidth DecOne) n (numberIn first) next
+      (sym (ap declarationIn f) ∙ e .is) in
+      let d : Declared = record { place = s .at; number = n; first = numberIn first } in
+      record { is = rw (q .0, ← q .1, ← q .2) (moved-run p tab next (k d) s s′ o m g) }
+
+  pub declaration-not : {a : Answer} → a ≡ Stopped s (s .at) false → DeclarationAt (p .rec) (s .at) x → x ≡ Whole.Not
+      → Walked p tab (declaration k) (runOf s o m) a o m
+  unfolding runs outcome run effects stopOf declarationAt declarationIn orStop
+  declaration-not h e f =
+      let q = is-gone (formAt (p .rec) DecOne (s .at)) (firstToken (p .rec) (s .at)) (s .at + formWidth DecOne) (sym (ap declarationIn f) ∙ e .is) in
+      record { is = ap (λ y. packed y o m) h ∙ rw q refl }
