@@ -1,10 +1,10 @@
 -- Laws of `doc_comment_above`: the doc text of the comment found, as the lookup's answer. Assumes nothing.
-use Prim.Native.Nat.{ℕ, _≤_, _<_}
-use mathlib.Core.Path.{_≡_, refl, sym, _∙_, ap}
+use Prim.Native.Nat.{ℕ, _<_}
+use mathlib.Core.Path.{_≡_, sym, _∙_, ap}
 use mathlib.Core.List.{List}
 use mathlib.Core.Option.{some}
 use native.Mathlib.Omega.{arith}
-use lib.ListN.{length, take, drop, getD}
+use lib.ListN.{take, drop, getD}
 use lib.Seq.{getD-take}
 use Rattle.reader.specs.Tokens.{textOf}
 use Rattle.comments.specs.declared.Above.{Above}

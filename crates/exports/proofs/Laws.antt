@@ -1,16 +1,16 @@
 -- Laws of the answers as numbers: an answer by its case, the record check with its tables, the doc lookup. Assumes nothing.
-use Prim.Native.Nat.{ℕ, _≤_}
-use mathlib.Core.Path.{_≡_, refl, sym, _∙_, ap}
+use Prim.Native.Nat.{ℕ}
+use mathlib.Core.Path.{_≡_, sym, _∙_, ap}
 use mathlib.Core.List.{List, [], _∷_}
-use lib.ListN.{length, take}
 use Rattle.reader.specs.declared.Reading.{Reading}
 use Rattle.reader.specs.declared.Reading.the-variants.{Sheet, TooLong, NotAscii, Malformed, TooDeep}
 use Rattle.reader.specs.declared.tree.Checked as Code
-use Rattle.reader.specs.Tokens.{Tokens, tokensIn}
+use Rattle.reader.specs.Tokens.{tokensIn}
 use Rattle.reader.specs.Tree.{checkedIn}
-use Rattle.reader.specs.Reading.{Read, refused, read, readIn, numberOf, placeOf, Reads}
+use Rattle.reader.specs.Reading.{refused, read, numberOf, placeOf, Reads}
 use Rattle.formatter.specs.declared.Lookup.{Lookup}
 use Rattle.formatter.specs.Lookup.{lookedOf}
+use Rattle.formatter.proofs.LookupLaws.{reading-says, reading-counts}
 use Rattle.doc_comment.specs.Doc.{Doc, docLookup, docLooked}
 use Rattle.exports.specs.Numbers.{endNumbers, lookedNumbers, readNumbers, Tabled, ReadOut, DocOut}
 
@@ -25,37 +25,33 @@ unfolding docLooked
 doc-out text rec token out out′ answer l e f =
     record { numbers = f ∙ ap (λ (d : Doc). lookedNumbers (d .answer)) e; written = ap (λ (d : Doc). d .out) e }
 
-module _ {text rec kinds starts lens : List ℕ} {r : Reading} (s : Reads text rec kinds starts lens r) where
-  says : {x : Reading} → r ≡ x → read text rec ≡ readIn x kinds starts lens
-  says e = sym (s .is) ∙ ap (λ (y : Reading). readIn y kinds starts lens) e
+module _ {text rec kinds starts lens answer : List ℕ} {r : Reading} (s : Reads text rec kinds starts lens r) where
+  pub read-sheet : {count tree : ℕ} → r ≡ Sheet count tree → answer ≡ 0 ∷ 0 ∷ count ∷ tree ∷ [] → ReadOut text rec answer kinds starts lens
+  unfolding readNumbers Tabled
+  read-sheet {count} {tree} e f =
+      let counts = reading-counts s e in
+      record {
+        numbers = rw (reading-says s e, readNumbers, counts .0) f;
+        tables = rw (reading-says s e, Tabled) (ap (λ (n : ℕ). tokensIn n kinds starts lens) (counts .0));
+      }
 
-  module _ {answer : List ℕ} where
-    pub read-sheet : {count tree : ℕ} → r ≡ Sheet count tree → answer ≡ 0 ∷ 0 ∷ count ∷ tree ∷ [] → ReadOut text rec answer kinds starts lens
-    unfolding readNumbers Tabled
-    read-sheet {count} {tree} e f =
-        let counts : (length (take count kinds) ≡ count) × (count ≤ 4096) = rw e at (s .counts) in
-        record {
-          numbers = rw (says e, readNumbers, counts .0) f;
-          tables = rw (says e, Tabled) (ap (λ (n : ℕ). tokensIn n kinds starts lens) (counts .0));
-        }
+  refusal : {number place : ℕ} → read text rec ≡ refused number place → answer ≡ number ∷ place ∷ 0 ∷ 0 ∷ [] → ReadOut text rec answer kinds starts lens
+  unfolding readNumbers Tabled
+  refusal e f = record { numbers = rw (e, readNumbers) f; tables = rw (e, Tabled) tt }
 
-    refusal : {number place : ℕ} → read text rec ≡ refused number place → answer ≡ number ∷ place ∷ 0 ∷ 0 ∷ [] → ReadOut text rec answer kinds starts lens
-    unfolding readNumbers Tabled
-    refusal e f = record { numbers = rw (e, readNumbers) f; tables = rw (e, Tabled) tt }
+  pub read-long : r ≡ TooLong → answer ≡ 1 ∷ 0 ∷ 0 ∷ 0 ∷ [] → ReadOut text rec answer kinds starts lens
+  unfolding numberOf placeOf
+  read-long e = refusal (reading-says s e)
 
-    pub read-long : r ≡ TooLong → answer ≡ 1 ∷ 0 ∷ 0 ∷ 0 ∷ [] → ReadOut text rec answer kinds starts lens
+  module _ {place : ℕ} where
+    pub read-wide : r ≡ NotAscii place → answer ≡ 2 ∷ place ∷ 0 ∷ 0 ∷ [] → ReadOut text rec answer kinds starts lens
     unfolding numberOf placeOf
-    read-long e = refusal (says e)
+    read-wide e = refusal (reading-says s e)
 
-    module _ {place : ℕ} where
-      pub read-wide : r ≡ NotAscii place → answer ≡ 2 ∷ place ∷ 0 ∷ 0 ∷ [] → ReadOut text rec answer kinds starts lens
-      unfolding numberOf placeOf
-      read-wide e = refusal (says e)
+    pub read-malformed : r ≡ Malformed place → answer ≡ 3 ∷ place ∷ 0 ∷ 0 ∷ [] → ReadOut text rec answer kinds starts lens
+    unfolding numberOf placeOf
+    read-malformed e = refusal (reading-says s e)
 
-      pub read-malformed : r ≡ Malformed place → answer ≡ 3 ∷ place ∷ 0 ∷ 0 ∷ [] → ReadOut text rec answer kinds starts lens
-      unfolding numberOf placeOf
-      read-malformed e = refusal (says e)
-
-      pub read-deep : r ≡ TooDeep place → answer ≡ 4 ∷ place ∷ 0 ∷ 0 ∷ [] → ReadOut text rec answer kinds starts lens
-      unfolding numberOf placeOf
-      read-deep e = refusal (says e)
+    pub read-deep : r ≡ TooDeep place → answer ≡ 4 ∷ place ∷ 0 ∷ 0 ∷ [] → ReadOut text rec answer kinds starts lens
+    unfolding numberOf placeOf
+    read-deep e = refusal (reading-says s e)

@@ -1,16 +1,15 @@
 -- Laws of the lookups: from what the record check says to what a lookup gives. Assumes nothing.
 use Prim.Native.Nat.{ℕ, _≤_, _<_}
-use mathlib.Core.Path.{_≡_, refl, sym, _∙_, ap}
+use mathlib.Core.Path.{_≡_, sym, _∙_, ap}
 use mathlib.Core.List.{List}
-use mathlib.Core.Option.{Option, none, some}
+use mathlib.Core.Option.{Option, none}
 use native.Mathlib.Omega.{arith}
 use lib.ListN.{length, take, length-take}
 use borrow.Author.Tests.{lt-ltb, le-ltb}
 use Rattle.reader.specs.declared.Reading.{Reading}
 use Rattle.reader.specs.declared.Reading.the-variants as Says
-use Rattle.reader.specs.Tokens.{tokensIn}
 use Rattle.reader.specs.Reading as Reading
-use Rattle.reader.specs.Reading.{refused, sheet, read, readIn, Reads}
+use Rattle.reader.specs.Reading.{refused, read, readIn, Reads}
 use Rattle.comments.specs.declared.Above.{Above}
 use Rattle.comments.specs.declared.Above.the-variants.{Comment, Nothing}
 use Rattle.comments.specs.Above.{commentAbove, commentOf}
@@ -18,26 +17,30 @@ use Rattle.formatter.specs.declared.Lookup.{Lookup}
 use Rattle.formatter.specs.declared.Lookup.the-variants as Case
 use Rattle.formatter.specs.declared.Asked as Code
 use Rattle.formatter.specs.declared.Asked.the-variants.{Tokens, Declined}
-use Rattle.formatter.specs.Lookup.{looked, declined, asked, ask, lookup, numberOf, placeOf, answerOf, lookedOf, askedIn, Asks}
+use Rattle.formatter.specs.Lookup.{looked, declined, ask, lookup, numberOf, placeOf, answerOf, lookedOf, askedIn, Asks}
 
 -- ---- 1 to 4, then 9
-module _ {text rec kinds starts lens : List ℕ} {r : Reading} (s : Reads text rec kinds starts lens r) (token : ℕ) where
-  says : {x : Reading} → r ≡ x → read text rec ≡ readIn x kinds starts lens
-  says e = sym (s .is) ∙ ap (λ (y : Reading). readIn y kinds starts lens) e
+module _ {text rec kinds starts lens : List ℕ} {r : Reading} (s : Reads text rec kinds starts lens r) where
+  pub reading-says : {x : Reading} → r ≡ x → read text rec ≡ readIn x kinds starts lens
+  reading-says e = sym (s .is) ∙ ap (λ (y : Reading). readIn y kinds starts lens) e
 
+  pub reading-counts : {count tree : ℕ} → r ≡ Says.Sheet count tree → (length (take count kinds) ≡ count) × (count ≤ 4096)
+  reading-counts e = rw e at (s .counts)
+
+module _ {text rec kinds starts lens : List ℕ} {r : Reading} (s : Reads text rec kinds starts lens r) (token : ℕ) where
   module _ {count tree : ℕ} (e : r ≡ Says.Sheet count tree) where
     counts : (length (take count kinds) ≡ count) × (count ≤ 4096)
-    counts = rw e at (s .counts)
+    counts = reading-counts s e
 
     pub ask-tokens : token < count → Asks text rec token kinds starts lens (Tokens count)
     unfolding ask
     ask-tokens h =
-        record { is = rw (says e, ask, lt-ltb token (length (take count kinds)) (rw (counts .0) h)); counts = counts }
+        record { is = rw (reading-says s e, ask, lt-ltb token (length (take count kinds)) (rw (counts .0) h)); counts = counts }
 
     pub ask-past : count ≤ token → Asks text rec token kinds starts lens (Declined Case.NoToken)
     unfolding ask lookedOf numberOf placeOf answerOf
     ask-past h =
-        record { is = rw (says e, ask, le-ltb token (length (take count kinds)) (rw (counts .0) h)); counts = tt }
+        record { is = rw (reading-says s e, ask, le-ltb token (length (take count kinds)) (rw (counts .0) h)); counts = tt }
 
   refusal : {number place : ℕ} → read text rec ≡ refused number place → declined (looked number place none) ≡ ask text rec token
   unfolding ask
@@ -45,19 +48,19 @@ module _ {text rec kinds starts lens : List ℕ} {r : Reading} (s : Reads text r
 
   pub ask-long : r ≡ Says.TooLong → Asks text rec token kinds starts lens (Declined Case.TooLong)
   unfolding lookedOf numberOf placeOf answerOf Reading.numberOf Reading.placeOf
-  ask-long e = record { is = refusal (says e); counts = tt }
+  ask-long e = record { is = refusal (reading-says s e); counts = tt }
 
   pub ask-wide : {place : ℕ} → r ≡ Says.NotAscii place → Asks text rec token kinds starts lens (Declined (Case.NotAscii place))
   unfolding lookedOf numberOf placeOf answerOf Reading.numberOf Reading.placeOf
-  ask-wide e = record { is = refusal (says e); counts = tt }
+  ask-wide e = record { is = refusal (reading-says s e); counts = tt }
 
   pub ask-malformed : {place : ℕ} → r ≡ Says.Malformed place → Asks text rec token kinds starts lens (Declined (Case.Malformed place))
   unfolding lookedOf numberOf placeOf answerOf Reading.numberOf Reading.placeOf
-  ask-malformed e = record { is = refusal (says e); counts = tt }
+  ask-malformed e = record { is = refusal (reading-says s e); counts = tt }
 
   pub ask-deep : {place : ℕ} → r ≡ Says.TooDeep place → Asks text rec token kinds starts lens (Declined (Case.TooDeep place))
   unfolding lookedOf numberOf placeOf answerOf Reading.numberOf Reading.placeOf
-  ask-deep e = record { is = refusal (says e); counts = tt }
+  ask-deep e = record { is = refusal (reading-says s e); counts = tt }
 
 -- ---- the comment above a token
 module _ {text rec kinds starts lens : List ℕ} {token : ℕ} {r : Code.Asked} (s : Asks text rec token kinds starts lens r) where

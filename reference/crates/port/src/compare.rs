@@ -6,6 +6,7 @@ use answers::{Lookup, Reference};
 use schema::{command, Family};
 use sheet::Sheet;
 use sml_syntax::ast::AstNode as _;
+use sml_syntax::kind::SyntaxElement;
 use std::fmt;
 use std::ops::AddAssign;
 
@@ -39,7 +40,7 @@ impl fmt::Display for Difference {
 }
 
 fn hex(bytes: &[u8]) -> String {
-    bytes.iter().map(|byte| format!("{byte:02x}")).collect()
+    bytes.iter().fold(String::new(), |text, byte| text + &format!("{byte:02x}"))
 }
 
 /// How many answers were compared.
@@ -124,7 +125,7 @@ impl Comparison<'_> {
         let (mut answer, mut tokens) = ([0; 4], Vec::new());
         if let Some(root) = self.reference.root() {
             let all = root.syntax().descendants_with_tokens();
-            tokens.extend(all.filter_map(|element| element.into_token()).map(|token| {
+            tokens.extend(all.filter_map(SyntaxElement::into_token).map(|token| {
                 let range = token.text_range();
                 (token.kind().number(), range.start(), range.end() - range.start())
             }));

@@ -70,6 +70,10 @@ pub struct Reading {
 }
 
 /// The record check.
+///
+/// # Panics
+///
+/// Where the call gives more tokens than the tables have entries.
 #[must_use]
 pub fn read(text: &[u8], record: &[u8]) -> Reading {
     let mut answer = [UNWRITTEN; 4];
