@@ -1,6 +1,6 @@
 -- Laws of a declaration's command.
 use native.Mathlib.Omega.{arith}
-use mathlib.Core.Path.{_≡_, refl, sym, ap, _∙_}
+use mathlib.Core.Path.{_≡_, refl, sym, ap, _∙_, subst}
 use mathlib.Core.Bool.{false}
 use mathlib.Core.Option.{Option, none, some}
 use mathlib.Core.List.{List}
@@ -12,11 +12,14 @@ use Rattle.reader.specs.declared.commands.Number.{Number}
 use Rattle.reader.specs.Commands.{formAt, formWidth, firstToken, declarationAt, numberIn, declarationIn, DeclarationAt}
 use Rattle.layout.specs.declared.St.{St}
 use Rattle.layout.specs.declared.Answer.{Answer}
-use Rattle.layout.specs.declared.Answer.the-variants.{Stopped}
-use Rattle.layout.specs.Layout.{Layout, Declared, declaration}
+use Rattle.layout.specs.declared.Answer.the-variants.{Done, Stopped}
+use Rattle.layout.specs.Layout.{Layout, Declared, declaration, comment, word, _⨾_}
 use Rattle.layout.specs.Meaning.{Page, orStop, outcome}
-use Rattle.layout.specs.State.{runOf, run, runs, effects, packed, stopOf, moved, Walked}
-use Rattle.layout.proofs.Steps.{Same, moved-run}
+use Rattle.layout.specs.State.{Run, runOf, run, runs, effects, packed, stopOf, moved, Walked}
+use Rattle.layout.proofs.Steps.{Same, moved-run, by-same, above-is, last-skip}
+use Rattle.layout.specs.Helpers.{Cfg, indent}
+use Rattle.layout.specs.DecOne.{comment-above, comment-line}
+use Rattle.comments.specs.Above.{commentAbove}
 
 never : {A : Type 0} → _≡_ {A = ℕ} 0 1 → A
 never e = absurd (omega (arith, e))
@@ -56,3 +59,21 @@ module _ {p : Page} {tab : ℕ} {s : St} {o m : List ℕ} {k : Declared → Layo
   declaration-not h e f =
       let q = is-gone (formAt (p .rec) DecOne (s .at)) (firstToken (p .rec) (s .at)) (s .at + formWidth DecOne) (sym (ap declarationIn f) ∙ e .is) in
       record { is = ap (λ y. packed y o m) h ∙ rw q refl }
+
+-- ---- the comment above a declaration
+module _ {p : Page} {tab : ℕ} (c : Cfg) where
+  pub comment-skip : {t : Option ℕ} {s : St} {o m : List ℕ} → t ≡ none → Walked p tab (comment-above c t) (runOf s o m) (Done s) o m
+  unfolding comment-above
+  comment-skip {t} {s} {o} {m} e = subst (λ x. Walked p tab (comment-above c x) (runOf s o m) (Done s) o m) (sym e) last-skip
+
+  pub comment-none : {t x : Option ℕ} {k : ℕ} {s : St} {o m : List ℕ} → t ≡ some k → x ≡ commentAbove (p .tokens .kinds) k → x ≡ none
+      → Walked p tab (comment-above c t) (runOf s o m) (Done s) o m
+  unfolding comment-above comment-line
+  comment-none {s = s} {o = o} {m = m} e f g =
+      subst (λ y. Walked p tab (comment-above c y) (runOf s o m) (Done s) o m) (sym e) (by-same (above-is (sym g ∙ f)) last-skip)
+
+  pub comment-some : {t x : Option ℕ} {k j : ℕ} {g : Run} {r : Answer} {o m : List ℕ} → t ≡ some k → x ≡ commentAbove (p .tokens .kinds) k → x ≡ some j
+      → Walked p tab (comment j ⨾ word "\n" ⨾ indent c) g r o m → Walked p tab (comment-above c t) g r o m
+  unfolding comment-above comment-line
+  comment-some {g = g} {r = r} {o = o} {m = m} e f h w =
+      subst (λ y. Walked p tab (comment-above c y) g r o m) (sym e) (by-same (above-is (sym h ∙ f)) w)

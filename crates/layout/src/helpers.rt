@@ -2,6 +2,7 @@
 use crate::Answer;
 use crate::Cfg;
 use crate::St;
+use crate::comment;
 use crate::fields::Given;
 use crate::fields::Gone;
 use crate::fields::Read;
@@ -18,10 +19,16 @@ use crate::names::path_name;
 use crate::token;
 use crate::word;
 use crate::words;
+use comments::Above;
+use reader::commands::Number;
 ghost use Rattle.layout.specs.Words.{wordOf};
 ghost use Rattle.layout.specs.Layout.{word as wordOf·, firstName, skip, _⨾_};
 ghost use Rattle.layout.specs.Helpers.{text as textField, path as pathLayout, word-if, ty-vars, ty-var-seq-there, ty-var-seq, indent as indentOf, when, new-line, op-space, op-path};
-ghost use Rattle.layout.specs.State.{Sure, Plain, joint, cfgOf};
+ghost use mathlib.Core.List.{List};
+ghost use Prim.Native.Nat.{ℕ};
+ghost use Rattle.reader.specs.Commands.{numberIn};
+ghost use Rattle.layout.specs.DecOne.{comment-above};
+ghost use Rattle.layout.specs.State.{Walked, page, runOf, Sure, Plain, joint, cfgOf};
 
 // A fixed word before an item that is not the first.
 pub fn between(text: &[u8], out: &mut [u8], st: St, tab: u32, w: usize, i: usize) -> St
@@ -331,4 +338,29 @@ pub fn op_path(
         Given::Absent(s) => path(text, rec, starts, lens, out, s, cfg),
         Given::Neither => stop(st),
     }
+}
+
+// ---- the comment above a declaration
+// The comment above the first token, on a line of its own, where both are there.
+pub fn comment_above(
+    text: &[u8],
+    kinds: &[u8],
+    starts: &[u16],
+    lens: &[u16],
+    out: &mut [u8],
+    left: &mut [u64; 64],
+    st: St,
+    cfg: Cfg,
+    first: Number,
+) -> St
+    ensures { λ r. ⌜ ((rec : List ℕ) → Walked (page (now (text .entry)) rec (now (kinds .entry)) (now (starts .entry)) (now (lens .entry))) (cfg .tab) (comment-above (cfgOf cfg) (numberIn first)) (runOf st (now (out .entry)) (now (left .entry))) (Answer.Done r) (now (out .exit)) (now (left .exit))) ⌝ }
+{
+    let Number::Is(k) = first else {
+        return st;
+    };
+    let Above::Comment { comment: found } = comments::comment_above(kinds, k) else {
+        return st;
+    };
+    let s1 = comment(text, starts, lens, out, left, st, cfg.tab, found);
+    line(text, out, s1, cfg)
 }
