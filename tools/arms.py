@@ -181,13 +181,17 @@ class Function:
         shape = self.answers["loop"][0]
         joint = "_ " if shape == "from" else ""
         if kind == "loop":
-            return "by-same (%s) (%s .inv .1 %s_ _ %s)" % ({"from": "items-all _ _ _", "times": "times-all _ _"}[shape], path, self.hypotheses(), more())
+            return "by-same (%s) (%s .inv .1 %s%s)" % ({"from": "items-all _ _ _", "times": "times-all _ _"}[shape], path, self.blanks(), more())
         if kind == "turn":
             return "%s-more _ %s(%s .taken) %s" % (shape, joint, path, more())
         return "%s-none _ %s(%s .left)" % (shape, joint, path)
 
     def hypotheses(self):
-        return "kinds m " if self.answers["as"] == "plain" else ""
+        """What an invariant's implication binds before its premise."""
+        return "kinds m r o " if self.answers["as"] == "plain" else "r o m "
+
+    def blanks(self):
+        return "kinds m _ _ " if self.answers["as"] == "plain" else "_ _ _ "
 
     def wrapped(self, term):
         return "record { is = λ kinds m. %s }" % term if self.answers["as"] == "plain" else term
@@ -267,13 +271,13 @@ class Function:
 
     def loop_need(self, need, way):
         if need == "loop-holds":
-            return "(omega arith, λ %sr o h. h, refl)" % self.hypotheses()
+            return "(omega arith, λ %sh. h, refl)" % self.hypotheses()
         if need == "loop-less":
             return "omega arith"
         at = [place for place in range(len(way)) if way[place][1] == "loop"][0]
         loop = way[at][2]
         turn = self.term(self.steps(way[at + 1:]), "h", self.stop(way))
-        return "(omega (arith, %s .inv .0), λ %sr o h. %s .inv .1 %sr o (%s), %s)" % (
+        return "(omega (arith, %s .inv .0), λ %sh. %s .inv .1 %s(%s), %s)" % (
             loop, self.hypotheses(), loop, self.hypotheses(), turn, self.kept(way[at:]))
 
     def kept(self, way):
@@ -296,7 +300,9 @@ class Function:
             left = "from %s %s" % tuple("(%s)" % part for part in self.answers["loop"][1:])
         else:
             left = "λ i k. times k (%s)" % self.answers["loop"][1]
-        return "PlainTurn text rec starts lens (cfg .tab) (%s) n s₀ out₀ i s out" % left
+        if self.answers["as"] == "plain":
+            return "PlainTurn text rec starts lens (cfg .tab) (%s) n s₀ out₀ i s out" % left
+        return "Turn (page text rec kinds starts lens) (cfg .tab) (%s) n s₀ out₀ left₀ i s out left" % left
 
 
 def filled(function, text):

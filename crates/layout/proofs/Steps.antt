@@ -494,3 +494,10 @@ module _ {p : Page} {tab : ℕ} where
   pub then-both : {s s′ : St} {o o′ m o″ m″ : List ℕ} {u v w : Layout} {r : Answer} → Sure tab (u ⨾ v) s o s′ o′
       → Walked p tab w (runOf s′ o′ m) r o″ m″ → Walked p tab (u ⨾ v ⨾ w) (runOf s o m) r o″ m″
   then-both e h = ungroup (then-sure e h)
+
+-- The same invariant where comments may be struck out.
+abbrev pub Turn : Page → ℕ → (ℕ → ℕ → Layout) → ℕ → St → List ℕ → List ℕ → ℕ → St → List ℕ → List ℕ → Type 0
+Turn p tab left n s₀ o₀ m₀ i s o m =
+    (i ≤ n)
+    × ((a : Answer) (o′ m′ : List ℕ) → Walked p tab (left i (n - i)) (runOf s o m) a o′ m′ → Walked p tab (left 0 (n - 0)) (runOf s₀ o₀ m₀) a o′ m′)
+    × (length o ≡ length o₀)
