@@ -7,12 +7,15 @@ crates/layout/proofs/Steps.antt give for them. This tool reads the proof files t
 answers, crates/CRATE/arms.json; it fills each hole and writes the files.
 
 The answers: "functions" has an entry for each function that is written by this tool,
-  "as": "plain" or "walked", the record of its contract;
+  "as": "plain", "walked" or "does", the record of its contract; "certain" is "plain" of a call that cannot stop;
   "unfold": the definitions that its layout is read through;
-  "loop": the layouts of a loop's turn, ["from", U, W] or ["times", W];
-  "tail": calls whose layout is followed by another in the same function;
+  "loop": the layouts of a loop's turn, ["from", U, W] or ["times", W], with "pair" behind W
+    where it is two layouts; or ["own", LAWS] with the invariant and the
+    terms before the loop ("all"), in a turn ("more"), after it ("none") and for what a turn hands on ("again");
+  "tail": calls whose layout is followed by another in the same function; "regroup": those of two such layouts;
+  "grouped": indents one deeper that stand as one layout; "before": terms that go before the step of a call;
   "needs": answers to single needs, in which @call stands for the path to that call;
-and "use" the lines that the answers need. In a cycle of calls "measures" has each member's rank.
+"bounded" the functions that ask for a bound of the depth, and "use" the lines that the answers need. In a cycle of calls "measures" has each member's rank.
 """
 import glob
 import json
@@ -24,9 +27,11 @@ import sys
 import tempfile
 
 READS = {"token-no": "token", "list": "list", "choice": "choice", "form": "form"}
-SURE = {"word", "between", "indent-at", "indent", "new-line"}
-BOTH = {"line"}
+SURE = {"word", "between", "indent-at", "indent", "indent-in", "new-line", "new-line-in", "word-when", "app-end"}
+BOTH = {"line", "line-in", "indent-deeper"}
 LOOKS = {"is-if-exp", "body-exp-needs-newline"}
+TESTS = {"is-pipe"}
+DEEPER = {"indented", "forms", "indent-in", "indent-deeper", "line-in", "new-line-in"}
 STEPS = "Rattle.layout.proofs.Steps"
 
 
@@ -66,11 +71,23 @@ def parenthesised(term):
     return term if re.match(r"^[a-z-]+$", term) else "(" + term + ")"
 
 
+def deep_calls(source, name):
+    """The calls in a function's code that are handed the configuration `new`, by the names of their places."""
+    body = re.search(r"\nfn %s\(.*?\n}\n" % name, source.replace("\npub fn", "\nfn"), re.S)
+    calls, deep = {}, set()
+    for found in re.finditer(r"\b([a-z_]+)\(([^()]*)\)", body.group(0).split("\n{\n", 1)[1] if body else ""):
+        called = dashed(found.group(1))
+        calls[called] = calls.get(called, 0) + 1
+        if "new" in [argument.strip() for argument in found.group(2).split(",")]:
+            deep.add(called + (str(calls[called]) if calls[called] > 1 else ""))
+    return deep
+
+
 class Function:
     """One function: its places, its answers, and the terms for its needs."""
 
-    def __init__(self, name, places, answers, members, cycle=()):
-        self.name, self.places, self.answers, self.members, self.cycle = name, places, answers, members, cycle
+    def __init__(self, name, places, answers, members, cycle=(), deep=()):
+        self.name, self.places, self.answers, self.members, self.cycle, self.deep = name, places, answers, members, cycle, deep
 
     def kind(self, thing):
         name = base(thing)
@@ -81,10 +98,12 @@ class Function:
         if name in SURE or thing in SURE:
             return "sure"
         if name in BOTH:
-            return "both"
+            return "sure" if thing in self.answers.get("grouped", []) else "both"
         if name in LOOKS:
             return "look"
-        kinds = {"group": "group", "absent": "gone", "optional": "optional", "token": "write", "formed": "formed"}
+        if name in TESTS:
+            return "test"
+        kinds = {"group": "group", "absent": "gone", "optional": "optional", "token": "write", "formed": "formed", "forms": "formed"}
         return kinds.get(name) or self.members.get(name) or self.members.get(thing)
 
     def steps(self, way):
@@ -123,6 +142,9 @@ class Function:
         """The chain of steps; `last` ends it, or None where the last call does; `stop` is the path of a call of `stop`."""
         if not steps:
             return last or "last-skip"
+        before = self.answers.get("before", {}).get(steps[0][1])
+        if before:
+            return self.filled(before).replace("%more", parenthesised(self.step(steps, last, stop)))
         if steps[0][1] in self.answers.get("skip", []):
             return "by-same skip-same %s" % parenthesised(self.step(steps, last, stop))
         return self.step(steps, last, stop)
@@ -137,10 +159,10 @@ class Function:
             return ("last-%s %s" % (kind, proof)) if not rest and last is None else "then-%s %s %s" % (kind, proof, more())
         if kind in ("both", "formed"):
             return "then-%s %s %s" % (("both", proof, more()) if kind == "both" else ("sure", "(sure-formed %s)" % proof, more()))
-        if kind == "look":
-            return same("look-is %s (%s)" % (proof, self.decided(thing)))
-        if kind in ("plain", "walked"):
-            return self.walked(kind, proof, apart, rest, more)
+        if kind in ("look", "test"):
+            return same("%s-is %s (%s)" % (kind, proof, self.decided(thing)))
+        if kind in ("plain", "walked", "does", "certain", "above"):
+            return self.walked(kind, self.said(kind, thing, proof), apart, rest, more)
         if kind == "read":
             law = READS[base(thing)]
             if apart[0] == "is":
@@ -148,10 +170,12 @@ class Function:
             term = "%s-not (%s .ensures) %s (%s)" % (law, stop, proof, apart[1])
             return "then-stop (%s) (%s .ensures)" % (term, stop) if tail else term
         if kind == "group":
+            if apart[0] == "is" and thing in self.answers.get("regroup", []):
+                return "by-same (first-same (group-is %s (%s))) (regroup %s)" % (proof, apart[1], more())
             if apart[0] == "is":
                 return same("group-is %s (%s)" % (proof, apart[1]))
             term = "group-not %s (%s)" % (proof, apart[1])
-            return "then-stop (%s) (%s)" % (term, apart[1]) if tail else term
+            return "then-stop (%s) (%s)" % (term, apart[1]) if tail or thing in self.answers.get("regroup", []) else term
         if kind == "gone":
             return self.gone(proof, apart, same)
         if kind == "optional":
@@ -164,8 +188,26 @@ class Function:
             return self.loop(kind, path, more)
         raise SystemExit("arms: no step for '%s' in %s" % (thing, self.name))
 
+    def said(self, kind, thing, proof):
+        """What a call of the walk says, as a `Walked` of the configuration at hand."""
+        if kind in ("plain", "certain"):
+            return "(plain %s)" % proof
+        if kind == "above":
+            return "(%s _)" % proof[1:-1]
+        if kind == "does" and thing in self.deep:
+            return "(along (%s .ensures) %s)" % (self.path("indented"), proof)
+        return "(%s .is)" % proof[1:-1] if kind == "does" else proof
+
+    def path(self, thing):
+        return [path for record, other, path in self.now if other == thing][-1]
+
+    def filled(self, term):
+        """A given term, with the paths to the places that it names."""
+        return re.sub(r"@([a-z0-9-]+)", lambda found: self.path(found.group(1)), term)
+
     def walked(self, kind, proof, apart, rest, more):
-        proof = "(plain %s)" % proof if kind == "plain" else proof
+        if kind == "above" or kind == "certain" and rest:
+            return "then-done %s refl %s" % (proof, more())
         if apart is None:
             return proof[1:-1]
         if apart[0] == "not":
@@ -179,11 +221,18 @@ class Function:
 
     def loop(self, kind, path, more):
         shape = self.answers["loop"][0]
+        if shape == "own":
+            laws = self.answers["loop"][1]
+            if kind == "loop":
+                return "by-same (%s) (%s .inv .1 %s%s)" % (self.filled(laws["all"]), path, self.blanks(), more())
+            law = self.filled(laws["more" if kind == "turn" else "none"])
+            return law.replace("%more", more()) if "%more" in law else law
         joint = "_ " if shape == "from" else ""
         if kind == "loop":
             return "by-same (%s) (%s .inv .1 %s%s)" % ({"from": "items-all _ _ _", "times": "times-all _ _"}[shape], path, self.blanks(), more())
         if kind == "turn":
-            return "%s-more _ %s(%s .taken) %s" % (shape, joint, path, more())
+            turn = "(regroup %s)" % more() if self.answers["loop"][-1] == "pair" else more()
+            return "%s-more _ %s(%s .taken) %s" % (shape, joint, path, turn)
         return "%s-none _ %s(%s .left)" % (shape, joint, path)
 
     def hypotheses(self):
@@ -194,7 +243,7 @@ class Function:
         return "kinds m _ _ " if self.answers["as"] == "plain" else "_ _ _ "
 
     def wrapped(self, term):
-        return "record { is = λ kinds m. %s }" % term if self.answers["as"] == "plain" else term
+        return {"plain": "record { is = λ kinds m. %s }", "does": "record { is = %s }", "walked": "%s"}[self.answers["as"]] % term
 
     def stop(self, way):
         stops = [path for record, thing, path in way if base(thing) == "stop"]
@@ -215,14 +264,17 @@ class Function:
         if need.startswith("loop"):
             return self.loop_need(need, way)
         if need.startswith("add-") and "loop" in paths:
-            count = [place for place in range(len(way)) if way[place][1] == "n"][0]
-            return "omega (arith, %s .taken, %s)" % (paths["loop-test"], way[count + 1][2])
-        if need.startswith("add-") and self.answers["as"] == "walked":
-            return "omega (arith, %s .pre .1)" % paths["start"]
-        if re.sub(r"-requires(-\d+)?$", "", need) in self.cycle:
+            count = [place for place in range(len(way)) if way[place][1] == "n"]
+            bound = way[count[0] + 1][2] if count else paths["start"] + " .fits"
+            return "omega (arith, %s .taken, %s)" % (paths["loop-test"], bound)
+        called = re.sub(r"-requires(-\d+)?$", "", need)
+        if called in self.cycle:
             left = ", %s .left" % paths["if1"] if "walk" in self.answers else ""
-            bound = ", %s .pre .1" % paths["start"] if self.answers["as"] == "walked" else ""
-            return "omega (arith, %s .pre .0%s%s)" % (paths["start"], bound, left)
+            bound = ", %s .pre .1" % paths["start"] if self.answers["as"] == "does" else ""
+            deeper = ", deep-depth ({0} .ensures), deep-left ({0} .ensures)".format(paths["indented"]) if "indented" in paths else ""
+            return "omega (arith, %s .pre .0%s%s%s)" % (paths["start"], bound, left, deeper)
+        if called in DEEPER:
+            return "omega (arith, %s .pre%s)" % (paths["start"], " .1" if self.cycle else "")
         return "search needs"
 
     def returned(self, way):
@@ -276,7 +328,8 @@ class Function:
             return "omega arith"
         at = [place for place in range(len(way)) if way[place][1] == "loop"][0]
         loop = way[at][2]
-        turn = self.term(self.steps(way[at + 1:]), "h", self.stop(way))
+        again = self.filled(self.answers["loop"][1].get("again", "h")) if self.answers["loop"][0] == "own" else "h"
+        turn = self.term(self.steps(way[at + 1:]), again, self.stop(way))
         return "(omega (arith, %s .inv .0), λ %sh. %s .inv .1 %s(%s), %s)" % (
             loop, self.hypotheses(), loop, self.hypotheses(), turn, self.kept(way[at:]))
 
@@ -286,16 +339,19 @@ class Function:
         for record, thing, path in way:
             if thing == "loop":
                 kept.append(path + " .inv .2")
-            elif self.kind(thing) in ("sure", "both", "write", "plain", "walked"):
+            elif self.kind(thing) in ("sure", "both", "write", "plain", "walked", "does", "certain", "above"):
                 kept.append(path + " .kept " + self.answers_lent(thing))
         return " ∙ ".join(kept[::-1]) or "search needs"
 
     def answers_lent(self, thing):
-        lent = {"word": ".1 .0", "between": ".1 .0", "line": ".1 .0", "indent-at": ".0", "indent": ".0", "new-line": ".1 .0", "token": ".1 .1 .1 .0"}
-        member = ".1 .1 .1 .1 .1 .0" if self.members.get(base(thing)) == "walked" else ".1 .1 .1 .1 .0"
+        lent = {"indent-at": ".0", "indent": ".0", "indent-in": ".0", "indent-deeper": ".0", "token": ".1 .1 .1 .0"}
+        lent.update((name, ".1 .0") for name in ("word", "between", "line", "line-in", "new-line", "new-line-in", "word-when", "app-end"))
+        member = ".1 .1 .1 .1 .1 .0" if self.members.get(base(thing)) in ("walked", "does") else ".1 .1 .1 .1 .0"
         return lent.get(base(thing)) or lent.get(thing) or member
 
     def invariant(self):
+        if self.answers["loop"][0] == "own":
+            return self.answers["loop"][1]["inv"]
         if self.answers["loop"][0] == "from":
             left = "from %s %s" % tuple("(%s)" % part for part in self.answers["loop"][1:])
         else:
@@ -347,7 +403,7 @@ def filled_cycle(functions, text, left):
     text = re.sub(r"^(([a-z0-9-]+)-Inv-loop .*) = \?$", lambda found: "%s =\n    %s" % (found.group(1), functions[found.group(2)].invariant()), text, flags=re.M)
     text = re.sub(r"^([a-z0-9-]+-μ-loop .*) = \?$", r"\1 = n - i", text, flags=re.M)
     text = re.sub(r"^([a-z0-9-]+)( t c(?: κs)?) = \?$", need, text, flags=re.M)
-    return re.sub(r"^([a-z0-9-]+) : \(t : ℕ\) → .*?\n(\1 t c)", unfolding, text, flags=re.M | re.S)
+    return re.sub(r"^([a-z0-9-]+) :\s+\(t : ℕ\) →\s.*?\n(\1 t c)", unfolding, text, flags=re.M | re.S)
 
 
 def offered(crate):
@@ -374,9 +430,10 @@ def generated(crate, room):
 def write_cycle(crate, root, path, text, answers, members):
     folder, functions = os.path.dirname(path), {}
     names = os.path.basename(folder)[1:].split("+")
+    source = open("crates/%s/src/lib.rt" % crate).read()
     for name in names:
         places = Places(open("%s/%s/Lts-%s.antt" % (root, os.path.basename(folder), name)).read())
-        functions[dashed(name)] = Function(name, places, answers["functions"][name], members, [dashed(other) for other in names])
+        functions[dashed(name)] = Function(name, places, answers["functions"][name], members, [dashed(other) for other in names], deep_calls(source, name))
     os.makedirs(folder, exist_ok=True)
     filled_text = filled_cycle(functions, text, answers["left"])
     at = filled_text.index("\n\nabbrev")
@@ -394,6 +451,7 @@ def main():
     unknown = [name for name in wanted if name not in answers["functions"]]
     if unknown:
         raise SystemExit("arms: crates/%s/arms.json has no function '%s'" % (crate, unknown[0]))
+    DEEPER.update(answers.get("bounded", []))
     members = dict((dashed(name.split("/")[-1]), entry["as"]) for name, entry in answers["functions"].items())
     members.update(answers.get("calls", {}))
     for name in wanted:

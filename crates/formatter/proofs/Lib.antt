@@ -1,1 +1,5 @@
 pub mod LookupLaws
+pub mod EventLaws
+pub mod RunLaws
+pub mod VerdictLaws
+pub mod Demands

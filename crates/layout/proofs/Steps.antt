@@ -8,11 +8,12 @@ use Prim.Native.String.{String}
 use lib.ListN.{length, getD, take, drop}
 use Rattle.text.specs.Bytes.{bytes}
 use Rattle.layout.specs.declared.St.{St}
+use Rattle.layout.specs.declared.Cfg.{Cfg}
 use Rattle.layout.specs.declared.Answer.{Answer}
 use Rattle.layout.specs.declared.Answer.the-variants.{Done, Stopped}
 use Rattle.layout.specs.Layout.{Layout, skip, _⨾_, word, write, output-indent, formed, Test, token, group, choice, form, list, optional, maybe, test, firstName, Look, look, above, comment, halt}
 use Rattle.layout.specs.Meaning.{Page, Event, Word, Token, Comment, Formed, Indent, Outcome, done, stopped, Stop, absent, after, bind, orStop, outcome, tokenText, passes, pathName, Name, name, noName}
-use Rattle.layout.specs.State.{Run, runOf, at, effect, effects, Ran, went, fell, run, runs, packed, page, Walked, Plain, Wrote, Sure, Texted, Indented, withDepth, stopOf, moved, readOf, ReadAt, FormRead, groupOf, GroupRead, goneOf, GoneRead, optionalOf, OptionalRead, joint, nameIn, TestedText, Looked, Commented, struck}
+use Rattle.layout.specs.State.{Run, runOf, at, effect, effects, Ran, went, fell, run, runs, packed, page, Walked, Plain, Wrote, Sure, Texted, Indented, withDepth, stopOf, moved, readOf, ReadAt, FormRead, groupOf, GroupRead, goneOf, GoneRead, optionalOf, OptionalRead, joint, nameIn, TestedText, Looked, Commented, struck, cfgOf, Deeper, Does}
 use Rattle.reader.specs.Tokens.{textOf}
 use Rattle.reader.specs.declared.commands.Family as Code
 use Rattle.reader.specs.Commands.{absentAt, tokenAt, listAt, groupAt, choiceAt, formAt, formWidth, familyOf}
@@ -22,7 +23,9 @@ use Rattle.layout.specs.declared.names.Name as Code·
 use Rattle.layout.specs.declared.fields.Gone.{Gone}
 use Rattle.layout.specs.declared.fields.Given.{Given}
 use mathlib.Core.Option.{Option, none, some}
+use Rattle.layout.specs.Helpers as Helpers
 use Rattle.layout.specs.Helpers.{times, items, when}
+use Rattle.layout.specs.Walk.{walks}
 use Rattle.layout.specs.Events.{trimmed}
 use Rattle.comments.specs.Above.{commentAbove}
 use borrow.Author.Tests.{lt-ltb, le-ltb}
@@ -501,3 +504,19 @@ Turn p tab left n s₀ o₀ m₀ i s o m =
     (i ≤ n)
     × ((a : Answer) (o′ m′ : List ℕ) → Walked p tab (left i (n - i)) (runOf s o m) a o′ m′ → Walked p tab (left 0 (n - 0)) (runOf s₀ o₀ m₀) a o′ m′)
     × (length o ≡ length o₀)
+
+-- ---- a deeper configuration
+module _ {c new : Cfg} (e : Deeper c new) where
+  pub deep-depth : new .depth ≡ c .depth + 1
+  deep-depth = ap (λ x. x .depth) (e .is)
+
+  pub deep-left : new .left ≡ c .left
+  deep-left = ap (λ x. x .left) (e .is)
+
+  pub sure-in : (w : Helpers.Cfg → Layout) {s s′ : St} {o o′ : List ℕ} → Sure (new .tab) (w (cfgOf new)) s o s′ o′ → Sure (c .tab) (w (Helpers.deeper (cfgOf c))) s o s′ o′
+  sure-in w {s} {s′} {o} {o′} f = subst (λ x. Sure (x .tab) (w (cfgOf x)) s o s′ o′) (e .is) f
+
+  -- A function that is called with the deeper configuration.
+  pub along : {p : Page} {w : Helpers.Walkers → Helpers.Cfg → Layout} {g : Run} {r : Answer} {o m : List ℕ} → Does p new w g r o m
+      → Walked p (c .tab) (w (walks (c .left)) (Helpers.deeper (cfgOf c))) g r o m
+  along {p} {w} {g} {r} {o} {m} f = subst (λ x. Walked p (x .tab) (w (walks (x .left)) (cfgOf x)) g r o m) (e .is) (f .is)

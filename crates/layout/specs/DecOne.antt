@@ -72,21 +72,25 @@ module _ (ws : Walkers) where
   unfoldable pub PrefixFunBindCaseHead : Layout
   PrefixFunBindCaseHead = word-if "op " ⨾ text
 
+  -- `lhs`, the name and `rhs`.
+  unfoldable pub infix-head : Layout
+  infix-head = get-pat ⨾ word " " ⨾ text ⨾ word " " ⨾ get-pat
+
   unfoldable pub InfixFunBindCaseHead : Layout
-  InfixFunBindCaseHead =
-      optional λ parens. when-some parens (word "(")
-      ⨾ get-pat
-      ⨾ word " "
-      ⨾ text
-      ⨾ word " "
-      ⨾ get-pat
-      ⨾ when-some parens (word ")")
+  InfixFunBindCaseHead = optional λ parens. when-some parens (word "(") ⨾ infix-head ⨾ when-some parens (word ")")
+
+  unfoldable pub case-head : ℕ → Layout
+  case-head which = getD (PrefixFunBindCaseHead ∷ InfixFunBindCaseHead ∷ []) which halt
+
+  -- The patterns of a case, with a space before each.
+  unfoldable pub case-pats : Layout
+  case-pats = for-each (word " " ⨾ get-pat)
 
   unfoldable pub fun-bind-case : Cfg → Layout
   fun-bind-case c =
       group
-      ((choice λ which. getD (PrefixFunBindCaseHead ∷ InfixFunBindCaseHead ∷ []) which halt)
-      ⨾ for-each (word " " ⨾ get-pat)
+      (choice case-head
+      ⨾ case-pats
       ⨾ ty-annotation ws
       ⨾ eq-body ws c)
 
@@ -115,8 +119,11 @@ module _ (ws : Walkers) where
       ⨾ get-dec ws c
       ⨾ word " end"
 
+  unfoldable pub ex-bind-of : Layout
+  ex-bind-of = word " of " ⨾ get-ty
+
   unfoldable pub ex-bind-inner : Cfg → ℕ → Layout
-  ex-bind-inner c which = getD ((word " of " ⨾ get-ty) ∷ (word " = " ⨾ get-exp c) ∷ []) which halt
+  ex-bind-inner c which = getD (ex-bind-of ∷ (word " = " ⨾ get-exp c) ∷ []) which halt
 
   unfoldable pub ex-bind : Cfg → Layout
   ex-bind c = group (text ⨾ maybe (choice (ex-bind-inner c)))
@@ -169,12 +176,15 @@ module _ (ws : Walkers) where
   unfoldable pub functor-arg : Cfg → ℕ → Layout
   functor-arg c which = getD ((text ⨾ word " : " ⨾ get-sig-exp c) ∷ dec-arg ws c ∷ []) which halt
 
+  unfoldable pub functor-args : Cfg → Layout
+  functor-args c = for-each (choice (functor-arg c))
+
   unfoldable pub functor-bind : Cfg → Layout
   functor-bind c =
       group
       (text
       ⨾ word " ("
-      ⨾ for-each (choice (functor-arg c))
+      ⨾ functor-args c
       ⨾ word ")"
       ⨾ maybe (ascription-tail ws c)
       ⨾ word " = "
@@ -189,12 +199,12 @@ module _ (ws : Walkers) where
   unfoldable pub IncludeDec : Cfg → Layout
   IncludeDec c = word "include " ⨾ sep " " (get-sig-exp c)
 
-  unfoldable pub EsImportDec : Declared → Layout
-  EsImportDec d = import (d .place)
+  unfoldable pub EsImportDec : ℕ → Layout
+  EsImportDec place = import place
 
-  -- The arms in order.
-  unfoldable pub decs : Cfg → Declared → List Layout
-  decs c d =
+  -- The arms in order, for a declaration at this offset.
+  unfoldable pub decs : Cfg → ℕ → List Layout
+  decs c place =
       HoleDec
       ∷ ValDec c
       ∷ FunDec c
@@ -214,8 +224,8 @@ module _ (ws : Walkers) where
       ∷ FunctorDec c
       ∷ ExpDec c
       ∷ IncludeDec c
-      ∷ EsImportDec d
+      ∷ EsImportDec place
       ∷ []
 
   unfoldable pub one-dec : Cfg → Declared → Layout
-  one-dec c d = comment-above c (d .first) ⨾ getD (decs c d) (d .number) halt
+  one-dec c d = comment-above c (d .first) ⨾ getD (decs c (d .place)) (d .number) halt

@@ -9,6 +9,31 @@ use Rattle.layout.specs.Layout.{skip, _⨾_, word, write, token, group, 
 use Rattle.layout.specs.Helpers.{Cfg, Walkers, indented, indent, when, when-some, text, op-path, sep, sep-with-lines, in-end}
 use Rattle.layout.specs.GetDec.{get-dec}
 
+-- The semicolon of an item, where it is there and written.
+unfoldable pub item-semi : Bool → Layout
+item-semi write-semi = optional λ semi. when-some semi (when write-semi (word ";"))
+
+-- `func_is_bang`: one name, and it is `!`.
+unfoldable pub func-is-bang : Head → (Bool → Layout) → Layout
+func-is-bang otherExp k = k false
+func-is-bang (pathExp fst names) k = test isBang fst (λ bang. k (bang && eqb names 1))
+
+-- `arg_is_symbolic`: its first name does not start with a letter.
+unfoldable pub arg-is-symbolic : Head → (Bool → Layout) → Layout
+arg-is-symbolic otherExp k = k false
+arg-is-symbolic (pathExp fst names) k = test isAlphabetic fst (λ letter. k (not letter))
+
+-- What AppExp writes between its expressions.
+unfoldable pub app-space : Head → Head → Layout
+app-space func arg =
+    func-is-bang func λ bang. arg-is-symbolic arg λ symbolic. when (not bang || symbolic) (word " ")
+
+-- What InfixExp writes between its expressions.
+unfoldable pub infix-operator : Cfg → ℕ → Layout
+infix-operator c operator =
+    test isPipe operator λ pipe. elim pipe
+    [ true ↦ word "\n" ⨾ indented c indent ⨾ word "|> " | false ↦ word " " ⨾ write operator ⨾ word " " ]
+
 module _ (ws : Walkers) where
   open Walkers ws using (get-ty, get-pat, get-exp)
 
@@ -47,14 +72,13 @@ module _ (ws : Walkers) where
 
   -- An item of a sequence, with its semicolon where that is written.
   unfoldable pub exp-semi-item : Cfg → Bool → Layout
-  exp-semi-item c write-semi = group (get-exp c ⨾ optional λ semi. when-some semi (when write-semi (word ";")))
+  exp-semi-item c write-semi = group (get-exp c ⨾ item-semi write-semi)
 
-  -- The n items of a sequence after the first. The last one's semicolon is written where that is allowed.
+  -- The last n items of a sequence, the first not among them. The last one's semicolon is written where that is allowed.
   unfoldable pub exp-semi-more : Cfg → Bool → ℕ → Layout
   exp-semi-more c allow-last-semi zero = skip
-  exp-semi-more c allow-last-semi (suc zero) = word ";\n" ⨾ indent c ⨾ exp-semi-item c allow-last-semi
-  exp-semi-more c allow-last-semi (suc (suc n)) =
-      word ";\n" ⨾ indent c ⨾ exp-semi-item c false ⨾ exp-semi-more c allow-last-semi (suc n)
+  exp-semi-more c allow-last-semi (suc n) =
+      word ";\n" ⨾ indent c ⨾ exp-semi-item c (allow-last-semi && eqb n 0) ⨾ exp-semi-more c allow-last-semi n
 
   -- The first item's semicolon is never written.
   unfoldable pub exp-semi-items : Cfg → Bool → ℕ → Layout
@@ -123,28 +147,11 @@ module _ (ws : Walkers) where
   unfoldable pub LetExp : Cfg → Layout
   LetExp c = in-end c "let" (get-dec ws) (λ new. exp-semi-seq new true)
 
-  -- `func_is_bang`: one name, and it is `!`.
-  unfoldable pub func-is-bang : Head → (Bool → Layout) → Layout
-  func-is-bang otherExp k = k false
-  func-is-bang (pathExp fst names) k = test isBang fst (λ bang. k (bang && eqb names 1))
-
-  -- `arg_is_symbolic`: its first name does not start with a letter.
-  unfoldable pub arg-is-symbolic : Head → (Bool → Layout) → Layout
-  arg-is-symbolic otherExp k = k false
-  arg-is-symbolic (pathExp fst names) k = test isAlphabetic fst (λ letter. k (not letter))
-
   unfoldable pub AppExp : Cfg → Layout
-  AppExp c =
-      heads λ func arg. get-exp c
-      ⨾ func-is-bang func (λ bang. arg-is-symbolic arg λ symbolic. when (not bang || symbolic) (word " "))
-      ⨾ get-exp c
+  AppExp c = heads λ func arg. get-exp c ⨾ app-space func arg ⨾ get-exp c
 
   unfoldable pub InfixExp : Cfg → Layout
-  InfixExp c =
-      token λ operator. get-exp c
-      ⨾ (test isPipe operator λ pipe. elim pipe
-      [ true ↦ word "\n" ⨾ indented c indent ⨾ word "|> " | false ↦ word " " ⨾ write operator ⨾ word " " ])
-      ⨾ get-exp c
+  InfixExp c = token λ operator. get-exp c ⨾ infix-operator c operator ⨾ get-exp c
 
   unfoldable pub TypedExp : Cfg → Layout
   TypedExp c = get-exp c ⨾ word " : " ⨾ get-ty

@@ -14,9 +14,15 @@ module _ (ws : Walkers) where
   unfoldable pub sharing-tail : Cfg → Layout
   sharing-tail c = group (word "\n" ⨾ indent c ⨾ word "sharing type " ⨾ sep " = " (group path))
 
+  unfoldable pub sharing-tails : Cfg → Layout
+  sharing-tails c = for-each (sharing-tail c)
+
+  unfoldable pub dec-in-seqs : Cfg → Layout
+  dec-in-seqs c = sep-with-lines c "" (dec-in-seq c)
+
   -- The fields of one Dec.
   unfoldable pub dec : Cfg → Layout
-  dec c = group (sep-with-lines c "" (dec-in-seq c) ⨾ for-each (sharing-tail c)) ⨾ semicolon
+  dec c = group (dec-in-seqs c ⨾ sharing-tails c) ⨾ semicolon
 
   unfoldable pub get-dec : Cfg → Layout
   get-dec c = sep-with-lines c "" (group (dec c))

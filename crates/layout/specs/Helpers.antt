@@ -24,9 +24,13 @@ pub record Walkers : Type 0 where
 unfoldable pub with-extra-blank : Bool → Cfg → Cfg
 with-extra-blank b c = record { depth = c .depth; extra-blank = b }
 
+-- The configuration one deeper.
+abbrev pub deeper : Cfg → Cfg
+deeper c = record { depth = c .depth + 1; extra-blank = c .extra-blank }
+
 -- `let new = cfg.indented()`: a depth is formed.
 unfoldable pub indented : Cfg → (Cfg → Layout) → Layout
-indented c k = formed (c .depth + 1) ⨾ k (record { depth = c .depth + 1; extra-blank = c .extra-blank })
+indented c k = formed (deeper c .depth) ⨾ k (deeper c)
 
 -- `cfg.output_indent(st)`.
 unfoldable pub indent : Cfg → Layout

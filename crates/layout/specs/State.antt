@@ -35,6 +35,7 @@ use Rattle.layout.specs.Layout.{Layout, Look, Test, Head, pathExp, other
 use Rattle.layout.specs.Helpers as Helpers
 use Rattle.layout.specs.Meaning.{Page, Event, Word, Token, Comment, Formed, Indent, Outcome, done, stopped, Stop, absent, imported, outcome, tokenText, passes, sees, Name, name, noName, Seen, seen, unseen, Heads, both, missing}
 use Rattle.layout.specs.Events.{trimmed}
+use Rattle.layout.specs.Walk.{walks}
 
 abbrev pub cap : ℕ
 cap = 0x8000_0000
@@ -143,6 +144,10 @@ joint u i = cond (ltb 0 i) u skip
 pub record Walked (p : Page) (tab : ℕ) (w : Layout) (g : Run) (r : Answer) (o m : List ℕ) : Type 0 where
   pub is : packed r o m ≡ runs p tab w g
 
+-- The same of a function whose layout is given by the walks one form deeper and the configuration.
+pub record Does (p : Page) (c : Cfg) (w : Helpers.Walkers → Helpers.Cfg → Layout) (g : Run) (r : Answer) (o m : List ℕ) : Type 0 where
+  pub is : Walked p (c .tab) (w (walks (c .left)) (cfgOf c)) g r o m
+
 -- The same of a function that asks no kinds and strikes no comment out.
 pub record Plain (x r starts lens : List ℕ) (tab : ℕ) (w : Layout) (s : St) (o : List ℕ) (a : Answer) (o′ : List ℕ) : Type 0 where
   pub is : (kinds m : List ℕ) → Walked (page x r kinds starts lens) tab w (runOf s o m) a o′ m
@@ -154,6 +159,10 @@ pub record Wrote (tab : ℕ) (w : List ℕ) (s : St) (o : List ℕ) (s′ : St) 
 -- What a function says that only writes, and fixed words alone: its state and output are what the layout's run leaves.
 pub record Sure (tab : ℕ) (w : Layout) (s : St) (o : List ℕ) (s′ : St) (o′ : List ℕ) : Type 0 where
   pub is : (p : Page) (m : List ℕ) → Walked p tab w (runOf s o m) (Done s′) o′ m
+
+-- A configuration is one deeper than another.
+pub record Deeper (c new : Cfg) : Type 0 where
+  pub is : new ≡ record { depth = c .depth + 1; tab = c .tab; blank = c .blank; left = c .left }
 
 -- A token's text is written.
 pub record Texted (x starts lens : List ℕ) (tab k : ℕ) (s : St) (o : List ℕ) (s′ : St) (o′ : List ℕ) : Type 0 where

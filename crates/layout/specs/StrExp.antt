@@ -1,8 +1,9 @@
 -- `get_str_exp` of 000: a layout for each arm, over the walks one form deeper.
 use Prim.Native.Nat.{ℕ, zero, suc}
 use mathlib.Core.List.{List, [], _∷_}
-use mathlib.Core.Bool.{Bool, true, false}
+use mathlib.Core.Bool.{Bool, true, false, _||_}
 use lib.ListN.{getD}
+use lib.Dec.{eqb}
 use Rattle.layout.specs.Layout.{Layout, _⨾_, word, choice, list, halt}
 use Rattle.layout.specs.Helpers.{Cfg, Walkers, with-extra-blank, indented, indent, when, text, path, in-end}
 use Rattle.layout.specs.SigExp.{ascription-tail}
@@ -26,14 +27,14 @@ module _ (ws : Walkers) where
   unfoldable pub AscriptionStrExp : Cfg → Layout
   AscriptionStrExp c = get-str-exp c ⨾ ascription-tail ws c
 
+  unfoldable pub app-arg : Cfg → ℕ → Layout
+  app-arg c which = getD (get-str-exp c ∷ dec-arg ws c ∷ []) which halt
+
   -- The last n arguments and the closing parenthesis, which is indented where an argument was a Dec.
   unfoldable pub app-args : Cfg → Bool → ℕ → Layout
   app-args c needs-end-indent zero = when needs-end-indent (indent c) ⨾ word ")"
   app-args c needs-end-indent (suc n) =
-      choice λ which. getD
-      ((get-str-exp c ⨾ app-args c needs-end-indent n) ∷ (dec-arg ws c ⨾ app-args c true n) ∷ [])
-      which
-      halt
+      choice λ which. app-arg c which ⨾ app-args c (needs-end-indent || eqb which 1) n
 
   unfoldable pub AppStrExp : Cfg → Layout
   AppStrExp c = text ⨾ word " (" ⨾ list (app-args c false)

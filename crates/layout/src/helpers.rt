@@ -12,6 +12,7 @@ use crate::fields::list;
 use crate::fields::optional;
 use crate::fields::stop;
 use crate::fields::token_no;
+use crate::formed;
 use crate::indent_at;
 use crate::looks::alphanumeric;
 use crate::names::Name;
@@ -23,12 +24,13 @@ use comments::Above;
 use reader::commands::Number;
 ghost use Rattle.layout.specs.Words.{wordOf};
 ghost use Rattle.layout.specs.Layout.{word as wordOf·, firstName, skip, _⨾_};
-ghost use Rattle.layout.specs.Helpers.{text as textField, path as pathLayout, word-if, ty-vars, ty-var-seq-there, ty-var-seq, indent as indentOf, when, new-line, op-space, op-path};
+ghost use Rattle.layout.specs.Helpers.{text as textField, path as pathLayout, word-if, ty-vars, ty-var-seq-there, ty-var-seq, deeper, indented, indent as indentOf, when, new-line, op-space, op-path};
 ghost use mathlib.Core.List.{List};
-ghost use Prim.Native.Nat.{ℕ};
+ghost use mathlib.Core.Path.{_≡_};
+ghost use Prim.Native.Nat.{ℕ, _+_, _≤_};
 ghost use Rattle.reader.specs.Commands.{numberIn};
 ghost use Rattle.layout.specs.DecOne.{comment-above};
-ghost use Rattle.layout.specs.State.{Walked, page, runOf, Sure, Plain, joint, cfgOf};
+ghost use Rattle.layout.specs.State.{Walked, page, runOf, Sure, Plain, withDepth, joint, cfgOf};
 
 // A fixed word before an item that is not the first.
 pub fn between(text: &[u8], out: &mut [u8], st: St, tab: u32, w: usize, i: usize) -> St
@@ -249,6 +251,42 @@ pub fn line(text: &[u8], out: &mut [u8], st: St, cfg: Cfg) -> St
     indent(out, s1, cfg)
 }
 
+// The depth that a deeper configuration forms.
+pub fn forms(st: St, cfg: Cfg) -> St
+    requires { ⌜ cfg .depth + 1 ≤ 1000 ⌝ }
+    ensures { λ r. ⌜ r ≡ withDepth (cfg .depth + 1) st ⌝ }
+{
+    let new = cfg.indented();
+    formed(st, new.depth)
+}
+
+// An indent one deeper.
+pub fn indent_in(out: &mut [u8], st: St, cfg: Cfg) -> St
+    requires { ⌜ cfg .depth + 1 ≤ 1000 ⌝ }
+    ensures { λ r. ⌜ Sure (cfg .tab) (indentOf (deeper (cfgOf cfg))) st (now (out .entry)) r (now (out .exit)) ⌝ }
+{
+    let new = cfg.indented();
+    indent(out, st, new)
+}
+
+// An indent one deeper, at a depth that is formed here.
+pub fn indent_deeper(out: &mut [u8], st: St, cfg: Cfg) -> St
+    requires { ⌜ cfg .depth + 1 ≤ 1000 ⌝ }
+    ensures { λ r. ⌜ Sure (cfg .tab) (indented (cfgOf cfg) indentOf) st (now (out .entry)) r (now (out .exit)) ⌝ }
+{
+    let s1 = forms(st, cfg);
+    indent_in(out, s1, cfg)
+}
+
+// A line feed and an indent one deeper.
+pub fn line_in(text: &[u8], out: &mut [u8], st: St, cfg: Cfg) -> St
+    requires { ⌜ cfg .depth + 1 ≤ 1000 ⌝ }
+    ensures { λ r. ⌜ Sure (cfg .tab) (wordOf· "\n" ⨾ indentOf (deeper (cfgOf cfg))) st (now (out .entry)) r (now (out .exit)) ⌝ }
+{
+    let s1 = word(text, out, st, cfg.tab, words::LINE_FEED);
+    indent_in(out, s1, cfg)
+}
+
 // A blank line where the configuration has them.
 fn blank(text: &[u8], out: &mut [u8], st: St, cfg: Cfg) -> St
     ensures { λ r. ⌜ Sure (cfg .tab) (when (cfg .blank) (wordOf· "\n")) st (now (out .entry)) r (now (out .exit)) ⌝ }
@@ -278,6 +316,15 @@ pub fn new_line(text: &[u8], out: &mut [u8], st: St, cfg: Cfg, w: usize, i: usiz
         return later_line(text, out, st, cfg, w);
     }
     st
+}
+
+// The same one deeper.
+pub fn new_line_in(text: &[u8], out: &mut [u8], st: St, cfg: Cfg, w: usize, i: usize) -> St
+    requires { ⌜ cfg .depth + 1 ≤ 1000 ⌝ }
+    ensures { λ r. ⌜ Sure (cfg .tab) (joint (new-line (deeper (cfgOf cfg)) (wordOf w)) i) st (now (out .entry)) r (now (out .exit)) ⌝ }
+{
+    let new = cfg.indented();
+    new_line(text, out, st, new, w, i)
 }
 
 // ---- paths behind `op`

@@ -9,13 +9,13 @@ pub mod helpers; // helpers.rt: helpers of 000 that serve more than one family
 use comments::Set;
 use text::trim;
 ghost use mathlib.Core.Path.{_≡_};
-ghost use Prim.Native.Nat.{ℕ, _+_, _*_, min, max};
+ghost use Prim.Native.Nat.{ℕ, _+_, _*_, _≤_, min, max};
 ghost use lib.ListN.{length, take, drop, getD};
 ghost use Rattle.layout.specs.Words.{wordOf, wordRun};
 ghost use Rattle.text.specs.Bytes.{bytes};
 ghost use mathlib.Core.List.{List};
 ghost use Rattle.layout.specs.Layout.{word};
-ghost use Rattle.layout.specs.State.{cap, satOf, placeOf, placed, spaced, withDepth, Wrote, Sure, Texted, Indented, Commented, struck, pieceOf};
+ghost use Rattle.layout.specs.State.{cap, satOf, placeOf, placed, spaced, withDepth, Wrote, Sure, Texted, Indented, Commented, struck, pieceOf, Deeper};
 
 const CAP: u64 = 0x8000_0000;
 
@@ -33,6 +33,21 @@ pub struct Cfg {
     pub tab: u32,
     pub blank: bool,
     pub left: u64,
+}
+
+impl Cfg {
+    // The configuration one deeper.
+    pub fn indented(self) -> Cfg
+        requires { ⌜ self .depth + 1 ≤ 1000 ⌝ }
+        ensures { λ r. ⌜ Deeper self r ⌝ }
+    {
+        Cfg {
+            depth: self.depth + 1,
+            tab: self.tab,
+            blank: self.blank,
+            left: self.left,
+        }
+    }
 }
 
 // What a walk answers: the state behind what it read; or the state at a stop, the offset in the record of the part

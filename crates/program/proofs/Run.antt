@@ -71,7 +71,7 @@ unfolding Helpers.with-extra-blank Helpers.indented Helpers.indent Helpers.when 
 runHelpers = tt
 
 unfoldable pub runGetDec : Unit {0}
-unfolding GetDec.dec-in-seq GetDec.sharing-tail GetDec.dec GetDec.get-dec GetDec.dec-arg
+unfolding GetDec.dec-in-seq GetDec.sharing-tail GetDec.sharing-tails GetDec.dec-in-seqs GetDec.dec GetDec.get-dec GetDec.dec-arg
 runGetDec = tt
 
 unfoldable pub runTy : Unit {0}
@@ -83,7 +83,7 @@ unfolding Pat.WildcardPat Pat.SConPat Pat.con-arg-there Pat.con-arg Pat.ConPat P
 runPat = tt
 
 unfoldable pub runExp : Unit {0}
-unfolding Exp.indented-levels Exp.get-body-exp-level Exp.get-body-exp Exp.eq-body Exp.get-matcher-arm Exp.arms-on-lines Exp.get-matcher-across-lines Exp.exp-args Exp.exp-semi-item Exp.exp-semi-more Exp.exp-semi-items Exp.exp-semi-seq Exp.HoleExp Exp.WildcardExp Exp.OpAndalsoExp Exp.OpOrelseExp Exp.SConExp Exp.PathExp Exp.eq-exp Exp.exp-row Exp.exp-rows Exp.RecordExp Exp.SelectorExp Exp.ParenExp Exp.TupleExp Exp.ListExp Exp.VectorExp Exp.SeqExp Exp.LetExp Exp.func-is-bang Exp.arg-is-symbolic Exp.AppExp Exp.InfixExp Exp.TypedExp Exp.AndalsoExp Exp.OrelseExp Exp.HandleExp Exp.RaiseExp Exp.if-no Exp.IfExp Exp.WhileExp Exp.CaseExp Exp.fn-arms Exp.FnExp Exp.exps
+unfolding Exp.item-semi Exp.func-is-bang Exp.arg-is-symbolic Exp.app-space Exp.infix-operator Exp.indented-levels Exp.get-body-exp-level Exp.get-body-exp Exp.eq-body Exp.get-matcher-arm Exp.arms-on-lines Exp.get-matcher-across-lines Exp.exp-args Exp.exp-semi-item Exp.exp-semi-more Exp.exp-semi-items Exp.exp-semi-seq Exp.HoleExp Exp.WildcardExp Exp.OpAndalsoExp Exp.OpOrelseExp Exp.SConExp Exp.PathExp Exp.eq-exp Exp.exp-row Exp.exp-rows Exp.RecordExp Exp.SelectorExp Exp.ParenExp Exp.TupleExp Exp.ListExp Exp.VectorExp Exp.SeqExp Exp.LetExp Exp.AppExp Exp.InfixExp Exp.TypedExp Exp.AndalsoExp Exp.OrelseExp Exp.HandleExp Exp.RaiseExp Exp.if-no Exp.IfExp Exp.WhileExp Exp.CaseExp Exp.fn-arms Exp.FnExp Exp.exps
 runExp = tt
 
 unfoldable pub runSigExp : Unit {0}
@@ -91,11 +91,11 @@ unfolding SigExp.ascription-tail SigExp.SigSigExp SigExp.NameSigExp SigExp.Where
 runSigExp = tt
 
 unfoldable pub runStrExp : Unit {0}
-unfolding StrExp.StructStrExp StrExp.PathStrExp StrExp.AscriptionStrExp StrExp.app-args StrExp.AppStrExp StrExp.LetStrExp StrExp.str-exps
+unfolding StrExp.StructStrExp StrExp.PathStrExp StrExp.AscriptionStrExp StrExp.app-arg StrExp.app-args StrExp.AppStrExp StrExp.LetStrExp StrExp.str-exps
 runStrExp = tt
 
 unfoldable pub runDecOne : Unit {0}
-unfolding DecOne.comment-line DecOne.comment-above DecOne.ty-bind DecOne.ty-binds DecOne.with-type DecOne.con-bind DecOne.con-binds DecOne.dat-bind DecOne.dat-binds DecOne.HoleDec DecOne.val-bind DecOne.val-binds DecOne.ValDec DecOne.PrefixFunBindCaseHead DecOne.InfixFunBindCaseHead DecOne.fun-bind-case DecOne.fun-bind DecOne.FunDec DecOne.TyDec DecOne.DatDec DecOne.DatCopyDec DecOne.AbstypeDec DecOne.ex-bind-inner DecOne.ex-bind DecOne.ExDec DecOne.OpenDec DecOne.int-lit DecOne.names-space DecOne.InfixDec DecOne.InfixrDec DecOne.NonfixDec DecOne.DoDec DecOne.local-decs DecOne.LocalDec DecOne.str-bind DecOne.StructureDec DecOne.sig-bind DecOne.SignatureDec DecOne.functor-arg DecOne.functor-bind DecOne.FunctorDec DecOne.ExpDec DecOne.IncludeDec DecOne.EsImportDec DecOne.decs DecOne.one-dec
+unfolding DecOne.comment-line DecOne.comment-above DecOne.ty-bind DecOne.ty-binds DecOne.with-type DecOne.con-bind DecOne.con-binds DecOne.dat-bind DecOne.dat-binds DecOne.HoleDec DecOne.val-bind DecOne.val-binds DecOne.ValDec DecOne.PrefixFunBindCaseHead DecOne.infix-head DecOne.InfixFunBindCaseHead DecOne.case-head DecOne.case-pats DecOne.fun-bind-case DecOne.fun-bind DecOne.FunDec DecOne.TyDec DecOne.DatDec DecOne.DatCopyDec DecOne.AbstypeDec DecOne.ex-bind-of DecOne.ex-bind-inner DecOne.ex-bind DecOne.ExDec DecOne.OpenDec DecOne.int-lit DecOne.names-space DecOne.InfixDec DecOne.InfixrDec DecOne.NonfixDec DecOne.DoDec DecOne.local-decs DecOne.LocalDec DecOne.str-bind DecOne.StructureDec DecOne.sig-bind DecOne.SignatureDec DecOne.functor-arg DecOne.functor-args DecOne.functor-bind DecOne.FunctorDec DecOne.ExpDec DecOne.IncludeDec DecOne.EsImportDec DecOne.decs DecOne.one-dec
 runDecOne = tt
 
 unfoldable pub runWalk : Unit {0}

@@ -5,3 +5,4 @@ pub mod FieldLaws
 pub mod TokenLaws
 pub mod ReadingLaws
 pub mod Local
+pub mod Suffix

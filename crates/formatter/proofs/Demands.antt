@@ -1,0 +1,155 @@
+-- Demand 3, and what demand 1 says of the output, for every text, record, tab size and output. Assumes nothing.
+-- Measures are those of the walk over the sheet and not what a call reports: `deepest es`, `letters p es` and `units es`
+-- where `judge text rec ≡ accepted p es` (VerdictLaws.Sheet says what that comes to).
+use Prim.Native.Nat.{ℕ, _+_, _*_, _≤_}
+use native.Mathlib.Omega.{arith}
+use mathlib.Core.Path.{_≡_, refl, sym, ap, ap₂, _∙_}
+use mathlib.Core.Logic.{_↔_, _⊎_, inl, inr, ⊎-elim}
+use mathlib.Core.Bool.{Bool, true, false}
+use mathlib.Core.List.{List, _++_}
+use lib.ListN.{length, drop}
+use lib.Dec.{leb}
+use borrow.Author.Tests.{leb-true, leb-false}
+use Rattle.comments.specs.Set.{isComment}
+use Rattle.layout.specs.Meaning.{Page, Event}
+use Rattle.layout.specs.Events.{deepest, letters, units, trimmed, formatted}
+use Rattle.formatter.specs.Verdict.{Verdict, verdict, measuresOf, Judged, declined, accepted, judge, check, Result, maxWidth, get}
+use Rattle.formatter.proofs.EventLaws.{Holds, withoutSpaces, length-formatted, same-at-tabs, same-spaceless, holds-written, all-written}
+use Rattle.formatter.proofs.VerdictLaws.{Sheet, accepted-is, declined-number, check-declined, get-declined, check-accepted, get-accepted, format-wide, format-short, format-fits}
+
+-- ---- the terms of the demand
+-- The check refuses where its number is not 0.
+abbrev pub Refuses : List ℕ → List ℕ → Type 0
+Refuses text rec = check text rec .number ≡ 0 → ⊥
+
+-- The check accepts the sheet, and the two bounds hold.
+pub record Fits (text rec : List ℕ) (tab : ℕ) (out : List ℕ) : Type 0 where
+  pub page : Page
+  pub events : List Event
+  pub accepts : judge text rec ≡ accepted page events
+  pub width : deepest events * tab ≤ 4_294_967_295
+  pub room : letters page events + tab * units events ≤ length out
+
+-- A text is written where formatting's number is 0: the formatted text at that call's tab size.
+pub record Written (text rec : List ℕ) (tab : ℕ) (out w : List ℕ) : Type 0 where
+  pub page : Page
+  pub events : List Event
+  pub accepts : judge text rec ≡ accepted page events
+  pub number : get text rec tab out .verdict .number ≡ 0
+  pub is : w ≡ formatted page tab events
+
+-- ---- by cases
+-- Formatting refuses and leaves the output as it was.
+abbrev Leaves : Result → List ℕ → Type 0
+Leaves r out = (r .verdict .number ≡ 0 → ⊥) × (r .out ≡ out)
+
+-- A result with the output as it was, and a refusal's number.
+leaves : {r : Result} {v : Verdict} {out : List ℕ} → r ≡ record { verdict = v; out = out } → (v .number ≡ 0 → ⊥) → Leaves r out
+leaves e ne = (λ z. ne (ap (λ s. s .verdict .number) (sym e) ∙ z), ap (λ s. s .out) e)
+
+module _ (text rec : List ℕ) (tab : ℕ) (out : List ℕ) where
+  gets : Fits text rec tab out ⊎ Leaves (get text rec tab out) out
+  gets = go (judge text rec) refl
+    where
+      bounds : (p : Page) (es : List Event) → judge text rec ≡ accepted p es → (w r : Bool) → leb (deepest es * tab) maxWidth ≡ w
+          → leb (letters p es + tab * units es) (length out) ≡ r → Fits text rec tab out ⊎ Leaves (get text rec tab out) out
+      bounds p es e false r f g = inr (leaves (get-accepted text rec e tab out ∙ format-wide tab p es out (leb-false _ _ f)) (λ z. omega (arith, z)))
+      bounds p es e true false f g =
+          inr (leaves (get-accepted text rec e tab out ∙ format-short tab p es out (leb-true _ _ f) (leb-false _ _ g)) (λ z. omega (arith, z)))
+      bounds p es e true true f g = inl (record { page = p; events = es; accepts = e; width = leb-true _ _ f; room = leb-true _ _ g })
+
+      go : (j : Judged) → judge text rec ≡ j → Fits text rec tab out ⊎ Leaves (get text rec tab out) out
+      go (declined v) e = inr (leaves (get-declined text rec e tab out) (declined-number text rec e))
+      go (accepted p es) e = bounds p es e _ _ refl refl
+
+  fits-get : (f : Fits text rec tab out)
+      → get text rec tab out
+      ≡ record {
+        verdict = verdict 0 0 (measuresOf (f .page) (f .events));
+        out = formatted (f .page) tab (f .events) ++ drop (length (formatted (f .page) tab (f .events))) out;
+      }
+  fits-get f = get-accepted text rec (f .accepts) tab out ∙ format-fits tab (f .page) (f .events) out (f .width) (f .room)
+
+same-page : {j : Judged} {p q : Page} {es fs : List Event} → j ≡ accepted p es → j ≡ accepted q fs → p ≡ q
+same-page e f = cc
+
+same-events : {j : Judged} {p q : Page} {es fs : List Event} → j ≡ accepted p es → j ≡ accepted q fs → es ≡ fs
+same-events e f = cc
+
+-- The text written is the sheet's formatted text.
+pub written-is : {text rec : List ℕ} {tab : ℕ} {out w : List ℕ} {p : Page} {es : List Event} → Written text rec tab out w → judge text rec ≡ accepted p es
+    → w ≡ formatted p tab es
+written-is {tab = tab} at e = at .is ∙ ap₂ (λ q fs. formatted q tab fs) (same-page (at .accepts) e) (same-events (at .accepts) e)
+
+-- ---- the theorems
+module _ (text rec : List ℕ) where
+  -- The check accepts a sheet that is read, walked to its end, and has no comment left; it refuses every other.
+  pub check-accepts : (check text rec .number ≡ 0) ↔ ((p : Page) × (es : List Event) × Sheet text rec p es)
+  check-accepts = (go (judge text rec) refl, λ s. ap (λ v. v .number) (check-accepted text rec (accepted-is text rec (s .0) (s .1) .1 (s .2))))
+    where
+      go : (j : Judged) → judge text rec ≡ j → check text rec .number ≡ 0 → (p : Page) × (es : List Event) × Sheet text rec p es
+      go (declined v) e z = absurd (declined-number text rec e (ap (λ u. u .number) (sym (check-declined text rec e)) ∙ z))
+      go (accepted p es) e z = (p, es, accepted-is text rec p es .0 e)
+
+module _ (text rec : List ℕ) (tab : ℕ) (out : List ℕ) where
+  -- Formatting accepts exactly when the check accepts and both bounds hold.
+  pub get-accepts : (get text rec tab out .verdict .number ≡ 0) ↔ Fits text rec tab out
+  get-accepts = (λ z. ⊎-elim (λ f. f) (λ l. absurd (l .0 z)) (gets text rec tab out), λ f. ap (λ r. r .verdict .number) (fits-get text rec tab out f))
+
+  -- "The check's verdict and the formatter's on one sheet are equal in number, place, measures and set exactly when the check
+  -- refuses the sheet, or it accepts and two bounds hold: the deepest indent formed, written or not, times the tab size is at
+  -- most 4,294,967,295, and letters + tab size × units is at most the output's length."
+  pub verdicts-equal : (check text rec ≡ get text rec tab out .verdict) ↔ (Refuses text rec ⊎ Fits text rec tab out)
+  verdicts-equal = (go (judge text rec) refl, ⊎-elim (back (judge text rec) refl) fits)
+    where
+      go : (j : Judged) → judge text rec ≡ j → check text rec ≡ get text rec tab out .verdict → Refuses text rec ⊎ Fits text rec tab out
+      go (declined v) e h = inl (λ z. declined-number text rec e (ap (λ u. u .number) (sym (check-declined text rec e)) ∙ z))
+      go (accepted p es) e h = inr (get-accepts .0 (ap (λ u. u .number) (sym h ∙ check-accepted text rec e)))
+
+      back : (j : Judged) → judge text rec ≡ j → Refuses text rec → check text rec ≡ get text rec tab out .verdict
+      back (declined v) e h = check-declined text rec e ∙ ap (λ r. r .verdict) (sym (get-declined text rec e tab out))
+      back (accepted p es) e h = absurd (h (ap (λ u. u .number) (check-accepted text rec e)))
+
+      fits : Fits text rec tab out → check text rec ≡ get text rec tab out .verdict
+      fits f = check-accepted text rec (f .accepts) ∙ ap (λ r. r .verdict) (sym (fits-get text rec tab out f))
+
+  -- "touches the output only when it accepts" (demand 1)
+  pub output-untouched : (get text rec tab out .verdict .number ≡ 0 → ⊥) → get text rec tab out .out ≡ out
+  output-untouched ne = ⊎-elim (λ f. absurd (ne (get-accepts .1 f))) (λ l. l .1) (gets text rec tab out)
+
+  -- Where formatting accepts, a text is written.
+  pub text-written : get text rec tab out .verdict .number ≡ 0 → (w : List ℕ) × Written text rec tab out w
+  text-written z =
+      let f = get-accepts .0 z in
+      (formatted (f .page) tab (f .events), record { page = f .page; events = f .events; accepts = f .accepts; number = z; is = refl })
+
+-- It stands in the output's first bytes, and the bytes past it stay.
+pub output-written : {text rec : List ℕ} {tab : ℕ} {out w : List ℕ} → Written text rec tab out w
+    → (length w ≤ length out) × (get text rec tab out .out ≡ w ++ drop (length w) out)
+output-written {text} {rec} {tab} {out} at =
+    let f = get-accepts text rec tab out .0 (at .number) in
+    let e = written-is at (f .accepts) in
+    (omega (arith, ap length e, length-formatted (f .page) tab (f .events), f .room), rw e (ap (λ r. r .out) (fits-get text rec tab out f)))
+
+-- "Where one sheet's text is written at two different tab sizes, the two texts are equal exactly when units is 0."
+pub two-tabs-equal : {text rec : List ℕ} {tab tab′ : ℕ} {out out′ w w′ : List ℕ} {p : Page} {es : List Event} → judge text rec ≡ accepted p es
+    → Written text rec tab out w → Written text rec tab′ out′ w′ → (tab ≡ tab′ → ⊥) → (w ≡ w′) ↔ (units es ≡ 0)
+two-tabs-equal {tab = tab} {tab′} {p = p} {es} sheet at at′ ne =
+    rw (written-is at sheet, written-is at′ sheet) (same-at-tabs p tab tab′ es ne)
+
+-- "After all spaces are deleted they are always equal."
+pub spaceless-equal : {text rec : List ℕ} {tab tab′ : ℕ} {out out′ w w′ : List ℕ} → Written text rec tab out w → Written text rec tab′ out′ w′
+    → withoutSpaces w ≡ withoutSpaces w′
+spaceless-equal {tab = tab} {tab′} at at′ = rw (at .is, written-is at′ (at .accepts)) (same-spaceless (at .page) tab tab′ (at .events))
+
+-- "Each has exactly letters + its own tab size × units bytes."
+pub bytes-written : {text rec : List ℕ} {tab : ℕ} {out w : List ℕ} {p : Page} {es : List Event} → judge text rec ≡ accepted p es
+    → Written text rec tab out w → length w ≡ letters p es + tab * units es
+bytes-written {tab = tab} {p = p} {es} sheet at = rw (written-is at sheet) (length-formatted p tab es)
+
+-- "Each holds every block comment's trimmed text at least once."
+pub comments-written : {text rec : List ℕ} {tab : ℕ} {out w : List ℕ} {p : Page} {es : List Event} → judge text rec ≡ accepted p es
+    → Written text rec tab out w → (k : ℕ) → isComment (p .tokens .kinds) k ≡ true → Holds (trimmed p k) w
+comments-written {text} {rec} {tab} {p = p} {es} sheet at k c =
+    let none-left = accepted-is text rec p es .0 sheet .none-left in
+    rw (written-is at sheet) (holds-written p tab es k (all-written (p .tokens .kinds) es none-left k c))

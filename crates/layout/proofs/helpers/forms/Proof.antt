@@ -1,0 +1,19 @@
+-- `layout::helpers::forms` meets its contract.
+use mathlib.Core.Path.{_∙_, ap}
+use Rattle.layout.specs.State.{withDepth}
+use Rattle.layout.proofs.Steps.{deep-depth}
+use borrow.Author.Needs.{needs}
+use Rattle.layout.proofs.helpers.forms.Statement.{statement}
+use Rattle.layout.proofs.helpers.forms.Tie as tie
+
+indented-requires : tie.Need-indented-requires
+indented-requires c κs = search needs
+
+formed-requires : tie.Need-formed-requires
+formed-requires c κs = search needs
+
+returns : tie.Need-returns
+returns c = (c .formed .ensures) ∙ ap (λ d. withDepth d (c .before .before .args .st)) (deep-depth (c .before .indented .ensures))
+
+pub forms-spec : {M : Type 1} → statement M
+forms-spec = tie.close (tie.spec indented-requires formed-requires returns)

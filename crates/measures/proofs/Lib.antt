@@ -1,0 +1,14 @@
+pub mod Credit
+pub mod Paying
+pub mod Helpers
+pub mod Arms
+pub mod Types
+pub mod Patterns
+pub mod Sequences
+pub mod Expressions
+pub mod Structures
+pub mod Declarations
+pub mod Ends
+pub mod Following
+pub mod TypesFollow
+pub mod Measures

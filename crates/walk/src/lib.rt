@@ -1,0 +1,2313 @@
+// The walk over expressions, declarations, structures and signatures, which call each other (`get_exp`, `get_dec`,
+// `get_str_exp`, `get_sig_exp` of 000): a function for each arm and for each closure of 000.
+// A function's name is short, because the names of a cycle share one limit; the comment above has 000's name. `vb` is
+// a binding of `val`, `vbs` the declaration with its bindings; so `fb`, `eb`, `sb`, `cb` for functions, exceptions,
+// structures and functors.
+use layout::Answer;
+use layout::Cfg;
+use layout::St;
+use layout::fields::Gone;
+use layout::fields::Read;
+use layout::fields::absent;
+use layout::fields::choice;
+use layout::fields::form;
+use layout::fields::group;
+use layout::fields::list;
+use layout::fields::moved;
+use layout::fields::stop;
+use layout::fields::token_no;
+use layout::helpers::between;
+use layout::helpers::comment_above;
+use layout::helpers::forms;
+use layout::helpers::indent;
+use layout::helpers::indent_deeper;
+use layout::helpers::indent_in;
+use layout::helpers::line;
+use layout::helpers::line_in;
+use layout::helpers::new_line;
+use layout::helpers::new_line_in;
+use layout::helpers::op_path;
+use layout::helpers::path;
+use layout::helpers::text_of;
+use layout::helpers::ty_var_seq;
+use layout::helpers::word_if;
+use layout::looks::BothSeen;
+use layout::looks::body_exp_needs_newline;
+use layout::looks::heads;
+use layout::looks::is_if_exp;
+use layout::word;
+use layout::words;
+use leaves::app_end;
+use leaves::app_space;
+use leaves::case_head;
+use leaves::case_pats;
+use leaves::dat_binds;
+use leaves::dat_copy_dec;
+use leaves::dat_dec;
+use leaves::ex_bind_of;
+use leaves::infix_dec;
+use leaves::infix_operator;
+use leaves::item_semi;
+use leaves::missing;
+use leaves::nonfix_dec;
+use leaves::open_dec;
+use leaves::selector_exp;
+use leaves::sharing_tails;
+use leaves::ty_dec;
+use leaves::with_type;
+use patterns::get_pat;
+use reader::commands::Declaration;
+use reader::commands::Family;
+use reader::commands::declaration_at;
+use types::get_ty;
+use types::ty_annotation;
+ghost use mathlib.Core.Path.{_≡_};
+ghost use mathlib.Core.Bool.{Bool, true, _&&_, _||_};
+ghost use lib.ListN.{getD};
+ghost use lib.Dec.{eqb};
+ghost use Prim.Native.Nat.{_+_, _-_, _*_, _≤_, _<_};
+ghost use Rattle.reader.specs.Check.{maxForms};
+ghost use Rattle.layout.specs.Words.{wordOf};
+ghost use Rattle.layout.specs.Layout.{word as word·, maybe, halt, _⨾_};
+ghost use Rattle.layout.specs.Helpers.{text as text·, indented, indent as indentOf};
+ghost use Rattle.layout.specs.State.{Does, Walked, page, runOf};
+ghost use Rattle.layout.specs.Walk.{walks, top};
+ghost use Rattle.layout.specs.Exp.{get-matcher-arm, get-matcher-across-lines, eq-body, exp-args, exp-semi-item, exp-semi-more, exp-semi-seq, exp-row, exp-rows, RecordExp, ParenExp, VectorExp, SeqExp, LetExp, AppExp, InfixExp, TypedExp, IfExp, WhileExp, CaseExp, FnExp};
+ghost use Rattle.layout.specs.GetDec.{dec as dec·, dec-in-seq, dec-in-seqs, get-dec, dec-arg};
+ghost use Rattle.layout.specs.DecOne.{decs as decs·, val-bind, ValDec, fun-bind-case, fun-bind, FunDec, AbstypeDec, ex-bind-inner, ex-bind, ExDec, local-decs, LocalDec, str-bind, StructureDec, SignatureDec, functor-arg, functor-args, functor-bind, FunctorDec, IncludeDec};
+ghost use Rattle.layout.specs.StrExp.{StructStrExp, AscriptionStrExp, app-arg, AppStrExp, LetStrExp};
+ghost use Rattle.layout.specs.SigExp.{ascription-tail, SigSigExp, WhereTypeSigExp, WhereSigExp};
+
+// ---- what a loop knows
+// Whether item i of a sequence of n has its semicolon written: the last, where that is allowed.
+fn last_semi(allow: bool, i: usize, n: usize) -> bool
+    requires { ⌜ i < n ⌝ }
+    ensures { λ r. ⌜ r ≡ (allow && eqb (n - (i + 1)) 0) ⌝ }
+{
+    if n - i == 1 {
+        return allow;
+    }
+    false
+}
+
+// Whether an argument was a Dec, after one more.
+fn later_needs(needs: bool, which: usize) -> bool
+    ensures { λ r. ⌜ r ≡ (needs || eqb which 1) ⌝ }
+{
+    if which == 1 {
+        return true;
+    }
+    needs
+}
+
+// ---- expressions
+// A row of `RecordExp`.
+fn row(
+    text: &[u8],
+    rec: &[u8],
+    kinds: &[u8],
+    starts: &[u16],
+    lens: &[u16],
+    out: &mut [u8],
+    left: &mut [u64; 64],
+    st: St,
+    cfg: Cfg,
+) -> Answer
+    requires { ⌜ cfg .depth + 2 * cfg .left + 2 ≤ 1000 ⌝ }
+    ensures { λ r. ⌜ Does (page (now (text .entry)) (now (rec .entry)) (now (kinds .entry)) (now (starts .entry)) (now (lens .entry))) cfg exp-row (runOf st (now (out .entry)) (now (left .entry))) r (now (out .exit)) (now (left .exit)) ⌝ }
+{
+    let r1 = group(rec, st);
+    let Answer::Done(s1) = r1 else {
+        return r1;
+    };
+    let r2 = text_of(text, rec, starts, lens, out, s1, cfg);
+    let Answer::Done(s2) = r2 else {
+        return r2;
+    };
+    if let Gone::Past(s3) = absent(rec, s2) {
+        return Answer::Done(s3);
+    }
+    let r4 = group(rec, s2);
+    let Answer::Done(s4) = r4 else {
+        return r4;
+    };
+    let s5 = word(text, out, s4, cfg.tab, words::EQ_SPACED);
+    exp(text, rec, kinds, starts, lens, out, left, s5, cfg)
+}
+
+// The rows of `RecordExp`.
+fn rws(
+    text: &[u8],
+    rec: &[u8],
+    kinds: &[u8],
+    starts: &[u16],
+    lens: &[u16],
+    out: &mut [u8],
+    left: &mut [u64; 64],
+    st: St,
+    cfg: Cfg,
+) -> Answer
+    requires { ⌜ cfg .depth + 2 * cfg .left + 2 ≤ 1000 ⌝ }
+    ensures { λ r. ⌜ Does (page (now (text .entry)) (now (rec .entry)) (now (kinds .entry)) (now (starts .entry)) (now (lens .entry))) cfg exp-rows (runOf st (now (out .entry)) (now (left .entry))) r (now (out .exit)) (now (left .exit)) ⌝ }
+{
+    let Read::Is(n, s0) = list(rec, st) else {
+        return stop(st);
+    };
+    let mut s = s0;
+    let mut i = 0;
+    while i < n {
+        let s1 = between(text, out, s, cfg.tab, words::COMMA, i);
+        let r2 = row(text, rec, kinds, starts, lens, out, left, s1, cfg);
+        let Answer::Done(s2) = r2 else {
+            return r2;
+        };
+        s = s2;
+        i += 1;
+    }
+    Answer::Done(s)
+}
+
+// `RecordExp`.
+fn rcd(
+    text: &[u8],
+    rec: &[u8],
+    kinds: &[u8],
+    starts: &[u16],
+    lens: &[u16],
+    out: &mut [u8],
+    left: &mut [u64; 64],
+    st: St,
+    cfg: Cfg,
+) -> Answer
+    requires { ⌜ cfg .depth + 2 * cfg .left + 2 ≤ 1000 ⌝ }
+    ensures { λ r. ⌜ Does (page (now (text .entry)) (now (rec .entry)) (now (kinds .entry)) (now (starts .entry)) (now (lens .entry))) cfg RecordExp (runOf st (now (out .entry)) (now (left .entry))) r (now (out .exit)) (now (left .exit)) ⌝ }
+{
+    let s1 = word(text, out, st, cfg.tab, words::L_CURLY);
+    let r2 = rws(text, rec, kinds, starts, lens, out, left, s1, cfg);
+    let Answer::Done(s2) = r2 else {
+        return r2;
+    };
+    Answer::Done(word(text, out, s2, cfg.tab, words::R_CURLY))
+}
+
+// `ParenExp`.
+fn par(
+    text: &[u8],
+    rec: &[u8],
+    kinds: &[u8],
+    starts: &[u16],
+    lens: &[u16],
+    out: &mut [u8],
+    left: &mut [u64; 64],
+    st: St,
+    cfg: Cfg,
+) -> Answer
+    requires { ⌜ cfg .depth + 2 * cfg .left + 2 ≤ 1000 ⌝ }
+    ensures { λ r. ⌜ Does (page (now (text .entry)) (now (rec .entry)) (now (kinds .entry)) (now (starts .entry)) (now (lens .entry))) cfg ParenExp (runOf st (now (out .entry)) (now (left .entry))) r (now (out .exit)) (now (left .exit)) ⌝ }
+{
+    let s1 = word(text, out, st, cfg.tab, words::L_ROUND);
+    let r2 = exp(text, rec, kinds, starts, lens, out, left, s1, cfg);
+    let Answer::Done(s2) = r2 else {
+        return r2;
+    };
+    Answer::Done(word(text, out, s2, cfg.tab, words::R_ROUND))
+}
+
+// `exp_args`: expressions with a comma between.
+fn arg(
+    text: &[u8],
+    rec: &[u8],
+    kinds: &[u8],
+    starts: &[u16],
+    lens: &[u16],
+    out: &mut [u8],
+    left: &mut [u64; 64],
+    st: St,
+    cfg: Cfg,
+) -> Answer
+    requires { ⌜ cfg .depth + 2 * cfg .left + 2 ≤ 1000 ⌝ }
+    ensures { λ r. ⌜ Does (page (now (text .entry)) (now (rec .entry)) (now (kinds .entry)) (now (starts .entry)) (now (lens .entry))) cfg exp-args (runOf st (now (out .entry)) (now (left .entry))) r (now (out .exit)) (now (left .exit)) ⌝ }
+{
+    let Read::Is(n, s0) = list(rec, st) else {
+        return stop(st);
+    };
+    let mut s = s0;
+    let mut i = 0;
+    while i < n {
+        let s1 = between(text, out, s, cfg.tab, words::COMMA, i);
+        let r2 = group(rec, s1);
+        let Answer::Done(s2) = r2 else {
+            return r2;
+        };
+        let r3 = exp(text, rec, kinds, starts, lens, out, left, s2, cfg);
+        let Answer::Done(s3) = r3 else {
+            return r3;
+        };
+        s = s3;
+        i += 1;
+    }
+    Answer::Done(s)
+}
+
+// `TupleExp` and `ListExp`, by their brackets.
+fn brk(
+    text: &[u8],
+    rec: &[u8],
+    kinds: &[u8],
+    starts: &[u16],
+    lens: &[u16],
+    out: &mut [u8],
+    left: &mut [u64; 64],
+    st: St,
+    cfg: Cfg,
+    opens: usize,
+    closes: usize,
+) -> Answer
+    requires { ⌜ cfg .depth + 2 * cfg .left + 2 ≤ 1000 ⌝ }
+    ensures { λ r. ⌜ Does (page (now (text .entry)) (now (rec .entry)) (now (kinds .entry)) (now (starts .entry)) (now (lens .entry))) cfg (λ ws c. word· (wordOf opens) ⨾ exp-args ws c ⨾ word· (wordOf closes)) (runOf st (now (out .entry)) (now (left .entry))) r (now (out .exit)) (now (left .exit)) ⌝ }
+{
+    let s1 = word(text, out, st, cfg.tab, opens);
+    let r2 = arg(text, rec, kinds, starts, lens, out, left, s1, cfg);
+    let Answer::Done(s2) = r2 else {
+        return r2;
+    };
+    Answer::Done(word(text, out, s2, cfg.tab, closes))
+}
+
+// `VectorExp`.
+fn vec(
+    text: &[u8],
+    rec: &[u8],
+    kinds: &[u8],
+    starts: &[u16],
+    lens: &[u16],
+    out: &mut [u8],
+    left: &mut [u64; 64],
+    st: St,
+    cfg: Cfg,
+) -> Answer
+    requires { ⌜ cfg .depth + 2 * cfg .left + 2 ≤ 1000 ⌝ }
+    ensures { λ r. ⌜ Does (page (now (text .entry)) (now (rec .entry)) (now (kinds .entry)) (now (starts .entry)) (now (lens .entry))) cfg VectorExp (runOf st (now (out .entry)) (now (left .entry))) r (now (out .exit)) (now (left .exit)) ⌝ }
+{
+    let s1 = word(text, out, st, cfg.tab, words::HASH_L_SQUARE);
+    let r2 = group(rec, s1);
+    let Answer::Done(s2) = r2 else {
+        return r2;
+    };
+    let r3 = arg(text, rec, kinds, starts, lens, out, left, s2, cfg);
+    let Answer::Done(s3) = r3 else {
+        return r3;
+    };
+    Answer::Done(word(text, out, s3, cfg.tab, words::R_SQUARE))
+}
+
+// An item of `exps_in_seq`, with its semicolon where that is written.
+fn itm(
+    text: &[u8],
+    rec: &[u8],
+    kinds: &[u8],
+    starts: &[u16],
+    lens: &[u16],
+    out: &mut [u8],
+    left: &mut [u64; 64],
+    st: St,
+    cfg: Cfg,
+    write: bool,
+) -> Answer
+    requires { ⌜ cfg .depth + 2 * cfg .left + 0 ≤ 1000 ⌝ }
+    ensures { λ r. ⌜ Does (page (now (text .entry)) (now (rec .entry)) (now (kinds .entry)) (now (starts .entry)) (now (lens .entry))) cfg (λ ws c. exp-semi-item ws c write) (runOf st (now (out .entry)) (now (left .entry))) r (now (out .exit)) (now (left .exit)) ⌝ }
+{
+    let r1 = group(rec, st);
+    let Answer::Done(s1) = r1 else {
+        return r1;
+    };
+    let r2 = exp(text, rec, kinds, starts, lens, out, left, s1, cfg);
+    let Answer::Done(s2) = r2 else {
+        return r2;
+    };
+    item_semi(text, rec, starts, lens, out, s2, cfg, write)
+}
+
+// The last n items of a sequence, the first not among them.
+fn mor(
+    text: &[u8],
+    rec: &[u8],
+    kinds: &[u8],
+    starts: &[u16],
+    lens: &[u16],
+    out: &mut [u8],
+    left: &mut [u64; 64],
+    st: St,
+    cfg: Cfg,
+    allow: bool,
+    n: usize,
+) -> Answer
+    requires { ⌜ cfg .depth + 2 * cfg .left + 0 ≤ 1000 ⌝ }
+    ensures { λ r. ⌜ Does (page (now (text .entry)) (now (rec .entry)) (now (kinds .entry)) (now (starts .entry)) (now (lens .entry))) cfg (λ ws c. exp-semi-more ws c allow n) (runOf st (now (out .entry)) (now (left .entry))) r (now (out .exit)) (now (left .exit)) ⌝ }
+{
+    let mut s = st;
+    let mut i = 0;
+    while i < n {
+        let write = last_semi(allow, i, n);
+        let s1 = word(text, out, s, cfg.tab, words::SEMICOLON_LINE);
+        let s2 = indent(out, s1, cfg);
+        let r3 = itm(text, rec, kinds, starts, lens, out, left, s2, cfg, write);
+        let Answer::Done(s3) = r3 else {
+            return r3;
+        };
+        s = s3;
+        i += 1;
+    }
+    Answer::Done(s)
+}
+
+// `exp_semi_seq`. The first item's semicolon is never written.
+fn sem(
+    text: &[u8],
+    rec: &[u8],
+    kinds: &[u8],
+    starts: &[u16],
+    lens: &[u16],
+    out: &mut [u8],
+    left: &mut [u64; 64],
+    st: St,
+    cfg: Cfg,
+    allow: bool,
+) -> Answer
+    requires { ⌜ cfg .depth + 2 * cfg .left + 0 ≤ 1000 ⌝ }
+    ensures { λ r. ⌜ Does (page (now (text .entry)) (now (rec .entry)) (now (kinds .entry)) (now (starts .entry)) (now (lens .entry))) cfg (λ ws c. exp-semi-seq ws c allow) (runOf st (now (out .entry)) (now (left .entry))) r (now (out .exit)) (now (left .exit)) ⌝ }
+{
+    let Read::Is(n, s1) = list(rec, st) else {
+        return stop(st);
+    };
+    if n == 0 {
+        return Answer::Done(s1);
+    }
+    let r2 = itm(text, rec, kinds, starts, lens, out, left, s1, cfg, false);
+    let Answer::Done(s2) = r2 else {
+        return r2;
+    };
+    mor(
+        text,
+        rec,
+        kinds,
+        starts,
+        lens,
+        out,
+        left,
+        s2,
+        cfg,
+        allow,
+        n - 1,
+    )
+}
+
+// `SeqExp`.
+fn seq(
+    text: &[u8],
+    rec: &[u8],
+    kinds: &[u8],
+    starts: &[u16],
+    lens: &[u16],
+    out: &mut [u8],
+    left: &mut [u64; 64],
+    st: St,
+    cfg: Cfg,
+) -> Answer
+    requires { ⌜ cfg .depth + 2 * cfg .left + 2 ≤ 1000 ⌝ }
+    ensures { λ r. ⌜ Does (page (now (text .entry)) (now (rec .entry)) (now (kinds .entry)) (now (starts .entry)) (now (lens .entry))) cfg SeqExp (runOf st (now (out .entry)) (now (left .entry))) r (now (out .exit)) (now (left .exit)) ⌝ }
+{
+    let s1 = word(text, out, st, cfg.tab, words::L_ROUND_LINE);
+    let s2 = indent_deeper(out, s1, cfg);
+    let new = cfg.indented();
+    let r3 = sem(text, rec, kinds, starts, lens, out, left, s2, new, false);
+    let Answer::Done(s3) = r3 else {
+        return r3;
+    };
+    let s4 = line(text, out, s3, cfg);
+    Answer::Done(word(text, out, s4, cfg.tab, words::R_ROUND))
+}
+
+// `LetExp`.
+fn lts(
+    text: &[u8],
+    rec: &[u8],
+    kinds: &[u8],
+    starts: &[u16],
+    lens: &[u16],
+    out: &mut [u8],
+    left: &mut [u64; 64],
+    st: St,
+    cfg: Cfg,
+) -> Answer
+    requires { ⌜ cfg .depth + 2 * cfg .left + 2 ≤ 1000 ⌝ }
+    ensures { λ r. ⌜ Does (page (now (text .entry)) (now (rec .entry)) (now (kinds .entry)) (now (starts .entry)) (now (lens .entry))) cfg LetExp (runOf st (now (out .entry)) (now (left .entry))) r (now (out .exit)) (now (left .exit)) ⌝ }
+{
+    let s1 = word(text, out, st, cfg.tab, words::LET);
+    let s2 = word(text, out, s1, cfg.tab, words::LINE_FEED);
+    let s3 = indent_deeper(out, s2, cfg);
+    let new = cfg.indented();
+    let r4 = decs(text, rec, kinds, starts, lens, out, left, s3, new);
+    let Answer::Done(s4) = r4 else {
+        return r4;
+    };
+    let s5 = line(text, out, s4, cfg);
+    let s6 = word(text, out, s5, cfg.tab, words::IN);
+    let s7 = indent_in(out, s6, cfg);
+    let r8 = sem(text, rec, kinds, starts, lens, out, left, s7, new, true);
+    let Answer::Done(s8) = r8 else {
+        return r8;
+    };
+    let s9 = line(text, out, s8, cfg);
+    Answer::Done(word(text, out, s9, cfg.tab, words::END))
+}
+
+// `AppExp`: it looks at both expressions before it walks into the first.
+fn app(
+    text: &[u8],
+    rec: &[u8],
+    kinds: &[u8],
+    starts: &[u16],
+    lens: &[u16],
+    out: &mut [u8],
+    left: &mut [u64; 64],
+    st: St,
+    cfg: Cfg,
+) -> Answer
+    requires { ⌜ cfg .depth + 2 * cfg .left + 2 ≤ 1000 ⌝ }
+    ensures { λ r. ⌜ Does (page (now (text .entry)) (now (rec .entry)) (now (kinds .entry)) (now (starts .entry)) (now (lens .entry))) cfg AppExp (runOf st (now (out .entry)) (now (left .entry))) r (now (out .exit)) (now (left .exit)) ⌝ }
+{
+    let at = st.at;
+    let seen = heads(rec, starts.len(), at);
+    let BothSeen::Are(func, arg) = seen else {
+        return missing(st, seen);
+    };
+    let r1 = exp(text, rec, kinds, starts, lens, out, left, st, cfg);
+    let Answer::Done(s1) = r1 else {
+        return r1;
+    };
+    let s2 = app_space(text, rec, starts, lens, out, s1, cfg, func, arg);
+    exp(text, rec, kinds, starts, lens, out, left, s2, cfg)
+}
+
+// `InfixExp`.
+fn inf(
+    text: &[u8],
+    rec: &[u8],
+    kinds: &[u8],
+    starts: &[u16],
+    lens: &[u16],
+    out: &mut [u8],
+    left: &mut [u64; 64],
+    st: St,
+    cfg: Cfg,
+) -> Answer
+    requires { ⌜ cfg .depth + 2 * cfg .left + 2 ≤ 1000 ⌝ }
+    ensures { λ r. ⌜ Does (page (now (text .entry)) (now (rec .entry)) (now (kinds .entry)) (now (starts .entry)) (now (lens .entry))) cfg InfixExp (runOf st (now (out .entry)) (now (left .entry))) r (now (out .exit)) (now (left .exit)) ⌝ }
+{
+    let Read::Is(k, s1) = token_no(rec, st) else {
+        return stop(st);
+    };
+    let r2 = exp(text, rec, kinds, starts, lens, out, left, s1, cfg);
+    let Answer::Done(s2) = r2 else {
+        return r2;
+    };
+    let s3 = infix_operator(text, rec, starts, lens, out, s2, cfg, k);
+    exp(text, rec, kinds, starts, lens, out, left, s3, cfg)
+}
+
+// `TypedExp`.
+fn typ(
+    text: &[u8],
+    rec: &[u8],
+    kinds: &[u8],
+    starts: &[u16],
+    lens: &[u16],
+    out: &mut [u8],
+    left: &mut [u64; 64],
+    st: St,
+    cfg: Cfg,
+) -> Answer
+    requires { ⌜ cfg .depth + 2 * cfg .left + 2 ≤ 1000 ⌝ }
+    ensures { λ r. ⌜ Does (page (now (text .entry)) (now (rec .entry)) (now (kinds .entry)) (now (starts .entry)) (now (lens .entry))) cfg TypedExp (runOf st (now (out .entry)) (now (left .entry))) r (now (out .exit)) (now (left .exit)) ⌝ }
+{
+    let r1 = exp(text, rec, kinds, starts, lens, out, left, st, cfg);
+    let Answer::Done(s1) = r1 else {
+        return r1;
+    };
+    let s2 = word(text, out, s1, cfg.tab, words::COLON);
+    get_ty(text, rec, starts, lens, out, s2, cfg)
+}
+
+// `AndalsoExp` and `OrelseExp`, by their word.
+fn duo(
+    text: &[u8],
+    rec: &[u8],
+    kinds: &[u8],
+    starts: &[u16],
+    lens: &[u16],
+    out: &mut [u8],
+    left: &mut [u64; 64],
+    st: St,
+    cfg: Cfg,
+    w: usize,
+) -> Answer
+    requires { ⌜ cfg .depth + 2 * cfg .left + 2 ≤ 1000 ⌝ }
+    ensures { λ r. ⌜ Does (page (now (text .entry)) (now (rec .entry)) (now (kinds .entry)) (now (starts .entry)) (now (lens .entry))) cfg (λ ws c. ws .get-exp c ⨾ word· (wordOf w) ⨾ ws .get-exp c) (runOf st (now (out .entry)) (now (left .entry))) r (now (out .exit)) (now (left .exit)) ⌝ }
+{
+    let r1 = exp(text, rec, kinds, starts, lens, out, left, st, cfg);
+    let Answer::Done(s1) = r1 else {
+        return r1;
+    };
+    let s2 = word(text, out, s1, cfg.tab, w);
+    exp(text, rec, kinds, starts, lens, out, left, s2, cfg)
+}
+
+// `WhileExp`.
+fn whl(
+    text: &[u8],
+    rec: &[u8],
+    kinds: &[u8],
+    starts: &[u16],
+    lens: &[u16],
+    out: &mut [u8],
+    left: &mut [u64; 64],
+    st: St,
+    cfg: Cfg,
+) -> Answer
+    requires { ⌜ cfg .depth + 2 * cfg .left + 2 ≤ 1000 ⌝ }
+    ensures { λ r. ⌜ Does (page (now (text .entry)) (now (rec .entry)) (now (kinds .entry)) (now (starts .entry)) (now (lens .entry))) cfg WhileExp (runOf st (now (out .entry)) (now (left .entry))) r (now (out .exit)) (now (left .exit)) ⌝ }
+{
+    let s1 = word(text, out, st, cfg.tab, words::WHILE);
+    duo(
+        text,
+        rec,
+        kinds,
+        starts,
+        lens,
+        out,
+        left,
+        s1,
+        cfg,
+        words::WHILE_DO,
+    )
+}
+
+// `HandleExp`, by its word.
+fn han(
+    text: &[u8],
+    rec: &[u8],
+    kinds: &[u8],
+    starts: &[u16],
+    lens: &[u16],
+    out: &mut [u8],
+    left: &mut [u64; 64],
+    st: St,
+    cfg: Cfg,
+    w: usize,
+) -> Answer
+    requires { ⌜ cfg .depth + 2 * cfg .left + 2 ≤ 1000 ⌝ }
+    ensures { λ r. ⌜ Does (page (now (text .entry)) (now (rec .entry)) (now (kinds .entry)) (now (starts .entry)) (now (lens .entry))) cfg (λ ws c. ws .get-exp c ⨾ word· (wordOf w) ⨾ get-matcher-across-lines ws c) (runOf st (now (out .entry)) (now (left .entry))) r (now (out .exit)) (now (left .exit)) ⌝ }
+{
+    let r1 = exp(text, rec, kinds, starts, lens, out, left, st, cfg);
+    let Answer::Done(s1) = r1 else {
+        return r1;
+    };
+    let s2 = word(text, out, s1, cfg.tab, w);
+    mat(text, rec, kinds, starts, lens, out, left, s2, cfg)
+}
+
+// `CaseExp`.
+fn cas(
+    text: &[u8],
+    rec: &[u8],
+    kinds: &[u8],
+    starts: &[u16],
+    lens: &[u16],
+    out: &mut [u8],
+    left: &mut [u64; 64],
+    st: St,
+    cfg: Cfg,
+) -> Answer
+    requires { ⌜ cfg .depth + 2 * cfg .left + 2 ≤ 1000 ⌝ }
+    ensures { λ r. ⌜ Does (page (now (text .entry)) (now (rec .entry)) (now (kinds .entry)) (now (starts .entry)) (now (lens .entry))) cfg CaseExp (runOf st (now (out .entry)) (now (left .entry))) r (now (out .exit)) (now (left .exit)) ⌝ }
+{
+    let s1 = word(text, out, st, cfg.tab, words::CASE);
+    han(
+        text,
+        rec,
+        kinds,
+        starts,
+        lens,
+        out,
+        left,
+        s1,
+        cfg,
+        words::CASE_OF,
+    )
+}
+
+// `RaiseExp`, `DoDec` and an exception's expression, by their word.
+fn pre(
+    text: &[u8],
+    rec: &[u8],
+    kinds: &[u8],
+    starts: &[u16],
+    lens: &[u16],
+    out: &mut [u8],
+    left: &mut [u64; 64],
+    st: St,
+    cfg: Cfg,
+    w: usize,
+) -> Answer
+    requires { ⌜ cfg .depth + 2 * cfg .left + 2 ≤ 1000 ⌝ }
+    ensures { λ r. ⌜ Does (page (now (text .entry)) (now (rec .entry)) (now (kinds .entry)) (now (starts .entry)) (now (lens .entry))) cfg (λ ws c. word· (wordOf w) ⨾ ws .get-exp c) (runOf st (now (out .entry)) (now (left .entry))) r (now (out .exit)) (now (left .exit)) ⌝ }
+{
+    let s1 = word(text, out, st, cfg.tab, w);
+    exp(text, rec, kinds, starts, lens, out, left, s1, cfg)
+}
+
+// `IfExp`. Another `if` stays on the line of `else`.
+fn ifs(
+    text: &[u8],
+    rec: &[u8],
+    kinds: &[u8],
+    starts: &[u16],
+    lens: &[u16],
+    out: &mut [u8],
+    left: &mut [u64; 64],
+    st: St,
+    cfg: Cfg,
+) -> Answer
+    requires { ⌜ cfg .depth + 2 * cfg .left + 2 ≤ 1000 ⌝ }
+    ensures { λ r. ⌜ Does (page (now (text .entry)) (now (rec .entry)) (now (kinds .entry)) (now (starts .entry)) (now (lens .entry))) cfg IfExp (runOf st (now (out .entry)) (now (left .entry))) r (now (out .exit)) (now (left .exit)) ⌝ }
+{
+    let s1 = word(text, out, st, cfg.tab, words::IF);
+    let r2 = exp(text, rec, kinds, starts, lens, out, left, s1, cfg);
+    let Answer::Done(s2) = r2 else {
+        return r2;
+    };
+    let s3 = word(text, out, s2, cfg.tab, words::THEN);
+    let s4 = indent_deeper(out, s3, cfg);
+    let new = cfg.indented();
+    let r5 = exp(text, rec, kinds, starts, lens, out, left, s4, new);
+    let Answer::Done(s5) = r5 else {
+        return r5;
+    };
+    let s6 = line(text, out, s5, cfg);
+    let s7 = word(text, out, s6, cfg.tab, words::ELSE);
+    let at = s7.at;
+    if is_if_exp(rec, at) {
+        let s8 = word(text, out, s7, cfg.tab, words::SPACE);
+        return exp(text, rec, kinds, starts, lens, out, left, s8, cfg);
+    }
+    let s9 = line_in(text, out, s7, cfg);
+    exp(text, rec, kinds, starts, lens, out, left, s9, new)
+}
+
+// `get_matcher_across_lines`. No matcher is allowed.
+fn mat(
+    text: &[u8],
+    rec: &[u8],
+    kinds: &[u8],
+    starts: &[u16],
+    lens: &[u16],
+    out: &mut [u8],
+    left: &mut [u64; 64],
+    st: St,
+    cfg: Cfg,
+) -> Answer
+    requires { ⌜ cfg .depth + 2 * cfg .left + 2 ≤ 1000 ⌝ }
+    ensures { λ r. ⌜ Does (page (now (text .entry)) (now (rec .entry)) (now (kinds .entry)) (now (starts .entry)) (now (lens .entry))) cfg get-matcher-across-lines (runOf st (now (out .entry)) (now (left .entry))) r (now (out .exit)) (now (left .exit)) ⌝ }
+{
+    if let Gone::Past(s0) = absent(rec, st) {
+        return Answer::Done(s0);
+    }
+    let r1 = group(rec, st);
+    let Answer::Done(s1) = r1 else {
+        return r1;
+    };
+    let s2 = indent_deeper(out, s1, cfg);
+    let Read::Is(n, s3) = list(rec, s2) else {
+        return stop(s2);
+    };
+    let mut s = s3;
+    let mut i = 0;
+    while i < n {
+        let s4 = new_line(text, out, s, cfg, words::BAR, i);
+        let r5 = arm(text, rec, kinds, starts, lens, out, left, s4, cfg);
+        let Answer::Done(s5) = r5 else {
+            return r5;
+        };
+        s = s5;
+        i += 1;
+    }
+    Answer::Done(s)
+}
+
+// `get_matcher_arm`: the body stands two deeper where it needs a line of its own.
+fn arm(
+    text: &[u8],
+    rec: &[u8],
+    kinds: &[u8],
+    starts: &[u16],
+    lens: &[u16],
+    out: &mut [u8],
+    left: &mut [u64; 64],
+    st: St,
+    cfg: Cfg,
+) -> Answer
+    requires { ⌜ cfg .depth + 2 * cfg .left + 2 ≤ 1000 ⌝ }
+    ensures { λ r. ⌜ Does (page (now (text .entry)) (now (rec .entry)) (now (kinds .entry)) (now (starts .entry)) (now (lens .entry))) cfg get-matcher-arm (runOf st (now (out .entry)) (now (left .entry))) r (now (out .exit)) (now (left .exit)) ⌝ }
+{
+    let r1 = group(rec, st);
+    let Answer::Done(s1) = r1 else {
+        return r1;
+    };
+    let r2 = get_pat(text, rec, starts, lens, out, s1, cfg);
+    let Answer::Done(s2) = r2 else {
+        return r2;
+    };
+    let s3 = word(text, out, s2, cfg.tab, words::EQ_ARROW);
+    let at = s3.at;
+    if body_exp_needs_newline(rec, at) {
+        let s4 = word(text, out, s3, cfg.tab, words::LINE_FEED);
+        let s5 = forms(s4, cfg);
+        let new = cfg.indented();
+        return ind(text, rec, kinds, starts, lens, out, left, s5, new);
+    }
+    let s6 = word(text, out, s3, cfg.tab, words::SPACE);
+    exp(text, rec, kinds, starts, lens, out, left, s6, cfg)
+}
+
+// An expression one deeper.
+fn ind(
+    text: &[u8],
+    rec: &[u8],
+    kinds: &[u8],
+    starts: &[u16],
+    lens: &[u16],
+    out: &mut [u8],
+    left: &mut [u64; 64],
+    st: St,
+    cfg: Cfg,
+) -> Answer
+    requires { ⌜ cfg .depth + 2 * cfg .left + 1 ≤ 1000 ⌝ }
+    ensures { λ r. ⌜ Does (page (now (text .entry)) (now (rec .entry)) (now (kinds .entry)) (now (starts .entry)) (now (lens .entry))) cfg (λ ws c. indented c (λ new. indentOf new ⨾ ws .get-exp new)) (runOf st (now (out .entry)) (now (left .entry))) r (now (out .exit)) (now (left .exit)) ⌝ }
+{
+    let s1 = indent_deeper(out, st, cfg);
+    let new = cfg.indented();
+    exp(text, rec, kinds, starts, lens, out, left, s1, new)
+}
+
+// ` =` and the body of a binding, where there is one.
+fn eqb(
+    text: &[u8],
+    rec: &[u8],
+    kinds: &[u8],
+    starts: &[u16],
+    lens: &[u16],
+    out: &mut [u8],
+    left: &mut [u64; 64],
+    st: St,
+    cfg: Cfg,
+) -> Answer
+    requires { ⌜ cfg .depth + 2 * cfg .left + 2 ≤ 1000 ⌝ }
+    ensures { λ r. ⌜ Does (page (now (text .entry)) (now (rec .entry)) (now (kinds .entry)) (now (starts .entry)) (now (lens .entry))) cfg eq-body (runOf st (now (out .entry)) (now (left .entry))) r (now (out .exit)) (now (left .exit)) ⌝ }
+{
+    if let Gone::Past(s0) = absent(rec, st) {
+        return Answer::Done(s0);
+    }
+    let r1 = group(rec, st);
+    let Answer::Done(s1) = r1 else {
+        return r1;
+    };
+    let s2 = word(text, out, s1, cfg.tab, words::EQ);
+    let at = s2.at;
+    if body_exp_needs_newline(rec, at) {
+        let s3 = word(text, out, s2, cfg.tab, words::LINE_FEED);
+        return ind(text, rec, kinds, starts, lens, out, left, s3, cfg);
+    }
+    let s4 = word(text, out, s2, cfg.tab, words::SPACE);
+    exp(text, rec, kinds, starts, lens, out, left, s4, cfg)
+}
+
+// `FnExp`.
+fn fns(
+    text: &[u8],
+    rec: &[u8],
+    kinds: &[u8],
+    starts: &[u16],
+    lens: &[u16],
+    out: &mut [u8],
+    left: &mut [u64; 64],
+    st: St,
+    cfg: Cfg,
+) -> Answer
+    requires { ⌜ cfg .depth + 2 * cfg .left + 2 ≤ 1000 ⌝ }
+    ensures { λ r. ⌜ Does (page (now (text .entry)) (now (rec .entry)) (now (kinds .entry)) (now (starts .entry)) (now (lens .entry))) cfg FnExp (runOf st (now (out .entry)) (now (left .entry))) r (now (out .exit)) (now (left .exit)) ⌝ }
+{
+    let s1 = word(text, out, st, cfg.tab, words::FN);
+    let r2 = group(rec, s1);
+    let Answer::Done(s2) = r2 else {
+        return r2;
+    };
+    let Read::Is(n, s3) = list(rec, s2) else {
+        return stop(s2);
+    };
+    let mut s = s3;
+    let mut i = 0;
+    while i < n {
+        let s4 = between(text, out, s, cfg.tab, words::BAR_SPACED, i);
+        let r5 = arm(text, rec, kinds, starts, lens, out, left, s4, cfg);
+        let Answer::Done(s5) = r5 else {
+            return r5;
+        };
+        s = s5;
+        i += 1;
+    }
+    Answer::Done(s)
+}
+
+// `get_exp`: a form is dispatched by number to its arm.
+fn exp(
+    text: &[u8],
+    rec: &[u8],
+    kinds: &[u8],
+    starts: &[u16],
+    lens: &[u16],
+    out: &mut [u8],
+    left: &mut [u64; 64],
+    st: St,
+    cfg: Cfg,
+) -> Answer
+    requires { ⌜ cfg .depth + 2 * cfg .left + 0 ≤ 1000 ⌝ }
+    ensures { λ r. ⌜ Does (page (now (text .entry)) (now (rec .entry)) (now (kinds .entry)) (now (starts .entry)) (now (lens .entry))) cfg (λ ws c. ws .get-exp c) (runOf st (now (out .entry)) (now (left .entry))) r (now (out .exit)) (now (left .exit)) ⌝ }
+{
+    let forms_left = cfg.left;
+    if forms_left == 0 {
+        return stop(st);
+    }
+    let Read::Is(k, s) = form(rec, st, Family::Exp) else {
+        return stop(st);
+    };
+    let sub = Cfg {
+        depth: cfg.depth,
+        tab: cfg.tab,
+        blank: cfg.blank,
+        left: forms_left - 1,
+    };
+    match k {
+        0 => Answer::Done(word(text, out, s, cfg.tab, words::DOT_DOT_DOT)),
+        1 => Answer::Done(word(text, out, s, cfg.tab, words::UNDERSCORE)),
+        2 => Answer::Done(word(text, out, s, cfg.tab, words::OP_ANDALSO)),
+        3 => Answer::Done(word(text, out, s, cfg.tab, words::OP_ORELSE)),
+        4 => text_of(text, rec, starts, lens, out, s, cfg),
+        5 => op_path(text, rec, starts, lens, out, s, cfg),
+        6 => rcd(text, rec, kinds, starts, lens, out, left, s, sub),
+        7 => selector_exp(text, rec, starts, lens, out, s, sub),
+        8 => par(text, rec, kinds, starts, lens, out, left, s, sub),
+        9 => brk(
+            text,
+            rec,
+            kinds,
+            starts,
+            lens,
+            out,
+            left,
+            s,
+            sub,
+            words::L_ROUND,
+            words::R_ROUND,
+        ),
+        10 => brk(
+            text,
+            rec,
+            kinds,
+            starts,
+            lens,
+            out,
+            left,
+            s,
+            sub,
+            words::L_SQUARE,
+            words::R_SQUARE,
+        ),
+        11 => vec(text, rec, kinds, starts, lens, out, left, s, sub),
+        12 => seq(text, rec, kinds, starts, lens, out, left, s, sub),
+        13 => lts(text, rec, kinds, starts, lens, out, left, s, sub),
+        14 => app(text, rec, kinds, starts, lens, out, left, s, sub),
+        15 => inf(text, rec, kinds, starts, lens, out, left, s, sub),
+        16 => typ(text, rec, kinds, starts, lens, out, left, s, sub),
+        17 => duo(
+            text,
+            rec,
+            kinds,
+            starts,
+            lens,
+            out,
+            left,
+            s,
+            sub,
+            words::ANDALSO,
+        ),
+        18 => duo(
+            text,
+            rec,
+            kinds,
+            starts,
+            lens,
+            out,
+            left,
+            s,
+            sub,
+            words::ORELSE,
+        ),
+        19 => han(
+            text,
+            rec,
+            kinds,
+            starts,
+            lens,
+            out,
+            left,
+            s,
+            sub,
+            words::HANDLE,
+        ),
+        20 => pre(
+            text,
+            rec,
+            kinds,
+            starts,
+            lens,
+            out,
+            left,
+            s,
+            sub,
+            words::RAISE,
+        ),
+        21 => ifs(text, rec, kinds, starts, lens, out, left, s, sub),
+        22 => whl(text, rec, kinds, starts, lens, out, left, s, sub),
+        23 => cas(text, rec, kinds, starts, lens, out, left, s, sub),
+        24 => fns(text, rec, kinds, starts, lens, out, left, s, sub),
+        _ => stop(s),
+    }
+}
+
+// ---- declarations
+// `get_dec`: the Decs of a sequence, with a blank line between where the configuration has them.
+fn decs(
+    text: &[u8],
+    rec: &[u8],
+    kinds: &[u8],
+    starts: &[u16],
+    lens: &[u16],
+    out: &mut [u8],
+    left: &mut [u64; 64],
+    st: St,
+    cfg: Cfg,
+) -> Answer
+    requires { ⌜ cfg .depth + 2 * cfg .left + 0 ≤ 1000 ⌝ }
+    ensures { λ r. ⌜ Does (page (now (text .entry)) (now (rec .entry)) (now (kinds .entry)) (now (starts .entry)) (now (lens .entry))) cfg get-dec (runOf st (now (out .entry)) (now (left .entry))) r (now (out .exit)) (now (left .exit)) ⌝ }
+{
+    let Read::Is(n, s0) = list(rec, st) else {
+        return stop(st);
+    };
+    let mut s = s0;
+    let mut i = 0;
+    while i < n {
+        let s1 = new_line(text, out, s, cfg, words::NOTHING, i);
+        let r2 = group(rec, s1);
+        let Answer::Done(s2) = r2 else {
+            return r2;
+        };
+        let r3 = dec(text, rec, kinds, starts, lens, out, left, s2, cfg);
+        let Answer::Done(s3) = r3 else {
+            return r3;
+        };
+        s = s3;
+        i += 1;
+    }
+    Answer::Done(s)
+}
+
+// The fields of one Dec.
+fn dec(
+    text: &[u8],
+    rec: &[u8],
+    kinds: &[u8],
+    starts: &[u16],
+    lens: &[u16],
+    out: &mut [u8],
+    left: &mut [u64; 64],
+    st: St,
+    cfg: Cfg,
+) -> Answer
+    requires { ⌜ cfg .depth + 2 * cfg .left + 0 ≤ 1000 ⌝ }
+    ensures { λ r. ⌜ Does (page (now (text .entry)) (now (rec .entry)) (now (kinds .entry)) (now (starts .entry)) (now (lens .entry))) cfg dec· (runOf st (now (out .entry)) (now (left .entry))) r (now (out .exit)) (now (left .exit)) ⌝ }
+{
+    let r1 = group(rec, st);
+    let Answer::Done(s1) = r1 else {
+        return r1;
+    };
+    let r2 = sqs(text, rec, kinds, starts, lens, out, left, s1, cfg);
+    let Answer::Done(s2) = r2 else {
+        return r2;
+    };
+    let r3 = sharing_tails(text, rec, starts, lens, out, s2, cfg);
+    let Answer::Done(s3) = r3 else {
+        return r3;
+    };
+    word_if(text, rec, starts, lens, out, s3, cfg, words::SEMICOLON)
+}
+
+// `dec_in_seqs`.
+fn sqs(
+    text: &[u8],
+    rec: &[u8],
+    kinds: &[u8],
+    starts: &[u16],
+    lens: &[u16],
+    out: &mut [u8],
+    left: &mut [u64; 64],
+    st: St,
+    cfg: Cfg,
+) -> Answer
+    requires { ⌜ cfg .depth + 2 * cfg .left + 0 ≤ 1000 ⌝ }
+    ensures { λ r. ⌜ Does (page (now (text .entry)) (now (rec .entry)) (now (kinds .entry)) (now (starts .entry)) (now (lens .entry))) cfg dec-in-seqs (runOf st (now (out .entry)) (now (left .entry))) r (now (out .exit)) (now (left .exit)) ⌝ }
+{
+    let Read::Is(n, s0) = list(rec, st) else {
+        return stop(st);
+    };
+    let mut s = s0;
+    let mut i = 0;
+    while i < n {
+        let s1 = new_line(text, out, s, cfg, words::NOTHING, i);
+        let r2 = sq(text, rec, kinds, starts, lens, out, left, s1, cfg);
+        let Answer::Done(s2) = r2 else {
+            return r2;
+        };
+        s = s2;
+        i += 1;
+    }
+    Answer::Done(s)
+}
+
+// An item of `dec_in_seqs`.
+fn sq(
+    text: &[u8],
+    rec: &[u8],
+    kinds: &[u8],
+    starts: &[u16],
+    lens: &[u16],
+    out: &mut [u8],
+    left: &mut [u64; 64],
+    st: St,
+    cfg: Cfg,
+) -> Answer
+    requires { ⌜ cfg .depth + 2 * cfg .left + 0 ≤ 1000 ⌝ }
+    ensures { λ r. ⌜ Does (page (now (text .entry)) (now (rec .entry)) (now (kinds .entry)) (now (starts .entry)) (now (lens .entry))) cfg dec-in-seq (runOf st (now (out .entry)) (now (left .entry))) r (now (out .exit)) (now (left .exit)) ⌝ }
+{
+    let r1 = group(rec, st);
+    let Answer::Done(s1) = r1 else {
+        return r1;
+    };
+    let calm = Cfg {
+        depth: cfg.depth,
+        tab: cfg.tab,
+        blank: false,
+        left: cfg.left,
+    };
+    let r2 = one(text, rec, kinds, starts, lens, out, left, s1, calm);
+    let Answer::Done(s2) = r2 else {
+        return r2;
+    };
+    word_if(text, rec, starts, lens, out, s2, cfg, words::SEMICOLON)
+}
+
+// `get_dec_one`: the comment above a declaration, then the declaration.
+fn one(
+    text: &[u8],
+    rec: &[u8],
+    kinds: &[u8],
+    starts: &[u16],
+    lens: &[u16],
+    out: &mut [u8],
+    left: &mut [u64; 64],
+    st: St,
+    cfg: Cfg,
+) -> Answer
+    requires { ⌜ cfg .depth + 2 * cfg .left + 0 ≤ 1000 ⌝ }
+    ensures { λ r. ⌜ Does (page (now (text .entry)) (now (rec .entry)) (now (kinds .entry)) (now (starts .entry)) (now (lens .entry))) cfg (λ ws c. ws .get-dec-one c) (runOf st (now (out .entry)) (now (left .entry))) r (now (out .exit)) (now (left .exit)) ⌝ }
+{
+    let forms_left = cfg.left;
+    if forms_left == 0 {
+        return stop(st);
+    }
+    let at = st.at;
+    let Declaration::Is {
+        number: k,
+        first: first,
+        next: next,
+    } = declaration_at(rec, at)
+    else {
+        return stop(st);
+    };
+    let s1 = moved(st, next);
+    let s2 = comment_above(text, kinds, starts, lens, out, left, s1, cfg, first);
+    let sub = Cfg {
+        depth: cfg.depth,
+        tab: cfg.tab,
+        blank: cfg.blank,
+        left: forms_left - 1,
+    };
+    num(text, rec, kinds, starts, lens, out, left, s2, sub, k, at)
+}
+
+// A declaration at an offset in the record, by its number.
+fn num(
+    text: &[u8],
+    rec: &[u8],
+    kinds: &[u8],
+    starts: &[u16],
+    lens: &[u16],
+    out: &mut [u8],
+    left: &mut [u64; 64],
+    st: St,
+    cfg: Cfg,
+    which: usize,
+    place: usize,
+) -> Answer
+    requires { ⌜ cfg .depth + 2 * cfg .left + 2 ≤ 1000 ⌝ }
+    ensures { λ r. ⌜ Does (page (now (text .entry)) (now (rec .entry)) (now (kinds .entry)) (now (starts .entry)) (now (lens .entry))) cfg (λ ws c. getD (decs· ws c place) which halt) (runOf st (now (out .entry)) (now (left .entry))) r (now (out .exit)) (now (left .exit)) ⌝ }
+{
+    match which {
+        0 => Answer::Done(word(text, out, st, cfg.tab, words::DOT_DOT_DOT)),
+        1 => vbs(text, rec, kinds, starts, lens, out, left, st, cfg),
+        2 => fbs(text, rec, kinds, starts, lens, out, left, st, cfg),
+        3 => ty_dec(text, rec, starts, lens, out, st, cfg),
+        4 => dat_dec(text, rec, starts, lens, out, st, cfg),
+        5 => dat_copy_dec(text, rec, starts, lens, out, st, cfg),
+        6 => abs(text, rec, kinds, starts, lens, out, left, st, cfg),
+        7 => ebs(text, rec, kinds, starts, lens, out, left, st, cfg),
+        8 => open_dec(text, rec, starts, lens, out, st, cfg),
+        9 => infix_dec(text, rec, starts, lens, out, st, cfg, words::INFIX),
+        10 => infix_dec(text, rec, starts, lens, out, st, cfg, words::INFIXR),
+        11 => nonfix_dec(text, rec, starts, lens, out, st, cfg),
+        12 => pre(
+            text,
+            rec,
+            kinds,
+            starts,
+            lens,
+            out,
+            left,
+            st,
+            cfg,
+            words::DO,
+        ),
+        13 => loc(text, rec, kinds, starts, lens, out, left, st, cfg),
+        14 => sbs(text, rec, kinds, starts, lens, out, left, st, cfg),
+        15 => gbs(text, rec, kinds, starts, lens, out, left, st, cfg),
+        16 => cbs(text, rec, kinds, starts, lens, out, left, st, cfg),
+        17 => exp(text, rec, kinds, starts, lens, out, left, st, cfg),
+        18 => ic(text, rec, kinds, starts, lens, out, left, st, cfg),
+        19 => Answer::Stopped(st, place, true),
+        _ => stop(st),
+    }
+}
+
+// `ValDec`.
+fn vbs(
+    text: &[u8],
+    rec: &[u8],
+    kinds: &[u8],
+    starts: &[u16],
+    lens: &[u16],
+    out: &mut [u8],
+    left: &mut [u64; 64],
+    st: St,
+    cfg: Cfg,
+) -> Answer
+    requires { ⌜ cfg .depth + 2 * cfg .left + 2 ≤ 1000 ⌝ }
+    ensures { λ r. ⌜ Does (page (now (text .entry)) (now (rec .entry)) (now (kinds .entry)) (now (starts .entry)) (now (lens .entry))) cfg ValDec (runOf st (now (out .entry)) (now (left .entry))) r (now (out .exit)) (now (left .exit)) ⌝ }
+{
+    let s1 = word(text, out, st, cfg.tab, words::VAL);
+    let Read::Is(n, s2) = list(rec, s1) else {
+        return stop(s1);
+    };
+    let mut s = s2;
+    let mut i = 0;
+    while i < n {
+        let s3 = new_line(text, out, s, cfg, words::AND, i);
+        let r4 = vb(text, rec, kinds, starts, lens, out, left, s3, cfg);
+        let Answer::Done(s4) = r4 else {
+            return r4;
+        };
+        s = s4;
+        i += 1;
+    }
+    Answer::Done(s)
+}
+
+// A binding of `ValDec`.
+fn vb(
+    text: &[u8],
+    rec: &[u8],
+    kinds: &[u8],
+    starts: &[u16],
+    lens: &[u16],
+    out: &mut [u8],
+    left: &mut [u64; 64],
+    st: St,
+    cfg: Cfg,
+) -> Answer
+    requires { ⌜ cfg .depth + 2 * cfg .left + 2 ≤ 1000 ⌝ }
+    ensures { λ r. ⌜ Does (page (now (text .entry)) (now (rec .entry)) (now (kinds .entry)) (now (starts .entry)) (now (lens .entry))) cfg val-bind (runOf st (now (out .entry)) (now (left .entry))) r (now (out .exit)) (now (left .exit)) ⌝ }
+{
+    let r1 = group(rec, st);
+    let Answer::Done(s1) = r1 else {
+        return r1;
+    };
+    let r2 = word_if(text, rec, starts, lens, out, s1, cfg, words::REC);
+    let Answer::Done(s2) = r2 else {
+        return r2;
+    };
+    let r3 = get_pat(text, rec, starts, lens, out, s2, cfg);
+    let Answer::Done(s3) = r3 else {
+        return r3;
+    };
+    eqb(text, rec, kinds, starts, lens, out, left, s3, cfg)
+}
+
+// `FunDec`.
+fn fbs(
+    text: &[u8],
+    rec: &[u8],
+    kinds: &[u8],
+    starts: &[u16],
+    lens: &[u16],
+    out: &mut [u8],
+    left: &mut [u64; 64],
+    st: St,
+    cfg: Cfg,
+) -> Answer
+    requires { ⌜ cfg .depth + 2 * cfg .left + 2 ≤ 1000 ⌝ }
+    ensures { λ r. ⌜ Does (page (now (text .entry)) (now (rec .entry)) (now (kinds .entry)) (now (starts .entry)) (now (lens .entry))) cfg FunDec (runOf st (now (out .entry)) (now (left .entry))) r (now (out .exit)) (now (left .exit)) ⌝ }
+{
+    let s1 = word(text, out, st, cfg.tab, words::FUN);
+    let r2 = ty_var_seq(text, rec, starts, lens, out, s1, cfg);
+    let Answer::Done(s2) = r2 else {
+        return r2;
+    };
+    let Read::Is(n, s3) = list(rec, s2) else {
+        return stop(s2);
+    };
+    let mut s = s3;
+    let mut i = 0;
+    while i < n {
+        let s4 = new_line(text, out, s, cfg, words::AND, i);
+        let r5 = fb(text, rec, kinds, starts, lens, out, left, s4, cfg);
+        let Answer::Done(s5) = r5 else {
+            return r5;
+        };
+        s = s5;
+        i += 1;
+    }
+    Answer::Done(s)
+}
+
+// A binding of `FunDec`: bars stand one deeper, bodies are laid out from the declaration's own depth.
+fn fb(
+    text: &[u8],
+    rec: &[u8],
+    kinds: &[u8],
+    starts: &[u16],
+    lens: &[u16],
+    out: &mut [u8],
+    left: &mut [u64; 64],
+    st: St,
+    cfg: Cfg,
+) -> Answer
+    requires { ⌜ cfg .depth + 2 * cfg .left + 2 ≤ 1000 ⌝ }
+    ensures { λ r. ⌜ Does (page (now (text .entry)) (now (rec .entry)) (now (kinds .entry)) (now (starts .entry)) (now (lens .entry))) cfg fun-bind (runOf st (now (out .entry)) (now (left .entry))) r (now (out .exit)) (now (left .exit)) ⌝ }
+{
+    let r1 = group(rec, st);
+    let Answer::Done(s1) = r1 else {
+        return r1;
+    };
+    let s2 = forms(s1, cfg);
+    let Read::Is(n, s3) = list(rec, s2) else {
+        return stop(s2);
+    };
+    let mut s = s3;
+    let mut i = 0;
+    while i < n {
+        let s4 = new_line_in(text, out, s, cfg, words::BAR, i);
+        let r5 = fc(text, rec, kinds, starts, lens, out, left, s4, cfg);
+        let Answer::Done(s5) = r5 else {
+            return r5;
+        };
+        s = s5;
+        i += 1;
+    }
+    Answer::Done(s)
+}
+
+// A case of `FunDec`.
+fn fc(
+    text: &[u8],
+    rec: &[u8],
+    kinds: &[u8],
+    starts: &[u16],
+    lens: &[u16],
+    out: &mut [u8],
+    left: &mut [u64; 64],
+    st: St,
+    cfg: Cfg,
+) -> Answer
+    requires { ⌜ cfg .depth + 2 * cfg .left + 2 ≤ 1000 ⌝ }
+    ensures { λ r. ⌜ Does (page (now (text .entry)) (now (rec .entry)) (now (kinds .entry)) (now (starts .entry)) (now (lens .entry))) cfg fun-bind-case (runOf st (now (out .entry)) (now (left .entry))) r (now (out .exit)) (now (left .exit)) ⌝ }
+{
+    let r1 = group(rec, st);
+    let Answer::Done(s1) = r1 else {
+        return r1;
+    };
+    let r2 = case_head(text, rec, starts, lens, out, s1, cfg);
+    let Answer::Done(s2) = r2 else {
+        return r2;
+    };
+    let r3 = case_pats(text, rec, starts, lens, out, s2, cfg);
+    let Answer::Done(s3) = r3 else {
+        return r3;
+    };
+    let r4 = ty_annotation(text, rec, starts, lens, out, s3, cfg);
+    let Answer::Done(s4) = r4 else {
+        return r4;
+    };
+    eqb(text, rec, kinds, starts, lens, out, left, s4, cfg)
+}
+
+// `AbstypeDec`.
+fn abs(
+    text: &[u8],
+    rec: &[u8],
+    kinds: &[u8],
+    starts: &[u16],
+    lens: &[u16],
+    out: &mut [u8],
+    left: &mut [u64; 64],
+    st: St,
+    cfg: Cfg,
+) -> Answer
+    requires { ⌜ cfg .depth + 2 * cfg .left + 2 ≤ 1000 ⌝ }
+    ensures { λ r. ⌜ Does (page (now (text .entry)) (now (rec .entry)) (now (kinds .entry)) (now (starts .entry)) (now (lens .entry))) cfg AbstypeDec (runOf st (now (out .entry)) (now (left .entry))) r (now (out .exit)) (now (left .exit)) ⌝ }
+{
+    let s1 = word(text, out, st, cfg.tab, words::ABSTYPE);
+    let r2 = dat_binds(text, rec, starts, lens, out, s1, cfg);
+    let Answer::Done(s2) = r2 else {
+        return r2;
+    };
+    let r3 = with_type(text, rec, starts, lens, out, s2, cfg);
+    let Answer::Done(s3) = r3 else {
+        return r3;
+    };
+    let s4 = word(text, out, s3, cfg.tab, words::WITH);
+    let r5 = decs(text, rec, kinds, starts, lens, out, left, s4, cfg);
+    let Answer::Done(s5) = r5 else {
+        return r5;
+    };
+    Answer::Done(word(text, out, s5, cfg.tab, words::WITH_END))
+}
+
+// `ExDec`.
+fn ebs(
+    text: &[u8],
+    rec: &[u8],
+    kinds: &[u8],
+    starts: &[u16],
+    lens: &[u16],
+    out: &mut [u8],
+    left: &mut [u64; 64],
+    st: St,
+    cfg: Cfg,
+) -> Answer
+    requires { ⌜ cfg .depth + 2 * cfg .left + 2 ≤ 1000 ⌝ }
+    ensures { λ r. ⌜ Does (page (now (text .entry)) (now (rec .entry)) (now (kinds .entry)) (now (starts .entry)) (now (lens .entry))) cfg ExDec (runOf st (now (out .entry)) (now (left .entry))) r (now (out .exit)) (now (left .exit)) ⌝ }
+{
+    let s1 = word(text, out, st, cfg.tab, words::EXCEPTION);
+    let Read::Is(n, s2) = list(rec, s1) else {
+        return stop(s1);
+    };
+    let mut s = s2;
+    let mut i = 0;
+    while i < n {
+        let s3 = new_line(text, out, s, cfg, words::AND, i);
+        let r4 = eb(text, rec, kinds, starts, lens, out, left, s3, cfg);
+        let Answer::Done(s4) = r4 else {
+            return r4;
+        };
+        s = s4;
+        i += 1;
+    }
+    Answer::Done(s)
+}
+
+// A binding of `ExDec`.
+fn eb(
+    text: &[u8],
+    rec: &[u8],
+    kinds: &[u8],
+    starts: &[u16],
+    lens: &[u16],
+    out: &mut [u8],
+    left: &mut [u64; 64],
+    st: St,
+    cfg: Cfg,
+) -> Answer
+    requires { ⌜ cfg .depth + 2 * cfg .left + 2 ≤ 1000 ⌝ }
+    ensures { λ r. ⌜ Does (page (now (text .entry)) (now (rec .entry)) (now (kinds .entry)) (now (starts .entry)) (now (lens .entry))) cfg ex-bind (runOf st (now (out .entry)) (now (left .entry))) r (now (out .exit)) (now (left .exit)) ⌝ }
+{
+    let r1 = group(rec, st);
+    let Answer::Done(s1) = r1 else {
+        return r1;
+    };
+    let r2 = text_of(text, rec, starts, lens, out, s1, cfg);
+    let Answer::Done(s2) = r2 else {
+        return r2;
+    };
+    if let Gone::Past(s3) = absent(rec, s2) {
+        return Answer::Done(s3);
+    }
+    let Read::Is(k, s4) = choice(rec, s2) else {
+        return stop(s2);
+    };
+    ei(text, rec, kinds, starts, lens, out, left, s4, cfg, k)
+}
+
+// What an exception is bound to, by its number.
+fn ei(
+    text: &[u8],
+    rec: &[u8],
+    kinds: &[u8],
+    starts: &[u16],
+    lens: &[u16],
+    out: &mut [u8],
+    left: &mut [u64; 64],
+    st: St,
+    cfg: Cfg,
+    which: usize,
+) -> Answer
+    requires { ⌜ cfg .depth + 2 * cfg .left + 2 ≤ 1000 ⌝ }
+    ensures { λ r. ⌜ Does (page (now (text .entry)) (now (rec .entry)) (now (kinds .entry)) (now (starts .entry)) (now (lens .entry))) cfg (λ ws c. ex-bind-inner ws c which) (runOf st (now (out .entry)) (now (left .entry))) r (now (out .exit)) (now (left .exit)) ⌝ }
+{
+    match which {
+        0 => ex_bind_of(text, rec, starts, lens, out, st, cfg),
+        1 => pre(
+            text,
+            rec,
+            kinds,
+            starts,
+            lens,
+            out,
+            left,
+            st,
+            cfg,
+            words::EQ_SPACED,
+        ),
+        _ => stop(st),
+    }
+}
+
+// `LocalDec`.
+fn loc(
+    text: &[u8],
+    rec: &[u8],
+    kinds: &[u8],
+    starts: &[u16],
+    lens: &[u16],
+    out: &mut [u8],
+    left: &mut [u64; 64],
+    st: St,
+    cfg: Cfg,
+) -> Answer
+    requires { ⌜ cfg .depth + 2 * cfg .left + 2 ≤ 1000 ⌝ }
+    ensures { λ r. ⌜ Does (page (now (text .entry)) (now (rec .entry)) (now (kinds .entry)) (now (starts .entry)) (now (lens .entry))) cfg LocalDec (runOf st (now (out .entry)) (now (left .entry))) r (now (out .exit)) (now (left .exit)) ⌝ }
+{
+    let s1 = word(text, out, st, cfg.tab, words::LOCAL);
+    let s2 = word(text, out, s1, cfg.tab, words::LINE_FEED);
+    let s3 = indent_deeper(out, s2, cfg);
+    let new = cfg.indented();
+    let r4 = ld(text, rec, kinds, starts, lens, out, left, s3, new);
+    let Answer::Done(s4) = r4 else {
+        return r4;
+    };
+    let s5 = line(text, out, s4, cfg);
+    let s6 = word(text, out, s5, cfg.tab, words::IN);
+    let s7 = indent_in(out, s6, cfg);
+    let r8 = ld(text, rec, kinds, starts, lens, out, left, s7, new);
+    let Answer::Done(s8) = r8 else {
+        return r8;
+    };
+    let s9 = line(text, out, s8, cfg);
+    Answer::Done(word(text, out, s9, cfg.tab, words::END))
+}
+
+// `local_dec_hd` or `local_dec_tl`: absent, it has no declarations.
+fn ld(
+    text: &[u8],
+    rec: &[u8],
+    kinds: &[u8],
+    starts: &[u16],
+    lens: &[u16],
+    out: &mut [u8],
+    left: &mut [u64; 64],
+    st: St,
+    cfg: Cfg,
+) -> Answer
+    requires { ⌜ cfg .depth + 2 * cfg .left + 0 ≤ 1000 ⌝ }
+    ensures { λ r. ⌜ Does (page (now (text .entry)) (now (rec .entry)) (now (kinds .entry)) (now (starts .entry)) (now (lens .entry))) cfg local-decs (runOf st (now (out .entry)) (now (left .entry))) r (now (out .exit)) (now (left .exit)) ⌝ }
+{
+    if let Gone::Past(s0) = absent(rec, st) {
+        return Answer::Done(s0);
+    }
+    let r1 = group(rec, st);
+    let Answer::Done(s1) = r1 else {
+        return r1;
+    };
+    decs(text, rec, kinds, starts, lens, out, left, s1, cfg)
+}
+
+// `StructureDec`.
+fn sbs(
+    text: &[u8],
+    rec: &[u8],
+    kinds: &[u8],
+    starts: &[u16],
+    lens: &[u16],
+    out: &mut [u8],
+    left: &mut [u64; 64],
+    st: St,
+    cfg: Cfg,
+) -> Answer
+    requires { ⌜ cfg .depth + 2 * cfg .left + 2 ≤ 1000 ⌝ }
+    ensures { λ r. ⌜ Does (page (now (text .entry)) (now (rec .entry)) (now (kinds .entry)) (now (starts .entry)) (now (lens .entry))) cfg StructureDec (runOf st (now (out .entry)) (now (left .entry))) r (now (out .exit)) (now (left .exit)) ⌝ }
+{
+    let s1 = word(text, out, st, cfg.tab, words::STRUCTURE);
+    let Read::Is(n, s2) = list(rec, s1) else {
+        return stop(s1);
+    };
+    let mut s = s2;
+    let mut i = 0;
+    while i < n {
+        let s3 = new_line(text, out, s, cfg, words::AND, i);
+        let r4 = sb(text, rec, kinds, starts, lens, out, left, s3, cfg);
+        let Answer::Done(s4) = r4 else {
+            return r4;
+        };
+        s = s4;
+        i += 1;
+    }
+    Answer::Done(s)
+}
+
+// A binding of `StructureDec`.
+fn sb(
+    text: &[u8],
+    rec: &[u8],
+    kinds: &[u8],
+    starts: &[u16],
+    lens: &[u16],
+    out: &mut [u8],
+    left: &mut [u64; 64],
+    st: St,
+    cfg: Cfg,
+) -> Answer
+    requires { ⌜ cfg .depth + 2 * cfg .left + 2 ≤ 1000 ⌝ }
+    ensures { λ r. ⌜ Does (page (now (text .entry)) (now (rec .entry)) (now (kinds .entry)) (now (starts .entry)) (now (lens .entry))) cfg str-bind (runOf st (now (out .entry)) (now (left .entry))) r (now (out .exit)) (now (left .exit)) ⌝ }
+{
+    let r1 = group(rec, st);
+    let Answer::Done(s1) = r1 else {
+        return r1;
+    };
+    let r2 = text_of(text, rec, starts, lens, out, s1, cfg);
+    let Answer::Done(s2) = r2 else {
+        return r2;
+    };
+    let r3 = asc(text, rec, kinds, starts, lens, out, left, s2, cfg);
+    let Answer::Done(s3) = r3 else {
+        return r3;
+    };
+    if let Gone::Past(s4) = absent(rec, s3) {
+        return Answer::Done(s4);
+    }
+    let r5 = group(rec, s3);
+    let Answer::Done(s5) = r5 else {
+        return r5;
+    };
+    let s6 = word(text, out, s5, cfg.tab, words::EQ_SPACED);
+    str(text, rec, kinds, starts, lens, out, left, s6, cfg)
+}
+
+// `SignatureDec`.
+fn gbs(
+    text: &[u8],
+    rec: &[u8],
+    kinds: &[u8],
+    starts: &[u16],
+    lens: &[u16],
+    out: &mut [u8],
+    left: &mut [u64; 64],
+    st: St,
+    cfg: Cfg,
+) -> Answer
+    requires { ⌜ cfg .depth + 2 * cfg .left + 2 ≤ 1000 ⌝ }
+    ensures { λ r. ⌜ Does (page (now (text .entry)) (now (rec .entry)) (now (kinds .entry)) (now (starts .entry)) (now (lens .entry))) cfg SignatureDec (runOf st (now (out .entry)) (now (left .entry))) r (now (out .exit)) (now (left .exit)) ⌝ }
+{
+    let s1 = word(text, out, st, cfg.tab, words::SIGNATURE);
+    let Read::Is(n, s2) = list(rec, s1) else {
+        return stop(s1);
+    };
+    let mut s = s2;
+    let mut i = 0;
+    while i < n {
+        let s3 = new_line(text, out, s, cfg, words::AND, i);
+        let r4 = group(rec, s3);
+        let Answer::Done(s4) = r4 else {
+            return r4;
+        };
+        let r5 = nm(
+            text,
+            rec,
+            kinds,
+            starts,
+            lens,
+            out,
+            left,
+            s4,
+            cfg,
+            words::EQ_SPACED,
+        );
+        let Answer::Done(s5) = r5 else {
+            return r5;
+        };
+        s = s5;
+        i += 1;
+    }
+    Answer::Done(s)
+}
+
+// A name and a signature, with a word between.
+fn nm(
+    text: &[u8],
+    rec: &[u8],
+    kinds: &[u8],
+    starts: &[u16],
+    lens: &[u16],
+    out: &mut [u8],
+    left: &mut [u64; 64],
+    st: St,
+    cfg: Cfg,
+    w: usize,
+) -> Answer
+    requires { ⌜ cfg .depth + 2 * cfg .left + 2 ≤ 1000 ⌝ }
+    ensures { λ r. ⌜ Does (page (now (text .entry)) (now (rec .entry)) (now (kinds .entry)) (now (starts .entry)) (now (lens .entry))) cfg (λ ws c. text· ⨾ word· (wordOf w) ⨾ ws .get-sig-exp c) (runOf st (now (out .entry)) (now (left .entry))) r (now (out .exit)) (now (left .exit)) ⌝ }
+{
+    let r1 = text_of(text, rec, starts, lens, out, st, cfg);
+    let Answer::Done(s1) = r1 else {
+        return r1;
+    };
+    let s2 = word(text, out, s1, cfg.tab, w);
+    sig(text, rec, kinds, starts, lens, out, left, s2, cfg)
+}
+
+// `FunctorDec`.
+fn cbs(
+    text: &[u8],
+    rec: &[u8],
+    kinds: &[u8],
+    starts: &[u16],
+    lens: &[u16],
+    out: &mut [u8],
+    left: &mut [u64; 64],
+    st: St,
+    cfg: Cfg,
+) -> Answer
+    requires { ⌜ cfg .depth + 2 * cfg .left + 2 ≤ 1000 ⌝ }
+    ensures { λ r. ⌜ Does (page (now (text .entry)) (now (rec .entry)) (now (kinds .entry)) (now (starts .entry)) (now (lens .entry))) cfg FunctorDec (runOf st (now (out .entry)) (now (left .entry))) r (now (out .exit)) (now (left .exit)) ⌝ }
+{
+    let s1 = word(text, out, st, cfg.tab, words::FUNCTOR);
+    let Read::Is(n, s2) = list(rec, s1) else {
+        return stop(s1);
+    };
+    let mut s = s2;
+    let mut i = 0;
+    while i < n {
+        let s3 = new_line(text, out, s, cfg, words::AND, i);
+        let r4 = cb(text, rec, kinds, starts, lens, out, left, s3, cfg);
+        let Answer::Done(s4) = r4 else {
+            return r4;
+        };
+        s = s4;
+        i += 1;
+    }
+    Answer::Done(s)
+}
+
+// A binding of `FunctorDec`.
+fn cb(
+    text: &[u8],
+    rec: &[u8],
+    kinds: &[u8],
+    starts: &[u16],
+    lens: &[u16],
+    out: &mut [u8],
+    left: &mut [u64; 64],
+    st: St,
+    cfg: Cfg,
+) -> Answer
+    requires { ⌜ cfg .depth + 2 * cfg .left + 2 ≤ 1000 ⌝ }
+    ensures { λ r. ⌜ Does (page (now (text .entry)) (now (rec .entry)) (now (kinds .entry)) (now (starts .entry)) (now (lens .entry))) cfg functor-bind (runOf st (now (out .entry)) (now (left .entry))) r (now (out .exit)) (now (left .exit)) ⌝ }
+{
+    let r1 = group(rec, st);
+    let Answer::Done(s1) = r1 else {
+        return r1;
+    };
+    let r2 = text_of(text, rec, starts, lens, out, s1, cfg);
+    let Answer::Done(s2) = r2 else {
+        return r2;
+    };
+    let s3 = word(text, out, s2, cfg.tab, words::ARGS);
+    let r4 = fas(text, rec, kinds, starts, lens, out, left, s3, cfg);
+    let Answer::Done(s4) = r4 else {
+        return r4;
+    };
+    let s5 = word(text, out, s4, cfg.tab, words::R_ROUND);
+    let r6 = asc(text, rec, kinds, starts, lens, out, left, s5, cfg);
+    let Answer::Done(s6) = r6 else {
+        return r6;
+    };
+    let s7 = word(text, out, s6, cfg.tab, words::EQ_SPACED);
+    str(text, rec, kinds, starts, lens, out, left, s7, cfg)
+}
+
+// The arguments of a functor.
+fn fas(
+    text: &[u8],
+    rec: &[u8],
+    kinds: &[u8],
+    starts: &[u16],
+    lens: &[u16],
+    out: &mut [u8],
+    left: &mut [u64; 64],
+    st: St,
+    cfg: Cfg,
+) -> Answer
+    requires { ⌜ cfg .depth + 2 * cfg .left + 2 ≤ 1000 ⌝ }
+    ensures { λ r. ⌜ Does (page (now (text .entry)) (now (rec .entry)) (now (kinds .entry)) (now (starts .entry)) (now (lens .entry))) cfg functor-args (runOf st (now (out .entry)) (now (left .entry))) r (now (out .exit)) (now (left .exit)) ⌝ }
+{
+    let Read::Is(n, s0) = list(rec, st) else {
+        return stop(st);
+    };
+    let mut s = s0;
+    let mut i = 0;
+    while i < n {
+        let Read::Is(k, s1) = choice(rec, s) else {
+            return stop(s);
+        };
+        let r2 = fa(text, rec, kinds, starts, lens, out, left, s1, cfg, k);
+        let Answer::Done(s2) = r2 else {
+            return r2;
+        };
+        s = s2;
+        i += 1;
+    }
+    Answer::Done(s)
+}
+
+// An argument of a functor, by its number.
+fn fa(
+    text: &[u8],
+    rec: &[u8],
+    kinds: &[u8],
+    starts: &[u16],
+    lens: &[u16],
+    out: &mut [u8],
+    left: &mut [u64; 64],
+    st: St,
+    cfg: Cfg,
+    which: usize,
+) -> Answer
+    requires { ⌜ cfg .depth + 2 * cfg .left + 2 ≤ 1000 ⌝ }
+    ensures { λ r. ⌜ Does (page (now (text .entry)) (now (rec .entry)) (now (kinds .entry)) (now (starts .entry)) (now (lens .entry))) cfg (λ ws c. functor-arg ws c which) (runOf st (now (out .entry)) (now (left .entry))) r (now (out .exit)) (now (left .exit)) ⌝ }
+{
+    match which {
+        0 => nm(
+            text,
+            rec,
+            kinds,
+            starts,
+            lens,
+            out,
+            left,
+            st,
+            cfg,
+            words::COLON,
+        ),
+        1 => da(text, rec, kinds, starts, lens, out, left, st, cfg),
+        _ => stop(st),
+    }
+}
+
+// `IncludeDec`.
+fn ic(
+    text: &[u8],
+    rec: &[u8],
+    kinds: &[u8],
+    starts: &[u16],
+    lens: &[u16],
+    out: &mut [u8],
+    left: &mut [u64; 64],
+    st: St,
+    cfg: Cfg,
+) -> Answer
+    requires { ⌜ cfg .depth + 2 * cfg .left + 2 ≤ 1000 ⌝ }
+    ensures { λ r. ⌜ Does (page (now (text .entry)) (now (rec .entry)) (now (kinds .entry)) (now (starts .entry)) (now (lens .entry))) cfg IncludeDec (runOf st (now (out .entry)) (now (left .entry))) r (now (out .exit)) (now (left .exit)) ⌝ }
+{
+    let s1 = word(text, out, st, cfg.tab, words::INCLUDE);
+    let Read::Is(n, s2) = list(rec, s1) else {
+        return stop(s1);
+    };
+    let mut s = s2;
+    let mut i = 0;
+    while i < n {
+        let s3 = between(text, out, s, cfg.tab, words::SPACE, i);
+        let r4 = sig(text, rec, kinds, starts, lens, out, left, s3, cfg);
+        let Answer::Done(s4) = r4 else {
+            return r4;
+        };
+        s = s4;
+        i += 1;
+    }
+    Answer::Done(s)
+}
+
+// A Dec that is an argument of a functor or of its application.
+fn da(
+    text: &[u8],
+    rec: &[u8],
+    kinds: &[u8],
+    starts: &[u16],
+    lens: &[u16],
+    out: &mut [u8],
+    left: &mut [u64; 64],
+    st: St,
+    cfg: Cfg,
+) -> Answer
+    requires { ⌜ cfg .depth + 2 * cfg .left + 2 ≤ 1000 ⌝ }
+    ensures { λ r. ⌜ Does (page (now (text .entry)) (now (rec .entry)) (now (kinds .entry)) (now (starts .entry)) (now (lens .entry))) cfg dec-arg (runOf st (now (out .entry)) (now (left .entry))) r (now (out .exit)) (now (left .exit)) ⌝ }
+{
+    let s1 = word(text, out, st, cfg.tab, words::LINE_FEED);
+    let s2 = indent_deeper(out, s1, cfg);
+    let new = cfg.indented();
+    let r3 = dec(text, rec, kinds, starts, lens, out, left, s2, new);
+    let Answer::Done(s3) = r3 else {
+        return r3;
+    };
+    Answer::Done(word(text, out, s3, cfg.tab, words::LINE_FEED))
+}
+
+// ---- structures
+// `get_str_exp`.
+fn str(
+    text: &[u8],
+    rec: &[u8],
+    kinds: &[u8],
+    starts: &[u16],
+    lens: &[u16],
+    out: &mut [u8],
+    left: &mut [u64; 64],
+    st: St,
+    cfg: Cfg,
+) -> Answer
+    requires { ⌜ cfg .depth + 2 * cfg .left + 0 ≤ 1000 ⌝ }
+    ensures { λ r. ⌜ Does (page (now (text .entry)) (now (rec .entry)) (now (kinds .entry)) (now (starts .entry)) (now (lens .entry))) cfg (λ ws c. ws .get-str-exp c) (runOf st (now (out .entry)) (now (left .entry))) r (now (out .exit)) (now (left .exit)) ⌝ }
+{
+    let forms_left = cfg.left;
+    if forms_left == 0 {
+        return stop(st);
+    }
+    let Read::Is(k, s) = form(rec, st, Family::StrExp) else {
+        return stop(st);
+    };
+    let sub = Cfg {
+        depth: cfg.depth,
+        tab: cfg.tab,
+        blank: cfg.blank,
+        left: forms_left - 1,
+    };
+    match k {
+        0 => sct(text, rec, kinds, starts, lens, out, left, s, sub),
+        1 => path(text, rec, starts, lens, out, s, cfg),
+        2 => asn(text, rec, kinds, starts, lens, out, left, s, sub),
+        3 => ap(text, rec, kinds, starts, lens, out, left, s, sub),
+        4 => sl(text, rec, kinds, starts, lens, out, left, s, sub),
+        _ => stop(s),
+    }
+}
+
+// `StructStrExp`.
+fn sct(
+    text: &[u8],
+    rec: &[u8],
+    kinds: &[u8],
+    starts: &[u16],
+    lens: &[u16],
+    out: &mut [u8],
+    left: &mut [u64; 64],
+    st: St,
+    cfg: Cfg,
+) -> Answer
+    requires { ⌜ cfg .depth + 2 * cfg .left + 2 ≤ 1000 ⌝ }
+    ensures { λ r. ⌜ Does (page (now (text .entry)) (now (rec .entry)) (now (kinds .entry)) (now (starts .entry)) (now (lens .entry))) cfg StructStrExp (runOf st (now (out .entry)) (now (left .entry))) r (now (out .exit)) (now (left .exit)) ⌝ }
+{
+    let s1 = word(text, out, st, cfg.tab, words::STRUCT);
+    let s2 = indent_deeper(out, s1, cfg);
+    let wide = Cfg {
+        depth: cfg.depth,
+        tab: cfg.tab,
+        blank: true,
+        left: cfg.left,
+    };
+    let new = wide.indented();
+    let r3 = decs(text, rec, kinds, starts, lens, out, left, s2, new);
+    let Answer::Done(s3) = r3 else {
+        return r3;
+    };
+    let s4 = line(text, out, s3, cfg);
+    Answer::Done(word(text, out, s4, cfg.tab, words::END))
+}
+
+// `AscriptionStrExp`.
+fn asn(
+    text: &[u8],
+    rec: &[u8],
+    kinds: &[u8],
+    starts: &[u16],
+    lens: &[u16],
+    out: &mut [u8],
+    left: &mut [u64; 64],
+    st: St,
+    cfg: Cfg,
+) -> Answer
+    requires { ⌜ cfg .depth + 2 * cfg .left + 2 ≤ 1000 ⌝ }
+    ensures { λ r. ⌜ Does (page (now (text .entry)) (now (rec .entry)) (now (kinds .entry)) (now (starts .entry)) (now (lens .entry))) cfg AscriptionStrExp (runOf st (now (out .entry)) (now (left .entry))) r (now (out .exit)) (now (left .exit)) ⌝ }
+{
+    let r1 = str(text, rec, kinds, starts, lens, out, left, st, cfg);
+    let Answer::Done(s1) = r1 else {
+        return r1;
+    };
+    ast(text, rec, kinds, starts, lens, out, left, s1, cfg)
+}
+
+// An ascription.
+fn ast(
+    text: &[u8],
+    rec: &[u8],
+    kinds: &[u8],
+    starts: &[u16],
+    lens: &[u16],
+    out: &mut [u8],
+    left: &mut [u64; 64],
+    st: St,
+    cfg: Cfg,
+) -> Answer
+    requires { ⌜ cfg .depth + 2 * cfg .left + 2 ≤ 1000 ⌝ }
+    ensures { λ r. ⌜ Does (page (now (text .entry)) (now (rec .entry)) (now (kinds .entry)) (now (starts .entry)) (now (lens .entry))) cfg ascription-tail (runOf st (now (out .entry)) (now (left .entry))) r (now (out .exit)) (now (left .exit)) ⌝ }
+{
+    let r1 = group(rec, st);
+    let Answer::Done(s1) = r1 else {
+        return r1;
+    };
+    let s2 = word(text, out, s1, cfg.tab, words::SPACE);
+    let r3 = text_of(text, rec, starts, lens, out, s2, cfg);
+    let Answer::Done(s3) = r3 else {
+        return r3;
+    };
+    let s4 = word(text, out, s3, cfg.tab, words::SPACE);
+    sig(text, rec, kinds, starts, lens, out, left, s4, cfg)
+}
+
+// An ascription, where there is one.
+fn asc(
+    text: &[u8],
+    rec: &[u8],
+    kinds: &[u8],
+    starts: &[u16],
+    lens: &[u16],
+    out: &mut [u8],
+    left: &mut [u64; 64],
+    st: St,
+    cfg: Cfg,
+) -> Answer
+    requires { ⌜ cfg .depth + 2 * cfg .left + 2 ≤ 1000 ⌝ }
+    ensures { λ r. ⌜ Does (page (now (text .entry)) (now (rec .entry)) (now (kinds .entry)) (now (starts .entry)) (now (lens .entry))) cfg (λ ws c. maybe (ascription-tail ws c)) (runOf st (now (out .entry)) (now (left .entry))) r (now (out .exit)) (now (left .exit)) ⌝ }
+{
+    if let Gone::Past(s0) = absent(rec, st) {
+        return Answer::Done(s0);
+    }
+    ast(text, rec, kinds, starts, lens, out, left, st, cfg)
+}
+
+// `AppStrExp`: the closing parenthesis is indented where an argument was a Dec.
+fn ap(
+    text: &[u8],
+    rec: &[u8],
+    kinds: &[u8],
+    starts: &[u16],
+    lens: &[u16],
+    out: &mut [u8],
+    left: &mut [u64; 64],
+    st: St,
+    cfg: Cfg,
+) -> Answer
+    requires { ⌜ cfg .depth + 2 * cfg .left + 2 ≤ 1000 ⌝ }
+    ensures { λ r. ⌜ Does (page (now (text .entry)) (now (rec .entry)) (now (kinds .entry)) (now (starts .entry)) (now (lens .entry))) cfg AppStrExp (runOf st (now (out .entry)) (now (left .entry))) r (now (out .exit)) (now (left .exit)) ⌝ }
+{
+    let r1 = text_of(text, rec, starts, lens, out, st, cfg);
+    let Answer::Done(s1) = r1 else {
+        return r1;
+    };
+    let s2 = word(text, out, s1, cfg.tab, words::ARGS);
+    let Read::Is(n, s3) = list(rec, s2) else {
+        return stop(s2);
+    };
+    let mut s = s3;
+    let mut needs = false;
+    let mut i = 0;
+    while i < n {
+        let Read::Is(k, s4) = choice(rec, s) else {
+            return stop(s);
+        };
+        let r5 = sa(text, rec, kinds, starts, lens, out, left, s4, cfg, k);
+        let Answer::Done(s5) = r5 else {
+            return r5;
+        };
+        needs = later_needs(needs, k);
+        s = s5;
+        i += 1;
+    }
+    Answer::Done(app_end(text, out, s, cfg, needs))
+}
+
+// An argument of `AppStrExp`, by its number.
+fn sa(
+    text: &[u8],
+    rec: &[u8],
+    kinds: &[u8],
+    starts: &[u16],
+    lens: &[u16],
+    out: &mut [u8],
+    left: &mut [u64; 64],
+    st: St,
+    cfg: Cfg,
+    which: usize,
+) -> Answer
+    requires { ⌜ cfg .depth + 2 * cfg .left + 2 ≤ 1000 ⌝ }
+    ensures { λ r. ⌜ Does (page (now (text .entry)) (now (rec .entry)) (now (kinds .entry)) (now (starts .entry)) (now (lens .entry))) cfg (λ ws c. app-arg ws c which) (runOf st (now (out .entry)) (now (left .entry))) r (now (out .exit)) (now (left .exit)) ⌝ }
+{
+    match which {
+        0 => str(text, rec, kinds, starts, lens, out, left, st, cfg),
+        1 => da(text, rec, kinds, starts, lens, out, left, st, cfg),
+        _ => stop(st),
+    }
+}
+
+// `LetStrExp`.
+fn sl(
+    text: &[u8],
+    rec: &[u8],
+    kinds: &[u8],
+    starts: &[u16],
+    lens: &[u16],
+    out: &mut [u8],
+    left: &mut [u64; 64],
+    st: St,
+    cfg: Cfg,
+) -> Answer
+    requires { ⌜ cfg .depth + 2 * cfg .left + 2 ≤ 1000 ⌝ }
+    ensures { λ r. ⌜ Does (page (now (text .entry)) (now (rec .entry)) (now (kinds .entry)) (now (starts .entry)) (now (lens .entry))) cfg LetStrExp (runOf st (now (out .entry)) (now (left .entry))) r (now (out .exit)) (now (left .exit)) ⌝ }
+{
+    let s1 = word(text, out, st, cfg.tab, words::LET);
+    let s2 = word(text, out, s1, cfg.tab, words::LINE_FEED);
+    let s3 = indent_deeper(out, s2, cfg);
+    let new = cfg.indented();
+    let r4 = decs(text, rec, kinds, starts, lens, out, left, s3, new);
+    let Answer::Done(s4) = r4 else {
+        return r4;
+    };
+    let s5 = line(text, out, s4, cfg);
+    let s6 = word(text, out, s5, cfg.tab, words::IN);
+    let s7 = indent_in(out, s6, cfg);
+    let r8 = str(text, rec, kinds, starts, lens, out, left, s7, new);
+    let Answer::Done(s8) = r8 else {
+        return r8;
+    };
+    let s9 = line(text, out, s8, cfg);
+    Answer::Done(word(text, out, s9, cfg.tab, words::END))
+}
+
+// ---- signatures
+// `get_sig_exp`.
+fn sig(
+    text: &[u8],
+    rec: &[u8],
+    kinds: &[u8],
+    starts: &[u16],
+    lens: &[u16],
+    out: &mut [u8],
+    left: &mut [u64; 64],
+    st: St,
+    cfg: Cfg,
+) -> Answer
+    requires { ⌜ cfg .depth + 2 * cfg .left + 0 ≤ 1000 ⌝ }
+    ensures { λ r. ⌜ Does (page (now (text .entry)) (now (rec .entry)) (now (kinds .entry)) (now (starts .entry)) (now (lens .entry))) cfg (λ ws c. ws .get-sig-exp c) (runOf st (now (out .entry)) (now (left .entry))) r (now (out .exit)) (now (left .exit)) ⌝ }
+{
+    let forms_left = cfg.left;
+    if forms_left == 0 {
+        return stop(st);
+    }
+    let Read::Is(k, s) = form(rec, st, Family::SigExp) else {
+        return stop(st);
+    };
+    let sub = Cfg {
+        depth: cfg.depth,
+        tab: cfg.tab,
+        blank: cfg.blank,
+        left: forms_left - 1,
+    };
+    match k {
+        0 => sg(text, rec, kinds, starts, lens, out, left, s, sub),
+        1 => text_of(text, rec, starts, lens, out, s, cfg),
+        2 => wty(text, rec, kinds, starts, lens, out, left, s, sub),
+        3 => whr(text, rec, kinds, starts, lens, out, left, s, sub),
+        _ => stop(s),
+    }
+}
+
+// `SigSigExp`.
+fn sg(
+    text: &[u8],
+    rec: &[u8],
+    kinds: &[u8],
+    starts: &[u16],
+    lens: &[u16],
+    out: &mut [u8],
+    left: &mut [u64; 64],
+    st: St,
+    cfg: Cfg,
+) -> Answer
+    requires { ⌜ cfg .depth + 2 * cfg .left + 2 ≤ 1000 ⌝ }
+    ensures { λ r. ⌜ Does (page (now (text .entry)) (now (rec .entry)) (now (kinds .entry)) (now (starts .entry)) (now (lens .entry))) cfg SigSigExp (runOf st (now (out .entry)) (now (left .entry))) r (now (out .exit)) (now (left .exit)) ⌝ }
+{
+    let s1 = word(text, out, st, cfg.tab, words::SIG);
+    let s2 = indent_deeper(out, s1, cfg);
+    let new = cfg.indented();
+    let r3 = decs(text, rec, kinds, starts, lens, out, left, s2, new);
+    let Answer::Done(s3) = r3 else {
+        return r3;
+    };
+    let s4 = line(text, out, s3, cfg);
+    Answer::Done(word(text, out, s4, cfg.tab, words::END))
+}
+
+// `WhereTypeSigExp`.
+fn wty(
+    text: &[u8],
+    rec: &[u8],
+    kinds: &[u8],
+    starts: &[u16],
+    lens: &[u16],
+    out: &mut [u8],
+    left: &mut [u64; 64],
+    st: St,
+    cfg: Cfg,
+) -> Answer
+    requires { ⌜ cfg .depth + 2 * cfg .left + 2 ≤ 1000 ⌝ }
+    ensures { λ r. ⌜ Does (page (now (text .entry)) (now (rec .entry)) (now (kinds .entry)) (now (starts .entry)) (now (lens .entry))) cfg WhereTypeSigExp (runOf st (now (out .entry)) (now (left .entry))) r (now (out .exit)) (now (left .exit)) ⌝ }
+{
+    let r1 = sig(text, rec, kinds, starts, lens, out, left, st, cfg);
+    let Answer::Done(s1) = r1 else {
+        return r1;
+    };
+    let s2 = word(text, out, s1, cfg.tab, words::WHERE_TYPE);
+    let r3 = ty_var_seq(text, rec, starts, lens, out, s2, cfg);
+    let Answer::Done(s3) = r3 else {
+        return r3;
+    };
+    let r4 = path(text, rec, starts, lens, out, s3, cfg);
+    let Answer::Done(s4) = r4 else {
+        return r4;
+    };
+    let s5 = word(text, out, s4, cfg.tab, words::EQ_SPACED);
+    get_ty(text, rec, starts, lens, out, s5, cfg)
+}
+
+// `WhereSigExp`.
+fn whr(
+    text: &[u8],
+    rec: &[u8],
+    kinds: &[u8],
+    starts: &[u16],
+    lens: &[u16],
+    out: &mut [u8],
+    left: &mut [u64; 64],
+    st: St,
+    cfg: Cfg,
+) -> Answer
+    requires { ⌜ cfg .depth + 2 * cfg .left + 2 ≤ 1000 ⌝ }
+    ensures { λ r. ⌜ Does (page (now (text .entry)) (now (rec .entry)) (now (kinds .entry)) (now (starts .entry)) (now (lens .entry))) cfg WhereSigExp (runOf st (now (out .entry)) (now (left .entry))) r (now (out .exit)) (now (left .exit)) ⌝ }
+{
+    let r1 = sig(text, rec, kinds, starts, lens, out, left, st, cfg);
+    let Answer::Done(s1) = r1 else {
+        return r1;
+    };
+    let s2 = word(text, out, s1, cfg.tab, words::WHERE);
+    let r3 = path(text, rec, starts, lens, out, s2, cfg);
+    let Answer::Done(s3) = r3 else {
+        return r3;
+    };
+    let s4 = word(text, out, s3, cfg.tab, words::EQ_SPACED);
+    path(text, rec, starts, lens, out, s4, cfg)
+}
+
+// ---- the walk over a sheet
+// `get_dec` of `root.decs()`, which stands at an offset in the record.
+pub fn walk(
+    text: &[u8],
+    rec: &[u8],
+    kinds: &[u8],
+    starts: &[u16],
+    lens: &[u16],
+    out: &mut [u8],
+    left: &mut [u64; 64],
+    tree: usize,
+    tab: u32,
+) -> Answer
+    ensures { λ r. ⌜ Walked (page (now (text .entry)) (now (rec .entry)) (now (kinds .entry)) (now (starts .entry)) (now (lens .entry))) tab (get-dec (walks maxForms) top) (runOf (record { at = tree; deepest = 0; letters = 0; units = 0 }) (now (out .entry)) (now (left .entry))) r (now (out .exit)) (now (left .exit)) ⌝ }
+{
+    let st = St {
+        at: tree,
+        deepest: 0,
+        letters: 0,
+        units: 0,
+    };
+    let cfg = Cfg {
+        depth: 0,
+        tab: tab,
+        blank: true,
+        left: 200,
+    };
+    decs(text, rec, kinds, starts, lens, out, left, st, cfg)
+}
