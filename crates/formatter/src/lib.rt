@@ -1,8 +1,16 @@
 // The public calls `check`, `get` and the lookup `comment_above` (document 01, module 6).
 use comments::Above;
+use comments::First;
+use comments::Set;
+use layout::entry;
 use reader::Reading;
 ghost use mathlib.Core.Path.{_≡_};
+ghost use Prim.Native.Nat.{_*_, _≤_};
+ghost use lib.ListN.{length};
+ghost use Rattle.layout.specs.State.{page};
 ghost use Rattle.formatter.specs.Lookup.{Asks, lookedOf, lookup};
+ghost use Rattle.formatter.specs.Verdict.{emptySet, verdictOf, check as check·, get as get·};
+ghost use Rattle.formatter.specs.Judging.{Weighs, Weight, Puts};
 
 // Deepest, letters and units of a walk (document 01, module 5).
 pub struct Measures {
@@ -58,6 +66,183 @@ pub enum Asked {
     Declined(Lookup),
 }
 
+// What the walk over a sheet decides.
+pub enum Judged {
+    Accepted(Measures),
+    Declined(Answer),
+}
+
+// ---- check and get
+const MAX_WIDTH: u64 = 0xFFFF_FFFF;
+
+// 5, then 6, of a sheet that passes 1 to 4: the walk over an empty output. The words become those of the comments left.
+fn weigh(
+    text: &[u8],
+    rec: &[u8],
+    kinds: &[u8],
+    starts: &[u16],
+    lens: &[u16],
+    left: &mut [u64; 64],
+    tree: usize,
+) -> Judged
+    requires { ⌜ (length (now text) ≤ 32768) × (length (now rec) ≤ 65536) × (length (now kinds) ≤ 4096) ⌝ }
+    ensures { λ r. ⌜ Weighs (page (now (text .entry)) (now (rec .entry)) (now (kinds .entry)) (now (starts .entry)) (now (lens .entry))) tree (now (left .exit)) r ⌝ }
+{
+    let all = Set::all(kinds);
+    let words = all.words;
+    *left = words;
+    let mut none = [0u8; 1];
+    let walked = walk::walk(
+        text,
+        rec,
+        kinds,
+        starts,
+        lens,
+        &mut none[..0],
+        left,
+        tree,
+        0,
+    );
+    let layout::Answer::Done(s) = walked else {
+        *left = [0u64; 64];
+        return Judged::Declined(Answer::Syntax);
+    };
+    let unwritten = *left;
+    let set = Set { words: unwritten };
+    if set.is_empty() {
+        return Judged::Accepted(Measures {
+            deepest: s.deepest,
+            letters: s.letters,
+            units: s.units,
+        });
+    }
+    let First::At(k) = set.first() else {
+        return Judged::Declined(Answer::Comments(0));
+    };
+    Judged::Declined(Answer::Comments(entry(starts, k)))
+}
+
+// A refusal of 1 to 4, whose set is empty.
+fn refused(left: &mut [u64; 64], answer: Answer) -> Answer
+    ensures { λ r. ⌜ (r ≡ answer) × (now (left .exit) ≡ emptySet) ⌝ }
+{
+    *left = [0u64; 64];
+    answer
+}
+
+// Whether the sheet can be formatted. The words become those of the comments left, which are none but for 6.
+pub fn check(text: &[u8], rec: &[u8], left: &mut [u64; 64]) -> Answer
+    ensures { λ r. ⌜ verdictOf r (now (left .exit)) ≡ check· (now (text .entry)) (now (rec .entry)) ⌝ }
+{
+    let mut kinds = [0u8; 4096];
+    let mut starts = [0u16; 4096];
+    let mut lens = [0u16; 4096];
+    let reading = reader::check(text, rec, &mut kinds, &mut starts, &mut lens);
+    match reading {
+        Reading::Sheet { count, tree } => {
+            let judged = weigh(
+                text,
+                rec,
+                &kinds[..count],
+                &starts[..count],
+                &lens[..count],
+                left,
+                tree,
+            );
+            match judged {
+                Judged::Accepted(measures) => Answer::Accepted(measures),
+                Judged::Declined(answer) => answer,
+            }
+        }
+        Reading::TooLong => refused(left, Answer::TooLong),
+        Reading::NotAscii(place) => refused(left, Answer::NotAscii(place)),
+        Reading::Malformed(place) => refused(left, Answer::Malformed(place)),
+        Reading::TooDeep(place) => refused(left, Answer::TooDeep(place)),
+    }
+}
+
+// A measure times the tab size.
+fn scaled(n: u64, tab: u32) -> u64
+    requires { ⌜ n ≤ 0x4000_0000 ⌝ }
+    ensures { λ r. ⌜ (r ≡ n * tab) × (r ≤ 0x3FFF_FFFF_C000_0000) ⌝ }
+{
+    n * (tab as u64)
+}
+
+// 7, then 8; or the formatted text in the output's first bytes.
+fn put(
+    text: &[u8],
+    rec: &[u8],
+    kinds: &[u8],
+    starts: &[u16],
+    lens: &[u16],
+    out: &mut [u8],
+    tree: usize,
+    tab: u32,
+    measures: Measures,
+) -> Answer
+    requires { ⌜ Weight (page (now text) (now rec) (now kinds) (now starts) (now lens)) tree measures ⌝ }
+    ensures { λ r. ⌜ Puts (page (now (text .entry)) (now (rec .entry)) (now (kinds .entry)) (now (starts .entry)) (now (lens .entry))) tree tab (now (out .entry)) r (now (out .exit)) ⌝ }
+{
+    let deepest = measures.deepest;
+    let letters = measures.letters;
+    let units = measures.units;
+    let width = scaled(deepest, tab);
+    if MAX_WIDTH < width {
+        return Answer::TooWide(measures);
+    }
+    let spaces = scaled(units, tab);
+    let size = letters + spaces;
+    if (out.len() as u64) < size {
+        return Answer::NoRoom(measures);
+    }
+    let mut spent = [0u64; 64];
+    let _walked = walk::walk(text, rec, kinds, starts, lens, out, &mut spent, tree, tab);
+    Answer::Accepted(measures)
+}
+
+// Formats the sheet at a tab size into the output's first bytes. Unless the answer is `Accepted`, the output is as it was.
+pub fn get(text: &[u8], rec: &[u8], tab: u32, out: &mut [u8], left: &mut [u64; 64]) -> Answer
+    ensures { λ r. ⌜ record { verdict = verdictOf r (now (left .exit)); out = now (out .exit) } ≡ get· (now (text .entry)) (now (rec .entry)) tab (now (out .entry)) ⌝ }
+{
+    let mut kinds = [0u8; 4096];
+    let mut starts = [0u16; 4096];
+    let mut lens = [0u16; 4096];
+    let reading = reader::check(text, rec, &mut kinds, &mut starts, &mut lens);
+    match reading {
+        Reading::Sheet { count, tree } => {
+            let judged = weigh(
+                text,
+                rec,
+                &kinds[..count],
+                &starts[..count],
+                &lens[..count],
+                left,
+                tree,
+            );
+            match judged {
+                Judged::Accepted(measures) => put(
+                    text,
+                    rec,
+                    &kinds[..count],
+                    &starts[..count],
+                    &lens[..count],
+                    out,
+                    tree,
+                    tab,
+                    measures,
+                ),
+                Judged::Declined(answer) => answer,
+            }
+        }
+        Reading::TooLong => refused(left, Answer::TooLong),
+        Reading::NotAscii(place) => refused(left, Answer::NotAscii(place)),
+        Reading::Malformed(place) => refused(left, Answer::Malformed(place)),
+        Reading::TooDeep(place) => refused(left, Answer::TooDeep(place)),
+    }
+}
+
+// ---- lookups
 // Refusals 1 to 4, then 9; or the tokens.
 pub fn ask(
     text: &[u8],

@@ -128,7 +128,7 @@ pub below-cap : {p : Page} {es : List Event} → Small p es → (letters p es < 
 below-cap s = (omega (arith, s .both), omega (arith, s .both))
 
 -- ---- a sheet that passes 1 to 4
-sheet-lengths : (text rec : List ℕ) (tokens : Tokens) (tree : ℕ) → read text rec ≡ sheet tokens tree → (length text ≤ 32768) × (length rec ≤ 65536)
+pub sheet-lengths : (text rec : List ℕ) (tokens : Tokens) (tree : ℕ) → read text rec ≡ sheet tokens tree → (length text ≤ 32768) × (length rec ≤ 65536)
 unfolding read
 sheet-lengths text rec tokens tree e = go (leb (length text) 32768 && leb (length rec) 65536) refl e
   where

@@ -1,8 +1,8 @@
 // The walk over expressions, declarations, structures and signatures, which call each other (`get_exp`, `get_dec`,
 // `get_str_exp`, `get_sig_exp` of 000): a function for each arm and for each closure of 000.
-// A function's name is short, because the names of a cycle share one limit; the comment above has 000's name. `vb` is
-// a binding of `val`, `vbs` the declaration with its bindings; so `fb`, `eb`, `sb`, `cb` for functions, exceptions,
-// structures and functors.
+// The names are short, because all names of a cycle share one limit; the comment above a function has 000's name.
+// `vd` is a declaration of values and `vb` one of its bindings; so with `f` for functions, `x` for exceptions, `s` for
+// structures, `g` for signatures, `c` for functors.
 use layout::Answer;
 use layout::Cfg;
 use layout::St;
@@ -102,7 +102,7 @@ fn later_needs(needs: bool, which: usize) -> bool
 
 // ---- expressions
 // A row of `RecordExp`.
-fn row(
+fn ro(
     text: &[u8],
     rec: &[u8],
     kinds: &[u8],
@@ -136,7 +136,7 @@ fn row(
 }
 
 // The rows of `RecordExp`.
-fn rws(
+fn rs(
     text: &[u8],
     rec: &[u8],
     kinds: &[u8],
@@ -157,7 +157,7 @@ fn rws(
     let mut i = 0;
     while i < n {
         let s1 = between(text, out, s, cfg.tab, words::COMMA, i);
-        let r2 = row(text, rec, kinds, starts, lens, out, left, s1, cfg);
+        let r2 = ro(text, rec, kinds, starts, lens, out, left, s1, cfg);
         let Answer::Done(s2) = r2 else {
             return r2;
         };
@@ -168,7 +168,7 @@ fn rws(
 }
 
 // `RecordExp`.
-fn rcd(
+fn rc(
     text: &[u8],
     rec: &[u8],
     kinds: &[u8],
@@ -183,7 +183,7 @@ fn rcd(
     ensures { λ r. ⌜ Does (page (now (text .entry)) (now (rec .entry)) (now (kinds .entry)) (now (starts .entry)) (now (lens .entry))) cfg RecordExp (runOf st (now (out .entry)) (now (left .entry))) r (now (out .exit)) (now (left .exit)) ⌝ }
 {
     let s1 = word(text, out, st, cfg.tab, words::L_CURLY);
-    let r2 = rws(text, rec, kinds, starts, lens, out, left, s1, cfg);
+    let r2 = rs(text, rec, kinds, starts, lens, out, left, s1, cfg);
     let Answer::Done(s2) = r2 else {
         return r2;
     };
@@ -191,7 +191,7 @@ fn rcd(
 }
 
 // `ParenExp`.
-fn par(
+fn pa(
     text: &[u8],
     rec: &[u8],
     kinds: &[u8],
@@ -214,7 +214,7 @@ fn par(
 }
 
 // `exp_args`: expressions with a comma between.
-fn arg(
+fn ar(
     text: &[u8],
     rec: &[u8],
     kinds: &[u8],
@@ -250,7 +250,7 @@ fn arg(
 }
 
 // `TupleExp` and `ListExp`, by their brackets.
-fn brk(
+fn br(
     text: &[u8],
     rec: &[u8],
     kinds: &[u8],
@@ -267,7 +267,7 @@ fn brk(
     ensures { λ r. ⌜ Does (page (now (text .entry)) (now (rec .entry)) (now (kinds .entry)) (now (starts .entry)) (now (lens .entry))) cfg (λ ws c. word· (wordOf opens) ⨾ exp-args ws c ⨾ word· (wordOf closes)) (runOf st (now (out .entry)) (now (left .entry))) r (now (out .exit)) (now (left .exit)) ⌝ }
 {
     let s1 = word(text, out, st, cfg.tab, opens);
-    let r2 = arg(text, rec, kinds, starts, lens, out, left, s1, cfg);
+    let r2 = ar(text, rec, kinds, starts, lens, out, left, s1, cfg);
     let Answer::Done(s2) = r2 else {
         return r2;
     };
@@ -275,7 +275,7 @@ fn brk(
 }
 
 // `VectorExp`.
-fn vec(
+fn ve(
     text: &[u8],
     rec: &[u8],
     kinds: &[u8],
@@ -294,7 +294,7 @@ fn vec(
     let Answer::Done(s2) = r2 else {
         return r2;
     };
-    let r3 = arg(text, rec, kinds, starts, lens, out, left, s2, cfg);
+    let r3 = ar(text, rec, kinds, starts, lens, out, left, s2, cfg);
     let Answer::Done(s3) = r3 else {
         return r3;
     };
@@ -302,7 +302,7 @@ fn vec(
 }
 
 // An item of `exps_in_seq`, with its semicolon where that is written.
-fn itm(
+fn it(
     text: &[u8],
     rec: &[u8],
     kinds: &[u8],
@@ -329,7 +329,7 @@ fn itm(
 }
 
 // The last n items of a sequence, the first not among them.
-fn mor(
+fn mo(
     text: &[u8],
     rec: &[u8],
     kinds: &[u8],
@@ -351,7 +351,7 @@ fn mor(
         let write = last_semi(allow, i, n);
         let s1 = word(text, out, s, cfg.tab, words::SEMICOLON_LINE);
         let s2 = indent(out, s1, cfg);
-        let r3 = itm(text, rec, kinds, starts, lens, out, left, s2, cfg, write);
+        let r3 = it(text, rec, kinds, starts, lens, out, left, s2, cfg, write);
         let Answer::Done(s3) = r3 else {
             return r3;
         };
@@ -362,7 +362,7 @@ fn mor(
 }
 
 // `exp_semi_seq`. The first item's semicolon is never written.
-fn sem(
+fn sm(
     text: &[u8],
     rec: &[u8],
     kinds: &[u8],
@@ -383,11 +383,11 @@ fn sem(
     if n == 0 {
         return Answer::Done(s1);
     }
-    let r2 = itm(text, rec, kinds, starts, lens, out, left, s1, cfg, false);
+    let r2 = it(text, rec, kinds, starts, lens, out, left, s1, cfg, false);
     let Answer::Done(s2) = r2 else {
         return r2;
     };
-    mor(
+    mo(
         text,
         rec,
         kinds,
@@ -420,7 +420,7 @@ fn seq(
     let s1 = word(text, out, st, cfg.tab, words::L_ROUND_LINE);
     let s2 = indent_deeper(out, s1, cfg);
     let new = cfg.indented();
-    let r3 = sem(text, rec, kinds, starts, lens, out, left, s2, new, false);
+    let r3 = sm(text, rec, kinds, starts, lens, out, left, s2, new, false);
     let Answer::Done(s3) = r3 else {
         return r3;
     };
@@ -429,7 +429,7 @@ fn seq(
 }
 
 // `LetExp`.
-fn lts(
+fn lx(
     text: &[u8],
     rec: &[u8],
     kinds: &[u8],
@@ -447,14 +447,14 @@ fn lts(
     let s2 = word(text, out, s1, cfg.tab, words::LINE_FEED);
     let s3 = indent_deeper(out, s2, cfg);
     let new = cfg.indented();
-    let r4 = decs(text, rec, kinds, starts, lens, out, left, s3, new);
+    let r4 = ds(text, rec, kinds, starts, lens, out, left, s3, new);
     let Answer::Done(s4) = r4 else {
         return r4;
     };
     let s5 = line(text, out, s4, cfg);
     let s6 = word(text, out, s5, cfg.tab, words::IN);
     let s7 = indent_in(out, s6, cfg);
-    let r8 = sem(text, rec, kinds, starts, lens, out, left, s7, new, true);
+    let r8 = sm(text, rec, kinds, starts, lens, out, left, s7, new, true);
     let Answer::Done(s8) = r8 else {
         return r8;
     };
@@ -491,7 +491,7 @@ fn app(
 }
 
 // `InfixExp`.
-fn inf(
+fn fx(
     text: &[u8],
     rec: &[u8],
     kinds: &[u8],
@@ -517,7 +517,7 @@ fn inf(
 }
 
 // `TypedExp`.
-fn typ(
+fn ty(
     text: &[u8],
     rec: &[u8],
     kinds: &[u8],
@@ -540,7 +540,7 @@ fn typ(
 }
 
 // `AndalsoExp` and `OrelseExp`, by their word.
-fn duo(
+fn du(
     text: &[u8],
     rec: &[u8],
     kinds: &[u8],
@@ -564,7 +564,7 @@ fn duo(
 }
 
 // `WhileExp`.
-fn whl(
+fn wh(
     text: &[u8],
     rec: &[u8],
     kinds: &[u8],
@@ -579,7 +579,7 @@ fn whl(
     ensures { λ r. ⌜ Does (page (now (text .entry)) (now (rec .entry)) (now (kinds .entry)) (now (starts .entry)) (now (lens .entry))) cfg WhileExp (runOf st (now (out .entry)) (now (left .entry))) r (now (out .exit)) (now (left .exit)) ⌝ }
 {
     let s1 = word(text, out, st, cfg.tab, words::WHILE);
-    duo(
+    du(
         text,
         rec,
         kinds,
@@ -594,7 +594,7 @@ fn whl(
 }
 
 // `HandleExp`, by its word.
-fn han(
+fn ha(
     text: &[u8],
     rec: &[u8],
     kinds: &[u8],
@@ -614,11 +614,11 @@ fn han(
         return r1;
     };
     let s2 = word(text, out, s1, cfg.tab, w);
-    mat(text, rec, kinds, starts, lens, out, left, s2, cfg)
+    ma(text, rec, kinds, starts, lens, out, left, s2, cfg)
 }
 
 // `CaseExp`.
-fn cas(
+fn ca(
     text: &[u8],
     rec: &[u8],
     kinds: &[u8],
@@ -633,7 +633,7 @@ fn cas(
     ensures { λ r. ⌜ Does (page (now (text .entry)) (now (rec .entry)) (now (kinds .entry)) (now (starts .entry)) (now (lens .entry))) cfg CaseExp (runOf st (now (out .entry)) (now (left .entry))) r (now (out .exit)) (now (left .exit)) ⌝ }
 {
     let s1 = word(text, out, st, cfg.tab, words::CASE);
-    han(
+    ha(
         text,
         rec,
         kinds,
@@ -648,7 +648,7 @@ fn cas(
 }
 
 // `RaiseExp`, `DoDec` and an exception's expression, by their word.
-fn pre(
+fn pr(
     text: &[u8],
     rec: &[u8],
     kinds: &[u8],
@@ -668,7 +668,7 @@ fn pre(
 }
 
 // `IfExp`. Another `if` stays on the line of `else`.
-fn ifs(
+fn ie(
     text: &[u8],
     rec: &[u8],
     kinds: &[u8],
@@ -706,7 +706,7 @@ fn ifs(
 }
 
 // `get_matcher_across_lines`. No matcher is allowed.
-fn mat(
+fn ma(
     text: &[u8],
     rec: &[u8],
     kinds: &[u8],
@@ -774,14 +774,14 @@ fn arm(
         let s4 = word(text, out, s3, cfg.tab, words::LINE_FEED);
         let s5 = forms(s4, cfg);
         let new = cfg.indented();
-        return ind(text, rec, kinds, starts, lens, out, left, s5, new);
+        return dp(text, rec, kinds, starts, lens, out, left, s5, new);
     }
     let s6 = word(text, out, s3, cfg.tab, words::SPACE);
     exp(text, rec, kinds, starts, lens, out, left, s6, cfg)
 }
 
 // An expression one deeper.
-fn ind(
+fn dp(
     text: &[u8],
     rec: &[u8],
     kinds: &[u8],
@@ -801,7 +801,7 @@ fn ind(
 }
 
 // ` =` and the body of a binding, where there is one.
-fn eqb(
+fn qb(
     text: &[u8],
     rec: &[u8],
     kinds: &[u8],
@@ -826,14 +826,14 @@ fn eqb(
     let at = s2.at;
     if body_exp_needs_newline(rec, at) {
         let s3 = word(text, out, s2, cfg.tab, words::LINE_FEED);
-        return ind(text, rec, kinds, starts, lens, out, left, s3, cfg);
+        return dp(text, rec, kinds, starts, lens, out, left, s3, cfg);
     }
     let s4 = word(text, out, s2, cfg.tab, words::SPACE);
     exp(text, rec, kinds, starts, lens, out, left, s4, cfg)
 }
 
 // `FnExp`.
-fn fns(
+fn fe(
     text: &[u8],
     rec: &[u8],
     kinds: &[u8],
@@ -904,10 +904,10 @@ fn exp(
         3 => Answer::Done(word(text, out, s, cfg.tab, words::OP_ORELSE)),
         4 => text_of(text, rec, starts, lens, out, s, cfg),
         5 => op_path(text, rec, starts, lens, out, s, cfg),
-        6 => rcd(text, rec, kinds, starts, lens, out, left, s, sub),
+        6 => rc(text, rec, kinds, starts, lens, out, left, s, sub),
         7 => selector_exp(text, rec, starts, lens, out, s, sub),
-        8 => par(text, rec, kinds, starts, lens, out, left, s, sub),
-        9 => brk(
+        8 => pa(text, rec, kinds, starts, lens, out, left, s, sub),
+        9 => br(
             text,
             rec,
             kinds,
@@ -920,7 +920,7 @@ fn exp(
             words::L_ROUND,
             words::R_ROUND,
         ),
-        10 => brk(
+        10 => br(
             text,
             rec,
             kinds,
@@ -933,13 +933,13 @@ fn exp(
             words::L_SQUARE,
             words::R_SQUARE,
         ),
-        11 => vec(text, rec, kinds, starts, lens, out, left, s, sub),
+        11 => ve(text, rec, kinds, starts, lens, out, left, s, sub),
         12 => seq(text, rec, kinds, starts, lens, out, left, s, sub),
-        13 => lts(text, rec, kinds, starts, lens, out, left, s, sub),
+        13 => lx(text, rec, kinds, starts, lens, out, left, s, sub),
         14 => app(text, rec, kinds, starts, lens, out, left, s, sub),
-        15 => inf(text, rec, kinds, starts, lens, out, left, s, sub),
-        16 => typ(text, rec, kinds, starts, lens, out, left, s, sub),
-        17 => duo(
+        15 => fx(text, rec, kinds, starts, lens, out, left, s, sub),
+        16 => ty(text, rec, kinds, starts, lens, out, left, s, sub),
+        17 => du(
             text,
             rec,
             kinds,
@@ -951,7 +951,7 @@ fn exp(
             sub,
             words::ANDALSO,
         ),
-        18 => duo(
+        18 => du(
             text,
             rec,
             kinds,
@@ -963,7 +963,7 @@ fn exp(
             sub,
             words::ORELSE,
         ),
-        19 => han(
+        19 => ha(
             text,
             rec,
             kinds,
@@ -975,7 +975,7 @@ fn exp(
             sub,
             words::HANDLE,
         ),
-        20 => pre(
+        20 => pr(
             text,
             rec,
             kinds,
@@ -987,17 +987,17 @@ fn exp(
             sub,
             words::RAISE,
         ),
-        21 => ifs(text, rec, kinds, starts, lens, out, left, s, sub),
-        22 => whl(text, rec, kinds, starts, lens, out, left, s, sub),
-        23 => cas(text, rec, kinds, starts, lens, out, left, s, sub),
-        24 => fns(text, rec, kinds, starts, lens, out, left, s, sub),
+        21 => ie(text, rec, kinds, starts, lens, out, left, s, sub),
+        22 => wh(text, rec, kinds, starts, lens, out, left, s, sub),
+        23 => ca(text, rec, kinds, starts, lens, out, left, s, sub),
+        24 => fe(text, rec, kinds, starts, lens, out, left, s, sub),
         _ => stop(s),
     }
 }
 
 // ---- declarations
 // `get_dec`: the Decs of a sequence, with a blank line between where the configuration has them.
-fn decs(
+fn ds(
     text: &[u8],
     rec: &[u8],
     kinds: &[u8],
@@ -1051,7 +1051,7 @@ fn dec(
     let Answer::Done(s1) = r1 else {
         return r1;
     };
-    let r2 = sqs(text, rec, kinds, starts, lens, out, left, s1, cfg);
+    let r2 = qs(text, rec, kinds, starts, lens, out, left, s1, cfg);
     let Answer::Done(s2) = r2 else {
         return r2;
     };
@@ -1063,7 +1063,7 @@ fn dec(
 }
 
 // `dec_in_seqs`.
-fn sqs(
+fn qs(
     text: &[u8],
     rec: &[u8],
     kinds: &[u8],
@@ -1162,11 +1162,11 @@ fn one(
         blank: cfg.blank,
         left: forms_left - 1,
     };
-    num(text, rec, kinds, starts, lens, out, left, s2, sub, k, at)
+    nu(text, rec, kinds, starts, lens, out, left, s2, sub, k, at)
 }
 
 // A declaration at an offset in the record, by its number.
-fn num(
+fn nu(
     text: &[u8],
     rec: &[u8],
     kinds: &[u8],
@@ -1184,18 +1184,18 @@ fn num(
 {
     match which {
         0 => Answer::Done(word(text, out, st, cfg.tab, words::DOT_DOT_DOT)),
-        1 => vbs(text, rec, kinds, starts, lens, out, left, st, cfg),
-        2 => fbs(text, rec, kinds, starts, lens, out, left, st, cfg),
+        1 => vd(text, rec, kinds, starts, lens, out, left, st, cfg),
+        2 => fd(text, rec, kinds, starts, lens, out, left, st, cfg),
         3 => ty_dec(text, rec, starts, lens, out, st, cfg),
         4 => dat_dec(text, rec, starts, lens, out, st, cfg),
         5 => dat_copy_dec(text, rec, starts, lens, out, st, cfg),
-        6 => abs(text, rec, kinds, starts, lens, out, left, st, cfg),
-        7 => ebs(text, rec, kinds, starts, lens, out, left, st, cfg),
+        6 => ab(text, rec, kinds, starts, lens, out, left, st, cfg),
+        7 => xd(text, rec, kinds, starts, lens, out, left, st, cfg),
         8 => open_dec(text, rec, starts, lens, out, st, cfg),
         9 => infix_dec(text, rec, starts, lens, out, st, cfg, words::INFIX),
         10 => infix_dec(text, rec, starts, lens, out, st, cfg, words::INFIXR),
         11 => nonfix_dec(text, rec, starts, lens, out, st, cfg),
-        12 => pre(
+        12 => pr(
             text,
             rec,
             kinds,
@@ -1207,10 +1207,10 @@ fn num(
             cfg,
             words::DO,
         ),
-        13 => loc(text, rec, kinds, starts, lens, out, left, st, cfg),
-        14 => sbs(text, rec, kinds, starts, lens, out, left, st, cfg),
-        15 => gbs(text, rec, kinds, starts, lens, out, left, st, cfg),
-        16 => cbs(text, rec, kinds, starts, lens, out, left, st, cfg),
+        13 => lo(text, rec, kinds, starts, lens, out, left, st, cfg),
+        14 => sd(text, rec, kinds, starts, lens, out, left, st, cfg),
+        15 => gd(text, rec, kinds, starts, lens, out, left, st, cfg),
+        16 => cd(text, rec, kinds, starts, lens, out, left, st, cfg),
         17 => exp(text, rec, kinds, starts, lens, out, left, st, cfg),
         18 => ic(text, rec, kinds, starts, lens, out, left, st, cfg),
         19 => Answer::Stopped(st, place, true),
@@ -1219,7 +1219,7 @@ fn num(
 }
 
 // `ValDec`.
-fn vbs(
+fn vd(
     text: &[u8],
     rec: &[u8],
     kinds: &[u8],
@@ -1278,11 +1278,11 @@ fn vb(
     let Answer::Done(s3) = r3 else {
         return r3;
     };
-    eqb(text, rec, kinds, starts, lens, out, left, s3, cfg)
+    qb(text, rec, kinds, starts, lens, out, left, s3, cfg)
 }
 
 // `FunDec`.
-fn fbs(
+fn fd(
     text: &[u8],
     rec: &[u8],
     kinds: &[u8],
@@ -1386,11 +1386,11 @@ fn fc(
     let Answer::Done(s4) = r4 else {
         return r4;
     };
-    eqb(text, rec, kinds, starts, lens, out, left, s4, cfg)
+    qb(text, rec, kinds, starts, lens, out, left, s4, cfg)
 }
 
 // `AbstypeDec`.
-fn abs(
+fn ab(
     text: &[u8],
     rec: &[u8],
     kinds: &[u8],
@@ -1414,7 +1414,7 @@ fn abs(
         return r3;
     };
     let s4 = word(text, out, s3, cfg.tab, words::WITH);
-    let r5 = decs(text, rec, kinds, starts, lens, out, left, s4, cfg);
+    let r5 = ds(text, rec, kinds, starts, lens, out, left, s4, cfg);
     let Answer::Done(s5) = r5 else {
         return r5;
     };
@@ -1422,7 +1422,7 @@ fn abs(
 }
 
 // `ExDec`.
-fn ebs(
+fn xd(
     text: &[u8],
     rec: &[u8],
     kinds: &[u8],
@@ -1444,7 +1444,7 @@ fn ebs(
     let mut i = 0;
     while i < n {
         let s3 = new_line(text, out, s, cfg, words::AND, i);
-        let r4 = eb(text, rec, kinds, starts, lens, out, left, s3, cfg);
+        let r4 = xb(text, rec, kinds, starts, lens, out, left, s3, cfg);
         let Answer::Done(s4) = r4 else {
             return r4;
         };
@@ -1455,7 +1455,7 @@ fn ebs(
 }
 
 // A binding of `ExDec`.
-fn eb(
+fn xb(
     text: &[u8],
     rec: &[u8],
     kinds: &[u8],
@@ -1483,11 +1483,11 @@ fn eb(
     let Read::Is(k, s4) = choice(rec, s2) else {
         return stop(s2);
     };
-    ei(text, rec, kinds, starts, lens, out, left, s4, cfg, k)
+    xi(text, rec, kinds, starts, lens, out, left, s4, cfg, k)
 }
 
 // What an exception is bound to, by its number.
-fn ei(
+fn xi(
     text: &[u8],
     rec: &[u8],
     kinds: &[u8],
@@ -1504,7 +1504,7 @@ fn ei(
 {
     match which {
         0 => ex_bind_of(text, rec, starts, lens, out, st, cfg),
-        1 => pre(
+        1 => pr(
             text,
             rec,
             kinds,
@@ -1521,7 +1521,7 @@ fn ei(
 }
 
 // `LocalDec`.
-fn loc(
+fn lo(
     text: &[u8],
     rec: &[u8],
     kinds: &[u8],
@@ -1576,11 +1576,11 @@ fn ld(
     let Answer::Done(s1) = r1 else {
         return r1;
     };
-    decs(text, rec, kinds, starts, lens, out, left, s1, cfg)
+    ds(text, rec, kinds, starts, lens, out, left, s1, cfg)
 }
 
 // `StructureDec`.
-fn sbs(
+fn sd(
     text: &[u8],
     rec: &[u8],
     kinds: &[u8],
@@ -1635,7 +1635,7 @@ fn sb(
     let Answer::Done(s2) = r2 else {
         return r2;
     };
-    let r3 = asc(text, rec, kinds, starts, lens, out, left, s2, cfg);
+    let r3 = ac(text, rec, kinds, starts, lens, out, left, s2, cfg);
     let Answer::Done(s3) = r3 else {
         return r3;
     };
@@ -1651,7 +1651,7 @@ fn sb(
 }
 
 // `SignatureDec`.
-fn gbs(
+fn gd(
     text: &[u8],
     rec: &[u8],
     kinds: &[u8],
@@ -1723,7 +1723,7 @@ fn nm(
 }
 
 // `FunctorDec`.
-fn cbs(
+fn cd(
     text: &[u8],
     rec: &[u8],
     kinds: &[u8],
@@ -1779,12 +1779,12 @@ fn cb(
         return r2;
     };
     let s3 = word(text, out, s2, cfg.tab, words::ARGS);
-    let r4 = fas(text, rec, kinds, starts, lens, out, left, s3, cfg);
+    let r4 = fs(text, rec, kinds, starts, lens, out, left, s3, cfg);
     let Answer::Done(s4) = r4 else {
         return r4;
     };
     let s5 = word(text, out, s4, cfg.tab, words::R_ROUND);
-    let r6 = asc(text, rec, kinds, starts, lens, out, left, s5, cfg);
+    let r6 = ac(text, rec, kinds, starts, lens, out, left, s5, cfg);
     let Answer::Done(s6) = r6 else {
         return r6;
     };
@@ -1793,7 +1793,7 @@ fn cb(
 }
 
 // The arguments of a functor.
-fn fas(
+fn fs(
     text: &[u8],
     rec: &[u8],
     kinds: &[u8],
@@ -1948,17 +1948,17 @@ fn str(
         left: forms_left - 1,
     };
     match k {
-        0 => sct(text, rec, kinds, starts, lens, out, left, s, sub),
+        0 => ss(text, rec, kinds, starts, lens, out, left, s, sub),
         1 => path(text, rec, starts, lens, out, s, cfg),
-        2 => asn(text, rec, kinds, starts, lens, out, left, s, sub),
-        3 => ap(text, rec, kinds, starts, lens, out, left, s, sub),
+        2 => an(text, rec, kinds, starts, lens, out, left, s, sub),
+        3 => sp(text, rec, kinds, starts, lens, out, left, s, sub),
         4 => sl(text, rec, kinds, starts, lens, out, left, s, sub),
         _ => stop(s),
     }
 }
 
 // `StructStrExp`.
-fn sct(
+fn ss(
     text: &[u8],
     rec: &[u8],
     kinds: &[u8],
@@ -1981,7 +1981,7 @@ fn sct(
         left: cfg.left,
     };
     let new = wide.indented();
-    let r3 = decs(text, rec, kinds, starts, lens, out, left, s2, new);
+    let r3 = ds(text, rec, kinds, starts, lens, out, left, s2, new);
     let Answer::Done(s3) = r3 else {
         return r3;
     };
@@ -1990,7 +1990,7 @@ fn sct(
 }
 
 // `AscriptionStrExp`.
-fn asn(
+fn an(
     text: &[u8],
     rec: &[u8],
     kinds: &[u8],
@@ -2008,11 +2008,11 @@ fn asn(
     let Answer::Done(s1) = r1 else {
         return r1;
     };
-    ast(text, rec, kinds, starts, lens, out, left, s1, cfg)
+    ta(text, rec, kinds, starts, lens, out, left, s1, cfg)
 }
 
 // An ascription.
-fn ast(
+fn ta(
     text: &[u8],
     rec: &[u8],
     kinds: &[u8],
@@ -2040,7 +2040,7 @@ fn ast(
 }
 
 // An ascription, where there is one.
-fn asc(
+fn ac(
     text: &[u8],
     rec: &[u8],
     kinds: &[u8],
@@ -2057,11 +2057,11 @@ fn asc(
     if let Gone::Past(s0) = absent(rec, st) {
         return Answer::Done(s0);
     }
-    ast(text, rec, kinds, starts, lens, out, left, st, cfg)
+    ta(text, rec, kinds, starts, lens, out, left, st, cfg)
 }
 
 // `AppStrExp`: the closing parenthesis is indented where an argument was a Dec.
-fn ap(
+fn sp(
     text: &[u8],
     rec: &[u8],
     kinds: &[u8],
@@ -2143,7 +2143,7 @@ fn sl(
     let s2 = word(text, out, s1, cfg.tab, words::LINE_FEED);
     let s3 = indent_deeper(out, s2, cfg);
     let new = cfg.indented();
-    let r4 = decs(text, rec, kinds, starts, lens, out, left, s3, new);
+    let r4 = ds(text, rec, kinds, starts, lens, out, left, s3, new);
     let Answer::Done(s4) = r4 else {
         return r4;
     };
@@ -2190,8 +2190,8 @@ fn sig(
     match k {
         0 => sg(text, rec, kinds, starts, lens, out, left, s, sub),
         1 => text_of(text, rec, starts, lens, out, s, cfg),
-        2 => wty(text, rec, kinds, starts, lens, out, left, s, sub),
-        3 => whr(text, rec, kinds, starts, lens, out, left, s, sub),
+        2 => wt(text, rec, kinds, starts, lens, out, left, s, sub),
+        3 => wr(text, rec, kinds, starts, lens, out, left, s, sub),
         _ => stop(s),
     }
 }
@@ -2214,7 +2214,7 @@ fn sg(
     let s1 = word(text, out, st, cfg.tab, words::SIG);
     let s2 = indent_deeper(out, s1, cfg);
     let new = cfg.indented();
-    let r3 = decs(text, rec, kinds, starts, lens, out, left, s2, new);
+    let r3 = ds(text, rec, kinds, starts, lens, out, left, s2, new);
     let Answer::Done(s3) = r3 else {
         return r3;
     };
@@ -2223,7 +2223,7 @@ fn sg(
 }
 
 // `WhereTypeSigExp`.
-fn wty(
+fn wt(
     text: &[u8],
     rec: &[u8],
     kinds: &[u8],
@@ -2255,7 +2255,7 @@ fn wty(
 }
 
 // `WhereSigExp`.
-fn whr(
+fn wr(
     text: &[u8],
     rec: &[u8],
     kinds: &[u8],
@@ -2309,5 +2309,5 @@ pub fn walk(
         blank: true,
         left: 200,
     };
-    decs(text, rec, kinds, starts, lens, out, left, st, cfg)
+    ds(text, rec, kinds, starts, lens, out, left, st, cfg)
 }

@@ -1,0 +1,314 @@
+-- From what the walk's code leaves to the verdicts of `check` and `get`. Assumes nothing.
+use Prim.Native.Nat.{ℕ, _+_, _*_, _≤_, _<_}
+use native.Mathlib.Nat.{mul-comm, mul-le-mul}
+use native.Mathlib.Omega.{arith}
+use mathlib.Core.Path.{_≡_, refl, sym, ap, ap₂, _∙_, subst}
+use mathlib.Core.Bool.{Bool, true, false}
+use mathlib.Core.List.{List, [], _++_}
+use mathlib.Core.Option.{Option, none, some}
+use lib.ListN.{length, getD, take, drop, length-take}
+use lib.Dec.{eqb}
+use borrow.Author.Tests.{eq-eqb, eqb-true}
+use Rattle.reader.specs.Check.{maxForms}
+use Rattle.reader.specs.Tokens.{tokensIn}
+use Rattle.reader.specs.Reading.{Reads, refused, sheet, read}
+use Rattle.reader.specs.declared.Reading.{Reading}
+use Rattle.reader.specs.declared.Reading.the-variants as Says
+use Rattle.comments.specs.declared.First.{First}
+use Rattle.comments.specs.declared.First.the-variants as Seen
+use Rattle.comments.specs.Set.{isComment, holds, wordsOf, room, count, first, firstAt}
+use Rattle.layout.specs.declared.St.{St}
+use Rattle.layout.specs.declared.Answer as Walking
+use Rattle.layout.specs.declared.Answer.the-variants.{Done, Stopped}
+use Rattle.layout.specs.Meaning.{Page, Event, Outcome, done, stopped, Stop, outcome}
+use Rattle.layout.specs.Walk.{walks, top, walk}
+use Rattle.layout.specs.GetDec.{get-dec}
+use Rattle.layout.specs.Events.{deepest, letters, units, formatted, isLeft}
+use Rattle.layout.specs.State.{Run, runOf, at, effects, Ran, went, fell, run, runs, packed, stopOf, Walked, cap, page}
+use Rattle.layout.proofs.Exact.{exact-letters, exact-units, exact-deepest}
+use Rattle.measures.proofs.Measures.{Small, small-done, sheet-lengths}
+use Rattle.formatter.specs.declared.Measures.{Measures}
+use Rattle.formatter.specs.declared.Answer.{Answer}
+use Rattle.formatter.specs.declared.Answer.the-variants as Case
+use Rattle.formatter.specs.Verdict.{Result, judge, check, get, declined, accepted, comments, walked, measuresOf, noMeasures, emptySet, verdict, verdictOf, numberOf, placeOf, givenMeasures, format, maxWidth}
+use Rattle.formatter.specs.Judging.{Weight, Accepts, Puts}
+use Rattle.formatter.proofs.RunLaws.{out-is, left-comments, empty-left, first-left, comments-some, comments-none}
+use Rattle.formatter.proofs.VerdictLaws.{format-wide, format-short, format-fits, check-declined, get-declined, check-accepted, get-accepted}
+use Rattle.formatter.proofs.LookupLaws.{reading-says, reading-counts}
+use Rattle.formatter.proofs.TableLaws.{tables-within}
+
+never : {A : Type 0} → _≡_ {A = ℕ} 0 1 → A
+never e = absurd (omega (arith, e))
+
+measures-same : {d d′ l l′ u u′ : ℕ} → d ≡ d′ → l ≡ l′ → u ≡ u′
+    → _≡_ {A = Measures} (record { deepest = d; letters = l; units = u }) (record { deepest = d′; letters = l′; units = u′ })
+measures-same e f g = rw (e, f, g) refl
+
+-- ---- what a run leaves
+abbrev outOf : Ran → List ℕ
+outOf (went g) = g .out
+outOf (fell why g) = g .out
+
+abbrev leftOf : Ran → List ℕ
+leftOf (went g) = g .left
+leftOf (fell why g) = g .left
+
+abbrev stOf : Ran → St
+stOf (went g) = g .st
+stOf (fell why g) = g .st
+
+abbrev ends : Outcome → ℕ
+ends (done end es) = 0
+ends (stopped why es) = 1
+
+abbrev falls : Ran → ℕ
+falls (went g) = 0
+falls (fell why g) = 1
+
+packed-out : (r : Walking.Answer) (o m : List ℕ) → outOf (packed r o m) ≡ o
+packed-out (Done s) o m = refl
+packed-out (Stopped s place import) o m = refl
+
+packed-left : (r : Walking.Answer) (o m : List ℕ) → leftOf (packed r o m) ≡ m
+packed-left (Done s) o m = refl
+packed-left (Stopped s place import) o m = refl
+
+run-falls : (p : Page) (tab : ℕ) (x : Outcome) (g : Run) → falls (run p tab x g) ≡ ends x
+unfolding run
+run-falls p tab (done end es) g = refl
+run-falls p tab (stopped why es) g = refl
+
+done-is : (x : Outcome) → ends x ≡ 0 → (end : ℕ) × (es : List Event) × (x ≡ done end es)
+done-is (done end es) e = (end, es, refl)
+done-is (stopped why es) e = never (sym e)
+
+stopped-is : (x : Outcome) → ends x ≡ 1 → (why : Stop) × (es : List Event) × (x ≡ stopped why es)
+stopped-is (done end es) e = never e
+stopped-is (stopped why es) e = (why, es, refl)
+
+-- The walk over a sheet, from its start.
+abbrev begin : ℕ → St
+begin tree = record { at = tree; deepest = 0; letters = 0; units = 0 }
+
+abbrev Whole : Page → ℕ → ℕ → List ℕ → List ℕ → Walking.Answer → List ℕ → List ℕ → Type 0
+Whole p tree tab o m r o′ m′ = Walked p tab (get-dec (walks maxForms) top) (runOf (begin tree) o m) r o′ m′
+
+module _ {p : Page} {tree tab : ℕ} {o m : List ℕ} {r : Walking.Answer} {o′ m′ : List ℕ} (w : Whole p tree tab o m r o′ m′) where
+  whole : packed r o′ m′ ≡ run p tab (walk p tree) (runOf (begin tree) o m)
+  unfolding runs walk
+  whole = w .is
+
+  module _ {end : ℕ} {es : List Event} (e : walk p tree ≡ done end es) where
+    whole-done : packed r o′ m′ ≡ went (at end (effects p tab es (runOf (begin tree) o m)))
+    unfolding run
+    whole-done = whole ∙ ap (λ x. run p tab x (runOf (begin tree) o m)) e
+
+    whole-out : o′ ≡ effects p tab es (runOf (begin tree) o m) .out
+    whole-out = sym (packed-out r o′ m′) ∙ ap outOf whole-done
+
+    whole-left : m′ ≡ effects p tab es (runOf (begin tree) o m) .left
+    whole-left = sym (packed-left r o′ m′) ∙ ap leftOf whole-done
+
+    whole-st : {s : St} → r ≡ Done s → s ≡ at end (effects p tab es (runOf (begin tree) o m)) .st
+    whole-st f = ap stOf (sym (ap (λ x. packed x o′ m′) f) ∙ whole-done)
+
+  whole-ends : {s : St} → r ≡ Done s → (end : ℕ) × (es : List Event) × (walk p tree ≡ done end es)
+  whole-ends f =
+      done-is (walk p tree)
+      (sym (run-falls p tab (walk p tree) (runOf (begin tree) o m)) ∙ ap falls (sym whole ∙ ap (λ x. packed x o′ m′) f))
+
+  -- ---- 5
+  whole-stops : {s : St} {place : ℕ} {import : Bool} → r ≡ Stopped s place import → (why : Stop) × (es : List Event) × (walk p tree ≡ stopped why es)
+  whole-stops f =
+      stopped-is (walk p tree)
+      (sym (run-falls p tab (walk p tree) (runOf (begin tree) o m)) ∙ ap falls (sym whole ∙ ap (λ x. packed x o′ m′) f))
+
+  pub weigh-syntax : {s : St} {place : ℕ} {import : Bool} → r ≡ Stopped s place import → walked p tree ≡ declined (verdictOf Case.Syntax emptySet)
+  unfolding walked verdictOf numberOf placeOf givenMeasures
+  weigh-syntax f = rw (whole-stops f .2, walked) refl
+
+-- ---- 6, and what is accepted
+module _ {p : Page} {tree tab : ℕ} {o m : List ℕ} {r : Walking.Answer} {o′ m′ : List ℕ} {s : St} (w : Whole p tree tab o m r o′ m′) (f : r ≡ Done s)
+    (text-fits : length (p .text) ≤ 32768) (rec-fits : length (p .rec) ≤ 65536) (few : length (p .tokens .kinds) ≤ room)
+    (all : m ≡ wordsOf (isComment (p .tokens .kinds))) where
+  abbrev es : List Event
+  es = whole-ends w f .1
+
+  walk-is : walk p tree ≡ done (whole-ends w f .0) es
+  walk-is = whole-ends w f .2
+
+  words-are : m′ ≡ wordsOf (isLeft (p .tokens .kinds) es)
+  words-are = whole-left w walk-is ∙ left-comments p tab (p .tokens .kinds) es (runOf (begin tree) o m) all
+
+  is-small : Small p es
+  is-small = small-done p tree text-fits rec-fits walk-is
+
+  weight : Weight p tree (record { deepest = s .deepest; letters = s .letters; units = s .units })
+  unfolding measuresOf
+  weight =
+      let g : Run = runOf (begin tree) o m in
+      let small : Small p es = is-small in
+      let st : s ≡ at (whole-ends w f .0) (effects p tab es g) .st = whole-st w walk-is f in
+      let l : s .letters ≡ letters p es = ap (λ x. x .letters) st ∙ exact-letters p tab es g (omega (arith, small .both)) ∙ omega arith in
+      let u : s .units ≡ units es = ap (λ x. x .units) st ∙ exact-units p tab es g (omega (arith, small .both)) ∙ omega arith in
+      let d : s .deepest ≡ deepest es = ap (λ x. x .deepest) st ∙ exact-deepest p tab es g ∙ omega arith in
+      record {
+        events = es;
+        end = whole-ends w f .0;
+        walks = walk-is;
+        measures = measures-same d l u;
+        deep = small .deep;
+        few = omega (arith, small .both);
+        low = omega (arith, small .both);
+      }
+
+  walked-is : walked p tree ≡ comments p es
+  unfolding walked
+  walked-is = rw (walk-is, walked) refl
+
+  module _ {b : Bool} (h : b ≡ eqb (count (holds m′) 0 room) 0) where
+    pub weigh-accepts : b ≡ true → Accepts p tree (record { deepest = s .deepest; letters = s .letters; units = s .units }) m′
+    unfolding weight
+    weigh-accepts e =
+        let z : count (holds m′) 0 room ≡ 0 = eqb-true (count (holds m′) 0 room) 0 (sym h ∙ e) in
+        let gone : first (isLeft (p .tokens .kinds) es) 0 (length (p .tokens .kinds)) ≡ none = empty-left (p .tokens .kinds) es m′ few words-are .0 z in
+        let none-left = comments-none p es m′ few words-are (first-left (p .tokens .kinds) es m′ few words-are ∙ gone) in
+        record { weight = weight; accepts = none-left .0; empty = none-left .1 }
+
+    module _ {x : First} (i : firstAt x ≡ first (holds m′) 0 room) where
+      pub weigh-comments : {k place : ℕ} → x ≡ Seen.At k → place ≡ getD (p .tokens .starts) k 0 → walked p tree ≡ declined (verdictOf (Case.Comments place) m′)
+      unfolding firstAt verdictOf numberOf placeOf givenMeasures
+      weigh-comments {k} j q = rw q (walked-is ∙ comments-some p es m′ few words-are (sym i ∙ ap firstAt j))
+
+      pub weigh-never : {A : Type 0} → b ≡ false → x ≡ Seen.Nowhere → A
+      unfolding firstAt
+      weigh-never e j =
+          let gone : first (holds m′) 0 room ≡ none = sym i ∙ ap firstAt j in
+          let z : count (holds m′) 0 room ≡ 0 = empty-left (p .tokens .kinds) es m′ few words-are .1 (sym (first-left (p .tokens .kinds) es m′ few words-are) ∙ gone) in
+          never (ap (λ x. elim x [ true ↦ 0 | false ↦ 1 ]) (sym (eq-eqb _ _ z) ∙ sym h ∙ e))
+
+-- ---- 7, 8 and the text
+abbrev eventsIn : Outcome → List Event
+eventsIn (done end es) = es
+eventsIn (stopped why es) = es
+
+same-events : (x : Outcome) {end end′ : ℕ} {es es′ : List Event} → x ≡ done end es → x ≡ done end′ es′ → es ≡ es′
+same-events x e f = ap eventsIn (sym e ∙ f)
+
+pub scaled-bound : (n tab : ℕ) → n ≤ 0x4000_0000 → tab ≤ 0xFFFF_FFFF → n * tab ≤ 0x3FFF_FFFF_C000_0000
+scaled-bound n tab h k = mul-le-mul h k
+
+module _ {p : Page} {tree : ℕ} {m : Measures} (w : Weight p tree m) where
+  pub weight-deep : m .deepest ≤ 0x4000_0000
+  unfolding measuresOf
+  weight-deep = omega (arith, ap (λ x. x .deepest) (w .measures), w .deep)
+
+  pub weight-letters : m .letters ≤ 0x4000_0000
+  unfolding measuresOf
+  weight-letters = omega (arith, ap (λ x. x .letters) (w .measures), w .few)
+
+  pub weight-units : m .units ≤ 0x4000_0000
+  unfolding measuresOf
+  weight-units = omega (arith, ap (λ x. x .units) (w .measures), w .low)
+
+module _ {p : Page} {tree : ℕ} (tab : ℕ) {m : Measures} (w : Weight p tree m) (out : List ℕ) {width : ℕ} (i : width ≡ m .deepest * tab) where
+  -- It is enough to look at the events that are known.
+  puts : {a : Answer} {out′ : List ℕ} → _≡_ {A = Result} (record { verdict = verdictOf a emptySet; out = out′ }) (format tab p (w .events) out)
+      → Puts p tree tab out a out′
+  puts {a} {out′} q =
+      record { is = λ end es e. subst (λ fs. _≡_ {A = Result} (record { verdict = verdictOf a emptySet; out = out′ }) (format tab p fs out)) (same-events (walk p tree) (w .walks) e) q }
+
+  deepest-is : width ≡ deepest (w .events) * tab
+  unfolding measuresOf
+  deepest-is = i ∙ ap (λ x. x .deepest * tab) (w .measures)
+
+  pub put-wide : maxWidth < width → Puts p tree tab out (Case.TooWide m) out
+  unfolding verdictOf numberOf placeOf givenMeasures
+  put-wide h = puts (rw (← w .measures) at (sym (format-wide tab p (w .events) out (rw (← deepest-is) h))))
+
+  module _ (narrow : width ≤ maxWidth) {spaces size : ℕ} (j : spaces ≡ m .units * tab) (k : size ≡ m .letters + spaces) where
+    size-is : size ≡ letters p (w .events) + tab * units (w .events)
+    unfolding measuresOf
+    size-is =
+        k ∙ ap₂ (λ x y. x + y) (ap (λ x. x .letters) (w .measures)) (j ∙ ap (λ x. x .units * tab) (w .measures) ∙ mul-comm (units (w .events)) tab)
+
+    pub put-short : length out < size → Puts p tree tab out (Case.NoRoom m) out
+    unfolding verdictOf numberOf placeOf givenMeasures
+    put-short h = puts (rw (← w .measures) at (sym (format-short tab p (w .events) out (rw (← deepest-is) narrow) (rw (← size-is) h))))
+
+    pub put-fits : {r : Walking.Answer} {spent out′ spent′ : List ℕ} → size ≤ length out → Whole p tree tab out spent r out′ spent′
+        → Puts p tree tab out (Case.Accepted m) out′
+    unfolding verdictOf numberOf placeOf givenMeasures
+    put-fits {spent = spent} {out′ = out′} h x =
+        let fits : letters p (w .events) + tab * units (w .events) ≤ length out = rw (← size-is) h in
+        let text : out′ ≡ formatted p tab (w .events) ++ drop (length (formatted p tab (w .events))) out =
+        whole-out x (w .walks) ∙ out-is p tab (w .events) (runOf (begin tree) out spent) refl refl (omega (arith, w .few)) (omega (arith, w .low)) fits in
+        puts (rw (text, w .measures) (sym (format-fits tab p (w .events) out (rw (← deepest-is) narrow) fits)))
+
+-- ---- the calls
+-- The first entries of a table.
+pub taken : (n : ℕ) (l : List ℕ) → n ≤ length l → n ≡ length (take n l)
+taken n l h = omega (arith, length-take n l)
+
+module _ {text rec kinds starts lens : List ℕ} {r : Reading} (s : Reads text rec kinds starts lens r) where
+  -- 1 to 4.
+  module _ {number place : ℕ} (e : read text rec ≡ refused number place) where
+    judge-refused : judge text rec ≡ declined (verdict number place noMeasures)
+    unfolding judge
+    judge-refused = rw (e, judge) refl
+
+    pub check-refused : {a b : Answer} {left : List ℕ} → (b ≡ a) × (left ≡ emptySet) → verdictOf a emptySet ≡ verdict number place noMeasures
+        → verdictOf b left ≡ check text rec
+    check-refused {a} {b} {left} h q = ap₂ verdictOf (h .0) (h .1) ∙ q ∙ sym (check-declined text rec judge-refused)
+
+    pub get-refused : {a b : Answer} {left : List ℕ} (tab : ℕ) (out : List ℕ) → (b ≡ a) × (left ≡ emptySet) → verdictOf a emptySet ≡ verdict number place noMeasures
+        → _≡_ {A = Result} (record { verdict = verdictOf b left; out = out }) (get text rec tab out)
+    get-refused {a} {b} {left} tab out h q =
+        ap (λ v. record { verdict = v; out = out }) (ap₂ verdictOf (h .0) (h .1) ∙ q) ∙ sym (get-declined text rec judge-refused tab out)
+
+  module _ {count tree : ℕ} (e : r ≡ Says.Sheet count tree) where
+    abbrev sheetPage : Page
+    sheetPage = page text rec (take count kinds) (take count starts) (take count lens)
+
+    reads-sheet : read text rec ≡ sheet (tokensIn count kinds starts lens) tree
+    reads-sheet = reading-says s e
+
+    pub sheet-fits : (length text ≤ 32768) × (length rec ≤ 65536) × (length (take count kinds) ≤ 4096)
+    sheet-fits =
+        let h = sheet-lengths text rec (tokensIn count kinds starts lens) tree reads-sheet in
+        let c = reading-counts s e in
+        (h .0, h .1, omega (arith, c .0, c .1))
+
+    pub sheet-within : count ≤ length kinds
+    sheet-within = omega (arith, reading-counts s e .0, length-take count kinds)
+
+    pub tables : (count ≤ length starts) × (count ≤ length lens)
+    tables = tables-within text rec kinds starts lens reads-sheet (reading-counts s e .0)
+
+    judge-walked : judge text rec ≡ walked sheetPage tree
+    unfolding judge
+    judge-walked = rw (reads-sheet, judge) refl
+
+    module _ (a : Answer) (left : List ℕ) (d : walked sheetPage tree ≡ declined (verdictOf a left)) where
+      pub check-walked : verdictOf a left ≡ check text rec
+      check-walked = sym (check-declined text rec (judge-walked ∙ d))
+
+      pub get-walked : (tab : ℕ) (out : List ℕ) → _≡_ {A = Result} (record { verdict = verdictOf a left; out = out }) (get text rec tab out)
+      get-walked tab out = sym (get-declined text rec (judge-walked ∙ d) tab out)
+
+    module _ {m : Measures} {left : List ℕ} (d : Accepts sheetPage tree m left) where
+      judge-accepts : judge text rec ≡ accepted sheetPage (d .weight .events)
+      unfolding walked
+      judge-accepts = judge-walked ∙ rw (d .weight .walks, walked) (d .accepts)
+
+      pub check-accepts : verdictOf (Case.Accepted m) left ≡ check text rec
+      unfolding verdictOf numberOf placeOf givenMeasures
+      check-accepts =
+          ap₂ (λ x y. record { number = 0; place = 0; measures = x; left = y }) (d .weight .measures) (d .empty) ∙ sym (check-accepted text rec judge-accepts)
+
+      pub get-puts : {tab : ℕ} {out out′ : List ℕ} {a : Answer} → Puts sheetPage tree tab out a out′
+          → _≡_ {A = Result} (record { verdict = verdictOf a left; out = out′ }) (get text rec tab out)
+      get-puts {tab} {out} {out′} {a} q =
+          ap (λ x. record { verdict = verdictOf a x; out = out′ }) (d .empty)
+          ∙ q .is (d .weight .end) (d .weight .events) (d .weight .walks)
+          ∙ sym (get-accepted text rec judge-accepts tab out)
