@@ -1,7 +1,10 @@
--- Laws of the answers as numbers: an answer by its case, the record check with its tables, the doc lookup. Assumes nothing.
+-- Laws of the answers as numbers: an answer by its case, the record check with its tables, verdicts, the doc lookup. Assumes nothing.
 use Prim.Native.Nat.{ℕ}
+use native.Mathlib.Omega.{arith}
 use mathlib.Core.Path.{_≡_, sym, _∙_, ap}
-use mathlib.Core.List.{List, [], _∷_}
+use mathlib.Core.List.{List, [], _∷_, append-nil}
+use lib.ListN.{length, replicate}
+use lib.Seq.{paste, take-all}
 use Rattle.reader.specs.declared.Reading.{Reading}
 use Rattle.reader.specs.declared.Reading.the-variants.{Sheet, TooLong, NotAscii, Malformed, TooDeep}
 use Rattle.reader.specs.declared.tree.Checked as Code
@@ -9,10 +12,14 @@ use Rattle.reader.specs.Tokens.{tokensIn}
 use Rattle.reader.specs.Tree.{checkedIn}
 use Rattle.reader.specs.Reading.{refused, read, numberOf, placeOf, Reads}
 use Rattle.formatter.specs.declared.Lookup.{Lookup}
+use Rattle.formatter.specs.declared.Answer.{Answer}
 use Rattle.formatter.specs.Lookup.{lookedOf}
+use Rattle.formatter.specs.Verdict.{Verdict, Result, verdict, verdictOf, get}
 use Rattle.formatter.proofs.LookupLaws.{reading-says, reading-counts}
 use Rattle.doc_comment.specs.Doc.{Doc, docLookup, docLooked}
-use Rattle.exports.specs.Numbers.{endNumbers, lookedNumbers, readNumbers, Tabled, ReadOut, DocOut}
+use Rattle.program.specs.declared.Numbers.{Numbers}
+use Rattle.program.specs.Printing.{said}
+use Rattle.exports.specs.Numbers.{endNumbers, lookedNumbers, readNumbers, verdictNumbers, Tabled, ReadOut, DocOut, GetOut}
 
 pub end-case : {f x : Code.Checked} → f ≡ x → endNumbers (checkedIn x) ≡ endNumbers (checkedIn f)
 end-case e = ap (λ (y : Code.Checked). endNumbers (checkedIn y)) (sym e)
@@ -24,6 +31,31 @@ pub doc-out : (text rec : List ℕ) (token : ℕ) (out out′ answer : List ℕ)
 unfolding docLooked
 doc-out text rec token out out′ answer l e f =
     record { numbers = f ∙ ap (λ (d : Doc). lookedNumbers (d .answer)) e; written = ap (λ (d : Doc). d .out) e }
+
+-- The five numbers of a verdict before the words of its set.
+abbrev five : Numbers → List ℕ → List ℕ
+five v words = v .number ∷ v .place ∷ v .measures .deepest ∷ v .measures .letters ∷ v .measures .units ∷ words
+
+-- The array before any word is copied.
+abbrev pub unfilled : Numbers → List ℕ
+unfilled v = five v (replicate 64 0)
+
+-- All 64 words copied.
+pub verdict-put : (a : Answer) (v : Numbers) (left words : List ℕ) (w : ℕ) → verdict (v .number) (v .place) (v .measures) ≡ said a → length left ≡ 64 → w ≡ 64
+    → words ≡ paste (unfilled v) 5 left w
+    → words ≡ verdictNumbers (verdictOf a left)
+unfolding verdictNumbers verdictOf
+verdict-put a v left words w e long all f =
+    f
+    ∙ ap (paste (unfilled v) 5 left) all
+    ∙ ap (five v) (append-nil _ ∙ take-all 64 left (omega (arith, long)))
+    ∙ ap (λ (x : Verdict). x .number ∷ x .place ∷ x .measures .deepest ∷ x .measures .letters ∷ x .measures .units ∷ left) e
+
+pub get-out : (text rec : List ℕ) (tab : ℕ) (out out′ answer : List ℕ) (a : Answer) (left : List ℕ) → _≡_ {A = Result} (record { verdict = verdictOf a left; out = out′ }) (get text rec tab out)
+    → answer ≡ verdictNumbers (verdictOf a left)
+    → GetOut text rec tab out out′ answer
+get-out text rec tab out out′ answer a left e f =
+    record { numbers = f ∙ ap (λ (r : Result). verdictNumbers (r .verdict)) e; written = ap (λ (r : Result). r .out) e }
 
 module _ {text rec kinds starts lens answer : List ℕ} {r : Reading} (s : Reads text rec kinds starts lens r) where
   pub read-sheet : {count tree : ℕ} → r ≡ Sheet count tree → answer ≡ 0 ∷ 0 ∷ count ∷ tree ∷ [] → ReadOut text rec answer kinds starts lens

@@ -8,6 +8,7 @@ use Rattle.reader.specs.Tokens.{tokensIn}
 use Rattle.reader.specs.Check.{Checked, ok, malformed, tooDeep}
 use Rattle.reader.specs.Reading.{Read, refused, sheet, read}
 use Rattle.formatter.specs.Lookup.{Looked}
+use Rattle.formatter.specs.Verdict.{Verdict, get}
 use Rattle.doc_comment.specs.Doc.{docLookup}
 
 -- A field's end, or a refusal's number and place.
@@ -30,6 +31,10 @@ unfoldable pub readNumbers : Read → List ℕ
 readNumbers (refused number place) = number ∷ place ∷ 0 ∷ 0 ∷ []
 readNumbers (sheet tokens tree) = 0 ∷ 0 ∷ length (tokens .kinds) ∷ tree ∷ []
 
+-- Number, place, deepest, letters, units, then the words of the set of comments left.
+unfoldable pub verdictNumbers : Verdict → List ℕ
+verdictNumbers v = v .number ∷ v .place ∷ v .measures .deepest ∷ v .measures .letters ∷ v .measures .units ∷ v .left
+
 -- The tokens of a sheet stand first in the tables.
 unfoldable pub Tabled : Read → List ℕ → List ℕ → List ℕ → Type 0
 Tabled (refused number place) kinds starts lens = Unit {0}
@@ -44,3 +49,8 @@ pub record ReadOut (text rec answer kinds starts lens : List ℕ) : Type 0 where
 pub record DocOut (text rec : List ℕ) (token : ℕ) (out out′ answer : List ℕ) : Type 0 where
   pub numbers : answer ≡ lookedNumbers (docLookup text rec token out .answer)
   pub written : out′ ≡ docLookup text rec token out .out
+
+-- Contract: the verdict of formatting and the final output.
+pub record GetOut (text rec : List ℕ) (tab : ℕ) (out out′ answer : List ℕ) : Type 0 where
+  pub numbers : answer ≡ verdictNumbers (get text rec tab out .verdict)
+  pub written : out′ ≡ get text rec tab out .out

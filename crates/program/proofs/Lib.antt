@@ -1,2 +1,4 @@
 pub mod Run
 pub mod Sheets
+pub mod PrintingLaws
+pub mod InputLaws

@@ -1,1 +1,182 @@
 // The program's work, from input bytes to printed bytes (document 01, above its modules).
+use formatter::Answer;
+use formatter::Measures;
+use reader::commands::u16_at;
+ghost use mathlib.Core.Path.{_≡_};
+ghost use mathlib.Core.List.{[], _∷_, _++_};
+ghost use Prim.Native.Nat.{_+_, _≤_, _<_};
+ghost use lib.ListN.{length, take, drop};
+ghost use Rattle.formatter.specs.Verdict.{verdict, noMeasures};
+ghost use Rattle.program.specs.Program.{decimal, printed, headLength, tabSize, textLength, program};
+ghost use Rattle.program.specs.Printing.{maxLine, said, saidWith, TextWithin, Puts, PutsLine, Prints};
+
+// ---- the line
+// Writes a byte at an offset.
+fn put_byte(out: &mut [u8], at: usize, b: u8) -> usize
+    requires { ⌜ at < length (now out) ⌝ }
+    ensures { λ r. ⌜ Puts (now (out .entry)) at (b ∷ []) (now (out .exit)) r ⌝ }
+{
+    out[at] = b;
+    at + 1
+}
+
+// Writes a number in decimal.
+fn put_decimal(out: &mut [u8], at: usize, n: u64) -> usize
+    requires { ⌜ at + length (decimal n) ≤ length (now out) ⌝ }
+    ensures { λ r. ⌜ Puts (now (out .entry)) at (decimal n) (now (out .exit)) r ⌝ }
+{
+    if n < 10 {
+        return put_byte(out, at, 48 + n as u8);
+    }
+    let last = put_decimal(out, at, n / 10);
+    put_byte(out, last, 48 + (n % 10) as u8)
+}
+
+// Writes a number and the byte behind it.
+fn put_number(out: &mut [u8], at: usize, n: u64, end: u8) -> usize
+    requires { ⌜ at + 21 ≤ length (now out) ⌝ }
+    ensures { λ r. ⌜ Puts (now (out .entry)) at (decimal n ++ end ∷ []) (now (out .exit)) r ⌝ }
+    ensures { λ r. ⌜ r ≤ at + 21 ⌝ }
+{
+    let next = put_decimal(out, at, n);
+    put_byte(out, next, end)
+}
+
+// Number, place and measures of a verdict.
+pub struct Numbers {
+    pub number: u64,
+    pub place: usize,
+    pub measures: Measures,
+}
+
+// A refusal because of the sheet.
+fn refused(number: u64, place: usize) -> Numbers
+    ensures { λ r. ⌜ verdict (r .number) (r .place) (r .measures) ≡ verdict number place noMeasures ⌝ }
+{
+    Numbers {
+        number,
+        place,
+        measures: Measures {
+            deepest: 0,
+            letters: 0,
+            units: 0,
+        },
+    }
+}
+
+// A verdict that gives the measures.
+fn measured(number: u64, m: Measures) -> Numbers
+    ensures { λ r. ⌜ verdict (r .number) (r .place) (r .measures) ≡ verdict number 0 m ⌝ }
+{
+    Numbers {
+        number,
+        place: 0,
+        measures: m,
+    }
+}
+
+// 01's numbers for an answer.
+pub fn numbers_of(answer: Answer) -> Numbers
+    ensures { λ r. ⌜ verdict (r .number) (r .place) (r .measures) ≡ said answer ⌝ }
+{
+    match answer {
+        Answer::Accepted(m) => measured(0, m),
+        Answer::TooLong => refused(1, 0),
+        Answer::NotAscii(place) => refused(2, place),
+        Answer::Malformed(place) => refused(3, place),
+        Answer::TooDeep(place) => refused(4, place),
+        Answer::Syntax => refused(5, 0),
+        Answer::Comments(place) => refused(6, place),
+        Answer::TooWide(m) => measured(7, m),
+        Answer::NoRoom(m) => measured(8, m),
+    }
+}
+
+// Writes number, place, deepest, letters and units of a verdict.
+fn put_numbers(out: &mut [u8], v: Numbers) -> usize
+    requires { ⌜ maxLine ≤ length (now out) ⌝ }
+    ensures { λ r. ⌜ PutsLine (now (out .entry)) (verdict (v .number) (v .place) (v .measures)) (now (out .exit)) r ⌝ }
+{
+    let m = v.measures;
+    let a = put_number(out, 0, v.number, b' ');
+    let b = put_number(out, a, v.place as u64, b' ');
+    let c = put_number(out, b, m.deepest, b' ');
+    let d = put_number(out, c, m.letters, b' ');
+    put_number(out, d, m.units, b'\n')
+}
+
+// Writes the line of an answer.
+fn put_line(out: &mut [u8], answer: Answer) -> usize
+    requires { ⌜ maxLine ≤ length (now out) ⌝ }
+    ensures { λ r. ⌜ PutsLine (now (out .entry)) (said answer) (now (out .exit)) r ⌝ }
+{
+    put_numbers(out, numbers_of(answer))
+}
+
+// Writes the line, then the text if accepted.
+fn print(out: &mut [u8], answer: Answer, tab: u32, page: &[u8]) -> usize
+    requires { ⌜ TextWithin tab answer (now page) ⌝ }
+    requires { ⌜ maxLine + length (now page) ≤ length (now out) ⌝ }
+    ensures { λ r. ⌜ Puts (now (out .entry)) 0 (printed tab (saidWith answer (now (page .entry)))) (now (out .exit)) r ⌝ }
+{
+    let n = put_line(out, answer);
+    let Answer::Accepted(m) = answer else {
+        return n;
+    };
+    let len = (m.letters + tab as u64 * m.units) as usize;
+    doc_comment::copy(out, n, &page[..len]);
+    n + len
+}
+
+// ---- the head of the input
+// A u32, little-endian.
+pub fn tab_size(input: &[u8]) -> u32
+    ensures { λ r. ⌜ r ≡ tabSize (now (input .entry)) ⌝ }
+{
+    (u16_at(input, 0) + 65536 * u16_at(input, 2)) as u32
+}
+
+fn text_length(input: &[u8]) -> usize
+    ensures { λ r. ⌜ r ≡ textLength (now (input .entry)) ⌝ }
+    ensures { λ r. ⌜ r < 65536 ⌝ }
+{
+    u16_at(input, 4)
+}
+
+// What follows the head: the text, then the record.
+fn text_in(input: &[u8], n: usize) -> &[u8]
+    requires { ⌜ headLength + n ≤ length (now input) ⌝ }
+    ensures { λ r. ⌜ now r ≡ take n (drop headLength (now (input .entry))) ⌝ }
+{
+    let end = 6 + n;
+    &input[6..end]
+}
+
+fn record_in(input: &[u8], n: usize) -> &[u8]
+    requires { ⌜ headLength + n ≤ length (now input) ⌝ }
+    ensures { λ r. ⌜ now r ≡ drop n (drop headLength (now (input .entry))) ⌝ }
+{
+    let start = 6 + n;
+    &input[start..]
+}
+
+// From the bytes of standard input to the bytes printed.
+pub fn process(input: &[u8], out: &mut [u8; 65641]) -> usize
+    ensures { λ r. ⌜ Prints (program (now (input .entry))) (now (out .exit)) r ⌝ }
+{
+    let n = text_length(input);
+    if input.len() < 6 + n {
+        return put_line(out, Answer::TooLong);
+    }
+    let tab = tab_size(input);
+    let mut page = [0u8; 65536];
+    let mut left = [0u64; 64];
+    let answer = formatter::get(
+        text_in(input, n),
+        record_in(input, n),
+        tab,
+        &mut page,
+        &mut left,
+    );
+    print(out, answer, tab, &page)
+}

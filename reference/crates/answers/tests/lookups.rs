@@ -10,7 +10,7 @@ fn tokens(texts: &[&str]) -> Sheet {
     for text in texts {
         sheet.word(text);
     }
-    sheet.finish([]).unwrap()
+    sheet.finish_named([]).unwrap()
 }
 
 fn above(reference: &Reference) -> Vec<Option<u16>> {
@@ -32,7 +32,7 @@ fn every_keyword_counts() {
         builder.word("(* c *)");
         builder.token(kind, "k");
         builder.token(kind, "k");
-        let reference = Reference::new(&builder.finish([]).unwrap());
+        let reference = Reference::new(&builder.finish_named([]).unwrap());
         let last = match kind {
             SyntaxKind::Other => Some(0),
             SyntaxKind::BlockComment => Some(2),
@@ -83,7 +83,7 @@ fn lookups_meet_no_5_or_6() {
 fn doc(comment: &str) -> Option<String> {
     let mut builder = SheetBuilder::new();
     builder.token(SyntaxKind::BlockComment, comment);
-    let reference = Reference::new(&builder.finish([]).unwrap());
+    let reference = Reference::new(&builder.finish_named([]).unwrap());
     reference.doc_comment_above(0, usize::MAX).value.found
 }
 

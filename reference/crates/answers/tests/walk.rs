@@ -60,7 +60,7 @@ fn sheet_with(family: Family, form: impl FnOnce(Token) -> NodeDescription) -> Sh
             node("TyDec").with("ty_head", x).with("ty_binds", [bind])
         }
     };
-    builder.finish([parts::dec(dec_one)]).expect("fits the schema")
+    builder.finish_named([parts::dec(dec_one)]).expect("fits the schema")
 }
 
 /// Every form with every choice.
@@ -149,7 +149,7 @@ fn fields_are_read_in_the_order_of_the_record() {
         node("IncludeDec").with("sig_exps", [where_sig_exp]),
         node("InfixDec").with("int_lit", c).with("name_star_eqs", [b, a]),
     ];
-    let sheet = builder.finish(decs.map(parts::dec)).unwrap();
+    let sheet = builder.finish_named(decs.map(parts::dec)).unwrap();
     let text = Reference::new(&sheet).get(2, 1_000).value.text;
     let expected = "val a + b = a + b\n\ninclude a where b.c = c\n\ninfix c b a";
     assert_eq!(text.as_deref(), Some(expected));
@@ -164,7 +164,7 @@ fn all_comments_left_stand_in_the_set() {
         .collect();
     let sheet = |first| {
         let dec = parts::dec(node("HoleDec").first(first));
-        builder.clone().finish([dec]).unwrap()
+        builder.clone().finish_named([dec]).unwrap()
     };
     // The place is the offset of the first left; the comments are five bytes long.
     for (first, place, words) in [
@@ -235,7 +235,7 @@ fn deep(levels: usize, outer: impl Fn(NodeDescription) -> NodeDescription) {
     for (levels, number) in [(levels, 0), (levels + 1, 4)] {
         let innermost = node("HoleDec");
         let dec_one = (0..levels).fold(innermost, |dec_one, _| outer(parts::dec(dec_one)));
-        let sheet = SheetBuilder::new().finish([parts::dec(dec_one)]).unwrap();
+        let sheet = SheetBuilder::unlimited().finish_named([parts::dec(dec_one)]).unwrap();
         let reference = Reference::new(&sheet);
         assert_eq!(reference.check().value.number, number);
         assert_eq!(reference.get(1, usize::MAX).value.verdict.number, number);

@@ -304,7 +304,7 @@ fn forms_count_only_inside_one_another() {
     let mut builder = SheetBuilder::new();
     let dots = builder.word("...");
     let decs = (0..300).map(|_| parts::dec(node("HoleDec").first(dots)));
-    assert_eq!(sheet_refusal(&builder.finish(decs).unwrap()), None);
+    assert_eq!(sheet_refusal(&builder.finish_named(decs).unwrap()), None);
     // Groups and choices don't count: 199 parentheses round a record pattern's row.
     let mut builder = SheetBuilder::new();
     let x = builder.word("x");
@@ -313,7 +313,7 @@ fn forms_count_only_inside_one_another() {
     let pat = (0..198).fold(innermost, |pat, _| node("ParenPat").with("pat", pat));
     let bind = node("ValBind").with("pat", pat);
     let dec = parts::dec(node("ValDec").with("val_binds", [bind]));
-    assert_eq!(sheet_refusal(&builder.finish([dec]).unwrap()), None);
+    assert_eq!(sheet_refusal(&builder.finish_named([dec]).unwrap()), None);
 }
 
 #[test]
@@ -348,7 +348,7 @@ fn kinds_are_not_checked_against_use() {
     let comment = builder.token(SyntaxKind::BlockComment, "y");
     let names = [comment, x, comment];
     let dec = node("NonfixDec").first(comment).with("name_star_eqs", names);
-    assert_eq!(sheet_refusal(&builder.finish([parts::dec(dec)]).unwrap()), None);
+    assert_eq!(sheet_refusal(&builder.finish_named([parts::dec(dec)]).unwrap()), None);
 }
 
 #[test]

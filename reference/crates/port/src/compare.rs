@@ -1,17 +1,22 @@
 //! The comparison of the port with the reference on one sheet.
 
+use crate::count::Compared;
 use crate::skip::field_end;
-use crate::{comment_above, doc_comment_above, end, read, NONE};
-use answers::{Lookup, Reference};
+use crate::{end, read};
+use answers::{CommentSet, Formatted, Reference};
+use decode::number;
+use diverplume::{check, comment_above, doc_comment_above, get};
 use schema::{command, Family};
 use sheet::Sheet;
 use sml_syntax::ast::AstNode as _;
 use sml_syntax::kind::SyntaxElement;
 use std::fmt;
-use std::ops::AddAssign;
 
-/// What stands in an output before a call.
-const FILL: u8 = 0xA5;
+/// The tab sizes at which every sheet is formatted.
+const TAB_SIZES: [u32; 5] = [0, 1, 2, 4, 8];
+
+/// The longest text that is compared byte for byte; a longer one is declined.
+const LONGEST: usize = 1 << 20;
 
 /// What a call takes beyond reading the record, in bytes of it.
 const CALL: usize = 500;
@@ -43,40 +48,6 @@ fn hex(bytes: &[u8]) -> String {
     bytes.iter().fold(String::new(), |text, byte| text + &format!("{byte:02x}"))
 }
 
-/// How many answers were compared.
-#[derive(Debug, Clone, Copy, PartialEq, Eq, Default)]
-pub struct Compared {
-    /// Sheets: number, place and tokens.
-    pub sheets: u64,
-    /// Sheets that meet one of numbers 1 to 4.
-    pub refused: u64,
-    /// Sheets with lookups at every token.
-    pub whole: u64,
-    /// Ends of fields, refusals among them.
-    pub ends: u64,
-    /// Fields that have an end.
-    pub ended: u64,
-    /// Lookups of a comment.
-    pub lookups: u64,
-    /// Lookups of a doc comment.
-    pub doc_lookups: u64,
-    /// Doc texts among them, not counting outputs that are too short.
-    pub doc_texts: u64,
-}
-
-impl AddAssign for Compared {
-    fn add_assign(&mut self, other: Self) {
-        self.sheets += other.sheets;
-        self.refused += other.refused;
-        self.whole += other.whole;
-        self.ends += other.ends;
-        self.ended += other.ended;
-        self.lookups += other.lookups;
-        self.doc_lookups += other.doc_lookups;
-        self.doc_texts += other.doc_texts;
-    }
-}
-
 /// Compares the answers on a sheet. A lookup reads the whole record; where that takes more than
 /// `most_work` bytes over all tokens, the lookups are at some tokens only.
 ///
@@ -91,6 +62,8 @@ pub fn compare(sheet: &Sheet, most_work: usize) -> Result<Compared, Difference> 
     };
     comparison.read()?;
     comparison.ends()?;
+    comparison.check()?;
+    comparison.get_all()?;
     comparison.lookups(most_work)?;
     Ok(comparison.compared)
 }
@@ -135,7 +108,6 @@ impl Comparison<'_> {
         } else {
             let verdict = self.reference.check().value;
             answer[..2].copy_from_slice(&[u64::from(verdict.number), u64::from(verdict.place)]);
-            self.compared.refused += 1;
         }
         self.same(|| "read".into(), &answer, &port.answer)?;
         let of_port = port.tokens.iter();
@@ -171,6 +143,44 @@ impl Comparison<'_> {
         Ok(())
     }
 
+    fn check(&mut self) -> Result<(), Difference> {
+        let expected = Told::from(self.reference.check().value);
+        let actual = Told::from(check(&self.sheet.text, &self.sheet.record));
+        self.same(|| "check".into(), &expected, &actual)?;
+        self.compared.check.add(expected.number);
+        Ok(())
+    }
+
+    /// Formatting at the usual tab sizes, at the largest at which no indent is too wide, and at one
+    /// more.
+    fn get_all(&mut self) -> Result<(), Difference> {
+        let verdict = self.reference.check().value;
+        let largest = u32::MAX / verdict.measures.deepest.max(1);
+        let past = largest.checked_add(1);
+        for tab_size in TAB_SIZES.into_iter().chain([largest]).chain(past) {
+            let needed = verdict.measures.length(tab_size);
+            let is_written = verdict.number == number::ACCEPTED && tab_size <= largest;
+            for output in lengths(needed, is_written) {
+                self.get(tab_size, output)?;
+            }
+        }
+        Ok(())
+    }
+
+    fn get(&mut self, tab_size: u32, length: usize) -> Result<(), Difference> {
+        let Formatted { verdict, text } = self.reference.get(tab_size, length).value;
+        let expected = (Told::from(verdict), filled(length, text.as_deref()));
+        let mut output = filled(length, None);
+        let verdict = get(&self.sheet.text, &self.sheet.record, tab_size, &mut output.0);
+        let call = || format!("get at tab size {tab_size} into {length} bytes");
+        self.same(call, &expected, &(Told::from(verdict), output))?;
+        self.compared.get.add(expected.0.number);
+        self.compared.texts += u64::from(text.is_some());
+        let indents = u64::from(tab_size) * expected.0.measures[2];
+        self.compared.indented += u64::from(text.is_some() && indents > 0);
+        Ok(())
+    }
+
     /// Both lookups at the tokens and at numbers past the last.
     fn lookups(&mut self, most_work: usize) -> Result<(), Difference> {
         let count = self.reference.token_count();
@@ -181,49 +191,118 @@ impl Comparison<'_> {
         let count = count as u64;
         let past = [count, count + 1, 0xFFFF, 0x1_0000, 1 << 32, u64::MAX];
         for token in tokens.chain(past) {
-            let expected = answer(&self.reference.comment_above(token).value, u64::from);
-            let actual = comment_above(&self.sheet.text, &self.sheet.record, token);
-            self.same(|| format!("comment_above {token}"), &expected, &actual)?;
-            self.compared.lookups += 1;
-            self.doc_lookups(token)?;
+            self.comment_above(token)?;
+            self.doc_comment_above_all(token)?;
         }
+        Ok(())
+    }
+
+    fn comment_above(&mut self, token: u64) -> Result<(), Difference> {
+        let expected = self.reference.comment_above(token).value;
+        let actual = comment_above(&self.sheet.text, &self.sheet.record, token);
+        let numbers = (expected.number, expected.place as usize, expected.found.map(usize::from));
+        let actual = (actual.number as u8, actual.place, actual.found);
+        self.same(|| format!("comment_above {token}"), &numbers, &actual)?;
+        self.compared.comment_above.add(expected.number);
         Ok(())
     }
 
     /// The doc lookup at a token: into outputs that are exact, one byte short, empty and long
     /// where there is a doc text, else into an empty or another output.
-    fn doc_lookups(&mut self, token: u64) -> Result<(), Difference> {
+    fn doc_comment_above_all(&mut self, token: u64) -> Result<(), Difference> {
         match self.reference.doc_comment_above(token, usize::MAX).value.found {
             Some(text) => {
                 let exact = text.len();
                 for length in [exact, exact.saturating_sub(1), 0, exact + 9] {
-                    self.doc_lookup(token, length)?;
+                    self.doc_comment_above(token, length)?;
                 }
             }
-            None => self.doc_lookup(token, if token % 2 == 0 { 0 } else { 9 })?,
+            None => self.doc_comment_above(token, if token.is_multiple_of(2) { 0 } else { 9 })?,
         }
         Ok(())
     }
 
-    fn doc_lookup(&mut self, token: u64, length: usize) -> Result<(), Difference> {
-        let found = self.reference.doc_comment_above(token, length).value;
-        let mut expected = vec![FILL; length];
-        if let Some(text) = &found.found {
-            expected[..text.len()].copy_from_slice(text.as_bytes());
-            self.compared.doc_texts += 1;
-        }
-        let expected = (answer(&found, |text| text.len() as u64), expected);
-        let mut output = vec![FILL; length];
-        let numbers = doc_comment_above(&self.sheet.text, &self.sheet.record, token, &mut output);
+    fn doc_comment_above(&mut self, token: u64, length: usize) -> Result<(), Difference> {
+        let expected = self.reference.doc_comment_above(token, length).value;
+        let text = expected.found;
+        let numbers =
+            (expected.number, expected.place as usize, text.as_ref().map(|text| text.len()));
+        let mut output = filled(length, None);
+        let actual = doc_comment_above(&self.sheet.text, &self.sheet.record, token, &mut output.0);
+        let actual = (actual.number as u8, actual.place, actual.found);
         let call = || format!("doc_comment_above {token} into {length} bytes");
-        self.same(call, &expected, &(numbers, output))?;
-        self.compared.doc_lookups += 1;
+        let expected_output = filled(length, text.as_deref());
+        self.same(call, &(numbers, expected_output), &(actual, output))?;
+        self.compared.doc_comment_above.add(expected.number);
+        self.compared.doc_texts += u64::from(text.is_some());
         Ok(())
     }
 }
 
-/// The answer of a lookup as numbers.
-fn answer<T: Clone>(lookup: &Lookup<T>, found: impl Fn(T) -> u64) -> [u64; 3] {
-    let found = lookup.found.clone().map_or(NONE, found);
-    [u64::from(lookup.number), u64::from(lookup.place), found]
+/// The lengths of outputs for a text of that many bytes: exact, long, one byte short, empty. Where no
+/// text is written, or one that is too long to compare: empty and not.
+fn lengths(needed: u128, is_written: bool) -> Vec<usize> {
+    let mut lengths = match usize::try_from(needed) {
+        Ok(exact) if is_written && exact <= LONGEST => {
+            vec![exact, exact + 1 + exact % 9, exact.saturating_sub(1), 0]
+        }
+        _ => vec![64, 0],
+    };
+    lengths.dedup();
+    lengths
+}
+
+/// An output of that length with a text at its start. No byte of the rest is ASCII, so none passes
+/// for a text's, and neighbours differ.
+fn filled(length: usize, text: Option<&str>) -> Output {
+    let mut output: Vec<_> = (0..length).map(|at| 0x80 | (at % 101) as u8).collect();
+    if let Some(text) = text {
+        output[..text.len()].copy_from_slice(text.as_bytes());
+    }
+    Output(output)
+}
+
+/// A verdict in the terms of both sides.
+#[derive(Debug, Clone, PartialEq, Eq)]
+struct Told {
+    number: u8,
+    place: usize,
+    measures: [u64; 3],
+    /// The comments left, by token number.
+    left: Vec<usize>,
+}
+
+impl From<answers::Verdict> for Told {
+    fn from(verdict: answers::Verdict) -> Self {
+        let decode::Measures { deepest, letters, units } = verdict.measures;
+        let measures = [u64::from(deepest), letters, units];
+        let place = verdict.place as usize;
+        Self { number: verdict.number, place, measures, left: tokens(&verdict.set) }
+    }
+}
+
+impl From<diverplume::Verdict> for Told {
+    fn from(verdict: diverplume::Verdict) -> Self {
+        let diverplume::Measures { deepest, letters, units } = verdict.measures;
+        let measures = [deepest, letters, units];
+        let left = tokens(verdict.comments.words());
+        Self { number: verdict.number as u8, place: verdict.place, measures, left }
+    }
+}
+
+/// The token numbers of a set.
+fn tokens(set: &CommentSet) -> Vec<usize> {
+    let words = set.iter().enumerate().filter(|(_, &word)| word != 0);
+    let bits = words.flat_map(|(at, &word)| (0..64).map(move |bit| (64 * at + bit, word >> bit)));
+    bits.filter(|(_, from_bit)| from_bit & 1 == 1).map(|(token, _)| token).collect()
+}
+
+/// The bytes of an output, shown as text.
+#[derive(PartialEq, Eq)]
+struct Output(Vec<u8>);
+
+impl fmt::Debug for Output {
+    fn fmt(&self, f: &mut fmt::Formatter<'_>) -> fmt::Result {
+        write!(f, "\"{}\"", self.0.escape_ascii())
+    }
 }

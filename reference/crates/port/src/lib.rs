@@ -1,18 +1,23 @@
-//! The port's exported calls behind safe wrappers, and their comparison with the reference.
+//! The port's calls, compared with the reference.
 //!
-//! The calls stand in the archive that `rt staticlib exports` writes. Each answer is an array that
-//! the call fills; the wrappers fill it with [`UNWRITTEN`] before.
+//! The public calls are those of the library `diverplume`. Behind safe wrappers here are the calls
+//! that the archive has for tests. Each answer is an array that the call fills; the wrappers fill it
+//! with [`UNWRITTEN`] before.
 
 pub mod compare;
+mod count;
+pub mod run;
 mod skip;
+
+pub use count::{Compared, Numbers};
 
 use schema::{limit, Family};
 
 /// What stands in an answer before a call.
 pub const UNWRITTEN: u64 = 0x5A5A_5A5A_5A5A_5A5A;
 
-/// What stands in an answer for none.
-pub const NONE: u64 = u64::MAX;
+// The library links the archive.
+use diverplume as _;
 
 // A slice is passed as its pointer and its length.
 extern "C" {
@@ -39,24 +44,6 @@ extern "C" {
         count: u64,
         at: u64,
         answer: &mut [u64; 2],
-    );
-    fn diverplume_comment_above(
-        text: *const u8,
-        text_length: usize,
-        record: *const u8,
-        record_length: usize,
-        token: u64,
-        answer: &mut [u64; 3],
-    );
-    fn diverplume_doc_comment_above(
-        text: *const u8,
-        text_length: usize,
-        record: *const u8,
-        record_length: usize,
-        token: u64,
-        output: *mut u8,
-        output_length: usize,
-        answer: &mut [u64; 3],
     );
 }
 
@@ -112,43 +99,5 @@ pub fn end(family: Family, record: &[u8], count: u64, at: u64) -> [u64; 2] {
     let mut answer = [UNWRITTEN; 2];
     // SAFETY: the pointer comes from a slice of the length passed with it.
     unsafe { call(record.as_ptr(), record.len(), count, at, &mut answer) };
-    answer
-}
-
-/// The comment above a token: number, place, the comment's token number.
-#[must_use]
-pub fn comment_above(text: &[u8], record: &[u8], token: u64) -> [u64; 3] {
-    let mut answer = [UNWRITTEN; 3];
-    // SAFETY: each pointer comes from a slice of the length passed with it.
-    unsafe {
-        diverplume_comment_above(
-            text.as_ptr(),
-            text.len(),
-            record.as_ptr(),
-            record.len(),
-            token,
-            &mut answer,
-        );
-    }
-    answer
-}
-
-/// The doc comment above a token: number, place, the length written to the output's start.
-#[must_use]
-pub fn doc_comment_above(text: &[u8], record: &[u8], token: u64, output: &mut [u8]) -> [u64; 3] {
-    let mut answer = [UNWRITTEN; 3];
-    // SAFETY: each pointer comes from a slice of the length passed with it.
-    unsafe {
-        diverplume_doc_comment_above(
-            text.as_ptr(),
-            text.len(),
-            record.as_ptr(),
-            record.len(),
-            token,
-            output.as_mut_ptr(),
-            output.len(),
-            &mut answer,
-        );
-    }
     answer
 }

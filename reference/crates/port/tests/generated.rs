@@ -1,55 +1,29 @@
-//! Generated and damaged sheets of fixed seeds.
+//! Generated sheets of a fixed seed, damaged ones among them.
 
-use generate::{Case, Generator};
-use port::compare::{compare, Compared};
-use std::thread;
+use port::run::run;
+use port::Compared;
 
-/// The fewest sheets of each kind with lookups at every token.
-const SHEETS: u64 = 50_000;
+/// The fewest sheets.
+const SHEETS: u64 = 100_000;
 
-/// How many threads compare a kind.
-const THREADS: u64 = 2;
-
-/// The most bytes of record that the lookups of a sheet read; 24 sheets in 25 have lookups at every
-/// token.
-const WORK: usize = 1_000_000;
-
-/// Compares the sheets of a seed that are of a kind, `SHEETS / THREADS` of them at every token.
-fn run(seed: u64, kind: fn(&Case) -> bool) -> Compared {
-    let mut compared = Compared::default();
-    for case in (0..).map(|index| Generator::new(seed).case(index)).filter(kind) {
-        compared += compare(&case.sheet, WORK).unwrap_or_else(|difference| {
-            panic!("{case}: {difference}");
-        });
-        if compared.whole >= SHEETS / THREADS {
-            break;
-        }
-    }
-    compared
-}
-
-fn run_all(first_seed: u64, kind: fn(&Case) -> bool) -> Compared {
-    let mut compared = Compared::default();
-    thread::scope(|scope| {
-        let threads = (0..THREADS).map(|n| scope.spawn(move || run(first_seed + n, kind)));
-        for thread in threads.collect::<Vec<_>>() {
-            compared += thread.join().expect("no difference");
-        }
-    });
-    println!("{compared:?}");
-    compared
-}
+/// The seed.
+const SEED: u64 = 31;
 
 #[test]
 fn generated_sheets() {
-    let compared = run_all(31, |case| case.damage.is_none());
-    assert!(compared.whole >= SHEETS);
-    assert!(compared.ended > 0 && compared.doc_texts > 0);
+    let compared = run(SEED, SHEETS).unwrap_or_else(|differing| panic!("{differing}"));
+    println!("{compared}");
+    assert_eq!(compared.sheets, SHEETS);
+    every_number_occurs(&compared);
+    let accepted = compared.check.of(0);
+    assert!(3 * accepted >= SHEETS, "{accepted} accepted");
+    assert!(compared.indented > 0 && compared.doc_texts > 0 && compared.ended > 0);
+    assert!(20 * compared.whole >= 19 * SHEETS, "{} with lookups at every token", compared.whole);
 }
 
-#[test]
-fn damaged_sheets() {
-    let compared = run_all(41, |case| case.damage.is_some());
-    assert!(compared.whole >= SHEETS);
-    assert!(compared.refused > 0);
+fn every_number_occurs(compared: &Compared) {
+    assert_eq!(compared.check.occurring(), [0, 1, 2, 3, 4, 5, 6]);
+    assert_eq!(compared.get.occurring(), [0, 1, 2, 3, 4, 5, 6, 7, 8]);
+    assert_eq!(compared.comment_above.occurring(), [0, 1, 2, 3, 4, 9]);
+    assert_eq!(compared.doc_comment_above.occurring(), [0, 1, 2, 3, 4, 8, 9]);
 }

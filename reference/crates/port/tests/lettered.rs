@@ -1,7 +1,7 @@
 //! The lettered sheets of document 01.
 
+use diverplume::{comment_above, doc_comment_above, get};
 use port::compare::compare;
-use port::{comment_above, doc_comment_above, NONE};
 use sheet::lettered;
 
 #[test]
@@ -14,13 +14,21 @@ fn lettered_sheets() {
 }
 
 #[test]
+fn sheet_c() {
+    let sheet = lettered::c();
+    let mut output = [b'.'; 40];
+    assert!(get(&sheet.text, &sheet.record, 2, &mut output).is_accepted());
+    assert_eq!(&output, b"val x =\n  if a then\n    b\n  else\n    c..");
+}
+
+#[test]
 fn sheet_m() {
     let (doc, plain) = (lettered::m_doc(), lettered::m_plain());
     let mut output = *b"....";
     let answer = doc_comment_above(&doc.text, &doc.record, 2, &mut output);
-    assert_eq!((answer, &output), ([0, 0, 1], b"a..."));
+    assert_eq!((answer.found, &output), (Some(1), b"a..."));
     let mut output = *b"....";
     let answer = doc_comment_above(&plain.text, &plain.record, 2, &mut output);
-    assert_eq!((answer, &output), ([0, 0, NONE], b"...."));
-    assert_eq!(comment_above(&plain.text, &plain.record, 2), [0, 0, 0]);
+    assert_eq!((answer.found, &output), (None, b"...."));
+    assert_eq!(comment_above(&plain.text, &plain.record, 2).found, Some(0));
 }

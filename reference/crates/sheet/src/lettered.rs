@@ -1,9 +1,7 @@
 //! The sheets that document 01 lists with their answers, A to N.
 
-use crate::describe::{node, NodeDescription, Token};
 use crate::parts::{con_pat, dec, eq_exp, path, path_exp, s_con_exp, val_dec};
-use crate::{Sheet, SheetBuilder};
-use schema::SyntaxKind;
+use schema::{node, NodeDescription, Sheet, SheetBuilder, SyntaxKind, Token};
 
 /// Every lettered sheet with its name.
 #[must_use]
@@ -37,7 +35,7 @@ pub fn all() -> Vec<(&'static str, Sheet)> {
 
 /// The sheet with these items of `root.decs()`.
 fn finish<const N: usize>(sheet: SheetBuilder, decs: [NodeDescription; N]) -> Sheet {
-    sheet.finish(decs).expect("a lettered sheet fits the schema")
+    sheet.finish_named(decs).expect("a lettered sheet fits the schema")
 }
 
 /// Appends the tokens of `val x = 1` and gives its declaration.
@@ -241,7 +239,7 @@ pub fn m_plain() -> Sheet {
 /// `val x =` with that many parentheses round `_`
 #[must_use]
 pub fn n_parentheses(count: usize) -> Sheet {
-    let mut sheet = SheetBuilder::new();
+    let mut sheet = SheetBuilder::unlimited();
     let [val, _, x, _, _, _] = sheet.words(["val", " ", "x", " ", "=", " "]);
     for _ in 0..count {
         sheet.word("(");
@@ -258,7 +256,7 @@ pub fn n_parentheses(count: usize) -> Sheet {
 /// A text of that many spaces, one token, no declarations
 #[must_use]
 pub fn n_spaces(count: usize) -> Sheet {
-    let mut sheet = SheetBuilder::new();
+    let mut sheet = SheetBuilder::unlimited();
     sheet.token(SyntaxKind::Other, " ".repeat(count));
     finish(sheet, [])
 }
@@ -266,7 +264,7 @@ pub fn n_spaces(count: usize) -> Sheet {
 /// That many tokens of one byte, no declarations
 #[must_use]
 pub fn n_tokens(count: usize) -> Sheet {
-    let mut sheet = SheetBuilder::new();
+    let mut sheet = SheetBuilder::unlimited();
     for _ in 0..count {
         sheet.word(";");
     }

@@ -1,6 +1,6 @@
 //! Descriptions of frequent nodes.
 
-use crate::describe::{node, NodeDescription, Token};
+use schema::{node, NodeDescription, Token};
 
 /// A `Dec` that holds one declaration, without semicolons or sharing tails.
 #[must_use]

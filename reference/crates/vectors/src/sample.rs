@@ -114,7 +114,7 @@ fn lookups(vectors: &mut Vec<Vector>) {
         let [_, val, _, x, _, _, _, one] =
             builder.words([" ", "val", " ", "x", " ", "=", " ", "1"]);
         let dec = parts::dec(parts::val_dec(val, x, parts::s_con_exp(one)));
-        let sheet = builder.finish([dec]).expect("the sheet fits the schema");
+        let sheet = builder.finish_named([dec]).expect("the sheet fits the schema");
         with_calls(&format!("comment-{at}"), &sheet, |calls| {
             let shows = format!("comment {comment:?}");
             vectors.push(calls.comment_above(2, &shows));
@@ -147,7 +147,7 @@ fn keywords(vectors: &mut Vec<Vector>) {
         for _ in 0..3 {
             builder.token(*kind, "k");
         }
-        let sheet = builder.finish([]).expect("the sheet fits the schema");
+        let sheet = builder.finish_named([]).expect("the sheet fits the schema");
         with_calls(&format!("kind-{kind:?}"), &sheet, |calls| {
             vectors.push(calls.check("a comment, then three tokens of a kind, no declarations"));
             for token in 1..4 {

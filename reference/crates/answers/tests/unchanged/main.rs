@@ -53,7 +53,7 @@ fn the_indent_sum_panics_on_overflow() {
     let arm = node("Arm").with("pat", node("WildcardPat")).with("exp", while_exp);
     let fn_exp = node("FnExp").with("matcher", node("Matcher").with("arms", [arm]));
     let dec = parts::dec(node("ExpDec").with("exp", fn_exp));
-    let reference = Reference::new(&SheetBuilder::new().finish([dec]).unwrap());
+    let reference = Reference::new(&SheetBuilder::new().finish_named([dec]).unwrap());
     let root = reference.root().expect("the sheet meets none of 1 to 4");
     let _ = sml_naive_fmt::get(root, 2_147_483_648);
 }

@@ -1,0 +1,63 @@
+//! The sheets that are timed.
+
+use diverplume::record::tree::{Dec, HoleDec};
+use diverplume::record::{limit, Sheet, SheetBuilder};
+use diverplume_sheet::tokens_and_tree;
+use sheet::worst;
+use std::iter;
+
+/// The rule file that the realistic sheets repeat.
+const RULES: &str = include_str!("../../examples/sample.sml");
+
+/// A sheet with its name.
+pub struct Named {
+    pub name: String,
+    pub sheet: Sheet,
+}
+
+/// The text of several branches: the rule file so many times, the structure's name numbered.
+fn branches(count: usize) -> String {
+    (1..=count).map(|branch| RULES.replace("HarbourStreet", &format!("Branch{branch}"))).collect()
+}
+
+fn parsed(count: usize) -> (SheetBuilder, Vec<Dec>) {
+    tokens_and_tree(&branches(count)).expect("the rule file is in the part that is known")
+}
+
+/// The rules of so many branches.
+fn rules(count: usize) -> Sheet {
+    let (builder, decs) = parsed(count);
+    builder.finish(decs).expect("a sheet within the limits")
+}
+
+/// A record of this many bytes, or a few less: the text of one branch without its structure, the
+/// declarations repeated in the tree while they fit, then `...` while they do.
+fn repeated(record: usize) -> Sheet {
+    let (_, inside) = RULES.split_once("struct\n").expect("the rules stand in a structure");
+    let (inside, _) = inside.rsplit_once("end").expect("the structure ends");
+    let (builder, decs) = tokens_and_tree(inside).expect("the rules are in the part that is known");
+    let hole = Dec::one(HoleDec::new().without_first());
+    let sheet = |rules: usize, holes: usize| {
+        let rules = decs.iter().cycle().take(rules);
+        let decs = rules.chain(iter::repeat_n(&hole, holes)).cloned();
+        let sheet = builder.clone().finish(decs).ok();
+        sheet.filter(|sheet| sheet.record.len() <= record)
+    };
+    let rules = (0..).take_while(|&rules| sheet(rules, 0).is_some()).last().unwrap_or(0);
+    let holes = (0..).map_while(|holes| sheet(rules, holes)).last();
+    holes.expect("a record that holds the tokens")
+}
+
+/// All sheets: realistic ones by size, then those on which a call takes long.
+pub fn all() -> Vec<Named> {
+    let mut sheets = Vec::new();
+    for count in [1, 2, 4, 8] {
+        sheets.push(Named { name: format!("rules-{count}"), sheet: rules(count) });
+    }
+    for (name, record) in [("4KiB", 4_096), ("64KiB", limit::RECORD)] {
+        sheets.push(Named { name: format!("record-{name}"), sheet: repeated(record) });
+    }
+    let worst = worst::all().into_iter();
+    sheets.extend(worst.map(|(name, sheet)| Named { name: name.to_owned(), sheet }));
+    sheets
+}

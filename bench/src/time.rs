@@ -1,0 +1,70 @@
+//! Times of calls, taken in turn and repeated.
+
+use std::fmt;
+use std::time::{Duration, Instant};
+
+/// How often every call is timed.
+pub const REPEATS: usize = 11;
+
+/// What a turn of one call takes at least.
+const TURN: Duration = Duration::from_millis(4);
+
+/// A call that is timed.
+pub struct Call<'a> {
+    pub name: &'static str,
+    pub run: Box<dyn FnMut() + 'a>,
+}
+
+/// The least, the median and the greatest of the repeats, in nanoseconds.
+#[derive(Debug, Clone, Copy)]
+pub struct Times {
+    pub least: f64,
+    pub median: f64,
+    pub greatest: f64,
+}
+
+impl fmt::Display for Times {
+    fn fmt(&self, f: &mut fmt::Formatter<'_>) -> fmt::Result {
+        let micro = |nano: f64| nano / 1_000.0;
+        let (least, median, greatest) =
+            (micro(self.least), micro(self.median), micro(self.greatest));
+        write!(f, "{median:11.1} {least:11.1} {greatest:11.1}")
+    }
+}
+
+/// The time of a turn of so many runs.
+fn turn(call: &mut Call<'_>, runs: u32) -> Duration {
+    let start = Instant::now();
+    for _ in 0..runs {
+        (call.run)();
+    }
+    start.elapsed()
+}
+
+/// The runs that a turn needs to take long enough.
+fn runs(call: &mut Call<'_>) -> u32 {
+    let mut runs = 1;
+    while turn(call, runs) < TURN {
+        runs *= 2;
+    }
+    runs
+}
+
+/// The times of all calls. Each repeat has a turn of every call, and begins with another call.
+pub fn times(calls: &mut [Call<'_>]) -> Vec<Times> {
+    let runs: Vec<_> = calls.iter_mut().map(runs).collect();
+    let mut taken = vec![Vec::new(); calls.len()];
+    for repeat in 0..REPEATS {
+        for at in 0..calls.len() {
+            let at = (at + repeat) % calls.len();
+            let nanos = turn(&mut calls[at], runs[at]).as_nanos();
+            taken[at].push(nanos as f64 / f64::from(runs[at]));
+        }
+    }
+    taken.into_iter().map(spread).collect()
+}
+
+fn spread(mut taken: Vec<f64>) -> Times {
+    taken.sort_by(f64::total_cmp);
+    Times { least: taken[0], median: taken[taken.len() / 2], greatest: taken[taken.len() - 1] }
+}

@@ -1,0 +1,102 @@
+/* Diverplume: a proved formatter for Standard ML rule files.
+ *
+ * The functions stand in the archive target/staticlib/libexports.a, which `rt staticlib exports`
+ * makes. They need nothing but memset, keep no state and may be called from any thread; a stack of
+ * 1 MiB is enough.
+ *
+ * A sheet is a text and a record of its tokens and syntax tree. Any bytes may be handed in. Every
+ * call ends, refuses by number what it cannot take, and changes the lent output only where it
+ * accepts. No pointer may be NULL, also where its length is 0; the memory of a verdict, of an
+ * answer and of an output may not overlap any other that is passed.
+ */
+#ifndef DIVERPLUME_H
+#define DIVERPLUME_H
+
+#include <stddef.h>
+#include <stdint.h>
+
+#ifdef __cplusplus
+extern "C" {
+#endif
+
+/* The limits of a sheet: bytes of text, bytes of record, tokens, forms inside one another. */
+#define DIVERPLUME_MAX_TEXT 32768
+#define DIVERPLUME_MAX_RECORD 65536
+#define DIVERPLUME_MAX_TOKENS 4096
+#define DIVERPLUME_MAX_FORMS 200
+
+/* What stands in diverplume_lookup.found for none. */
+#define DIVERPLUME_NONE UINT64_MAX
+
+/* The numbers of verdicts. For 1 to 6 the sheet is at fault, for 7 to 9 what else the caller brings. */
+enum {
+    DIVERPLUME_ACCEPTED = 0,
+    DIVERPLUME_TOO_LONG = 1,         /* text or record past its limit */
+    DIVERPLUME_NOT_ASCII = 2,        /* place: the first text byte of 128 or more */
+    DIVERPLUME_MALFORMED = 3,        /* place: the record's first command that does not fit */
+    DIVERPLUME_TOO_DEEP = 4,         /* place: the record's form inside 200 others */
+    DIVERPLUME_SYNTAX = 5,           /* a part that formatting needs is absent, or an import */
+    DIVERPLUME_COMMENTS_LEFT = 6,    /* place: text offset of the first comment that would be lost */
+    DIVERPLUME_INDENT_TOO_WIDE = 7,  /* deepest * tab size is over 4294967295 */
+    DIVERPLUME_OUTPUT_TOO_SHORT = 8, /* the output is shorter than the text to be written */
+    DIVERPLUME_NO_TOKEN = 9          /* a lookup of a token number not below the count */
+};
+
+/* What the check or formatting says. Measures are 0 for numbers 1 to 6. */
+typedef struct diverplume_verdict {
+    uint64_t number;
+    uint64_t place;    /* an offset, or 0 */
+    uint64_t deepest;  /* the deepest indent formed, written or not */
+    uint64_t letters;  /* bytes written other than indents */
+    uint64_t units;    /* the sum of the depths of all indents written */
+    uint64_t left[64]; /* comments left, for number 6: bit b of word w is token 64 * w + b */
+} diverplume_verdict;
+
+/* What a lookup says. */
+typedef struct diverplume_lookup {
+    uint64_t number;
+    uint64_t place;
+    uint64_t found; /* the comment's token number, or the length written; DIVERPLUME_NONE for none */
+} diverplume_lookup;
+
+/* Whether a sheet can be formatted: numbers 0 to 6. */
+void diverplume_check(const uint8_t *text, size_t text_length,
+                      const uint8_t *record, size_t record_length,
+                      diverplume_verdict *verdict);
+
+/* Formats a sheet: numbers 0 to 8. Accepted, the first diverplume_length bytes of the output are the
+ * formatted text, the others are unchanged. */
+void diverplume_get(const uint8_t *text, size_t text_length,
+                    const uint8_t *record, size_t record_length,
+                    uint32_t tab_size, uint8_t *output, size_t output_length,
+                    diverplume_verdict *verdict);
+
+/* The comment above a token: numbers 0 to 4 and 9. Finding none is number 0 too. */
+void diverplume_comment_above(const uint8_t *text, size_t text_length,
+                              const uint8_t *record, size_t record_length,
+                              uint64_t token, diverplume_lookup *answer);
+
+/* The doc text of the comment above a token, at the output's start: numbers 0 to 4, 8 and 9. An
+ * output as long as the text is long enough. */
+void diverplume_doc_comment_above(const uint8_t *text, size_t text_length,
+                                  const uint8_t *record, size_t record_length,
+                                  uint64_t token, uint8_t *output, size_t output_length,
+                                  diverplume_lookup *answer);
+
+/* The length of the formatted text at a tab size, for a verdict of number 0, 7 or 8. */
+static inline uint64_t diverplume_length(const diverplume_verdict *verdict, uint32_t tab_size)
+{
+    return verdict->letters + tab_size * verdict->units;
+}
+
+/* Whether a token is a comment left. */
+static inline int diverplume_is_left(const diverplume_verdict *verdict, uint64_t token)
+{
+    return token < DIVERPLUME_MAX_TOKENS && ((verdict->left[token / 64] >> (token % 64)) & 1) != 0;
+}
+
+#ifdef __cplusplus
+}
+#endif
+
+#endif

@@ -1,0 +1,248 @@
+//! Verdicts in words.
+
+use crate::verdict::{Lookup, Measures, Number, Verdict};
+use diverplume_record::{command, limit};
+use std::fmt;
+
+/// What a message needs beyond the numbers.
+#[derive(Debug, Clone, Copy, PartialEq, Eq)]
+pub(crate) enum Cause {
+    /// Nothing.
+    None,
+    /// The lengths of text and record.
+    Lengths(usize, usize),
+    /// A place in the text and the byte there.
+    Text(Position, u8),
+    /// What is wrong at a place in the record.
+    Record(Fault),
+    /// The tab size, and the output's length.
+    Output(u32, usize),
+    /// The output of a doc lookup.
+    DocOutput(usize),
+    /// A token number, and the count of tokens.
+    Token(u64, usize),
+}
+
+/// A line and a column, both from 1.
+#[derive(Debug, Clone, Copy, PartialEq, Eq)]
+pub(crate) struct Position {
+    line: usize,
+    column: usize,
+}
+
+/// What is wrong at a place in the record.
+#[derive(Debug, Clone, Copy, PartialEq, Eq)]
+pub(crate) enum Fault {
+    /// The tokens end there and cover only so many of the text's bytes.
+    Tokens { covered: usize, text: usize, is_end: bool },
+    /// The record ends there.
+    End,
+    /// This command.
+    Command(u8),
+}
+
+impl Cause {
+    /// The cause of numbers 1 to 6.
+    pub(crate) fn of_sheet(number: Number, place: usize, text: &[u8], record: &[u8]) -> Self {
+        match number {
+            Number::TooLong => Self::Lengths(text.len(), record.len()),
+            Number::NotAscii | Number::CommentsLeft => text
+                .get(place)
+                .map_or(Self::None, |&byte| Self::Text(Position::of(text, place), byte)),
+            Number::Malformed | Number::TooDeep => Self::Record(Fault::at(place, text, record)),
+            _ => Self::None,
+        }
+    }
+
+    /// The cause of numbers 7 and 8.
+    pub(crate) fn of_output(number: Number, tab_size: u32, output: usize) -> Option<Self> {
+        matches!(number, Number::IndentTooWide | Number::OutputTooShort)
+            .then_some(Self::Output(tab_size, output))
+    }
+
+    /// The cause of a lookup's number.
+    pub(crate) fn of_lookup(
+        number: Number,
+        place: usize,
+        text: &[u8],
+        record: &[u8],
+        token: u64,
+        output: usize,
+    ) -> Self {
+        match number {
+            Number::OutputTooShort => Self::DocOutput(output),
+            Number::NoToken => Self::Token(token, tokens(record).count()),
+            _ => Self::of_sheet(number, place, text, record),
+        }
+    }
+}
+
+impl Position {
+    fn of(text: &[u8], place: usize) -> Self {
+        let mut lines = text[..place].split(|&byte| byte == b'\n');
+        let last = lines.next_back().unwrap_or_default();
+        Self { line: lines.count() + 1, column: last.len() + 1 }
+    }
+}
+
+impl fmt::Display for Position {
+    fn fmt(&self, f: &mut fmt::Formatter<'_>) -> fmt::Result {
+        write!(f, "line {}, column {}", self.line, self.column)
+    }
+}
+
+/// The lengths of the tokens at the record's start.
+fn tokens(record: &[u8]) -> impl Iterator<Item = usize> + '_ {
+    record.chunks(4).map_while(|chunk| match *chunk {
+        [command::TOKEN, _, low, high] => Some(usize::from(u16::from_le_bytes([low, high]))),
+        _ => None,
+    })
+}
+
+impl Fault {
+    fn at(place: usize, text: &[u8], record: &[u8]) -> Self {
+        let command = record.get(place).copied();
+        let covered: usize = tokens(record).sum();
+        let is_behind_tokens = place == 4 * tokens(record).count();
+        if is_behind_tokens && covered < text.len() && command != Some(command::TOKEN) {
+            return Self::Tokens { covered, text: text.len(), is_end: command.is_none() };
+        }
+        command.map_or(Self::End, Self::Command)
+    }
+}
+
+impl fmt::Display for Fault {
+    fn fmt(&self, f: &mut fmt::Formatter<'_>) -> fmt::Result {
+        match *self {
+            Self::Tokens { covered, text, is_end } => {
+                let end = if is_end { ", its end" } else { "" };
+                write!(f, "{end}: the tokens cover {covered} of the text's {text} bytes")
+            }
+            Self::End => f.write_str(", its end: a command is missing there"),
+            Self::Command(byte) => match command::name(byte) {
+                Some(name) => write!(f, ": the command 0x{byte:02X} ({name}) does not fit there"),
+                None => write!(f, ": there is no command 0x{byte:02X}"),
+            },
+        }
+    }
+}
+
+/// Writes what is said of the sheet itself, numbers 1 to 4, for verdicts and lookups alike.
+fn write_sheet(
+    f: &mut fmt::Formatter<'_>,
+    number: Number,
+    place: usize,
+    cause: Cause,
+) -> fmt::Result {
+    write!(f, "refused ({}): ", number as u8)?;
+    match cause {
+        Cause::Lengths(text, record) => write!(
+            f,
+            "the text has {text} bytes and the record {record}, the most are {} and {}; split the \
+             file into several sheets",
+            limit::TEXT,
+            limit::RECORD
+        ),
+        Cause::Text(at, byte) => write!(
+            f,
+            "the byte 0x{byte:02X} at {at} of the text (offset {place}) is not ASCII; write it \
+             another way, in a string constant as \\{byte}"
+        ),
+        Cause::Record(Fault::Command(byte)) if number == Number::TooDeep => write!(
+            f,
+            "the form {} (0x{byte:02X}) at offset {place} of the record stands inside {} others, \
+             the most there may be; give an inner part a declaration of its own",
+            command::name(byte).unwrap_or("unknown"),
+            limit::FORMS
+        ),
+        Cause::Record(fault) => write!(
+            f,
+            "the record is malformed at offset {place}{fault}; write the record again, for \
+             example with diverplume::record"
+        ),
+        _ => write!(f, "place {place}"),
+    }
+}
+
+impl Verdict {
+    /// Writes what is said of comments left.
+    fn write_comments(&self, f: &mut fmt::Formatter<'_>, at: Position) -> fmt::Result {
+        let (count, them) = match self.comments.len() {
+            1 => ("a comment stands".to_owned(), "it"),
+            count => (format!("{count} comments stand"), "them"),
+        };
+        write!(
+            f,
+            "refused ({}): {count} where formatting would lose {them}, the first at {at} of the \
+             text (offset {}); move {them} above a declaration",
+            self.number as u8, self.place
+        )
+    }
+
+    /// Writes what is said of the tab size and the output, numbers 7 and 8.
+    fn write_output(
+        &self,
+        f: &mut fmt::Formatter<'_>,
+        tab_size: u32,
+        output: usize,
+    ) -> fmt::Result {
+        write!(f, "declined ({}): ", self.number as u8)?;
+        if self.number == Number::IndentTooWide {
+            let (deepest, most) = (self.measures.deepest, u32::MAX);
+            return write!(
+                f,
+                "an indent of {deepest} levels at tab size {tab_size} is over {most} spaces; take \
+                 a smaller tab size"
+            );
+        }
+        let needed = self.measures.length(tab_size);
+        write!(
+            f,
+            "the formatted text has {needed} bytes, the output {output}; lend an output of at \
+             least {needed} bytes"
+        )
+    }
+}
+
+impl fmt::Display for Verdict {
+    fn fmt(&self, f: &mut fmt::Formatter<'_>) -> fmt::Result {
+        match (self.number, self.cause) {
+            (Number::Accepted, _) => {
+                let Measures { deepest, letters, units } = self.measures;
+                write!(f, "accepted: deepest {deepest}, {letters} letters, {units} units")
+            }
+            (Number::Syntax, _) => write!(
+                f,
+                "refused ({}): the tree lacks a part that formatting needs, or has an import; \
+                 correct the file's syntax, and keep imports out of it",
+                self.number as u8
+            ),
+            (Number::CommentsLeft, Cause::Text(at, _)) => self.write_comments(f, at),
+            (_, Cause::Output(tab_size, output)) => self.write_output(f, tab_size, output),
+            (number, cause) => write_sheet(f, number, self.place, cause),
+        }
+    }
+}
+
+impl fmt::Display for Lookup {
+    fn fmt(&self, f: &mut fmt::Formatter<'_>) -> fmt::Result {
+        let number = self.number as u8;
+        match (self.number, self.cause) {
+            (Number::Accepted, _) => match self.found {
+                Some(found) => write!(f, "found: {found}"),
+                None => f.write_str("none found"),
+            },
+            (_, Cause::DocOutput(output)) => write!(
+                f,
+                "declined ({number}): the doc text has more than the output's {output} bytes; an \
+                 output as long as the sheet's text is long enough"
+            ),
+            (_, Cause::Token(token, count)) => write!(
+                f,
+                "declined ({number}): there is no token {token}, the sheet has {count} tokens, \
+                 numbered from 0; ask for one of these"
+            ),
+            (other, cause) => write_sheet(f, other, self.place, cause),
+        }
+    }
+}

@@ -1,0 +1,5 @@
+//! The library over the archive.
+
+mod calls;
+mod messages;
+mod sheets;
