@@ -60,6 +60,30 @@ class Arms(unittest.TestCase):
         row = self.function({"get-requires": []}, {"as": "plain"}, {})
         self.assertEqual(arms.ranks({"get": dispatch, "arm": arm, "row": row}), {"get": 0, "row": 1, "arm": 2})
 
+    def test_a_deeper_configuration(self):
+        way = [("After-indented", "indented"), ("After-exp", "exp")]
+        f = self.function({"returns": way, "exp-requires": way[:1]}, {"as": "does"}, {"exp": "does"})
+        self.assertEqual(f.answer("returns"), "record { is = c .exp .ensures .is }")
+        f.deep = {"exp"}
+        self.assertEqual(f.answer("returns"), "record { is = along (c .before .indented .ensures) (c .exp .ensures) }")
+        self.assertIn("deep-depth (c .indented .ensures)", f.answer("exp-requires"))
+
+    def test_calls_with_the_deeper_configuration(self):
+        source = "\nfn f(cfg: Cfg) -> St\n{\n    exp(st, cfg);\n    exp(st, new);\n    line(text, st, new)\n}\n"
+        self.assertEqual(arms.deep_calls(source, "f"), {"exp2", "line"})
+
+    def test_given_steps(self):
+        ways = {"returns": [("After-odd", "odd"), ("After-exp", "exp")]}
+        f = self.function(ways, {"as": "does", "before": {"exp": "by-same (law @odd) %more"}}, {"exp": "does"})
+        self.assertEqual(f.answer("returns"), "record { is = by-same (law c .before .odd) (c .exp .ensures .is) }")
+
+    def test_a_loop_with_its_own_laws(self):
+        laws = {"inv": "I", "all": "all", "more": "more (@loop-test .taken) %more", "none": "none", "again": "(again h)"}
+        f = self.function({"loop-again": TURN}, {"as": "does", "loop": ["own", laws]}, {"item": "does"})
+        self.assertEqual(f.invariant(), "I")
+        self.assertIn("more (c .before .before .before .before .before .loop-test .taken) (then-sure", f.answer("loop-again"))
+        self.assertIn("(again h)", f.answer("loop-again"))
+
     def test_a_call_without_a_step(self):
         f = self.function({"returns": [("After-odd", "odd")]}, {"as": "walked"}, {"odd": "unheard"})
         with self.assertRaises(SystemExit):

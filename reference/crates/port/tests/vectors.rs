@@ -20,6 +20,15 @@ fn stored_vectors() {
     assert!(replayed[..4].iter().all(|&count| count > 100), "{replayed:?}");
 }
 
+/// `crates/replay` has the vectors a second time, as its standard input.
+#[test]
+fn replayed_vectors_are_these() {
+    let root = Path::new(env!("CARGO_MANIFEST_DIR")).join("../..");
+    let stored = std::fs::read(root.join("vectors").join(BINARY)).expect("the stored vectors");
+    let replayed = std::fs::read(root.join("../crates/replay/stdin")).expect("the input of replay");
+    assert!(stored == replayed, "copy vectors/{BINARY} to crates/replay/stdin");
+}
+
 /// The port's answer; none for the program.
 fn replay(vector: &Stored) -> Option<Answer> {
     let Sheet { text, record } = &vector.sheet;
