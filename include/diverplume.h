@@ -1,7 +1,7 @@
 /* Diverplume: a proved formatter for Standard ML rule files.
  *
  * The functions stand in the archive target/staticlib/libexports.a, which `rt staticlib exports`
- * makes. They need nothing but memset, keep no state and may be called from any thread; a stack of
+ * makes. They need nothing but memset and memcpy, keep no state and may be called from any thread; a stack of
  * 1 MiB is enough.
  *
  * A sheet is a text and a record of its tokens and syntax tree. Any bytes may be handed in. Every
