@@ -91,7 +91,7 @@ class Function:
 
     def kind(self, thing):
         name = base(thing)
-        if thing.endswith("-arg") or re.fullmatch(r"(r|s)\d*", thing):
+        if thing.endswith("-arg") and name not in self.members or re.fullmatch(r"(r|s)\d*", thing):
             return None
         if name in READS:
             return "read"

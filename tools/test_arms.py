@@ -84,6 +84,11 @@ class Arms(unittest.TestCase):
         self.assertIn("more (c .before .before .before .before .before .loop-test .taken) (then-sure", f.answer("loop-again"))
         self.assertIn("(again h)", f.answer("loop-again"))
 
+    def test_a_call_named_as_an_argument(self):
+        way = [("After-word-arg", "word-arg"), ("After-word", "word"), ("After-con-arg-arg", "con-arg-arg"), ("After-con-arg", "con-arg")]
+        f = self.function({"returns": way}, {"as": "walked"}, {"con-arg": "walked"})
+        self.assertEqual([thing for kind, thing, path, apart in f.steps(f.places.way("returns"))], ["word", "con-arg"])
+
     def test_a_call_without_a_step(self):
         f = self.function({"returns": [("After-odd", "odd")]}, {"as": "walked"}, {"odd": "unheard"})
         with self.assertRaises(SystemExit):

@@ -30,12 +30,18 @@ fn rules(count: usize) -> Sheet {
     builder.finish(decs).expect("a sheet within the limits")
 }
 
-/// A record of this many bytes, or a few less: the text of one branch without its structure, the
-/// declarations repeated in the tree while they fit, then `...` while they do.
-fn repeated(record: usize) -> Sheet {
+/// The rules of a branch, without its structure and its last paragraph: 1,080 bytes of tokens.
+fn paragraphs() -> &'static str {
     let (_, inside) = RULES.split_once("struct\n").expect("the rules stand in a structure");
-    let (inside, _) = inside.rsplit_once("end").expect("the structure ends");
-    let (builder, decs) = tokens_and_tree(inside).expect("the rules are in the part that is known");
+    let (inside, _) = inside.rsplit_once("\n\n").expect("paragraphs");
+    inside
+}
+
+/// A record of this many bytes, or a few less: the text of so many branches, the declarations repeated
+/// in the tree while they fit, then `...` while they do.
+fn repeated(branches: usize, record: usize) -> Sheet {
+    let text = format!("{}\n", paragraphs()).repeat(branches);
+    let (builder, decs) = tokens_and_tree(&text).expect("the rules are in the part that is known");
     let hole = Dec::one(HoleDec::new().without_first());
     let sheet = |rules: usize, holes: usize| {
         let rules = decs.iter().cycle().take(rules);
@@ -54,8 +60,8 @@ pub fn all() -> Vec<Named> {
     for count in [1, 2, 4, 8] {
         sheets.push(Named { name: format!("rules-{count}"), sheet: rules(count) });
     }
-    for (name, record) in [("4KiB", 4_096), ("64KiB", limit::RECORD)] {
-        sheets.push(Named { name: format!("record-{name}"), sheet: repeated(record) });
+    for (name, branches, record) in [("4KiB", 1, 4_096), ("64KiB", 15, limit::RECORD)] {
+        sheets.push(Named { name: format!("record-{name}"), sheet: repeated(branches, record) });
     }
     let worst = worst::all().into_iter();
     sheets.extend(worst.map(|(name, sheet)| Named { name: name.to_owned(), sheet }));

@@ -3,13 +3,13 @@ use native.Mathlib.Omega.{arith}
 use mathlib.Core.Path.{_≡_, refl, sym, ap, _∙_}
 use mathlib.Core.Bool.{Bool, true, false, false≢true, _&&_, and-eq-true-iff}
 use mathlib.Core.List.{List, [], _∷_}
-use Prim.Native.Nat.{ℕ, zero, suc, _+_, _-_, _≤_, _<_}
+use Prim.Native.Nat.{ℕ, zero, suc, _+_, _-_, _/_, _%_, _≤_, _<_}
 use native.Mathlib.Nat.{not-suc-le-zero}
 use native.Mathlib.Decide.{ℕ-discrete}
-use lib.Dec.{eqb}
+use lib.Dec.{eqb, ltb}
 use lib.ListN.{length, getD, take, drop, length-drop, drop-of-length-le, List·getD-eq-default}
 use lib.Seq.{take-all, take-nil}
-use borrow.Author.Tests.{eqb-true}
+use borrow.Author.Tests.{eqb-true, ltb-true}
 use Rattle.text.specs.Bytes.{bytes, sameBytes}
 use Rattle.layout.specs.Words.{words, wordOf, wordRun, joinedWords}
 
@@ -55,23 +55,37 @@ same-eq (b ∷ bs) (c ∷ cs) t =
     rw (eqb-true b c (h .0), same-eq bs cs (h .1)) refl
 
 -- ---- the table of fixed words
-unfoldable pub starts : List ℕ
-starts = 0 ∷ 0 ∷ 1 ∷ 4 ∷ 7 ∷ 8 ∷ 9 ∷ 11 ∷ 12 ∷ 14 ∷ 15 ∷ 16 ∷ 29 ∷ 32 ∷ 35 ∷ 36 ∷ 39 ∷ 41 ∷ 43 ∷ 45 ∷ 48 ∷ 52 ∷ 56 ∷ 57 ∷ 58 ∷ 60 ∷ 63 ∷ 65 ∷ 68 ∷ 70 ∷ 72 ∷ 82 ∷ 91 ∷ 92 ∷ 94 ∷ 97 ∷ 100 ∷ 109 ∷ 117 ∷ 125 ∷ 131 ∷ 134 ∷ 140 ∷ 144 ∷ 150 ∷ 154 ∷ 159 ∷ 163 ∷ 166 ∷ 170 ∷ 182 ∷ 189 ∷ 196 ∷ 198 ∷ 202 ∷ 211 ∷ 215 ∷ 218 ∷ 222 ∷ 226 ∷ 229 ∷ 233 ∷ 242 ∷ 254 ∷ 262 ∷ 268 ∷ 272 ∷ 282 ∷ 287 ∷ 293 ∷ 300 ∷ 307 ∷ 310 ∷ 315 ∷ 325 ∷ 335 ∷ 343 ∷ []
+-- 16 × start + length.
+unfoldable pub places : List ℕ
+places = 0 ∷ 1 ∷ 19 ∷ 67 ∷ 113 ∷ 129 ∷ 146 ∷ 177 ∷ 194 ∷ 225 ∷ 241 ∷ 269 ∷ 467 ∷ 515 ∷ 561 ∷ 579 ∷ 626 ∷ 658 ∷ 690 ∷ 723 ∷ 772 ∷ 836 ∷ 897 ∷ 913 ∷ 930 ∷ 963 ∷ 1010 ∷ 1043 ∷ 1090 ∷ 1122 ∷ 1162 ∷ 1321 ∷ 1457 ∷ 1474 ∷ 1507 ∷ 1555 ∷ 1609 ∷ 1752 ∷ 1880 ∷ 2006 ∷ 2099 ∷ 2150 ∷ 2244 ∷ 2310 ∷ 2404 ∷ 2469 ∷ 2548 ∷ 2611 ∷ 2660 ∷ 2732 ∷ 2919 ∷ 3031 ∷ 3138 ∷ 3172 ∷ 3241 ∷ 3380 ∷ 3443 ∷ 3492 ∷ 3556 ∷ 3619 ∷ 3668 ∷ 3737 ∷ 3884 ∷ 4072 ∷ 4198 ∷ 4292 ∷ 4362 ∷ 4517 ∷ 4598 ∷ 4695 ∷ 4807 ∷ 4915 ∷ 4965 ∷ 5050 ∷ 5210 ∷ 5368 ∷ 5496 ∷ []
 
-unfoldable pub lens : List ℕ
-lens = 0 ∷ 1 ∷ 3 ∷ 3 ∷ 1 ∷ 1 ∷ 2 ∷ 1 ∷ 2 ∷ 1 ∷ 1 ∷ 13 ∷ 3 ∷ 3 ∷ 1 ∷ 3 ∷ 2 ∷ 2 ∷ 2 ∷ 3 ∷ 4 ∷ 4 ∷ 1 ∷ 1 ∷ 2 ∷ 3 ∷ 2 ∷ 3 ∷ 2 ∷ 2 ∷ 10 ∷ 9 ∷ 1 ∷ 2 ∷ 3 ∷ 3 ∷ 9 ∷ 8 ∷ 8 ∷ 6 ∷ 3 ∷ 6 ∷ 4 ∷ 6 ∷ 4 ∷ 5 ∷ 4 ∷ 3 ∷ 4 ∷ 12 ∷ 7 ∷ 7 ∷ 2 ∷ 4 ∷ 9 ∷ 4 ∷ 3 ∷ 4 ∷ 4 ∷ 3 ∷ 4 ∷ 9 ∷ 12 ∷ 8 ∷ 6 ∷ 4 ∷ 10 ∷ 5 ∷ 6 ∷ 7 ∷ 7 ∷ 3 ∷ 5 ∷ 10 ∷ 10 ∷ 8 ∷ 8 ∷ []
+-- The part of the run at a place.
+abbrev standing : ℕ → List ℕ
+standing place = take (place % 16) (drop (place / 16) wordRun)
 
 -- The word that the table gives is the word of the number.
 right : ℕ → Bool
-right k = sameBytes (take (getD lens k 0) (drop (getD starts k 0) wordRun)) (bytes (wordOf k))
+right k = sameBytes (standing (getD places k 0)) (bytes (wordOf k))
 
 all-right : allBelow right 77 ≡ true
-unfolding allBelow right starts lens wordRun joinedWords bytes sameBytes
+unfolding allBelow right places wordRun joinedWords bytes sameBytes
 all-right = refl
 
-pub word-in : (k : ℕ) → k < 77 → take (getD lens k 0) (drop (getD starts k 0) wordRun) ≡ bytes (wordOf k)
+pub word-in : (k : ℕ) → k < 77 → standing (getD places k 0) ≡ bytes (wordOf k)
 unfolding right
-word-in k h = same-eq (take (getD lens k 0) (drop (getD starts k 0) wordRun)) (bytes (wordOf k)) (below right 77 k all-right h)
+word-in k h = same-eq (standing (getD places k 0)) (bytes (wordOf k)) (below right 77 k all-right h)
+
+-- An entry is below 65,536.
+small : ℕ → Bool
+small k = ltb (getD places k 0) 65536
+
+all-small : allBelow small 77 ≡ true
+unfolding allBelow small places
+all-small = refl
+
+pub place-small : (k : ℕ) → k < 77 → getD places k 0 < 65536
+unfolding small
+place-small k h = ltb-true (getD places k 0) 65536 (below small 77 k all-small h)
 
 pub word-out : (k : ℕ) → 77 ≤ k → [] ≡ bytes (wordOf k)
 unfolding bytes

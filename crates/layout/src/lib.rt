@@ -205,7 +205,8 @@ fn word_piece(w: usize) -> Piece
     ensures { λ r. ⌜ ((text : List ℕ) → pieceOf wordRun text r ≡ bytes (wordOf w)) ⌝ }
 {
     if w < words::COUNT {
-        return Piece::Word(words::STARTS[w], words::LENS[w]);
+        let place = words::PLACES[w] as usize;
+        return Piece::Word(place / 16, place % 16);
     }
     Piece::Word(0, 0)
 }

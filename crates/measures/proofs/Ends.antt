@@ -13,7 +13,7 @@ use Rattle.reader.specs.Commands.{absentAt, tokenAt, listAt, groupAt, choiceAt,
 use Rattle.reader.specs.Check.{Checked, ok, malformed, tooDeep, andThen, items, operandFits, orAbsent, fields, formFits, formCheck}
 use Rattle.reader.proofs.CommandLaws.{and-right, token-fits, list-fits, choice-fits, absent-fits, group-fits, form-fits}
 
-never : {P : Type 0} → _≡_ {A = ℕ} 0 1 → P
+pub never : {P : Type 0} → _≡_ {A = ℕ} 0 1 → P
 never z = absurd (omega arith)
 
 -- Two checks one after the other: where the first ends.

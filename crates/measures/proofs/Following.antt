@@ -23,10 +23,7 @@ use Rattle.layout.specs.Events.{sumOf, deepest}
 use Rattle.layout.specs.Helpers.{text, times, items, for-each, sep}
 use Rattle.measures.proofs.Credit.{Within, then-within, earned, weaker}
 use Rattle.measures.proofs.Paying.{Paid, Short, word-within, write-within}
-use Rattle.measures.proofs.Ends.{then-parts, zero-never, ends-agree}
-
-never : {P : Type 0} → _≡_ {A = ℕ} 0 1 → P
-never z = absurd (omega arith)
+use Rattle.measures.proofs.Ends.{never, then-parts, zero-never, ends-agree}
 
 -- The check of fields, where `d` more forms may stand inside one another.
 abbrev ends : Page → ℕ → Bool → Fields → ℕ → Checked
@@ -126,29 +123,29 @@ module _ (p : Page) where
 
 -- ---- one after another
 module _ {p : Page} {d : ℕ} {may : Bool} where
-  module _ {s : String} (t : leb (length (bytes s)) 512 ≡ true) where
-    module _ {f : Fields} {a r : ℕ} {w : Layout} (x : Follows p d may f a r w) where
-      pub before : Follows p d may f (1 + (a - 0)) (r + (0 - a)) (word s ⨾ w)
-      unfolding outcome
-      before =
-          record {
-            is =
-                λ at lim e. then-within p at at lim lim at 1 0 a r (outcome p (word s) at) (λ next. outcome p w next) (grows p d may f at lim e)
-                (word-within p s t at at at (omega arith) (omega arith)) (onto p lim at a r w (x .is at lim e));
-          }
+  pub alone : {s : String} → leb (length (bytes s)) 512 ≡ true → Follows p d may Fields.none 1 0 (word s)
+  unfolding fields
+  alone {s} t = record { is = λ at lim e. let z : at ≡ lim = cc in word-within p s t lim lim at (omega arith) (omega arith) }
 
-      pub behind : Follows p d may f (a + (1 - r)) (0 + (r - 1)) (w ⨾ word s)
-      unfolding outcome
-      behind =
-          record {
-            is =
-                λ at lim e. then-within p lim lim lim lim at a r 1 0 (outcome p w at) (λ next. outcome p (word s) next) (omega arith) (x .is at lim e)
-                (λ next h i. word-within p s t lim lim next h i);
-          }
+  -- What reads nothing, before and behind what reads fields.
+  module _ {f : Fields} {a r b s : ℕ} {v w : Layout} where
+    pub before : Follows p d may Fields.none a r v → Follows p d may f b s w → Follows p d may f (a + (b - r)) (s + (r - b)) (v ⨾ w)
+    unfolding outcome fields
+    before x y =
+        record {
+          is =
+              λ at lim e. then-within p at at lim lim at a r b s (outcome p v at) (λ next. outcome p w next) (grows p d may f at lim e)
+              (x .is at at refl) (onto p lim at b s w (y .is at lim e));
+        }
 
-    pub alone : Follows p d may Fields.none 1 0 (word s)
-    unfolding fields
-    alone = record { is = λ at lim e. let z : at ≡ lim = cc in word-within p s t lim lim at (omega arith) (omega arith) }
+    pub behind : Follows p d may f a r v → Follows p d may Fields.none b s w → Follows p d may f (a + (b - r)) (s + (r - b)) (v ⨾ w)
+    unfolding outcome fields
+    behind x y =
+        record {
+          is =
+              λ at lim e. then-within p lim lim lim lim at a r b s (outcome p v at) (λ next. outcome p w next) (omega arith) (x .is at lim e)
+              (onto p lim lim b s w (y .is lim lim refl));
+        }
 
   pub both : {f g : Fields} {a r b s : ℕ} {v w : Layout} → Follows p d may f a r v → Follows p d may g b s w
       → Follows p d may (f ▸ g) (a + (b - r)) (s + (r - b)) (v ⨾ w)
@@ -216,7 +213,7 @@ module _ {p : Page} {d : ℕ} {may : Bool} {f : Fields} {a r : ℕ} {item : Layo
         is =
             λ at lim g. list-within p d may at lim f a 0 (λ n. items n item (word s ⨾ item))
             (λ n from h. weaker p lim lim lim from (a + (1 + (a - 0) - r)) 0 a 0 (outcome p (items n item (word s ⨾ item)) from) (omega arith) (omega (arith, l)) (omega (arith, l))
-            (items-within p d f lim (1 + (a - 0)) (r + (0 - a)) (word s ⨾ item) (omega (arith, l)) (before t x) a r item x n from h))
+            (items-within p d f lim (1 + (a - 0)) (r + (0 - a)) (word s ⨾ item) (omega (arith, l)) (before (alone t) x) a r item x n from h))
             (listAt (p .rec) at) refl g;
       }
 

@@ -2,12 +2,9 @@ pub mod Credit
 pub mod Paying
 pub mod Helpers
 pub mod Arms
-pub mod Types
-pub mod Patterns
 pub mod Sequences
-pub mod Expressions
-pub mod Structures
-pub mod Declarations
+pub mod Irregular
+pub mod Rows
 pub mod Ends
 pub mod Following
 pub mod TypesFollow

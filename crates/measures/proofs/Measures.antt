@@ -14,25 +14,29 @@ use Rattle.reader.specs.Commands.{listAt, formWidth}
 use Rattle.reader.specs.Tokens.{Tokens}
 use Rattle.reader.specs.Reading.{Read, refused, sheet, readText, read}
 use Rattle.reader.proofs.CommandLaws.{and-left, and-right, list-fits}
-use Rattle.layout.specs.Layout.{Layout, list}
+use Rattle.layout.specs.Layout.{Layout, Declared, list}
 use Rattle.layout.specs.Meaning.{Page, Event, Outcome, done, stopped, Stop, outcome, orStop}
 use Rattle.layout.specs.Events.{sumOf, deepest, units, letters}
-use Rattle.layout.specs.Helpers.{sep-with-lines}
+use Rattle.layout.specs.Helpers.{Cfg, Walkers, sep-with-lines}
 use Rattle.layout.specs.GetDec.{get-dec}
+use Rattle.layout.specs.DecOne.{one-dec}
 use Rattle.layout.specs.Walk.{walks, top, walk}
 use Rattle.layout.specs.State.{cap}
 use Rattle.measures.proofs.Credit.{size, Within}
-use Rattle.measures.proofs.Paying.{Paid, Short, eased, halts, families, declarations}
+use Rattle.measures.proofs.Paying.{Paid, Short, eased, halts, _then_, families, declarations}
 use Rattle.measures.proofs.Following as Following
 use Rattle.measures.proofs.Following.{Follows, drops-paid}
 use Rattle.measures.proofs.Arms.{Walks}
-use Rattle.measures.proofs.Types.{ty-arms}
+use Rattle.measures.proofs.Sequences.{get-decs}
+use Rattle.measures.proofs.Irregular.{comments-above}
+use Rattle.measures.proofs.Rows.{ty-arms, pat-arms, exp-arms, sig-arms, str-arms, dec-arms}
 use Rattle.measures.proofs.TypesFollow.{ty-pairs}
-use Rattle.measures.proofs.Patterns.{pat-arms}
-use Rattle.measures.proofs.Sequences.{get-decs, inside}
-use Rattle.measures.proofs.Expressions.{exp-arms}
-use Rattle.measures.proofs.Structures.{sig-arms, str-arms}
-use Rattle.measures.proofs.Declarations.{one-decs}
+
+-- A declaration with the comment above it.
+module _ {p : Page} (short : Short p) {top : ℕ} {ws : Walkers} (go : Walks p top ws) (low : top ≤ 400) (c : Cfg) (h : c .depth + 2 ≤ top) where
+  one-decs : (d : Declared) → Paid p 82 0 (one-dec ws c d)
+  unfolding one-dec
+  one-decs d = comments-above short c (omega arith) (d .first) then dec-arms short go low c h (d .place) .at (d .number)
 
 -- ---- the knot: a form adds at most 2 to the depth
 module _ {p : Page} (short : Short p) where
@@ -57,15 +61,15 @@ module _ {p : Page} (short : Short p) where
   walks-paid (suc n) h =
       let go = walks-paid n (omega arith) in
       let low : 400 - 2 * n ≤ 400 = omega arith in
-      let ty : Paid p 0 12 (walks (suc n) .get-ty) = eased (omega arith) (omega arith) (families (λ k. ty-arms short go .at k) Ty) in
+      let ty : Paid p 0 12 (walks (suc n) .get-ty) = eased (omega arith) (omega arith) (families (λ k. ty-arms short go low .at k) Ty) in
       record {
         ty = ty;
         dropped-ty = drops-paid (ty-follows (suc n) true) ty;
-        pat = eased (omega arith) (omega arith) (families (λ k. pat-arms short go .at k) Pat);
-        exp = λ c l. eased (omega arith) (omega arith) (families (λ k. exp-arms (inside short go low c (omega arith)) .at k) Exp);
-        str-exp = λ c l. eased (omega arith) (omega arith) (families (λ k. str-arms (inside short go low c (omega arith)) .at k) StrExp);
-        sig-exp = λ c l. eased (omega arith) (omega arith) (families (λ k. sig-arms (inside short go low c (omega arith)) .at k) SigExp);
-        dec-one = λ c l. eased (omega arith) (omega arith) (declarations (one-decs (inside short go low c (omega arith))));
+        pat = eased (omega arith) (omega arith) (families (λ k. pat-arms short go low .at k) Pat);
+        exp = λ c l. eased (omega arith) (omega arith) (families (λ k. exp-arms short go low c (omega arith) .at k) Exp);
+        str-exp = λ c l. eased (omega arith) (omega arith) (families (λ k. str-arms short go low c (omega arith) .at k) StrExp);
+        sig-exp = λ c l. eased (omega arith) (omega arith) (families (λ k. sig-arms short go low c (omega arith) .at k) SigExp);
+        dec-one = λ c l. eased (omega arith) (omega arith) (declarations (one-decs short go low c (omega arith)));
       }
 
   top-paid : Paid p 0 32 (get-dec (walks 200) top)

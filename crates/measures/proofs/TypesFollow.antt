@@ -1,31 +1,29 @@
--- The arms of types follow their fields.
+-- Each arm of types follows its fields, with the 16 credits that the command of its form leaves it.
+-- Written by `python3 tools/credits.py` from the layouts in crates/layout/specs.
 use mathlib.Core.Path.{refl}
 use mathlib.Core.Bool.{Bool, true}
 use Prim.Native.Nat.{ℕ}
 use Rattle.text.specs.Bytes.{bytes}
-use Rattle.reader.specs.Fields as Fields
-use Rattle.reader.specs.Fields.{Ty, forms, Path}
+use Rattle.reader.specs.Fields.{Ty, form, forms}
 use Rattle.layout.specs.Meaning.{Page}
-use Rattle.layout.specs.Helpers.{Walkers, path}
-use Rattle.layout.specs.Ty.{HoleTy, WildcardTy, TyVarTy, ty-row, ty-rows, RecordTy, ty-args, ty-seq-there, ty-seq, ConTy, OneArgConTy, star-ty, star-tys, TupleTy, FnTy, ParenTy, tys}
+use Rattle.layout.specs.Helpers.{Walkers}
 use Rattle.measures.proofs.Paying.{Short}
-use Rattle.measures.proofs.Following.{Follows, Pairs, before, behind, alone, both, texts, groups, maybes, each, seps, drops, arm, _▹_, no-more}
+use Rattle.measures.proofs.Following.{Follows, Pairs, before, behind, both, arm, _▹_, no-more}
+use Rattle.layout.specs.Helpers.{path}
+use Rattle.layout.specs.Ty.{HoleTy, WildcardTy, TyVarTy, ty-row, ty-rows, RecordTy, ty-args, ty-seq-there, ty-seq, ConTy, OneArgConTy, star-ty, star-tys, TupleTy, FnTy, ParenTy, tys}
+use Rattle.measures.proofs.Following.{alone, texts, groups, maybes, each, seps, drops}
 
-module _ {p : Page} (short : Short p) (ws : Walkers) (ty : (may : Bool) (d : ℕ) → Follows p d may (Fields.form Ty) 0 12 (ws .get-ty)) (d : ℕ) where
-  paths : Follows p d true Path 0 128 path
-  unfolding path bytes
-  paths = groups (seps (groups (texts short)) _ refl refl)
-
+module _ {p : Page} (short : Short p) (ws : Walkers) (ty : (may : Bool) (d : ℕ) → Follows p d may (form Ty) 0 12 (ws .get-ty)) (d : ℕ) where
   pub ty-pairs : Pairs p d (forms Ty) (tys ws)
-  unfolding forms tys HoleTy WildcardTy TyVarTy ty-row ty-rows RecordTy ty-args ty-seq-there ty-seq ConTy OneArgConTy star-ty star-tys TupleTy FnTy ParenTy bytes
+  unfolding tys HoleTy WildcardTy TyVarTy RecordTy ty-rows ty-row ConTy ty-seq ty-seq-there ty-args path OneArgConTy TupleTy star-tys star-ty FnTy ParenTy forms bytes
   ty-pairs =
-      arm refl (alone refl)
-      ▹ arm refl (alone refl)
-      ▹ arm refl (texts short)
-      ▹ arm refl (before refl (behind refl (seps (groups (both (texts short) (before refl (ty true d)))) _ refl refl)))
-      ▹ arm refl (both (maybes (groups (before refl (behind refl (seps (groups (ty true d)) _ refl refl))))) paths)
-      ▹ arm refl (both (ty true d) (before refl paths))
-      ▹ arm refl (both (drops (ty true)) (each (groups (before refl (ty true d))) refl))
-      ▹ arm refl (both (ty true d) (before refl (ty true d)))
-      ▹ arm refl (before refl (behind refl (ty true d)))
+      arm refl (alone refl)  -- HoleTy
+      ▹ arm refl (alone refl)  -- WildcardTy
+      ▹ arm refl (texts short)  -- TyVarTy
+      ▹ arm refl (before (alone refl) (behind (seps (groups (both (texts short) (before (alone refl) (ty _ d)))) _ refl refl) (alone refl)))  -- RecordTy
+      ▹ arm refl (both (maybes (groups (before (alone refl) (behind (seps (groups (ty _ d)) _ refl refl) (alone refl))))) (groups (seps (groups (texts short)) _ refl refl)))  -- ConTy
+      ▹ arm refl (both (ty _ d) (before (alone refl) (groups (seps (groups (texts short)) _ refl refl))))  -- OneArgConTy
+      ▹ arm refl (both (drops (ty true)) (each (groups (before (alone refl) (ty _ d))) refl))  -- TupleTy
+      ▹ arm refl (both (ty _ d) (before (alone refl) (ty _ d)))  -- FnTy
+      ▹ arm refl (before (alone refl) (behind (ty _ d) (alone refl)))  -- ParenTy
       ▹ no-more

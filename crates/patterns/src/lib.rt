@@ -24,7 +24,7 @@ ghost use Rattle.layout.specs.Walk.{walks};
 ghost use Rattle.layout.specs.Pat.{con-arg-there, con-arg, ConPat, LabAndPatPatRow, as-tail-there, as-tail, LabPatRow, pat-row-inner, pat-row, pat-rows, RecordPat, ParenPat, pat-args, TuplePat, ListPat, VectorPat, InfixPat, TypedPat, AsPat, OrPat};
 
 // The argument of a constructor that is there.
-fn con_inner_there(
+fn con_arg_there(
     text: &[u8],
     rec: &[u8],
     starts: &[u16],
@@ -40,7 +40,7 @@ fn con_inner_there(
 }
 
 // The argument of a constructor, where there is one.
-fn con_inner(
+fn con_arg(
     text: &[u8],
     rec: &[u8],
     starts: &[u16],
@@ -54,7 +54,7 @@ fn con_inner(
     let gone = absent(rec, st);
     match gone {
         Gone::Past(s) => Answer::Done(s),
-        Gone::There => con_inner_there(text, rec, starts, lens, out, st, cfg),
+        Gone::There => con_arg_there(text, rec, starts, lens, out, st, cfg),
     }
 }
 
@@ -74,7 +74,7 @@ fn con_pat(
     let Answer::Done(s1) = r1 else {
         return r1;
     };
-    con_inner(text, rec, starts, lens, out, s1, cfg)
+    con_arg(text, rec, starts, lens, out, s1, cfg)
 }
 
 // `LabAndPatPatRow`.
@@ -160,7 +160,7 @@ fn lab_pat(
 }
 
 // What a row holds, by its number.
-fn pat_row_inner(
+fn row_inner(
     text: &[u8],
     rec: &[u8],
     starts: &[u16],
@@ -181,7 +181,7 @@ fn pat_row_inner(
 }
 
 // A row of a record pattern.
-fn pat_row(
+fn row(
     text: &[u8],
     rec: &[u8],
     starts: &[u16],
@@ -199,11 +199,11 @@ fn pat_row(
     let Read::Is(k, s2) = choice(rec, s1) else {
         return stop(s1);
     };
-    pat_row_inner(text, rec, starts, lens, out, s2, cfg, k)
+    row_inner(text, rec, starts, lens, out, s2, cfg, k)
 }
 
 // The rows of a record pattern.
-fn pat_rows(
+fn rows(
     text: &[u8],
     rec: &[u8],
     starts: &[u16],
@@ -221,7 +221,7 @@ fn pat_rows(
     let mut i = 0;
     while i < n {
         let s1 = between(text, out, s, cfg.tab, words::COMMA, i);
-        let r2 = pat_row(text, rec, starts, lens, out, s1, cfg);
+        let r2 = row(text, rec, starts, lens, out, s1, cfg);
         let Answer::Done(s2) = r2 else {
             return r2;
         };
@@ -244,7 +244,7 @@ fn record_pat(
     ensures { λ r. ⌜ Plain (now (text .entry)) (now (rec .entry)) (now (starts .entry)) (now (lens .entry)) (cfg .tab) (RecordPat (walks (cfg .left))) st (now (out .entry)) r (now (out .exit)) ⌝ }
 {
     let s1 = word(text, out, st, cfg.tab, words::L_CURLY);
-    let r2 = pat_rows(text, rec, starts, lens, out, s1, cfg);
+    let r2 = rows(text, rec, starts, lens, out, s1, cfg);
     let Answer::Done(s2) = r2 else {
         return r2;
     };

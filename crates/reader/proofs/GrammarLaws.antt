@@ -8,32 +8,38 @@ use lib.Seq.{getD-append-add}
 use Rattle.reader.specs.Fields.{Fields, none, token, group, forms, Family, DecOne, StrExp, SigExp, Exp, Pat, Ty}
 use Rattle.reader.specs.Fields.{PatRowInner, FunBindCaseHead, ExBindInner, FunctorArg, AppStrExpArg}
 use Rattle.reader.specs.Tree.{firstRow}
-use Rattle.reader.specs.Grammar.{groups, nodes, node, digits, fieldsOf, inside, upTo, held, rows}
+use Rattle.reader.specs.Grammar.{groups, nodes, node, digits, fieldsOf, inside, upTo, held, rows, Spells}
 
--- The rule of a table whose rows stand for these fields.
-pub row-at : (l : List ℕ) → map fieldsOf l ≡ rows → (row : ℕ) → fieldsOf (getD l row 0) ≡ getD rows row none
+-- A row of a table that spells the fields.
+pub row-at : {l : List ℕ} → Spells l → (row : ℕ) → fieldsOf (getD l row 0) ≡ getD rows row none
 unfolding digits
-row-at l e row = sym (List·getD-map fieldsOf l row 0) ∙ ap (λ (fs : List Fields). getD fs row none) e
+row-at {l} s row = sym (List·getD-map fieldsOf l row 0) ∙ ap (λ (fs : List Fields). getD fs row none) (s .is)
 
-pub row-past : (row : ℕ) → 120 ≤ row → fieldsOf 0 ≡ getD rows row none
-unfolding digits rows forms held upTo inside groups
+pub row-past : (row : ℕ) → length rows ≤ row → fieldsOf 0 ≡ getD rows row none
+unfolding digits
 row-past row h = sym (List·getD-eq-default rows none h)
 
--- A part of a list, from the place where it starts.
-part : (xs ys zs : List Fields) (n : ℕ) → n < length ys → getD (xs ++ (ys ++ zs)) (length xs + n) none ≡ getD ys n none
-part xs ys zs n h = getD-append-add xs (ys ++ zs) n none ∙ List·getD-append ys zs none n h
+-- Rows in a row, from the place where they start.
+pub within : (row : ℕ) (fs : List Fields) → row ≡ length (take row rows) → rows ≡ take row rows ++ (fs ++ drop (row + length fs) rows)
+    → (n : ℕ) → n < length fs → getD rows (row + n) none ≡ getD fs n none
+within row fs l e n h =
+    let rest = fs ++ drop (row + length fs) rows in
+    ap (λ (rs : List Fields). getD rs (row + n) none) e
+    ∙ ap (λ (k : ℕ). getD (take row rows ++ rest) (k + n) none) l
+    ∙ getD-append-add (take row rows) rest n none
+    ∙ List·getD-append fs (drop (row + length fs) rows) none n h
 
 -- The rows of a family's forms.
 pub form-row : (family : Family) (n : ℕ) → n < length (forms family) → getD rows (firstRow family + n) none ≡ getD (forms family) n none
 unfolding rows forms held upTo inside groups firstRow
-form-row DecOne n h = part [] (forms DecOne) (drop 20 rows) n h
-form-row StrExp n h = part (take 20 rows) (forms StrExp) (drop 25 rows) n h
-form-row SigExp n h = part (take 25 rows) (forms SigExp) (drop 29 rows) n h
-form-row Exp n h = part (take 29 rows) (forms Exp) (drop 54 rows) n h
-form-row Pat n h = part (take 54 rows) (forms Pat) (drop 66 rows) n h
-form-row Ty n h = part (take 66 rows) (forms Ty) (drop 75 rows) n h
+form-row DecOne = within (firstRow DecOne) (forms DecOne) refl refl
+form-row StrExp = within (firstRow StrExp) (forms StrExp) refl refl
+form-row SigExp = within (firstRow SigExp) (forms SigExp) refl refl
+form-row Exp = within (firstRow Exp) (forms Exp) refl refl
+form-row Pat = within (firstRow Pat) (forms Pat) refl refl
+form-row Ty = within (firstRow Ty) (forms Ty) refl refl
 
-pub row-small : (family : Family) (n : ℕ) → n < length (forms family) → firstRow family + n < 75
+pub row-small : (family : Family) (n : ℕ) → n < length (forms family) → firstRow family + n < 256
 unfolding forms firstRow
 row-small DecOne n h = omega arith
 row-small StrExp n h = omega arith
@@ -42,53 +48,34 @@ row-small Exp n h = omega arith
 row-small Pat n h = omega arith
 row-small Ty n h = omega arith
 
--- The rows of the nodes that a choice can hold.
-module _ (which : ℕ) where
-  pub pat-row-inner : which < 3 → getD rows (75 + which) none ≡ getD (held PatRowInner) which none
-  unfolding rows forms held upTo inside groups
-  pat-row-inner h = part (take 75 rows) (held PatRowInner) (drop 78 rows) which h
-
-  pub fun-bind-case-head : which < 2 → getD rows (78 + which) none ≡ getD (held FunBindCaseHead) which none
-  unfolding rows forms held upTo inside groups
-  fun-bind-case-head h = part (take 78 rows) (held FunBindCaseHead) (drop 80 rows) which h
-
-  pub ex-bind-inner : which < 2 → getD rows (80 + which) none ≡ getD (held ExBindInner) which none
-  unfolding rows forms held upTo inside groups
-  ex-bind-inner h = part (take 80 rows) (held ExBindInner) (drop 82 rows) which h
-
-  pub functor-arg : which < 2 → getD rows (82 + which) none ≡ getD (held FunctorArg) which none
-  unfolding rows forms held upTo inside groups
-  functor-arg h = part (take 82 rows) (held FunctorArg) (drop 84 rows) which h
-
-  pub app-str-exp-arg : which < 2 → getD rows (84 + which) none ≡ getD (held AppStrExpArg) which none
-  unfolding rows forms held upTo inside groups
-  app-str-exp-arg h = part (take 84 rows) (held AppStrExpArg) (drop 86 rows) which h
-
 -- The default of an entry that is there plays no part.
 getD-any : (l : List Fields) (n : ℕ) (d e : Fields) → n < length l → getD l n d ≡ getD l n e
 getD-any [] n d e h = absurd (omega arith)
 getD-any (x ∷ l) zero d e h = refl
 getD-any (x ∷ l) (suc n) d e h = getD-any l n d e (omega arith)
 
--- The row of a group.
-group-from : (n : ℕ) → n < 34 → getD nodes (suc n) token ≡ group (getD rows (86 + n) none)
+-- The row of a group, from the first group's on.
+abbrev pub firstGroup : ℕ
+firstGroup = length rows - length groups
+
+group-from : (n : ℕ) → n < length groups → getD nodes (suc n) token ≡ group (getD rows (firstGroup + n) none)
 unfolding rows forms held upTo inside groups nodes
 group-from n h =
-    List·getD-append groups (drop 35 nodes) token n h
+    List·getD-append groups (drop (suc (length groups)) nodes) token n h
     ∙ getD-any groups n token (group none) h
     ∙ List·getD-map (λ (f : Fields). group (inside f)) groups n none
-    ∙ ap group (sym (getD-append-add (take 86 rows) (map inside groups) n none ∙ List·getD-map inside groups n none))
+    ∙ ap group (sym (getD-append-add (take firstGroup rows) (map inside groups) n none ∙ List·getD-map inside groups n none))
 
-pub group-row : (code : ℕ) → (code ≡ 0 → ⊥) → code < 35 → node code ≡ group (getD rows (code + 85) none)
-unfolding node
+pub group-row : (code : ℕ) → (code ≡ 0 → ⊥) → code ≤ length groups → node code ≡ group (getD rows (code + (firstGroup - 1)) none)
+unfolding node rows forms held upTo inside groups
 group-row code z h =
     let e : code ≡ suc (code - 1) = omega arith in
-    let k : code + 85 ≡ 86 + (code - 1) = omega arith in
+    let k : code + (firstGroup - 1) ≡ firstGroup + (code - 1) = omega arith in
     ap (λ (n : ℕ). getD nodes n token) e
     ∙ group-from (code - 1) (omega arith)
     ∙ ap (λ (n : ℕ). group (getD rows n none)) (sym k)
 
 -- Every code left over is a token's.
-pub token-code : (code : ℕ) → 46 ≤ code → node code ≡ token
-unfolding node nodes groups
+pub token-code : (code : ℕ) → length nodes ≤ code → node code ≡ token
+unfolding node
 token-code code h = List·getD-eq-default nodes token h

@@ -1,5 +1,6 @@
 -- The table by which the code reads the fields of a node: a row of codes for each form, each alternative of a choice, each group.
 use Prim.Native.Nat.{ℕ, zero, suc, _-_, _/_, _%_}
+use mathlib.Core.Path.{_≡_}
 use mathlib.Core.List.{List, [], _∷_, _++_, map}
 use mathlib.Core.Bool.{Bool, true, false}
 use lib.ListN.{getD}
@@ -77,3 +78,7 @@ rows =
     forms DecOne ++ forms StrExp ++ forms SigExp ++ forms Exp ++ forms Pat ++ forms Ty
     ++ held PatRowInner ++ held FunBindCaseHead ++ held ExBindInner ++ held FunctorArg ++ held AppStrExpArg
     ++ map inside groups
+
+-- The table has a row of codes for each.
+pub record Spells (table : List ℕ) : Type 0 where
+  pub is : map fieldsOf table ≡ rows

@@ -1,12 +1,14 @@
 -- Contracts of the record check behind the tokens.
 use Prim.Native.Nat.{ℕ, _+_, _≤_, _<_}
 use mathlib.Core.Path.{_≡_}
-use mathlib.Core.List.{List}
+use mathlib.Core.List.{List, _++_}
 use mathlib.Core.Bool.{Bool, true, false}
-use lib.ListN.{length}
-use Rattle.reader.specs.Fields.{Family, DecOne, StrExp, SigExp, Exp, Pat, Ty, Fields}
+use lib.ListN.{length, getD}
+use Rattle.reader.specs.Fields as Fields
+use Rattle.reader.specs.Fields.{Family, DecOne, StrExp, SigExp, Exp, Pat, Ty, Fields, choice, forms}
 use Rattle.reader.specs.Check.{Checked, ok, malformed, tooDeep, items, fields, formCheck, treeCheck, fieldEnd}
-use Rattle.reader.specs.Grammar.{fieldsOf}
+use Rattle.reader.specs.Grammar.{fieldsOf, node, rows}
+use Rattle.reader.specs.declared.tree.Choice.{Choice}
 use Rattle.reader.specs.declared.tree.Checked as Code
 use Rattle.reader.specs.declared.tree.Checked.the-variants as Case
 use Rattle.reader.specs.declared.tree.Opened.{Opened}
@@ -21,11 +23,11 @@ checkedIn (Case.TooDeep place) = tooDeep place
 -- The row of a family's first form.
 unfoldable pub firstRow : Family → ℕ
 firstRow DecOne = 0
-firstRow StrExp = 20
-firstRow SigExp = 25
-firstRow Exp = 29
-firstRow Pat = 54
-firstRow Ty = 66
+firstRow StrExp = length (forms DecOne)
+firstRow SigExp = length (forms DecOne ++ forms StrExp)
+firstRow Exp = length (forms DecOne ++ forms StrExp ++ forms SigExp)
+firstRow Pat = length (forms DecOne ++ forms StrExp ++ forms SigExp ++ forms Exp)
+firstRow Ty = length (forms DecOne ++ forms StrExp ++ forms SigExp ++ forms Exp ++ forms Pat)
 
 module _ (rec : List ℕ) (count : ℕ) where
   -- What is left of a node at an offset once its command is read.
@@ -46,6 +48,14 @@ module _ (rec : List ℕ) (count : ℕ) where
 pub record Opens (rec : List ℕ) (count left : ℕ) (f : Fields) (at : ℕ) (r : Opened) : Type 0 where
   pub is : opened rec count at r ≡ fields rec count (formCheck rec count left) false f at
   pub on : ahead rec count at r
+
+-- A choice between the nodes of rows in a row.
+abbrev pub choiceOf : Choice → Fields
+choiceOf c = choice (c .n) (λ which. getD rows (c .row + which) Fields.none)
+
+-- It reads as the node of a code.
+pub record Chooses (code : ℕ) (c : Choice) : Type 0 where
+  pub reads : {rec : List ℕ} {count left at : ℕ} {r : Opened} → Opens rec count left (choiceOf c) at r → Opens rec count left (node code) at r
 
 pub record FieldsEnd (rec : List ℕ) (count left : ℕ) (may : Bool) (f : Fields) (at : ℕ) (r : Code.Checked) : Type 0 where
   pub is : checkedIn r ≡ fields rec count (formCheck rec count left) may f at

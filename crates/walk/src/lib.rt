@@ -37,6 +37,10 @@ use layout::looks::heads;
 use layout::looks::is_if_exp;
 use layout::word;
 use layout::words;
+use layout::words::ANDALSO;
+use layout::words::HANDLE;
+use layout::words::ORELSE;
+use layout::words::RAISE;
 use leaves::app_end;
 use leaves::app_space;
 use leaves::case_head;
@@ -939,54 +943,10 @@ fn exp(
         14 => app(text, rec, kinds, starts, lens, out, left, s, sub),
         15 => fx(text, rec, kinds, starts, lens, out, left, s, sub),
         16 => ty(text, rec, kinds, starts, lens, out, left, s, sub),
-        17 => du(
-            text,
-            rec,
-            kinds,
-            starts,
-            lens,
-            out,
-            left,
-            s,
-            sub,
-            words::ANDALSO,
-        ),
-        18 => du(
-            text,
-            rec,
-            kinds,
-            starts,
-            lens,
-            out,
-            left,
-            s,
-            sub,
-            words::ORELSE,
-        ),
-        19 => ha(
-            text,
-            rec,
-            kinds,
-            starts,
-            lens,
-            out,
-            left,
-            s,
-            sub,
-            words::HANDLE,
-        ),
-        20 => pr(
-            text,
-            rec,
-            kinds,
-            starts,
-            lens,
-            out,
-            left,
-            s,
-            sub,
-            words::RAISE,
-        ),
+        17 => du(text, rec, kinds, starts, lens, out, left, s, sub, ANDALSO),
+        18 => du(text, rec, kinds, starts, lens, out, left, s, sub, ORELSE),
+        19 => ha(text, rec, kinds, starts, lens, out, left, s, sub, HANDLE),
+        20 => pr(text, rec, kinds, starts, lens, out, left, s, sub, RAISE),
         21 => ie(text, rec, kinds, starts, lens, out, left, s, sub),
         22 => wh(text, rec, kinds, starts, lens, out, left, s, sub),
         23 => ca(text, rec, kinds, starts, lens, out, left, s, sub),

@@ -20,6 +20,7 @@ use sml_naive_fmt::{check, get, Error};
 use sml_syntax::ast::{self, AstNode as _};
 use sml_syntax::kind::SyntaxNode;
 
+pub mod command_line;
 mod depth;
 
 /// The comment set (document 01, module 2): bit b of word w is token 64 × w + b.

@@ -27,41 +27,41 @@ use Rattle.reader.specs.Grammar.{node}
 use Rattle.reader.proofs.CommandLaws.{read-not, read-is, list-fits, absent-fits}
 use Rattle.reader.proofs.FieldLaws.{list-none, list-some, field-absent, field-item, opened-token, opened-inside, opened-malformed, opened-deep, opened-ahead, Passed, row-starts, row-stops, row-goes, row-ends, Counted, list-starts, list-stops, list-goes, list-ends}
 
-abbrev μ-field : Measures 1 field-kinds.ps ℕ
-μ-field κs a = 3 * (length (a .0 .now) - a .1 .1 .1 .0) + 1
+abbrev μ-field : Measures 2 field-kinds.ps ℕ
+μ-field κs a = 3 * (length (a .1 .0 .now) - a .1 .1 .1 .1 .0) + 1
 
-abbrev μ-fields : Measures 1 fields-kinds.ps ℕ
-μ-fields κs a = 3 * (length (a .0 .now) - a .1 .1 .1 .0) + 2
+abbrev μ-fields : Measures 2 fields-kinds.ps ℕ
+μ-fields κs a = 3 * (length (a .1 .0 .now) - a .1 .1 .1 .1 .0) + 2
 
-abbrev μ-item : Measures 1 item-kinds.ps ℕ
-μ-item κs a = 3 * (length (a .0 .now) - a .1 .1 .1 .0) + 0
+abbrev μ-item : Measures 2 item-kinds.ps ℕ
+μ-item κs a = 3 * (length (a .1 .0 .now) - a .1 .1 .1 .1 .0) + 0
 
-abbrev μ-items : Measures 1 items-kinds.ps ℕ
-μ-items κs a = 3 * (length (a .0 .now) - a .1 .1 .1 .1 .0) + 1
+abbrev μ-items : Measures 2 items-kinds.ps ℕ
+μ-items κs a = 3 * (length (a .1 .0 .now) - a .1 .1 .1 .1 .1 .0) + 1
 
-abbrev field-at : ℕ → In 1 field-kinds.ps
-field-at t = and 1 field-kinds.ps (is 1 field-kinds.ps μ-field t) field.Pre
+abbrev field-at : ℕ → In 2 field-kinds.ps
+field-at t = and 2 field-kinds.ps (is 2 field-kinds.ps μ-field t) field.Pre
 
-abbrev field-below : ℕ → In 1 field-kinds.ps
-field-below t = and 1 field-kinds.ps (falls 1 field-kinds.ps _<_ μ-field t) field.Pre
+abbrev field-below : ℕ → In 2 field-kinds.ps
+field-below t = and 2 field-kinds.ps (falls 2 field-kinds.ps _<_ μ-field t) field.Pre
 
-abbrev fields-at : ℕ → In 1 fields-kinds.ps
-fields-at t = and 1 fields-kinds.ps (is 1 fields-kinds.ps μ-fields t) fields.Pre
+abbrev fields-at : ℕ → In 2 fields-kinds.ps
+fields-at t = and 2 fields-kinds.ps (is 2 fields-kinds.ps μ-fields t) fields.Pre
 
-abbrev fields-below : ℕ → In 1 fields-kinds.ps
-fields-below t = and 1 fields-kinds.ps (falls 1 fields-kinds.ps _<_ μ-fields t) fields.Pre
+abbrev fields-below : ℕ → In 2 fields-kinds.ps
+fields-below t = and 2 fields-kinds.ps (falls 2 fields-kinds.ps _<_ μ-fields t) fields.Pre
 
-abbrev item-at : ℕ → In 1 item-kinds.ps
-item-at t = and 1 item-kinds.ps (is 1 item-kinds.ps μ-item t) item.Pre
+abbrev item-at : ℕ → In 2 item-kinds.ps
+item-at t = and 2 item-kinds.ps (is 2 item-kinds.ps μ-item t) item.Pre
 
-abbrev item-below : ℕ → In 1 item-kinds.ps
-item-below t = and 1 item-kinds.ps (falls 1 item-kinds.ps _<_ μ-item t) item.Pre
+abbrev item-below : ℕ → In 2 item-kinds.ps
+item-below t = and 2 item-kinds.ps (falls 2 item-kinds.ps _<_ μ-item t) item.Pre
 
-abbrev items-at : ℕ → In 1 items-kinds.ps
-items-at t = and 1 items-kinds.ps (is 1 items-kinds.ps μ-items t) items.Pre
+abbrev items-at : ℕ → In 2 items-kinds.ps
+items-at t = and 2 items-kinds.ps (is 2 items-kinds.ps μ-items t) items.Pre
 
-abbrev items-below : ℕ → In 1 items-kinds.ps
-items-below t = and 1 items-kinds.ps (falls 1 items-kinds.ps _<_ μ-items t) items.Pre
+abbrev items-below : ℕ → In 2 items-kinds.ps
+items-below t = and 2 items-kinds.ps (falls 2 items-kinds.ps _<_ μ-items t) items.Pre
 
 -- ---- `field`
 
@@ -84,7 +84,7 @@ field-add-items : (t : ℕ) → field-lts.Need-add-items (field-claims t) (field
 field-add-items t c = omega (arith, list-fits _ _ _ (read-is (c .before .before .before .list-at .ensures) (c .before .n .given .1)))
 
 field-items-requires : (t : ℕ) → field-lts.Need-items-requires (field-claims t) (field-at t) field.Post
-field-items-requires t c κs = omega (arith, c .before .before .before .before .before .before .pre .0, list-fits _ _ _ (read-is (c .before .before .before .list-at .ensures) (c .before .n .given .1)))
+field-items-requires t c κs = (omega (arith, c .before .before .before .before .before .before .pre .0, list-fits _ _ _ (read-is (c .before .before .before .list-at .ensures) (c .before .n .given .1))), c .before .before .before .before .before .before .pre .1)
 
 field-returns-2 : (t : ℕ) → field-lts.Need-returns-2 (field-claims t) (field-at t) field.Post
 field-returns-2 t c = list-some (c .before .before .before .before .before .if1 .taken) (read-is (c .before .before .before .before .list-at .ensures) (c .before .before .n .given .1)) (c .items .ensures)
@@ -92,14 +92,14 @@ field-returns-2 t c = list-some (c .before .before .before .before .before .if1 
 field-absent-at-requires : (t : ℕ) → field-lts.Need-absent-at-requires (field-claims t) (field-at t) field.Post
 field-absent-at-requires t c κs = search needs
 
-field-add-t12 : (t : ℕ) → field-lts.Need-add-t12 (field-claims t) (field-at t) field.Post
-field-add-t12 t c = omega (arith, absent-fits _ _ (sym (c .before .absent-at .ensures .is) ∙ c .if2 .taken))
+field-add-t13 : (t : ℕ) → field-lts.Need-add-t13 (field-claims t) (field-at t) field.Post
+field-add-t13 t c = omega (arith, absent-fits _ _ (sym (c .before .absent-at .ensures .is) ∙ c .if2 .taken))
 
 field-returns-3 : (t : ℕ) → field-lts.Need-returns-3 (field-claims t) (field-at t) field.Post
 field-returns-3 t c = field-absent (c .before .before .if1 .left) (sym (c .before .absent-at .ensures .is) ∙ c .if2 .taken)
 
 field-item-requires : (t : ℕ) → field-lts.Need-item-requires (field-claims t) (field-at t) field.Post
-field-item-requires t c κs = omega (arith, c .before .before .before .before .pre .0)
+field-item-requires t c κs = (omega (arith, c .before .before .before .before .pre .0), c .before .before .before .before .pre .1)
 
 field-returns-4 : (t : ℕ) → field-lts.Need-returns-4 (field-claims t) (field-at t) field.Post
 field-returns-4 t c = field-item (c .before .before .before .if1 .left) (sym (c .before .before .absent-at .ensures .is) ∙ c .before .if2 .left) (c .item .ensures)
@@ -110,16 +110,16 @@ abbrev fields-claims : ℕ → fields-lts.Claims
 fields-claims t = (field-below t, field.Post)
 
 abbrev fields-Inv-loop : fields-lts.InvT-loop
-fields-Inv-loop rec count codes at left rest₀ next₀ rest next = Passed rec count left codes at rest next
+fields-Inv-loop table rec count codes at left rest₀ next₀ rest next = Passed rec count left codes at rest next
 
 abbrev fields-μ-loop : fields-lts.MeasureT-loop
-fields-μ-loop rec count codes at left rest₀ next₀ rest next = rest
+fields-μ-loop table rec count codes at left rest₀ next₀ rest next = rest
 
 fields-loop-holds : (t : ℕ) → fields-lts.Need-loop-holds (fields-claims t) (fields-at t) fields.Post fields-Inv-loop fields-μ-loop
 fields-loop-holds t c = row-starts (omega arith)
 
 fields-field-requires : (t : ℕ) → fields-lts.Need-field-requires (fields-claims t) (fields-at t) fields.Post fields-Inv-loop fields-μ-loop
-fields-field-requires t c κs = omega (arith, c .before .before .before .pre .0, c .before .loop .inv .on)
+fields-field-requires t c κs = (omega (arith, c .before .before .before .pre .0, c .before .loop .inv .on), c .before .before .before .pre .1)
 
 fields-enum-known-found : (t : ℕ) → fields-lts.Need-enum-known-found (fields-claims t) (fields-at t) fields.Post fields-Inv-loop fields-μ-loop
 fields-enum-known-found t c = search needs
@@ -142,7 +142,7 @@ abbrev item-claims : ℕ → item-lts.Claims
 item-claims t = (open-node-reads.Asked, open-node-reads.Learnt, fields-below t, fields.Post)
 
 item-open-node-requires : (t : ℕ) → item-lts.Need-open-node-requires (item-claims t) (item-at t) item.Post
-item-open-node-requires t c κs = search needs
+item-open-node-requires t c κs = c .before .pre .1
 
 item-enum-known-opened : (t : ℕ) → item-lts.Need-enum-known-opened (item-claims t) (item-at t) item.Post
 item-enum-known-opened t c = search needs
@@ -151,7 +151,7 @@ item-enum-known-opened-2 : (t : ℕ) → item-lts.Need-enum-known-opened-2 (item
 item-enum-known-opened-2 t c = search needs
 
 item-fields-requires : (t : ℕ) → item-lts.Need-fields-requires (item-claims t) (item-at t) item.Post
-item-fields-requires t c κs = omega (arith, c .before .before .before .before .before .pre .0, opened-ahead (c .before .before .before .open-node .ensures) (c .before .opened2 .given .1))
+item-fields-requires t c κs = (omega (arith, c .before .before .before .before .before .pre .0, opened-ahead (c .before .before .before .open-node .ensures) (c .before .opened2 .given .1)), c .before .before .before .before .before .pre .1)
 
 item-enum-told : (t : ℕ) → item-lts.Need-enum-told (item-claims t) (item-at t) item.Post
 item-enum-told t c = search needs
@@ -177,16 +177,16 @@ abbrev items-claims : ℕ → items-lts.Claims
 items-claims t = (item-below t, item.Post)
 
 abbrev items-Inv-loop : items-lts.InvT-loop
-items-Inv-loop rec count code n at left i₀ next₀ i next = Counted rec count left n (node code) at i next
+items-Inv-loop table rec count code n at left i₀ next₀ i next = Counted rec count left n (node code) at i next
 
 abbrev items-μ-loop : items-lts.MeasureT-loop
-items-μ-loop rec count code n at left i₀ next₀ i next = n - i
+items-μ-loop table rec count code n at left i₀ next₀ i next = n - i
 
 items-loop-holds : (t : ℕ) → items-lts.Need-loop-holds (items-claims t) (items-at t) items.Post items-Inv-loop items-μ-loop
 items-loop-holds t c = list-starts
 
 items-item-requires : (t : ℕ) → items-lts.Need-item-requires (items-claims t) (items-at t) items.Post items-Inv-loop items-μ-loop
-items-item-requires t c κs = omega (arith, c .before .before .before .pre .0, c .before .loop .inv .on)
+items-item-requires t c κs = (omega (arith, c .before .before .before .pre .0, c .before .loop .inv .on), c .before .before .before .pre .1)
 
 items-enum-known-found : (t : ℕ) → items-lts.Need-enum-known-found (items-claims t) (items-at t) items.Post items-Inv-loop items-μ-loop
 items-enum-known-found t c = search needs
@@ -218,7 +218,7 @@ pub +field+fields+item+items-spec : {M : Type 1} → statement M
     (field-items-requires t)
     (field-returns-2 t)
     (field-absent-at-requires t)
-    (field-add-t12 t)
+    (field-add-t13 t)
     (field-returns-3 t)
     (field-item-requires t)
     (field-returns-4 t))

@@ -5,12 +5,12 @@ use borrow.Author.Needs.{needs}
 use Rattle.reader.proofs.tree.exp_end.Statement.{statement}
 use Rattle.reader.proofs.tree.exp_end.Tie as tie
 
-field-requires : tie.Need-field-requires
-field-requires c κs = search needs
+whole-field-requires : tie.Need-whole-field-requires
+whole-field-requires c κs = search needs
 
 returns : tie.Need-returns
 unfolding fieldOf node nodes groups fieldEnd
-returns c = record { is = c .field .ensures .is }
+returns c = record { is = c .whole-field .ensures .is }
 
 pub exp-end-spec : {M : Type 1} → statement M
-exp-end-spec = tie.close (tie.spec field-requires returns)
+exp-end-spec = tie.close (tie.spec whole-field-requires returns)

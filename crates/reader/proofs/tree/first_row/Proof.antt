@@ -1,4 +1,5 @@
 -- `first_row` meets its contract.
+use Rattle.reader.specs.Fields.{forms}
 use Rattle.reader.specs.Tree.{firstRow}
 use borrow.Author.Needs.{needs}
 use Rattle.reader.proofs.tree.first_row.Statement.{statement}
@@ -23,27 +24,27 @@ enum-told-6 : tie.Need-enum-told-6
 enum-told-6 c = search needs
 
 returns : tie.Need-returns
-unfolding firstRow
+unfolding firstRow forms
 returns c = cc
 
 returns-2 : tie.Need-returns-2
-unfolding firstRow
+unfolding firstRow forms
 returns-2 c = cc
 
 returns-3 : tie.Need-returns-3
-unfolding firstRow
+unfolding firstRow forms
 returns-3 c = cc
 
 returns-4 : tie.Need-returns-4
-unfolding firstRow
+unfolding firstRow forms
 returns-4 c = cc
 
 returns-5 : tie.Need-returns-5
-unfolding firstRow
+unfolding firstRow forms
 returns-5 c = cc
 
 returns-6 : tie.Need-returns-6
-unfolding firstRow
+unfolding firstRow forms
 returns-6 c = cc
 
 pub first-row-spec : {M : Type 1} → statement M

@@ -43,11 +43,11 @@ codes-of-requires c κs = search needs
 form-width-requires : tie.Need-form-width-requires
 form-width-requires c κs = search needs
 
-add-t14 : tie.Need-add-t14
-add-t14 c = omega (arith, c .form-width .ensures, form-fits _ _ (familyOf (c .before .before .before .before .before .before .before .before .before .before .before .args .family)) (c .before .before .before .before .before .before .before .n .given .0 .0) (form-read (c .before .before .before .before .before .before .before .before .before .form-at .ensures) (c .before .before .before .before .before .before .before .n .given .1)))
+add-t15 : tie.Need-add-t15
+add-t15 c = omega (arith, c .form-width .ensures, form-fits _ _ (familyOf (c .before .before .before .before .before .before .before .before .before .before .before .args .family)) (c .before .before .before .before .before .before .before .n .given .0 .0) (form-read (c .before .before .before .before .before .before .before .before .before .form-at .ensures) (c .before .before .before .before .before .before .before .n .given .1)))
 
-sub-t15 : tie.Need-sub-t15
-sub-t15 c = search needs
+sub-t16 : tie.Need-sub-t16
+sub-t16 c = search needs
 
 returns-3 : tie.Need-returns-3
 returns-3 c = form-opens (c .before .before .before .before .before .before .before .before .before .before .before .args .count) (c .before .before .before .before .before .before .before .before .before .form-at .ensures) (c .before .before .before .before .before .before .before .n .given .1) (c .before .before .before .before .before .operand-fits .ensures) (c .before .before .before .before .if1 .taken) (c .before .before .before .if2 .left) (c .form-width .ensures)
@@ -72,7 +72,7 @@ open-form-spec =
     add-codes-of
     codes-of-requires
     form-width-requires
-    add-t14
-    sub-t15
+    add-t15
+    sub-t16
     returns-3
     returns-4)

@@ -13,8 +13,8 @@ group-at-requires c κs = search needs
 codes-of-requires : tie.Need-codes-of-requires
 codes-of-requires c κs = search needs
 
-add-t8 : tie.Need-add-t8
-add-t8 c = omega (arith, group-fits _ _ (sym (c .before .before .group-at .ensures .is) ∙ c .before .if1 .taken))
+add-t9 : tie.Need-add-t9
+add-t9 c = omega (arith, group-fits _ _ (sym (c .before .before .group-at .ensures .is) ∙ c .before .if1 .taken))
 
 returns : tie.Need-returns
 returns c = group-opens (c .before .before .group-at .ensures) (c .before .if1 .taken) (c .codes-of .ensures)
@@ -23,4 +23,4 @@ returns-2 : tie.Need-returns-2
 returns-2 c = group-none (c .before .group-at .ensures) (c .if1 .left)
 
 pub open-group-spec : {M : Type 1} → statement M
-open-group-spec = tie.close (tie.spec group-at-requires codes-of-requires add-t8 returns returns-2)
+open-group-spec = tie.close (tie.spec group-at-requires codes-of-requires add-t9 returns returns-2)

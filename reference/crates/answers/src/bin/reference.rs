@@ -1,9 +1,9 @@
 //! The reference on the command line.
 
-use answers::program_output;
+use answers::{command_line, program_output};
 use decode::program::Input;
 use sheet::lettered;
-use std::io::{self, Read as _, Write as _};
+use std::io::{self, Read as _};
 use std::process::ExitCode;
 
 const USAGE: &str = "usage:
@@ -12,18 +12,7 @@ const USAGE: &str = "usage:
   reference program            what the program prints for the input on standard input";
 
 fn main() -> ExitCode {
-    let arguments: Vec<_> = std::env::args().skip(1).collect();
-    let arguments: Vec<_> = arguments.iter().map(String::as_str).collect();
-    let done = run(&arguments).and_then(|output| {
-        io::stdout().write_all(&output).map_err(|error| format!("standard output: {error}"))
-    });
-    match done {
-        Ok(()) => ExitCode::SUCCESS,
-        Err(message) => {
-            eprintln!("reference: {message}");
-            ExitCode::from(2)
-        }
-    }
+    command_line::print("reference", run)
 }
 
 /// The bytes to print, or what is wrong with the arguments.

@@ -1,9 +1,8 @@
 //! Cases on the command line: what a run of them reaches, and a case's input for the program.
 
-use answers::Reference;
+use answers::{command_line, Reference};
 use decode::program::Input;
 use generate::{Coverage, Generator};
-use std::io::{self, Write as _};
 use std::process::ExitCode;
 
 const USAGE: &str = "usage:
@@ -11,18 +10,7 @@ const USAGE: &str = "usage:
   generate input SEED INDEX    the program's input for the case of that number";
 
 fn main() -> ExitCode {
-    let arguments: Vec<_> = std::env::args().skip(1).collect();
-    let arguments: Vec<_> = arguments.iter().map(String::as_str).collect();
-    let done = run(&arguments).and_then(|output| {
-        io::stdout().write_all(&output).map_err(|error| format!("standard output: {error}"))
-    });
-    match done {
-        Ok(()) => ExitCode::SUCCESS,
-        Err(message) => {
-            eprintln!("generate: {message}");
-            ExitCode::from(2)
-        }
-    }
+    command_line::print("generate", run)
 }
 
 /// The bytes to print, or what is wrong with the arguments.

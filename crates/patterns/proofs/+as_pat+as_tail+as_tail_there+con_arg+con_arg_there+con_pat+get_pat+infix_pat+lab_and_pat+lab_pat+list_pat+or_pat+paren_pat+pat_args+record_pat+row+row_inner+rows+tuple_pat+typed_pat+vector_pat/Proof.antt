@@ -16,67 +16,67 @@ use borrow.Fn.Kinds.{In}
 use borrow.Fn.PlainCycle.{Measures, is, falls, and}
 use Rattle.patterns.proofs.as_pat.Reads as as-pat
 use Rattle.patterns.proofs.as_pat.Kinds as as-pat-kinds
-use Rattle.patterns.proofs.+as_pat+as_tail+as_tail_there+con_inner+con_inner_there+con_pat+get_pat+infix_pat+lab_and_pat+lab_pat+list_pat+or_pat+paren_pat+pat_args+pat_row+pat_row_inner+pat_rows+record_pat+tuple_pat+typed_pat+vector_pat.Lts-as_pat as as-pat-lts
+use Rattle.patterns.proofs.+as_pat+as_tail+as_tail_there+con_arg+con_arg_there+con_pat+get_pat+infix_pat+lab_and_pat+lab_pat+list_pat+or_pat+paren_pat+pat_args+record_pat+row+row_inner+rows+tuple_pat+typed_pat+vector_pat.Lts-as_pat as as-pat-lts
 use Rattle.patterns.proofs.as_tail.Reads as as-tail
 use Rattle.patterns.proofs.as_tail.Kinds as as-tail-kinds
-use Rattle.patterns.proofs.+as_pat+as_tail+as_tail_there+con_inner+con_inner_there+con_pat+get_pat+infix_pat+lab_and_pat+lab_pat+list_pat+or_pat+paren_pat+pat_args+pat_row+pat_row_inner+pat_rows+record_pat+tuple_pat+typed_pat+vector_pat.Lts-as_tail as as-tail-lts
+use Rattle.patterns.proofs.+as_pat+as_tail+as_tail_there+con_arg+con_arg_there+con_pat+get_pat+infix_pat+lab_and_pat+lab_pat+list_pat+or_pat+paren_pat+pat_args+record_pat+row+row_inner+rows+tuple_pat+typed_pat+vector_pat.Lts-as_tail as as-tail-lts
 use Rattle.patterns.proofs.as_tail_there.Reads as as-tail-there
 use Rattle.patterns.proofs.as_tail_there.Kinds as as-tail-there-kinds
-use Rattle.patterns.proofs.+as_pat+as_tail+as_tail_there+con_inner+con_inner_there+con_pat+get_pat+infix_pat+lab_and_pat+lab_pat+list_pat+or_pat+paren_pat+pat_args+pat_row+pat_row_inner+pat_rows+record_pat+tuple_pat+typed_pat+vector_pat.Lts-as_tail_there as as-tail-there-lts
-use Rattle.patterns.proofs.con_inner.Reads as con-inner
-use Rattle.patterns.proofs.con_inner.Kinds as con-inner-kinds
-use Rattle.patterns.proofs.+as_pat+as_tail+as_tail_there+con_inner+con_inner_there+con_pat+get_pat+infix_pat+lab_and_pat+lab_pat+list_pat+or_pat+paren_pat+pat_args+pat_row+pat_row_inner+pat_rows+record_pat+tuple_pat+typed_pat+vector_pat.Lts-con_inner as con-inner-lts
-use Rattle.patterns.proofs.con_inner_there.Reads as con-inner-there
-use Rattle.patterns.proofs.con_inner_there.Kinds as con-inner-there-kinds
-use Rattle.patterns.proofs.+as_pat+as_tail+as_tail_there+con_inner+con_inner_there+con_pat+get_pat+infix_pat+lab_and_pat+lab_pat+list_pat+or_pat+paren_pat+pat_args+pat_row+pat_row_inner+pat_rows+record_pat+tuple_pat+typed_pat+vector_pat.Lts-con_inner_there as con-inner-there-lts
+use Rattle.patterns.proofs.+as_pat+as_tail+as_tail_there+con_arg+con_arg_there+con_pat+get_pat+infix_pat+lab_and_pat+lab_pat+list_pat+or_pat+paren_pat+pat_args+record_pat+row+row_inner+rows+tuple_pat+typed_pat+vector_pat.Lts-as_tail_there as as-tail-there-lts
+use Rattle.patterns.proofs.con_arg.Reads as con-arg
+use Rattle.patterns.proofs.con_arg.Kinds as con-arg-kinds
+use Rattle.patterns.proofs.+as_pat+as_tail+as_tail_there+con_arg+con_arg_there+con_pat+get_pat+infix_pat+lab_and_pat+lab_pat+list_pat+or_pat+paren_pat+pat_args+record_pat+row+row_inner+rows+tuple_pat+typed_pat+vector_pat.Lts-con_arg as con-arg-lts
+use Rattle.patterns.proofs.con_arg_there.Reads as con-arg-there
+use Rattle.patterns.proofs.con_arg_there.Kinds as con-arg-there-kinds
+use Rattle.patterns.proofs.+as_pat+as_tail+as_tail_there+con_arg+con_arg_there+con_pat+get_pat+infix_pat+lab_and_pat+lab_pat+list_pat+or_pat+paren_pat+pat_args+record_pat+row+row_inner+rows+tuple_pat+typed_pat+vector_pat.Lts-con_arg_there as con-arg-there-lts
 use Rattle.patterns.proofs.con_pat.Reads as con-pat
 use Rattle.patterns.proofs.con_pat.Kinds as con-pat-kinds
-use Rattle.patterns.proofs.+as_pat+as_tail+as_tail_there+con_inner+con_inner_there+con_pat+get_pat+infix_pat+lab_and_pat+lab_pat+list_pat+or_pat+paren_pat+pat_args+pat_row+pat_row_inner+pat_rows+record_pat+tuple_pat+typed_pat+vector_pat.Lts-con_pat as con-pat-lts
+use Rattle.patterns.proofs.+as_pat+as_tail+as_tail_there+con_arg+con_arg_there+con_pat+get_pat+infix_pat+lab_and_pat+lab_pat+list_pat+or_pat+paren_pat+pat_args+record_pat+row+row_inner+rows+tuple_pat+typed_pat+vector_pat.Lts-con_pat as con-pat-lts
 use Rattle.patterns.proofs.get_pat.Reads as get-pat
 use Rattle.patterns.proofs.get_pat.Kinds as get-pat-kinds
-use Rattle.patterns.proofs.+as_pat+as_tail+as_tail_there+con_inner+con_inner_there+con_pat+get_pat+infix_pat+lab_and_pat+lab_pat+list_pat+or_pat+paren_pat+pat_args+pat_row+pat_row_inner+pat_rows+record_pat+tuple_pat+typed_pat+vector_pat.Lts-get_pat as get-pat-lts
+use Rattle.patterns.proofs.+as_pat+as_tail+as_tail_there+con_arg+con_arg_there+con_pat+get_pat+infix_pat+lab_and_pat+lab_pat+list_pat+or_pat+paren_pat+pat_args+record_pat+row+row_inner+rows+tuple_pat+typed_pat+vector_pat.Lts-get_pat as get-pat-lts
 use Rattle.patterns.proofs.infix_pat.Reads as infix-pat
 use Rattle.patterns.proofs.infix_pat.Kinds as infix-pat-kinds
-use Rattle.patterns.proofs.+as_pat+as_tail+as_tail_there+con_inner+con_inner_there+con_pat+get_pat+infix_pat+lab_and_pat+lab_pat+list_pat+or_pat+paren_pat+pat_args+pat_row+pat_row_inner+pat_rows+record_pat+tuple_pat+typed_pat+vector_pat.Lts-infix_pat as infix-pat-lts
+use Rattle.patterns.proofs.+as_pat+as_tail+as_tail_there+con_arg+con_arg_there+con_pat+get_pat+infix_pat+lab_and_pat+lab_pat+list_pat+or_pat+paren_pat+pat_args+record_pat+row+row_inner+rows+tuple_pat+typed_pat+vector_pat.Lts-infix_pat as infix-pat-lts
 use Rattle.patterns.proofs.lab_and_pat.Reads as lab-and-pat
 use Rattle.patterns.proofs.lab_and_pat.Kinds as lab-and-pat-kinds
-use Rattle.patterns.proofs.+as_pat+as_tail+as_tail_there+con_inner+con_inner_there+con_pat+get_pat+infix_pat+lab_and_pat+lab_pat+list_pat+or_pat+paren_pat+pat_args+pat_row+pat_row_inner+pat_rows+record_pat+tuple_pat+typed_pat+vector_pat.Lts-lab_and_pat as lab-and-pat-lts
+use Rattle.patterns.proofs.+as_pat+as_tail+as_tail_there+con_arg+con_arg_there+con_pat+get_pat+infix_pat+lab_and_pat+lab_pat+list_pat+or_pat+paren_pat+pat_args+record_pat+row+row_inner+rows+tuple_pat+typed_pat+vector_pat.Lts-lab_and_pat as lab-and-pat-lts
 use Rattle.patterns.proofs.lab_pat.Reads as lab-pat
 use Rattle.patterns.proofs.lab_pat.Kinds as lab-pat-kinds
-use Rattle.patterns.proofs.+as_pat+as_tail+as_tail_there+con_inner+con_inner_there+con_pat+get_pat+infix_pat+lab_and_pat+lab_pat+list_pat+or_pat+paren_pat+pat_args+pat_row+pat_row_inner+pat_rows+record_pat+tuple_pat+typed_pat+vector_pat.Lts-lab_pat as lab-pat-lts
+use Rattle.patterns.proofs.+as_pat+as_tail+as_tail_there+con_arg+con_arg_there+con_pat+get_pat+infix_pat+lab_and_pat+lab_pat+list_pat+or_pat+paren_pat+pat_args+record_pat+row+row_inner+rows+tuple_pat+typed_pat+vector_pat.Lts-lab_pat as lab-pat-lts
 use Rattle.patterns.proofs.list_pat.Reads as list-pat
 use Rattle.patterns.proofs.list_pat.Kinds as list-pat-kinds
-use Rattle.patterns.proofs.+as_pat+as_tail+as_tail_there+con_inner+con_inner_there+con_pat+get_pat+infix_pat+lab_and_pat+lab_pat+list_pat+or_pat+paren_pat+pat_args+pat_row+pat_row_inner+pat_rows+record_pat+tuple_pat+typed_pat+vector_pat.Lts-list_pat as list-pat-lts
+use Rattle.patterns.proofs.+as_pat+as_tail+as_tail_there+con_arg+con_arg_there+con_pat+get_pat+infix_pat+lab_and_pat+lab_pat+list_pat+or_pat+paren_pat+pat_args+record_pat+row+row_inner+rows+tuple_pat+typed_pat+vector_pat.Lts-list_pat as list-pat-lts
 use Rattle.patterns.proofs.or_pat.Reads as or-pat
 use Rattle.patterns.proofs.or_pat.Kinds as or-pat-kinds
-use Rattle.patterns.proofs.+as_pat+as_tail+as_tail_there+con_inner+con_inner_there+con_pat+get_pat+infix_pat+lab_and_pat+lab_pat+list_pat+or_pat+paren_pat+pat_args+pat_row+pat_row_inner+pat_rows+record_pat+tuple_pat+typed_pat+vector_pat.Lts-or_pat as or-pat-lts
+use Rattle.patterns.proofs.+as_pat+as_tail+as_tail_there+con_arg+con_arg_there+con_pat+get_pat+infix_pat+lab_and_pat+lab_pat+list_pat+or_pat+paren_pat+pat_args+record_pat+row+row_inner+rows+tuple_pat+typed_pat+vector_pat.Lts-or_pat as or-pat-lts
 use Rattle.patterns.proofs.paren_pat.Reads as paren-pat
 use Rattle.patterns.proofs.paren_pat.Kinds as paren-pat-kinds
-use Rattle.patterns.proofs.+as_pat+as_tail+as_tail_there+con_inner+con_inner_there+con_pat+get_pat+infix_pat+lab_and_pat+lab_pat+list_pat+or_pat+paren_pat+pat_args+pat_row+pat_row_inner+pat_rows+record_pat+tuple_pat+typed_pat+vector_pat.Lts-paren_pat as paren-pat-lts
+use Rattle.patterns.proofs.+as_pat+as_tail+as_tail_there+con_arg+con_arg_there+con_pat+get_pat+infix_pat+lab_and_pat+lab_pat+list_pat+or_pat+paren_pat+pat_args+record_pat+row+row_inner+rows+tuple_pat+typed_pat+vector_pat.Lts-paren_pat as paren-pat-lts
 use Rattle.patterns.proofs.pat_args.Reads as pat-args
 use Rattle.patterns.proofs.pat_args.Kinds as pat-args-kinds
-use Rattle.patterns.proofs.+as_pat+as_tail+as_tail_there+con_inner+con_inner_there+con_pat+get_pat+infix_pat+lab_and_pat+lab_pat+list_pat+or_pat+paren_pat+pat_args+pat_row+pat_row_inner+pat_rows+record_pat+tuple_pat+typed_pat+vector_pat.Lts-pat_args as pat-args-lts
-use Rattle.patterns.proofs.pat_row.Reads as pat-row
-use Rattle.patterns.proofs.pat_row.Kinds as pat-row-kinds
-use Rattle.patterns.proofs.+as_pat+as_tail+as_tail_there+con_inner+con_inner_there+con_pat+get_pat+infix_pat+lab_and_pat+lab_pat+list_pat+or_pat+paren_pat+pat_args+pat_row+pat_row_inner+pat_rows+record_pat+tuple_pat+typed_pat+vector_pat.Lts-pat_row as pat-row-lts
-use Rattle.patterns.proofs.pat_row_inner.Reads as pat-row-inner
-use Rattle.patterns.proofs.pat_row_inner.Kinds as pat-row-inner-kinds
-use Rattle.patterns.proofs.+as_pat+as_tail+as_tail_there+con_inner+con_inner_there+con_pat+get_pat+infix_pat+lab_and_pat+lab_pat+list_pat+or_pat+paren_pat+pat_args+pat_row+pat_row_inner+pat_rows+record_pat+tuple_pat+typed_pat+vector_pat.Lts-pat_row_inner as pat-row-inner-lts
-use Rattle.patterns.proofs.pat_rows.Reads as pat-rows
-use Rattle.patterns.proofs.pat_rows.Kinds as pat-rows-kinds
-use Rattle.patterns.proofs.+as_pat+as_tail+as_tail_there+con_inner+con_inner_there+con_pat+get_pat+infix_pat+lab_and_pat+lab_pat+list_pat+or_pat+paren_pat+pat_args+pat_row+pat_row_inner+pat_rows+record_pat+tuple_pat+typed_pat+vector_pat.Lts-pat_rows as pat-rows-lts
+use Rattle.patterns.proofs.+as_pat+as_tail+as_tail_there+con_arg+con_arg_there+con_pat+get_pat+infix_pat+lab_and_pat+lab_pat+list_pat+or_pat+paren_pat+pat_args+record_pat+row+row_inner+rows+tuple_pat+typed_pat+vector_pat.Lts-pat_args as pat-args-lts
 use Rattle.patterns.proofs.record_pat.Reads as record-pat
 use Rattle.patterns.proofs.record_pat.Kinds as record-pat-kinds
-use Rattle.patterns.proofs.+as_pat+as_tail+as_tail_there+con_inner+con_inner_there+con_pat+get_pat+infix_pat+lab_and_pat+lab_pat+list_pat+or_pat+paren_pat+pat_args+pat_row+pat_row_inner+pat_rows+record_pat+tuple_pat+typed_pat+vector_pat.Lts-record_pat as record-pat-lts
+use Rattle.patterns.proofs.+as_pat+as_tail+as_tail_there+con_arg+con_arg_there+con_pat+get_pat+infix_pat+lab_and_pat+lab_pat+list_pat+or_pat+paren_pat+pat_args+record_pat+row+row_inner+rows+tuple_pat+typed_pat+vector_pat.Lts-record_pat as record-pat-lts
+use Rattle.patterns.proofs.row.Reads as row
+use Rattle.patterns.proofs.row.Kinds as row-kinds
+use Rattle.patterns.proofs.+as_pat+as_tail+as_tail_there+con_arg+con_arg_there+con_pat+get_pat+infix_pat+lab_and_pat+lab_pat+list_pat+or_pat+paren_pat+pat_args+record_pat+row+row_inner+rows+tuple_pat+typed_pat+vector_pat.Lts-row as row-lts
+use Rattle.patterns.proofs.row_inner.Reads as row-inner
+use Rattle.patterns.proofs.row_inner.Kinds as row-inner-kinds
+use Rattle.patterns.proofs.+as_pat+as_tail+as_tail_there+con_arg+con_arg_there+con_pat+get_pat+infix_pat+lab_and_pat+lab_pat+list_pat+or_pat+paren_pat+pat_args+record_pat+row+row_inner+rows+tuple_pat+typed_pat+vector_pat.Lts-row_inner as row-inner-lts
+use Rattle.patterns.proofs.rows.Reads as rows
+use Rattle.patterns.proofs.rows.Kinds as rows-kinds
+use Rattle.patterns.proofs.+as_pat+as_tail+as_tail_there+con_arg+con_arg_there+con_pat+get_pat+infix_pat+lab_and_pat+lab_pat+list_pat+or_pat+paren_pat+pat_args+record_pat+row+row_inner+rows+tuple_pat+typed_pat+vector_pat.Lts-rows as rows-lts
 use Rattle.patterns.proofs.tuple_pat.Reads as tuple-pat
 use Rattle.patterns.proofs.tuple_pat.Kinds as tuple-pat-kinds
-use Rattle.patterns.proofs.+as_pat+as_tail+as_tail_there+con_inner+con_inner_there+con_pat+get_pat+infix_pat+lab_and_pat+lab_pat+list_pat+or_pat+paren_pat+pat_args+pat_row+pat_row_inner+pat_rows+record_pat+tuple_pat+typed_pat+vector_pat.Lts-tuple_pat as tuple-pat-lts
+use Rattle.patterns.proofs.+as_pat+as_tail+as_tail_there+con_arg+con_arg_there+con_pat+get_pat+infix_pat+lab_and_pat+lab_pat+list_pat+or_pat+paren_pat+pat_args+record_pat+row+row_inner+rows+tuple_pat+typed_pat+vector_pat.Lts-tuple_pat as tuple-pat-lts
 use Rattle.patterns.proofs.typed_pat.Reads as typed-pat
 use Rattle.patterns.proofs.typed_pat.Kinds as typed-pat-kinds
-use Rattle.patterns.proofs.+as_pat+as_tail+as_tail_there+con_inner+con_inner_there+con_pat+get_pat+infix_pat+lab_and_pat+lab_pat+list_pat+or_pat+paren_pat+pat_args+pat_row+pat_row_inner+pat_rows+record_pat+tuple_pat+typed_pat+vector_pat.Lts-typed_pat as typed-pat-lts
+use Rattle.patterns.proofs.+as_pat+as_tail+as_tail_there+con_arg+con_arg_there+con_pat+get_pat+infix_pat+lab_and_pat+lab_pat+list_pat+or_pat+paren_pat+pat_args+record_pat+row+row_inner+rows+tuple_pat+typed_pat+vector_pat.Lts-typed_pat as typed-pat-lts
 use Rattle.patterns.proofs.vector_pat.Reads as vector-pat
 use Rattle.patterns.proofs.vector_pat.Kinds as vector-pat-kinds
-use Rattle.patterns.proofs.+as_pat+as_tail+as_tail_there+con_inner+con_inner_there+con_pat+get_pat+infix_pat+lab_and_pat+lab_pat+list_pat+or_pat+paren_pat+pat_args+pat_row+pat_row_inner+pat_rows+record_pat+tuple_pat+typed_pat+vector_pat.Lts-vector_pat as vector-pat-lts
+use Rattle.patterns.proofs.+as_pat+as_tail+as_tail_there+con_arg+con_arg_there+con_pat+get_pat+infix_pat+lab_and_pat+lab_pat+list_pat+or_pat+paren_pat+pat_args+record_pat+row+row_inner+rows+tuple_pat+typed_pat+vector_pat.Lts-vector_pat as vector-pat-lts
 use Rattle.layout.proofs.fields.absent.Reads as absent-reads
 use Rattle.layout.proofs.fields.choice.Reads as choice-reads
 use Rattle.layout.proofs.fields.form.Reads as form-reads
@@ -89,10 +89,10 @@ use Rattle.layout.proofs.helpers.text_of.Reads as text-of-reads
 use Rattle.layout.proofs.word.Reads as word-reads
 use Rattle.types.proofs.get_ty.Reads as get-ty-reads
 use Rattle.types.proofs.ty_annotation.Reads as ty-annotation-reads
-use Rattle.patterns.proofs.+as_pat+as_tail+as_tail_there+con_inner+con_inner_there+con_pat+get_pat+infix_pat+lab_and_pat+lab_pat+list_pat+or_pat+paren_pat+pat_args+pat_row+pat_row_inner+pat_rows+record_pat+tuple_pat+typed_pat+vector_pat.{
+use Rattle.patterns.proofs.+as_pat+as_tail+as_tail_there+con_arg+con_arg_there+con_pat+get_pat+infix_pat+lab_and_pat+lab_pat+list_pat+or_pat+paren_pat+pat_args+record_pat+row+row_inner+rows+tuple_pat+typed_pat+vector_pat.{
   statement,
 }
-use Rattle.patterns.proofs.+as_pat+as_tail+as_tail_there+con_inner+con_inner_there+con_pat+get_pat+infix_pat+lab_and_pat+lab_pat+list_pat+or_pat+paren_pat+pat_args+pat_row+pat_row_inner+pat_rows+record_pat+tuple_pat+typed_pat+vector_pat.Tie.{
+use Rattle.patterns.proofs.+as_pat+as_tail+as_tail_there+con_arg+con_arg_there+con_pat+get_pat+infix_pat+lab_and_pat+lab_pat+list_pat+or_pat+paren_pat+pat_args+record_pat+row+row_inner+rows+tuple_pat+typed_pat+vector_pat.Tie.{
   close,
 }
 
@@ -105,11 +105,11 @@ abbrev μ-as-tail : Measures 5 as-tail-kinds.ps ℕ
 abbrev μ-as-tail-there : Measures 5 as-tail-there-kinds.ps ℕ
 μ-as-tail-there κs a = 16 * a .1 .1 .1 .1 .1 .1 .0 .left + 1
 
-abbrev μ-con-inner : Measures 5 con-inner-kinds.ps ℕ
-μ-con-inner κs a = 16 * a .1 .1 .1 .1 .1 .1 .0 .left + 2
+abbrev μ-con-arg : Measures 5 con-arg-kinds.ps ℕ
+μ-con-arg κs a = 16 * a .1 .1 .1 .1 .1 .1 .0 .left + 2
 
-abbrev μ-con-inner-there : Measures 5 con-inner-there-kinds.ps ℕ
-μ-con-inner-there κs a = 16 * a .1 .1 .1 .1 .1 .1 .0 .left + 1
+abbrev μ-con-arg-there : Measures 5 con-arg-there-kinds.ps ℕ
+μ-con-arg-there κs a = 16 * a .1 .1 .1 .1 .1 .1 .0 .left + 1
 
 abbrev μ-con-pat : Measures 5 con-pat-kinds.ps ℕ
 μ-con-pat κs a = 16 * a .1 .1 .1 .1 .1 .1 .0 .left + 3
@@ -138,17 +138,17 @@ abbrev μ-paren-pat : Measures 5 paren-pat-kinds.ps ℕ
 abbrev μ-pat-args : Measures 5 pat-args-kinds.ps ℕ
 μ-pat-args κs a = 16 * a .1 .1 .1 .1 .1 .1 .0 .left + 1
 
-abbrev μ-pat-row : Measures 5 pat-row-kinds.ps ℕ
-μ-pat-row κs a = 16 * a .1 .1 .1 .1 .1 .1 .0 .left + 5
-
-abbrev μ-pat-row-inner : Measures 5 pat-row-inner-kinds.ps ℕ
-μ-pat-row-inner κs a = 16 * a .1 .1 .1 .1 .1 .1 .0 .left + 4
-
-abbrev μ-pat-rows : Measures 5 pat-rows-kinds.ps ℕ
-μ-pat-rows κs a = 16 * a .1 .1 .1 .1 .1 .1 .0 .left + 6
-
 abbrev μ-record-pat : Measures 5 record-pat-kinds.ps ℕ
 μ-record-pat κs a = 16 * a .1 .1 .1 .1 .1 .1 .0 .left + 7
+
+abbrev μ-row : Measures 5 row-kinds.ps ℕ
+μ-row κs a = 16 * a .1 .1 .1 .1 .1 .1 .0 .left + 5
+
+abbrev μ-row-inner : Measures 5 row-inner-kinds.ps ℕ
+μ-row-inner κs a = 16 * a .1 .1 .1 .1 .1 .1 .0 .left + 4
+
+abbrev μ-rows : Measures 5 rows-kinds.ps ℕ
+μ-rows κs a = 16 * a .1 .1 .1 .1 .1 .1 .0 .left + 6
 
 abbrev μ-tuple-pat : Measures 5 tuple-pat-kinds.ps ℕ
 μ-tuple-pat κs a = 16 * a .1 .1 .1 .1 .1 .1 .0 .left + 2
@@ -183,28 +183,23 @@ as-tail-there-below t =
     (falls 5 as-tail-there-kinds.ps _<_ μ-as-tail-there t)
     as-tail-there.Pre
 
-abbrev con-inner-at : ℕ → In 5 con-inner-kinds.ps
-con-inner-at t = and 5 con-inner-kinds.ps (is 5 con-inner-kinds.ps μ-con-inner t) con-inner.Pre
+abbrev con-arg-at : ℕ → In 5 con-arg-kinds.ps
+con-arg-at t = and 5 con-arg-kinds.ps (is 5 con-arg-kinds.ps μ-con-arg t) con-arg.Pre
 
-abbrev con-inner-below : ℕ → In 5 con-inner-kinds.ps
-con-inner-below t =
-    and 5 con-inner-kinds.ps (falls 5 con-inner-kinds.ps _<_ μ-con-inner t) con-inner.Pre
+abbrev con-arg-below : ℕ → In 5 con-arg-kinds.ps
+con-arg-below t = and 5 con-arg-kinds.ps (falls 5 con-arg-kinds.ps _<_ μ-con-arg t) con-arg.Pre
 
-abbrev con-inner-there-at : ℕ → In 5 con-inner-there-kinds.ps
-con-inner-there-at t =
+abbrev con-arg-there-at : ℕ → In 5 con-arg-there-kinds.ps
+con-arg-there-at t =
+    and 5 con-arg-there-kinds.ps (is 5 con-arg-there-kinds.ps μ-con-arg-there t) con-arg-there.Pre
+
+abbrev con-arg-there-below : ℕ → In 5 con-arg-there-kinds.ps
+con-arg-there-below t =
     and
     5
-    con-inner-there-kinds.ps
-    (is 5 con-inner-there-kinds.ps μ-con-inner-there t)
-    con-inner-there.Pre
-
-abbrev con-inner-there-below : ℕ → In 5 con-inner-there-kinds.ps
-con-inner-there-below t =
-    and
-    5
-    con-inner-there-kinds.ps
-    (falls 5 con-inner-there-kinds.ps _<_ μ-con-inner-there t)
-    con-inner-there.Pre
+    con-arg-there-kinds.ps
+    (falls 5 con-arg-there-kinds.ps _<_ μ-con-arg-there t)
+    con-arg-there.Pre
 
 abbrev con-pat-at : ℕ → In 5 con-pat-kinds.ps
 con-pat-at t = and 5 con-pat-kinds.ps (is 5 con-pat-kinds.ps μ-con-pat t) con-pat.Pre
@@ -266,31 +261,6 @@ abbrev pat-args-below : ℕ → In 5 pat-args-kinds.ps
 pat-args-below t =
     and 5 pat-args-kinds.ps (falls 5 pat-args-kinds.ps _<_ μ-pat-args t) pat-args.Pre
 
-abbrev pat-row-at : ℕ → In 5 pat-row-kinds.ps
-pat-row-at t = and 5 pat-row-kinds.ps (is 5 pat-row-kinds.ps μ-pat-row t) pat-row.Pre
-
-abbrev pat-row-below : ℕ → In 5 pat-row-kinds.ps
-pat-row-below t = and 5 pat-row-kinds.ps (falls 5 pat-row-kinds.ps _<_ μ-pat-row t) pat-row.Pre
-
-abbrev pat-row-inner-at : ℕ → In 5 pat-row-inner-kinds.ps
-pat-row-inner-at t =
-    and 5 pat-row-inner-kinds.ps (is 5 pat-row-inner-kinds.ps μ-pat-row-inner t) pat-row-inner.Pre
-
-abbrev pat-row-inner-below : ℕ → In 5 pat-row-inner-kinds.ps
-pat-row-inner-below t =
-    and
-    5
-    pat-row-inner-kinds.ps
-    (falls 5 pat-row-inner-kinds.ps _<_ μ-pat-row-inner t)
-    pat-row-inner.Pre
-
-abbrev pat-rows-at : ℕ → In 5 pat-rows-kinds.ps
-pat-rows-at t = and 5 pat-rows-kinds.ps (is 5 pat-rows-kinds.ps μ-pat-rows t) pat-rows.Pre
-
-abbrev pat-rows-below : ℕ → In 5 pat-rows-kinds.ps
-pat-rows-below t =
-    and 5 pat-rows-kinds.ps (falls 5 pat-rows-kinds.ps _<_ μ-pat-rows t) pat-rows.Pre
-
 abbrev record-pat-at : ℕ → In 5 record-pat-kinds.ps
 record-pat-at t =
     and 5 record-pat-kinds.ps (is 5 record-pat-kinds.ps μ-record-pat t) record-pat.Pre
@@ -298,6 +268,25 @@ record-pat-at t =
 abbrev record-pat-below : ℕ → In 5 record-pat-kinds.ps
 record-pat-below t =
     and 5 record-pat-kinds.ps (falls 5 record-pat-kinds.ps _<_ μ-record-pat t) record-pat.Pre
+
+abbrev row-at : ℕ → In 5 row-kinds.ps
+row-at t = and 5 row-kinds.ps (is 5 row-kinds.ps μ-row t) row.Pre
+
+abbrev row-below : ℕ → In 5 row-kinds.ps
+row-below t = and 5 row-kinds.ps (falls 5 row-kinds.ps _<_ μ-row t) row.Pre
+
+abbrev row-inner-at : ℕ → In 5 row-inner-kinds.ps
+row-inner-at t = and 5 row-inner-kinds.ps (is 5 row-inner-kinds.ps μ-row-inner t) row-inner.Pre
+
+abbrev row-inner-below : ℕ → In 5 row-inner-kinds.ps
+row-inner-below t =
+    and 5 row-inner-kinds.ps (falls 5 row-inner-kinds.ps _<_ μ-row-inner t) row-inner.Pre
+
+abbrev rows-at : ℕ → In 5 rows-kinds.ps
+rows-at t = and 5 rows-kinds.ps (is 5 rows-kinds.ps μ-rows t) rows.Pre
+
+abbrev rows-below : ℕ → In 5 rows-kinds.ps
+rows-below t = and 5 rows-kinds.ps (falls 5 rows-kinds.ps _<_ μ-rows t) rows.Pre
 
 abbrev tuple-pat-at : ℕ → In 5 tuple-pat-kinds.ps
 tuple-pat-at t = and 5 tuple-pat-kinds.ps (is 5 tuple-pat-kinds.ps μ-tuple-pat t) tuple-pat.Pre
@@ -634,113 +623,113 @@ unfolding Pat.as-tail-there
 as-tail-there-returns-2 t c = record { is = λ kinds m. by-same (group-is (c .before .before .before .before .before .before .before .before .before .before .before .group .ensures) (c .before .before .before .before .before .before .before .before .before .r1 .given .1)) (then-sure (c .before .before .before .before .before .before .word .ensures) (plain (c .before .before .get-pat .ensures))) }
 
 -- src/lib.rt:54:9
-con-inner-absent-requires : (t : ℕ) → con-inner-lts.Need-absent-requires (
+con-arg-absent-requires : (t : ℕ) → con-arg-lts.Need-absent-requires (
   absent-reads.Asked,
   absent-reads.Learnt,
-  con-inner-there-below t,
-  con-inner-there.Post,
-) (con-inner-at t) con-inner.Post
-con-inner-absent-requires t c κs = search needs
+  con-arg-there-below t,
+  con-arg-there.Post,
+) (con-arg-at t) con-arg.Post
+con-arg-absent-requires t c κs = search needs
 
 -- src/lib.rt:56:20
-con-inner-enum-known-gone : (t : ℕ) → con-inner-lts.Need-enum-known-gone (
+con-arg-enum-known-gone : (t : ℕ) → con-arg-lts.Need-enum-known-gone (
   absent-reads.Asked,
   absent-reads.Learnt,
-  con-inner-there-below t,
-  con-inner-there.Post,
-) (con-inner-at t) con-inner.Post
-con-inner-enum-known-gone t c = search needs
+  con-arg-there-below t,
+  con-arg-there.Post,
+) (con-arg-at t) con-arg.Post
+con-arg-enum-known-gone t c = search needs
 
--- src/lib.rt:57:65
-con-inner-enum-told : (t : ℕ) → con-inner-lts.Need-enum-told (
+-- src/lib.rt:57:63
+con-arg-enum-told : (t : ℕ) → con-arg-lts.Need-enum-told (
   absent-reads.Asked,
   absent-reads.Learnt,
-  con-inner-there-below t,
-  con-inner-there.Post,
-) (con-inner-at t) con-inner.Post
-con-inner-enum-told t c = search needs
+  con-arg-there-below t,
+  con-arg-there.Post,
+) (con-arg-at t) con-arg.Post
+con-arg-enum-told t c = search needs
 
 -- src/lib.rt:57:24
-con-inner-con-inner-there-requires : (t : ℕ) → con-inner-lts.Need-con-inner-there-requires (
+con-arg-con-arg-there-requires : (t : ℕ) → con-arg-lts.Need-con-arg-there-requires (
   absent-reads.Asked,
   absent-reads.Learnt,
-  con-inner-there-below t,
-  con-inner-there.Post,
-) (con-inner-at t) con-inner.Post
-con-inner-con-inner-there-requires t c κs = omega (arith, c .before .before .before .before .before .before .before .before .before .pre .0)
+  con-arg-there-below t,
+  con-arg-there.Post,
+) (con-arg-at t) con-arg.Post
+con-arg-con-arg-there-requires t c κs = omega (arith, c .before .before .before .before .before .before .before .before .before .pre .0)
 
 -- src/lib.rt:43:1
-con-inner-returns : (t : ℕ) → con-inner-lts.Need-returns (
+con-arg-returns : (t : ℕ) → con-arg-lts.Need-returns (
   absent-reads.Asked,
   absent-reads.Learnt,
-  con-inner-there-below t,
-  con-inner-there.Post,
-) (con-inner-at t) con-inner.Post
+  con-arg-there-below t,
+  con-arg-there.Post,
+) (con-arg-at t) con-arg.Post
 unfolding Pat.con-arg
-con-inner-returns t c = record { is = λ kinds m. maybe-past (c .before .before .before .absent .ensures) (c .before .gone .given .1) }
+con-arg-returns t c = record { is = λ kinds m. maybe-past (c .before .before .before .absent .ensures) (c .before .gone .given .1) }
 
 -- src/lib.rt:43:1
-con-inner-same-length : (t : ℕ) → con-inner-lts.Need-same-length (
+con-arg-same-length : (t : ℕ) → con-arg-lts.Need-same-length (
   absent-reads.Asked,
   absent-reads.Learnt,
-  con-inner-there-below t,
-  con-inner-there.Post,
-) (con-inner-at t) con-inner.Post
-con-inner-same-length t c = c .before .before .con-inner-there .kept .1 .1 .1 .1 .0
+  con-arg-there-below t,
+  con-arg-there.Post,
+) (con-arg-at t) con-arg.Post
+con-arg-same-length t c = c .before .before .con-arg-there .kept .1 .1 .1 .1 .0
 
 -- src/lib.rt:43:1
-con-inner-returns-2 : (t : ℕ) → con-inner-lts.Need-returns-2 (
+con-arg-returns-2 : (t : ℕ) → con-arg-lts.Need-returns-2 (
   absent-reads.Asked,
   absent-reads.Learnt,
-  con-inner-there-below t,
-  con-inner-there.Post,
-) (con-inner-at t) con-inner.Post
+  con-arg-there-below t,
+  con-arg-there.Post,
+) (con-arg-at t) con-arg.Post
 unfolding Pat.con-arg
-con-inner-returns-2 t c = record { is = λ kinds m. by-same (maybe-there (c .before .before .before .before .before .before .absent .ensures) (c .before .before .before .before .enum-told .given .1)) (plain (c .before .before .con-inner-there .ensures)) }
+con-arg-returns-2 t c = record { is = λ kinds m. by-same (maybe-there (c .before .before .before .before .before .before .absent .ensures) (c .before .before .before .before .enum-told .given .1)) (plain (c .before .before .con-arg-there .ensures)) }
 
 -- src/lib.rt:38:9
-con-inner-there-word-requires : (t : ℕ) → con-inner-there-lts.Need-word-requires (
+con-arg-there-word-requires : (t : ℕ) → con-arg-there-lts.Need-word-requires (
   word-reads.Asked,
   word-reads.Learnt,
   get-pat-below t,
   get-pat.Post,
-) (con-inner-there-at t) con-inner-there.Post
-con-inner-there-word-requires t c κs = search needs
+) (con-arg-there-at t) con-arg-there.Post
+con-arg-there-word-requires t c κs = search needs
 
 -- src/lib.rt:39:5
-con-inner-there-get-pat-requires : (t : ℕ) → con-inner-there-lts.Need-get-pat-requires (
+con-arg-there-get-pat-requires : (t : ℕ) → con-arg-there-lts.Need-get-pat-requires (
   word-reads.Asked,
   word-reads.Learnt,
   get-pat-below t,
   get-pat.Post,
-) (con-inner-there-at t) con-inner-there.Post
-con-inner-there-get-pat-requires t c κs = omega (arith, c .before .before .before .before .before .before .before .before .before .before .pre .0)
+) (con-arg-there-at t) con-arg-there.Post
+con-arg-there-get-pat-requires t c κs = omega (arith, c .before .before .before .before .before .before .before .before .before .before .pre .0)
 
 -- src/lib.rt:27:1
-con-inner-there-same-length : (t : ℕ) → con-inner-there-lts.Need-same-length (
+con-arg-there-same-length : (t : ℕ) → con-arg-there-lts.Need-same-length (
   word-reads.Asked,
   word-reads.Learnt,
   get-pat-below t,
   get-pat.Post,
-) (con-inner-there-at t) con-inner-there.Post
-con-inner-there-same-length t c = c .before .before .get-pat .kept .1 .1 .1 .1 .0 ∙ c .before .before .before .before .before .before .word .kept .1 .0
+) (con-arg-there-at t) con-arg-there.Post
+con-arg-there-same-length t c = c .before .before .get-pat .kept .1 .1 .1 .1 .0 ∙ c .before .before .before .before .before .before .word .kept .1 .0
 
 -- src/lib.rt:27:1
-con-inner-there-returns : (t : ℕ) → con-inner-there-lts.Need-returns (
+con-arg-there-returns : (t : ℕ) → con-arg-there-lts.Need-returns (
   word-reads.Asked,
   word-reads.Learnt,
   get-pat-below t,
   get-pat.Post,
-) (con-inner-there-at t) con-inner-there.Post
+) (con-arg-there-at t) con-arg-there.Post
 unfolding Pat.con-arg-there
-con-inner-there-returns t c = record { is = λ kinds m. then-sure (c .before .before .before .before .before .before .word .ensures) (plain (c .before .before .get-pat .ensures)) }
+con-arg-there-returns t c = record { is = λ kinds m. then-sure (c .before .before .before .before .before .before .word .ensures) (plain (c .before .before .get-pat .ensures)) }
 
 -- src/lib.rt:73:9
 con-pat-op-path-requires : (t : ℕ) → con-pat-lts.Need-op-path-requires (
   op-path-reads.Asked,
   op-path-reads.Learnt,
-  con-inner-below t,
-  con-inner.Post,
+  con-arg-below t,
+  con-arg.Post,
 ) (con-pat-at t) con-pat.Post
 con-pat-op-path-requires t c κs = search needs
 
@@ -748,8 +737,8 @@ con-pat-op-path-requires t c κs = search needs
 con-pat-enum-known-r1 : (t : ℕ) → con-pat-lts.Need-enum-known-r1 (
   op-path-reads.Asked,
   op-path-reads.Learnt,
-  con-inner-below t,
-  con-inner.Post,
+  con-arg-below t,
+  con-arg.Post,
 ) (con-pat-at t) con-pat.Post
 con-pat-enum-known-r1 t c = search needs
 
@@ -757,8 +746,8 @@ con-pat-enum-known-r1 t c = search needs
 con-pat-enum-told : (t : ℕ) → con-pat-lts.Need-enum-told (
   op-path-reads.Asked,
   op-path-reads.Learnt,
-  con-inner-below t,
-  con-inner.Post,
+  con-arg-below t,
+  con-arg.Post,
 ) (con-pat-at t) con-pat.Post
 con-pat-enum-told t c = search needs
 
@@ -766,8 +755,8 @@ con-pat-enum-told t c = search needs
 con-pat-same-length : (t : ℕ) → con-pat-lts.Need-same-length (
   op-path-reads.Asked,
   op-path-reads.Learnt,
-  con-inner-below t,
-  con-inner.Post,
+  con-arg-below t,
+  con-arg.Post,
 ) (con-pat-at t) con-pat.Post
 con-pat-same-length t c = c .before .before .before .before .op-path .kept .1 .1 .1 .1 .0
 
@@ -775,39 +764,39 @@ con-pat-same-length t c = c .before .before .before .before .op-path .kept .1 .1
 con-pat-returns : (t : ℕ) → con-pat-lts.Need-returns (
   op-path-reads.Asked,
   op-path-reads.Learnt,
-  con-inner-below t,
-  con-inner.Post,
+  con-arg-below t,
+  con-arg.Post,
 ) (con-pat-at t) con-pat.Post
 unfolding Pat.ConPat
 con-pat-returns t c = record { is = λ kinds m. then-stop (plain (c .before .before .before .before .op-path .ensures)) (c .enum-told .given .1) }
 
 -- src/lib.rt:77:5
-con-pat-con-inner-requires : (t : ℕ) → con-pat-lts.Need-con-inner-requires (
+con-pat-con-arg-requires : (t : ℕ) → con-pat-lts.Need-con-arg-requires (
   op-path-reads.Asked,
   op-path-reads.Learnt,
-  con-inner-below t,
-  con-inner.Post,
+  con-arg-below t,
+  con-arg.Post,
 ) (con-pat-at t) con-pat.Post
-con-pat-con-inner-requires t c κs = omega (arith, c .before .before .before .before .before .before .before .before .before .before .before .before .before .pre .0)
+con-pat-con-arg-requires t c κs = omega (arith, c .before .before .before .before .before .before .before .before .before .before .before .before .before .pre .0)
 
 -- src/lib.rt:62:1
 con-pat-same-length-2 : (t : ℕ) → con-pat-lts.Need-same-length-2 (
   op-path-reads.Asked,
   op-path-reads.Learnt,
-  con-inner-below t,
-  con-inner.Post,
+  con-arg-below t,
+  con-arg.Post,
 ) (con-pat-at t) con-pat.Post
-con-pat-same-length-2 t c = c .before .before .con-inner .kept .1 .1 .1 .1 .0 ∙ c .before .before .before .before .before .before .before .before .before .op-path .kept .1 .1 .1 .1 .0
+con-pat-same-length-2 t c = c .before .before .con-arg .kept .1 .1 .1 .1 .0 ∙ c .before .before .before .before .before .before .before .before .before .op-path .kept .1 .1 .1 .1 .0
 
 -- src/lib.rt:62:1
 con-pat-returns-2 : (t : ℕ) → con-pat-lts.Need-returns-2 (
   op-path-reads.Asked,
   op-path-reads.Learnt,
-  con-inner-below t,
-  con-inner.Post,
+  con-arg-below t,
+  con-arg.Post,
 ) (con-pat-at t) con-pat.Post
 unfolding Pat.ConPat
-con-pat-returns-2 t c = record { is = λ kinds m. then-done (plain (c .before .before .before .before .before .before .before .before .before .op-path .ensures)) (c .before .before .before .before .before .r1 .given .1) (plain (c .before .before .con-inner .ensures)) }
+con-pat-returns-2 t c = record { is = λ kinds m. then-done (plain (c .before .before .before .before .before .before .before .before .before .op-path .ensures)) (c .before .before .before .before .before .r1 .given .1) (plain (c .before .before .con-arg .ensures)) }
 
 -- src/lib.rt:474:9
 get-pat-stop-requires : (t : ℕ) → get-pat-lts.Need-stop-requires (
@@ -3348,568 +3337,30 @@ pat-args-returns-4 : (t : ℕ) → pat-args-lts.Need-returns-4 (
 unfolding Pat.pat-args Helpers.sep
 pat-args-returns-4 t c = record { is = λ kinds m. by-same (list-is (c .before .before .before .before .before .list .ensures) (c .before .before .before .n .given .1)) (by-same (items-all _ _ _) (c .before .loop .inv .1 kinds m _ _ (from-none _ _ (c .loop-test .left)))) }
 
--- src/lib.rt:195:9
-pat-row-group-requires : (t : ℕ) → pat-row-lts.Need-group-requires (
-  group-reads.Asked,
-  group-reads.Learnt,
-  choice-reads.Asked,
-  choice-reads.Learnt,
-  stop-reads.Asked,
-  stop-reads.Learnt,
-  pat-row-inner-below t,
-  pat-row-inner.Post,
-) (pat-row-at t) pat-row.Post
-pat-row-group-requires t c κs = search needs
-
--- src/lib.rt:196:22
-pat-row-enum-known-r1 : (t : ℕ) → pat-row-lts.Need-enum-known-r1 (
-  group-reads.Asked,
-  group-reads.Learnt,
-  choice-reads.Asked,
-  choice-reads.Learnt,
-  stop-reads.Asked,
-  stop-reads.Learnt,
-  pat-row-inner-below t,
-  pat-row-inner.Post,
-) (pat-row-at t) pat-row.Post
-pat-row-enum-known-r1 t c = search needs
-
--- src/lib.rt:197:9
-pat-row-enum-told : (t : ℕ) → pat-row-lts.Need-enum-told (
-  group-reads.Asked,
-  group-reads.Learnt,
-  choice-reads.Asked,
-  choice-reads.Learnt,
-  stop-reads.Asked,
-  stop-reads.Learnt,
-  pat-row-inner-below t,
-  pat-row-inner.Post,
-) (pat-row-at t) pat-row.Post
-pat-row-enum-told t c = search needs
-
--- src/lib.rt:197:9
-pat-row-returns : (t : ℕ) → pat-row-lts.Need-returns (
-  group-reads.Asked,
-  group-reads.Learnt,
-  choice-reads.Asked,
-  choice-reads.Learnt,
-  stop-reads.Asked,
-  stop-reads.Learnt,
-  pat-row-inner-below t,
-  pat-row-inner.Post,
-) (pat-row-at t) pat-row.Post
-unfolding Pat.pat-row
-pat-row-returns t c = record { is = λ kinds m. group-not (c .before .before .group .ensures) (c .enum-told .given .1) }
-
--- src/lib.rt:199:27
-pat-row-choice-requires : (t : ℕ) → pat-row-lts.Need-choice-requires (
-  group-reads.Asked,
-  group-reads.Learnt,
-  choice-reads.Asked,
-  choice-reads.Learnt,
-  stop-reads.Asked,
-  stop-reads.Learnt,
-  pat-row-inner-below t,
-  pat-row-inner.Post,
-) (pat-row-at t) pat-row.Post
-pat-row-choice-requires t c κs = search needs
-
--- src/lib.rt:199:18
-pat-row-enum-known-k : (t : ℕ) → pat-row-lts.Need-enum-known-k (
-  group-reads.Asked,
-  group-reads.Learnt,
-  choice-reads.Asked,
-  choice-reads.Learnt,
-  stop-reads.Asked,
-  stop-reads.Learnt,
-  pat-row-inner-below t,
-  pat-row-inner.Post,
-) (pat-row-at t) pat-row.Post
-pat-row-enum-known-k t c = search needs
-
--- src/lib.rt:200:9
-pat-row-enum-told-2 : (t : ℕ) → pat-row-lts.Need-enum-told-2 (
-  group-reads.Asked,
-  group-reads.Learnt,
-  choice-reads.Asked,
-  choice-reads.Learnt,
-  stop-reads.Asked,
-  stop-reads.Learnt,
-  pat-row-inner-below t,
-  pat-row-inner.Post,
-) (pat-row-at t) pat-row.Post
-pat-row-enum-told-2 t c = search needs
-
--- src/lib.rt:200:9
-pat-row-stop-requires : (t : ℕ) → pat-row-lts.Need-stop-requires (
-  group-reads.Asked,
-  group-reads.Learnt,
-  choice-reads.Asked,
-  choice-reads.Learnt,
-  stop-reads.Asked,
-  stop-reads.Learnt,
-  pat-row-inner-below t,
-  pat-row-inner.Post,
-) (pat-row-at t) pat-row.Post
-pat-row-stop-requires t c κs = search needs
-
--- src/lib.rt:200:9
-pat-row-returns-2 : (t : ℕ) → pat-row-lts.Need-returns-2 (
-  group-reads.Asked,
-  group-reads.Learnt,
-  choice-reads.Asked,
-  choice-reads.Learnt,
-  stop-reads.Asked,
-  stop-reads.Learnt,
-  pat-row-inner-below t,
-  pat-row-inner.Post,
-) (pat-row-at t) pat-row.Post
-unfolding Pat.pat-row
-pat-row-returns-2 t c = record { is = λ kinds m. by-same (group-is (c .before .before .before .before .before .before .before .group .ensures) (c .before .before .before .before .before .r1 .given .1)) (choice-not (c .stop .ensures) (c .before .before .before .choice .ensures) (c .before .enum-told2 .given .1)) }
-
--- src/lib.rt:202:5
-pat-row-pat-row-inner-requires : (t : ℕ) → pat-row-lts.Need-pat-row-inner-requires (
-  group-reads.Asked,
-  group-reads.Learnt,
-  choice-reads.Asked,
-  choice-reads.Learnt,
-  stop-reads.Asked,
-  stop-reads.Learnt,
-  pat-row-inner-below t,
-  pat-row-inner.Post,
-) (pat-row-at t) pat-row.Post
-pat-row-pat-row-inner-requires t c κs = omega (arith, c .before .before .before .before .before .before .before .before .before .before .before .before .before .before .pre .0)
-
--- src/lib.rt:184:1
-pat-row-same-length : (t : ℕ) → pat-row-lts.Need-same-length (
-  group-reads.Asked,
-  group-reads.Learnt,
-  choice-reads.Asked,
-  choice-reads.Learnt,
-  stop-reads.Asked,
-  stop-reads.Learnt,
-  pat-row-inner-below t,
-  pat-row-inner.Post,
-) (pat-row-at t) pat-row.Post
-pat-row-same-length t c = c .before .before .pat-row-inner .kept .1 .1 .1 .1 .0
-
--- src/lib.rt:184:1
-pat-row-returns-3 : (t : ℕ) → pat-row-lts.Need-returns-3 (
-  group-reads.Asked,
-  group-reads.Learnt,
-  choice-reads.Asked,
-  choice-reads.Learnt,
-  stop-reads.Asked,
-  stop-reads.Learnt,
-  pat-row-inner-below t,
-  pat-row-inner.Post,
-) (pat-row-at t) pat-row.Post
-unfolding Pat.pat-row
-pat-row-returns-3 t c = record { is = λ kinds m. by-same (group-is (c .before .before .before .before .before .before .before .before .before .before .before .group .ensures) (c .before .before .before .before .before .before .before .before .before .r1 .given .1)) (by-same (choice-is (c .before .before .before .before .before .before .before .choice .ensures) (c .before .before .before .before .before .k .given .1)) (plain (c .before .before .pat-row-inner .ensures))) }
-
--- src/lib.rt:176:27
-pat-row-inner-word-requires : (t : ℕ) → pat-row-inner-lts.Need-word-requires (
-  word-reads.Asked,
-  word-reads.Learnt,
-  lab-and-pat-below t,
-  lab-and-pat.Post,
-  lab-pat-below t,
-  lab-pat.Post,
-  stop-reads.Asked,
-  stop-reads.Learnt,
-) (pat-row-inner-at t) pat-row-inner.Post
-pat-row-inner-word-requires t c κs = search needs
-
--- src/lib.rt:177:14
-pat-row-inner-lab-and-pat-requires : (t : ℕ) → pat-row-inner-lts.Need-lab-and-pat-requires (
-  word-reads.Asked,
-  word-reads.Learnt,
-  lab-and-pat-below t,
-  lab-and-pat.Post,
-  lab-pat-below t,
-  lab-pat.Post,
-  stop-reads.Asked,
-  stop-reads.Learnt,
-) (pat-row-inner-at t) pat-row-inner.Post
-pat-row-inner-lab-and-pat-requires t c κs = omega (arith, c .before .before .before .before .before .before .before .pre .0)
-
--- src/lib.rt:178:14
-pat-row-inner-lab-pat-requires : (t : ℕ) → pat-row-inner-lts.Need-lab-pat-requires (
-  word-reads.Asked,
-  word-reads.Learnt,
-  lab-and-pat-below t,
-  lab-and-pat.Post,
-  lab-pat-below t,
-  lab-pat.Post,
-  stop-reads.Asked,
-  stop-reads.Learnt,
-) (pat-row-inner-at t) pat-row-inner.Post
-pat-row-inner-lab-pat-requires t c κs = omega (arith, c .before .before .before .before .before .before .before .pre .0)
-
--- src/lib.rt:179:14
-pat-row-inner-stop-requires : (t : ℕ) → pat-row-inner-lts.Need-stop-requires (
-  word-reads.Asked,
-  word-reads.Learnt,
-  lab-and-pat-below t,
-  lab-and-pat.Post,
-  lab-pat-below t,
-  lab-pat.Post,
-  stop-reads.Asked,
-  stop-reads.Learnt,
-) (pat-row-inner-at t) pat-row-inner.Post
-pat-row-inner-stop-requires t c κs = search needs
-
--- src/lib.rt:163:1
-pat-row-inner-same-length : (t : ℕ) → pat-row-inner-lts.Need-same-length (
-  word-reads.Asked,
-  word-reads.Learnt,
-  lab-and-pat-below t,
-  lab-and-pat.Post,
-  lab-pat-below t,
-  lab-pat.Post,
-  stop-reads.Asked,
-  stop-reads.Learnt,
-) (pat-row-inner-at t) pat-row-inner.Post
-pat-row-inner-same-length t c = c .before .before .word .kept .1 .0
-
--- src/lib.rt:163:1
-pat-row-inner-returns : (t : ℕ) → pat-row-inner-lts.Need-returns (
-  word-reads.Asked,
-  word-reads.Learnt,
-  lab-and-pat-below t,
-  lab-and-pat.Post,
-  lab-pat-below t,
-  lab-pat.Post,
-  stop-reads.Asked,
-  stop-reads.Learnt,
-) (pat-row-inner-at t) pat-row-inner.Post
-unfolding Pat.pat-row-inner Pat.RestPatRow
-pat-row-inner-returns t c = record { is = λ kinds m. at-key (Pat.pat-row-inner (walks (c .before .before .before .before .before .before .before .before .before .before .args .cfg .left))) (c .before .before .before .before .match .keys1) (last-sure (c .before .before .word .ensures)) }
-
--- src/lib.rt:163:1
-pat-row-inner-same-length-2 : (t : ℕ) → pat-row-inner-lts.Need-same-length-2 (
-  word-reads.Asked,
-  word-reads.Learnt,
-  lab-and-pat-below t,
-  lab-and-pat.Post,
-  lab-pat-below t,
-  lab-pat.Post,
-  stop-reads.Asked,
-  stop-reads.Learnt,
-) (pat-row-inner-at t) pat-row-inner.Post
-pat-row-inner-same-length-2 t c = c .before .before .lab-and-pat .kept .1 .1 .1 .1 .0
-
--- src/lib.rt:163:1
-pat-row-inner-returns-2 : (t : ℕ) → pat-row-inner-lts.Need-returns-2 (
-  word-reads.Asked,
-  word-reads.Learnt,
-  lab-and-pat-below t,
-  lab-and-pat.Post,
-  lab-pat-below t,
-  lab-pat.Post,
-  stop-reads.Asked,
-  stop-reads.Learnt,
-) (pat-row-inner-at t) pat-row-inner.Post
-unfolding Pat.pat-row-inner Pat.RestPatRow
-pat-row-inner-returns-2 t c = record { is = λ kinds m. at-key (Pat.pat-row-inner (walks (c .before .before .before .before .before .before .before .before .before .before .args .cfg .left))) (c .before .before .before .before .match .keys2) (plain (c .before .before .lab-and-pat .ensures)) }
-
--- src/lib.rt:163:1
-pat-row-inner-same-length-3 : (t : ℕ) → pat-row-inner-lts.Need-same-length-3 (
-  word-reads.Asked,
-  word-reads.Learnt,
-  lab-and-pat-below t,
-  lab-and-pat.Post,
-  lab-pat-below t,
-  lab-pat.Post,
-  stop-reads.Asked,
-  stop-reads.Learnt,
-) (pat-row-inner-at t) pat-row-inner.Post
-pat-row-inner-same-length-3 t c = c .before .before .lab-pat .kept .1 .1 .1 .1 .0
-
--- src/lib.rt:163:1
-pat-row-inner-returns-3 : (t : ℕ) → pat-row-inner-lts.Need-returns-3 (
-  word-reads.Asked,
-  word-reads.Learnt,
-  lab-and-pat-below t,
-  lab-and-pat.Post,
-  lab-pat-below t,
-  lab-pat.Post,
-  stop-reads.Asked,
-  stop-reads.Learnt,
-) (pat-row-inner-at t) pat-row-inner.Post
-unfolding Pat.pat-row-inner Pat.RestPatRow
-pat-row-inner-returns-3 t c = record { is = λ kinds m. at-key (Pat.pat-row-inner (walks (c .before .before .before .before .before .before .before .before .before .before .args .cfg .left))) (c .before .before .before .before .match .keys3) (plain (c .before .before .lab-pat .ensures)) }
-
--- src/lib.rt:163:1
-pat-row-inner-returns-4 : (t : ℕ) → pat-row-inner-lts.Need-returns-4 (
-  word-reads.Asked,
-  word-reads.Learnt,
-  lab-and-pat-below t,
-  lab-and-pat.Post,
-  lab-pat-below t,
-  lab-pat.Post,
-  stop-reads.Asked,
-  stop-reads.Learnt,
-) (pat-row-inner-at t) pat-row-inner.Post
-unfolding Pat.pat-row-inner Pat.RestPatRow
-pat-row-inner-returns-4 t c = record { is = λ kinds m. beyond (Pat.RestPatRow (walks (c .before .before .before .before .before .before .before .args .cfg .left)) ∷ Pat.LabAndPatPatRow (walks (c .before .before .before .before .before .before .before .args .cfg .left)) ∷ Pat.LabPatRow (walks (c .before .before .before .before .before .before .before .args .cfg .left)) ∷ []) (c .before .before .before .before .before .before .before .args .which) 3 refl (past (past (past zero-le (c .before .match .rest .0 .0 .1)) (c .before .match .rest .0 .1)) (c .before .match .rest .1)) (c .stop .ensures) }
-
-abbrev pat-rows-Inv-loop : pat-rows-lts.InvT-loop
-pat-rows-Inv-loop text rec starts lens out₀ cfg n s₀ i₀ out s i =
-    PlainTurn text rec starts lens (cfg .tab) (from (Layout.word ", ") (Pat.pat-row (walks (cfg .left)))) n s₀ out₀ i s out
-
-abbrev pat-rows-μ-loop : pat-rows-lts.MeasureT-loop
-pat-rows-μ-loop text rec starts lens out₀ cfg n s₀ i₀ out s i = n - i
-
--- src/lib.rt:217:27
-pat-rows-list-requires : (t : ℕ) → pat-rows-lts.Need-list-requires (
-  list-reads.Asked,
-  list-reads.Learnt,
-  stop-reads.Asked,
-  stop-reads.Learnt,
-  between-reads.Asked,
-  between-reads.Learnt,
-  pat-row-below t,
-  pat-row.Post,
-) (pat-rows-at t) pat-rows.Post pat-rows-Inv-loop pat-rows-μ-loop
-pat-rows-list-requires t c κs = search needs
-
--- src/lib.rt:217:18
-pat-rows-enum-known-n : (t : ℕ) → pat-rows-lts.Need-enum-known-n (
-  list-reads.Asked,
-  list-reads.Learnt,
-  stop-reads.Asked,
-  stop-reads.Learnt,
-  between-reads.Asked,
-  between-reads.Learnt,
-  pat-row-below t,
-  pat-row.Post,
-) (pat-rows-at t) pat-rows.Post pat-rows-Inv-loop pat-rows-μ-loop
-pat-rows-enum-known-n t c = search needs
-
--- src/lib.rt:218:9
-pat-rows-enum-told : (t : ℕ) → pat-rows-lts.Need-enum-told (
-  list-reads.Asked,
-  list-reads.Learnt,
-  stop-reads.Asked,
-  stop-reads.Learnt,
-  between-reads.Asked,
-  between-reads.Learnt,
-  pat-row-below t,
-  pat-row.Post,
-) (pat-rows-at t) pat-rows.Post pat-rows-Inv-loop pat-rows-μ-loop
-pat-rows-enum-told t c = search needs
-
--- src/lib.rt:218:9
-pat-rows-stop-requires : (t : ℕ) → pat-rows-lts.Need-stop-requires (
-  list-reads.Asked,
-  list-reads.Learnt,
-  stop-reads.Asked,
-  stop-reads.Learnt,
-  between-reads.Asked,
-  between-reads.Learnt,
-  pat-row-below t,
-  pat-row.Post,
-) (pat-rows-at t) pat-rows.Post pat-rows-Inv-loop pat-rows-μ-loop
-pat-rows-stop-requires t c κs = search needs
-
--- src/lib.rt:218:9
-pat-rows-returns : (t : ℕ) → pat-rows-lts.Need-returns (
-  list-reads.Asked,
-  list-reads.Learnt,
-  stop-reads.Asked,
-  stop-reads.Learnt,
-  between-reads.Asked,
-  between-reads.Learnt,
-  pat-row-below t,
-  pat-row.Post,
-) (pat-rows-at t) pat-rows.Post pat-rows-Inv-loop pat-rows-μ-loop
-unfolding Pat.pat-rows Helpers.sep
-pat-rows-returns t c = record { is = λ kinds m. list-not (c .stop .ensures) (c .before .before .before .list .ensures) (c .before .enum-told .given .1) }
-
--- src/lib.rt:222:5
-pat-rows-loop-holds : (t : ℕ) → pat-rows-lts.Need-loop-holds (
-  list-reads.Asked,
-  list-reads.Learnt,
-  stop-reads.Asked,
-  stop-reads.Learnt,
-  between-reads.Asked,
-  between-reads.Learnt,
-  pat-row-below t,
-  pat-row.Post,
-) (pat-rows-at t) pat-rows.Post pat-rows-Inv-loop pat-rows-μ-loop
-pat-rows-loop-holds t c = (omega arith, λ kinds m r o h. h, refl)
-
--- src/lib.rt:223:13
-pat-rows-between-requires : (t : ℕ) → pat-rows-lts.Need-between-requires (
-  list-reads.Asked,
-  list-reads.Learnt,
-  stop-reads.Asked,
-  stop-reads.Learnt,
-  between-reads.Asked,
-  between-reads.Learnt,
-  pat-row-below t,
-  pat-row.Post,
-) (pat-rows-at t) pat-rows.Post pat-rows-Inv-loop pat-rows-μ-loop
-pat-rows-between-requires t c κs = search needs
-
--- src/lib.rt:224:13
-pat-rows-pat-row-requires : (t : ℕ) → pat-rows-lts.Need-pat-row-requires (
-  list-reads.Asked,
-  list-reads.Learnt,
-  stop-reads.Asked,
-  stop-reads.Learnt,
-  between-reads.Asked,
-  between-reads.Learnt,
-  pat-row-below t,
-  pat-row.Post,
-) (pat-rows-at t) pat-rows.Post pat-rows-Inv-loop pat-rows-μ-loop
-pat-rows-pat-row-requires t c κs = omega (arith, c .before .before .before .before .before .before .before .before .before .before .before .before .before .before .before .before .pre .0)
-
--- src/lib.rt:225:26
-pat-rows-enum-known-r2 : (t : ℕ) → pat-rows-lts.Need-enum-known-r2 (
-  list-reads.Asked,
-  list-reads.Learnt,
-  stop-reads.Asked,
-  stop-reads.Learnt,
-  between-reads.Asked,
-  between-reads.Learnt,
-  pat-row-below t,
-  pat-row.Post,
-) (pat-rows-at t) pat-rows.Post pat-rows-Inv-loop pat-rows-μ-loop
-pat-rows-enum-known-r2 t c = search needs
-
--- src/lib.rt:226:13
-pat-rows-enum-told-2 : (t : ℕ) → pat-rows-lts.Need-enum-told-2 (
-  list-reads.Asked,
-  list-reads.Learnt,
-  stop-reads.Asked,
-  stop-reads.Learnt,
-  between-reads.Asked,
-  between-reads.Learnt,
-  pat-row-below t,
-  pat-row.Post,
-) (pat-rows-at t) pat-rows.Post pat-rows-Inv-loop pat-rows-μ-loop
-pat-rows-enum-told-2 t c = search needs
-
--- src/lib.rt:226:13
-pat-rows-same-length : (t : ℕ) → pat-rows-lts.Need-same-length (
-  list-reads.Asked,
-  list-reads.Learnt,
-  stop-reads.Asked,
-  stop-reads.Learnt,
-  between-reads.Asked,
-  between-reads.Learnt,
-  pat-row-below t,
-  pat-row.Post,
-) (pat-rows-at t) pat-rows.Post pat-rows-Inv-loop pat-rows-μ-loop
-pat-rows-same-length t c = c .before .before .before .before .pat-row .kept .1 .1 .1 .1 .0 ∙ c .before .before .before .before .before .before .before .before .between .kept .1 .0 ∙ c .before .before .before .before .before .before .before .before .before .before .before .loop .inv .2
-
--- src/lib.rt:226:13
-pat-rows-returns-2 : (t : ℕ) → pat-rows-lts.Need-returns-2 (
-  list-reads.Asked,
-  list-reads.Learnt,
-  stop-reads.Asked,
-  stop-reads.Learnt,
-  between-reads.Asked,
-  between-reads.Learnt,
-  pat-row-below t,
-  pat-row.Post,
-) (pat-rows-at t) pat-rows.Post pat-rows-Inv-loop pat-rows-μ-loop
-unfolding Pat.pat-rows Helpers.sep
-pat-rows-returns-2 t c = record { is = λ kinds m. by-same (list-is (c .before .before .before .before .before .before .before .before .before .before .before .before .before .before .before .list .ensures) (c .before .before .before .before .before .before .before .before .before .before .before .before .before .n .given .1)) (by-same (items-all _ _ _) (c .before .before .before .before .before .before .before .before .before .before .before .loop .inv .1 kinds m _ _ (from-more _ _ (c .before .before .before .before .before .before .before .before .before .before .loop-test .taken) (then-sure (c .before .before .before .before .before .before .before .before .between .ensures) (then-stop (plain (c .before .before .before .before .pat-row .ensures)) (c .enum-told2 .given .1)))))) }
-
--- src/lib.rt:229:9
-pat-rows-add-i : (t : ℕ) → pat-rows-lts.Need-add-i (
-  list-reads.Asked,
-  list-reads.Learnt,
-  stop-reads.Asked,
-  stop-reads.Learnt,
-  between-reads.Asked,
-  between-reads.Learnt,
-  pat-row-below t,
-  pat-row.Post,
-) (pat-rows-at t) pat-rows.Post pat-rows-Inv-loop pat-rows-μ-loop
-pat-rows-add-i t c = omega (arith, c .before .before .before .before .before .before .before .before .before .before .before .loop-test .taken, c .before .before .before .before .before .before .before .before .before .before .before .before .before .known-told)
-
--- src/lib.rt:222:5
-pat-rows-loop-less : (t : ℕ) → pat-rows-lts.Need-loop-less (
-  list-reads.Asked,
-  list-reads.Learnt,
-  stop-reads.Asked,
-  stop-reads.Learnt,
-  between-reads.Asked,
-  between-reads.Learnt,
-  pat-row-below t,
-  pat-row.Post,
-) (pat-rows-at t) pat-rows.Post pat-rows-Inv-loop pat-rows-μ-loop
-pat-rows-loop-less t c = omega arith
-
--- src/lib.rt:222:5
-pat-rows-loop-again : (t : ℕ) → pat-rows-lts.Need-loop-again (
-  list-reads.Asked,
-  list-reads.Learnt,
-  stop-reads.Asked,
-  stop-reads.Learnt,
-  between-reads.Asked,
-  between-reads.Learnt,
-  pat-row-below t,
-  pat-row.Post,
-) (pat-rows-at t) pat-rows.Post pat-rows-Inv-loop pat-rows-μ-loop
-unfolding Pat.pat-rows Helpers.sep
-pat-rows-loop-again t c = (omega (arith, c .before .before .before .before .before .before .before .before .before .before .before .before .loop .inv .0), λ kinds m r o h. c .before .before .before .before .before .before .before .before .before .before .before .before .loop .inv .1 kinds m r o (from-more _ _ (c .before .before .before .before .before .before .before .before .before .before .before .loop-test .taken) (then-sure (c .before .before .before .before .before .before .before .before .before .between .ensures) (then-done (plain (c .before .before .before .before .before .pat-row .ensures)) (c .before .r2 .given .1) h))), c .before .before .before .before .before .pat-row .kept .1 .1 .1 .1 .0 ∙ c .before .before .before .before .before .before .before .before .before .between .kept .1 .0 ∙ c .before .before .before .before .before .before .before .before .before .before .before .before .loop .inv .2)
-
--- src/lib.rt:206:1
-pat-rows-same-length-2 : (t : ℕ) → pat-rows-lts.Need-same-length-2 (
-  list-reads.Asked,
-  list-reads.Learnt,
-  stop-reads.Asked,
-  stop-reads.Learnt,
-  between-reads.Asked,
-  between-reads.Learnt,
-  pat-row-below t,
-  pat-row.Post,
-) (pat-rows-at t) pat-rows.Post pat-rows-Inv-loop pat-rows-μ-loop
-pat-rows-same-length-2 t c = c .before .loop .inv .2
-
--- src/lib.rt:206:1
-pat-rows-returns-3 : (t : ℕ) → pat-rows-lts.Need-returns-3 (
-  list-reads.Asked,
-  list-reads.Learnt,
-  stop-reads.Asked,
-  stop-reads.Learnt,
-  between-reads.Asked,
-  between-reads.Learnt,
-  pat-row-below t,
-  pat-row.Post,
-) (pat-rows-at t) pat-rows.Post pat-rows-Inv-loop pat-rows-μ-loop
-unfolding Pat.pat-rows Helpers.sep
-pat-rows-returns-3 t c = record { is = λ kinds m. by-same (list-is (c .before .before .before .before .before .list .ensures) (c .before .before .before .n .given .1)) (by-same (items-all _ _ _) (c .before .loop .inv .1 kinds m _ _ (from-none _ _ (c .loop-test .left)))) }
-
 -- src/lib.rt:246:9
 record-pat-word-requires : (t : ℕ) → record-pat-lts.Need-word-requires (
   word-reads.Asked,
   word-reads.Learnt,
-  pat-rows-below t,
-  pat-rows.Post,
+  rows-below t,
+  rows.Post,
 ) (record-pat-at t) record-pat.Post
 record-pat-word-requires t c κs = search needs
 
 -- src/lib.rt:247:9
-record-pat-pat-rows-requires : (t : ℕ) → record-pat-lts.Need-pat-rows-requires (
+record-pat-rows-requires : (t : ℕ) → record-pat-lts.Need-rows-requires (
   word-reads.Asked,
   word-reads.Learnt,
-  pat-rows-below t,
-  pat-rows.Post,
+  rows-below t,
+  rows.Post,
 ) (record-pat-at t) record-pat.Post
-record-pat-pat-rows-requires t c κs = omega (arith, c .before .before .before .before .before .before .before .before .before .before .pre .0)
+record-pat-rows-requires t c κs = omega (arith, c .before .before .before .before .before .before .before .before .before .before .pre .0)
 
 -- src/lib.rt:248:22
 record-pat-enum-known-r2 : (t : ℕ) → record-pat-lts.Need-enum-known-r2 (
   word-reads.Asked,
   word-reads.Learnt,
-  pat-rows-below t,
-  pat-rows.Post,
+  rows-below t,
+  rows.Post,
 ) (record-pat-at t) record-pat.Post
 record-pat-enum-known-r2 t c = search needs
 
@@ -3917,8 +3368,8 @@ record-pat-enum-known-r2 t c = search needs
 record-pat-enum-told : (t : ℕ) → record-pat-lts.Need-enum-told (
   word-reads.Asked,
   word-reads.Learnt,
-  pat-rows-below t,
-  pat-rows.Post,
+  rows-below t,
+  rows.Post,
 ) (record-pat-at t) record-pat.Post
 record-pat-enum-told t c = search needs
 
@@ -3926,27 +3377,27 @@ record-pat-enum-told t c = search needs
 record-pat-same-length : (t : ℕ) → record-pat-lts.Need-same-length (
   word-reads.Asked,
   word-reads.Learnt,
-  pat-rows-below t,
-  pat-rows.Post,
+  rows-below t,
+  rows.Post,
 ) (record-pat-at t) record-pat.Post
-record-pat-same-length t c = c .before .before .before .before .pat-rows .kept .1 .1 .1 .1 .0 ∙ c .before .before .before .before .before .before .before .before .word .kept .1 .0
+record-pat-same-length t c = c .before .before .before .before .rows .kept .1 .1 .1 .1 .0 ∙ c .before .before .before .before .before .before .before .before .word .kept .1 .0
 
 -- src/lib.rt:249:9
 record-pat-returns : (t : ℕ) → record-pat-lts.Need-returns (
   word-reads.Asked,
   word-reads.Learnt,
-  pat-rows-below t,
-  pat-rows.Post,
+  rows-below t,
+  rows.Post,
 ) (record-pat-at t) record-pat.Post
 unfolding Pat.RecordPat
-record-pat-returns t c = record { is = λ kinds m. then-sure (c .before .before .before .before .before .before .before .before .word .ensures) (then-stop (plain (c .before .before .before .before .pat-rows .ensures)) (c .enum-told .given .1)) }
+record-pat-returns t c = record { is = λ kinds m. then-sure (c .before .before .before .before .before .before .before .before .word .ensures) (then-stop (plain (c .before .before .before .before .rows .ensures)) (c .enum-told .given .1)) }
 
 -- src/lib.rt:251:18
 record-pat-word-requires-2 : (t : ℕ) → record-pat-lts.Need-word-requires-2 (
   word-reads.Asked,
   word-reads.Learnt,
-  pat-rows-below t,
-  pat-rows.Post,
+  rows-below t,
+  rows.Post,
 ) (record-pat-at t) record-pat.Post
 record-pat-word-requires-2 t c κs = search needs
 
@@ -3954,20 +3405,558 @@ record-pat-word-requires-2 t c κs = search needs
 record-pat-same-length-2 : (t : ℕ) → record-pat-lts.Need-same-length-2 (
   word-reads.Asked,
   word-reads.Learnt,
-  pat-rows-below t,
-  pat-rows.Post,
+  rows-below t,
+  rows.Post,
 ) (record-pat-at t) record-pat.Post
-record-pat-same-length-2 t c = c .before .before .word2 .kept .1 .0 ∙ c .before .before .before .before .before .before .before .before .before .pat-rows .kept .1 .1 .1 .1 .0 ∙ c .before .before .before .before .before .before .before .before .before .before .before .before .before .word .kept .1 .0
+record-pat-same-length-2 t c = c .before .before .word2 .kept .1 .0 ∙ c .before .before .before .before .before .before .before .before .before .rows .kept .1 .1 .1 .1 .0 ∙ c .before .before .before .before .before .before .before .before .before .before .before .before .before .word .kept .1 .0
 
 -- src/lib.rt:235:1
 record-pat-returns-2 : (t : ℕ) → record-pat-lts.Need-returns-2 (
   word-reads.Asked,
   word-reads.Learnt,
-  pat-rows-below t,
-  pat-rows.Post,
+  rows-below t,
+  rows.Post,
 ) (record-pat-at t) record-pat.Post
 unfolding Pat.RecordPat
-record-pat-returns-2 t c = record { is = λ kinds m. then-sure (c .before .before .before .before .before .before .before .before .before .before .before .before .before .word .ensures) (then-done (plain (c .before .before .before .before .before .before .before .before .before .pat-rows .ensures)) (c .before .before .before .before .before .r2 .given .1) (last-sure (c .before .before .word2 .ensures))) }
+record-pat-returns-2 t c = record { is = λ kinds m. then-sure (c .before .before .before .before .before .before .before .before .before .before .before .before .before .word .ensures) (then-done (plain (c .before .before .before .before .before .before .before .before .before .rows .ensures)) (c .before .before .before .before .before .r2 .given .1) (last-sure (c .before .before .word2 .ensures))) }
+
+-- src/lib.rt:195:9
+row-group-requires : (t : ℕ) → row-lts.Need-group-requires (
+  group-reads.Asked,
+  group-reads.Learnt,
+  choice-reads.Asked,
+  choice-reads.Learnt,
+  stop-reads.Asked,
+  stop-reads.Learnt,
+  row-inner-below t,
+  row-inner.Post,
+) (row-at t) row.Post
+row-group-requires t c κs = search needs
+
+-- src/lib.rt:196:22
+row-enum-known-r1 : (t : ℕ) → row-lts.Need-enum-known-r1 (
+  group-reads.Asked,
+  group-reads.Learnt,
+  choice-reads.Asked,
+  choice-reads.Learnt,
+  stop-reads.Asked,
+  stop-reads.Learnt,
+  row-inner-below t,
+  row-inner.Post,
+) (row-at t) row.Post
+row-enum-known-r1 t c = search needs
+
+-- src/lib.rt:197:9
+row-enum-told : (t : ℕ) → row-lts.Need-enum-told (
+  group-reads.Asked,
+  group-reads.Learnt,
+  choice-reads.Asked,
+  choice-reads.Learnt,
+  stop-reads.Asked,
+  stop-reads.Learnt,
+  row-inner-below t,
+  row-inner.Post,
+) (row-at t) row.Post
+row-enum-told t c = search needs
+
+-- src/lib.rt:197:9
+row-returns : (t : ℕ) → row-lts.Need-returns (
+  group-reads.Asked,
+  group-reads.Learnt,
+  choice-reads.Asked,
+  choice-reads.Learnt,
+  stop-reads.Asked,
+  stop-reads.Learnt,
+  row-inner-below t,
+  row-inner.Post,
+) (row-at t) row.Post
+unfolding Pat.pat-row
+row-returns t c = record { is = λ kinds m. group-not (c .before .before .group .ensures) (c .enum-told .given .1) }
+
+-- src/lib.rt:199:27
+row-choice-requires : (t : ℕ) → row-lts.Need-choice-requires (
+  group-reads.Asked,
+  group-reads.Learnt,
+  choice-reads.Asked,
+  choice-reads.Learnt,
+  stop-reads.Asked,
+  stop-reads.Learnt,
+  row-inner-below t,
+  row-inner.Post,
+) (row-at t) row.Post
+row-choice-requires t c κs = search needs
+
+-- src/lib.rt:199:18
+row-enum-known-k : (t : ℕ) → row-lts.Need-enum-known-k (
+  group-reads.Asked,
+  group-reads.Learnt,
+  choice-reads.Asked,
+  choice-reads.Learnt,
+  stop-reads.Asked,
+  stop-reads.Learnt,
+  row-inner-below t,
+  row-inner.Post,
+) (row-at t) row.Post
+row-enum-known-k t c = search needs
+
+-- src/lib.rt:200:9
+row-enum-told-2 : (t : ℕ) → row-lts.Need-enum-told-2 (
+  group-reads.Asked,
+  group-reads.Learnt,
+  choice-reads.Asked,
+  choice-reads.Learnt,
+  stop-reads.Asked,
+  stop-reads.Learnt,
+  row-inner-below t,
+  row-inner.Post,
+) (row-at t) row.Post
+row-enum-told-2 t c = search needs
+
+-- src/lib.rt:200:9
+row-stop-requires : (t : ℕ) → row-lts.Need-stop-requires (
+  group-reads.Asked,
+  group-reads.Learnt,
+  choice-reads.Asked,
+  choice-reads.Learnt,
+  stop-reads.Asked,
+  stop-reads.Learnt,
+  row-inner-below t,
+  row-inner.Post,
+) (row-at t) row.Post
+row-stop-requires t c κs = search needs
+
+-- src/lib.rt:200:9
+row-returns-2 : (t : ℕ) → row-lts.Need-returns-2 (
+  group-reads.Asked,
+  group-reads.Learnt,
+  choice-reads.Asked,
+  choice-reads.Learnt,
+  stop-reads.Asked,
+  stop-reads.Learnt,
+  row-inner-below t,
+  row-inner.Post,
+) (row-at t) row.Post
+unfolding Pat.pat-row
+row-returns-2 t c = record { is = λ kinds m. by-same (group-is (c .before .before .before .before .before .before .before .group .ensures) (c .before .before .before .before .before .r1 .given .1)) (choice-not (c .stop .ensures) (c .before .before .before .choice .ensures) (c .before .enum-told2 .given .1)) }
+
+-- src/lib.rt:202:5
+row-row-inner-requires : (t : ℕ) → row-lts.Need-row-inner-requires (
+  group-reads.Asked,
+  group-reads.Learnt,
+  choice-reads.Asked,
+  choice-reads.Learnt,
+  stop-reads.Asked,
+  stop-reads.Learnt,
+  row-inner-below t,
+  row-inner.Post,
+) (row-at t) row.Post
+row-row-inner-requires t c κs = omega (arith, c .before .before .before .before .before .before .before .before .before .before .before .before .before .before .pre .0)
+
+-- src/lib.rt:184:1
+row-same-length : (t : ℕ) → row-lts.Need-same-length (
+  group-reads.Asked,
+  group-reads.Learnt,
+  choice-reads.Asked,
+  choice-reads.Learnt,
+  stop-reads.Asked,
+  stop-reads.Learnt,
+  row-inner-below t,
+  row-inner.Post,
+) (row-at t) row.Post
+row-same-length t c = c .before .before .row-inner .kept .1 .1 .1 .1 .0
+
+-- src/lib.rt:184:1
+row-returns-3 : (t : ℕ) → row-lts.Need-returns-3 (
+  group-reads.Asked,
+  group-reads.Learnt,
+  choice-reads.Asked,
+  choice-reads.Learnt,
+  stop-reads.Asked,
+  stop-reads.Learnt,
+  row-inner-below t,
+  row-inner.Post,
+) (row-at t) row.Post
+unfolding Pat.pat-row
+row-returns-3 t c = record { is = λ kinds m. by-same (group-is (c .before .before .before .before .before .before .before .before .before .before .before .group .ensures) (c .before .before .before .before .before .before .before .before .before .r1 .given .1)) (by-same (choice-is (c .before .before .before .before .before .before .before .choice .ensures) (c .before .before .before .before .before .k .given .1)) (plain (c .before .before .row-inner .ensures))) }
+
+-- src/lib.rt:176:27
+row-inner-word-requires : (t : ℕ) → row-inner-lts.Need-word-requires (
+  word-reads.Asked,
+  word-reads.Learnt,
+  lab-and-pat-below t,
+  lab-and-pat.Post,
+  lab-pat-below t,
+  lab-pat.Post,
+  stop-reads.Asked,
+  stop-reads.Learnt,
+) (row-inner-at t) row-inner.Post
+row-inner-word-requires t c κs = search needs
+
+-- src/lib.rt:177:14
+row-inner-lab-and-pat-requires : (t : ℕ) → row-inner-lts.Need-lab-and-pat-requires (
+  word-reads.Asked,
+  word-reads.Learnt,
+  lab-and-pat-below t,
+  lab-and-pat.Post,
+  lab-pat-below t,
+  lab-pat.Post,
+  stop-reads.Asked,
+  stop-reads.Learnt,
+) (row-inner-at t) row-inner.Post
+row-inner-lab-and-pat-requires t c κs = omega (arith, c .before .before .before .before .before .before .before .pre .0)
+
+-- src/lib.rt:178:14
+row-inner-lab-pat-requires : (t : ℕ) → row-inner-lts.Need-lab-pat-requires (
+  word-reads.Asked,
+  word-reads.Learnt,
+  lab-and-pat-below t,
+  lab-and-pat.Post,
+  lab-pat-below t,
+  lab-pat.Post,
+  stop-reads.Asked,
+  stop-reads.Learnt,
+) (row-inner-at t) row-inner.Post
+row-inner-lab-pat-requires t c κs = omega (arith, c .before .before .before .before .before .before .before .pre .0)
+
+-- src/lib.rt:179:14
+row-inner-stop-requires : (t : ℕ) → row-inner-lts.Need-stop-requires (
+  word-reads.Asked,
+  word-reads.Learnt,
+  lab-and-pat-below t,
+  lab-and-pat.Post,
+  lab-pat-below t,
+  lab-pat.Post,
+  stop-reads.Asked,
+  stop-reads.Learnt,
+) (row-inner-at t) row-inner.Post
+row-inner-stop-requires t c κs = search needs
+
+-- src/lib.rt:163:1
+row-inner-same-length : (t : ℕ) → row-inner-lts.Need-same-length (
+  word-reads.Asked,
+  word-reads.Learnt,
+  lab-and-pat-below t,
+  lab-and-pat.Post,
+  lab-pat-below t,
+  lab-pat.Post,
+  stop-reads.Asked,
+  stop-reads.Learnt,
+) (row-inner-at t) row-inner.Post
+row-inner-same-length t c = c .before .before .word .kept .1 .0
+
+-- src/lib.rt:163:1
+row-inner-returns : (t : ℕ) → row-inner-lts.Need-returns (
+  word-reads.Asked,
+  word-reads.Learnt,
+  lab-and-pat-below t,
+  lab-and-pat.Post,
+  lab-pat-below t,
+  lab-pat.Post,
+  stop-reads.Asked,
+  stop-reads.Learnt,
+) (row-inner-at t) row-inner.Post
+unfolding Pat.pat-row-inner Pat.RestPatRow
+row-inner-returns t c = record { is = λ kinds m. at-key (Pat.pat-row-inner (walks (c .before .before .before .before .before .before .before .before .before .before .args .cfg .left))) (c .before .before .before .before .match .keys1) (last-sure (c .before .before .word .ensures)) }
+
+-- src/lib.rt:163:1
+row-inner-same-length-2 : (t : ℕ) → row-inner-lts.Need-same-length-2 (
+  word-reads.Asked,
+  word-reads.Learnt,
+  lab-and-pat-below t,
+  lab-and-pat.Post,
+  lab-pat-below t,
+  lab-pat.Post,
+  stop-reads.Asked,
+  stop-reads.Learnt,
+) (row-inner-at t) row-inner.Post
+row-inner-same-length-2 t c = c .before .before .lab-and-pat .kept .1 .1 .1 .1 .0
+
+-- src/lib.rt:163:1
+row-inner-returns-2 : (t : ℕ) → row-inner-lts.Need-returns-2 (
+  word-reads.Asked,
+  word-reads.Learnt,
+  lab-and-pat-below t,
+  lab-and-pat.Post,
+  lab-pat-below t,
+  lab-pat.Post,
+  stop-reads.Asked,
+  stop-reads.Learnt,
+) (row-inner-at t) row-inner.Post
+unfolding Pat.pat-row-inner Pat.RestPatRow
+row-inner-returns-2 t c = record { is = λ kinds m. at-key (Pat.pat-row-inner (walks (c .before .before .before .before .before .before .before .before .before .before .args .cfg .left))) (c .before .before .before .before .match .keys2) (plain (c .before .before .lab-and-pat .ensures)) }
+
+-- src/lib.rt:163:1
+row-inner-same-length-3 : (t : ℕ) → row-inner-lts.Need-same-length-3 (
+  word-reads.Asked,
+  word-reads.Learnt,
+  lab-and-pat-below t,
+  lab-and-pat.Post,
+  lab-pat-below t,
+  lab-pat.Post,
+  stop-reads.Asked,
+  stop-reads.Learnt,
+) (row-inner-at t) row-inner.Post
+row-inner-same-length-3 t c = c .before .before .lab-pat .kept .1 .1 .1 .1 .0
+
+-- src/lib.rt:163:1
+row-inner-returns-3 : (t : ℕ) → row-inner-lts.Need-returns-3 (
+  word-reads.Asked,
+  word-reads.Learnt,
+  lab-and-pat-below t,
+  lab-and-pat.Post,
+  lab-pat-below t,
+  lab-pat.Post,
+  stop-reads.Asked,
+  stop-reads.Learnt,
+) (row-inner-at t) row-inner.Post
+unfolding Pat.pat-row-inner Pat.RestPatRow
+row-inner-returns-3 t c = record { is = λ kinds m. at-key (Pat.pat-row-inner (walks (c .before .before .before .before .before .before .before .before .before .before .args .cfg .left))) (c .before .before .before .before .match .keys3) (plain (c .before .before .lab-pat .ensures)) }
+
+-- src/lib.rt:163:1
+row-inner-returns-4 : (t : ℕ) → row-inner-lts.Need-returns-4 (
+  word-reads.Asked,
+  word-reads.Learnt,
+  lab-and-pat-below t,
+  lab-and-pat.Post,
+  lab-pat-below t,
+  lab-pat.Post,
+  stop-reads.Asked,
+  stop-reads.Learnt,
+) (row-inner-at t) row-inner.Post
+unfolding Pat.pat-row-inner Pat.RestPatRow
+row-inner-returns-4 t c = record { is = λ kinds m. beyond (Pat.RestPatRow (walks (c .before .before .before .before .before .before .before .args .cfg .left)) ∷ Pat.LabAndPatPatRow (walks (c .before .before .before .before .before .before .before .args .cfg .left)) ∷ Pat.LabPatRow (walks (c .before .before .before .before .before .before .before .args .cfg .left)) ∷ []) (c .before .before .before .before .before .before .before .args .which) 3 refl (past (past (past zero-le (c .before .match .rest .0 .0 .1)) (c .before .match .rest .0 .1)) (c .before .match .rest .1)) (c .stop .ensures) }
+
+abbrev rows-Inv-loop : rows-lts.InvT-loop
+rows-Inv-loop text rec starts lens out₀ cfg n s₀ i₀ out s i =
+    PlainTurn text rec starts lens (cfg .tab) (from (Layout.word ", ") (Pat.pat-row (walks (cfg .left)))) n s₀ out₀ i s out
+
+abbrev rows-μ-loop : rows-lts.MeasureT-loop
+rows-μ-loop text rec starts lens out₀ cfg n s₀ i₀ out s i = n - i
+
+-- src/lib.rt:217:27
+rows-list-requires : (t : ℕ) → rows-lts.Need-list-requires (
+  list-reads.Asked,
+  list-reads.Learnt,
+  stop-reads.Asked,
+  stop-reads.Learnt,
+  between-reads.Asked,
+  between-reads.Learnt,
+  row-below t,
+  row.Post,
+) (rows-at t) rows.Post rows-Inv-loop rows-μ-loop
+rows-list-requires t c κs = search needs
+
+-- src/lib.rt:217:18
+rows-enum-known-n : (t : ℕ) → rows-lts.Need-enum-known-n (
+  list-reads.Asked,
+  list-reads.Learnt,
+  stop-reads.Asked,
+  stop-reads.Learnt,
+  between-reads.Asked,
+  between-reads.Learnt,
+  row-below t,
+  row.Post,
+) (rows-at t) rows.Post rows-Inv-loop rows-μ-loop
+rows-enum-known-n t c = search needs
+
+-- src/lib.rt:218:9
+rows-enum-told : (t : ℕ) → rows-lts.Need-enum-told (
+  list-reads.Asked,
+  list-reads.Learnt,
+  stop-reads.Asked,
+  stop-reads.Learnt,
+  between-reads.Asked,
+  between-reads.Learnt,
+  row-below t,
+  row.Post,
+) (rows-at t) rows.Post rows-Inv-loop rows-μ-loop
+rows-enum-told t c = search needs
+
+-- src/lib.rt:218:9
+rows-stop-requires : (t : ℕ) → rows-lts.Need-stop-requires (
+  list-reads.Asked,
+  list-reads.Learnt,
+  stop-reads.Asked,
+  stop-reads.Learnt,
+  between-reads.Asked,
+  between-reads.Learnt,
+  row-below t,
+  row.Post,
+) (rows-at t) rows.Post rows-Inv-loop rows-μ-loop
+rows-stop-requires t c κs = search needs
+
+-- src/lib.rt:218:9
+rows-returns : (t : ℕ) → rows-lts.Need-returns (
+  list-reads.Asked,
+  list-reads.Learnt,
+  stop-reads.Asked,
+  stop-reads.Learnt,
+  between-reads.Asked,
+  between-reads.Learnt,
+  row-below t,
+  row.Post,
+) (rows-at t) rows.Post rows-Inv-loop rows-μ-loop
+unfolding Pat.pat-rows Helpers.sep
+rows-returns t c = record { is = λ kinds m. list-not (c .stop .ensures) (c .before .before .before .list .ensures) (c .before .enum-told .given .1) }
+
+-- src/lib.rt:222:5
+rows-loop-holds : (t : ℕ) → rows-lts.Need-loop-holds (
+  list-reads.Asked,
+  list-reads.Learnt,
+  stop-reads.Asked,
+  stop-reads.Learnt,
+  between-reads.Asked,
+  between-reads.Learnt,
+  row-below t,
+  row.Post,
+) (rows-at t) rows.Post rows-Inv-loop rows-μ-loop
+rows-loop-holds t c = (omega arith, λ kinds m r o h. h, refl)
+
+-- src/lib.rt:223:13
+rows-between-requires : (t : ℕ) → rows-lts.Need-between-requires (
+  list-reads.Asked,
+  list-reads.Learnt,
+  stop-reads.Asked,
+  stop-reads.Learnt,
+  between-reads.Asked,
+  between-reads.Learnt,
+  row-below t,
+  row.Post,
+) (rows-at t) rows.Post rows-Inv-loop rows-μ-loop
+rows-between-requires t c κs = search needs
+
+-- src/lib.rt:224:13
+rows-row-requires : (t : ℕ) → rows-lts.Need-row-requires (
+  list-reads.Asked,
+  list-reads.Learnt,
+  stop-reads.Asked,
+  stop-reads.Learnt,
+  between-reads.Asked,
+  between-reads.Learnt,
+  row-below t,
+  row.Post,
+) (rows-at t) rows.Post rows-Inv-loop rows-μ-loop
+rows-row-requires t c κs = omega (arith, c .before .before .before .before .before .before .before .before .before .before .before .before .before .before .before .before .pre .0)
+
+-- src/lib.rt:225:26
+rows-enum-known-r2 : (t : ℕ) → rows-lts.Need-enum-known-r2 (
+  list-reads.Asked,
+  list-reads.Learnt,
+  stop-reads.Asked,
+  stop-reads.Learnt,
+  between-reads.Asked,
+  between-reads.Learnt,
+  row-below t,
+  row.Post,
+) (rows-at t) rows.Post rows-Inv-loop rows-μ-loop
+rows-enum-known-r2 t c = search needs
+
+-- src/lib.rt:226:13
+rows-enum-told-2 : (t : ℕ) → rows-lts.Need-enum-told-2 (
+  list-reads.Asked,
+  list-reads.Learnt,
+  stop-reads.Asked,
+  stop-reads.Learnt,
+  between-reads.Asked,
+  between-reads.Learnt,
+  row-below t,
+  row.Post,
+) (rows-at t) rows.Post rows-Inv-loop rows-μ-loop
+rows-enum-told-2 t c = search needs
+
+-- src/lib.rt:226:13
+rows-same-length : (t : ℕ) → rows-lts.Need-same-length (
+  list-reads.Asked,
+  list-reads.Learnt,
+  stop-reads.Asked,
+  stop-reads.Learnt,
+  between-reads.Asked,
+  between-reads.Learnt,
+  row-below t,
+  row.Post,
+) (rows-at t) rows.Post rows-Inv-loop rows-μ-loop
+rows-same-length t c = c .before .before .before .before .row .kept .1 .1 .1 .1 .0 ∙ c .before .before .before .before .before .before .before .before .between .kept .1 .0 ∙ c .before .before .before .before .before .before .before .before .before .before .before .loop .inv .2
+
+-- src/lib.rt:226:13
+rows-returns-2 : (t : ℕ) → rows-lts.Need-returns-2 (
+  list-reads.Asked,
+  list-reads.Learnt,
+  stop-reads.Asked,
+  stop-reads.Learnt,
+  between-reads.Asked,
+  between-reads.Learnt,
+  row-below t,
+  row.Post,
+) (rows-at t) rows.Post rows-Inv-loop rows-μ-loop
+unfolding Pat.pat-rows Helpers.sep
+rows-returns-2 t c = record { is = λ kinds m. by-same (list-is (c .before .before .before .before .before .before .before .before .before .before .before .before .before .before .before .list .ensures) (c .before .before .before .before .before .before .before .before .before .before .before .before .before .n .given .1)) (by-same (items-all _ _ _) (c .before .before .before .before .before .before .before .before .before .before .before .loop .inv .1 kinds m _ _ (from-more _ _ (c .before .before .before .before .before .before .before .before .before .before .loop-test .taken) (then-sure (c .before .before .before .before .before .before .before .before .between .ensures) (then-stop (plain (c .before .before .before .before .row .ensures)) (c .enum-told2 .given .1)))))) }
+
+-- src/lib.rt:229:9
+rows-add-i : (t : ℕ) → rows-lts.Need-add-i (
+  list-reads.Asked,
+  list-reads.Learnt,
+  stop-reads.Asked,
+  stop-reads.Learnt,
+  between-reads.Asked,
+  between-reads.Learnt,
+  row-below t,
+  row.Post,
+) (rows-at t) rows.Post rows-Inv-loop rows-μ-loop
+rows-add-i t c = omega (arith, c .before .before .before .before .before .before .before .before .before .before .before .loop-test .taken, c .before .before .before .before .before .before .before .before .before .before .before .before .before .known-told)
+
+-- src/lib.rt:222:5
+rows-loop-less : (t : ℕ) → rows-lts.Need-loop-less (
+  list-reads.Asked,
+  list-reads.Learnt,
+  stop-reads.Asked,
+  stop-reads.Learnt,
+  between-reads.Asked,
+  between-reads.Learnt,
+  row-below t,
+  row.Post,
+) (rows-at t) rows.Post rows-Inv-loop rows-μ-loop
+rows-loop-less t c = omega arith
+
+-- src/lib.rt:222:5
+rows-loop-again : (t : ℕ) → rows-lts.Need-loop-again (
+  list-reads.Asked,
+  list-reads.Learnt,
+  stop-reads.Asked,
+  stop-reads.Learnt,
+  between-reads.Asked,
+  between-reads.Learnt,
+  row-below t,
+  row.Post,
+) (rows-at t) rows.Post rows-Inv-loop rows-μ-loop
+unfolding Pat.pat-rows Helpers.sep
+rows-loop-again t c = (omega (arith, c .before .before .before .before .before .before .before .before .before .before .before .before .loop .inv .0), λ kinds m r o h. c .before .before .before .before .before .before .before .before .before .before .before .before .loop .inv .1 kinds m r o (from-more _ _ (c .before .before .before .before .before .before .before .before .before .before .before .loop-test .taken) (then-sure (c .before .before .before .before .before .before .before .before .before .between .ensures) (then-done (plain (c .before .before .before .before .before .row .ensures)) (c .before .r2 .given .1) h))), c .before .before .before .before .before .row .kept .1 .1 .1 .1 .0 ∙ c .before .before .before .before .before .before .before .before .before .between .kept .1 .0 ∙ c .before .before .before .before .before .before .before .before .before .before .before .before .loop .inv .2)
+
+-- src/lib.rt:206:1
+rows-same-length-2 : (t : ℕ) → rows-lts.Need-same-length-2 (
+  list-reads.Asked,
+  list-reads.Learnt,
+  stop-reads.Asked,
+  stop-reads.Learnt,
+  between-reads.Asked,
+  between-reads.Learnt,
+  row-below t,
+  row.Post,
+) (rows-at t) rows.Post rows-Inv-loop rows-μ-loop
+rows-same-length-2 t c = c .before .loop .inv .2
+
+-- src/lib.rt:206:1
+rows-returns-3 : (t : ℕ) → rows-lts.Need-returns-3 (
+  list-reads.Asked,
+  list-reads.Learnt,
+  stop-reads.Asked,
+  stop-reads.Learnt,
+  between-reads.Asked,
+  between-reads.Learnt,
+  row-below t,
+  row.Post,
+) (rows-at t) rows.Post rows-Inv-loop rows-μ-loop
+unfolding Pat.pat-rows Helpers.sep
+rows-returns-3 t c = record { is = λ kinds m. by-same (list-is (c .before .before .before .before .before .list .ensures) (c .before .before .before .n .given .1)) (by-same (items-all _ _ _) (c .before .loop .inv .1 kinds m _ _ (from-none _ _ (c .loop-test .left)))) }
 
 -- src/lib.rt:319:9
 tuple-pat-word-requires : (t : ℕ) → tuple-pat-lts.Need-word-requires (
@@ -4310,15 +4299,15 @@ vector-pat-returns-3 : (t : ℕ) → vector-pat-lts.Need-returns-3 (
 unfolding Pat.VectorPat
 vector-pat-returns-3 t c = record { is = λ kinds m. then-sure (c .before .before .before .before .before .before .before .before .before .before .before .before .before .before .before .before .before .word .ensures) (by-same (first-same (group-is (c .before .before .before .before .before .before .before .before .before .before .before .before .before .before .group .ensures) (c .before .before .before .before .before .before .before .before .before .before .before .before .r2 .given .1))) (then-done (plain (c .before .before .before .before .before .before .before .before .before .pat-args .ensures)) (c .before .before .before .before .before .r3 .given .1) (last-sure (c .before .before .word2 .ensures)))) }
 
-pub +as-pat+as-tail+as-tail-there+con-inner+con-inner-there+con-pat+get-pat+infix-pat+lab-and-pat+lab-pat+list-pat+or-pat+paren-pat+pat-args+pat-row+pat-row-inner+pat-rows+record-pat+tuple-pat+typed-pat+vector-pat-spec :
+pub +as-pat+as-tail+as-tail-there+con-arg+con-arg-there+con-pat+get-pat+infix-pat+lab-and-pat+lab-pat+list-pat+or-pat+paren-pat+pat-args+record-pat+row+row-inner+rows+tuple-pat+typed-pat+vector-pat-spec :
     {M : Type 1} → statement M
-+as-pat+as-tail+as-tail-there+con-inner+con-inner-there+con-pat+get-pat+infix-pat+lab-and-pat+lab-pat+list-pat+or-pat+paren-pat+pat-args+pat-row+pat-row-inner+pat-rows+record-pat+tuple-pat+typed-pat+vector-pat-spec =
++as-pat+as-tail+as-tail-there+con-arg+con-arg-there+con-pat+get-pat+infix-pat+lab-and-pat+lab-pat+list-pat+or-pat+paren-pat+pat-args+record-pat+row+row-inner+rows+tuple-pat+typed-pat+vector-pat-spec =
     close
     μ-as-pat
     μ-as-tail
     μ-as-tail-there
-    μ-con-inner
-    μ-con-inner-there
+    μ-con-arg
+    μ-con-arg-there
     μ-con-pat
     μ-get-pat
     μ-infix-pat
@@ -4328,10 +4317,10 @@ pub +as-pat+as-tail+as-tail-there+con-inner+con-inner-there+con-pat+get-pat+infi
     μ-or-pat
     μ-paren-pat
     μ-pat-args
-    μ-pat-row
-    μ-pat-row-inner
-    μ-pat-rows
     μ-record-pat
+    μ-row
+    μ-row-inner
+    μ-rows
     μ-tuple-pat
     μ-typed-pat
     μ-vector-pat
@@ -4392,38 +4381,38 @@ pub +as-pat+as-tail+as-tail-there+con-inner+con-inner-there+con-pat+get-pat+infi
     (as-tail-there-get-pat-requires t)
     (as-tail-there-same-length t)
     (as-tail-there-returns-2 t))
-    (λ t. con-inner-lts.spec (
+    (λ t. con-arg-lts.spec (
       absent-reads.Asked,
       absent-reads.Learnt,
-      con-inner-there-below t,
-      con-inner-there.Post,
+      con-arg-there-below t,
+      con-arg-there.Post,
     )
-    (con-inner-at t)
-    con-inner.Post
-    (con-inner-absent-requires t)
-    (con-inner-enum-known-gone t)
-    (con-inner-enum-told t)
-    (con-inner-con-inner-there-requires t)
-    (con-inner-returns t)
-    (con-inner-same-length t)
-    (con-inner-returns-2 t))
-    (λ t. con-inner-there-lts.spec (
+    (con-arg-at t)
+    con-arg.Post
+    (con-arg-absent-requires t)
+    (con-arg-enum-known-gone t)
+    (con-arg-enum-told t)
+    (con-arg-con-arg-there-requires t)
+    (con-arg-returns t)
+    (con-arg-same-length t)
+    (con-arg-returns-2 t))
+    (λ t. con-arg-there-lts.spec (
       word-reads.Asked,
       word-reads.Learnt,
       get-pat-below t,
       get-pat.Post,
     )
-    (con-inner-there-at t)
-    con-inner-there.Post
-    (con-inner-there-word-requires t)
-    (con-inner-there-get-pat-requires t)
-    (con-inner-there-same-length t)
-    (con-inner-there-returns t))
+    (con-arg-there-at t)
+    con-arg-there.Post
+    (con-arg-there-word-requires t)
+    (con-arg-there-get-pat-requires t)
+    (con-arg-there-same-length t)
+    (con-arg-there-returns t))
     (λ t. con-pat-lts.spec (
       op-path-reads.Asked,
       op-path-reads.Learnt,
-      con-inner-below t,
-      con-inner.Post,
+      con-arg-below t,
+      con-arg.Post,
     )
     (con-pat-at t)
     con-pat.Post
@@ -4432,7 +4421,7 @@ pub +as-pat+as-tail+as-tail-there+con-inner+con-inner-there+con-pat+get-pat+infi
     (con-pat-enum-told t)
     (con-pat-same-length t)
     (con-pat-returns t)
-    (con-pat-con-inner-requires t)
+    (con-pat-con-arg-requires t)
     (con-pat-same-length-2 t)
     (con-pat-returns-2 t))
     (λ t. get-pat-lts.spec (
@@ -4657,31 +4646,44 @@ pub +as-pat+as-tail+as-tail-there+con-inner+con-inner-there+con-pat+get-pat+infi
     (pat-args-loop-again t)
     (pat-args-same-length-3 t)
     (pat-args-returns-4 t))
-    (λ t. pat-row-lts.spec (
+    (λ t. record-pat-lts.spec
+    (word-reads.Asked, word-reads.Learnt, rows-below t, rows.Post)
+    (record-pat-at t)
+    record-pat.Post
+    (record-pat-word-requires t)
+    (record-pat-rows-requires t)
+    (record-pat-enum-known-r2 t)
+    (record-pat-enum-told t)
+    (record-pat-same-length t)
+    (record-pat-returns t)
+    (record-pat-word-requires-2 t)
+    (record-pat-same-length-2 t)
+    (record-pat-returns-2 t))
+    (λ t. row-lts.spec (
       group-reads.Asked,
       group-reads.Learnt,
       choice-reads.Asked,
       choice-reads.Learnt,
       stop-reads.Asked,
       stop-reads.Learnt,
-      pat-row-inner-below t,
-      pat-row-inner.Post,
+      row-inner-below t,
+      row-inner.Post,
     )
-    (pat-row-at t)
-    pat-row.Post
-    (pat-row-group-requires t)
-    (pat-row-enum-known-r1 t)
-    (pat-row-enum-told t)
-    (pat-row-returns t)
-    (pat-row-choice-requires t)
-    (pat-row-enum-known-k t)
-    (pat-row-enum-told-2 t)
-    (pat-row-stop-requires t)
-    (pat-row-returns-2 t)
-    (pat-row-pat-row-inner-requires t)
-    (pat-row-same-length t)
-    (pat-row-returns-3 t))
-    (λ t. pat-row-inner-lts.spec (
+    (row-at t)
+    row.Post
+    (row-group-requires t)
+    (row-enum-known-r1 t)
+    (row-enum-told t)
+    (row-returns t)
+    (row-choice-requires t)
+    (row-enum-known-k t)
+    (row-enum-told-2 t)
+    (row-stop-requires t)
+    (row-returns-2 t)
+    (row-row-inner-requires t)
+    (row-same-length t)
+    (row-returns-3 t))
+    (λ t. row-inner-lts.spec (
       word-reads.Asked,
       word-reads.Learnt,
       lab-and-pat-below t,
@@ -4691,67 +4693,50 @@ pub +as-pat+as-tail+as-tail-there+con-inner+con-inner-there+con-pat+get-pat+infi
       stop-reads.Asked,
       stop-reads.Learnt,
     )
-    (pat-row-inner-at t)
-    pat-row-inner.Post
-    (pat-row-inner-word-requires t)
-    (pat-row-inner-lab-and-pat-requires t)
-    (pat-row-inner-lab-pat-requires t)
-    (pat-row-inner-stop-requires t)
-    (pat-row-inner-same-length t)
-    (pat-row-inner-returns t)
-    (pat-row-inner-same-length-2 t)
-    (pat-row-inner-returns-2 t)
-    (pat-row-inner-same-length-3 t)
-    (pat-row-inner-returns-3 t)
-    (pat-row-inner-returns-4 t))
-    (λ t. pat-rows-lts.spec (
+    (row-inner-at t)
+    row-inner.Post
+    (row-inner-word-requires t)
+    (row-inner-lab-and-pat-requires t)
+    (row-inner-lab-pat-requires t)
+    (row-inner-stop-requires t)
+    (row-inner-same-length t)
+    (row-inner-returns t)
+    (row-inner-same-length-2 t)
+    (row-inner-returns-2 t)
+    (row-inner-same-length-3 t)
+    (row-inner-returns-3 t)
+    (row-inner-returns-4 t))
+    (λ t. rows-lts.spec (
       list-reads.Asked,
       list-reads.Learnt,
       stop-reads.Asked,
       stop-reads.Learnt,
       between-reads.Asked,
       between-reads.Learnt,
-      pat-row-below t,
-      pat-row.Post,
+      row-below t,
+      row.Post,
     )
-    (pat-rows-at t)
-    pat-rows.Post
-    pat-rows-Inv-loop
-    pat-rows-μ-loop
-    (pat-rows-list-requires t)
-    (pat-rows-enum-known-n t)
-    (pat-rows-enum-told t)
-    (pat-rows-stop-requires t)
-    (pat-rows-returns t)
-    (pat-rows-loop-holds t)
-    (pat-rows-between-requires t)
-    (pat-rows-pat-row-requires t)
-    (pat-rows-enum-known-r2 t)
-    (pat-rows-enum-told-2 t)
-    (pat-rows-same-length t)
-    (pat-rows-returns-2 t)
-    (pat-rows-add-i t)
-    (pat-rows-loop-less t)
-    (pat-rows-loop-again t)
-    (pat-rows-same-length-2 t)
-    (pat-rows-returns-3 t))
-    (λ t. record-pat-lts.spec (
-      word-reads.Asked,
-      word-reads.Learnt,
-      pat-rows-below t,
-      pat-rows.Post,
-    )
-    (record-pat-at t)
-    record-pat.Post
-    (record-pat-word-requires t)
-    (record-pat-pat-rows-requires t)
-    (record-pat-enum-known-r2 t)
-    (record-pat-enum-told t)
-    (record-pat-same-length t)
-    (record-pat-returns t)
-    (record-pat-word-requires-2 t)
-    (record-pat-same-length-2 t)
-    (record-pat-returns-2 t))
+    (rows-at t)
+    rows.Post
+    rows-Inv-loop
+    rows-μ-loop
+    (rows-list-requires t)
+    (rows-enum-known-n t)
+    (rows-enum-told t)
+    (rows-stop-requires t)
+    (rows-returns t)
+    (rows-loop-holds t)
+    (rows-between-requires t)
+    (rows-row-requires t)
+    (rows-enum-known-r2 t)
+    (rows-enum-told-2 t)
+    (rows-same-length t)
+    (rows-returns-2 t)
+    (rows-add-i t)
+    (rows-loop-less t)
+    (rows-loop-again t)
+    (rows-same-length-2 t)
+    (rows-returns-3 t))
     (λ t. tuple-pat-lts.spec (
       word-reads.Asked,
       word-reads.Learnt,

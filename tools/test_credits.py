@@ -1,0 +1,116 @@
+#!/usr/bin/env python3
+"""Tests of credits.py: the terms that it writes for small layouts, its errors, and the files of the repository."""
+import json
+import os
+import pathlib
+import shutil
+import subprocess
+import sys
+import tempfile
+import unittest
+
+ROOT = os.path.dirname(os.path.dirname(os.path.abspath(__file__)))
+TOOL = os.path.join(ROOT, "tools", "credits.py")
+sys.path.insert(0, os.path.dirname(TOOL))
+import credits  # noqa: E402
+
+FILES = json.loads(pathlib.Path(ROOT, credits.ANSWERS).read_text())
+
+
+def terms(specs, file="Rows"):
+    """The writer of a file's terms, over definitions given by their clauses."""
+    heads = "".join("unfoldable pub %s : Layout\n" % one for one in dict.fromkeys(line.split()[0] for line in specs))
+    return credits.Terms(credits.read_definitions({"Helpers": heads + "\n".join(specs)}), FILES[file])
+
+
+def term(layout, *specs, file="Rows"):
+    return terms(specs, file).term(credits.parse(layout)).text
+
+
+class Credits(unittest.TestCase):
+    def test_one_after_another(self):
+        self.assertEqual(term('word "(" ⨾ get-exp c ⨾ word ")"'), "fixed refl then go .exp c (omega arith) then fixed refl")
+        self.assertEqual(term('(text ⨾ path) ⨾ get-ty'), "(texts short then paths short) then go .ty")
+
+    def test_lists_and_groups(self):
+        self.assertEqual(term('group (sep ", " (group get-pat))'), "groups (seps (fixed refl) refl (groups (go .pat)))")
+        self.assertEqual(term('for-each (maybe (word " " ⨾ text))'), "each refl (maybes (fixed refl then texts short))")
+
+    def test_definitions_are_unfolded(self):
+        writer = terms(['row = group (text ⨾ rest)', 'rest = word "," ⨾ get-ty'])
+        self.assertEqual(writer.term(credits.parse("row")).text, "groups (texts short then fixed refl then go .ty)")
+        self.assertEqual(writer.opened, ["row", "rest"])
+
+    def test_a_depth_more(self):
+        self.assertEqual(term('indented c λ new. indent new ⨾ get-exp new'),
+                         "indenteds c _ (omega arith) (at-depth (deeper c) (omega arith) then go .exp (deeper c) (omega arith))")
+        self.assertEqual(term('in-end c "let" (get-dec ws) get-str-exp'),
+                         "in-ends c (omega arith) _ _ (fixed refl) (get-decs short go low (deeper c) (omega arith)) (go .str-exp (deeper c) (omega arith))")
+
+    def test_levels_by_a_number(self):
+        levels = ['levels zero c k = k c', 'levels (suc n) c k = indented c (λ new. levels n new k)']
+        self.assertEqual(term('levels 2 c (λ new. get-exp new)', *levels),
+                         "indenteds c _ (omega arith) (indenteds (deeper c) _ (omega arith) (go .exp (deeper (deeper c)) (omega arith)))")
+
+    def test_a_choice(self):
+        self.assertEqual(term('choice (inner c)', 'inner c which = getD (text ∷ (word " " ⨾ get-exp c) ∷ []) which halt'),
+                         "choices (λ which. (arm refl (texts short) ▹ arm refl (fixed refl then go .exp c (omega arith)) ▹ no-more) .at which)")
+
+    def test_an_optional_token(self):
+        self.assertEqual(term('optional λ op. when-some op (word "op") ⨾ path'),
+                         "optionals _ (λ k. whens-some (fixed refl) _ then paths short) (whens-some (fixed refl) _ then paths short)")
+        self.assertEqual(term('optional lit', 'lit none = skip', 'lit (some k) = write k ⨾ word " "'),
+                         "optionals _ (λ k. writes short then fixed refl) skips")
+
+    def test_a_question(self):
+        self.assertEqual(term('look isIfExp λ b. elim b [ true ↦ get-ty | false ↦ word " " ⨾ get-pat ]'), "looks _ (go .ty) (fixed refl then go .pat)")
+
+    def test_fields_followed(self):
+        self.assertEqual(term('word "(" ⨾ get-ty ⨾ word ")"', file="TypesFollow"), "before (alone refl) (behind (ty _ d) (alone refl))")
+        self.assertEqual(term('dropped get-ty ⨾ text', file="TypesFollow"), "both (drops (ty true)) (texts short)")
+
+    def test_a_name_without_definition(self):
+        with self.assertRaisesRegex(credits.Unknown, "arm: row: 'frob' has no definition and no law"):
+            term('arm', 'arm = word " " ⨾ row', 'row = group frob')
+
+    def test_cases_of_what_is_not_known(self):
+        with self.assertRaisesRegex(credits.Unknown, "goes by cases of an argument that is not known"):
+            term('list more', 'more zero = skip', 'more (suc n) = text ⨾ more n')
+
+    def test_the_files_are_what_the_layouts_give(self):
+        run = subprocess.run([sys.executable, TOOL, "--check"], capture_output=True, text=True, cwd=ROOT)
+        self.assertEqual((run.returncode, run.stderr), (0, ""))
+
+    def with_arm(self, room, body):
+        """A copy of what the tool reads, with one more arm of expressions; how the tool runs there."""
+        for folder in ("crates/layout/specs", "crates/measures"):
+            shutil.copytree(os.path.join(ROOT, folder), os.path.join(room, folder))
+        spec = pathlib.Path(room, "crates/layout/specs/Exp.antt")
+        text = spec.read_text().replace("∷ FnExp c\n", "∷ FnExp c\n      ∷ BangExp c\n")
+        spec.write_text(text + "\n  unfoldable pub BangExp : Cfg → Layout\n  BangExp c = %s\n" % body)
+        return lambda *words: subprocess.run([sys.executable, TOOL, *words], capture_output=True, text=True, cwd=room)
+
+    def test_a_new_arm(self):
+        with tempfile.TemporaryDirectory() as room:
+            run = self.with_arm(room, 'word " -- " ⨾ get-exp c')
+            self.assertNotEqual(run("--check").returncode, 0)
+            self.assertIn("run 'python3 tools/credits.py'", run("--check").stderr)
+            self.assertEqual((run().returncode, run("--check").returncode), (0, 0))
+            rows = pathlib.Path(room, credits.PROOFS, "Rows.antt").read_text()
+            self.assertIn("▹ arm refl (fixed refl then go .exp c (omega arith))  -- BangExp\n        ▹ no-more", rows)
+
+    def test_a_new_arm_that_is_not_regular(self):
+        with tempfile.TemporaryDirectory() as room:
+            run = self.with_arm(room, 'list (exp-semi-more c false)')()
+            self.assertNotEqual(run.returncode, 0)
+            self.assertIn("exps: BangExp: exp-semi-more: it goes by cases of an argument that is not known", run.stderr)
+            self.assertIn("Irregular.antt", run.stderr)
+
+    def test_usage(self):
+        run = subprocess.run([sys.executable, TOOL, "--chek"], capture_output=True, text=True, cwd=ROOT)
+        self.assertNotEqual(run.returncode, 0)
+        self.assertIn("usage", run.stderr)
+
+
+if __name__ == "__main__":
+    unittest.main()
