@@ -4,7 +4,7 @@ use native.Mathlib.Nat.{pow-suc, div-one, add-zero, zero-add, suc-add, one-mul}
 use native.Mathlib.Numerals.{one-add}
 use native.Mathlib.Omega.{arith}
 use mathlib.Core.Path.{_≡_, refl, sym, ap, ap₂, _∙_}
-use mathlib.Core.Bool.{Bool, true, false, not, _&&_}
+use mathlib.Core.Bool.{Bool, true, false, not, _&&_, and-true, and-false}
 use mathlib.Core.List.{List}
 use mathlib.Core.Option.{Option, none, some, Option·none-ne-some, Option·some-ne-none, Option·some-injective}
 use mathlib.Core.Logic.{_⊎_, inl, inr, ⊎-elim}
@@ -318,16 +318,8 @@ first-among member n h z =
 
 -- ---- a bit struck out of a word
 
-and-false : (t : Bool) → (t && false) ≡ false
-and-false true = refl
-and-false false = refl
-
-and-true : (t : Bool) → t ≡ (t && true)
-and-true true = refl
-and-true false = refl
-
 and-other : (t : Bool) (i b : ℕ) → (i ≡ b → ⊥) → t ≡ (t && not (eqb i b))
-and-other t i b h = rw (ne-eqb i b h) (and-true t)
+and-other t i b h = rw (ne-eqb i b h) (sym (and-true t))
 
 bit-le : (b x : ℕ) → bit x b ≡ true → 2 ^ b ≤ x
 bit-le zero x h = omega (arith, eqb-true (x % 2) 1 (sym (bit-zero x) ∙ h))
@@ -356,7 +348,7 @@ bit-kept b x i h = go (eqb i b) refl
   where
     go : (t : Bool) → eqb i b ≡ t → bit x i ≡ (bit x i && not t)
     go true e = rw (eqb-true i b e, h)
-    go false e = and-true (bit x i)
+    go false e = sym (and-true (bit x i))
 
 -- ---- the loops
 

@@ -10,7 +10,7 @@ use lib.ListN.{length, getD, take, drop, set, length-append, length-take, length
 use lib.Seq.{paste, paste-suc, append-snoc, drop-cons, drop-drop, set-at, take-at, drop-at, take-length}
 use borrow.Author.Tests.{le-leb, lt-leb}
 use Rattle.text.specs.Bytes.{bytes, sameBytes}
-use Rattle.text.proofs.Laws.{same-true, same-refl}
+use Rattle.text.proofs.Laws.{never, same-true, same-refl}
 use Rattle.doc_comment.specs.Doc.{joined, closed, opened, docText, put, docOf, docSaid}
 use Rattle.doc_comment.specs.Lines.{part, kept, FirstKept, size, Closes, Bodies, Joins, fed}
 use Rattle.doc_comment.specs.declared.Body.{Body}
@@ -59,7 +59,7 @@ size-nil = refl
 
 closing-some : bytes ")" ≡ [] → ⊥
 unfolding bytes
-closing-some e = let z : _≡_ {A = ℕ} 0 1 = cc in omega arith
+closing-some e = never (cc)
 
 -- The line read last, and what the lines before it take.
 abbrev Pending : List (List ℕ) → List ℕ → ℕ → Type 0
@@ -121,7 +121,7 @@ seen-open {comment} {from} {most = most} {start = start} {end = end} seen over f
     go (seen .back) (sym (back-is seen over) ∙ ap reverse (c .last) ∙ reverse-append (c .between) (bytes ")" ∷ [])) (seen .last)
   where
     go : {ls : List (List ℕ)} (back : List (List ℕ)) → back ≡ bytes ")" ∷ ls → Pending back (part comment start end) most → ⊥
-    go [] e p = let z : _≡_ {A = ℕ} 0 1 = cc in omega arith
+    go [] e p = never (cc)
     go (l ∷ back) e p =
         false≢true (sym f ∙ ap (λ (u : List ℕ). sameBytes u (bytes ")")) (p .0 ∙ head-of e) ∙ same-refl (bytes ")"))
 
@@ -229,8 +229,8 @@ module _ {comment : List ℕ} {from m : ℕ} {out : List ℕ} {at t : ℕ} {out�
   writing-some e = go (w .todo) (sym (w .rest) ∙ e)
     where
       go : (todo : List (List ℕ)) → todo ++ (bytes ")" ∷ []) ≡ [] → ⊥
-      go [] f = let z : _≡_ {A = ℕ} 0 1 = cc in omega arith
-      go (l ∷ todo) f = let z : _≡_ {A = ℕ} 0 1 = cc in omega arith
+      go [] f = never (cc)
+      go (l ∷ todo) f = never (cc)
 
   pub writing-all : m ≤ t → Joins (kept comment from) m out out′
   writing-all h =

@@ -4,11 +4,12 @@ use native.Mathlib.Nat.{mul-comm, mul-le-mul}
 use native.Mathlib.Omega.{arith}
 use mathlib.Core.Path.{_≡_, refl, sym, ap, ap₂, _∙_, subst}
 use mathlib.Core.Bool.{Bool, true, false}
-use mathlib.Core.List.{List, [], _++_}
-use mathlib.Core.Option.{Option, none, some}
+use mathlib.Core.List.{List, _++_}
+use mathlib.Core.Option.{none}
 use lib.ListN.{length, getD, take, drop, length-take}
 use lib.Dec.{eqb}
 use borrow.Author.Tests.{eq-eqb, eqb-true}
+use Rattle.text.proofs.Laws.{never}
 use Rattle.reader.specs.Check.{maxForms}
 use Rattle.reader.specs.Tokens.{tokensIn}
 use Rattle.reader.specs.Reading.{Reads, refused, sheet, read}
@@ -20,11 +21,11 @@ use Rattle.comments.specs.Set.{isComment, holds, wordsOf, room, count, first, f
 use Rattle.layout.specs.declared.St.{St}
 use Rattle.layout.specs.declared.Answer as Walking
 use Rattle.layout.specs.declared.Answer.the-variants.{Done, Stopped}
-use Rattle.layout.specs.Meaning.{Page, Event, Outcome, done, stopped, Stop, outcome}
+use Rattle.layout.specs.Meaning.{Page, Event, Outcome, done, stopped, Stop}
 use Rattle.layout.specs.Walk.{walks, top, walk}
 use Rattle.layout.specs.GetDec.{get-dec}
 use Rattle.layout.specs.Events.{deepest, letters, units, formatted, isLeft}
-use Rattle.layout.specs.State.{Run, runOf, at, effects, Ran, went, fell, run, runs, packed, stopOf, Walked, cap, page}
+use Rattle.layout.specs.State.{Run, runOf, at, effects, Ran, went, fell, run, runs, packed, Walked, page}
 use Rattle.layout.proofs.Exact.{exact-letters, exact-units, exact-deepest}
 use Rattle.measures.proofs.Measures.{Small, small-done, sheet-lengths}
 use Rattle.formatter.specs.declared.Measures.{Measures}
@@ -36,9 +37,6 @@ use Rattle.formatter.proofs.RunLaws.{out-is, left-comments, empty-left,
 use Rattle.formatter.proofs.VerdictLaws.{format-wide, format-short, format-fits, check-declined, get-declined, check-accepted, get-accepted}
 use Rattle.formatter.proofs.LookupLaws.{reading-says, reading-counts}
 use Rattle.formatter.proofs.TableLaws.{tables-within}
-
-never : {A : Type 0} → _≡_ {A = ℕ} 0 1 → A
-never e = absurd (omega (arith, e))
 
 measures-same : {d d′ l l′ u u′ : ℕ} → d ≡ d′ → l ≡ l′ → u ≡ u′
     → _≡_ {A = Measures} (record { deepest = d; letters = l; units = u }) (record { deepest = d′; letters = l′; units = u′ })

@@ -4,7 +4,7 @@ use Prim.Native.Nat.{ℕ, _+_, _-_, _*_, _≤_, min}
 use native.Mathlib.Nat.{zero-add, mul-add, mul-comm, mul-zero}
 use native.Mathlib.Omega.{arith}
 use mathlib.Core.Path.{_≡_, refl, sym, ap, ap₂, _∙_}
-use mathlib.Core.Bool.{Bool, true, false, not, _&&_, _||_, cond}
+use mathlib.Core.Bool.{Bool, true, false, not, _&&_, _||_, cond, and-true}
 use mathlib.Core.Logic.{_↔_}
 use mathlib.Core.List.{List, [], _∷_, _++_, append-assoc}
 use mathlib.Core.Option.{none, some}
@@ -141,10 +141,6 @@ module _ (p : Page) (tab : ℕ) where
   out-nil (e ∷ es) g h = out-nil es (effect p tab e g) (one-nil e g h)
 
 -- ---- the words
-and-true : (t : Bool) → t ≡ (t && true)
-and-true true = refl
-and-true false = refl
-
 and-not : (a b c : Bool) → ((a && not b) && not c) ≡ (a && not (b || c))
 and-not true true c = refl
 and-not true false c = refl
@@ -164,16 +160,16 @@ without-is f j k = ap (λ t. f k && not t) (eqb-sym k j)
 module _ (p : Page) (tab : ℕ) where
   left-one : (e : Event) (f : ℕ → Bool) (g : Run) → g .left ≡ wordsOf f → effect p tab e g .left ≡ wordsOf (λ k. f k && not (writesComment k e))
   unfolding effect writesComment
-  left-one (Word w) f g h = h ∙ ap wordsOf (λ i k. and-true (f k) i)
-  left-one (Token j) f g h = h ∙ ap wordsOf (λ i k. and-true (f k) i)
+  left-one (Word w) f g h = h ∙ ap wordsOf (λ i k. sym (and-true (f k)) i)
+  left-one (Token j) f g h = h ∙ ap wordsOf (λ i k. sym (and-true (f k)) i)
   left-one (Comment j) f g h = words-without f (g .left) h j ∙ ap wordsOf (λ i k. without-is f j k i)
-  left-one (Formed d) f g h = h ∙ ap wordsOf (λ i k. and-true (f k) i)
-  left-one (Indent d) f g h = h ∙ ap wordsOf (λ i k. and-true (f k) i)
+  left-one (Formed d) f g h = h ∙ ap wordsOf (λ i k. sym (and-true (f k)) i)
+  left-one (Indent d) f g h = h ∙ ap wordsOf (λ i k. sym (and-true (f k)) i)
 
   -- The words of a set, less the comments written.
   pub left-is : (es : List Event) (f : ℕ → Bool) (g : Run) → g .left ≡ wordsOf f → effects p tab es g .left ≡ wordsOf (λ k. f k && not (written es k))
   unfolding effects written
-  left-is [] f g h = h ∙ ap wordsOf (λ i k. and-true (f k) i)
+  left-is [] f g h = h ∙ ap wordsOf (λ i k. sym (and-true (f k)) i)
   left-is (e ∷ es) f g h =
       left-is es (λ k. f k && not (writesComment k e)) (effect p tab e g) (left-one e f g h)
       ∙ ap wordsOf (λ i k. and-not (f k) (writesComment k e) (written es k) i)

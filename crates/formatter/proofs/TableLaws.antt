@@ -1,17 +1,15 @@
 -- The tables of a sheet's tokens have equally many entries. Assumes nothing.
 use Prim.Native.Nat.{ℕ, zero, suc, _+_, _≤_}
 use mathlib.Core.Path.{_≡_, refl, ap, subst}
-use mathlib.Core.Bool.{Bool, true, false, _&&_}
+use mathlib.Core.Bool.{Bool, true, false}
 use mathlib.Core.List.{List}
-use mathlib.Core.Option.{Option, none, some}
 use native.Mathlib.Omega.{arith}
 use lib.ListN.{length, getD, take, length-take}
-use lib.Dec.{leb, eqb}
-use Rattle.text.specs.Bytes.{firstWide}
+use lib.Dec.{eqb}
 use Rattle.reader.specs.Commands.{u16}
 use Rattle.reader.specs.Tokens.{Tokens, Tiling, tiled, untiled, isToken, endTokens, withToken, tokensFrom, tokens, tokensIn, maxTokens}
-use Rattle.reader.specs.Check.{Checked, ok, malformed, tooDeep, treeCheck}
-use Rattle.reader.specs.Reading.{Read, refused, sheet, readTree, readRecord, readText, read, maxText, maxRecord}
+use Rattle.reader.specs.Reading.{Read, refused, sheet, read}
+use Rattle.reader.proofs.ReadingLaws.{read-cases}
 
 abbrev Even : Tokens → Type 0
 Even ts = (length (ts .starts) ≡ length (ts .kinds)) × (length (ts .lengths) ≡ length (ts .kinds))
@@ -51,38 +49,8 @@ module _ (size : ℕ) (rec : List ℕ) where
   unfolding tokens
   tokens-even = from-even maxTokens 0 0
 
-module _ (rec : List ℕ) where
-  tree-even : (ts : Tokens) (at : ℕ) (c : Checked) → Even ts
-      → EvenRead (elim c [ ok end ↦ sheet ts at | malformed place ↦ refused 3 place | tooDeep place ↦ refused 4 place ])
-  tree-even ts at (ok end) h = h
-  tree-even ts at (malformed place) h = tt
-  tree-even ts at (tooDeep place) h = tt
-
-  tiling-read : (t : Tiling) → EvenTiling t → EvenRead (elim t [ tiled ts at ↦ readTree rec ts at | untiled place ↦ refused 3 place ])
-  unfolding readTree
-  tiling-read (tiled ts at) h = tree-even ts at (treeCheck rec (length (ts .kinds)) at) h
-  tiling-read (untiled place) h = tt
-
-  record-even : (size : ℕ) → EvenRead (readRecord rec size)
-  unfolding readRecord
-  record-even size = tiling-read (tokens size rec) (tokens-even size rec)
-
-module _ (text rec : List ℕ) where
-  text-even : EvenRead (readText text rec)
-  unfolding readText
-  text-even = go (firstWide 0 text)
-    where
-      go : (o : Option ℕ) → EvenRead (elim o [ none ↦ readRecord rec (length text) | some place ↦ refused 2 place ])
-      go none = record-even rec (length text)
-      go (some place) = tt
-
-  read-even : EvenRead (read text rec)
-  unfolding read
-  read-even = go (leb (length text) maxText && leb (length rec) maxRecord)
-    where
-      go : (b : Bool) → EvenRead (elim b [ true ↦ readText text rec | false ↦ refused 1 0 ])
-      go true = text-even
-      go false = tt
+read-even : (text rec : List ℕ) → EvenRead (read text rec)
+read-even text rec = read-cases EvenRead text rec (λ number place ne. tt) (λ ts tree e. subst EvenTiling e (tokens-even (length text) rec))
 
 -- As many first entries as the kinds have, the other tables have too.
 pub tables-within : (text rec kinds starts lens : List ℕ) {count tree : ℕ} → read text rec ≡ sheet (tokensIn count kinds starts lens) tree → length (take count kinds) ≡ count

@@ -1,10 +1,10 @@
 -- Laws of a declaration's command.
-use native.Mathlib.Omega.{arith}
 use mathlib.Core.Path.{_≡_, refl, sym, ap, _∙_, subst}
 use mathlib.Core.Bool.{false}
 use mathlib.Core.Option.{Option, none, some}
 use mathlib.Core.List.{List}
 use Prim.Native.Nat.{ℕ, _+_}
+use Rattle.text.proofs.Laws.{never}
 use Rattle.reader.specs.Fields.{DecOne}
 use Rattle.reader.specs.declared.commands.Declaration.{Declaration}
 use Rattle.reader.specs.declared.commands.Declaration.the-variants as Whole
@@ -20,9 +20,6 @@ use Rattle.layout.proofs.Steps.{Same, moved-run, by-same, above-is, las
 use Rattle.layout.specs.Helpers.{Cfg, indent}
 use Rattle.layout.specs.DecOne.{comment-above, comment-line}
 use Rattle.comments.specs.Above.{commentAbove}
-
-never : {A : Type 0} → _≡_ {A = ℕ} 0 1 → A
-never e = absurd (omega (arith, e))
 
 abbrev Read : Type 0
 Read = ℕ × Option ℕ × ℕ

@@ -1,29 +1,26 @@
 -- Laws of a type whose answer is dropped.
-use native.Mathlib.Omega.{arith}
 use mathlib.Core.Path.{_≡_, refl, sym, ap, _∙_}
 use mathlib.Core.Bool.{Bool, false}
 use mathlib.Core.Option.{Option, none, some}
 use mathlib.Core.List.{List}
 use Prim.Native.Nat.{ℕ}
 use lib.ListN.{length}
+use Rattle.text.proofs.Laws.{never}
 use Rattle.reader.specs.Fields as Fields
 use Rattle.reader.specs.Fields.{Ty}
-use Rattle.reader.specs.declared.commands.Family as Code
 use Rattle.reader.specs.declared.commands.Family.the-variants as Case
 use Rattle.reader.specs.declared.commands.Number.{Number}
 use Rattle.reader.specs.declared.tree.Checked as Tree
-use Rattle.reader.specs.Commands.{formAt, numberIn, FormAt}
+use Rattle.reader.specs.Commands.{formAt, FormAt}
 use Rattle.reader.specs.Check.{Checked, ok, malformed, tooDeep, fieldEnd}
 use Rattle.reader.specs.Tree.{checkedIn, Ends}
+use Rattle.reader.proofs.CommandLaws.{form-not, form-read}
 use Rattle.layout.specs.declared.St.{St}
 use Rattle.layout.specs.declared.Answer.{Answer}
 use Rattle.layout.specs.declared.Answer.the-variants.{Done, Stopped}
 use Rattle.layout.specs.Layout.{Layout, dropped}
 use Rattle.layout.specs.Meaning.{Page, Event, Outcome, done, stopped, Stop, absent, outcome, onwards}
-use Rattle.layout.specs.State.{Run, runOf, at, Ran, went, fell, run, runs, effects, packed, stopOf, moved, Walked, Onwards, onwardsOf}
-
-never : {A : Type 0} → _≡_ {A = ℕ} 0 1 → A
-never e = absurd (omega (arith, e))
+use Rattle.layout.specs.State.{Run, runOf, at, Ran, went, fell, run, runs, packed, stopOf, moved, Walked, Onwards, onwardsOf}
 
 -- ---- the code
 module _ {r : List ℕ} {count at : ℕ} {a : Answer} where
@@ -33,32 +30,21 @@ module _ {r : List ℕ} {count at : ℕ} {a : Answer} where
 
   module _ {s : St} {place : ℕ} {import : Bool} {x : Number} (e : a ≡ Stopped s place import) (f : FormAt Case.Ty r at x) where
     pub onwards-none : x ≡ Number.Not → Onwards r count at a (Stopped s place import)
-    unfolding onwardsOf numberIn
-    onwards-none g =
-        let q : formAt r Ty at ≡ none = sym (f .is) ∙ ap numberIn g in
-        record { is = rw (e, q, onwardsOf) refl }
+    unfolding onwardsOf
+    onwards-none g = record { is = rw (e, form-not f g, onwardsOf) refl }
 
     module _ {k : ℕ} {y : Tree.Checked} (g : x ≡ Number.Is k) (h : Ends r count (Fields.form Ty) at y) where
       pub onwards-ok : {next : ℕ} {s′ : St} → y ≡ Tree.Checked.Ok next → s′ ≡ moved next s → Onwards r count at a (Done s′)
-      unfolding onwardsOf numberIn
-      onwards-ok {next} i j =
-          let q : formAt r Ty at ≡ some k = sym (f .is) ∙ ap numberIn g in
-          let p : fieldEnd r count (Fields.form Ty) at ≡ ok next = sym (h .is) ∙ ap checkedIn i in
-          record { is = rw (e, q, p, j, onwardsOf) refl }
+      unfolding onwardsOf
+      onwards-ok i j = record { is = rw (e, form-read f g, sym (h .is) ∙ ap checkedIn i, j, onwardsOf) refl }
 
       pub onwards-malformed : {other : ℕ} → y ≡ Tree.Checked.Malformed other → Onwards r count at a (Stopped s other false)
-      unfolding onwardsOf numberIn
-      onwards-malformed {other} i =
-          let q : formAt r Ty at ≡ some k = sym (f .is) ∙ ap numberIn g in
-          let p : fieldEnd r count (Fields.form Ty) at ≡ malformed other = sym (h .is) ∙ ap checkedIn i in
-          record { is = rw (e, q, p, onwardsOf) refl }
+      unfolding onwardsOf
+      onwards-malformed i = record { is = rw (e, form-read f g, sym (h .is) ∙ ap checkedIn i, onwardsOf) refl }
 
       pub onwards-deep : {other : ℕ} → y ≡ Tree.Checked.TooDeep other → Onwards r count at a (Stopped s other false)
-      unfolding onwardsOf numberIn
-      onwards-deep {other} i =
-          let q : formAt r Ty at ≡ some k = sym (f .is) ∙ ap numberIn g in
-          let p : fieldEnd r count (Fields.form Ty) at ≡ tooDeep other = sym (h .is) ∙ ap checkedIn i in
-          record { is = rw (e, q, p, onwardsOf) refl }
+      unfolding onwardsOf
+      onwards-deep i = record { is = rw (e, form-read f g, sym (h .is) ∙ ap checkedIn i, onwardsOf) refl }
 
 -- ---- the walk
 abbrev under : Ran → Run

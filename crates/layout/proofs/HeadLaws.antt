@@ -1,7 +1,6 @@
 -- Laws of what AppExp sees of its expressions.
 use mathlib.Core.Path.{_≡_, refl, sym, ap, _∙_}
-use mathlib.Core.Bool.{Bool, false}
-use mathlib.Core.Option.{none, some}
+use mathlib.Core.Bool.{false}
 use mathlib.Core.List.{List}
 use Prim.Native.Nat.{ℕ, _+_}
 use lib.ListN.{length}
@@ -11,9 +10,9 @@ use Rattle.reader.specs.Fields.{Exp}
 use Rattle.reader.specs.declared.commands.Family.the-variants as Case
 use Rattle.reader.specs.declared.commands.Number.{Number}
 use Rattle.reader.specs.declared.tree.Checked as Tree
-use Rattle.reader.specs.Commands.{formAt, numberIn, FormAt}
-use Rattle.reader.specs.Check.{ok, malformed, tooDeep, fieldEnd}
+use Rattle.reader.specs.Commands.{FormAt}
 use Rattle.reader.specs.Tree.{checkedIn, Ends}
+use Rattle.reader.proofs.CommandLaws.{form-not, form-read}
 use Rattle.layout.specs.declared.St.{St}
 use Rattle.layout.specs.declared.Answer.{Answer}
 use Rattle.layout.specs.declared.Answer.the-variants.{Stopped}
@@ -21,7 +20,7 @@ use Rattle.layout.specs.declared.names.Name as Code
 use Rattle.layout.specs.declared.looks.Head as Looks
 use Rattle.layout.specs.declared.looks.BothSeen as Both
 use Rattle.layout.specs.Layout.{Layout, Head, pathExp, otherExp, heads}
-use Rattle.layout.specs.Meaning.{Page, opPathName, Seen, seen, unseen, headOf, Heads, both, missing, bothSeen, headsFrom, headsAt, outcome}
+use Rattle.layout.specs.Meaning.{Page, opPathName, Seen, seen, unseen, headOf, Heads, missing, bothSeen, headsFrom, headsAt, outcome}
 use Rattle.layout.specs.State.{runOf, run, runs, effects, packed, stopOf, Walked, nameIn, headIn, headsIn}
 use Rattle.layout.proofs.Steps.{Same}
 
@@ -46,46 +45,31 @@ module _ (rec : List ℕ) (n fields : ℕ) where
 -- ---- both
 module _ {rec : List ℕ} {arg : ℕ} {x : Number} (e : FormAt Case.Exp rec arg x) (n func : ℕ) where
   pub from-missing : x ≡ Number.Not → missing arg ≡ headsFrom rec n func arg
-  unfolding headsFrom numberIn
-  from-missing f =
-      let q : formAt rec Exp arg ≡ none = sym (e .is) ∙ ap numberIn f in
-      rw (q, headsFrom) refl
+  unfolding headsFrom
+  from-missing f = rw (form-not e f, headsFrom) refl
 
   pub from-both : {m fields : ℕ} {y : Heads} {f a : Seen} → x ≡ Number.Is m → fields ≡ func + 1 → f ≡ headOf rec n fields → a ≡ headOf rec m (arg + 1)
       → y ≡ bothSeen f a → y ≡ headsFrom rec n func arg
-  unfolding headsFrom numberIn
-  from-both {m} h i p r s =
-      let q : formAt rec Exp arg ≡ some m = sym (e .is) ∙ ap numberIn h in
-      rw (q, headsFrom, ← i, ← p, ← r) s
+  unfolding headsFrom
+  from-both h i p r s = rw (form-read e h, headsFrom, ← i, ← p, ← r) s
 
 module _ {rec : List ℕ} {func : ℕ} {x : Number} (e : FormAt Case.Exp rec func x) (count : ℕ) where
   pub at-missing : x ≡ Number.Not → missing func ≡ headsAt rec count func
-  unfolding headsAt numberIn
-  at-missing f =
-      let q : formAt rec Exp func ≡ none = sym (e .is) ∙ ap numberIn f in
-      rw (q, headsAt) refl
+  unfolding headsAt
+  at-missing f = rw (form-not e f, headsAt) refl
 
   module _ {n : ℕ} {y : Tree.Checked} (f : x ≡ Number.Is n) (h : Ends rec count (Fields.form Exp) func y) where
     pub at-both : {arg : ℕ} {z : Heads} → y ≡ Tree.Checked.Ok arg → z ≡ headsFrom rec n func arg → z ≡ headsAt rec count func
-    unfolding headsAt numberIn
-    at-both {arg} i j =
-        let q : formAt rec Exp func ≡ some n = sym (e .is) ∙ ap numberIn f in
-        let p : fieldEnd rec count (Fields.form Exp) func ≡ ok arg = sym (h .is) ∙ ap checkedIn i in
-        rw (q, headsAt, p) j
+    unfolding headsAt
+    at-both i j = rw (form-read e f, headsAt, sym (h .is) ∙ ap checkedIn i) j
 
     pub at-malformed : {place : ℕ} → y ≡ Tree.Checked.Malformed place → missing place ≡ headsAt rec count func
-    unfolding headsAt numberIn
-    at-malformed {place} i =
-        let q : formAt rec Exp func ≡ some n = sym (e .is) ∙ ap numberIn f in
-        let p : fieldEnd rec count (Fields.form Exp) func ≡ malformed place = sym (h .is) ∙ ap checkedIn i in
-        rw (q, headsAt, p) refl
+    unfolding headsAt
+    at-malformed i = rw (form-read e f, headsAt, sym (h .is) ∙ ap checkedIn i) refl
 
     pub at-deep : {place : ℕ} → y ≡ Tree.Checked.TooDeep place → missing place ≡ headsAt rec count func
-    unfolding headsAt numberIn
-    at-deep {place} i =
-        let q : formAt rec Exp func ≡ some n = sym (e .is) ∙ ap numberIn f in
-        let p : fieldEnd rec count (Fields.form Exp) func ≡ tooDeep place = sym (h .is) ∙ ap checkedIn i in
-        rw (q, headsAt, p) refl
+    unfolding headsAt
+    at-deep i = rw (form-read e f, headsAt, sym (h .is) ∙ ap checkedIn i) refl
 
 -- ---- the walk
 module _ {p : Page} {tab : ℕ} {s : St} {o m : List ℕ} {k : Head → Head → Layout} {x : Both.BothSeen} where

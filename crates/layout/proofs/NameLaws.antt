@@ -1,35 +1,26 @@
 -- Laws of the first name of a path.
-use mathlib.Core.Path.{_≡_, refl, sym, ap, _∙_}
+use mathlib.Core.Path.{_≡_, refl, sym, _∙_}
 use mathlib.Core.Bool.{Bool, true, false}
-use mathlib.Core.Option.{Option, none, some}
 use mathlib.Core.List.{List}
 use Prim.Native.Nat.{ℕ, _+_}
 use borrow.Author.Tests.{eq-eqb, ne-eqb}
 use Rattle.reader.specs.declared.commands.Number.{Number}
-use Rattle.reader.specs.Commands.{absentAt, tokenAt, listAt, groupAt, numberIn, SignAt, NumberAt}
+use Rattle.reader.specs.Commands.{absentAt, tokenAt, listAt, groupAt, SignAt, NumberAt}
+use Rattle.reader.proofs.CommandLaws.{read-not, read-is}
 use Rattle.layout.specs.Meaning.{Name, name, noName, dotName, listName, pathName, opPathName}
 
 -- What the record has, from what was read.
 sign : {reads : List ℕ → ℕ → Bool} {r : List ℕ} {at : ℕ} {b v : Bool} → SignAt reads r at b → b ≡ v → reads r at ≡ v
 sign e h = sym (e .is) ∙ h
 
-module _ {reads : List ℕ → ℕ → Option ℕ} {r : List ℕ} {at : ℕ} {x : Number} where
-  number : {n : ℕ} → NumberAt reads r at x → x ≡ Number.Is n → reads r at ≡ some n
-  unfolding numberIn
-  number e h = sym (e .is) ∙ ap numberIn h
-
-  no-number : NumberAt reads r at x → x ≡ Number.Not → reads r at ≡ none
-  unfolding numberIn
-  no-number e h = sym (e .is) ∙ ap numberIn h
-
 module _ {r : List ℕ} {at : ℕ} {b : Bool} where
   pub dot-is : (n : ℕ) {k : ℕ} {x : Number} → SignAt groupAt r at b → b ≡ true → NumberAt tokenAt r (at + 1) x → x ≡ Number.Is k → name k n ≡ dotName r n at
   unfolding dotName
-  dot-is n g h t u = rw (sign g h, number t u, dotName) refl
+  dot-is n g h t u = rw (sign g h, read-is t u, dotName) refl
 
   pub dot-empty : (n : ℕ) {x : Number} → SignAt groupAt r at b → b ≡ true → NumberAt tokenAt r (at + 1) x → x ≡ Number.Not → noName (at + 1) ≡ dotName r n at
   unfolding dotName
-  dot-empty n g h t u = rw (sign g h, no-number t u, dotName) refl
+  dot-empty n g h t u = rw (sign g h, read-not t u, dotName) refl
 
   pub dot-not : (n : ℕ) → SignAt groupAt r at b → b ≡ false → noName at ≡ dotName r n at
   unfolding dotName
@@ -46,24 +37,24 @@ module _ {r : List ℕ} {at : ℕ} {b : Bool} where
 module _ {r : List ℕ} {at : ℕ} {x : Number} where
   pub list-empty : {n : ℕ} → NumberAt listAt r at x → x ≡ Number.Is n → n ≡ 0 → noName at ≡ listName r at
   unfolding listName
-  list-empty l h e = rw (number l h, listName, eq-eqb _ _ e) refl
+  list-empty l h e = rw (read-is l h, listName, eq-eqb _ _ e) refl
 
   pub list-dots : {n : ℕ} {y : Name} → NumberAt listAt r at x → x ≡ Number.Is n → (n ≡ 0 → ⊥) → y ≡ dotName r n (at + 3) → y ≡ listName r at
   unfolding listName
-  list-dots l h e f = rw (number l h, listName, ne-eqb _ _ e) f
+  list-dots l h e f = rw (read-is l h, listName, ne-eqb _ _ e) f
 
   pub list-absent : NumberAt listAt r at x → x ≡ Number.Not → noName at ≡ listName r at
   unfolding listName
-  list-absent l h = rw (no-number l h, listName) refl
+  list-absent l h = rw (read-not l h, listName) refl
 
   pub op-there : {k : ℕ} {y : Name} → NumberAt tokenAt r at x → x ≡ Number.Is k → y ≡ pathName r (at + 3) → y ≡ opPathName r at
   unfolding opPathName
-  op-there t h f = rw (number t h, opPathName) f
+  op-there t h f = rw (read-is t h, opPathName) f
 
   pub op-absent : {b : Bool} {y : Name} → NumberAt tokenAt r at x → x ≡ Number.Not → SignAt absentAt r at b → b ≡ true → y ≡ pathName r (at + 1) → y ≡ opPathName r at
   unfolding opPathName
-  op-absent t h a g f = rw (no-number t h, opPathName, sign a g) f
+  op-absent t h a g f = rw (read-not t h, opPathName, sign a g) f
 
   pub op-neither : {b : Bool} → NumberAt tokenAt r at x → x ≡ Number.Not → SignAt absentAt r at b → b ≡ false → noName at ≡ opPathName r at
   unfolding opPathName
-  op-neither t h a g = rw (no-number t h, opPathName, sign a g) refl
+  op-neither t h a g = rw (read-not t h, opPathName, sign a g) refl

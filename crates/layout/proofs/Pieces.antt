@@ -1,16 +1,17 @@
 -- Laws of pieces: a part of a run of bytes, and the rule of the table of fixed words.
 use native.Mathlib.Omega.{arith}
 use mathlib.Core.Path.{_≡_, refl, sym, ap, _∙_}
-use mathlib.Core.Bool.{Bool, true, false, false≢true, _&&_, and-eq-true-iff}
+use mathlib.Core.Bool.{Bool, true, _&&_, and-eq-true-iff}
 use mathlib.Core.List.{List, [], _∷_}
 use Prim.Native.Nat.{ℕ, zero, suc, _+_, _-_, _/_, _%_, _≤_, _<_}
 use native.Mathlib.Nat.{not-suc-le-zero}
 use native.Mathlib.Decide.{ℕ-discrete}
-use lib.Dec.{eqb, ltb}
+use lib.Dec.{ltb}
 use lib.ListN.{length, getD, take, drop, length-drop, drop-of-length-le, List·getD-eq-default}
 use lib.Seq.{take-all, take-nil}
-use borrow.Author.Tests.{eqb-true, ltb-true}
+use borrow.Author.Tests.{ltb-true}
 use Rattle.text.specs.Bytes.{bytes, sameBytes}
+use Rattle.text.proofs.Laws.{same-true}
 use Rattle.layout.specs.Words.{words, wordOf, wordRun, joinedWords}
 
 -- ---- a part, as far as it is there
@@ -45,15 +46,6 @@ below f (suc n) k t h =
     go (yes e) here before = rw e here
     go (no ne) here before = before (omega (arith, ne))
 
-pub same-eq : (a b : List ℕ) → sameBytes a b ≡ true → a ≡ b
-unfolding sameBytes
-same-eq [] [] t = refl
-same-eq [] (c ∷ cs) t = absurd (false≢true t)
-same-eq (b ∷ bs) [] t = absurd (false≢true t)
-same-eq (b ∷ bs) (c ∷ cs) t =
-    let h = and-eq-true-iff (eqb b c) (sameBytes bs cs) .0 t in
-    rw (eqb-true b c (h .0), same-eq bs cs (h .1)) refl
-
 -- ---- the table of fixed words
 -- 16 × start + length.
 unfoldable pub places : List ℕ
@@ -73,7 +65,7 @@ all-right = refl
 
 pub word-in : (k : ℕ) → k < 77 → standing (getD places k 0) ≡ bytes (wordOf k)
 unfolding right
-word-in k h = same-eq (standing (getD places k 0)) (bytes (wordOf k)) (below right 77 k all-right h)
+word-in k h = same-true (standing (getD places k 0)) (bytes (wordOf k)) (below right 77 k all-right h)
 
 -- An entry is below 65,536.
 small : ℕ → Bool

@@ -1,18 +1,20 @@
 -- The law of one layout after another, and a step for each kind of statement of the walk.
+use native.Mathlib.Nat.{sub-zero}
 use native.Mathlib.Omega.{arith}
 use mathlib.Core.Path.{_≡_, refl, sym, ap, ap₂, _∙_, subst}
 use mathlib.Core.Bool.{Bool, true, false}
 use mathlib.Core.List.{List, [], _∷_, _++_}
 use Prim.Native.Nat.{ℕ, zero, suc, _+_, _-_, _≤_, _<_}
 use Prim.Native.String.{String}
-use lib.ListN.{length, getD, take, drop}
+use lib.ListN.{length}
 use Rattle.text.specs.Bytes.{bytes}
+use Rattle.text.proofs.Laws.{never}
 use Rattle.layout.specs.declared.St.{St}
 use Rattle.layout.specs.declared.Cfg.{Cfg}
 use Rattle.layout.specs.declared.Answer.{Answer}
 use Rattle.layout.specs.declared.Answer.the-variants.{Done, Stopped}
 use Rattle.layout.specs.Layout.{Layout, skip, _⨾_, word, write, output-indent, formed, Test, token, group, choice, form, list, optional, maybe, test, firstName, Look, look, above, comment, halt}
-use Rattle.layout.specs.Meaning.{Page, Event, Word, Token, Comment, Formed, Indent, Outcome, done, stopped, Stop, absent, after, bind, orStop, outcome, tokenText, passes, pathName, Name, name, noName}
+use Rattle.layout.specs.Meaning.{Page, Event, Word, Token, Comment, Formed, Indent, Outcome, done, stopped, absent, after, bind, orStop, outcome, tokenText, pathName, Name}
 use Rattle.layout.specs.State.{Run, runOf, at, effect, effects, Ran, went, fell, run, runs, packed, page, Walked, Plain, Wrote, Sure, Texted, Indented, withDepth, stopOf, moved, readOf, ReadAt, FormRead, groupOf, GroupRead, goneOf, GoneRead, optionalOf, OptionalRead, joint, nameIn, TestedText, Looked, Commented, struck, cfgOf, Deeper, Does}
 use Rattle.reader.specs.Tokens.{textOf}
 use Rattle.reader.specs.declared.commands.Family as Code
@@ -29,9 +31,6 @@ use Rattle.layout.specs.Walk.{walks}
 use Rattle.layout.specs.Events.{trimmed}
 use Rattle.comments.specs.Above.{commentAbove}
 use borrow.Author.Tests.{lt-ltb, le-ltb}
-
-never : {A : Type 0} → _≡_ {A = ℕ} 0 1 → A
-never e = absurd (omega (arith, e))
 
 abbrev pub andThen : Ran → (Run → Ran) → Ran
 andThen (went g) k = k g
@@ -164,14 +163,14 @@ or-none : (x : Option ℕ) (a : ℕ) (f : ℕ → Outcome) → x ≡ none → or
 unfolding orStop
 or-none x a f e = ap (λ y. orStop y a f) e
 
-is-some : (x : Option ℕ) (width n : ℕ) (s s′ : St) → Is n s′ ≡ readOf width s x → (x ≡ some n) × (s′ ≡ moved (s .at + width) s)
+pub is-some : (x : Option ℕ) (width n : ℕ) (s s′ : St) → Is n s′ ≡ readOf width s x → (x ≡ some n) × (s′ ≡ moved (s .at + width) s)
 unfolding readOf
 is-some (some k) width n s s′ e =
     let h : k ≡ n = cc in
     (ap some h, cc)
 is-some none width n s s′ e = never (cc)
 
-not-none : (x : Option ℕ) (width : ℕ) (s : St) → Read.Not ≡ readOf width s x → x ≡ none
+pub not-none : (x : Option ℕ) (width : ℕ) (s : St) → Read.Not ≡ readOf width s x → x ≡ none
 unfolding readOf
 not-none (some k) width s e = never (cc)
 not-none none width s e = refl
@@ -252,12 +251,12 @@ module _ {p : Page} {tab : ℕ} {s : St} {o m : List ℕ} {w : Layout} {a : Answ
       record { is = ap (λ y. packed y o m) (e .is ∙ ap (groupOf s) q) ∙ rw (q, outcome) refl }
 
 -- ---- a field that may be absent
-gone-true : (b : Bool) (s s′ : St) → Gone.Past s′ ≡ goneOf s b → (b ≡ true) × (s′ ≡ moved (s .at + 1) s)
+pub gone-true : (b : Bool) (s s′ : St) → Gone.Past s′ ≡ goneOf s b → (b ≡ true) × (s′ ≡ moved (s .at + 1) s)
 unfolding goneOf
 gone-true true s s′ e = (refl, cc)
 gone-true false s s′ e = never (cc)
 
-gone-false : (b : Bool) (s : St) → Gone.There ≡ goneOf s b → b ≡ false
+pub gone-false : (b : Bool) (s : St) → Gone.There ≡ goneOf s b → b ≡ false
 unfolding goneOf
 gone-false true s e = never (cc)
 gone-false false s e = refl
@@ -311,13 +310,10 @@ module _ (p : Page) (tab : ℕ) (u w : Layout) where
       ∙ ap (λ v. andThen (runs p tab (v ⨾ w) g) (runs p tab (from u w (0 + 1) n))) (sym (joint-first u))
       ∙ sym (runs-seq p tab (joint u 0 ⨾ w) (from u w (0 + 1) n) g)
 
-less-none : (n : ℕ) → n - 0 ≡ n
-less-none n = omega arith
-
 module _ {p : Page} {tab : ℕ} (w : Layout) where
   -- With a joint before each item but the first: before the loop, in a turn, after the last.
   pub items-all : (u : Layout) (n : ℕ) {g : Run} → Same p tab (items n w (u ⨾ w)) g (from u w 0 (n - 0)) g
-  items-all u n {g} = record { is = items-from p tab u w n g ∙ ap (λ k. runs p tab (from u w 0 k) g) (sym (less-none n)) }
+  items-all u n {g} = record { is = items-from p tab u w n g ∙ ap (λ k. runs p tab (from u w 0 k) g) (sym (sub-zero n)) }
 
   pub from-more : (u : Layout) {i n : ℕ} {g : Run} {r : Answer} {o m : List ℕ} → i < n
       → Walked p tab (joint u i ⨾ w ⨾ from u w (i + 1) (n - (i + 1))) g r o m → Walked p tab (from u w i (n - i)) g r o m
@@ -334,7 +330,7 @@ module _ {p : Page} {tab : ℕ} (w : Layout) where
 
   -- Without a joint.
   pub times-all : (n : ℕ) {g : Run} → Same p tab (times n w) g (times (n - 0) w) g
-  times-all n {g} = record { is = ap (λ k. runs p tab (times k w) g) (sym (less-none n)) }
+  times-all n {g} = record { is = ap (λ k. runs p tab (times k w) g) (sym (sub-zero n)) }
 
   pub times-more : {i n : ℕ} {g : Run} {r : Answer} {o m : List ℕ} → i < n
       → Walked p tab (w ⨾ times (n - (i + 1)) w) g r o m → Walked p tab (times (n - i) w) g r o m

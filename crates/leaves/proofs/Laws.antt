@@ -2,8 +2,7 @@
 use Prim.Native.Nat.{ℕ, _≤_, _<_}
 use mathlib.Core.Path.{_≡_, refl, sym, ap, _∙_}
 use mathlib.Core.List.{List}
-use mathlib.Core.Bool.{Bool, true, false, not, _&&_, _||_}
-use lib.Dec.{eqb}
+use mathlib.Core.Bool.{Bool, true, false, not, _||_, and-true, and-false}
 use borrow.Author.Tests.{eq-eqb, ne-eqb, lt-ltb, le-ltb}
 use Rattle.layout.specs.declared.St.{St}
 use Rattle.layout.specs.declared.Answer.{Answer}
@@ -19,14 +18,6 @@ use Rattle.layout.specs.State.{Run, runOf, page, runs, headIn, TestedText, Walk
 use Rattle.layout.proofs.Steps.{Same, by-same, last-sure}
 use Rattle.leaves.specs.Heads.{bangOf, symbolicOf, BangIs, SymbolicIs, missedOf}
 
-and-false : (b : Bool) → false ≡ (b && false)
-and-false true = refl
-and-false false = refl
-
-and-true : (b : Bool) → b ≡ (b && true)
-and-true true = refl
-and-true false = refl
-
 module _ {x starts lens : List ℕ} where
   pub bang-other : {f : Looks.Head} → f ≡ Looks.Head.OtherExp → BangIs x starts lens (headIn f) false
   unfolding bangOf
@@ -34,11 +25,11 @@ module _ {x starts lens : List ℕ} where
 
   pub bang-named : {f : Looks.Head} {k n : ℕ} {b : Bool} → f ≡ Looks.Head.PathExp k n → n ≡ 1 → TestedText x starts lens isBang k b → BangIs x starts lens (headIn f) b
   unfolding bangOf
-  bang-named {f} {k} {n} {b} e h t = rw e (record { is = λ r kinds. rw (eq-eqb n 1 h) (t .is r kinds ∙ and-true (passes (page x r kinds starts lens) isBang k)) })
+  bang-named {f} {k} {n} {b} e h t = rw e (record { is = λ r kinds. rw (eq-eqb n 1 h) (t .is r kinds ∙ sym (and-true (passes (page x r kinds starts lens) isBang k))) })
 
   pub bang-many : {f : Looks.Head} {k n : ℕ} → f ≡ Looks.Head.PathExp k n → (n ≡ 1 → ⊥) → BangIs x starts lens (headIn f) false
   unfolding bangOf
-  bang-many {f} {k} {n} e h = rw e (record { is = λ r kinds. rw (ne-eqb n 1 h) (and-false (passes (page x r kinds starts lens) isBang k)) })
+  bang-many {f} {k} {n} e h = rw e (record { is = λ r kinds. rw (ne-eqb n 1 h) (sym (and-false (passes (page x r kinds starts lens) isBang k))) })
 
   pub symbolic-other : {f : Looks.Head} → f ≡ Looks.Head.OtherExp → SymbolicIs x starts lens (headIn f) false
   unfolding symbolicOf

@@ -2,7 +2,7 @@
 use native.Mathlib.Omega.{arith}
 use mathlib.Core.Path.{_≡_, refl, subst}
 use mathlib.Core.List.{List, [], _∷_}
-use mathlib.Core.Bool.{Bool, true, false, _&&_}
+use mathlib.Core.Bool.{Bool, true, false}
 use mathlib.Core.Option.{Option, none, some}
 use Prim.Native.Nat.{ℕ, zero, suc, _+_, _-_, _≤_, min}
 use Prim.Native.String.{String}
@@ -15,15 +15,15 @@ use Rattle.reader.specs.Fields.{Ty, Fields, _▸_, forms, firstForm}
 use Rattle.reader.specs.Commands.{u16, command, absentAt, tokenAt, listAt, groupAt, formAt, formWidth}
 use Rattle.reader.specs.Check as Check
 use Rattle.reader.specs.Check.{Checked, ok, malformed, tooDeep, operandFits, orAbsent, fields, formFits, formCheck, fieldEnd}
-use Rattle.reader.proofs.CommandLaws.{and-left, and-right, some-true, form-fits}
-use Rattle.reader.proofs.FieldLaws.{Grows, fields-grow, form-grows, items-grow}
+use Rattle.reader.proofs.CommandLaws.{and-left, and-right, and-second, some-true, form-fits}
+use Rattle.reader.proofs.FieldLaws.{then-parts, if-parts, Grows, fields-grow, zero-never, form-grows, items-grow}
 use Rattle.layout.specs.Layout.{Layout, _⨾_, word, write, group, form, maybe, dropped, halt}
 use Rattle.layout.specs.Meaning.{Page, Event, Outcome, done, stopped, Stop, absent, outcome, orStop, onwards}
 use Rattle.layout.specs.Events.{sumOf, deepest}
 use Rattle.layout.specs.Helpers.{text, times, items, for-each, sep}
 use Rattle.measures.proofs.Credit.{Within, then-within, earned, weaker}
 use Rattle.measures.proofs.Paying.{Paid, Short, word-within, write-within}
-use Rattle.measures.proofs.Ends.{never, then-parts, zero-never, ends-agree}
+use Rattle.measures.proofs.Ends.{ends-agree}
 
 -- The check of fields, where `d` more forms may stand inside one another.
 abbrev ends : Page → ℕ → Bool → Fields → ℕ → Checked
@@ -32,10 +32,6 @@ ends p d may f at = fields (p .rec) (length (p .tokens .starts)) (formCheck (p .
 -- Where the fields pass, the layout ends where they do, and pays out of their bytes.
 pub record Follows (p : Page) (d : ℕ) (may : Bool) (f : Fields) (a r : ℕ) (w : Layout) : Type 0 where
   pub is : (at lim : ℕ) → ends p d may f at ≡ ok lim → Within p lim lim at a r (outcome p w at)
-
-and-none : (a b : Bool) → b ≡ false → (a && b) ≡ false
-and-none true b e = e
-and-none false b e = refl
 
 module _ (p : Page) where
   grows : (d : ℕ) (may : Bool) (f : Fields) → Grows (ends p d may f)
@@ -57,7 +53,7 @@ module _ (p : Page) where
   unfolding orAbsent absentAt command
   there may at x lim h e =
       let n : eqb (getD (p .rec) at 0) 0 ≡ false = ne-eqb (getD (p .rec) at 0) 0 (λ z. omega (arith, z)) in
-      let g = and-none may _ (and-none (leb (at + 1) (length (p .rec))) _ n) in
+      let g = and-second may _ (and-second (leb (at + 1) (length (p .rec))) _ n) in
       rw (g, orAbsent) at e
 
   byte-is : (tag width at : ℕ) → command (p .rec) tag width at ≡ true → getD (p .rec) at 0 ≡ tag
@@ -66,17 +62,14 @@ module _ (p : Page) where
 
   -- ---- commands
   module _ (d : ℕ) (may : Bool) (at lim : ℕ) where
-    below-ends : (b : Bool) → _≡_ {A = Checked} (elim b [ true ↦ ok (at + 3) | false ↦ malformed at ]) (ok lim) → at + 3 ≡ lim
-    below-ends true e = cc
-    below-ends false e = never (cc)
-
     token-ends : (n : ℕ) → tokenAt (p .rec) at ≡ some n → ends p d may Fields.token at ≡ ok lim → at + 3 ≡ lim
     unfolding fields tokenAt
     token-ends n t e =
         let c = some-true (command (p .rec) 1 3 at) (u16 (p .rec) (at + 1)) n t in
         let b = byte-is 1 3 at (c .0) in
         let q = there may at _ lim (omega (arith, b)) e in
-        below-ends (ltb n (length (p .tokens .starts))) (rw t at q)
+        let r = if-parts (ltb n (length (p .tokens .starts))) (ok (at + 3)) at lim (rw t at q) in
+        cc
 
     text-within : Short p → (o : Option ℕ) → tokenAt (p .rec) at ≡ o → ends p d may Fields.token at ≡ ok lim
         → Within p lim lim at 0 32 (orStop o at (λ n. outcome p (write n) (at + 3)))

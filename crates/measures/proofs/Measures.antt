@@ -8,11 +8,12 @@ use Prim.Native.Nat.{ℕ, zero, suc, _+_, _-_, _*_, _≤_, _<_}
 use lib.ListN.{length}
 use lib.Dec.{leb}
 use borrow.Author.Tests.{leb-true, leb-false}
+use Rattle.text.proofs.Laws.{never}
 use Rattle.reader.specs.Fields as Fields
 use Rattle.reader.specs.Fields.{Ty, Pat, Exp, StrExp, SigExp}
 use Rattle.reader.specs.Commands.{listAt, formWidth}
 use Rattle.reader.specs.Tokens.{Tokens}
-use Rattle.reader.specs.Reading.{Read, refused, sheet, readText, read}
+use Rattle.reader.specs.Reading.{refused, sheet, read}
 use Rattle.reader.proofs.CommandLaws.{and-left, and-right, list-fits}
 use Rattle.layout.specs.Layout.{Layout, Declared, list}
 use Rattle.layout.specs.Meaning.{Page, Event, Outcome, done, stopped, Stop, outcome, orStop}
@@ -134,13 +135,11 @@ below-cap s = (omega (arith, s .both), omega (arith, s .both))
 -- ---- a sheet that passes 1 to 4
 pub sheet-lengths : (text rec : List ℕ) (tokens : Tokens) (tree : ℕ) → read text rec ≡ sheet tokens tree → (length text ≤ 32768) × (length rec ≤ 65536)
 unfolding read
-sheet-lengths text rec tokens tree e = go (leb (length text) 32768 && leb (length rec) 65536) refl e
+sheet-lengths text rec tokens tree e = go (leb (length text) 32768 && leb (length rec) 65536) refl
   where
-    go : (b : Bool) → (leb (length text) 32768 && leb (length rec) 65536) ≡ b
-        → _≡_ {A = Read} (elim b [ true ↦ readText text rec | false ↦ refused 1 0 ]) (sheet tokens tree)
-        → (length text ≤ 32768) × (length rec ≤ 65536)
-    go true t e = (leb-true _ _ (and-left _ (leb (length rec) 65536) t), leb-true _ _ (and-right (leb (length text) 32768) _ t))
-    go false t e = let z : _≡_ {A = ℕ} 0 1 = cc in absurd (omega arith)
+    go : (b : Bool) → (leb (length text) 32768 && leb (length rec) 65536) ≡ b → (length text ≤ 32768) × (length rec ≤ 65536)
+    go true t = (leb-true _ _ (and-left _ (leb (length rec) 65536) t), leb-true _ _ (and-right (leb (length text) 32768) _ t))
+    go false t = let d : refused 1 0 ≡ sheet tokens tree = rw (t, read) at e in never (cc)
 
 pub sheet-small : (text rec : List ℕ) (tokens : Tokens) (tree : ℕ) → read text rec ≡ sheet tokens tree
     → Small (record { text = text; rec = rec; tokens = tokens }) (eventsOf (walk (record { text = text; rec = rec; tokens = tokens }) tree))

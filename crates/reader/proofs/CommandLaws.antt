@@ -8,6 +8,7 @@ use native.Mathlib.Omega.{arith}
 use lib.ListN.{length, getD, List·getD-eq-default}
 use lib.Dec.{leb, ltb, eqb}
 use borrow.Author.Tests.{le-leb, lt-leb, leb-true, leb-false, ltb-true, lt-ltb, le-ltb, eq-eqb, ne-eqb, eqb-false}
+use Rattle.text.proofs.Laws.{never}
 use Rattle.reader.specs.declared.commands.Family.{Family}
 use Rattle.reader.specs.declared.commands.Family.the-variants as Code
 use Rattle.reader.specs.declared.commands.Declaration.the-variants as Whole
@@ -23,13 +24,20 @@ and-left false b e = e
 
 pub and-right : (a b : Bool) → (a && b) ≡ true → b ≡ true
 and-right true b e = e
-and-right false b e = let z : _≡_ {A = ℕ} 0 1 = cc in absurd (omega arith)
+and-right false b e = never (cc)
+
+pub and-second : (a b : Bool) → b ≡ false → (a && b) ≡ false
+and-second true b e = e
+and-second false b e = refl
 
 -- A command stands whole.
-pub fits : {rec : List ℕ} {tag width at : ℕ} {b : Bool} → CommandAt tag width rec at b → b ≡ true → at + width ≤ length rec
+pub command-fits : (rec : List ℕ) (at tag width : ℕ) → command rec tag width at ≡ true → at + width ≤ length rec
 unfolding command
-fits {rec} {tag} {width} {at} {b} s t =
-    leb-true (at + width) (length rec) (and-left (leb (at + width) (length rec)) (eqb (getD rec at 0) tag) (sym (s .is) ∙ t))
+command-fits rec at tag width e =
+    leb-true (at + width) (length rec) (and-left (leb (at + width) (length rec)) (eqb (getD rec at 0) tag) e)
+
+pub fits : {rec : List ℕ} {tag width at : ℕ} {b : Bool} → CommandAt tag width rec at b → b ≡ true → at + width ≤ length rec
+fits {rec} {tag} {width} {at} s t = command-fits rec at tag width (sym (s .is) ∙ t)
 
 -- The offset and the width against the length, without a sum.
 pub stands-eq : (at width n : ℕ) → width ≤ n → leb at (n - width) ≡ leb (at + width) n
@@ -127,33 +135,28 @@ module _ {family : Family} {rec : List ℕ} {at : ℕ} {r : Number} where
 -- A number is read only where the test passes.
 pub some-true : (b : Bool) (x k : ℕ) → _≡_ {A = Option ℕ} (elim b [ true ↦ some x | false ↦ none ]) (some k) → (b ≡ true) × (x ≡ k)
 some-true true x k e = (refl, cc)
-some-true false x k e = let z : _≡_ {A = ℕ} 0 1 = cc in absurd (omega arith)
+some-true false x k e = never (cc)
 
 module _ (rec : List ℕ) (at : ℕ) where
-  pub command-fits : (tag width : ℕ) → command rec tag width at ≡ true → at + width ≤ length rec
-  unfolding command
-  command-fits tag width e =
-      leb-true (at + width) (length rec) (and-left (leb (at + width) (length rec)) (eqb (getD rec at 0) tag) e)
-
   pub token-fits : (k : ℕ) → tokenAt rec at ≡ some k → at + 3 ≤ length rec
   unfolding tokenAt
-  token-fits k e = command-fits 1 3 (some-true (command rec 1 3 at) (u16 rec (at + 1)) k e .0)
+  token-fits k e = command-fits rec at 1 3 (some-true (command rec 1 3 at) (u16 rec (at + 1)) k e .0)
 
   pub list-fits : (k : ℕ) → listAt rec at ≡ some k → at + 3 ≤ length rec
   unfolding listAt
-  list-fits k e = command-fits 2 3 (some-true (command rec 2 3 at) (u16 rec (at + 1)) k e .0)
+  list-fits k e = command-fits rec at 2 3 (some-true (command rec 2 3 at) (u16 rec (at + 1)) k e .0)
 
   pub choice-fits : (k : ℕ) → choiceAt rec at ≡ some k → at + 2 ≤ length rec
   unfolding choiceAt
-  choice-fits k e = command-fits 4 2 (some-true (command rec 4 2 at) (getD rec (at + 1) 0) k e .0)
+  choice-fits k e = command-fits rec at 4 2 (some-true (command rec 4 2 at) (getD rec (at + 1) 0) k e .0)
 
   pub absent-fits : absentAt rec at ≡ true → at + 1 ≤ length rec
   unfolding absentAt
-  absent-fits e = command-fits 0 1 e
+  absent-fits e = command-fits rec at 0 1 e
 
   pub group-fits : groupAt rec at ≡ true → at + 1 ≤ length rec
   unfolding groupAt
-  group-fits e = command-fits 3 1 e
+  group-fits e = command-fits rec at 3 1 e
 
   module _ (family : Fields.Family) (n : ℕ) (e : formAt rec family at ≡ some n) where
     form-tests :

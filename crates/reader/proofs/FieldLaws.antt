@@ -12,10 +12,12 @@ use native.Mathlib.Omega.{arith}
 use lib.ListN.{length, getD, replicate, List·getD-map}
 use lib.Dec.{ltb, eqb}
 use borrow.Author.Tests.{lt-ltb, le-ltb, eq-eqb, ne-eqb, eqb-true, eqb-false}
+use Rattle.text.proofs.Laws.{never}
 use Rattle.reader.specs.Fields as Fields
 use Rattle.reader.specs.Fields.{Family, Fields, _▸_, token, list, group, choice, form, forms, Dec}
-use Rattle.reader.specs.Commands.{absentAt, tokenAt, listAt, groupAt, choiceAt, formWidth}
-use Rattle.reader.specs.Check.{Checked, ok, malformed, tooDeep, andThen, items, orAbsent, fields, formFits, formCheck, treeCheck}
+use Rattle.reader.specs.Commands.{absentAt, tokenAt, listAt, groupAt, choiceAt, formAt, formWidth}
+use Rattle.reader.specs.Check.{Checked, ok, malformed, tooDeep, andThen, items, operandFits, orAbsent, fields, formFits, formCheck, treeCheck}
+use Rattle.reader.proofs.CommandLaws.{some-true}
 use Rattle.reader.specs.Grammar.{groups, nodes, node, fieldOf, digits, fieldsOf}
 use Rattle.reader.specs.Tree.{checkedIn, opened, Opens, FieldsEnd, ItemsEnd, TreeEnd}
 use Rattle.reader.specs.declared.tree.Checked as Code
@@ -24,18 +26,35 @@ use Rattle.reader.specs.declared.tree.Opened.{Opened}
 use Rattle.reader.specs.declared.tree.Opened.the-variants as Opened
 use Rattle.reader.specs.declared.tree.Opened.the-variants.{Token, Inside}
 
-never : {P : Type 0} → _≡_ {A = ℕ} 0 1 → P
-never z = absurd (omega arith)
+-- ---- what a check that passes says of its parts
+-- Two checks one after the other: where the first ends.
+pub then-parts : (x : Checked) (k : ℕ → Checked) (end : ℕ) → andThen x k ≡ ok end → (mid : ℕ) × (x ≡ ok mid) × (k mid ≡ ok end)
+unfolding andThen
+then-parts (ok mid) k end e = (mid, refl, e)
+then-parts (malformed place) k end e = never (cc)
+then-parts (tooDeep place) k end e = never (cc)
+
+-- A test, then a check.
+pub if-parts : (b : Bool) (x : Checked) (at end : ℕ) → _≡_ {A = Checked} (elim b [ true ↦ x | false ↦ malformed at ]) (ok end) → (b ≡ true) × (x ≡ ok end)
+if-parts true x at end e = (refl, e)
+if-parts false x at end e = never (cc)
+
+-- A number that is read, then a check.
+pub some-parts : (o : Option ℕ) (k : ℕ → Checked) (at end : ℕ) → _≡_ {A = Checked} (elim o [ none ↦ malformed at | some n ↦ k n ]) (ok end)
+    → (n : ℕ) × (o ≡ some n) × (k n ≡ ok end)
+some-parts none k at end e = never (cc)
+some-parts (some n) k at end e = (n, refl, e)
 
 -- ---- a check that passes never goes back
 abbrev pub Grows : (ℕ → Checked) → Type 0
 Grows k = (at end : ℕ) → k at ≡ ok end → at ≤ end
 
 then-grows : (at end : ℕ) (x : Checked) (k : ℕ → Checked) → ((m : ℕ) → x ≡ ok m → at ≤ m) → Grows k → andThen x k ≡ ok end → at ≤ end
-unfolding andThen
-then-grows at end (ok m) k f g e = let a : at ≤ m = f m refl in let b : m ≤ end = g m end e in omega arith
-then-grows at end (malformed p) k f g e = never (cc)
-then-grows at end (tooDeep p) k f g e = never (cc)
+then-grows at end x k f g e =
+    let q = then-parts x k end e in
+    let a : at ≤ q .0 = f (q .0) (q .1) in
+    let b : q .0 ≤ end = g (q .0) end (q .2) in
+    omega arith
 
 pub items-grow : (n : ℕ) (k : ℕ → Checked) → Grows k → Grows (items n k)
 unfolding items
@@ -43,6 +62,11 @@ items-grow zero k g at end e = let z : at ≡ end = cc in omega arith
 items-grow (suc n) k g at end e = then-grows at end (k at) (λ next. items n k next) (λ m f. g at m f) (items-grow n k g) e
 
 module _ (rec : List ℕ) (count : ℕ) where
+  -- A field that may be absent, by whether it is.
+  pub or-is : (may : Bool) (at : ℕ) (x : Checked) (b : Bool) → (may && absentAt rec at) ≡ b → orAbsent rec count may at x ≡ elim b as (λ y. Checked) [ true ↦ ok (at + 1) | false ↦ x ]
+  unfolding orAbsent
+  or-is may at x b e = rw (e, orAbsent)
+
   absent-grows : (b : Bool) (at end : ℕ) (there : Checked) → (there ≡ ok end → at ≤ end) → _≡_ {A = Checked} (elim b [ true ↦ ok (at + 1) | false ↦ there ]) (ok end) → at ≤ end
   absent-grows true at end there f e = let z : at + 1 ≡ end = cc in omega arith
   absent-grows false at end there f e = f e
@@ -51,60 +75,58 @@ module _ (rec : List ℕ) (count : ℕ) where
   unfolding orAbsent
   or-grows may at end there f e = absent-grows (may && absentAt rec at) at end there f e
 
-  below-grows : (b : Bool) (at end : ℕ) → _≡_ {A = Checked} (elim b [ true ↦ ok (at + 3) | false ↦ malformed at ]) (ok end) → at ≤ end
-  below-grows true at end e = let z : at + 3 ≡ end = cc in omega arith
-  below-grows false at end e = never (cc)
-
-  token-grows : (o : Option ℕ) (at end : ℕ) → _≡_ {A = Checked} (elim o [ none ↦ malformed at | some k ↦ elim (ltb k count) [ true ↦ ok (at + 3) | false ↦ malformed at ] ]) (ok end) → at ≤ end
-  token-grows none at end e = never (cc)
-  token-grows (some k) at end e = below-grows (ltb k count) at end e
-
-  list-grows : (o : Option ℕ) (k : ℕ → Checked) (at end : ℕ) → Grows k → _≡_ {A = Checked} (elim o [ none ↦ malformed at | some n ↦ items n k (at + 3) ]) (ok end) → at ≤ end
-  list-grows none k at end g e = never (cc)
-  list-grows (some n) k at end g e = let h : at + 3 ≤ end = items-grow n k g (at + 3) end e in omega arith
-
-  if-grows : (b : Bool) (k : ℕ → Checked) (at step end : ℕ) → Grows k → _≡_ {A = Checked} (elim b [ true ↦ k (at + step) | false ↦ malformed at ]) (ok end) → at ≤ end
-  if-grows true k at step end g e = let h : at + step ≤ end = g (at + step) end e in omega arith
-  if-grows false k at step end g e = never (cc)
-
-  choice-grows : (o : Option ℕ) (n : ℕ) (k : ℕ → ℕ → Checked) (at end : ℕ) → ((which : ℕ) → Grows (k which))
-      → _≡_ {A = Checked} (elim o [ none ↦ malformed at | some which ↦ elim (ltb which n) [ true ↦ k which (at + 2) | false ↦ malformed at ] ]) (ok end) → at ≤ end
-  choice-grows none n k at end g e = never (cc)
-  choice-grows (some which) n k at end g e = if-grows (ltb which n) (k which) at 2 end (g which) e
-
   pub fields-grow : (inner : Family → ℕ → Checked) → ((family : Family) → Grows (inner family)) → (may : Bool) (f : Fields) → Grows (λ next. fields rec count inner may f next)
   unfolding fields
   fields-grow inner g may Fields.none at end e = let z : at ≡ end = cc in omega arith
   fields-grow inner g may (f ▸ h) at end e =
       then-grows at end (fields rec count inner may f at) (λ next. fields rec count inner may h next)
       (λ m x. fields-grow inner g may f at m x) (fields-grow inner g may h) e
-  fields-grow inner g may token at end e = or-grows may at end _ (λ x. token-grows (tokenAt rec at) at end x) e
+  fields-grow inner g may token at end e =
+      or-grows may at end _
+      (λ x. let q = some-parts (tokenAt rec at) _ at end x in
+      let r = if-parts (ltb (q .0) count) (ok (at + 3)) at end (q .2) in
+      let z : at + 3 ≡ end = cc in
+      omega arith) e
   fields-grow inner g may (list f) at end e =
-      list-grows (listAt rec at) (λ next. fields rec count inner false f next) at end (fields-grow inner g false f) e
+      let q = some-parts (listAt rec at) _ at end e in
+      let h : at + 3 ≤ end = items-grow (q .0) (λ next. fields rec count inner false f next) (fields-grow inner g false f) (at + 3) end (q .2) in
+      omega arith
   fields-grow inner g may (group f) at end e =
-      or-grows may at end _ (λ x. if-grows (groupAt rec at) (λ next. fields rec count inner true f next) at 1 end (fields-grow inner g true f) x) e
+      or-grows may at end _
+      (λ x. let q = if-parts (groupAt rec at) _ at end x in
+      let h : at + 1 ≤ end = fields-grow inner g true f (at + 1) end (q .1) in
+      omega arith) e
   fields-grow inner g may (choice n f) at end e =
       or-grows may at end _
-      (λ x. choice-grows (choiceAt rec at) n (λ which next. fields rec count inner true (f which) next) at end (λ which. fields-grow inner g true (f which)) x) e
+      (λ x. let q = some-parts (choiceAt rec at) _ at end x in
+      let r = if-parts (ltb (q .0) n) _ at end (q .2) in
+      let h : at + 2 ≤ end = fields-grow inner g true (f (q .0)) (at + 2) end (r .1) in
+      omega arith) e
   fields-grow inner g may (form family) at end e = or-grows may at end _ (λ x. g family at end x) e
 
-  form-in-grows : (o : Option ℕ) (k : ℕ → ℕ → Checked) (at step end : ℕ) → ((n : ℕ) → Grows (k n))
-      → _≡_ {A = Checked} (elim o [ none ↦ malformed at | some n ↦ k n (at + step) ]) (ok end) → at ≤ end
-  form-in-grows none k at step end g e = never (cc)
-  form-in-grows (some n) k at step end g e = let h : at + step ≤ end = g n (at + step) end e in omega arith
+  -- A form that fits, from its command and its operand.
+  pub fits-parts : (family : Family) (at k : ℕ) → formFits rec count family at ≡ some k → (formAt rec family at ≡ some k) × (operandFits rec count family at ≡ true)
+  unfolding formFits
+  fits-parts family at k e = go (formAt rec family at) e
+    where
+      go : (o : Option ℕ) → _≡_ {A = Option ℕ} (elim o [ none ↦ none | some n ↦ elim (operandFits rec count family at) [ true ↦ some n | false ↦ none ] ]) (some k)
+          → (o ≡ some k) × (operandFits rec count family at ≡ true)
+      go none e = never (cc)
+      go (some n) e = let p = some-true (operandFits rec count family at) n k e in (ap some (p .1), p .0)
 
-  deep-grows : (o : Option ℕ) (at end : ℕ) → _≡_ {A = Checked} (elim o [ none ↦ malformed at | some n ↦ tooDeep at ]) (ok end) → at ≤ end
-  deep-grows none at end e = never (cc)
-  deep-grows (some n) at end e = never (cc)
+  -- Where no form may stand, none passes.
+  pub zero-never : {P : Type 0} (family : Family) (at end : ℕ) → formCheck rec count 0 family at ≡ ok end → P
+  unfolding formCheck
+  zero-never family at end e = let q = some-parts (formFits rec count family at) (λ n. tooDeep at) at end e in never (cc)
 
   pub form-grows : (depth : ℕ) (family : Family) → Grows (formCheck rec count depth family)
   unfolding formCheck
-  form-grows zero family at end e = deep-grows (formFits rec count family at) at end e
+  form-grows zero family at end e = zero-never family at end e
   form-grows (suc depth) family at end e =
-      form-in-grows (formFits rec count family at)
-      (λ n next. fields rec count (λ f next. formCheck rec count depth f next) true (getD (forms family) n Fields.none) next)
-      at (formWidth family) end
-      (λ n. fields-grow (λ f next. formCheck rec count depth f next) (form-grows depth) true (getD (forms family) n Fields.none)) e
+      let q = some-parts (formFits rec count family at) _ at end e in
+      let h : at + formWidth family ≤ end =
+      fields-grow (λ f next. formCheck rec count depth f next) (form-grows depth) true (getD (forms family) (q .0) Fields.none) (at + formWidth family) end (q .2) in
+      omega arith
 
 -- ---- a node that is not absent is read alike as a field and as an item
 atom : Fields → Bool
@@ -127,12 +149,10 @@ node-atom code = sym (List·getD-map atom nodes code token) ∙ all-true 46 code
 
 module _ (rec : List ℕ) (count : ℕ) (inner : Family → ℕ → Checked) (at : ℕ) where
   not-absent : (there : Checked) → absentAt rec at ≡ false → there ≡ orAbsent rec count true at there
-  unfolding orAbsent
-  not-absent there e = rw (e, orAbsent)
+  not-absent there e = sym (or-is rec count true at there false e)
 
   is-absent : (there : Checked) → absentAt rec at ≡ true → ok (at + 1) ≡ orAbsent rec count true at there
-  unfolding orAbsent
-  is-absent there e = rw (e, orAbsent)
+  is-absent there e = sym (or-is rec count true at there true e)
 
   present : (f : Fields) → atom f ≡ true → absentAt rec at ≡ false → fields rec count inner false f at ≡ fields rec count inner true f at
   unfolding fields orAbsent atom

@@ -1,28 +1,26 @@
 -- Laws of refusals 1 to 4.
-use Prim.Native.Nat.{ℕ, suc, _+_, _≤_, _<_}
+use Prim.Native.Nat.{ℕ, _≤_, _<_}
 use mathlib.Core.Path.{_≡_, refl, sym, _∙_, ap}
-use mathlib.Core.List.{List, _∷_}
-use mathlib.Core.Option.{none, some}
+use mathlib.Core.List.{List}
+use mathlib.Core.Bool.{Bool, true, false, _&&_}
+use mathlib.Core.Option.{Option, none, some}
 use native.Mathlib.Omega.{arith}
-use native.Mathlib.Numerals.{add-one}
-use lib.ListN.{length, getD, take, drop, drop-of-length-le}
-use lib.Seq.{drop-cons}
+use lib.ListN.{length, take}
+use lib.Dec.{leb}
 use borrow.Author.Tests.{le-leb, lt-leb}
 use Rattle.text.specs.declared.Wide.{Wide}
 use Rattle.text.specs.Bytes.{firstWide, wideAt}
-use Rattle.reader.specs.declared.commands.Number.{Number}
-use Rattle.reader.specs.declared.commands.Number.the-variants.{Is, Not}
 use Rattle.reader.specs.declared.tokens.Tiled as Tiled
 use Rattle.reader.specs.declared.tokens.Tiled.the-variants as Tokens
 use Rattle.reader.specs.declared.tree.Checked as Checked
 use Rattle.reader.specs.declared.tree.Checked.the-variants as Tree
 use Rattle.reader.specs.declared.Reading.{Reading}
 use Rattle.reader.specs.declared.Reading.the-variants.{Sheet, TooLong, NotAscii, Malformed, TooDeep}
-use Rattle.reader.specs.Commands.{numberIn}
-use Rattle.reader.specs.Tokens.{tiled, untiled, tokens, tokensIn, tilingIn, Tiles}
+use Rattle.reader.specs.Tokens.{Tokens, Tiling, tiled, untiled, tokens, tokensIn, tilingIn, Tiles}
+use Rattle.reader.specs.Check as Check
 use Rattle.reader.specs.Check.{treeCheck}
 use Rattle.reader.specs.Tree.{checkedIn, TreeEnd}
-use Rattle.reader.specs.Reading.{refused, readTree, readRecord, readText, read, numberOf, placeOf, RecordReads, Reads}
+use Rattle.reader.specs.Reading.{Read, refused, sheet, maxText, maxRecord, readTree, readRecord, readText, read, numberOf, placeOf, RecordReads, Reads}
 
 -- ---- 3 and 4
 module _ {size : ℕ} {rec kinds starts lens : List ℕ} {t : Tiled.Tiled} (s : Tiles size rec kinds starts lens t) where
@@ -89,3 +87,30 @@ module _ (text rec kinds starts lens : List ℕ) where
       ascii {w} {r} s e u =
           let f : firstWide 0 text ≡ none = sym s ∙ ap wideAt e in
           record { is = u .is ∙ text-ascii f ∙ short; counts = u .counts }
+
+-- By cases: a refusal's number is not 0, and a sheet's tokens are those of its record.
+module _ (P : Read → Type 0) (text rec : List ℕ) (refuses : (number place : ℕ) → (number ≡ 0 → ⊥) → P (refused number place))
+    (reads : (ts : Tokens) (tree : ℕ) → tokens (length text) rec ≡ tiled ts tree → P (sheet ts tree)) where
+  tree-cases : (ts : Tokens) (tree : ℕ) → P (sheet ts tree) → (c : Check.Checked) → treeCheck rec (length (ts .kinds)) tree ≡ c → P (readTree rec ts tree)
+  unfolding readTree
+  tree-cases ts tree h (Check.ok end) e = rw (e, readTree) h
+  tree-cases ts tree h (Check.malformed place) e = rw (e, readTree) (refuses 3 place (λ z. omega (arith, z)))
+  tree-cases ts tree h (Check.tooDeep place) e = rw (e, readTree) (refuses 4 place (λ z. omega (arith, z)))
+
+  record-cases : (t : Tiling) → tokens (length text) rec ≡ t → P (readRecord rec (length text))
+  unfolding readRecord
+  record-cases (tiled ts tree) e = rw (e, readRecord) (tree-cases ts tree (reads ts tree e) (treeCheck rec (length (ts .kinds)) tree) refl)
+  record-cases (untiled place) e = rw (e, readRecord) (refuses 3 place (λ z. omega (arith, z)))
+
+  text-cases : (o : Option ℕ) → firstWide 0 text ≡ o → P (readText text rec)
+  unfolding readText
+  text-cases none e = rw (e, readText) (record-cases (tokens (length text) rec) refl)
+  text-cases (some place) e = rw (e, readText) (refuses 2 place (λ z. omega (arith, z)))
+
+  length-cases : (b : Bool) → (leb (length text) maxText && leb (length rec) maxRecord) ≡ b → P (read text rec)
+  unfolding read
+  length-cases true e = rw (e, read) (text-cases (firstWide 0 text) refl)
+  length-cases false e = rw (e, read) (refuses 1 0 (λ z. omega (arith, z)))
+
+  pub read-cases : P (read text rec)
+  read-cases = length-cases (leb (length text) maxText && leb (length rec) maxRecord) refl

@@ -9,6 +9,7 @@ use lib.ListN.{length, getD, take, set, length-set}
 use lib.Seq.{take-suc-set, length-take-le}
 use lib.Dec.{leb, eqb}
 use borrow.Author.Tests.{le-leb, lt-leb, leb-true, eq-eqb, ne-eqb}
+use Rattle.text.proofs.Laws.{never}
 use Rattle.reader.specs.Commands.{u16, command, CommandAt}
 use Rattle.reader.specs.declared.tokens.Next.{Next}
 use Rattle.reader.specs.declared.tokens.Next.the-variants.{Is, Malformed, End}
@@ -60,18 +61,18 @@ module _ (size : ℕ) (rec : List ℕ) (start at : ℕ) (h : getD rec at 0 ≡ 5
 module _ {kind len : ℕ} (k l : ℕ) where
   is-parts : (b c : Bool) → _≡_ {A = Next} (Is kind len) (elim b [ true ↦ elim c [ true ↦ Is k l | false ↦ Malformed ] | false ↦ End ]) → (b ≡ true) × (c ≡ true) × (kind ≡ k) × (len ≡ l)
   is-parts true true e = (refl, refl, cc, cc)
-  is-parts true false e = let z : _≡_ {A = ℕ} 0 1 = cc in absurd (omega arith)
-  is-parts false c e = let z : _≡_ {A = ℕ} 0 1 = cc in absurd (omega arith)
+  is-parts true false e = never (cc)
+  is-parts false c e = never (cc)
 
 module _ (k l : ℕ) where
   malformed-parts : (b c : Bool) → _≡_ {A = Next} Malformed (elim b [ true ↦ elim c [ true ↦ Is k l | false ↦ Malformed ] | false ↦ End ]) → (b ≡ true) × (c ≡ false)
-  malformed-parts true true e = let z : _≡_ {A = ℕ} 0 1 = cc in absurd (omega arith)
+  malformed-parts true true e = never (cc)
   malformed-parts true false e = (refl, refl)
-  malformed-parts false c e = let z : _≡_ {A = ℕ} 0 1 = cc in absurd (omega arith)
+  malformed-parts false c e = never (cc)
 
   end-parts : (b c : Bool) → _≡_ {A = Next} End (elim b [ true ↦ elim c [ true ↦ Is k l | false ↦ Malformed ] | false ↦ End ]) → b ≡ false
-  end-parts true true e = let z : _≡_ {A = ℕ} 0 1 = cc in absurd (omega arith)
-  end-parts true false e = let z : _≡_ {A = ℕ} 0 1 = cc in absurd (omega arith)
+  end-parts true true e = never (cc)
+  end-parts true false e = never (cc)
   end-parts false c e = refl
 
 -- ---- a token, from what the next command says

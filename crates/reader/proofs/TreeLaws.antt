@@ -2,12 +2,13 @@
 use Prim.Native.Nat.{ℕ, zero, suc, _+_, _-_, _≤_, _<_}
 use mathlib.Core.Path.{_≡_, refl, sym, _∙_, ap}
 use mathlib.Core.List.{List}
-use mathlib.Core.Bool.{Bool, true, false, _||_}
+use mathlib.Core.Bool.{Bool, true, false, or-true, or-false}
 use mathlib.Core.Option.{Option, none, some}
 use native.Mathlib.Omega.{arith}
 use lib.ListN.{length, getD}
 use lib.Dec.{ltb, eqb}
 use borrow.Author.Tests.{lt-ltb, le-ltb, ltb-true}
+use Rattle.text.proofs.Laws.{never}
 use Rattle.reader.specs.declared.commands.Family.{Family}
 use Rattle.reader.specs.declared.commands.Number.{Number}
 use Rattle.reader.specs.declared.commands.Number.the-variants.{Is, Not}
@@ -94,31 +95,23 @@ choice-same {rec} {count} {left} {at} {n} {f} {g} same o =
 -- ---- the operand of a declaration
 none-true : (b : Bool) (x : ℕ) → _≡_ {A = Option ℕ} (elim b [ true ↦ none | false ↦ some x ]) none → b ≡ true
 none-true true x e = refl
-none-true false x e = let z : _≡_ {A = ℕ} 0 1 = cc in absurd (omega arith)
+none-true false x e = never (cc)
 
 some-false : (b : Bool) (x k : ℕ) → _≡_ {A = Option ℕ} (elim b [ true ↦ none | false ↦ some x ]) (some k) → (b ≡ false) × (x ≡ k)
-some-false true x k e = let z : _≡_ {A = ℕ} 0 1 = cc in absurd (omega arith)
+some-false true x k e = never (cc)
 some-false false x k e = (refl, cc)
-
-or-true : (b : Bool) → true ≡ (b || true)
-or-true true = refl
-or-true false = refl
-
-or-false : (b : Bool) → b ≡ (b || false)
-or-false true = refl
-or-false false = refl
 
 module _ (count : ℕ) {rec : List ℕ} {at : ℕ} {r : Number} (s : NumberAt firstToken rec at r) where
   pub first-absent : r ≡ Not → true ≡ operandFits rec count Fields.DecOne at
   unfolding operandFits firstToken
   first-absent e =
-      rw (none-true (eqb (u16 rec (at + 1)) noToken) (u16 rec (at + 1)) (read-not s e)) (or-true (ltb (u16 rec (at + 1)) count))
+      rw (none-true (eqb (u16 rec (at + 1)) noToken) (u16 rec (at + 1)) (read-not s e)) (sym (or-true (ltb (u16 rec (at + 1)) count)))
 
   pub first-below : {k : ℕ} → r ≡ Is k → ltb k count ≡ operandFits rec count Fields.DecOne at
   unfolding operandFits firstToken
   first-below {k} e =
       let f = some-false (eqb (u16 rec (at + 1)) noToken) (u16 rec (at + 1)) k (read-is s e) in
-      rw (f .0, f .1) (or-false (ltb k count))
+      rw (f .0, f .1) (sym (or-false (ltb k count)))
 
 -- ---- a form
 module _ (rec : List ℕ) (count : ℕ) (family : Fields.Family) (at : ℕ) where

@@ -12,6 +12,10 @@ use lib.Seq.{drop-cons, take-suc, take-all, drop-at}
 use borrow.Author.Tests.{le-leb, lt-leb, eq-eqb, ne-eqb, eqb-true}
 use Rattle.text.specs.Bytes.{isSpace, trimStart, trimEnd, trim, sameBytes, firstIs, firstWide}
 
+-- Two different constructors are not equal: from an equation of theirs `cc` proves `0 ≡ 1`.
+pub never : {A : Type 0} → _≡_ {A = ℕ} 0 1 → A
+never e = absurd (omega (arith, e))
+
 -- `a || b` from its first test.
 pub or-true : {r a : Bool} (b : Bool) → r ≡ a → r ≡ true → r ≡ (a || b)
 or-true b e t = rw (← e, t)

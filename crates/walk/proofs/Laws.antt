@@ -1,4 +1,5 @@
 -- Laws of the walk's own loops: the items of a sequence, the arguments of a functor's application; of an import.
+use native.Mathlib.Nat.{sub-zero}
 use native.Mathlib.Omega.{arith}
 use mathlib.Core.Path.{_≡_, refl, sym, ap, subst}
 use mathlib.Core.List.{List}
@@ -9,16 +10,13 @@ use borrow.Author.Tests.{eq-eqb, ne-eqb}
 use Rattle.layout.specs.declared.St.{St}
 use Rattle.layout.specs.declared.Answer.{Answer}
 use Rattle.layout.specs.declared.Answer.the-variants.{Done, Stopped}
-use Rattle.layout.specs.Layout.{Layout, word, choice, import, _⨾_}
+use Rattle.layout.specs.Layout.{word, choice, import, _⨾_}
 use Rattle.layout.specs.Helpers.{Cfg, Walkers, indent, when}
 use Rattle.layout.specs.Meaning.{Page, outcome}
-use Rattle.layout.specs.State.{Run, runOf, run, runs, effects, packed, stopOf, Walked}
+use Rattle.layout.specs.State.{Run, runOf, run, runs, effects, stopOf, Walked}
 use Rattle.layout.specs.Exp.{exp-semi-item, exp-semi-more, exp-semi-items}
 use Rattle.layout.specs.StrExp.{app-arg, app-args}
 use Rattle.layout.proofs.Steps.{Same, last-skip}
-
-less-none : (n : ℕ) → n - 0 ≡ n
-less-none n = omega arith
 
 pub semi-last : (allow : Bool) (i n : ℕ) → i < n → n - i ≡ 1 → allow ≡ (allow && eqb (n - (i + 1)) 0)
 semi-last true i n h e = let q : n - (i + 1) ≡ 0 = omega arith in sym (eq-eqb (n - (i + 1)) 0 q)
@@ -40,7 +38,7 @@ module _ {p : Page} {tab : ℕ} (ws : Walkers) (c : Cfg) where
   -- ---- the items of a sequence behind the first
   module _ (allow : Bool) where
     pub semi-all : (n : ℕ) {g : Run} → Same p tab (exp-semi-more ws c allow n) g (exp-semi-more ws c allow (n - 0)) g
-    semi-all n {g} = record { is = ap (λ k. runs p tab (exp-semi-more ws c allow k) g) (sym (less-none n)) }
+    semi-all n {g} = record { is = ap (λ k. runs p tab (exp-semi-more ws c allow k) g) (sym (sub-zero n)) }
 
     pub semi-more : {i n : ℕ} {b : Bool} {g : Run} {r : Answer} {o m : List ℕ} → i < n → b ≡ (allow && eqb (n - (i + 1)) 0)
         → Walked p tab (word ";\n" ⨾ indent c ⨾ exp-semi-item ws c b ⨾ exp-semi-more ws c allow (n - (i + 1))) g r o m
@@ -70,7 +68,7 @@ module _ {p : Page} {tab : ℕ} (ws : Walkers) (c : Cfg) where
 
   -- ---- the arguments of a functor's application
   pub args-all : (n : ℕ) {g : Run} → Same p tab (app-args ws c false n) g (app-args ws c false (n - 0)) g
-  args-all n {g} = record { is = ap (λ k. runs p tab (app-args ws c false k) g) (sym (less-none n)) }
+  args-all n {g} = record { is = ap (λ k. runs p tab (app-args ws c false k) g) (sym (sub-zero n)) }
 
   module _ (needs : Bool) where
     pub args-more : {i n : ℕ} {g : Run} {r : Answer} {o m : List ℕ} → i < n
