@@ -52,30 +52,21 @@ under (went g) = g
 under (fell why g) = g
 
 module _ (p : Page) (tab : ℕ) where
-  fell-on : (f : Option ℕ) (e : Checked) (s : St) (place : ℕ) (import : Bool) (o m : List ℕ) (why : Stop) (es : List Event) (g : Run)
-      → fell (stopOf place import) (at 0 (runOf s o m)) ≡ run p tab (stopped why es) g
-      → packed (elim f as (λ x. Answer) [
-        | some n ↦ elim e as (λ x. Answer) [ ok next ↦ Done (moved next s) | malformed other ↦ Stopped s other false | tooDeep other ↦ Stopped s other false ]
-        | none ↦ Stopped s place import
-      ]) o m
-      ≡ run p tab (elim f as (λ x. Outcome) [
-        | some n ↦ elim e as (λ x. Outcome) [ ok next ↦ done next es | malformed other ↦ stopped (absent other) es | tooDeep other ↦ stopped (absent other) es ]
-        | none ↦ stopped why es
-      ]) g
-  unfolding run stopOf
-  fell-on (some n) (ok next) s place import o m why es g h = ap (λ x. went (at next (under x))) h
-  fell-on (some n) (malformed other) s place import o m why es g h = ap (λ x. fell (absent other) (under x)) h
-  fell-on (some n) (tooDeep other) s place import o m why es g h = ap (λ x. fell (absent other) (under x)) h
-  fell-on none e s place import o m why es g h = h
-
   dropped-run : (a : Answer) (x : Outcome) (i : ℕ) (o m : List ℕ) (g : Run) → packed a o m ≡ run p tab x g
       → packed (onwardsOf (p .rec) (length (p .tokens .starts)) i a) o m ≡ run p tab (onwards p i x) g
-  unfolding onwardsOf onwards run
+  unfolding onwardsOf onwards run stopOf
   dropped-run (Done s) (done next es) i o m g h = h
   dropped-run (Done s) (stopped why es) i o m g h = never (cc)
   dropped-run (Stopped s place import) (done next es) i o m g h = never (cc)
   dropped-run (Stopped s place import) (stopped why es) i o m g h =
-      fell-on (formAt (p .rec) Ty i) (fieldEnd (p .rec) (length (p .tokens .starts)) (Fields.form Ty) i) s place import o m why es g h
+      go (formAt (p .rec) Ty i) refl (fieldEnd (p .rec) (length (p .tokens .starts)) (Fields.form Ty) i) refl
+    where
+      go : (f : Option ℕ) → formAt (p .rec) Ty i ≡ f → (e : Checked) → fieldEnd (p .rec) (length (p .tokens .starts)) (Fields.form Ty) i ≡ e
+          → packed (onwardsOf (p .rec) (length (p .tokens .starts)) i (Stopped s place import)) o m ≡ run p tab (onwards p i (stopped why es)) g
+      go none d e q = rw (d, onwardsOf, onwards) h
+      go (some n) d (ok next) q = rw (d, q, onwardsOf, onwards) (ap (λ x. went (at next (under x))) h)
+      go (some n) d (malformed other) q = rw (d, q, onwardsOf, onwards) (ap (λ x. fell (absent other) (under x)) h)
+      go (some n) d (tooDeep other) q = rw (d, q, onwardsOf, onwards) (ap (λ x. fell (absent other) (under x)) h)
 
 pub dropped-by : {p : Page} {tab : ℕ} {w : Layout} {s : St} {o m o′ m′ : List ℕ} {a b : Answer} → Walked p tab w (runOf s o m) a o′ m′
     → Onwards (p .rec) (length (p .tokens .starts)) (s .at) a b → Walked p tab (dropped w) (runOf s o m) b o′ m′

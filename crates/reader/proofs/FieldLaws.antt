@@ -117,7 +117,11 @@ module _ (rec : List ℕ) (count : ℕ) where
   -- Where no form may stand, none passes.
   pub zero-never : {P : Type 0} (family : Family) (at end : ℕ) → formCheck rec count 0 family at ≡ ok end → P
   unfolding formCheck
-  zero-never family at end e = let q = some-parts (formFits rec count family at) (λ n. tooDeep at) at end e in never (cc)
+  zero-never {P} family at end e = go (formFits rec count family at) refl
+    where
+      go : (o : Option ℕ) → formFits rec count family at ≡ o → P
+      go none f = let d = rw (f, formCheck) at e in never (cc)
+      go (some n) f = let d = rw (f, formCheck) at e in never (cc)
 
   pub form-grows : (depth : ℕ) (family : Family) → Grows (formCheck rec count depth family)
   unfolding formCheck
