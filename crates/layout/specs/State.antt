@@ -44,8 +44,11 @@ abbrev pub satOf : ℕ → ℕ → ℕ
 satOf a b = min cap (a + b)
 
 -- The offset in the output where the next byte goes.
+abbrev pub placeAt : ℕ → ℕ → ℕ → ℕ
+placeAt tab letters units = min cap letters + tab * min cap units
+
 abbrev pub placeOf : ℕ → St → ℕ
-placeOf tab s = min cap (s .letters) + tab * min cap (s .units)
+placeOf tab s = placeAt tab (s .letters) (s .units)
 
 -- A piece in the output at an offset, where it fits.
 abbrev pub placed : List ℕ → ℕ → List ℕ → List ℕ
@@ -151,6 +154,15 @@ pub record Does (p : Page) (c : Cfg) (w : Helpers.Walkers → Helpers.Cfg → La
 -- The same of a function that asks no kinds and strikes no comment out.
 pub record Plain (x r starts lens : List ℕ) (tab : ℕ) (w : Layout) (s : St) (o : List ℕ) (a : Answer) (o′ : List ℕ) : Type 0 where
   pub is : (kinds m : List ℕ) → Walked (page x r kinds starts lens) tab w (runOf s o m) a o′ m
+
+-- A piece is written behind these letters and units; an indent.
+pub record Put (tab : ℕ) (w : List ℕ) (l u : ℕ) (o : List ℕ) (l′ : ℕ) (o′ : List ℕ) : Type 0 where
+  pub letters : l′ ≡ satOf l (length w)
+  pub out : o′ ≡ placed o (placeAt tab l u) w
+
+pub record PutIndent (tab d l u : ℕ) (o : List ℕ) (u′ : ℕ) (o′ : List ℕ) : Type 0 where
+  pub units : u′ ≡ satOf u d
+  pub out : o′ ≡ spaced o (placeAt tab l u) (placeAt tab l (satOf u d))
 
 pub record Wrote (tab : ℕ) (w : List ℕ) (s : St) (o : List ℕ) (s′ : St) (o′ : List ℕ) : Type 0 where
   pub st : s′ ≡ withLetters (length w) s

@@ -1,99 +1,26 @@
--- The fixed words of 000 by number, as the code keeps them in one run of bytes.
-use Prim.Native.Nat.{ℕ}
+-- The fixed words of 000 as the code keeps them, one behind another. A word is named by its place: 16 × start + length.
+use Prim.Native.Nat.{ℕ, zero, suc, _/_, _%_}
 use Prim.Native.String.{String}
-use mathlib.Core.List.{List, [], _∷_, _++_}
+use mathlib.Core.List.{List}
 use Rattle.text.specs.Bytes.{bytes}
-use lib.ListN.{getD}
 
-abbrev pub words : List String
-words =
-    ""
-    ∷ "\n"
-    ∷ "in\n"
-    ∷ "end"
-    ∷ "."
-    ∷ " "
-    ∷ "op"
-    ∷ "("
-    ∷ ", "
-    ∷ ")"
-    ∷ ";"
-    ∷ "sharing type "
-    ∷ " = "
-    ∷ "..."
-    ∷ "_"
-    ∷ " : "
-    ∷ "{ "
-    ∷ " }"
-    ∷ ") "
-    ∷ " * "
-    ∷ " -> "
-    ∷ " as "
-    ∷ "["
-    ∷ "]"
-    ∷ "#["
-    ∷ " | "
-    ∷ " ="
-    ∷ " =>"
-    ∷ "| "
-    ∷ ";\n"
-    ∷ "op andalso"
-    ∷ "op orelse"
-    ∷ "#"
-    ∷ "(\n"
-    ∷ "let"
-    ∷ "|> "
-    ∷ " andalso "
-    ∷ " orelse "
-    ∷ " handle\n"
-    ∷ "raise "
-    ∷ "if "
-    ∷ " then\n"
-    ∷ "else"
-    ∷ "while "
-    ∷ " do "
-    ∷ "case "
-    ∷ " of\n"
-    ∷ "fn "
-    ∷ "sig\n"
-    ∷ " where type "
-    ∷ " where "
-    ∷ "struct\n"
-    ∷ " ("
-    ∷ "and "
-    ∷ "withtype "
-    ∷ " of "
-    ∷ " =\n"
-    ∷ "rec "
-    ∷ "val "
-    ∷ "op "
-    ∷ "fun "
-    ∷ "datatype "
-    ∷ " = datatype "
-    ∷ "abstype "
-    ∷ " with "
-    ∷ " end"
-    ∷ "exception "
-    ∷ "open "
-    ∷ "infix "
-    ∷ "infixr "
-    ∷ "nonfix "
-    ∷ "do "
-    ∷ "local"
-    ∷ "structure "
-    ∷ "signature "
-    ∷ "functor "
-    ∷ "include "
-    ∷ []
+abbrev pub wordText : String
+wordText = "\nin\nend. op(, );sharing type  = ..._ : {  })  *  ->  as []#[ |  = =>| ;\nop andalsoop orelse#(\nlet|>  andalso  orelse  handle\nraise if  then\nelsewhile  do case  of\nfn sig\n where type  where struct\n (and withtype  of  =\nrec val op fun datatype  = datatype abstype  with  endexception open infix infixr nonfix do localstructure signature functor include "
+
+-- The first n characters of a text; the others.
+abbrev pub takeText : ℕ → String → String
+takeText zero s = ""
+takeText (suc n) String.[] = ""
+takeText (suc n) (String._∷_ c s) = String._∷_ c (takeText n s)
+
+abbrev pub dropText : ℕ → String → String
+dropText zero s = s
+dropText (suc n) String.[] = ""
+dropText (suc n) (String._∷_ c s) = dropText n s
 
 abbrev pub wordOf : ℕ → String
-wordOf n = getD words n ""
+wordOf place = takeText (place % 16) (dropText (place / 16) wordText)
 
--- The bytes of words one after another.
-unfoldable pub joinedWords : List String → List ℕ
-joinedWords [] = []
-joinedWords (w ∷ ws) = bytes w ++ joinedWords ws
-
--- The run of all fixed words.
+-- The run of bytes.
 unfoldable pub wordRun : List ℕ
-wordRun = joinedWords words
+wordRun = bytes wordText

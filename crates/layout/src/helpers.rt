@@ -17,6 +17,8 @@ use crate::indent_at;
 use crate::looks::alphanumeric;
 use crate::names::Name;
 use crate::names::path_name;
+use crate::put_indent;
+use crate::put_word;
 use crate::token;
 use crate::word;
 use crate::words;
@@ -247,8 +249,14 @@ pub fn indent(out: &mut [u8], st: St, cfg: Cfg) -> St
 pub fn line(text: &[u8], out: &mut [u8], st: St, cfg: Cfg) -> St
     ensures { λ r. ⌜ Sure (cfg .tab) (wordOf· "\n" ⨾ indentOf (cfgOf cfg)) st (now (out .entry)) r (now (out .exit)) ⌝ }
 {
-    let s1 = word(text, out, st, cfg.tab, words::LINE_FEED);
-    indent(out, s1, cfg)
+    let letters = put_word(text, out, st.letters, st.units, cfg.tab, words::LINE_FEED);
+    let units = put_indent(out, letters, st.units, cfg.tab, cfg.depth);
+    St {
+        at: st.at,
+        deepest: st.deepest,
+        letters,
+        units,
+    }
 }
 
 // The depth that a deeper configuration forms.

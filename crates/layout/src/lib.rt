@@ -15,7 +15,7 @@ ghost use Rattle.layout.specs.Words.{wordOf, wordRun};
 ghost use Rattle.text.specs.Bytes.{bytes};
 ghost use mathlib.Core.List.{List};
 ghost use Rattle.layout.specs.Layout.{word};
-ghost use Rattle.layout.specs.State.{cap, satOf, placeOf, placed, spaced, withDepth, Wrote, Sure, Texted, Indented, Commented, struck, pieceOf, Deeper};
+ghost use Rattle.layout.specs.State.{cap, satOf, placeAt, placed, spaced, withDepth, Put, PutIndent, Wrote, Sure, Texted, Indented, Commented, struck, pieceOf, Deeper};
 
 const CAP: u64 = 0x8000_0000;
 
@@ -77,12 +77,10 @@ fn sat(a: u64, b: u64) -> u64
 }
 
 // The offset in the output where the next byte goes.
-fn place(st: St, tab: u32) -> u64
-    ensures { λ r. ⌜ r ≡ placeOf tab st ⌝ }
+fn place(letters: u64, units: u64, tab: u32) -> u64
+    ensures { λ r. ⌜ r ≡ placeAt tab letters units ⌝ }
 {
-    let letters = low(st.letters);
-    let units = low(st.units);
-    letters + (tab as u64) * units
+    low(letters) + (tab as u64) * low(units)
 }
 
 // Copies a piece into the output at an offset, where it fits.
@@ -121,33 +119,49 @@ fn space(out: &mut [u8], at: u64, end: u64)
     }
 }
 
+// Writes a piece behind these letters and units: the letters behind it.
+fn put(out: &mut [u8], letters: u64, units: u64, tab: u32, piece: &[u8]) -> u64
+    ensures { λ r. ⌜ Put tab (now (piece .entry)) letters units (now (out .entry)) r (now (out .exit)) ⌝ }
+{
+    let at = place(letters, units, tab);
+    copy_in(out, at, piece);
+    sat(letters, piece.len() as u64)
+}
+
 pub fn write(out: &mut [u8], st: St, tab: u32, piece: &[u8]) -> St
     ensures { λ r. ⌜ Wrote tab (now (piece .entry)) st (now (out .entry)) r (now (out .exit)) ⌝ }
 {
-    let at = place(st, tab);
-    copy_in(out, at, piece);
+    let letters = put(out, st.letters, st.units, tab, piece);
     St {
         at: st.at,
         deepest: st.deepest,
-        letters: sat(st.letters, piece.len() as u64),
+        letters,
         units: st.units,
     }
+}
+
+// Writes an indent at a depth: the units behind it.
+pub fn put_indent(out: &mut [u8], letters: u64, units: u64, tab: u32, depth: u64) -> u64
+    ensures { λ r. ⌜ PutIndent tab depth letters units (now (out .entry)) r (now (out .exit)) ⌝ }
+{
+    let more = sat(units, depth);
+    let at = place(letters, units, tab);
+    let end = place(letters, more, tab);
+    space(out, at, end);
+    more
 }
 
 // An indent at a depth.
 pub fn indent_at(out: &mut [u8], st: St, tab: u32, depth: u64) -> St
     ensures { λ r. ⌜ Indented tab depth st (now (out .entry)) r (now (out .exit)) ⌝ }
 {
-    let s = St {
+    let units = put_indent(out, st.letters, st.units, tab, depth);
+    St {
         at: st.at,
         deepest: st.deepest,
         letters: st.letters,
-        units: sat(st.units, depth),
-    };
-    let at = place(st, tab);
-    let end = place(s, tab);
-    space(out, at, end);
-    s
+        units,
+    }
 }
 
 fn larger(a: u64, b: u64) -> u64
@@ -204,19 +218,34 @@ pub fn piece_of<'a>(run: &'a [u8], text: &'a [u8], which: Piece) -> &'a [u8]
 fn word_piece(w: usize) -> Piece
     ensures { λ r. ⌜ ((text : List ℕ) → pieceOf wordRun text r ≡ bytes (wordOf w)) ⌝ }
 {
-    if w < words::COUNT {
-        let place = words::PLACES[w] as usize;
-        return Piece::Word(place / 16, place % 16);
-    }
-    Piece::Word(0, 0)
+    Piece::Word(w / 16, w % 16)
 }
 
-// A fixed word, by number.
+// Writes a fixed word: the letters behind it.
+pub fn put_word(text: &[u8], out: &mut [u8], letters: u64, units: u64, tab: u32, w: usize) -> u64
+    ensures { λ r. ⌜ Put tab (bytes (wordOf w)) letters units (now (out .entry)) r (now (out .exit)) ⌝ }
+{
+    let run = words::RUN;
+    put(
+        out,
+        letters,
+        units,
+        tab,
+        piece_of(&run, text, word_piece(w)),
+    )
+}
+
+// A fixed word, by its place.
 pub fn word(text: &[u8], out: &mut [u8], st: St, tab: u32, w: usize) -> St
     ensures { λ r. ⌜ Sure tab (word (wordOf w)) st (now (out .entry)) r (now (out .exit)) ⌝ }
 {
-    let run = words::RUN;
-    write(out, st, tab, piece_of(&run, text, word_piece(w)))
+    let letters = put_word(text, out, st.letters, st.units, tab, w);
+    St {
+        at: st.at,
+        deepest: st.deepest,
+        letters,
+        units: st.units,
+    }
 }
 
 // The entry of a table, 0 past its end.
