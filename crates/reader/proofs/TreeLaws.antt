@@ -189,3 +189,7 @@ opens-as e o = rw (← e) o
 -- A number that is not the least left is above it.
 pub above : {n code : ℕ} → n ≤ code → (code ≡ n → ⊥) → suc n ≤ code
 above h e = omega arith
+
+-- Between two numbers that follow each other there is one.
+pub only : {n code : ℕ} → n ≤ code → code < suc n → code ≡ n
+only h k = omega arith

@@ -1,7 +1,6 @@
 -- `choice_of` meets its contract.
-use mathlib.Core.Path.{_≡_, refl, ap, sym}
-use native.Mathlib.Omega.{arith}
-use Rattle.reader.proofs.TreeLaws.{opens-as, choice-same, above}
+use mathlib.Core.Path.{refl, ap, sym}
+use Rattle.reader.proofs.TreeLaws.{opens-as, choice-same, above, only}
 use Rattle.reader.proofs.GrammarLaws.{within}
 use Rattle.reader.specs.Fields.{forms, PatRowInner, FunBindCaseHead, ExBindInner, FunctorArg, AppStrExpArg}
 use Rattle.reader.specs.Grammar.{node, nodes, groups, held, upTo, rows, inside}
@@ -28,8 +27,7 @@ returns-5 : tie.Need-returns-5
 unfolding node nodes groups held upTo rows forms inside
 returns-5 c =
     let h = above (above (above (above (c .before .pre .0) (c .match .rest .0 .0 .0 .1)) (c .match .rest .0 .0 .1)) (c .match .rest .0 .1)) (c .match .rest .1) in
-    let e : 45 ≡ c .before .args .code = omega (arith, h, c .before .pre .1) in
-    record { reads = λ o. opens-as (ap node e) (choice-same (within _ (held AppStrExpArg) refl refl) o) }
+    record { reads = λ o. opens-as (ap node (sym (only h (c .before .pre .1)))) (choice-same (within _ (held AppStrExpArg) refl refl) o) }
 
 pub choice-of-spec : {M : Type 1} → statement M
 choice-of-spec = tie.close (tie.spec returns returns-2 returns-3 returns-4 returns-5)

@@ -1,7 +1,6 @@
 -- `family_of` meets its contract.
-use mathlib.Core.Path.{_≡_, ap}
-use native.Mathlib.Omega.{arith}
-use Rattle.reader.proofs.TreeLaws.{above}
+use mathlib.Core.Path.{ap}
+use Rattle.reader.proofs.TreeLaws.{above, only}
 use Rattle.reader.specs.Grammar.{node, nodes, groups}
 use Rattle.reader.proofs.tree.family_of.Statement.{statement}
 use Rattle.reader.proofs.tree.family_of.Tie as tie
@@ -30,8 +29,7 @@ returns-6 : tie.Need-returns-6
 unfolding node nodes groups
 returns-6 c =
     let h = above (above (above (above (above (c .before .pre .0) (c .match .rest .0 .0 .0 .0 .1)) (c .match .rest .0 .0 .0 .1)) (c .match .rest .0 .0 .1)) (c .match .rest .0 .1)) (c .match .rest .1) in
-    let e : c .before .args .code ≡ 40 = omega (arith, h, c .before .pre .1) in
-    ap node e
+    ap node (only h (c .before .pre .1))
 
 pub family-of-spec : {M : Type 1} → statement M
 family-of-spec = tie.close (tie.spec returns returns-2 returns-3 returns-4 returns-5 returns-6)
