@@ -25,7 +25,7 @@ extern "C" {
 #define DIVERPLUME_MAX_TOKENS 4096
 #define DIVERPLUME_MAX_FORMS 200
 
-/* What stands in diverplume_lookup.found for none. */
+/* What stands for none in an answer of a lookup. */
 #define DIVERPLUME_NONE UINT64_MAX
 
 /* The numbers of verdicts. For 1 to 6 the sheet is at fault, for 7 to 9 what else the caller brings. */
@@ -52,11 +52,19 @@ typedef struct diverplume_verdict {
     uint64_t left[64]; /* comments left, for number 6: bit b of word w is token 64 * w + b */
 } diverplume_verdict;
 
-/* What a lookup says. */
+/* What the lookup of a comment says. Where the comment is DIVERPLUME_NONE the keyword is too. */
+typedef struct diverplume_comment {
+    uint64_t number;
+    uint64_t place;
+    uint64_t comment; /* the comment's token number, or DIVERPLUME_NONE */
+    uint64_t keyword; /* the token number of the keyword that the search passed, or DIVERPLUME_NONE */
+} diverplume_comment;
+
+/* What the lookup of a doc comment says. */
 typedef struct diverplume_lookup {
     uint64_t number;
     uint64_t place;
-    uint64_t found; /* the comment's token number, or the length written; DIVERPLUME_NONE for none */
+    uint64_t found; /* the length written, or DIVERPLUME_NONE */
 } diverplume_lookup;
 
 /* Whether a sheet can be formatted: numbers 0 to 6. */
@@ -71,10 +79,11 @@ void diverplume_get(const uint8_t *text, size_t text_length,
                     uint32_t tab_size, uint8_t *output, size_t output_length,
                     diverplume_verdict *verdict);
 
-/* The comment above a token: numbers 0 to 4 and 9. Finding none is number 0 too. */
+/* The comment above a token, and the keyword that the search passed on its way: numbers 0 to 4 and 9.
+ * Finding none is number 0 too. The token itself is the first that the search goes over. */
 void diverplume_comment_above(const uint8_t *text, size_t text_length,
                               const uint8_t *record, size_t record_length,
-                              uint64_t token, diverplume_lookup *answer);
+                              uint64_t token, diverplume_comment *answer);
 
 /* The doc text of the comment above a token, at the output's start: numbers 0 to 4, 8 and 9. An
  * output as long as the text is long enough. */

@@ -9,13 +9,14 @@ use lib.Seq.{getD-take}
 use Rattle.reader.specs.Tokens.{textOf}
 use Rattle.comments.specs.declared.Above.{Above}
 use Rattle.comments.specs.declared.Above.the-variants.{Comment, Nothing}
-use Rattle.comments.specs.Above.{commentAbove, commentOf}
-use Rattle.comments.proofs.Search.{comment-above-is}
+use Rattle.comments.specs.declared.Passed.{Passed}
+use Rattle.comments.specs.Above.{commentIn, foundAbove, foundOf, commentAbove, commentOf}
+use Rattle.comments.proofs.Search.{comment-above-is, comment-told}
 use Rattle.formatter.specs.declared.Lookup.{Lookup}
 use Rattle.formatter.specs.declared.Lookup.the-variants as Case
 use Rattle.formatter.specs.declared.Asked as Code
 use Rattle.formatter.specs.declared.Asked.the-variants.{Tokens, Declined}
-use Rattle.formatter.specs.Lookup.{numberOf, placeOf, answerOf, lookedOf, Asks}
+use Rattle.formatter.specs.Lookup.{numberOf, placeOf, answerOf, keywordOf, lookedOf, Asks}
 use Rattle.formatter.proofs.LookupLaws.{asked-says, asked-counts}
 use Rattle.doc_comment.specs.declared.DocText.{DocText}
 use Rattle.doc_comment.specs.Doc.{docOf, docSaid, docLookup, docLooked}
@@ -29,15 +30,18 @@ module _ {text rec kinds starts lens : List ℕ} {token : ℕ} {r : Code.Asked} 
   unfolding docLookup docLooked
   doc-declined out e = rw (asked-says s e, docLookup)
 
-  module _ {count : ℕ} (e : r ≡ Tokens count) (a : Above) (f : commentOf a ≡ commentAbove (take count kinds) token) where
-    pub doc-nothing : (out : List ℕ) → a ≡ Nothing → docLooked Case.Nothing out ≡ docLookup text rec token out
-    unfolding docLookup docLooked commentOf lookedOf numberOf placeOf answerOf
-    doc-nothing out g = rw (asked-says s e, docLookup, ← f, g)
+  module _ {count : ℕ} (e : r ≡ Tokens count) (a : Above) (f : foundOf a ≡ foundAbove (take count kinds) token) where
+    comment-is : commentOf a ≡ commentAbove (take count kinds) token
+    comment-is = comment-told (take count kinds) token a f
 
-    module _ {k : ℕ} (g : a ≡ Comment k) where
+    pub doc-nothing : (out : List ℕ) → a ≡ Nothing → docLooked Case.Nothing out ≡ docLookup text rec token out
+    unfolding docLookup docLooked commentOf foundOf commentIn lookedOf numberOf placeOf answerOf keywordOf
+    doc-nothing out g = rw (asked-says s e, docLookup, ← comment-is, g)
+
+    module _ {k : ℕ} {saw : Passed} (g : a ≡ Comment k saw) where
       found : commentAbove (take count kinds) token ≡ some k
-      unfolding commentOf
-      found = sym f ∙ ap commentOf g
+      unfolding commentOf foundOf commentIn
+      found = sym comment-is ∙ ap commentOf g
 
       below : k < count
       below = omega (arith, comment-above-is (take count kinds) token k found .1, asked-counts s e .0)

@@ -3,7 +3,7 @@ use Prim.Native.Nat.{ℕ}
 use native.Mathlib.Omega.{arith}
 use mathlib.Core.Path.{_≡_, sym, _∙_, ap}
 use mathlib.Core.List.{List, [], _∷_, append-nil}
-use lib.ListN.{length, replicate}
+use lib.ListN.{length, getD, replicate}
 use lib.Seq.{paste, take-all}
 use Rattle.reader.specs.declared.Reading.{Reading}
 use Rattle.reader.specs.declared.Reading.the-variants.{Sheet, TooLong, NotAscii, Malformed, TooDeep}
@@ -11,26 +11,40 @@ use Rattle.reader.specs.declared.tree.Checked as Code
 use Rattle.reader.specs.Tokens.{tokensIn}
 use Rattle.reader.specs.Tree.{checkedIn}
 use Rattle.reader.specs.Reading.{refused, read, numberOf, placeOf, Reads}
+use Rattle.comments.specs.declared.Passed.{Passed}
+use Rattle.comments.specs.Above.{passedIn}
 use Rattle.formatter.specs.declared.Lookup.{Lookup}
+use Rattle.formatter.specs.declared.Lookup.the-variants.{Found}
 use Rattle.formatter.specs.declared.Answer.{Answer}
-use Rattle.formatter.specs.Lookup.{lookedOf}
+use Rattle.formatter.specs.Lookup.{Looked, numberOf as lookupNumber, placeOf as lookupPlace, answerOf, keywordOf, lookedOf}
 use Rattle.formatter.specs.Verdict.{Verdict, Result, verdict, verdictOf, get}
 use Rattle.formatter.proofs.LookupLaws.{reading-says, reading-counts}
 use Rattle.doc_comment.specs.Doc.{Doc, docLookup, docLooked}
 use Rattle.program.specs.declared.Numbers.{Numbers}
 use Rattle.program.specs.Printing.{said}
-use Rattle.exports.specs.Numbers.{endNumbers, lookedNumbers, readNumbers, verdictNumbers, Tabled, ReadOut, DocOut, GetOut}
+use Rattle.exports.specs.Numbers.{endNumbers, orNone, commentNumbers, docNumbers, readNumbers, verdictNumbers, Tabled, ReadOut, DocOut, GetOut}
 
 pub end-case : {f x : Code.Checked} → f ≡ x → endNumbers (checkedIn x) ≡ endNumbers (checkedIn f)
 end-case e = ap (λ (y : Code.Checked). endNumbers (checkedIn y)) (sym e)
 
-pub looked-case : {f x : Lookup} → f ≡ x → lookedNumbers (lookedOf x) ≡ lookedNumbers (lookedOf f)
-looked-case e = ap (λ (y : Lookup). lookedNumbers (lookedOf y)) (sym e)
+pub looked-case : {f x : Lookup} → f ≡ x → commentNumbers (lookedOf x) ≡ commentNumbers (lookedOf f)
+looked-case e = ap (λ (y : Lookup). commentNumbers (lookedOf y)) (sym e)
 
-pub doc-out : (text rec : List ℕ) (token : ℕ) (out out′ answer : List ℕ) (l : Lookup) → docLooked l out′ ≡ docLookup text rec token out → answer ≡ lookedNumbers (lookedOf l) → DocOut text rec token out out′ answer
+-- A comment that is found, with the keyword's number.
+pub looked-found : {f : Lookup} {k : ℕ} {saw : Passed} {n : ℕ} {answer : List ℕ} → f ≡ Found k saw → n ≡ orNone (passedIn saw) → answer ≡ 0 ∷ 0 ∷ k ∷ n ∷ [] → answer ≡ commentNumbers (lookedOf f)
+unfolding commentNumbers orNone lookedOf lookupNumber lookupPlace answerOf keywordOf
+looked-found {k = k} e g h = h ∙ ap (λ (m : ℕ). 0 ∷ 0 ∷ k ∷ m ∷ []) g ∙ looked-case e
+
+-- The first three numbers of a lookup.
+first-three : (found : List ℕ) (l : Looked) → found ≡ commentNumbers l → getD found 0 0 ∷ getD found 1 0 ∷ getD found 2 0 ∷ [] ≡ docNumbers l
+unfolding commentNumbers docNumbers
+first-three found l e = rw e
+
+pub doc-out : (text rec : List ℕ) (token : ℕ) (out out′ found : List ℕ) (l : Lookup) → docLooked l out′ ≡ docLookup text rec token out → found ≡ commentNumbers (lookedOf l)
+    → DocOut text rec token out out′ (getD found 0 0 ∷ getD found 1 0 ∷ getD found 2 0 ∷ [])
 unfolding docLooked
-doc-out text rec token out out′ answer l e f =
-    record { numbers = f ∙ ap (λ (d : Doc). lookedNumbers (d .answer)) e; written = ap (λ (d : Doc). d .out) e }
+doc-out text rec token out out′ found l e f =
+    record { numbers = first-three found (lookedOf l) f ∙ ap (λ (d : Doc). docNumbers (d .answer)) e; written = ap (λ (d : Doc). d .out) e }
 
 -- The five numbers of a verdict before the words of its set.
 abbrev five : Numbers → List ℕ → List ℕ

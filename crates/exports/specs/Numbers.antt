@@ -22,9 +22,13 @@ unfoldable pub orNone : Option ℕ → ℕ
 orNone none = 0xFFFF_FFFF_FFFF_FFFF
 orNone (some k) = k
 
--- Number, place, and the comment's token number or the length of the doc text.
-unfoldable pub lookedNumbers : Looked → List ℕ
-lookedNumbers l = l .number ∷ l .place ∷ orNone (l .answer) ∷ []
+-- Number, place, the token numbers of the comment and of the keyword that was passed.
+unfoldable pub commentNumbers : Looked → List ℕ
+commentNumbers l = l .number ∷ l .place ∷ orNone (l .answer) ∷ orNone (l .keyword) ∷ []
+
+-- Number, place, and the length of the doc text.
+unfoldable pub docNumbers : Looked → List ℕ
+docNumbers l = l .number ∷ l .place ∷ orNone (l .answer) ∷ []
 
 -- Number, place, how many tokens there are, where the list of declarations starts.
 unfoldable pub readNumbers : Read → List ℕ
@@ -47,7 +51,7 @@ pub record ReadOut (text rec answer kinds starts lens : List ℕ) : Type 0 where
 
 -- Contract: the doc lookup's answer and the final output.
 pub record DocOut (text rec : List ℕ) (token : ℕ) (out out′ answer : List ℕ) : Type 0 where
-  pub numbers : answer ≡ lookedNumbers (docLookup text rec token out .answer)
+  pub numbers : answer ≡ docNumbers (docLookup text rec token out .answer)
   pub written : out′ ≡ docLookup text rec token out .out
 
 -- Contract: the verdict of formatting and the final output.

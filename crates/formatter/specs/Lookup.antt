@@ -8,20 +8,24 @@ use lib.ListN.{length, take}
 use lib.Dec.{ltb}
 use Rattle.reader.specs.Tokens.{Tokens, tokensIn, maxTokens}
 use Rattle.reader.specs.Reading.{Read, refused, sheet, read}
-use Rattle.comments.specs.Above.{commentAbove}
+use Rattle.comments.specs.Above as Above
+use Rattle.comments.specs.Above.{foundAbove, passedIn}
 use Rattle.formatter.specs.declared.Lookup.{Lookup}
 use Rattle.formatter.specs.declared.Lookup.the-variants.{Found, Nothing, TooLong, NotAscii, Malformed, TooDeep, NoRoom, NoToken}
 use Rattle.formatter.specs.declared.Asked as Code
 use Rattle.formatter.specs.declared.Asked.the-variants as Case
 
--- What a lookup gives: number, place, and the comment's token number or the length of the doc text.
+-- What a lookup gives: number, place, the comment's token number or the length of the doc text; and the token number of the keyword that
+-- `comment_above` passed, none where it passed none, found no comment or is declined, and for a doc text.
 pub record Looked : Type 0 where
   pub number : ℕ
   pub place : ℕ
   pub answer : Option ℕ
+  pub keyword : Option ℕ
 
+-- An answer without a keyword.
 abbrev pub looked : ℕ → ℕ → Option ℕ → Looked
-looked number place a = record { number = number; place = place; answer = a }
+looked number place a = record { number = number; place = place; answer = a; keyword = none }
 
 -- The tokens of a sheet that passes 1 to 4 and has a token of this number; or the refusal.
 pub data Asked : Type 0 where
@@ -35,14 +39,19 @@ ask text rec token =
       | sheet tokens tree ↦ elim (ltb token (length (tokens .kinds))) [ true ↦ asked tokens | false ↦ declined (looked 9 0 none) ]
     ]
 
+-- What the search found.
+unfoldable pub told : Option Above.Found → Looked
+told none = looked 0 0 none
+told (some f) = record { number = 0; place = 0; answer = some (f .comment); keyword = f .keyword }
+
 -- `comment_above` of a token.
 unfoldable pub lookup : List ℕ → List ℕ → ℕ → Looked
 lookup text rec token =
-    elim (ask text rec token) [ declined l ↦ l | asked tokens ↦ looked 0 0 (commentAbove (tokens .kinds) token) ]
+    elim (ask text rec token) [ declined l ↦ l | asked tokens ↦ told (foundAbove (tokens .kinds) token) ]
 
 -- 01's number for each case of the answer.
 unfoldable pub numberOf : Lookup → ℕ
-numberOf (Found k) = 0
+numberOf (Found k saw) = 0
 numberOf Nothing = 0
 numberOf TooLong = 1
 numberOf (NotAscii at) = 2
@@ -52,7 +61,7 @@ numberOf NoRoom = 8
 numberOf NoToken = 9
 
 unfoldable pub placeOf : Lookup → ℕ
-placeOf (Found k) = 0
+placeOf (Found k saw) = 0
 placeOf Nothing = 0
 placeOf TooLong = 0
 placeOf (NotAscii at) = at
@@ -62,7 +71,7 @@ placeOf NoRoom = 0
 placeOf NoToken = 0
 
 unfoldable pub answerOf : Lookup → Option ℕ
-answerOf (Found k) = some k
+answerOf (Found k saw) = some k
 answerOf Nothing = none
 answerOf TooLong = none
 answerOf (NotAscii at) = none
@@ -71,9 +80,19 @@ answerOf (TooDeep at) = none
 answerOf NoRoom = none
 answerOf NoToken = none
 
+unfoldable pub keywordOf : Lookup → Option ℕ
+keywordOf (Found k saw) = passedIn saw
+keywordOf Nothing = none
+keywordOf TooLong = none
+keywordOf (NotAscii at) = none
+keywordOf (Malformed at) = none
+keywordOf (TooDeep at) = none
+keywordOf NoRoom = none
+keywordOf NoToken = none
+
 -- What an answer stands for.
 unfoldable pub lookedOf : Lookup → Looked
-lookedOf l = looked (numberOf l) (placeOf l) (answerOf l)
+lookedOf l = record { number = numberOf l; place = placeOf l; answer = answerOf l; keyword = keywordOf l }
 
 -- What an answer of `ask` says with the tables.
 abbrev pub askedIn : Code.Asked → List ℕ → List ℕ → List ℕ → Asked

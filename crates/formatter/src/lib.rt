@@ -1,6 +1,7 @@
 // The public calls `check`, `get` and the lookup `comment_above` (document 01, module 6).
 use comments::Above;
 use comments::First;
+use comments::Passed;
 use comments::Set;
 use layout::entry;
 use reader::Reading;
@@ -42,8 +43,8 @@ pub enum Answer {
 
 // The answer of a lookup.
 pub enum Lookup {
-    // The token number of the comment, or the length of the doc text.
-    Found(usize),
+    // The token number of the comment and the keyword that the search passed; or the length of the doc text, and no keyword.
+    Found(usize, Passed),
     Nothing,
     // The text or the record is too long.
     TooLong,
@@ -269,7 +270,7 @@ pub fn ask(
     }
 }
 
-// The comment above a token.
+// The comment above a token, and the keyword that the search passed.
 pub fn comment_above(text: &[u8], rec: &[u8], token: usize) -> Lookup
     ensures { λ r. ⌜ lookedOf r ≡ lookup (now (text .entry)) (now (rec .entry)) token ⌝ }
 {
@@ -279,10 +280,13 @@ pub fn comment_above(text: &[u8], rec: &[u8], token: usize) -> Lookup
     let asked = ask(text, rec, token, &mut kinds, &mut starts, &mut lens);
     match asked {
         Asked::Tokens(count) => {
-            let Above::Comment { comment } = comments::comment_above(&kinds[..count], token) else {
+            let Above::Comment { comment, keyword } = comments::comment_above(
+                &kinds[..count],
+                token,
+            ) else {
                 return Lookup::Nothing;
             };
-            Lookup::Found(comment)
+            Lookup::Found(comment, keyword)
         }
         Asked::Declined(why) => why,
     }

@@ -413,7 +413,11 @@ pub fn comment_above(
     let Number::Is(k) = first else {
         return st;
     };
-    let Above::Comment { comment: found } = comments::comment_above(kinds, k) else {
+    let Above::Comment {
+        comment: found,
+        keyword: _,
+    } = comments::comment_above(kinds, k)
+    else {
         return st;
     };
     let s1 = comment(text, starts, lens, out, left, st, cfg.tab, found);

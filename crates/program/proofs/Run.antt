@@ -8,7 +8,6 @@ use Rattle.reader.specs.Check as Check
 use Rattle.reader.specs.Reading as Reading
 use Rattle.comments.specs.Set as Set
 use Rattle.comments.specs.Above as Above
-use Rattle.comments.specs.Stop as Stop
 use Rattle.layout.specs.Meaning as Meaning
 use Rattle.layout.specs.Helpers as Helpers
 use Rattle.layout.specs.GetDec as GetDec
@@ -55,12 +54,8 @@ unfolding Set.isComment Set.bit Set.holds Set.bits Set.wordsFrom Set.wordsOf Set
 runSet = tt
 
 unfoldable pub runAbove : Unit {0}
-unfolding Above.isKeyword Above.above Above.commentAbove Above.commentOf
+unfolding Above.isKeyword Above.above Above.foundAbove Above.commentIn Above.commentAbove Above.isSome Above.passedIn Above.foundOf Above.commentOf
 runAbove = tt
-
-unfoldable pub runStop : Unit {0}
-unfolding Stop.stopped
-runStop = tt
 
 unfoldable pub runMeaning : Unit {0}
 unfolding Meaning.after Meaning.bind Meaning.orStop Meaning.tokenText Meaning.passes Meaning.onNewLine Meaning.needsNewline Meaning.sees Meaning.dotName Meaning.listName Meaning.pathName Meaning.opPathName Meaning.bothSeen Meaning.headOf Meaning.headsFrom Meaning.headsAt Meaning.onwards Meaning.outcome
@@ -111,7 +106,7 @@ unfolding Verdict.measuresOf Verdict.comments Verdict.walked Verdict.judge Verdi
 runVerdict = tt
 
 unfoldable pub runLookup : Unit {0}
-unfolding Lookup.ask Lookup.lookup Lookup.numberOf Lookup.placeOf Lookup.answerOf Lookup.lookedOf
+unfolding Lookup.ask Lookup.told Lookup.lookup Lookup.numberOf Lookup.placeOf Lookup.answerOf Lookup.keywordOf Lookup.lookedOf
 runLookup = tt
 
 unfoldable pub runDoc : Unit {0}
@@ -127,5 +122,5 @@ unfolding Program.digits Program.decimal Program.line Program.printed Program.ta
 runProgram = tt
 
 unfoldable pub run : Unit {0}
-unfolding runBytes runFields runCommands runTokens runCheck runReading runSet runAbove runStop runMeaning runHelpers runGetDec runTy runPat runExp runSigExp runStrExp runDecOne runWalk runEvents runVerdict runLookup runDoc runLines runProgram
+unfolding runBytes runFields runCommands runTokens runCheck runReading runSet runAbove runMeaning runHelpers runGetDec runTy runPat runExp runSigExp runStrExp runDecOne runWalk runEvents runVerdict runLookup runDoc runLines runProgram
 run = tt

@@ -14,7 +14,7 @@ use Rattle.text.specs.Bytes.{bytes}
 use Rattle.layout.specs.Meaning.{Page, Event}
 use Rattle.layout.specs.Events.{deepest}
 use Rattle.formatter.specs.Verdict.{Verdict, Result, verdict, noMeasures, check, get, judge, accepted, format, put, maxWidth}
-use Rattle.formatter.specs.Lookup.{lookup, looked}
+use Rattle.formatter.specs.Lookup.{lookup, told}
 use Rattle.program.specs.Program.{program}
 use Rattle.program.proofs.Run.{run}
 
@@ -192,13 +192,16 @@ F : F-says
 unfolding run hex pairs digit
 F = (refl, refl)
 
--- The comment above `val`, token 2, is token 0.
+-- The comment above `val`, token 2, is token 0, across `val` itself; from the comment the search passes nothing, from `x`, token 4, it passes `val`.
 abbrev F-above-says : Type 0
-F-above-says = lookup textF recF 2 ≡ looked 0 0 (some 0)
+F-above-says =
+    (lookup textF recF 0 ≡ told (some (record { comment = 0; keyword = none })))
+    × (lookup textF recF 2 ≡ told (some (record { comment = 0; keyword = some 2 })))
+    × (lookup textF recF 4 ≡ told (some (record { comment = 0; keyword = some 2 })))
 
 F-above : F-above-says
 unfolding run hex pairs digit
-F-above = refl
+F-above = (refl, refl, refl)
 
 -- G: 6, place 8; the set holds the comment, token 6.
 abbrev textG : List ℕ

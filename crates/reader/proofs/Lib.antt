@@ -6,3 +6,4 @@ pub mod TokenLaws
 pub mod ReadingLaws
 pub mod Local
 pub mod Suffix
+pub mod KindLaws

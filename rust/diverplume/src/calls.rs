@@ -1,7 +1,7 @@
 //! The calls of the archive.
 
 use crate::message::Cause;
-use crate::verdict::{Lookup, Verdict, NUMBERS};
+use crate::verdict::{CommentAbove, Lookup, Verdict, NUMBERS};
 
 /// What stands in an answer before a call; no number of a verdict.
 const UNWRITTEN: u64 = 0x5A5A_5A5A_5A5A_5A5A;
@@ -31,7 +31,7 @@ extern "C" {
         record: *const u8,
         record_length: usize,
         token: u64,
-        answer: &mut [u64; 3],
+        answer: &mut [u64; 4],
     );
     fn diverplume_doc_comment_above(
         text: *const u8,
@@ -105,10 +105,11 @@ pub fn format(text: &[u8], record: &[u8], tab_size: u32) -> Result<Vec<u8>, Box<
     }
 }
 
-/// The comment above a token, by its token number.
+/// The comment above a token, and the keyword that the search passed on its way up, by their token
+/// numbers.
 #[must_use]
-pub fn comment_above(text: &[u8], record: &[u8], token: u64) -> Lookup {
-    let mut answer = [UNWRITTEN; 3];
+pub fn comment_above(text: &[u8], record: &[u8], token: u64) -> CommentAbove {
+    let mut answer = [UNWRITTEN; 4];
     // SAFETY: each pointer comes from a slice of the length passed with it.
     unsafe {
         diverplume_comment_above(
@@ -120,7 +121,9 @@ pub fn comment_above(text: &[u8], record: &[u8], token: u64) -> Lookup {
             &mut answer,
         );
     }
-    Lookup::new(answer, |number, place| Cause::of_lookup(number, place, text, record, token, 0))
+    CommentAbove::new(answer, |number, place| {
+        Cause::of_lookup(number, place, text, record, token, 0)
+    })
 }
 
 /// The doc comment above a token. Where there is one, its text stands at the output's start, and

@@ -45,4 +45,4 @@ mod verdict;
 
 pub use calls::{check, comment_above, doc_comment_above, format, get};
 pub use diverplume_record as record;
-pub use verdict::{CommentSet, Comments, Lookup, Measures, Number, Verdict};
+pub use verdict::{CommentAbove, CommentSet, Comments, Lookup, Measures, Number, Verdict};

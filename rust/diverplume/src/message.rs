@@ -1,6 +1,6 @@
 //! Verdicts in words.
 
-use crate::verdict::{Lookup, Measures, Number, Verdict};
+use crate::verdict::{CommentAbove, Lookup, Measures, Number, Verdict};
 use diverplume_record::{command, limit};
 use std::fmt;
 
@@ -224,25 +224,49 @@ impl fmt::Display for Verdict {
     }
 }
 
+/// Writes what is said of a lookup that is declined.
+fn write_declined(
+    f: &mut fmt::Formatter<'_>,
+    number: Number,
+    place: usize,
+    cause: Cause,
+) -> fmt::Result {
+    match cause {
+        Cause::DocOutput(output) => write!(
+            f,
+            "declined ({}): the doc text has more than the output's {output} bytes; an output as \
+             long as the sheet's text is long enough",
+            number as u8
+        ),
+        Cause::Token(token, count) => write!(
+            f,
+            "declined ({}): there is no token {token}, the sheet has {count} tokens, numbered from \
+             0; ask for one of these",
+            number as u8
+        ),
+        cause => write_sheet(f, number, place, cause),
+    }
+}
+
+impl fmt::Display for CommentAbove {
+    fn fmt(&self, f: &mut fmt::Formatter<'_>) -> fmt::Result {
+        match (self.number, self.comment, self.keyword) {
+            (Number::Accepted, Some(comment), Some(keyword)) => {
+                write!(f, "found: token {comment}, across the keyword at token {keyword}")
+            }
+            (Number::Accepted, Some(comment), None) => write!(f, "found: token {comment}"),
+            (Number::Accepted, None, _) => f.write_str("none found"),
+            _ => write_declined(f, self.number, self.place, self.cause),
+        }
+    }
+}
+
 impl fmt::Display for Lookup {
     fn fmt(&self, f: &mut fmt::Formatter<'_>) -> fmt::Result {
-        let number = self.number as u8;
-        match (self.number, self.cause) {
-            (Number::Accepted, _) => match self.found {
-                Some(found) => write!(f, "found: {found}"),
-                None => f.write_str("none found"),
-            },
-            (_, Cause::DocOutput(output)) => write!(
-                f,
-                "declined ({number}): the doc text has more than the output's {output} bytes; an \
-                 output as long as the sheet's text is long enough"
-            ),
-            (_, Cause::Token(token, count)) => write!(
-                f,
-                "declined ({number}): there is no token {token}, the sheet has {count} tokens, \
-                 numbered from 0; ask for one of these"
-            ),
-            (other, cause) => write_sheet(f, other, self.place, cause),
+        match (self.number, self.found) {
+            (Number::Accepted, Some(length)) => write!(f, "found: {length} bytes"),
+            (Number::Accepted, None) => f.write_str("none found"),
+            _ => write_declined(f, self.number, self.place, self.cause),
         }
     }
 }

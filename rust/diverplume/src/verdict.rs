@@ -204,14 +204,41 @@ impl Verdict {
 
 impl std::error::Error for Verdict {}
 
-/// The answer of a lookup. As text it says what was found or refused.
+/// The answer of [`comment_above`](crate::comment_above). As text it says what was found or refused.
+#[derive(Debug, Clone, PartialEq, Eq)]
+pub struct CommentAbove {
+    /// The number.
+    pub number: Number,
+    /// The place, as that of a [`Verdict`].
+    pub place: usize,
+    /// The comment's token number; none where there is none.
+    pub comment: Option<usize>,
+    /// The token number of the keyword that the search passed: why the comment belongs to the token
+    /// that was looked up. None where it passed none, found no comment or is declined.
+    pub keyword: Option<usize>,
+    pub(crate) cause: Cause,
+}
+
+impl CommentAbove {
+    pub(crate) fn new(answer: [u64; 4], cause: impl FnOnce(Number, usize) -> Cause) -> Self {
+        let [number, place, comment, keyword] = answer;
+        let (number, place) = (Number::of(number), offset(place));
+        let (comment, keyword) = (or_none(comment), or_none(keyword));
+        Self { number, place, comment, keyword, cause: cause(number, place) }
+    }
+}
+
+impl std::error::Error for CommentAbove {}
+
+/// The answer of [`doc_comment_above`](crate::doc_comment_above). As text it says what was found or
+/// refused.
 #[derive(Debug, Clone, PartialEq, Eq)]
 pub struct Lookup {
     /// The number.
     pub number: Number,
     /// The place, as that of a [`Verdict`].
     pub place: usize,
-    /// The comment's token number, or the length of the doc text; none where there is none.
+    /// The length of the doc text; none where there is none.
     pub found: Option<usize>,
     pub(crate) cause: Cause,
 }
@@ -220,12 +247,15 @@ impl Lookup {
     pub(crate) fn new(answer: [u64; 3], cause: impl FnOnce(Number, usize) -> Cause) -> Self {
         let [number, place, found] = answer;
         let (number, place) = (Number::of(number), offset(place));
-        let found = (found != NONE).then(|| offset(found));
-        Self { number, place, found, cause: cause(number, place) }
+        Self { number, place, found: or_none(found), cause: cause(number, place) }
     }
 }
 
 impl std::error::Error for Lookup {}
+
+fn or_none(number: u64) -> Option<usize> {
+    (number != NONE).then(|| offset(number))
+}
 
 fn offset(number: u64) -> usize {
     usize::try_from(number).expect("an offset, a length or a token number")

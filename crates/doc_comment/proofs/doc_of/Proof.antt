@@ -3,7 +3,8 @@ use mathlib.Core.List.{List}
 use mathlib.Core.Path.{ap, _∙_}
 use Prim.Native.Nat.{ℕ}
 use denote.Ref.{now}
-use Rattle.formatter.specs.Lookup.{numberOf, placeOf, answerOf, lookedOf}
+use Rattle.comments.specs.Above.{passedIn}
+use Rattle.formatter.specs.Lookup.{numberOf, placeOf, answerOf, keywordOf, lookedOf}
 use Rattle.doc_comment.specs.Doc.{docOf, docSaid, docLooked}
 use Rattle.doc_comment.proofs.Lookup.{said-case}
 use borrow.Author.Needs.{needs}
@@ -29,21 +30,21 @@ same-length : tie.Need-same-length
 same-length c = search needs
 
 returns : tie.Need-returns
-unfolding docSaid docLooked lookedOf numberOf placeOf answerOf
+unfolding docSaid docLooked lookedOf numberOf placeOf answerOf keywordOf passedIn
 returns c = let at = c .before .before .before .before .before in said-case _ (c .before .n .given .1) ∙ at .doc-text .ensures ∙ ap (λ (s : List ℕ). docOf s (now (at .before .before .before .before .before .args .out))) (at .before .before .part .ensures)
 
 same-length-2 : tie.Need-same-length-2
 same-length-2 c = search needs
 
 returns-2 : tie.Need-returns-2
-unfolding docSaid docLooked lookedOf numberOf placeOf answerOf
+unfolding docSaid docLooked lookedOf numberOf placeOf answerOf keywordOf passedIn
 returns-2 c = let at = c .before .before .before .before in said-case _ (c .enum-told .given .1) ∙ at .doc-text .ensures ∙ ap (λ (s : List ℕ). docOf s (now (at .before .before .before .before .before .args .out))) (at .before .before .part .ensures)
 
 same-length-3 : tie.Need-same-length-3
 same-length-3 c = search needs
 
 returns-3 : tie.Need-returns-3
-unfolding docSaid docLooked lookedOf numberOf placeOf answerOf
+unfolding docSaid docLooked lookedOf numberOf placeOf answerOf keywordOf passedIn
 returns-3 c = let at = c .before .before .before .before in said-case _ (c .enum-told2 .given .1) ∙ at .doc-text .ensures ∙ ap (λ (s : List ℕ). docOf s (now (at .before .before .before .before .before .args .out))) (at .before .before .part .ensures)
 
 pub doc-of-spec : {M : Type 1} → statement M

@@ -1,6 +1,6 @@
 -- `exports::diverplume_comment_above` meets its contract. Assumes nothing.
 use mathlib.Core.Path.{_∙_, ap}
-use Rattle.exports.specs.Numbers.{lookedNumbers}
+use Rattle.exports.specs.Numbers.{commentNumbers}
 use borrow.Author.Needs.{needs}
 use Rattle.exports.proofs.diverplume_comment_above.Statement.{statement}
 use Rattle.exports.proofs.diverplume_comment_above.Tie as tie
@@ -12,7 +12,7 @@ put-lookup-requires : tie.Need-put-lookup-requires
 put-lookup-requires c κs = search needs
 
 returns : tie.Need-returns
-returns c = c .put-lookup .ensures ∙ ap lookedNumbers (c .before .comment-above .ensures)
+returns c = c .put-lookup .ensures ∙ ap commentNumbers (c .before .comment-above .ensures)
 
 pub diverplume-comment-above-spec : {M : Type 1} → statement M
 diverplume-comment-above-spec =

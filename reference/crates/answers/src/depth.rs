@@ -3,7 +3,7 @@
 use sml_syntax::ast;
 use std::cell::Cell;
 
-include!(concat!(env!("OUT_DIR"), "/module.rs"));
+include!(concat!(env!("OUT_DIR"), "/with_depth_module.rs"));
 
 thread_local! {
     static DEEPEST: Cell<u32> = const { Cell::new(0) };

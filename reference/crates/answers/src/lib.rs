@@ -8,6 +8,8 @@
 //! - Deepest comes from a copy of 000 that `build.rs` makes from the unchanged file by adding one
 //!   line at the head of `Cfg::indented`. The line records the new indent, which at tab size 1 is
 //!   the depth.
+//! - The keyword that `comment_above` passed comes from a copy of 001, made in the same way: the line
+//!   added where `saw_one` becomes true records the token.
 //! - Numbers 7 to 9 are arithmetic. `get` runs at the caller's tab size only where the indents
 //!   don't overflow the Rust's u32 and the text stays within a bound.
 //!
@@ -22,6 +24,7 @@ use sml_syntax::kind::SyntaxNode;
 
 pub mod command_line;
 mod depth;
+mod keyword;
 
 /// The comment set (document 01, module 2): bit b of word w is token 64 × w + b.
 pub type CommentSet = [u64; 64];
@@ -91,6 +94,15 @@ pub struct Lookup<T> {
     pub place: u32,
     /// What was found.
     pub found: Option<T>,
+}
+
+/// What the lookup of a comment finds, by token numbers.
+#[derive(Debug, Clone, Copy, PartialEq, Eq)]
+pub struct Above {
+    /// The comment.
+    pub comment: u16,
+    /// The keyword that the search passed.
+    pub keyword: Option<u16>,
 }
 
 /// The Rust's answers for one sheet.
@@ -166,10 +178,13 @@ impl Reference {
         }
     }
 
-    /// The lookup of the comment above a token: the comment's token number.
+    /// The lookup of the comment above a token.
     #[must_use]
-    pub fn comment_above(&self, token: u64) -> Answer<Lookup<u16>> {
-        self.lookup(token, |node| comment_above(node).map(|comment| comment.number()))
+    pub fn comment_above(&self, token: u64) -> Answer<Lookup<Above>> {
+        self.lookup(token, |node| {
+            let comment = comment_above(node)?.number();
+            Some(Above { comment, keyword: keyword::passed_from(node) })
+        })
     }
 
     /// The lookup of the doc comment above a token, into an output of that length: the doc text.

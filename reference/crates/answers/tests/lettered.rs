@@ -1,6 +1,8 @@
 //! The lettered sheets with the answers that document 01 lists.
 
-use answers::{program_output, Answer, CommentSet, Formatted, Lookup, Origin, Reference, Verdict};
+use answers::{
+    program_output, Above, Answer, CommentSet, Formatted, Lookup, Origin, Reference, Verdict,
+};
 use decode::program::Input;
 use decode::Measures;
 use sheet::{lettered, Sheet};
@@ -101,9 +103,12 @@ fn e() {
 fn f() {
     accepted(&lettered::f(), (0, 17, 0), &[(0, "(* c *)"), (0, "val x = 1")]);
     // `val` is token 2, the comment token 0.
-    let found = Lookup { number: 0, place: 0, found: Some(0) };
-    let answer = Reference::new(&lettered::f()).comment_above(2);
-    assert_eq!(answer, Answer { value: found, origin: Origin::Rust });
+    for (token, keyword) in [(0, None), (2, Some(2)), (4, Some(2))] {
+        let found = Some(Above { comment: 0, keyword });
+        let answer = Reference::new(&lettered::f()).comment_above(token);
+        let value = Lookup { number: 0, place: 0, found };
+        assert_eq!(answer, Answer { value, origin: Origin::Rust });
+    }
 }
 
 #[test]

@@ -1,6 +1,6 @@
 //! The comment lookups at every token.
 
-use answers::{Answer, Lookup, Origin, Reference};
+use answers::{Above, Answer, Lookup, Origin, Reference};
 use schema::SyntaxKind;
 use sheet::{lettered, Sheet, SheetBuilder};
 
@@ -13,9 +13,17 @@ fn tokens(texts: &[&str]) -> Sheet {
     sheet.finish_named([]).unwrap()
 }
 
-fn above(reference: &Reference) -> Vec<Option<u16>> {
+fn found(reference: &Reference) -> Vec<Option<Above>> {
     let numbers = 0..reference.token_count() as u64;
     numbers.map(|token| reference.comment_above(token).value.found).collect()
+}
+
+fn above(reference: &Reference) -> Vec<Option<u16>> {
+    found(reference).into_iter().map(|found| found.map(|above| above.comment)).collect()
+}
+
+fn keywords(reference: &Reference) -> Vec<Option<u16>> {
+    found(reference).into_iter().map(|found| found.and_then(|above| above.keyword)).collect()
 }
 
 #[test]
@@ -23,6 +31,18 @@ fn a_block_comment_ends_the_search_and_a_second_keyword_too() {
     let sheet = tokens(&["x", "(* c *)", "val", "y", "and", "z", "(* d *)", "fun"]);
     let expected = [None, Some(1), Some(1), Some(1), None, None, Some(6), Some(6)];
     assert_eq!(above(&Reference::new(&sheet)), expected);
+}
+
+#[test]
+fn the_keyword_that_the_search_passed() {
+    let sheet = tokens(&["x", "(* c *)", "val", "y", "and", "z", "(* d *)", "w", "...", "fun"]);
+    let expected = [None, None, Some(2), Some(2), None, None, None, None, Some(8), None];
+    assert_eq!(keywords(&Reference::new(&sheet)), expected);
+    // Passed one, found none.
+    let sheet = tokens(&["val", " ", "x"]);
+    assert_eq!(found(&Reference::new(&sheet)), [None; 3]);
+    let expected = [None, None, Some(2), Some(2), Some(2), Some(2), Some(2), Some(2), Some(2)];
+    assert_eq!(keywords(&Reference::new(&lettered::f())), expected);
 }
 
 #[test]
@@ -38,7 +58,11 @@ fn every_keyword_counts() {
             SyntaxKind::BlockComment => Some(2),
             _ => None,
         };
-        assert_eq!(reference.comment_above(2).value.found, last, "{kind:?}");
+        let found = reference.comment_above(2).value.found;
+        assert_eq!(found.map(|above| above.comment), last, "{kind:?}");
+        let passed = reference.comment_above(1).value.found.and_then(|above| above.keyword);
+        let is_keyword = !matches!(kind, SyntaxKind::Other | SyntaxKind::BlockComment);
+        assert_eq!(passed, is_keyword.then_some(1), "{kind:?}");
     }
 }
 

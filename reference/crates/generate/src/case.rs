@@ -4,7 +4,7 @@ use crate::damage::Damage;
 use crate::limits;
 use crate::rng::Rng;
 use crate::style::Size;
-use answers::{Answer, Formatted, Lookup, Reference, Verdict};
+use answers::{Above, Answer, Formatted, Lookup, Reference, Verdict};
 use schema::command;
 use sheet::Sheet;
 use std::fmt;
@@ -77,7 +77,7 @@ pub struct Calls {
     /// The length of formatting's output.
     pub output: usize,
     /// The lookup at the case's token.
-    pub comment_above: Answer<Lookup<u16>>,
+    pub comment_above: Answer<Lookup<Above>>,
     /// The doc lookup at the case's token into an output of [`Self::doc_output`] bytes.
     pub doc_comment_above: Answer<Lookup<String>>,
     /// The length of the doc lookup's output.

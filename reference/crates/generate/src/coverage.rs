@@ -225,7 +225,8 @@ impl Reached {
         let commands = commands(&case.sheet.record).unwrap_or_default();
         let firsts = commands.iter().filter_map(|command| first_token(&case.sheet.record, command));
         let mut seen = HashSet::new();
-        let twice = firsts.filter_map(|first| above(&first)).any(|comment| !seen.insert(comment));
+        let twice =
+            firsts.filter_map(|first| above(&first)).any(|above| !seen.insert(above.comment));
         self.mark(Mark::CommentTwice, twice);
     }
 }

@@ -200,10 +200,14 @@ impl Comparison<'_> {
     fn comment_above(&mut self, token: u64) -> Result<(), Difference> {
         let expected = self.reference.comment_above(token).value;
         let actual = comment_above(&self.sheet.text, &self.sheet.record, token);
-        let numbers = (expected.number, expected.place as usize, expected.found.map(usize::from));
-        let actual = (actual.number as u8, actual.place, actual.found);
+        let comment = expected.found.map(|above| usize::from(above.comment));
+        let keyword = expected.found.and_then(|above| above.keyword).map(usize::from);
+        let numbers = (expected.number, expected.place as usize, comment, keyword);
+        let actual = (actual.number as u8, actual.place, actual.comment, actual.keyword);
         self.same(|| format!("comment_above {token}"), &numbers, &actual)?;
         self.compared.comment_above.add(expected.number);
+        self.compared.comments += u64::from(comment.is_some());
+        self.compared.keywords += u64::from(keyword.is_some());
         Ok(())
     }
 

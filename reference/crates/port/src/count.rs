@@ -54,6 +54,10 @@ pub struct Compared {
     pub indented: u64,
     /// Lookups of a comment.
     pub comment_above: Numbers,
+    /// Comments among them.
+    pub comments: u64,
+    /// Keywords that the search passed before it found a comment.
+    pub keywords: u64,
     /// Lookups of a doc comment.
     pub doc_comment_above: Numbers,
     /// Doc texts among them.
@@ -71,6 +75,8 @@ impl AddAssign for Compared {
         self.texts += other.texts;
         self.indented += other.indented;
         self.comment_above += other.comment_above;
+        self.comments += other.comments;
+        self.keywords += other.keywords;
         self.doc_comment_above += other.doc_comment_above;
         self.doc_texts += other.doc_texts;
     }
@@ -91,6 +97,7 @@ impl fmt::Display for Compared {
             )?;
         }
         writeln!(f, "{} formatted texts, {} of them with indents", self.texts, self.indented)?;
+        writeln!(f, "{} comments, {} of them across a keyword", self.comments, self.keywords)?;
         writeln!(f, "{} doc texts", self.doc_texts)?;
         write!(f, "{} ends of fields, {} of them an end", self.ends, self.ended)
     }

@@ -30,5 +30,14 @@ fn sheet_m() {
     let mut output = *b"....";
     let answer = doc_comment_above(&plain.text, &plain.record, 2, &mut output);
     assert_eq!((answer.found, &output), (None, b"...."));
-    assert_eq!(comment_above(&plain.text, &plain.record, 2).found, Some(0));
+    assert_eq!(comment_above(&plain.text, &plain.record, 2).comment, Some(0));
+}
+
+#[test]
+fn sheet_f_tells_the_keyword_passed() {
+    let sheet = lettered::f();
+    for (token, keyword) in [(0, None), (2, Some(2)), (4, Some(2))] {
+        let above = comment_above(&sheet.text, &sheet.record, token);
+        assert_eq!((above.comment, above.keyword), (Some(0), keyword), "token {token}");
+    }
 }

@@ -9,11 +9,10 @@ use std::process::{Command, Stdio};
 /// What the program prints. Its input comes in pieces, as pipes give them.
 fn printed(input: &[u8]) -> Vec<u8> {
     let path = PathBuf::from(env!("CARGO_MANIFEST_DIR")).join("../../../target/bin/diverplume");
-    let mut child = Command::new(&path)
-        .stdin(Stdio::piped())
-        .stdout(Stdio::piped())
-        .spawn()
-        .unwrap_or_else(|error| panic!("{}: {error}; `rt check diverplume` makes it", path.display()));
+    let mut child =
+        Command::new(&path).stdin(Stdio::piped()).stdout(Stdio::piped()).spawn().unwrap_or_else(
+            |error| panic!("{}: {error}; `rt check diverplume` makes it", path.display()),
+        );
     let mut stdin = child.stdin.take().expect("a pipe");
     for piece in input.chunks(4096) {
         // The program reads no more than it has room for.

@@ -1,7 +1,7 @@
 //! The stored vectors, replayed.
 
 use diverplume::record::Sheet;
-use diverplume::{check, comment_above, doc_comment_above, get, Lookup, Verdict};
+use diverplume::{check, comment_above, doc_comment_above, get, Number, Verdict};
 use std::path::Path;
 use vectors::{parse, Answer, Call, Stored, BINARY, FILL};
 
@@ -36,9 +36,13 @@ fn replay(vector: &Stored) -> Option<Answer> {
     let answer = match vector.call {
         Call::Check => of_verdict(&check(text, record)),
         Call::Get => of_verdict(&get(text, record, vector.tab_size, &mut output)),
-        Call::CommentAbove => of_lookup(&comment_above(text, record, vector.token)),
+        Call::CommentAbove => {
+            let above = comment_above(text, record, vector.token);
+            of_lookup(above.number, above.place, above.comment)
+        }
         Call::DocCommentAbove => {
-            of_lookup(&doc_comment_above(text, record, vector.token, &mut output))
+            let lookup = doc_comment_above(text, record, vector.token, &mut output);
+            of_lookup(lookup.number, lookup.place, lookup.found)
         }
         Call::Program => return None,
     };
@@ -58,12 +62,13 @@ fn of_verdict(verdict: &Verdict) -> Answer {
     }
 }
 
-fn of_lookup(lookup: &Lookup) -> Answer {
+/// A lookup's answer. The vectors hold no keyword.
+fn of_lookup(number: Number, place: usize, found: Option<usize>) -> Answer {
     Answer {
-        number: lookup.number as u8,
-        place: u32::try_from(lookup.place).expect("an offset"),
+        number: number as u8,
+        place: u32::try_from(place).expect("an offset"),
         measures: decode::Measures::default(),
-        found: lookup.found.map(|found| found as u64),
+        found: found.map(|found| found as u64),
         set: [0; 64],
         output: Vec::new(),
     }

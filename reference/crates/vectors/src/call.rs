@@ -140,7 +140,7 @@ impl Calls<'_> {
 
     pub(crate) fn comment_above(&self, token: u64, shows: &str) -> Vector {
         let lookup = self.reference.comment_above(token);
-        let found = lookup.value.found.map(u64::from);
+        let found = lookup.value.found.map(|above| u64::from(above.comment));
         let answer = Answer::of_lookup(lookup.value.number, lookup.value.place, found);
         Vector { token, ..self.vector(Call::CommentAbove, shows, answer, lookup.origin) }
     }

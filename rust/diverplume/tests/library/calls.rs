@@ -68,17 +68,21 @@ fn comments_left_are_told_by_token() {
 #[test]
 fn lookups() {
     let Sheet { text, record } = sheets::commented("(*!\n * why\n *)");
-    assert_eq!(comment_above(&text, &record, 2).found, Some(0));
+    for (token, keyword) in [(0, None), (1, None), (2, Some(2)), (4, Some(2)), (8, Some(2))] {
+        let above = comment_above(&text, &record, token);
+        assert_eq!((above.comment, above.keyword), (Some(0), keyword), "token {token}");
+    }
     let mut output = *b".....";
     assert_eq!(doc_comment_above(&text, &record, 2, &mut output).found, Some(3));
     assert_eq!(&output, b"why..");
     let short = doc_comment_above(&text, &record, 2, &mut output[..2]);
     assert_eq!((short.number, short.found), (Number::OutputTooShort, None));
     let past = comment_above(&text, &record, 9);
-    assert_eq!((past.number, past.found), (Number::NoToken, None));
+    assert_eq!((past.number, past.comment, past.keyword), (Number::NoToken, None, None));
     let Sheet { text, record } = sheets::commented("(* why *)");
     assert_eq!(doc_comment_above(&text, &record, 2, &mut output).found, None);
     let Sheet { text, record } = sheets::conditional();
-    assert_eq!(comment_above(&text, &record, 0).found, None);
+    let none = comment_above(&text, &record, 0);
+    assert_eq!((none.comment, none.keyword), (None, None), "passed one, found none");
     assert_eq!(&output, b"why..");
 }

@@ -22,7 +22,9 @@ fn accepted() {
     assert_eq!(said, "accepted: deepest 2, 26 letters, 6 units");
     assert_eq!(comment_above(&text, &record, 0).to_string(), "none found");
     let Sheet { text, record } = sheets::commented("(* c *)");
-    assert_eq!(comment_above(&text, &record, 2).to_string(), "found: 0");
+    let found = |token| comment_above(&text, &record, token).to_string();
+    assert_eq!(found(0), "found: token 0");
+    assert_eq!(found(2), "found: token 0, across the keyword at token 2");
 }
 
 #[test]
