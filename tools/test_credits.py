@@ -67,7 +67,7 @@ class Credits(unittest.TestCase):
 
     def test_fields_followed(self):
         self.assertEqual(term('word "(" ⨾ get-ty ⨾ word ")"', file="TypesFollow"), "before (alone refl) (behind (ty _ d) (alone refl))")
-        self.assertEqual(term('dropped get-ty ⨾ text', file="TypesFollow"), "both (drops (ty true)) (texts short)")
+        self.assertEqual(term('dropped left get-ty ⨾ text', file="TypesFollow"), "both (drops (ty true)) (texts short)")
 
     def test_a_name_without_definition(self):
         with self.assertRaisesRegex(credits.Unknown, "arm: row: 'frob' has no definition and no law"):

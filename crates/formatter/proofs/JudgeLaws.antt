@@ -36,7 +36,7 @@ use Rattle.formatter.specs.Judging.{Weight, Accepts, Puts}
 use Rattle.formatter.proofs.RunLaws.{out-is, left-comments, empty-left, first-left, comments-some, comments-none}
 use Rattle.formatter.proofs.VerdictLaws.{format-wide, format-short, format-fits, check-declined, get-declined, check-accepted, get-accepted}
 use Rattle.formatter.proofs.LookupLaws.{reading-says, reading-counts}
-use Rattle.formatter.proofs.TableLaws.{tables-within}
+use Rattle.reader.proofs.TableLaws.{tables-within}
 
 measures-same : {d d′ l l′ u u′ : ℕ} → d ≡ d′ → l ≡ l′ → u ≡ u′
     → _≡_ {A = Measures} (record { deepest = d; letters = l; units = u }) (record { deepest = d′; letters = l′; units = u′ })

@@ -1,7 +1,6 @@
 pub mod LookupLaws
 pub mod EventLaws
 pub mod RunLaws
-pub mod TableLaws
 pub mod JudgeLaws
 pub mod VerdictLaws
 pub mod Demands

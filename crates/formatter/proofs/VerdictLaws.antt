@@ -27,7 +27,7 @@ Declined (declined v) = v .number ≡ 0 → ⊥
 Declined (accepted p es) = Unit {0}
 
 read-number : (text rec : List ℕ) → Refused (read text rec)
-read-number text rec = read-cases Refused text rec (λ number place ne. ne) (λ ts tree e. tt)
+read-number text rec = read-cases Refused text rec (λ number place ne. ne) (λ ts tree end e c. tt)
 
 module _ (p : Page) where
   comments-number : (es : List Event) → Declined (comments p es)

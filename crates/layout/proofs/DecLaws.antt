@@ -9,13 +9,15 @@ use Rattle.reader.specs.Fields.{DecOne}
 use Rattle.reader.specs.declared.commands.Declaration.{Declaration}
 use Rattle.reader.specs.declared.commands.Declaration.the-variants as Whole
 use Rattle.reader.specs.declared.commands.Number.{Number}
-use Rattle.reader.specs.Commands.{formAt, formWidth, firstToken, declarationAt, numberIn, declarationIn, DeclarationAt}
+use Rattle.reader.specs.Commands.{formWidth, firstToken, numberIn, declarationIn}
+use Rattle.reader.specs.Check.{formFits}
+use lib.ListN.{length}
 use Rattle.layout.specs.declared.St.{St}
 use Rattle.layout.specs.declared.Answer.{Answer}
 use Rattle.layout.specs.declared.Answer.the-variants.{Done, Stopped}
 use Rattle.layout.specs.Layout.{Layout, Declared, declaration, comment, word, _⨾_}
 use Rattle.layout.specs.Meaning.{Page, orStop, outcome}
-use Rattle.layout.specs.State.{Run, runOf, run, runs, effects, packed, stopOf, moved, Walked}
+use Rattle.layout.specs.State.{Run, runOf, run, runs, effects, packed, stopOf, moved, Walked, declaredAt, DeclaredAt}
 use Rattle.layout.proofs.Steps.{Same, moved-run, by-same, above-is, last-skip}
 use Rattle.layout.specs.Helpers.{Cfg, indent}
 use Rattle.layout.specs.DecOne.{comment-above, comment-line}
@@ -41,20 +43,20 @@ is-gone none t w e = refl
 is-gone (some k) t w e = never (cc)
 
 module _ {p : Page} {tab : ℕ} {s : St} {o m : List ℕ} {k : Declared → Layout} {x : Declaration} where
-  pub declaration-is : {n next : ℕ} {first : Number} {s′ : St} → DeclarationAt (p .rec) (s .at) x → x ≡ Whole.Is n first next → s′ ≡ moved next s
+  pub declaration-is : {n next : ℕ} {first : Number} {s′ : St} → DeclaredAt (length (p .tokens .starts)) (p .rec) (s .at) x → x ≡ Whole.Is n first next → s′ ≡ moved next s
       → Same p tab (declaration k) (runOf s o m) (k (record { place = s .at; number = n; first = numberIn first })) (runOf s′ o m)
-  unfolding runs outcome declarationAt declarationIn orStop
+  unfolding runs outcome declaredAt declarationIn orStop
   declaration-is {n} {next} {first} {s′} e f g =
-      let q = is-there (formAt (p .rec) DecOne (s .at)) (firstToken (p .rec) (s .at)) (s .at + formWidth DecOne) n (numberIn first) next
+      let q = is-there (formFits (p .rec) (length (p .tokens .starts)) DecOne (s .at)) (firstToken (p .rec) (s .at)) (s .at + formWidth DecOne) n (numberIn first) next
       (sym (ap declarationIn f) ∙ e .is) in
       let d : Declared = record { place = s .at; number = n; first = numberIn first } in
       record { is = rw (q .0, ← q .1, ← q .2) (moved-run p tab next (k d) s s′ o m g) }
 
-  pub declaration-not : {a : Answer} → a ≡ Stopped s (s .at) false → DeclarationAt (p .rec) (s .at) x → x ≡ Whole.Not
+  pub declaration-not : {a : Answer} → a ≡ Stopped s (s .at) false → DeclaredAt (length (p .tokens .starts)) (p .rec) (s .at) x → x ≡ Whole.Not
       → Walked p tab (declaration k) (runOf s o m) a o m
-  unfolding runs outcome run effects stopOf declarationAt declarationIn orStop
+  unfolding runs outcome run effects stopOf declaredAt declarationIn orStop
   declaration-not h e f =
-      let q = is-gone (formAt (p .rec) DecOne (s .at)) (firstToken (p .rec) (s .at)) (s .at + formWidth DecOne) (sym (ap declarationIn f) ∙ e .is) in
+      let q = is-gone (formFits (p .rec) (length (p .tokens .starts)) DecOne (s .at)) (firstToken (p .rec) (s .at)) (s .at + formWidth DecOne) (sym (ap declarationIn f) ∙ e .is) in
       record { is = ap (λ y. packed y o m) h ∙ rw q refl }
 
 -- ---- the comment above a declaration

@@ -1,13 +1,19 @@
 -- Laws of reading at the cursor.
-use mathlib.Core.Path.{_≡_, sym, ap, _∙_}
+use mathlib.Core.Path.{_≡_, refl, sym, ap, _∙_}
 use mathlib.Core.Bool.{Bool, true, false}
-use mathlib.Core.Option.{Option, none}
+use mathlib.Core.Option.{Option, none, some}
 use mathlib.Core.List.{List}
-use Prim.Native.Nat.{ℕ, _+_, _≤_}
+use Prim.Native.Nat.{ℕ, _+_, _≤_, _<_}
+use borrow.Author.Tests.{lt-ltb, le-ltb}
 use lib.ListN.{length}
 use Rattle.reader.specs.declared.commands.Family.{Family}
 use Rattle.reader.specs.declared.commands.Number.{Number}
-use Rattle.reader.specs.Commands.{absentAt, tokenAt, listAt, groupAt, choiceAt, formWidth, familyOf, SignAt, NumberAt, FormAt}
+use Rattle.reader.specs.Commands.{absentAt, tokenAt, listAt, groupAt, choiceAt, formAt, formWidth, firstToken, familyOf, declarationAt, declarationIn, SignAt, NumberAt, FormAt, DeclarationAt}
+use Rattle.reader.specs.Fields.{DecOne}
+use Rattle.reader.specs.Check.{operandFits, tokenFits}
+use Rattle.reader.proofs.FieldLaws.{fits-yes, fits-no}
+use Rattle.reader.specs.declared.commands.Declaration.{Declaration}
+use Rattle.reader.specs.declared.commands.Declaration.the-variants as Whole
 use Rattle.reader.proofs.CommandLaws as Commands
 use Rattle.reader.proofs.CommandLaws.{read-not, read-is, form-not, form-read}
 use Rattle.layout.specs.declared.St.{St}
@@ -16,7 +22,7 @@ use Rattle.layout.specs.declared.Answer.the-variants.{Done, Stopped}
 use Rattle.layout.specs.declared.fields.Read.{Read}
 use Rattle.layout.specs.declared.fields.Gone.{Gone}
 use Rattle.layout.specs.declared.fields.Given.{Given}
-use Rattle.layout.specs.State.{moved, readOf, ReadAt, FormRead, groupOf, GroupRead, goneOf, GoneRead, optionalOf, OptionalRead}
+use Rattle.layout.specs.State.{moved, readOf, ReadAt, FormRead, groupOf, GroupRead, goneOf, GoneRead, optionalOf, OptionalRead, declaredAt, DeclaredAt}
 use Rattle.layout.proofs.Steps.{is-some, not-none, gone-true, gone-false}
 
 -- ---- what was read stands in the record
@@ -91,13 +97,41 @@ module _ {r : List ℕ} {s : St} {x : Gone} where
   unfolding optionalOf
   none-neither e f = ap (optionalOf s none) (sym (gone-false (absentAt r (s .at)) s (sym f ∙ e .is)))
 
-module _ {r : List ℕ} {s : St} {x : Read} where
-  pub optional-token : {n : ℕ} {s′ : St} → ReadAt tokenAt 3 r s x → x ≡ Read.Is n s′ → OptionalRead r s (Given.Token n s′)
+module _ {count : ℕ} {r : List ℕ} {s : St} {x : Read} where
+  pub optional-token : {n : ℕ} {s′ : St} → ReadAt (λ bytes. tokenFits bytes count) 3 r s x → x ≡ Read.Is n s′ → OptionalRead count r s (Given.Token n s′)
   unfolding optionalOf
   optional-token {n} {s′} e f =
-      let q = is-some (tokenAt r (s .at)) 3 n s s′ (sym f ∙ e .is) in
+      let q = is-some (tokenFits r count (s .at)) 3 n s s′ (sym f ∙ e .is) in
       record { is = ap (Given.Token n) (q .1) ∙ ap (λ t. optionalOf s t (absentAt r (s .at))) (sym (q .0)) }
 
-  pub optional-none : {y : Given} → ReadAt tokenAt 3 r s x → x ≡ Read.Not → y ≡ optionalOf s none (absentAt r (s .at)) → OptionalRead r s y
+  pub optional-none : {y : Given} → ReadAt (λ bytes. tokenFits bytes count) 3 r s x → x ≡ Read.Not → y ≡ optionalOf s none (absentAt r (s .at)) → OptionalRead count r s y
   optional-none e f g =
-      record { is = g ∙ ap (λ t. optionalOf s t (absentAt r (s .at))) (sym (not-none (tokenAt r (s .at)) 3 s (sym f ∙ e .is))) }
+      record { is = g ∙ ap (λ t. optionalOf s t (absentAt r (s .at))) (sym (not-none (tokenFits r count (s .at)) 3 s (sym f ∙ e .is))) }
+
+-- ---- a token whose number is below the count
+module _ (count : ℕ) {r : List ℕ} {s : St} {x : Number} (e : NumberAt tokenAt r (s .at) x) where
+  pub token-none : x ≡ Number.Not → ReadAt (λ bytes. tokenFits bytes count) 3 r s Read.Not
+  unfolding readOf tokenFits
+  token-none f = record { is = rw (read-not e f, tokenFits) refl }
+
+  module _ {n : ℕ} (f : x ≡ Number.Is n) where
+    pub token-below : {s′ : St} → n < count → s′ ≡ moved (s .at + 3) s → ReadAt (λ bytes. tokenFits bytes count) 3 r s (Read.Is n s′)
+    unfolding readOf tokenFits
+    token-below h g = record { is = rw (read-is e f, tokenFits, lt-ltb n count h) (ap (Read.Is n) g) }
+
+    pub token-over : count ≤ n → ReadAt (λ bytes. tokenFits bytes count) 3 r s Read.Not
+    unfolding readOf tokenFits
+    token-over h = record { is = rw (read-is e f, tokenFits, le-ltb n count h) refl }
+
+-- ---- a declaration's command whose operand is in range
+abbrev whole : List ℕ → ℕ → Option ℕ → Option (ℕ × Option ℕ × ℕ)
+whole r at o = elim o [ none ↦ none | some n ↦ some (n, firstToken r at, at + formWidth DecOne) ]
+
+module _ {count : ℕ} {r : List ℕ} {at : ℕ} {x : Declaration} {b : Bool} (e : DeclarationAt r at x) (f : b ≡ operandFits r count DecOne at) where
+  pub declared-fits : b ≡ true → DeclaredAt count r at x
+  unfolding declarationAt declaredAt
+  declared-fits g = record { is = e .is ∙ ap (whole r at) (sym (fits-yes r count DecOne at (sym f ∙ g))) }
+
+  pub declared-past : b ≡ false → DeclaredAt count r at Whole.Not
+  unfolding declarationIn declaredAt
+  declared-past g = record { is = ap (whole r at) (sym (fits-no r count DecOne at (sym f ∙ g))) }

@@ -18,7 +18,8 @@ use Rattle.layout.specs.Meaning.{Page, Event, Word, Token, Comment, Form
 use Rattle.layout.specs.State.{Run, runOf, at, effect, effects, Ran, went, fell, run, runs, packed, page, Walked, Plain, Wrote, Sure, Texted, Indented, withDepth, stopOf, moved, readOf, ReadAt, FormRead, groupOf, GroupRead, goneOf, GoneRead, optionalOf, OptionalRead, joint, nameIn, TestedText, Looked, Commented, struck, cfgOf, Deeper, Does}
 use Rattle.reader.specs.Tokens.{textOf}
 use Rattle.reader.specs.declared.commands.Family as Code
-use Rattle.reader.specs.Commands.{absentAt, tokenAt, listAt, groupAt, choiceAt, formAt, formWidth, familyOf}
+use Rattle.reader.specs.Check.{tokenFits}
+use Rattle.reader.specs.Commands.{absentAt, listAt, groupAt, choiceAt, formAt, formWidth, familyOf}
 use Rattle.layout.specs.declared.fields.Read.{Read}
 use Rattle.layout.specs.declared.fields.Read.the-variants.{Is}
 use Rattle.layout.specs.declared.names.Name as Code·
@@ -190,9 +191,9 @@ reads-stop p tab width x f s o m e =
     sym (ap (λ y. run p tab y (runOf s o m)) (or-none x (s .at) f (not-none x width s e)))
 
 module _ {p : Page} {tab : ℕ} {s : St} {o m : List ℕ} {k : ℕ → Layout} {x : Read} where
-  pub token-is : {n : ℕ} {s′ : St} → ReadAt tokenAt 3 (p .rec) s x → x ≡ Is n s′ → Same p tab (token k) (runOf s o m) (k n) (runOf s′ o m)
+  pub token-is : {n : ℕ} {s′ : St} → ReadAt (λ bytes. tokenFits bytes (length (p .tokens .starts))) 3 (p .rec) s x → x ≡ Is n s′ → Same p tab (token k) (runOf s o m) (k n) (runOf s′ o m)
   unfolding runs outcome
-  token-is {n} {s′} e f = record { is = reads-same p tab 3 (tokenAt (p .rec) (s .at)) k n s s′ o m (sym f ∙ e .is) }
+  token-is {n} {s′} e f = record { is = reads-same p tab 3 (tokenFits (p .rec) (length (p .tokens .starts)) (s .at)) k n s s′ o m (sym f ∙ e .is) }
 
   pub list-is : {n : ℕ} {s′ : St} → ReadAt listAt 3 (p .rec) s x → x ≡ Is n s′ → Same p tab (list k) (runOf s o m) (k n) (runOf s′ o m)
   unfolding runs outcome
@@ -209,9 +210,9 @@ module _ {p : Page} {tab : ℕ} {s : St} {o m : List ℕ} {k : ℕ → Layout} {
       record { is = reads-same p tab (formWidth (familyOf family)) (formAt (p .rec) (familyOf family) (s .at)) k n s s′ o m (sym f ∙ e .is) }
 
   module _ {a : Answer} (h : a ≡ Stopped s (s .at) false) where
-    pub token-not : ReadAt tokenAt 3 (p .rec) s x → x ≡ Read.Not → Walked p tab (token k) (runOf s o m) a o m
+    pub token-not : ReadAt (λ bytes. tokenFits bytes (length (p .tokens .starts))) 3 (p .rec) s x → x ≡ Read.Not → Walked p tab (token k) (runOf s o m) a o m
     unfolding runs outcome
-    token-not e f = record { is = ap (λ y. packed y o m) h ∙ reads-stop p tab 3 (tokenAt (p .rec) (s .at)) (λ i. outcome p (k i) (s .at + 3)) s o m (sym f ∙ e .is) }
+    token-not e f = record { is = ap (λ y. packed y o m) h ∙ reads-stop p tab 3 (tokenFits (p .rec) (length (p .tokens .starts)) (s .at)) (λ i. outcome p (k i) (s .at + 3)) s o m (sym f ∙ e .is) }
 
     pub list-not : ReadAt listAt 3 (p .rec) s x → x ≡ Read.Not → Walked p tab (list k) (runOf s o m) a o m
     unfolding runs outcome
@@ -367,22 +368,22 @@ given-neither none true s e = never (cc)
 given-neither none false s e = (refl, refl)
 
 module _ {p : Page} {tab : ℕ} {s : St} {o m : List ℕ} {k : Option ℕ → Layout} {x : Given} where
-  pub optional-is : {n : ℕ} {s′ : St} → OptionalRead (p .rec) s x → x ≡ Given.Token n s′ → Same p tab (optional k) (runOf s o m) (k (some n)) (runOf s′ o m)
+  pub optional-is : {n : ℕ} {s′ : St} → OptionalRead (length (p .tokens .starts)) (p .rec) s x → x ≡ Given.Token n s′ → Same p tab (optional k) (runOf s o m) (k (some n)) (runOf s′ o m)
   unfolding runs outcome
   optional-is {n} {s′} e f =
-      let q = given-some (tokenAt (p .rec) (s .at)) (absentAt (p .rec) (s .at)) s s′ n (sym f ∙ e .is) in
+      let q = given-some (tokenFits (p .rec) (length (p .tokens .starts)) (s .at)) (absentAt (p .rec) (s .at)) s s′ n (sym f ∙ e .is) in
       record { is = rw (q .0, outcome) (moved-run p tab (s .at + 3) (k (some n)) s s′ o m (q .1)) }
 
-  pub optional-no : {s′ : St} → OptionalRead (p .rec) s x → x ≡ Given.Absent s′ → Same p tab (optional k) (runOf s o m) (k none) (runOf s′ o m)
+  pub optional-no : {s′ : St} → OptionalRead (length (p .tokens .starts)) (p .rec) s x → x ≡ Given.Absent s′ → Same p tab (optional k) (runOf s o m) (k none) (runOf s′ o m)
   unfolding runs outcome
   optional-no {s′} e f =
-      let q = given-none (tokenAt (p .rec) (s .at)) (absentAt (p .rec) (s .at)) s s′ (sym f ∙ e .is) in
+      let q = given-none (tokenFits (p .rec) (length (p .tokens .starts)) (s .at)) (absentAt (p .rec) (s .at)) s s′ (sym f ∙ e .is) in
       record { is = rw (q .0, q .1, outcome) (moved-run p tab (s .at + 1) (k none) s s′ o m (q .2)) }
 
-  pub optional-not : {a : Answer} → a ≡ Stopped s (s .at) false → OptionalRead (p .rec) s x → x ≡ Given.Neither → Walked p tab (optional k) (runOf s o m) a o m
+  pub optional-not : {a : Answer} → a ≡ Stopped s (s .at) false → OptionalRead (length (p .tokens .starts)) (p .rec) s x → x ≡ Given.Neither → Walked p tab (optional k) (runOf s o m) a o m
   unfolding runs outcome run effects stopOf
   optional-not h e f =
-      let q = given-neither (tokenAt (p .rec) (s .at)) (absentAt (p .rec) (s .at)) s (sym f ∙ e .is) in
+      let q = given-neither (tokenFits (p .rec) (length (p .tokens .starts)) (s .at)) (absentAt (p .rec) (s .at)) s (sym f ∙ e .is) in
       record { is = ap (λ y. packed y o m) h ∙ rw (q .0, q .1, outcome) refl }
 
 -- A function that asks no kinds and strikes nothing out, used in one that may.

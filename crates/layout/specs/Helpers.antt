@@ -12,8 +12,9 @@ pub record Cfg : Type 0 where
   pub depth : ℕ
   pub extra-blank : Bool
 
--- The walks of the forms one deeper, by 000's names.
+-- The walks of the forms one deeper, by 000's names, and how many forms may stand inside one another there.
 pub record Walkers : Type 0 where
+  pub left : ℕ
   pub get-ty : Layout
   pub get-pat : Layout
   pub get-exp : Cfg → Layout

@@ -63,8 +63,9 @@ pub data Layout : Type 0 where
   firstName : (Option ℕ → Layout) → Layout
   -- AppExp looks at both expressions from the cursor on before it walks into the first
   heads : (Head → Head → Layout) → Layout
-  -- a type whose result is dropped: where it stops, what it wrote stays, and the walk goes on behind it
-  dropped : Layout → Layout
+  -- a type whose result is dropped, with the number of forms that may stand inside one another there: where it stops, what it
+  -- wrote stays, and the walk goes on behind it
+  dropped : ℕ → Layout → Layout
   -- a stop: at a part that is not there; at the import at an offset
   halt : Layout
   import : ℕ → Layout

@@ -11,7 +11,7 @@ use Rattle.reader.specs.Fields.{DecOne, Exp, Ty}
 use Rattle.reader.specs.Fields as Fields
 use Rattle.reader.specs.Commands.{absentAt, tokenAt, listAt, groupAt, choiceAt, formAt, formWidth, firstToken}
 use Rattle.reader.specs.Tokens.{Tokens, textOf}
-use Rattle.reader.specs.Check.{Checked, ok, malformed, tooDeep, fieldEnd}
+use Rattle.reader.specs.Check.{Checked, ok, malformed, tooDeep, tokenFits, formFits, endWithin, fieldEnd}
 use Rattle.comments.specs.Above.{commentAbove}
 use Rattle.layout.specs.Layout.{Layout, Look, isIfExp, bodyExpNeedsNewline, Test, isBang, isPipe, isAlphabetic, isAlphanumeric}
 use Rattle.layout.specs.Layout.{Head, pathExp, otherExp, Declared, skip, _⨾_, word, write, comment, output-indent, formed}
@@ -158,11 +158,12 @@ module _ (p : Page) where
   count = length (p .tokens .starts)
 
   -- A type that stopped: what it did stays, and the walk goes on behind the whole of it. The type itself is there.
-  unfoldable pub onwards : ℕ → Outcome → Outcome
-  onwards at (done next es) = done next es
-  onwards at (stopped why es) =
+  -- As many forms may stand inside one another in it as the walk has left.
+  unfoldable pub onwards : ℕ → ℕ → Outcome → Outcome
+  onwards left at (done next es) = done next es
+  onwards left at (stopped why es) =
       elim (formAt (p .rec) Ty at) [
-        | some n ↦ elim (fieldEnd (p .rec) count (Fields.form Ty) at)
+        | some n ↦ elim (endWithin (p .rec) count left (Fields.form Ty) at)
             [ ok next ↦ done next es | malformed place ↦ stopped (absent place) es | tooDeep place ↦ stopped (absent place) es ]
         | none ↦ stopped why es
       ]
@@ -175,16 +176,16 @@ module _ (p : Page) where
   outcome (comment k) at = done at (Comment k ∷ [])
   outcome (output-indent depth) at = done at (Indent depth ∷ [])
   outcome (formed depth) at = done at (Formed depth ∷ [])
-  outcome (token k) at = orStop (tokenAt (p .rec) at) at (λ n. outcome (k n) (at + 3))
+  outcome (token k) at = orStop (tokenFits (p .rec) count at) at (λ n. outcome (k n) (at + 3))
   outcome (group w) at = elim (groupAt (p .rec) at) [ true ↦ outcome w (at + 1) | false ↦ stopped (absent at) [] ]
   outcome (choice k) at = orStop (choiceAt (p .rec) at) at (λ n. outcome (k n) (at + 2))
   outcome (form family k) at = orStop (formAt (p .rec) family at) at (λ n. outcome (k n) (at + formWidth family))
   outcome (list k) at = orStop (listAt (p .rec) at) at (λ n. outcome (k n) (at + 3))
   outcome (declaration k) at =
-      orStop (formAt (p .rec) DecOne at) at
+      orStop (formFits (p .rec) count DecOne at) at
       (λ n. outcome (k (record { place = at; number = n; first = firstToken (p .rec) at })) (at + formWidth DecOne))
   outcome (optional k) at =
-      elim (tokenAt (p .rec) at) [
+      elim (tokenFits (p .rec) count at) [
         | some n ↦ outcome (k (some n)) (at + 3)
         | none ↦ elim (absentAt (p .rec) at) [ true ↦ outcome (k none) (at + 1) | false ↦ stopped (absent at) [] ]
       ]
@@ -196,6 +197,6 @@ module _ (p : Page) where
       elim (pathName (p .rec) at) [ name n m ↦ outcome (k (some n)) at | noName place ↦ outcome (k none) at ]
   outcome (heads k) at =
       elim (headsAt (p .rec) count at) [ both f a ↦ outcome (k f a) at | missing place ↦ stopped (absent place) [] ]
-  outcome (dropped w) at = onwards at (outcome w at)
+  outcome (dropped left w) at = onwards left at (outcome w at)
   outcome halt at = stopped (absent at) []
   outcome (import place) at = stopped (imported place) []

@@ -26,9 +26,10 @@ use Rattle.layout.specs.declared.looks.Seen as One
 use Rattle.layout.specs.declared.looks.BothSeen as Both
 use Rattle.reader.specs.declared.commands.Family.{Family}
 use Rattle.reader.specs.Fields as Fields
-use Rattle.reader.specs.Fields.{Ty}
-use Rattle.reader.specs.Check.{ok, malformed, tooDeep, fieldEnd}
-use Rattle.reader.specs.Commands.{absentAt, tokenAt, groupAt, formAt, formWidth, familyOf}
+use Rattle.reader.specs.Fields.{DecOne, Ty}
+use Rattle.reader.specs.Check.{ok, malformed, tooDeep, tokenFits, formFits, endWithin}
+use Rattle.reader.specs.Commands.{absentAt, groupAt, formAt, formWidth, firstToken, familyOf, declarationIn}
+use Rattle.reader.specs.declared.commands.Declaration.{Declaration}
 use mathlib.Core.Option.{Option, none, some}
 use Rattle.layout.specs.declared.Answer.the-variants.{Done, Stopped}
 use Rattle.layout.specs.Layout.{Layout, Look, Test, Head, pathExp, otherExp, skip}
@@ -219,21 +220,28 @@ optionalOf s (some k) gone = Given.Token k (moved (s .at + 3) s)
 optionalOf s none true = Absent (moved (s .at + 1) s)
 optionalOf s none false = Neither
 
-pub record OptionalRead (r : List ℕ) (s : St) (x : Given) : Type 0 where
-  pub is : x ≡ optionalOf s (tokenAt r (s .at)) (absentAt r (s .at))
+pub record OptionalRead (count : ℕ) (r : List ℕ) (s : St) (x : Given) : Type 0 where
+  pub is : x ≡ optionalOf s (tokenFits r count (s .at)) (absentAt r (s .at))
+
+-- A declaration's command whose operand is in range, read at an offset: the number of its form, its first token, the place of its fields.
+unfoldable pub declaredAt : ℕ → List ℕ → ℕ → Option (ℕ × Option ℕ × ℕ)
+declaredAt count r at = elim (formFits r count DecOne at) [ none ↦ none | some n ↦ some (n, firstToken r at, at + formWidth DecOne) ]
+
+pub record DeclaredAt (count : ℕ) (r : List ℕ) (at : ℕ) (x : Declaration) : Type 0 where
+  pub is : declarationIn x ≡ declaredAt count r at
 
 -- Where the walk goes on after a type whose answer is dropped, at the type's offset.
-unfoldable pub onwardsOf : List ℕ → ℕ → ℕ → Answer → Answer
-onwardsOf r count at (Done s) = Done s
-onwardsOf r count at (Stopped s place import) =
+unfoldable pub onwardsOf : List ℕ → ℕ → ℕ → ℕ → Answer → Answer
+onwardsOf r count left at (Done s) = Done s
+onwardsOf r count left at (Stopped s place import) =
     elim (formAt r Ty at) [
-      | some n ↦ elim (fieldEnd r count (Fields.form Ty) at)
+      | some n ↦ elim (endWithin r count left (Fields.form Ty) at)
           [ ok next ↦ Done (moved next s) | malformed other ↦ Stopped s other false | tooDeep other ↦ Stopped s other false ]
       | none ↦ Stopped s place import
     ]
 
-pub record Onwards (r : List ℕ) (count at : ℕ) (a b : Answer) : Type 0 where
-  pub is : b ≡ onwardsOf r count at a
+pub record Onwards (r : List ℕ) (count left at : ℕ) (a b : Answer) : Type 0 where
+  pub is : b ≡ onwardsOf r count left at a
 
 -- The first name that an answer holds.
 abbrev pub nameIn : Code.Name → Name

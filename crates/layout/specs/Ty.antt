@@ -4,7 +4,7 @@ use Rattle.layout.specs.Layout.{Layout, _⨾_, word, group, maybe, dropp
 use Rattle.layout.specs.Helpers.{Walkers, text, path, sep, for-each}
 
 module _ (ws : Walkers) where
-  open Walkers ws using (get-ty)
+  open Walkers ws using (left, get-ty)
 
   unfoldable pub HoleTy : Layout
   HoleTy = word "..."
@@ -47,7 +47,7 @@ module _ (ws : Walkers) where
 
   -- The first call of `get_ty` drops its result.
   unfoldable pub TupleTy : Layout
-  TupleTy = dropped get-ty ⨾ star-tys
+  TupleTy = dropped left get-ty ⨾ star-tys
 
   unfoldable pub FnTy : Layout
   FnTy = get-ty ⨾ word " -> " ⨾ get-ty

@@ -1,14 +1,16 @@
 // The fields of a record, each read at the cursor.
 use crate::Answer;
 use crate::St;
+use reader::commands::Declaration;
 use reader::commands::Family;
 use reader::commands::Number;
 use reader::tree::Checked;
 ghost use mathlib.Core.Path.{_≡_};
 ghost use mathlib.Core.Bool.{false};
-ghost use Rattle.reader.specs.Commands.{absentAt, tokenAt, listAt, choiceAt};
+ghost use Rattle.reader.specs.Commands.{absentAt, listAt, choiceAt};
+ghost use Rattle.reader.specs.Check.{tokenFits};
 ghost use mathlib.Core.Option.{none};
-ghost use Rattle.layout.specs.State.{moved as movedTo, ReadAt, FormRead, GroupRead, GoneRead, OptionalRead, optionalOf, Onwards};
+ghost use Rattle.layout.specs.State.{moved as movedTo, ReadAt, FormRead, GroupRead, GoneRead, OptionalRead, optionalOf, DeclaredAt, Onwards};
 
 // What is read at the cursor, with the state behind it.
 pub enum Read {
@@ -48,14 +50,18 @@ pub fn stop(st: St) -> Answer
     Answer::Stopped(st, st.at, false)
 }
 
-pub fn token_no(rec: &[u8], st: St) -> Read
-    ensures { λ r. ⌜ ReadAt tokenAt 3 (now (rec .entry)) st r ⌝ }
+// A token, whose number is below the count.
+pub fn token_no(rec: &[u8], count: usize, st: St) -> Read
+    ensures { λ r. ⌜ ReadAt (λ bytes. tokenFits bytes count) 3 (now (rec .entry)) st r ⌝ }
 {
     let at = st.at;
     let Number::Is(n) = reader::commands::token_at(rec, at) else {
         return Read::Not;
     };
-    Read::Is(n, moved(st, at + 3))
+    if n < count {
+        return Read::Is(n, moved(st, at + 3));
+    }
+    Read::Not
 }
 
 pub fn list(rec: &[u8], st: St) -> Read
@@ -118,18 +124,29 @@ fn no_token(rec: &[u8], st: St) -> Given
     Given::Absent(s)
 }
 
-pub fn optional(rec: &[u8], st: St) -> Given
-    ensures { λ r. ⌜ OptionalRead (now (rec .entry)) st r ⌝ }
+pub fn optional(rec: &[u8], count: usize, st: St) -> Given
+    ensures { λ r. ⌜ OptionalRead count (now (rec .entry)) st r ⌝ }
 {
-    let Read::Is(n, s) = token_no(rec, st) else {
+    let Read::Is(n, s) = token_no(rec, count, st) else {
         return no_token(rec, st);
     };
     Given::Token(n, s)
 }
 
+// A declaration's command at an offset. Its first token's number is below the count, or it has none.
+pub fn declared(rec: &[u8], count: usize, at: usize) -> Declaration
+    ensures { λ r. ⌜ DeclaredAt count (now (rec .entry)) at r ⌝ }
+{
+    let found = reader::commands::declaration_at(rec, at);
+    if reader::tree::first_fits(rec, count, at) {
+        return found;
+    }
+    Declaration::Not
+}
+
 // Where the walk goes on after a type at an offset whose answer is dropped: behind the whole of it.
-pub fn onwards(rec: &[u8], count: usize, at: usize, r: Answer) -> Answer
-    ensures { λ a. ⌜ Onwards (now (rec .entry)) count at r a ⌝ }
+pub fn onwards(rec: &[u8], count: usize, left: usize, at: usize, r: Answer) -> Answer
+    ensures { λ a. ⌜ Onwards (now (rec .entry)) count left at r a ⌝ }
 {
     let Answer::Stopped(s, place, import) = r else {
         return r;
@@ -137,7 +154,7 @@ pub fn onwards(rec: &[u8], count: usize, at: usize, r: Answer) -> Answer
     let Number::Is(_k) = reader::commands::form_at(rec, Family::Ty, at) else {
         return Answer::Stopped(s, place, import);
     };
-    let end = reader::tree::ty_end(rec, count, at);
+    let end = reader::tree::ty_end_within(rec, count, left, at);
     match end {
         Checked::Ok(next) => Answer::Done(moved(s, next)),
         Checked::Malformed(other) => Answer::Stopped(s, other, false),

@@ -56,7 +56,7 @@ pub fn text_of(
 ) -> Answer
     ensures { λ r. ⌜ Plain (now (text .entry)) (now (rec .entry)) (now (starts .entry)) (now (lens .entry)) (cfg .tab) textField st (now (out .entry)) r (now (out .exit)) ⌝ }
 {
-    let Read::Is(k, s) = token_no(rec, st) else {
+    let Read::Is(k, s) = token_no(rec, starts.len(), st) else {
         return stop(st);
     };
     Answer::Done(token(text, starts, lens, out, s, cfg.tab, k))
@@ -113,7 +113,7 @@ pub fn word_if(
 ) -> Answer
     ensures { λ r. ⌜ Plain (now (text .entry)) (now (rec .entry)) (now (starts .entry)) (now (lens .entry)) (cfg .tab) (word-if (wordOf w)) st (now (out .entry)) r (now (out .exit)) ⌝ }
 {
-    let given = optional(rec, st);
+    let given = optional(rec, starts.len(), st);
     match given {
         Given::Token(_k, s) => Answer::Done(word(text, out, s, cfg.tab, w)),
         Given::Absent(s) => Answer::Done(s),
@@ -210,7 +210,7 @@ fn ty_var_seq_there(
     let Answer::Done(s1) = r1 else {
         return r1;
     };
-    let given = optional(rec, s1);
+    let given = optional(rec, starts.len(), s1);
     match given {
         Given::Token(_k, s2) => ty_vars_in_parens(text, rec, starts, lens, out, s2, cfg),
         Given::Absent(s2) => ty_vars_bare(text, rec, starts, lens, out, s2, cfg),
@@ -387,7 +387,7 @@ pub fn op_path(
 ) -> Answer
     ensures { λ r. ⌜ Plain (now (text .entry)) (now (rec .entry)) (now (starts .entry)) (now (lens .entry)) (cfg .tab) op-path st (now (out .entry)) r (now (out .exit)) ⌝ }
 {
-    let given = optional(rec, st);
+    let given = optional(rec, starts.len(), st);
     match given {
         Given::Token(_k, s) => op_path_there(text, rec, starts, lens, out, s, cfg),
         Given::Absent(s) => path(text, rec, starts, lens, out, s, cfg),

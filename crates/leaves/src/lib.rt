@@ -145,7 +145,7 @@ pub fn item_semi(
 ) -> Answer
     ensures { λ r. ⌜ Plain (now (text .entry)) (now (rec .entry)) (now (starts .entry)) (now (lens .entry)) (cfg .tab) (item-semi write) st (now (out .entry)) r (now (out .exit)) ⌝ }
 {
-    let given = optional(rec, st);
+    let given = optional(rec, starts.len(), st);
     match given {
         Given::Token(_k, s) => Answer::Done(word_when(
             text,
@@ -614,7 +614,7 @@ fn int_lit(
 ) -> Answer
     ensures { λ r. ⌜ Plain (now (text .entry)) (now (rec .entry)) (now (starts .entry)) (now (lens .entry)) (cfg .tab) (optional· (int-lit (walks (cfg .left)))) st (now (out .entry)) r (now (out .exit)) ⌝ }
 {
-    let given = optional(rec, st);
+    let given = optional(rec, starts.len(), st);
     match given {
         Given::Token(k, s) => int_lit_there(text, rec, starts, lens, out, s, cfg, k),
         Given::Absent(s) => Answer::Done(s),
@@ -755,7 +755,7 @@ fn infix_head(
 ) -> Answer
     ensures { λ r. ⌜ Plain (now (text .entry)) (now (rec .entry)) (now (starts .entry)) (now (lens .entry)) (cfg .tab) (InfixFunBindCaseHead (walks (cfg .left))) st (now (out .entry)) r (now (out .exit)) ⌝ }
 {
-    let given = optional(rec, st);
+    let given = optional(rec, starts.len(), st);
     match given {
         Given::Token(_k, s) => infix_in_parens(text, rec, starts, lens, out, s, cfg),
         Given::Absent(s) => infix_bare(text, rec, starts, lens, out, s, cfg),

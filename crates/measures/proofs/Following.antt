@@ -1,29 +1,29 @@
 -- A type's walk stays within the fields that the check passes: one that stops has read no further than where they end.
 use native.Mathlib.Omega.{arith}
-use mathlib.Core.Path.{_≡_, refl, subst}
+use mathlib.Core.Path.{_≡_, refl, sym, _∙_, subst}
 use mathlib.Core.List.{List, [], _∷_}
 use mathlib.Core.Bool.{Bool, true, false}
 use mathlib.Core.Option.{Option, none, some}
 use Prim.Native.Nat.{ℕ, zero, suc, _+_, _-_, _≤_, min}
 use Prim.Native.String.{String}
 use lib.ListN.{length, getD}
-use lib.Dec.{leb, ltb, eqb}
-use borrow.Author.Tests.{leb-true, eqb-true, ne-eqb}
+use lib.Dec.{leb}
+use borrow.Author.Tests.{leb-true}
 use Rattle.text.specs.Bytes.{bytes}
 use Rattle.reader.specs.Fields as Fields
-use Rattle.reader.specs.Fields.{Ty, Fields, _▸_, forms, firstForm}
-use Rattle.reader.specs.Commands.{u16, command, absentAt, tokenAt, listAt, groupAt, formAt, formWidth}
+use Rattle.reader.specs.Fields.{Ty, Fields, _▸_, forms}
+use Rattle.reader.specs.Commands.{absentAt, listAt, groupAt, formAt, formWidth}
 use Rattle.reader.specs.Check as Check
-use Rattle.reader.specs.Check.{Checked, ok, malformed, tooDeep, operandFits, orAbsent, fields, formFits, formCheck, fieldEnd}
-use Rattle.reader.proofs.CommandLaws.{and-left, and-right, and-second, some-true, form-fits}
-use Rattle.reader.proofs.FieldLaws.{then-parts, if-parts, Grows, fields-grow, zero-never, form-grows, items-grow}
+use Rattle.reader.specs.Check.{Checked, ok, malformed, tooDeep, operandFits, tokenFits, orAbsent, fields, formFits, formCheck}
+use Rattle.reader.proofs.CommandLaws.{and-second, token-there, group-there, form-there, form-fits}
+use Rattle.reader.proofs.FieldLaws.{then-parts, or-is, token-parts, Grows, fields-grow, zero-never, form-grows, items-grow}
 use Rattle.layout.specs.Layout.{Layout, _⨾_, word, write, group, form, maybe, dropped, halt}
 use Rattle.layout.specs.Meaning.{Page, Event, Outcome, done, stopped, Stop, absent, outcome, orStop, onwards}
 use Rattle.layout.specs.Events.{sumOf, deepest}
 use Rattle.layout.specs.Helpers.{text, times, items, for-each, sep}
 use Rattle.measures.proofs.Credit.{Within, then-within, earned, weaker}
 use Rattle.measures.proofs.Paying.{Paid, Short, word-within, write-within}
-use Rattle.measures.proofs.Ends.{ends-agree}
+use Rattle.reader.proofs.Ends.{ends-more, ends-agree}
 
 -- The check of fields, where `d` more forms may stand inside one another.
 abbrev ends : Page → ℕ → Bool → Fields → ℕ → Checked
@@ -49,29 +49,19 @@ module _ (p : Page) where
   stops lim at a h = (omega arith, omega arith)
 
   -- ---- a field that is not absent
-  there : (may : Bool) (at : ℕ) (x : Checked) (lim : ℕ) → 1 ≤ getD (p .rec) at 0 → orAbsent (p .rec) (length (p .tokens .starts)) may at x ≡ ok lim → x ≡ ok lim
-  unfolding orAbsent absentAt command
-  there may at x lim h e =
-      let n : eqb (getD (p .rec) at 0) 0 ≡ false = ne-eqb (getD (p .rec) at 0) 0 (λ z. omega (arith, z)) in
-      let g = and-second may _ (and-second (leb (at + 1) (length (p .rec))) _ n) in
-      rw (g, orAbsent) at e
-
-  byte-is : (tag width at : ℕ) → command (p .rec) tag width at ≡ true → getD (p .rec) at 0 ≡ tag
-  unfolding command
-  byte-is tag width at e = eqb-true _ _ (and-right (leb (at + width) (length (p .rec))) _ e)
+  there : (may : Bool) (at : ℕ) (x : Checked) (lim : ℕ) → absentAt (p .rec) at ≡ false → orAbsent (p .rec) (length (p .tokens .starts)) may at x ≡ ok lim → x ≡ ok lim
+  there may at x lim h e = sym (or-is (p .rec) (length (p .tokens .starts)) may at x false (and-second may (absentAt (p .rec) at) h)) ∙ e
 
   -- ---- commands
   module _ (d : ℕ) (may : Bool) (at lim : ℕ) where
-    token-ends : (n : ℕ) → tokenAt (p .rec) at ≡ some n → ends p d may Fields.token at ≡ ok lim → at + 3 ≡ lim
-    unfolding fields tokenAt
+    token-ends : (n : ℕ) → tokenFits (p .rec) (length (p .tokens .starts)) at ≡ some n → ends p d may Fields.token at ≡ ok lim → at + 3 ≡ lim
+    unfolding fields
     token-ends n t e =
-        let c = some-true (command (p .rec) 1 3 at) (u16 (p .rec) (at + 1)) n t in
-        let b = byte-is 1 3 at (c .0) in
-        let q = there may at _ lim (omega (arith, b)) e in
-        let r = if-parts (ltb n (length (p .tokens .starts))) (ok (at + 3)) at lim (rw t at q) in
+        let q = there may at _ lim (token-there (p .rec) at n (token-parts (p .rec) (length (p .tokens .starts)) at n t .0)) e in
+        let r : ok (at + 3) ≡ ok lim = rw t at q in
         cc
 
-    text-within : Short p → (o : Option ℕ) → tokenAt (p .rec) at ≡ o → ends p d may Fields.token at ≡ ok lim
+    text-within : Short p → (o : Option ℕ) → tokenFits (p .rec) (length (p .tokens .starts)) at ≡ o → ends p d may Fields.token at ≡ ok lim
         → Within p lim lim at 0 32 (orStop o at (λ n. outcome p (write n) (at + 3)))
     unfolding orStop
     text-within short none t e = stops lim at 0 (grows d may Fields.token at lim e)
@@ -80,11 +70,8 @@ module _ (p : Page) where
         earned p lim lim lim at 3 64 0 (outcome p (write n) (at + 3)) (omega arith) (write-within p short n lim lim (at + 3) (omega (arith, z)) (omega (arith, z)))
 
     group-ends : (f : Fields) → groupAt (p .rec) at ≡ true → ends p d may (Fields.group f) at ≡ ok lim → ends p d true f (at + 1) ≡ ok lim
-    unfolding fields groupAt
-    group-ends f t e =
-        let b = byte-is 3 1 at t in
-        let q = there may at _ lim (omega (arith, b)) e in
-        rw t at q
+    unfolding fields
+    group-ends f t e = rw t at (there may at _ lim (group-there (p .rec) at t) e)
 
     group-within : (f : Fields) (a r : ℕ) (w : Layout) → Follows p d true f a r w → (b : Bool) → groupAt (p .rec) at ≡ b → ends p d may (Fields.group f) at ≡ ok lim
         → Within p lim lim at (a - 32) (r + (32 - a)) (elim b as (λ b. Outcome) [ true ↦ outcome p w (at + 1) | false ↦ stopped (absent at) [] ])
@@ -154,7 +141,7 @@ module _ {p : Page} {d : ℕ} {may : Bool} where
   -- ---- commands
   pub texts : Short p → Follows p d may Fields.token 0 32 text
   unfolding outcome text
-  texts short = record { is = λ at lim e. text-within p d may at lim short (tokenAt (p .rec) at) refl e }
+  texts short = record { is = λ at lim e. text-within p d may at lim short (tokenFits (p .rec) (length (p .tokens .starts)) at) refl e }
 
   pub groups : {f : Fields} {a r : ℕ} {w : Layout} → Follows p d true f a r w → Follows p d may (Fields.group f) (a - 32) (r + (32 - a)) (group w)
   unfolding outcome
@@ -212,13 +199,6 @@ module _ {p : Page} {d : ℕ} {may : Bool} {f : Fields} {a r : ℕ} {item : Layo
 
 -- ---- forms
 module _ (p : Page) (at lim : ℕ) where
-  form-byte : (n : ℕ) → formAt (p .rec) Ty at ≡ some n → 1 ≤ getD (p .rec) at 0
-  unfolding formAt firstForm
-  form-byte n t =
-      let c = some-true _ (getD (p .rec) at 0 - firstForm Ty) n t in
-      let l = leb-true (firstForm Ty) (getD (p .rec) at 0) (and-right (leb (at + formWidth Ty) (length (p .rec))) _ (and-left _ (ltb (getD (p .rec) at 0) (firstForm Ty + length (forms Ty))) (c .0))) in
-      omega (arith, l)
-
   form-fields : (d n : ℕ) → formAt (p .rec) Ty at ≡ some n → formCheck (p .rec) (length (p .tokens .starts)) (suc d) Ty at ≡ ok lim
       → ends p d true (getD (forms Ty) n Fields.none) (at + formWidth Ty) ≡ ok lim
   unfolding formCheck formFits operandFits
@@ -228,7 +208,7 @@ module _ (p : Page) (at lim : ℕ) where
 
   form-ends : (d : ℕ) (may : Bool) (n : ℕ) → formAt (p .rec) Ty at ≡ some n → ends p d may (Fields.form Ty) at ≡ ok lim → formCheck (p .rec) (length (p .tokens .starts)) d Ty at ≡ ok lim
   unfolding fields
-  form-ends d may n t e = there p may at _ lim (form-byte n t) e
+  form-ends d may n t e = there p may at _ lim (form-there (p .rec) at Ty n t) e
 
   module _ (a r : ℕ) (k : ℕ → Layout) (x : (d n : ℕ) → Follows p d true (getD (forms Ty) n Fields.none) a r (k n)) (may : Bool) where
     checked-within : (d n : ℕ) → formAt (p .rec) Ty at ≡ some n → formCheck (p .rec) (length (p .tokens .starts)) d Ty at ≡ ok lim
@@ -277,12 +257,12 @@ module _ {p : Page} {d : ℕ} where
   no-more = record { at = λ n. halts }
 
 -- ---- a type whose stop is dropped
-module _ (p : Page) (lo lim at r : ℕ) where
+module _ (p : Page) (left lo lim at r : ℕ) where
   abbrev Whole : ℕ → Outcome → Type 0
   Whole next o = (lo ≤ next) × (next ≤ lim) × Within p next next at 0 r o
 
-  ended-within : (why : Stop) (es : List Event) → Within p lo lim at 0 r (stopped why es) → (c : Checked) → fieldEnd (p .rec) (length (p .tokens .starts)) (Fields.form Ty) at ≡ c
-      → ((next : ℕ) → fieldEnd (p .rec) (length (p .tokens .starts)) (Fields.form Ty) at ≡ ok next → Whole next (stopped why es))
+  ended-within : (why : Stop) (es : List Event) → Within p lo lim at 0 r (stopped why es) → (c : Checked) → ends p left true (Fields.form Ty) at ≡ c
+      → ((next : ℕ) → ends p left true (Fields.form Ty) at ≡ ok next → Whole next (stopped why es))
       → Within p lo lim at 0 0 (elim c as (λ c. Outcome) [ ok next ↦ done next es | malformed place ↦ stopped (absent place) es | tooDeep place ↦ stopped (absent place) es ])
   ended-within why es x (ok next) e f =
       let w = f next e in
@@ -292,40 +272,40 @@ module _ (p : Page) (lo lim at r : ℕ) where
   ended-within why es x (tooDeep place) e f = x
 
   found-within : (why : Stop) (es : List Event) → Within p lo lim at 0 r (stopped why es) → (o : Option ℕ) → formAt (p .rec) Ty at ≡ o
-      → ((n next : ℕ) → formAt (p .rec) Ty at ≡ some n → fieldEnd (p .rec) (length (p .tokens .starts)) (Fields.form Ty) at ≡ ok next → Whole next (stopped why es))
+      → ((n next : ℕ) → formAt (p .rec) Ty at ≡ some n → ends p left true (Fields.form Ty) at ≡ ok next → Whole next (stopped why es))
       → Within p lo lim at 0 0 (elim o as (λ o. Outcome) [
-        | some n ↦ elim (fieldEnd (p .rec) (length (p .tokens .starts)) (Fields.form Ty) at)
+        | some n ↦ elim (ends p left true (Fields.form Ty) at)
             [ ok next ↦ done next es | malformed place ↦ stopped (absent place) es | tooDeep place ↦ stopped (absent place) es ]
         | none ↦ stopped why es
       ])
-  found-within why es x (some n) t f = ended-within why es x (fieldEnd (p .rec) (length (p .tokens .starts)) (Fields.form Ty) at) refl (λ next e. f n next t e)
+  found-within why es x (some n) t f = ended-within why es x (ends p left true (Fields.form Ty) at) refl (λ next e. f n next t e)
   found-within why es x none t f = x
 
   onwards-within : (o : Outcome) → Within p lo lim at 0 r o
-      → ((n next : ℕ) → formAt (p .rec) Ty at ≡ some n → fieldEnd (p .rec) (length (p .tokens .starts)) (Fields.form Ty) at ≡ ok next → Whole next o)
-      → Within p lo lim at 0 0 (onwards p at o)
+      → ((n next : ℕ) → formAt (p .rec) Ty at ≡ some n → ends p left true (Fields.form Ty) at ≡ ok next → Whole next o)
+      → Within p lo lim at 0 0 (onwards p left at o)
   unfolding onwards
   onwards-within (done next es) x f = weaker p lo lo lim at 0 r 0 0 (done next es) (omega arith) (omega arith) (omega arith) x
   onwards-within (stopped why es) x f = found-within why es x (formAt (p .rec) Ty at) refl f
 
 module _ {p : Page} {r : ℕ} {w : Layout} (x : (d : ℕ) → Follows p d true (Fields.form Ty) 0 r w) where
-  pub drops : {d : ℕ} → Follows p d true (Fields.form Ty) 0 0 (dropped w)
-  unfolding outcome fieldEnd
-  drops {d} =
+  pub drops : {d left : ℕ} → Follows p d true (Fields.form Ty) 0 0 (dropped left w)
+  unfolding outcome
+  drops {d} {left} =
       record {
         is =
-            λ at lim e. onwards-within p lim lim at r (outcome p w at) (x d .is at lim e)
+            λ at lim e. onwards-within p left lim lim at r (outcome p w at) (x d .is at lim e)
             (λ n next t g. let h = form-fits (p .rec) at Ty n t in
-            let z = ends-agree (p .rec) (length (p .tokens .starts)) d 200 true (Fields.form Ty) at lim next (omega (arith, h)) e g in
-            (omega (arith, z .0), omega (arith, z .0), x 200 .is at next g));
+            let z = ends-agree (p .rec) (length (p .tokens .starts)) d left true (Fields.form Ty) at lim next (omega (arith, h)) e g in
+            (omega (arith, z), omega (arith, z), x left .is at next g));
       }
 
-  pub drops-paid : Paid p 0 r w → Paid p 0 0 (dropped w)
-  unfolding outcome fieldEnd
-  drops-paid y =
+  pub drops-paid : {left : ℕ} → Paid p 0 r w → Paid p 0 0 (dropped left w)
+  unfolding outcome
+  drops-paid {left} y =
       record {
         is =
-            λ at h. onwards-within p at (length (p .rec)) at r (outcome p w at) (y .is at h)
-            (λ n next t g. let z = ends-agree (p .rec) (length (p .tokens .starts)) 200 200 true (Fields.form Ty) at next next h g g in
-            (grows p 200 true (Fields.form Ty) at next g, z .1, x 200 .is at next g));
+            λ at h. onwards-within p left at (length (p .rec)) at r (outcome p w at) (y .is at h)
+            (λ n next t g. let z = ends-more (p .rec) (length (p .tokens .starts)) left left (omega arith) true (Fields.form Ty) at h next g in
+            (grows p left true (Fields.form Ty) at next g, z .1, x left .is at next g));
       }

@@ -5,7 +5,6 @@ pub mod Arms
 pub mod Sequences
 pub mod Irregular
 pub mod Rows
-pub mod Ends
 pub mod Following
 pub mod TypesFollow
 pub mod Measures

@@ -15,6 +15,8 @@ use Rattle.reader.specs.Fields.{Family, DecOne}
 use Rattle.reader.specs.Tokens.{textOf}
 use Rattle.reader.specs.Commands.{absentAt, tokenAt, listAt, groupAt, choiceAt, formAt, formWidth, firstToken}
 use Rattle.reader.proofs.CommandLaws.{token-fits, list-fits, choice-fits, absent-fits, group-fits, form-fits}
+use Rattle.reader.proofs.FieldLaws.{token-parts, fits-parts}
+use Rattle.reader.specs.Check.{tokenFits, formFits}
 use Rattle.comments.specs.Above.{commentAbove}
 use Rattle.layout.specs.Layout.{Layout, Look, Test, Head, Declared, skip, _⨾_, word, write, comment, output-indent, formed}
 use Rattle.layout.specs.Layout.{token, group, choice, form, list, declaration, optional, maybe, look, test, above, firstName, heads, halt, import}
@@ -34,6 +36,10 @@ pub record Rows (p : Page) (a r : ℕ) (ws : List Layout) : Type 0 where
 -- A sheet's text is short.
 pub record Short (p : Page) : Type 0 where
   pub text : length (p .text) ≤ 32768
+
+-- A token whose number is below the count stands whole.
+token-whole : (rec : List ℕ) (count at k : ℕ) → tokenFits rec count at ≡ some k → at + 3 ≤ length rec
+token-whole rec count at k e = token-fits rec at k (token-parts rec count at k e .0)
 
 abbrev end : Page → ℕ
 end p = length (p .rec)
@@ -128,7 +134,7 @@ module _ {p : Page} where
   module _ {a r : ℕ} {k : ℕ → Layout} (x : (n : ℕ) → Paid p a r (k n)) where
     pub tokens : Paid p (a - 96) (r + (96 - a)) (token k)
     unfolding outcome
-    tokens = record { is = λ at h. read-within 3 x at h (tokenAt (p .rec) at) (token-fits (p .rec) at) }
+    tokens = record { is = λ at h. read-within 3 x at h (tokenFits (p .rec) (length (p .tokens .starts)) at) (token-whole (p .rec) _ at) }
 
     pub choices : Paid p (a - 64) (r + (64 - a)) (choice k)
     unfolding outcome
@@ -148,7 +154,8 @@ module _ {p : Page} where
       record {
         is =
             λ at h. read-within 3 {k = λ n. k (record { place = at; number = n; first = firstToken (p .rec) at })}
-            (λ n. x (record { place = at; number = n; first = firstToken (p .rec) at })) at h (formAt (p .rec) DecOne at) (form-fits (p .rec) at DecOne);
+            (λ n. x (record { place = at; number = n; first = firstToken (p .rec) at })) at h (formFits (p .rec) (length (p .tokens .starts)) DecOne at)
+            (λ n e. form-fits (p .rec) at DecOne n (fits-parts (p .rec) (length (p .tokens .starts)) DecOne at n e .0));
       }
 
   module _ {a r : ℕ} {w : Layout} (x : Paid p a r w) where
@@ -183,7 +190,7 @@ module _ {p : Page} where
     whens-some none = eased (omega arith) (omega arith) skips
 
   module _ {a r b s : ℕ} (k : Option ℕ → Layout) (x : (n : ℕ) → Paid p a r (k (some n))) (y : Paid p b s (k none)) where
-    optional-within : (at : ℕ) → at ≤ end p → (o : Option ℕ) → tokenAt (p .rec) at ≡ o → (c : Bool) → absentAt (p .rec) at ≡ c
+    optional-within : (at : ℕ) → at ≤ end p → (o : Option ℕ) → tokenFits (p .rec) (length (p .tokens .starts)) at ≡ o → (c : Bool) → absentAt (p .rec) at ≡ c
         → Within p at (end p) at (max (a - 96) (b - 32)) (min (r + (96 - a)) (s + (32 - b)))
         (elim o as (λ o. Outcome) [
           | some n ↦ outcome p (k (some n)) (at + 3)
@@ -193,7 +200,7 @@ module _ {p : Page} where
     optional-within at h (some n) e c f =
         weaker p at at (end p) at (a - 96) (r + (96 - a)) (max (a - 96) (b - 32)) (min (r + (96 - a)) (s + (32 - b))) (outcome p (k (some n)) (at + 3))
         (omega arith) (omega arith) (omega arith)
-        (earned p (at + 3) at (end p) at 3 a r (outcome p (k (some n)) (at + 3)) (omega arith) (x n .is (at + 3) (token-fits (p .rec) at n e)))
+        (earned p (at + 3) at (end p) at 3 a r (outcome p (k (some n)) (at + 3)) (omega arith) (x n .is (at + 3) (token-whole (p .rec) _ at n e)))
     optional-within at h none e true f =
         weaker p at at (end p) at (b - 32) (s + (32 - b)) (max (a - 96) (b - 32)) (min (r + (96 - a)) (s + (32 - b))) (outcome p (k none) (at + 1))
         (omega arith) (omega arith) (omega arith)
@@ -202,7 +209,7 @@ module _ {p : Page} where
 
     pub optionals : Paid p (max (a - 96) (b - 32)) (min (r + (96 - a)) (s + (32 - b))) (optional k)
     unfolding outcome
-    optionals = record { is = λ at h. optional-within at h (tokenAt (p .rec) at) refl (absentAt (p .rec) at) refl }
+    optionals = record { is = λ at h. optional-within at h (tokenFits (p .rec) (length (p .tokens .starts)) at) refl (absentAt (p .rec) at) refl }
 
   -- ---- questions
   module _ {a r b s : ℕ} (k : Bool → Layout) (x : Paid p a r (k true)) (y : Paid p b s (k false)) where

@@ -42,7 +42,7 @@ unfolding Tokens.textOf Tokens.isToken Tokens.endTokens Tokens.withToken Tokens.
 runTokens = tt
 
 unfoldable pub runCheck : Unit {0}
-unfolding Check.andThen Check.items Check.operandFits Check.orAbsent Check.fields Check.formFits Check.formCheck Check.treeCheck Check.fieldEnd
+unfolding Check.andThen Check.items Check.operandFits Check.tokenFits Check.orAbsent Check.fields Check.formFits Check.formCheck Check.treeCheck Check.fieldEnd
 runCheck = tt
 
 unfoldable pub runReading : Unit {0}

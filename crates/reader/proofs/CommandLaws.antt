@@ -7,7 +7,7 @@ use mathlib.Core.Option.{Option, none, some}
 use native.Mathlib.Omega.{arith}
 use lib.ListN.{length, getD, List·getD-eq-default}
 use lib.Dec.{leb, ltb, eqb}
-use borrow.Author.Tests.{le-leb, lt-leb, leb-true, leb-false, ltb-true, lt-ltb, le-ltb, eq-eqb, ne-eqb, eqb-false}
+use borrow.Author.Tests.{le-leb, lt-leb, leb-true, leb-false, ltb-true, lt-ltb, le-ltb, eq-eqb, ne-eqb, eqb-true, eqb-false}
 use Rattle.text.proofs.Laws.{never}
 use Rattle.reader.specs.declared.commands.Family.{Family}
 use Rattle.reader.specs.declared.commands.Family.the-variants as Code
@@ -173,11 +173,51 @@ module _ (rec : List ℕ) (at : ℕ) where
         leb-true (at + formWidth family) (length rec)
         (and-left (leb (at + formWidth family) (length rec)) (leb (firstForm family) (getD rec at 0)) (and-left _ (ltb (getD rec at 0) (firstForm family + length (forms family))) (form-tests .0)))
 
+    pub form-first : firstForm family ≤ getD rec at 0
+    form-first = leb-true _ _ (and-right (leb (at + formWidth family) (length rec)) _ (and-left _ (ltb (getD rec at 0) (firstForm family + length (forms family))) (form-tests .0)))
+
     pub form-number : n < length (forms family)
     form-number =
-        let lo : firstForm family ≤ getD rec at 0 = leb-true _ _ (and-right (leb (at + formWidth family) (length rec)) _ (and-left _ (ltb (getD rec at 0) (firstForm family + length (forms family))) (form-tests .0))) in
+        let lo : firstForm family ≤ getD rec at 0 = form-first in
         let hi : getD rec at 0 < firstForm family + length (forms family) = ltb-true _ _ (and-right (leb (at + formWidth family) (length rec) && leb (firstForm family) (getD rec at 0)) _ (form-tests .0)) in
         omega (arith, form-tests .1)
+
+-- Where another command stands, nothing is absent.
+module _ (rec : List ℕ) (at : ℕ) where
+  pub command-byte : (tag width : ℕ) → command rec tag width at ≡ true → getD rec at 0 ≡ tag
+  unfolding command
+  command-byte tag width e = eqb-true _ _ (and-right (leb (at + width) (length rec)) _ e)
+
+  pub not-absent : 1 ≤ getD rec at 0 → absentAt rec at ≡ false
+  unfolding absentAt command
+  not-absent h = and-second (leb (at + 1) (length rec)) _ (ne-eqb (getD rec at 0) 0 (λ z. omega (arith, z)))
+
+  command-there : (tag width : ℕ) → 1 ≤ tag → command rec tag width at ≡ true → absentAt rec at ≡ false
+  command-there tag width h e = let b = command-byte tag width e in not-absent (omega (arith, b))
+
+  pub token-there : (k : ℕ) → tokenAt rec at ≡ some k → absentAt rec at ≡ false
+  unfolding tokenAt
+  token-there k e = command-there 1 3 (omega arith) (some-true (command rec 1 3 at) (u16 rec (at + 1)) k e .0)
+
+  pub group-there : groupAt rec at ≡ true → absentAt rec at ≡ false
+  unfolding groupAt
+  group-there e = command-there 3 1 (omega arith) e
+
+  pub choice-there : (k : ℕ) → choiceAt rec at ≡ some k → absentAt rec at ≡ false
+  unfolding choiceAt
+  choice-there k e = command-there 4 2 (omega arith) (some-true (command rec 4 2 at) (getD rec (at + 1) 0) k e .0)
+
+  first-form : (family : Fields.Family) → 1 ≤ firstForm family
+  unfolding firstForm
+  first-form Fields.DecOne = omega arith
+  first-form Fields.StrExp = omega arith
+  first-form Fields.SigExp = omega arith
+  first-form Fields.Exp = omega arith
+  first-form Fields.Pat = omega arith
+  first-form Fields.Ty = omega arith
+
+  pub form-there : (family : Fields.Family) (k : ℕ) → formAt rec family at ≡ some k → absentAt rec at ≡ false
+  form-there family k e = let f = first-form family in let b = form-first rec at family k e in not-absent (omega (arith, b, f))
 
 -- A form's command has a byte at least.
 pub form-wide : (family : Fields.Family) → 1 ≤ formWidth family

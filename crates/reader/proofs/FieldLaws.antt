@@ -1,6 +1,6 @@
 -- Laws of the check of fields: it never goes back, and how fields, items and a row of codes are passed.
 use Prim.Native.Nat.{ℕ, zero, suc, _+_, _-_, _*_, _/_, _%_, _^_, _≤_, _<_}
-use mathlib.Core.Path.{_≡_, refl, sym, _∙_, ap}
+use mathlib.Core.Path.{_≡_, refl, sym, _∙_, ap, subst}
 use mathlib.Core.List.{List, [], _∷_}
 use mathlib.Core.Logic.{⊎-elim}
 use types.Run.{OneOf}
@@ -16,7 +16,7 @@ use Rattle.text.proofs.Laws.{never}
 use Rattle.reader.specs.Fields as Fields
 use Rattle.reader.specs.Fields.{Family, Fields, _▸_, token, list, group, choice, form, forms, Dec}
 use Rattle.reader.specs.Commands.{absentAt, tokenAt, listAt, groupAt, choiceAt, formAt, formWidth}
-use Rattle.reader.specs.Check.{Checked, ok, malformed, tooDeep, andThen, items, operandFits, orAbsent, fields, formFits, formCheck, treeCheck}
+use Rattle.reader.specs.Check.{Checked, ok, malformed, tooDeep, andThen, items, operandFits, tokenFits, orAbsent, fields, formFits, formCheck, treeCheck}
 use Rattle.reader.proofs.CommandLaws.{some-true}
 use Rattle.reader.specs.Grammar.{groups, nodes, node, fieldOf, digits, fieldsOf}
 use Rattle.reader.specs.Tree.{checkedIn, opened, Opens, FieldsEnd, ItemsEnd, TreeEnd}
@@ -83,8 +83,7 @@ module _ (rec : List ℕ) (count : ℕ) where
       (λ m x. fields-grow inner g may f at m x) (fields-grow inner g may h) e
   fields-grow inner g may token at end e =
       or-grows may at end _
-      (λ x. let q = some-parts (tokenAt rec at) _ at end x in
-      let r = if-parts (ltb (q .0) count) (ok (at + 3)) at end (q .2) in
+      (λ x. let q = some-parts (tokenFits rec count at) _ at end x in
       let z : at + 3 ≡ end = cc in
       omega arith) e
   fields-grow inner g may (list f) at end e =
@@ -104,6 +103,18 @@ module _ (rec : List ℕ) (count : ℕ) where
       omega arith) e
   fields-grow inner g may (form family) at end e = or-grows may at end _ (λ x. g family at end x) e
 
+  -- A token that fits: its command, and its number below the count.
+  pub token-parts : (at k : ℕ) → tokenFits rec count at ≡ some k → (tokenAt rec at ≡ some k) × (ltb k count ≡ true)
+  unfolding tokenFits
+  token-parts at k e = go (tokenAt rec at) e
+    where
+      go : (o : Option ℕ) → _≡_ {A = Option ℕ} (elim o [ none ↦ none | some n ↦ elim (ltb n count) [ true ↦ some n | false ↦ none ] ]) (some k)
+          → (o ≡ some k) × (ltb k count ≡ true)
+      go none e = never (cc)
+      go (some n) e =
+          let q = some-true (ltb n count) n k e in
+          (ap some (q .1), subst (λ (i : ℕ). ltb i count ≡ true) (q .1) (q .0))
+
   -- A form that fits, from its command and its operand.
   pub fits-parts : (family : Family) (at k : ℕ) → formFits rec count family at ≡ some k → (formAt rec family at ≡ some k) × (operandFits rec count family at ≡ true)
   unfolding formFits
@@ -113,6 +124,22 @@ module _ (rec : List ℕ) (count : ℕ) where
           → (o ≡ some k) × (operandFits rec count family at ≡ true)
       go none e = never (cc)
       go (some n) e = let p = some-true (operandFits rec count family at) n k e in (ap some (p .1), p .0)
+
+  pub fits-yes : (family : Family) (at : ℕ) → operandFits rec count family at ≡ true → formFits rec count family at ≡ formAt rec family at
+  unfolding formFits
+  fits-yes family at e = go (formAt rec family at)
+    where
+      go : (o : Option ℕ) → _≡_ {A = Option ℕ} (elim o [ none ↦ none | some n ↦ elim (operandFits rec count family at) [ true ↦ some n | false ↦ none ] ]) o
+      go none = refl
+      go (some n) = rw e refl
+
+  pub fits-no : (family : Family) (at : ℕ) → operandFits rec count family at ≡ false → formFits rec count family at ≡ none
+  unfolding formFits
+  fits-no family at e = go (formAt rec family at)
+    where
+      go : (o : Option ℕ) → _≡_ {A = Option ℕ} (elim o [ none ↦ none | some n ↦ elim (operandFits rec count family at) [ true ↦ some n | false ↦ none ] ]) none
+      go none = refl
+      go (some n) = rw e refl
 
   -- Where no form may stand, none passes.
   pub zero-never : {P : Type 0} (family : Family) (at end : ℕ) → formCheck rec count 0 family at ≡ ok end → P

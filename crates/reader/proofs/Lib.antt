@@ -7,3 +7,5 @@ pub mod ReadingLaws
 pub mod Local
 pub mod Suffix
 pub mod KindLaws
+pub mod Ends
+pub mod TableLaws

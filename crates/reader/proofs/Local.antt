@@ -13,9 +13,9 @@ use Rattle.text.proofs.Laws.{never}
 use Rattle.reader.specs.Fields as Fields
 use Rattle.reader.specs.Fields.{Family, DecOne, StrExp, SigExp, Exp, Pat, Ty, Fields, _▸_, token, list, group, choice, form, forms, firstForm}
 use Rattle.reader.specs.Commands.{u16, command, absentAt, tokenAt, listAt, groupAt, choiceAt, formAt, formWidth}
-use Rattle.reader.specs.Check.{Checked, ok, andThen, items, operandFits, orAbsent, fields, formFits, formCheck, fieldEnd}
+use Rattle.reader.specs.Check.{Checked, ok, andThen, items, operandFits, tokenFits, orAbsent, fields, formFits, formCheck, fieldEnd}
 use Rattle.reader.proofs.CommandLaws.{and-left, and-right, and-second, some-true, form-wide, token-fits, group-fits, choice-fits, form-fits}
-use Rattle.reader.proofs.FieldLaws.{then-parts, if-parts, some-parts, or-is, Grows, items-grow, fields-grow, fits-parts, zero-never, form-grows}
+use Rattle.reader.proofs.FieldLaws.{then-parts, if-parts, some-parts, or-is, Grows, items-grow, fields-grow, token-parts, fits-parts, zero-never, form-grows}
 
 and-both : (a b : Bool) → a ≡ true → b ≡ true → (a && b) ≡ true
 and-both true b e f = f
@@ -164,7 +164,7 @@ module _ (rec rec′ : List ℕ) (base base′ n : ℕ) (there : base′ + n ≤
     module _ (inner inner′ : Family → ℕ → Checked) (grows : (family : Family) → Grows (inner family))
         (ahead : (family : Family) (at end : ℕ) → inner family at ≡ ok end → Ahead at end) (local : (family : Family) → Local (inner family) (inner′ family)) where
       fields-local : (may : Bool) (f : Fields) → Local (λ next. fields rec count inner may f next) (λ next. fields rec′ count inner′ may f next)
-      unfolding fields
+      unfolding fields tokenFits
       fields-local may Fields.none at at′ end meets h e = let z : at ≡ end = cc in ap ok (omega arith)
       fields-local may (f ▸ g) at at′ end meets h e =
           then-local (λ next. fields rec count inner may g next) (λ next. fields rec′ count inner′ may g next)
@@ -172,12 +172,12 @@ module _ (rec rec′ : List ℕ) (base base′ n : ℕ) (there : base′ + n ≤
           (λ m x. fields-grow rec count inner grows may f at m x) (λ m i x. fields-local may f at at′ m meets i x) e
       fields-local may token at at′ end meets h e =
           or-local at at′ end meets h _ _
-          (λ x. let q = some-parts (tokenAt rec at) _ at end x in
-          let r = if-parts (ltb (q .0) count) (ok (at + 3)) at end (q .2) in
+          (λ x. let q = some-parts (tokenFits rec count at) _ at end x in
+          let r = token-parts rec count at (q .0) (q .1) in
           let z : at + 3 ≡ end = cc in
-          let l : at + 3 ≤ length rec = token-fits rec at (q .0) (q .1) in
+          let l : at + 3 ≤ length rec = token-fits rec at (q .0) (r .0) in
           let w : at′ + 3 ≡ at′ + (end - at) = omega arith in
-          (omega arith, rw (token-same at at′ (q .0) meets (omega arith) (q .1), r .0) (ap ok w)))
+          (omega arith, rw (token-same at at′ (q .0) meets (omega arith) (r .0), r .1, tokenFits) (ap ok w)))
           may (may && absentAt rec at) refl e
       fields-local may (list f) at at′ end meets h e =
           let k : ℕ → Checked = λ next. fields rec count inner false f next in

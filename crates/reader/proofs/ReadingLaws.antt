@@ -88,18 +88,18 @@ module _ (text rec kinds starts lens : List ℕ) where
           let f : firstWide 0 text ≡ none = sym s ∙ ap wideAt e in
           record { is = u .is ∙ text-ascii f ∙ short; counts = u .counts }
 
--- By cases: a refusal's number is not 0, and a sheet's tokens are those of its record.
+-- By cases: a refusal's number is not 0; a sheet's tokens are those of its record, and its tree passes the check.
 module _ (P : Read → Type 0) (text rec : List ℕ) (refuses : (number place : ℕ) → (number ≡ 0 → ⊥) → P (refused number place))
-    (reads : (ts : Tokens) (tree : ℕ) → tokens (length text) rec ≡ tiled ts tree → P (sheet ts tree)) where
-  tree-cases : (ts : Tokens) (tree : ℕ) → P (sheet ts tree) → (c : Check.Checked) → treeCheck rec (length (ts .kinds)) tree ≡ c → P (readTree rec ts tree)
+    (reads : (ts : Tokens) (tree end : ℕ) → tokens (length text) rec ≡ tiled ts tree → treeCheck rec (length (ts .kinds)) tree ≡ Check.ok end → P (sheet ts tree)) where
+  tree-cases : (ts : Tokens) (tree : ℕ) → tokens (length text) rec ≡ tiled ts tree → (c : Check.Checked) → treeCheck rec (length (ts .kinds)) tree ≡ c → P (readTree rec ts tree)
   unfolding readTree
-  tree-cases ts tree h (Check.ok end) e = rw (e, readTree) h
-  tree-cases ts tree h (Check.malformed place) e = rw (e, readTree) (refuses 3 place (λ z. omega (arith, z)))
-  tree-cases ts tree h (Check.tooDeep place) e = rw (e, readTree) (refuses 4 place (λ z. omega (arith, z)))
+  tree-cases ts tree t (Check.ok end) e = rw (e, readTree) (reads ts tree end t e)
+  tree-cases ts tree t (Check.malformed place) e = rw (e, readTree) (refuses 3 place (λ z. omega (arith, z)))
+  tree-cases ts tree t (Check.tooDeep place) e = rw (e, readTree) (refuses 4 place (λ z. omega (arith, z)))
 
   record-cases : (t : Tiling) → tokens (length text) rec ≡ t → P (readRecord rec (length text))
   unfolding readRecord
-  record-cases (tiled ts tree) e = rw (e, readRecord) (tree-cases ts tree (reads ts tree e) (treeCheck rec (length (ts .kinds)) tree) refl)
+  record-cases (tiled ts tree) e = rw (e, readRecord) (tree-cases ts tree e (treeCheck rec (length (ts .kinds)) tree) refl)
   record-cases (untiled place) e = rw (e, readRecord) (refuses 3 place (λ z. omega (arith, z)))
 
   text-cases : (o : Option ℕ) → firstWide 0 text ≡ o → P (readText text rec)

@@ -13,7 +13,7 @@ use borrow.Author.Tests.{le-leb, lt-leb, leb-true, leb-false}
 use Rattle.reader.specs.Fields as Fields
 use Rattle.reader.specs.Fields.{Family, DecOne, StrExp, SigExp, Exp, Pat, Ty, Fields, _▸_, token, list, group, choice, form, forms, firstForm}
 use Rattle.reader.specs.Commands.{u16, command, absentAt, tokenAt, listAt, groupAt, choiceAt, formAt, formWidth}
-use Rattle.reader.specs.Check.{Checked, ok, malformed, tooDeep, andThen, items, operandFits, orAbsent, fields, formFits, formCheck, fieldEnd}
+use Rattle.reader.specs.Check.{Checked, ok, malformed, tooDeep, andThen, items, operandFits, tokenFits, orAbsent, fields, formFits, formCheck, fieldEnd}
 use Rattle.reader.proofs.CommandLaws.{form-wide}
 
 -- What a check says of a part of a record, told by places in the whole: the part starts at `base`.
@@ -84,6 +84,10 @@ module _ (rec : List ℕ) (count base : ℕ) where
   form-on family at =
       ap₂ (λ (whole : Bool) (byte : ℕ). someIf (whole && leb (firstForm family) byte && ltb byte (firstForm family + length (forms family))) (byte - firstForm family))
       (whole-on at (formWidth family) (form-wide family)) (byte-on at)
+
+  tokens-on : (at : ℕ) → tokenFits rec count (base + at) ≡ tokenFits part count at
+  unfolding tokenFits
+  tokens-on at = ap (λ (o : Option ℕ). elim o as (λ x. Option ℕ) [ none ↦ none | some k ↦ someIf (ltb k count) k ]) (token-on at)
 
   operand-on : (family : Family) (at : ℕ) → operandFits rec count family (base + at) ≡ operandFits part count family at
   unfolding operandFits
@@ -156,7 +160,7 @@ module _ (rec : List ℕ) (count base : ℕ) where
     fields-on may Fields.none at = passes at
     fields-on may (f ▸ g) at = then-on (here may g) (there may g) (fields-on may g) _ _ (fields-on may f at)
     fields-on may token at =
-        or-on may at _ _ (some-on _ at _ _ (token-on at) (λ k. if-on (ltb k count) _ _ refl (step-on ok ok passes at 3) (refuses at)))
+        or-on may at _ _ (some-on _ at _ _ (tokens-on at) (λ k. step-on ok ok passes at 3))
     fields-on may (list f) at =
         some-on _ at _ _ (list-on at)
         (λ n. step-on (items n (here false f)) (items n (there false f)) (items-on n (here false f) (there false f) (fields-on false f)) at 3)

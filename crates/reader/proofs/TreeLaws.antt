@@ -17,7 +17,7 @@ use Rattle.reader.specs.declared.tree.Opened.the-variants.{Token, Inside
 use Rattle.reader.specs.Fields as Fields
 use Rattle.reader.specs.Fields.{Fields, token, group, choice, form, forms}
 use Rattle.reader.specs.Commands.{u16, tokenAt, groupAt, choiceAt, formAt, formWidth, firstToken, noToken, familyOf, NumberAt, SignAt, FormAt}
-use Rattle.reader.specs.Check.{malformed, tooDeep, operandFits, orAbsent, fields, formFits, formCheck}
+use Rattle.reader.specs.Check.{malformed, tooDeep, operandFits, tokenFits, orAbsent, fields, formFits, formCheck}
 use Rattle.reader.specs.Grammar.{fieldsOf}
 use Rattle.reader.specs.Tree.{opened, Opens}
 use Rattle.reader.proofs.CommandLaws.{read-not, read-is, form-not, form-read, group-fits, choice-fits, form-fits, form-wide}
@@ -25,17 +25,17 @@ use Rattle.reader.proofs.CommandLaws.{read-not, read-is, form-not, form
 module _ {rec : List ℕ} {count left at : ℕ} {r : Number} where
   -- ---- a token
   pub token-none : NumberAt tokenAt rec at r → r ≡ Not → Opens rec count left token at Malformed
-  unfolding fields orAbsent opened
-  token-none s e = record { is = rw (read-not s e, fields); on = tt }
+  unfolding fields orAbsent tokenFits opened
+  token-none s e = record { is = rw (read-not s e, fields, tokenFits); on = tt }
 
   module _ {k : ℕ} (s : NumberAt tokenAt rec at r) (e : r ≡ Is k) where
     pub token-opens : k < count → Opens rec count left token at (Token (at + 3))
-    unfolding fields orAbsent opened
-    token-opens h = record { is = rw (read-is s e, fields, lt-ltb k count h); on = tt }
+    unfolding fields orAbsent tokenFits opened
+    token-opens h = record { is = rw (read-is s e, fields, tokenFits, lt-ltb k count h); on = tt }
 
     pub token-past : count ≤ k → Opens rec count left token at Malformed
-    unfolding fields orAbsent opened
-    token-past h = record { is = rw (read-is s e, fields, le-ltb k count h); on = tt }
+    unfolding fields orAbsent tokenFits opened
+    token-past h = record { is = rw (read-is s e, fields, tokenFits, le-ltb k count h); on = tt }
 
 -- ---- a group, by the codes of its fields
 module _ {rec : List ℕ} {count left at : ℕ} {f : Fields} {b : Bool} (s : SignAt groupAt rec at b) where

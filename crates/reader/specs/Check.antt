@@ -40,6 +40,10 @@ module _ (rec : List ℕ) (count : ℕ) where
   operandFits Pat at = true
   operandFits Ty at = true
 
+  -- The command of a token fits: its number is below the count.
+  unfoldable pub tokenFits : ℕ → Option ℕ
+  tokenFits at = elim (tokenAt rec at) [ none ↦ none | some k ↦ elim (ltb k count) [ true ↦ some k | false ↦ none ] ]
+
   -- What may be absent where it may be absent, else the check of what is there.
   unfoldable pub orAbsent : Bool → ℕ → Checked → Checked
   orAbsent may at there = elim (may && absentAt rec at) [ true ↦ ok (at + 1) | false ↦ there ]
@@ -49,10 +53,7 @@ module _ (rec : List ℕ) (count : ℕ) where
     unfoldable pub fields : Bool → Fields → ℕ → Checked
     fields may Fields.none at = ok at
     fields may (f ▸ g) at = andThen (fields may f at) (λ next. fields may g next)
-    fields may token at =
-        orAbsent may at
-        (elim (tokenAt rec at)
-        [ none ↦ malformed at | some k ↦ elim (ltb k count) [ true ↦ ok (at + 3) | false ↦ malformed at ] ])
+    fields may token at = orAbsent may at (elim (tokenFits at) [ none ↦ malformed at | some k ↦ ok (at + 3) ])
     fields may (list f) at =
         elim (listAt rec at) [ none ↦ malformed at | some n ↦ items n (λ next. fields false f next) (at + 3) ]
     fields may (group f) at =
@@ -78,12 +79,16 @@ module _ (rec : List ℕ) (count : ℕ) where
         | some n ↦ fields (λ f next. formCheck depth f next) true (getD (forms family) n Fields.none) (at + formWidth family)
       ]
 
+  -- The end of a field, where at most this many more forms may stand inside one another.
+  abbrev pub endWithin : ℕ → Fields → ℕ → Checked
+  endWithin left f at = fields (formCheck left) true f at
+
   -- The list `root.decs()`, then nothing: the place of bytes left over is that of the first.
   unfoldable pub treeCheck : ℕ → Checked
   treeCheck at =
-      andThen (fields (formCheck maxForms) true (list Dec) at)
+      andThen (endWithin maxForms (list Dec) at)
       (λ end. elim (eqb end (length rec)) [ true ↦ ok end | false ↦ malformed end ])
 
   -- The end of a field, read by itself: what it says depends on the field's own bytes and the count alone.
   unfoldable pub fieldEnd : Fields → ℕ → Checked
-  fieldEnd f at = fields (formCheck maxForms) true f at
+  fieldEnd f at = endWithin maxForms f at

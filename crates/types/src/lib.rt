@@ -274,7 +274,7 @@ fn tuple_ty(
     let at = st.at;
     let count = starts.len();
     let r0 = get_ty(text, rec, starts, lens, out, st, cfg);
-    let r1 = onwards(rec, count, at, r0);
+    let r1 = onwards(rec, count, cfg.left as usize, at, r0);
     let Answer::Done(s1) = r1 else {
         return r1;
     };

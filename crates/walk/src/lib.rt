@@ -10,6 +10,7 @@ use layout::fields::Gone;
 use layout::fields::Read;
 use layout::fields::absent;
 use layout::fields::choice;
+use layout::fields::declared;
 use layout::fields::form;
 use layout::fields::group;
 use layout::fields::list;
@@ -62,7 +63,6 @@ use leaves::with_type;
 use patterns::get_pat;
 use reader::commands::Declaration;
 use reader::commands::Family;
-use reader::commands::declaration_at;
 use types::get_ty;
 use types::ty_annotation;
 ghost use mathlib.Core.Path.{_≡_};
@@ -509,7 +509,7 @@ fn fx(
     requires { ⌜ cfg .depth + 2 * cfg .left + 2 ≤ 1000 ⌝ }
     ensures { λ r. ⌜ Does (page (now (text .entry)) (now (rec .entry)) (now (kinds .entry)) (now (starts .entry)) (now (lens .entry))) cfg InfixExp (runOf st (now (out .entry)) (now (left .entry))) r (now (out .exit)) (now (left .exit)) ⌝ }
 {
-    let Read::Is(k, s1) = token_no(rec, st) else {
+    let Read::Is(k, s1) = token_no(rec, starts.len(), st) else {
         return stop(st);
     };
     let r2 = exp(text, rec, kinds, starts, lens, out, left, s1, cfg);
@@ -1110,7 +1110,7 @@ fn one(
         number: k,
         first: first,
         next: next,
-    } = declaration_at(rec, at)
+    } = declared(rec, starts.len(), at)
     else {
         return stop(st);
     };

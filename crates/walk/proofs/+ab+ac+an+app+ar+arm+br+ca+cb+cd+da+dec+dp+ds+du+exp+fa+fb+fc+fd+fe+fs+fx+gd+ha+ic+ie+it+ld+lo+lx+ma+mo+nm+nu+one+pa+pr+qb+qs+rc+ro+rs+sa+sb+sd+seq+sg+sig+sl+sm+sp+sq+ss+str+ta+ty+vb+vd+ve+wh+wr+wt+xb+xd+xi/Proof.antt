@@ -229,6 +229,7 @@ use Rattle.walk.proofs.+ab+ac+an+app+ar+arm+br+ca+cb+cd+da+dec+dp+ds+du
 use Rattle.layout.proofs.Cfg.indented.Reads as indented-reads
 use Rattle.layout.proofs.fields.absent.Reads as absent-reads
 use Rattle.layout.proofs.fields.choice.Reads as choice-reads
+use Rattle.layout.proofs.fields.declared.Reads as declared-reads
 use Rattle.layout.proofs.fields.form.Reads as form-reads
 use Rattle.layout.proofs.fields.group.Reads as group-reads
 use Rattle.layout.proofs.fields.list.Reads as list-reads
@@ -273,7 +274,6 @@ use Rattle.leaves.proofs.sharing_tails.Reads as sharing-tails-reads
 use Rattle.leaves.proofs.ty_dec.Reads as ty-dec-reads
 use Rattle.leaves.proofs.with_type.Reads as with-type-reads
 use Rattle.patterns.proofs.get_pat.Reads as get-pat-reads
-use Rattle.reader.proofs.commands.declaration_at.Reads as declaration-at-reads
 use Rattle.types.proofs.get_ty.Reads as get-ty-reads
 use Rattle.types.proofs.ty_annotation.Reads as ty-annotation-reads
 use Rattle.walk.proofs.last_semi.Reads as last-semi-reads
@@ -15983,8 +15983,8 @@ nu-returns-21 t c = record { is = beyond (DecOne.decs (walks (c .before .before 
 one-stop-requires : (t : ℕ) → one-lts.Need-stop-requires (
   stop-reads.Asked,
   stop-reads.Learnt,
-  declaration-at-reads.Asked,
-  declaration-at-reads.Learnt,
+  declared-reads.Asked,
+  declared-reads.Learnt,
   moved-reads.Asked,
   moved-reads.Learnt,
   comment-above-reads.Asked,
@@ -15998,8 +15998,8 @@ one-stop-requires t c κs = search needs
 one-returns : (t : ℕ) → one-lts.Need-returns (
   stop-reads.Asked,
   stop-reads.Learnt,
-  declaration-at-reads.Asked,
-  declaration-at-reads.Learnt,
+  declared-reads.Asked,
+  declared-reads.Learnt,
   moved-reads.Asked,
   moved-reads.Learnt,
   comment-above-reads.Asked,
@@ -16011,11 +16011,11 @@ unfolding DecOne.one-dec
 one-returns t c = record { is = dec-zero _ _ (c .before .if1 .taken) (c .stop .ensures) }
 
 -- src/lib.rt:1153:9
-one-declaration-at-requires : (t : ℕ) → one-lts.Need-declaration-at-requires (
+one-declared-requires : (t : ℕ) → one-lts.Need-declared-requires (
   stop-reads.Asked,
   stop-reads.Learnt,
-  declaration-at-reads.Asked,
-  declaration-at-reads.Learnt,
+  declared-reads.Asked,
+  declared-reads.Learnt,
   moved-reads.Asked,
   moved-reads.Learnt,
   comment-above-reads.Asked,
@@ -16023,14 +16023,14 @@ one-declaration-at-requires : (t : ℕ) → one-lts.Need-declaration-at-requires
   nu-below t,
   nu.Post,
 ) (one-at t) one.Post
-one-declaration-at-requires t c κs = search needs
+one-declared-requires t c κs = search needs
 
 -- src/lib.rt:1150:17
 one-enum-known-k : (t : ℕ) → one-lts.Need-enum-known-k (
   stop-reads.Asked,
   stop-reads.Learnt,
-  declaration-at-reads.Asked,
-  declaration-at-reads.Learnt,
+  declared-reads.Asked,
+  declared-reads.Learnt,
   moved-reads.Asked,
   moved-reads.Learnt,
   comment-above-reads.Asked,
@@ -16044,8 +16044,8 @@ one-enum-known-k t c = search needs
 one-enum-told : (t : ℕ) → one-lts.Need-enum-told (
   stop-reads.Asked,
   stop-reads.Learnt,
-  declaration-at-reads.Asked,
-  declaration-at-reads.Learnt,
+  declared-reads.Asked,
+  declared-reads.Learnt,
   moved-reads.Asked,
   moved-reads.Learnt,
   comment-above-reads.Asked,
@@ -16059,8 +16059,8 @@ one-enum-told t c = search needs
 one-stop-requires-2 : (t : ℕ) → one-lts.Need-stop-requires-2 (
   stop-reads.Asked,
   stop-reads.Learnt,
-  declaration-at-reads.Asked,
-  declaration-at-reads.Learnt,
+  declared-reads.Asked,
+  declared-reads.Learnt,
   moved-reads.Asked,
   moved-reads.Learnt,
   comment-above-reads.Asked,
@@ -16074,8 +16074,8 @@ one-stop-requires-2 t c κs = search needs
 one-returns-2 : (t : ℕ) → one-lts.Need-returns-2 (
   stop-reads.Asked,
   stop-reads.Learnt,
-  declaration-at-reads.Asked,
-  declaration-at-reads.Learnt,
+  declared-reads.Asked,
+  declared-reads.Learnt,
   moved-reads.Asked,
   moved-reads.Learnt,
   comment-above-reads.Asked,
@@ -16084,14 +16084,14 @@ one-returns-2 : (t : ℕ) → one-lts.Need-returns-2 (
   nu.Post,
 ) (one-at t) one.Post
 unfolding DecOne.one-dec
-one-returns-2 t c = record { is = dec-form _ _ (c .before .before .before .before .if1 .left) (declaration-not (c .stop2 .ensures) (c .before .before .before .declaration-at .ensures) (c .before .enum-told .given .1)) }
+one-returns-2 t c = record { is = dec-form _ _ (c .before .before .before .before .if1 .left) (declaration-not (c .stop2 .ensures) (c .before .before .before .declared .ensures) (c .before .enum-told .given .1)) }
 
 -- src/lib.rt:1157:9
 one-moved-requires : (t : ℕ) → one-lts.Need-moved-requires (
   stop-reads.Asked,
   stop-reads.Learnt,
-  declaration-at-reads.Asked,
-  declaration-at-reads.Learnt,
+  declared-reads.Asked,
+  declared-reads.Learnt,
   moved-reads.Asked,
   moved-reads.Learnt,
   comment-above-reads.Asked,
@@ -16105,8 +16105,8 @@ one-moved-requires t c κs = search needs
 one-comment-above-requires : (t : ℕ) → one-lts.Need-comment-above-requires (
   stop-reads.Asked,
   stop-reads.Learnt,
-  declaration-at-reads.Asked,
-  declaration-at-reads.Learnt,
+  declared-reads.Asked,
+  declared-reads.Learnt,
   moved-reads.Asked,
   moved-reads.Learnt,
   comment-above-reads.Asked,
@@ -16117,11 +16117,11 @@ one-comment-above-requires : (t : ℕ) → one-lts.Need-comment-above-requires (
 one-comment-above-requires t c κs = search needs
 
 -- src/lib.rt:1163:15
-one-sub-t23 : (t : ℕ) → one-lts.Need-sub-t23 (
+one-sub-t24 : (t : ℕ) → one-lts.Need-sub-t24 (
   stop-reads.Asked,
   stop-reads.Learnt,
-  declaration-at-reads.Asked,
-  declaration-at-reads.Learnt,
+  declared-reads.Asked,
+  declared-reads.Learnt,
   moved-reads.Asked,
   moved-reads.Learnt,
   comment-above-reads.Asked,
@@ -16129,14 +16129,14 @@ one-sub-t23 : (t : ℕ) → one-lts.Need-sub-t23 (
   nu-below t,
   nu.Post,
 ) (one-at t) one.Post
-one-sub-t23 t c = search needs
+one-sub-t24 t c = search needs
 
 -- src/lib.rt:1165:5
 one-nu-requires : (t : ℕ) → one-lts.Need-nu-requires (
   stop-reads.Asked,
   stop-reads.Learnt,
-  declaration-at-reads.Asked,
-  declaration-at-reads.Learnt,
+  declared-reads.Asked,
+  declared-reads.Learnt,
   moved-reads.Asked,
   moved-reads.Learnt,
   comment-above-reads.Asked,
@@ -16150,8 +16150,8 @@ one-nu-requires t c κs = omega (arith, c .before .before .before .before .befor
 one-same-length : (t : ℕ) → one-lts.Need-same-length (
   stop-reads.Asked,
   stop-reads.Learnt,
-  declaration-at-reads.Asked,
-  declaration-at-reads.Learnt,
+  declared-reads.Asked,
+  declared-reads.Learnt,
   moved-reads.Asked,
   moved-reads.Learnt,
   comment-above-reads.Asked,
@@ -16165,8 +16165,8 @@ one-same-length t c = c .before .before .nu .kept .1 .1 .1 .1 .1 .0 ∙ c .befor
 one-returns-3 : (t : ℕ) → one-lts.Need-returns-3 (
   stop-reads.Asked,
   stop-reads.Learnt,
-  declaration-at-reads.Asked,
-  declaration-at-reads.Learnt,
+  declared-reads.Asked,
+  declared-reads.Learnt,
   moved-reads.Asked,
   moved-reads.Learnt,
   comment-above-reads.Asked,
@@ -16175,7 +16175,7 @@ one-returns-3 : (t : ℕ) → one-lts.Need-returns-3 (
   nu.Post,
 ) (one-at t) one.Post
 unfolding DecOne.one-dec
-one-returns-3 t c = record { is = dec-form _ _ (c .before .before .before .before .before .before .before .before .before .before .before .before .before .before .before .if1 .left) (by-same (declaration-is (c .before .before .before .before .before .before .before .before .before .before .before .before .before .before .declaration-at .ensures) (c .before .before .before .before .before .before .before .before .before .before .before .before .k .given .1) (c .before .before .before .before .before .before .before .before .before .before .moved .ensures)) (then-done (c .before .before .before .before .before .before .before .comment-above .ensures _) refl (c .before .before .nu .ensures .is))) }
+one-returns-3 t c = record { is = dec-form _ _ (c .before .before .before .before .before .before .before .before .before .before .before .before .before .before .before .if1 .left) (by-same (declaration-is (c .before .before .before .before .before .before .before .before .before .before .before .before .before .before .declared .ensures) (c .before .before .before .before .before .before .before .before .before .before .before .before .k .given .1) (c .before .before .before .before .before .before .before .before .before .before .moved .ensures)) (then-done (c .before .before .before .before .before .before .before .comment-above .ensures _) refl (c .before .before .nu .ensures .is))) }
 
 -- src/lib.rt:208:9
 pa-word-requires : (t : ℕ) → pa-lts.Need-word-requires (
@@ -24709,8 +24709,8 @@ pub +ab+ac+an+app+ar+arm+br+ca+cb+cd+da+dec+dp+ds+du+exp+fa+fb+fc+fd+fe+fs+fx+gd
     (λ t. one-lts.spec (
       stop-reads.Asked,
       stop-reads.Learnt,
-      declaration-at-reads.Asked,
-      declaration-at-reads.Learnt,
+      declared-reads.Asked,
+      declared-reads.Learnt,
       moved-reads.Asked,
       moved-reads.Learnt,
       comment-above-reads.Asked,
@@ -24722,14 +24722,14 @@ pub +ab+ac+an+app+ar+arm+br+ca+cb+cd+da+dec+dp+ds+du+exp+fa+fb+fc+fd+fe+fs+fx+gd
     one.Post
     (one-stop-requires t)
     (one-returns t)
-    (one-declaration-at-requires t)
+    (one-declared-requires t)
     (one-enum-known-k t)
     (one-enum-told t)
     (one-stop-requires-2 t)
     (one-returns-2 t)
     (one-moved-requires t)
     (one-comment-above-requires t)
-    (one-sub-t23 t)
+    (one-sub-t24 t)
     (one-nu-requires t)
     (one-same-length t)
     (one-returns-3 t))

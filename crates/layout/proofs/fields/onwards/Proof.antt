@@ -6,7 +6,7 @@ use Rattle.layout.proofs.fields.onwards.Reads as reads
 use Rattle.layout.proofs.fields.onwards.Lts as lts
 use Rattle.layout.proofs.fields.moved.Reads as moved-reads
 use Rattle.reader.proofs.commands.form_at.Reads as form-at-reads
-use Rattle.reader.proofs.tree.ty_end.Reads as ty-end-reads
+use Rattle.reader.proofs.tree.ty_end_within.Reads as ty-end-within-reads
 
 -- src/fields.rt:134:25
 enum-known-r : tie.Need-enum-known-r
@@ -39,8 +39,8 @@ returns-2 c =
     onwards-none (f .before .before .r .given .1) (f .form-at .ensures) (c .enum-told2 .given .1)
 
 -- src/fields.rt:140:9
-ty-end-requires : tie.Need-ty-end-requires
-ty-end-requires c κs = search needs
+ty-end-within-requires : tie.Need-ty-end-within-requires
+ty-end-within-requires c κs = search needs
 
 -- src/fields.rt:142:21
 enum-known-end : tie.Need-enum-known-end
@@ -63,21 +63,21 @@ returns-3 : tie.Need-returns-3
 returns-3 c =
     let t = c .before .before .before .before in
     let f = t .before .before .before .before in
-    onwards-ok (f .before .before .r .given .1) (f .form-at .ensures) (t .before .before .-k .given .1) (t .ty-end .ensures) (c .before .before .end .given .1) (c .moved .ensures)
+    onwards-ok (f .before .before .r .given .1) (f .form-at .ensures) (t .before .before .-k .given .1) (t .ty-end-within .ensures) (c .before .before .end .given .1) (c .moved .ensures)
 
 -- src/fields.rt:131:1
 returns-4 : tie.Need-returns-4
 returns-4 c =
     let t = c .before .before .before in
     let f = t .before .before .before .before in
-    onwards-malformed (f .before .before .r .given .1) (f .form-at .ensures) (t .before .before .-k .given .1) (t .ty-end .ensures) (c .before .end2 .given .1)
+    onwards-malformed (f .before .before .r .given .1) (f .form-at .ensures) (t .before .before .-k .given .1) (t .ty-end-within .ensures) (c .before .end2 .given .1)
 
 -- src/fields.rt:131:1
 returns-5 : tie.Need-returns-5
 returns-5 c =
     let t = c .before .before .before in
     let f = t .before .before .before .before in
-    onwards-deep (f .before .before .r .given .1) (f .form-at .ensures) (t .before .before .-k .given .1) (t .ty-end .ensures) (c .before .end3 .given .1)
+    onwards-deep (f .before .before .r .given .1) (f .form-at .ensures) (t .before .before .-k .given .1) (t .ty-end-within .ensures) (c .before .end3 .given .1)
 
 pub onwards-spec : {M : Type 1} → statement M
 onwards-spec =
@@ -90,7 +90,7 @@ onwards-spec =
     enum-known--k
     enum-told-2
     returns-2
-    ty-end-requires
+    ty-end-within-requires
     enum-known-end
     moved-requires
     enum-known-end-2

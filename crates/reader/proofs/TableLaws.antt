@@ -1,4 +1,4 @@
--- The tables of a sheet's tokens have equally many entries. Assumes nothing.
+-- The tables of a sheet's tokens have equally many entries.
 use Prim.Native.Nat.{ℕ, zero, suc, _+_, _≤_}
 use mathlib.Core.Path.{_≡_, refl, ap, subst}
 use mathlib.Core.Bool.{Bool, true, false}
@@ -6,12 +6,12 @@ use mathlib.Core.List.{List}
 use native.Mathlib.Omega.{arith}
 use lib.ListN.{length, getD, take, length-take}
 use lib.Dec.{eqb}
 use Rattle.reader.specs.Commands.{u16}
 use Rattle.reader.specs.Tokens.{Tokens, Tiling, tiled, untiled, isToken, endTokens, withToken, tokensFrom, tokens, tokensIn, maxTokens}
 use Rattle.reader.specs.Reading.{Read, refused, sheet, read}
 use Rattle.reader.proofs.ReadingLaws.{read-cases}
 
-abbrev Even : Tokens → Type 0
+abbrev pub Even : Tokens → Type 0
 Even ts = (length (ts .starts) ≡ length (ts .kinds)) × (length (ts .lengths) ≡ length (ts .kinds))
 
 abbrev EvenTiling : Tiling → Type 0
@@ -49,8 +49,11 @@ module _ (size : ℕ) (rec : List ℕ) where
   unfolding tokens
   tokens-even = from-even maxTokens 0 0
 
+pub tiled-even : (size : ℕ) (rec : List ℕ) (ts : Tokens) (tree : ℕ) → tokens size rec ≡ tiled ts tree → Even ts
+tiled-even size rec ts tree e = let even : EvenTiling (tiled ts tree) = subst EvenTiling e (tokens-even size rec) in even
+
 read-even : (text rec : List ℕ) → EvenRead (read text rec)
-read-even text rec = read-cases EvenRead text rec (λ number place ne. tt) (λ ts tree e. subst EvenTiling e (tokens-even (length text) rec))
+read-even text rec = read-cases EvenRead text rec (λ number place ne. tt) (λ ts tree end e c. tiled-even (length text) rec ts tree e)
 
 -- As many first entries as the kinds have, the other tables have too.
 pub tables-within : (text rec kinds starts lens : List ℕ) {count tree : ℕ} → read text rec ≡ sheet (tokensIn count kinds starts lens) tree → length (take count kinds) ≡ count
