@@ -1,19 +1,24 @@
 #!/usr/bin/env python3
-"""credits.py [--check]: writes what the arms of the walk pay, from the layouts in crates/layout/specs.
+"""credits.py [--check]: writes the theorems about each arm of the walk, from the layouts in crates/layout/specs.
 
 A theorem of crates/measures/proofs says for each arm that the bytes it reads pay for what it writes. Its term follows
 the layout: each kind of layout has a law, and the terms of its parts stand where the law takes them. This tool reads
-the layouts and crates/measures/credits.json, and writes
-  Rows.antt         what each arm of the six families pays;
-  TypesFollow.antt  that each arm of types stays within its fields.
+the layouts and the credits.json of each crate that has one, and writes
+  measures/proofs/Rows.antt         what each arm of the six families pays;
+  measures/proofs/TypesFollow.antt  that each arm of types stays within its fields;
+  agreement/proofs/Rows.antt        that each arm of the six families keeps step with the check of its fields.
 A definition with a law is cited; any other is unfolded in place, and named under `unfolding`. One that calls itself,
-or goes by cases of what is not known, is not regular: its law is written by hand, in Irregular.antt.
+or goes by cases of what is not known, is not regular: its law is written by hand, in Irregular.antt of measures and
+Helpers.antt of agreement.
 
-credits.json has an entry for each file that is written,
+A crate's credits.json has an entry for each file that is written,
   "laws": by the proof file that has them ("" for the theorem's own premises), from a layout over variables to a term,
-    in which {x} is the term of a part, {f k} that of f at k, and <c> a configuration as it stands;
-  "follows": whether one layout after another is by `before`, `behind` or `both`, as one of them reads no field or
-    both do; otherwise it is by `then`;
+    in which {x} is the term of a part, {f k} that of f at k, and <c> a configuration as it stands; or to two terms,
+    the second where the parts read no field;
+  "silent": the layouts that read no field where their parts read none. With it one layout after another is by `before`,
+    `behind` or `both`, as one of them reads no field or both do; without it, by `then`;
+  "chains": the layouts that read two fields in a row. Such a one before another is `regrouped`;
+  "arm", "pick": how an arm of a row stands, and the arm of a number in a row, where not by `arm refl` and `.at`;
   "unfolding": what each theorem unfolds beside layouts;
   "text": the file's lines, with `@f = row` for the theorem of a row of arms and `@uses` for the names that are needed.
 With --check nothing is written: the exit status says whether the files are what the layouts give, spaces aside.
@@ -26,8 +31,9 @@ import sys
 import textwrap
 
 SPECS = ["Helpers", "GetDec", "Ty", "Pat", "Exp", "SigExp", "StrExp", "DecOne"]
-ANSWERS = "crates/measures/credits.json"
-PROOFS = "crates/measures/proofs/"
+CRATES = ["measures", "agreement"]
+ANSWERS = "crates/%s/credits.json"
+PROOFS = "crates/%s/proofs/%s.antt"
 WIDTH = 150
 
 # How tightly the operators of the specs bind; the constructors that clauses go by.
@@ -39,7 +45,7 @@ TOKEN = re.compile(r'"(?:\\.|[^"\\])*"|\[\]|[()\[\]λ]|\.[\w-]+|[^\s()\[\]λ."]+
 # a "λ" with its names, an "elim" with its cases (a function for each behind the subject), or an operator.
 Node = collections.namedtuple("Node", "kind value parts")
 Definition = collections.namedtuple("Definition", "file opens clauses")
-# A term; whether it is a chain of `then`; whether its layout writes words alone.
+# A term; whether it is a chain of `then`, or reads two fields in a row; whether its layout reads no field.
 Term = collections.namedtuple("Term", "text chain silent")
 
 
@@ -196,8 +202,9 @@ class Terms:
     """Writes the terms of a file; `opened` has the definitions that they unfold."""
 
     def __init__(self, definitions, answers):
-        self.definitions, self.follows, self.opened, self.laws = definitions, answers["follows"], [], {}
-        self.always = answers["unfolding"]
+        self.definitions, self.silent, self.opened, self.laws = definitions, answers.get("silent"), [], {}
+        self.always, self.chains = answers["unfolding"], answers.get("chains", [])
+        self.arm, self.pick = answers.get("arm", "arm refl %s"), answers.get("pick", "(%(row)s) .at %(number)s")
         for left, right in (line for table in answers["laws"].values() for line in table.items()):
             head, parameters = parts_of(parse(left))
             self.laws.setdefault(head.value, []).append((parameters, right))
@@ -239,31 +246,39 @@ class Terms:
         head, arguments = parts_of(node)
         if head == name("getD") and arguments[2:] == (name("halt"),):
             row = " ▹ ".join([term for arm, term in self.row(arguments[0])] + ["no-more"])
-            return Term("(%s) .at %s" % (row, self.shown(arguments[1])), False, False)
+            return Term(self.pick % {"row": row, "number": self.shown(arguments[1])}, False, False)
         found = self.law(head.value, arguments)
         if found:
-            return Term(self.by_law(*found), False, head == name("word"))
+            text, silent = self.by_law(*found)
+            return Term(text, head.value in self.chains, silent and head.value in (self.silent or []))
         try:
             return self.term(self.unfolded(head.value, arguments))
         except Unknown as why:
             raise Unknown("%s: %s" % (head.value, why) if head.value in self.definitions else str(why)) from None
 
     def by_law(self, right, values):
-        """The right side of a law with the terms of the parts in their places."""
-        bound = dict((one, Node("var", one, ())) for names in re.findall(r"λ ([^.]*)\.", right) for one in names.split())
+        """The right side of a law with the terms of the parts in their places; whether these read no field."""
+        rights = [right] if isinstance(right, str) else right
+        bound = dict((one, Node("var", one, ())) for names in re.findall(r"λ ([^.]*)\.", rights[0]) for one in names.split())
+        silent = []
 
         def part(found):
             term = self.term(replace(parse(found.group(2)), dict(bound, **values)))
+            silent.append(term.silent)
             return found.group(1) + (term.text if found.group(1) else argument(term))
-        right = re.sub(r"<(\w+)>", lambda found: self.shown(values[found.group(1)]), right)
-        return re.sub(r"(\. |)\{([^}]*)\}", part, right)
+        texts = [re.sub(r"(\. |)\{([^}]*)\}", part, re.sub(r"<(\w+)>", lambda found: self.shown(values[found.group(1)]), one))
+                 for one in rights]
+        return texts[-1 if all(silent) else 0], all(silent)
 
     def joined(self, one, two):
         """One layout after another."""
-        if not self.follows:
+        if self.silent is None:
             return Term("%s then %s" % (argument(one) if one.chain else one.text, two.text), True, False)
         law = "before" if one.silent else "behind" if two.silent else "both"
-        return Term("%s %s %s" % (law, argument(one), argument(two)), False, one.silent and two.silent)
+        text = "%s %s %s" % (law, argument(one), argument(two))
+        if law == "both" and one.chain:
+            text = "regrouped (%s)" % text
+        return Term(text, law == "both" or one.chain or two.chain, one.silent and two.silent)
 
     def shown(self, node):
         """A configuration or a number as it stands."""
@@ -277,7 +292,8 @@ class Terms:
         """The arms of a list of layouts, each with its term."""
         arms = []
         while node.kind == "∷":
-            arms.append((parts_of(node.parts[0])[0].value, "arm refl " + argument(self.term(node.parts[0]))))
+            term = self.term(node.parts[0])
+            arms.append((parts_of(node.parts[0])[0].value, self.arm % (term.text if "(" in self.arm else argument(term))))
             node = node.parts[1]
         if node != name("[]"):
             raise Unknown("a row is a list written with ∷")
@@ -305,39 +321,44 @@ def theorem(terms, clause, row, indent):
     return [indent + "unfolding " + " ".join(terms.opened + terms.always), indent + clause + " =", *lines, indent + "    ▹ no-more"]
 
 
-def uses(definitions, laws, lines):
+def uses(crate, definitions, laws, lines):
     """The lines that bring in what a file names: definitions by their files, then laws."""
     words = set(re.findall(r"[^\s(){}]+", "\n".join(lines)))
     names = dict(("Rattle.layout.specs." + file, []) for file in SPECS)
     for one, definition in definitions.items():
         names["Rattle.layout.specs." + definition.file].append(one)
     for file, table in laws.items():
-        names["Rattle.measures.proofs." + file] = dict.fromkeys(right.split()[0] for right in table.values() if file)
+        names["Rattle.%s.proofs.%s" % (crate, file)] = dict.fromkeys(
+            right.split()[0] for rights in table.values() for right in ([rights] if isinstance(rights, str) else rights) if file)
     found = dict((library, [one for one in own if one in words]) for library, own in names.items())
     return ["use %s.{%s}" % (library, ", ".join(own)) for library, own in found.items() if own]
 
 
-def filled(definitions, answers):
+def filled(crate, definitions, answers):
     """The text of a file."""
     terms, lines = Terms(definitions, answers), []
     for line in answers["text"]:
         found = re.match(r"( *)@(.*) = (.*)$", line)
         lines += theorem(terms, found.group(2), found.group(3), found.group(1)) if found else [line]
     at = lines.index("@uses")
-    lines[at:at + 1] = uses(definitions, answers["laws"], lines[at + 1:])
+    lines[at:at + 1] = uses(crate, definitions, answers["laws"], lines[at + 1:])
     return "".join(line + "\n" for line in lines)
 
 
 def main():
-    if sys.argv[1:] not in ([], ["--check"]) or not os.path.exists(ANSWERS):
+    if sys.argv[1:] not in ([], ["--check"]) or not all(os.path.exists(ANSWERS % crate) for crate in CRATES):
         raise SystemExit("usage: tools/credits.py [--check], from the repository's root")
-    files = json.load(open(ANSWERS))
+    files = [(crate, file, answers) for crate in CRATES for file, answers in json.load(open(ANSWERS % crate)).items()]
+    crate = None
     try:
         definitions = read_definitions(dict((file, open("crates/layout/specs/%s.antt" % file).read()) for file in SPECS))
-        texts = dict((PROOFS + file + ".antt", filled(definitions, answers)) for file, answers in files.items())
+        texts = {}
+        for crate, file, answers in files:
+            texts[PROOFS % (crate, file)] = filled(crate, definitions, answers)
     except Unknown as why:
-        raise SystemExit("credits: %s.\nA layout that is not regular takes a law by hand, in %sIrregular.antt, and a line in %s "
-                         "that cites it." % (why, PROOFS, ANSWERS))
+        raise SystemExit("credits: %s%s.\nA layout that is not regular takes a law by hand, in Irregular.antt of measures and in "
+                         "Helpers.antt of agreement, and a line that cites it in the crate's credits.json."
+                         % (crate + ": " if crate else "", why))
     for path, text in texts.items():
         if not sys.argv[1:]:
             open(path, "w").write(text)

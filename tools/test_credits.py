@@ -14,16 +14,17 @@ TOOL = os.path.join(ROOT, "tools", "credits.py")
 sys.path.insert(0, os.path.dirname(TOOL))
 import credits  # noqa: E402
 
-FILES = json.loads(pathlib.Path(ROOT, credits.ANSWERS).read_text())
+FILES = dict(("%s/%s" % (crate, file), answers) for crate in credits.CRATES
+             for file, answers in json.loads(pathlib.Path(ROOT, credits.ANSWERS % crate).read_text()).items())
 
 
-def terms(specs, file="Rows"):
+def terms(specs, file="measures/Rows"):
     """The writer of a file's terms, over definitions given by their clauses."""
     heads = "".join("unfoldable pub %s : Layout\n" % one for one in dict.fromkeys(line.split()[0] for line in specs))
     return credits.Terms(credits.read_definitions({"Helpers": heads + "\n".join(specs)}), FILES[file])
 
 
-def term(layout, *specs, file="Rows"):
+def term(layout, *specs, file="measures/Rows"):
     return terms(specs, file).term(credits.parse(layout)).text
 
 
@@ -66,8 +67,29 @@ class Credits(unittest.TestCase):
         self.assertEqual(term('look isIfExp λ b. elim b [ true ↦ get-ty | false ↦ word " " ⨾ get-pat ]'), "looks _ (go .ty) (fixed refl then go .pat)")
 
     def test_fields_followed(self):
-        self.assertEqual(term('word "(" ⨾ get-ty ⨾ word ")"', file="TypesFollow"), "before (alone refl) (behind (ty _ d) (alone refl))")
-        self.assertEqual(term('dropped left get-ty ⨾ text', file="TypesFollow"), "both (drops (ty true)) (texts short)")
+        self.assertEqual(term('word "(" ⨾ get-ty ⨾ word ")"', file="measures/TypesFollow"), "before (alone refl) (behind (ty _ d) (alone refl))")
+        self.assertEqual(term('dropped left get-ty ⨾ text', file="measures/TypesFollow"), "both (drops (ty true)) (texts short)")
+
+    def test_fields_agreed(self):
+        self.assertEqual(term('word "(" ⨾ get-exp c ⨾ word ")"', file="agreement/Rows"), "before fixed (behind (go .exp c) fixed)")
+        self.assertEqual(term('get-pat ⨾ indented c indent ⨾ get-ty', file="agreement/Rows"),
+                         "both (go .pat) (before (indenteds c _ (at-depth (deeper c))) (go .ty))")
+        self.assertEqual(term('maybe (dropped left get-ty)', file="agreement/Rows"), "maybes refl (go .dropped-ty)")
+
+    def test_two_fields_before_a_third(self):
+        self.assertEqual(term('op-path ⨾ get-pat', file="agreement/Rows"), "regrouped (both op-paths (go .pat))")
+        self.assertEqual(term('(text ⨾ word " " ⨾ get-pat) ⨾ get-ty', file="agreement/Rows"),
+                         "regrouped (both (both texts (before fixed (go .pat))) (go .ty))")
+
+    def test_a_token_and_what_is_behind_it(self):
+        self.assertEqual(term('token write', file="agreement/Rows"), "tokens-last (λ k. writes)")
+        self.assertEqual(term('token λ k. get-exp c ⨾ write k', file="agreement/Rows"), "tokens (λ k. behind (go .exp c) writes)")
+        self.assertEqual(term('optional λ o. when-some o (word "op")', file="agreement/Rows"),
+                         "optionals-last _ (λ k. whens-some fixed _) (whens-some fixed _)")
+
+    def test_a_choice_of_fields(self):
+        self.assertEqual(term('choice inner', 'inner which = getD (text ∷ (word " " ⨾ get-ty) ∷ []) which halt', file="agreement/Rows"),
+                         "choices (λ which. pick which ((λ h. texts) ▹ (λ h. before fixed (go .ty)) ▹ no-more))")
 
     def test_a_name_without_definition(self):
         with self.assertRaisesRegex(credits.Unknown, "arm: row: 'frob' has no definition and no law"):
@@ -83,7 +105,7 @@ class Credits(unittest.TestCase):
 
     def with_arm(self, room, body):
         """A copy of what the tool reads, with one more arm of expressions; how the tool runs there."""
-        for folder in ("crates/layout/specs", "crates/measures"):
+        for folder in ("crates/layout/specs", "crates/measures", "crates/agreement"):
             shutil.copytree(os.path.join(ROOT, folder), os.path.join(room, folder))
         spec = pathlib.Path(room, "crates/layout/specs/Exp.antt")
         text = spec.read_text().replace("∷ FnExp c\n", "∷ FnExp c\n      ∷ BangExp c\n")
@@ -96,8 +118,9 @@ class Credits(unittest.TestCase):
             self.assertNotEqual(run("--check").returncode, 0)
             self.assertIn("run 'python3 tools/credits.py'", run("--check").stderr)
             self.assertEqual((run().returncode, run("--check").returncode), (0, 0))
-            rows = pathlib.Path(room, credits.PROOFS, "Rows.antt").read_text()
-            self.assertIn("▹ arm refl (fixed refl then go .exp c (omega arith))  -- BangExp\n        ▹ no-more", rows)
+            for crate, arm in ("measures", "arm refl (fixed refl then go .exp c (omega arith))"), ("agreement", "(λ h. before fixed (go .exp c))"):
+                rows = pathlib.Path(room, credits.PROOFS % (crate, "Rows")).read_text()
+                self.assertIn("▹ %s  -- BangExp\n        ▹ no-more" % arm, rows)
 
     def test_a_new_arm_that_is_not_regular(self):
         with tempfile.TemporaryDirectory() as room:

@@ -1,0 +1,93 @@
+-- The walk keeps step with the check in every form, by recursion on the forms left; and over the whole record.
+use native.Mathlib.Omega.{arith}
+use mathlib.Core.Path.{_≡_, refl, sym, ap, _∙_, subst}
+use mathlib.Core.List.{List}
+use mathlib.Core.Bool.{true}
+use mathlib.Core.Option.{some}
+use Prim.Native.Nat.{ℕ, zero, suc, _≤_}
+use lib.ListN.{length, getD}
+use lib.Dec.{eqb}
+use borrow.Author.Tests.{eq-eqb, eqb-true}
+use Rattle.reader.specs.Fields as Fields
+use Rattle.reader.specs.Fields.{DecOne, StrExp, SigExp, Exp, Pat, Ty, Dec, forms}
+use Rattle.reader.specs.Commands.{formAt, firstToken}
+use Rattle.reader.specs.Check.{Checked, ok, andThen, maxForms, operandFits, endWithin, treeCheck}
+use Rattle.reader.proofs.CommandLaws.{form-number}
+use Rattle.reader.proofs.FieldLaws.{then-parts, if-parts}
+use Rattle.layout.specs.Meaning.{Page, Event, Outcome, done, stopped}
+use Rattle.layout.specs.Helpers.{Cfg, Walkers}
+use Rattle.layout.specs.GetDec.{get-dec}
+use Rattle.layout.specs.DecOne.{one-dec}
+use Rattle.layout.specs.Walk.{walks, top, walk}
+use Rattle.agreement.specs.Agreement.{Agree, EndsAt}
+use Rattle.agreement.specs.Unbounded as Unbounded
+use Rattle.agreement.proofs.Layouts.{InStep, Agrees, count, before, pick, families, declarations, halted, drops}
+use Rattle.agreement.proofs.Helpers.{Walks, comments-above, get-decs}
+use Rattle.agreement.proofs.Rows.{ty-pairs, pat-pairs, exp-pairs, sig-pairs, str-pairs, dec-pairs}
+
+-- ---- the forms
+one-decs : {p : Page} {d : ℕ} → d ≤ 200 → {ws : Walkers} → Walks p d ws → (c : Cfg) (at n : ℕ) → formAt (p .rec) DecOne at ≡ some n
+    → Agrees p d true (getD (forms DecOne) n Fields.none) (one-dec ws c (record { place = at; number = n; first = firstToken (p .rec) at }))
+unfolding one-dec
+one-decs {p} low go c at n found =
+    before (comments-above c (firstToken (p .rec) at)) (pick n (dec-pairs low go n c at found) .agrees (form-number (p .rec) at DecOne n found))
+
+pub walks-agree : {p : Page} (n : ℕ) → n ≤ 200 → Walks p n (walks n)
+unfolding walks operandFits
+walks-agree zero h =
+    record {
+      ty = halted;
+      dropped-ty = drops h halted;
+      pat = halted;
+      exp = λ c. halted;
+      str-exp = λ c. halted;
+      sig-exp = λ c. halted;
+      dec-one = λ c. halted;
+    }
+walks-agree {p} (suc n) h =
+    let low : n ≤ 200 = omega arith in
+    let go = walks-agree {p = p} n low in
+    record {
+      ty = families Ty (λ at. refl) (λ k. pick k (ty-pairs low go k));
+      dropped-ty = drops h (families Ty (λ at. refl) (λ k. pick k (ty-pairs low go k)));
+      pat = families Pat (λ at. refl) (λ k. pick k (pat-pairs low go k));
+      exp = λ c. families Exp (λ at. refl) (λ k. pick k (exp-pairs low go k c));
+      str-exp = λ c. families StrExp (λ at. refl) (λ k. pick k (str-pairs low go k c));
+      sig-exp = λ c. families SigExp (λ at. refl) (λ k. pick k (sig-pairs low go k c));
+      dec-one = λ c. declarations (one-decs low go c);
+    }
+
+-- ---- the whole record
+module _ (p : Page) (tree : ℕ) where
+  abbrev list-end : ℕ → Checked
+  list-end at = endWithin (p .rec) (count p) maxForms (Fields.list Dec) at
+
+  decs-step : InStep p list-end (get-dec (walks maxForms) top)
+  decs-step = let x : Agrees p maxForms true (Fields.list Dec) (get-dec (walks maxForms) top) = get-decs (walks-agree maxForms (omega arith)) top in x .step
+
+  -- A record that passes: its list of declarations ends at the record's end.
+  list-ends : (end : ℕ) → treeCheck (p .rec) (count p) tree ≡ ok end → list-end tree ≡ ok (length (p .rec))
+  unfolding treeCheck
+  list-ends end e =
+      let q = then-parts (list-end tree) _ end e in
+      let r = if-parts (eqb (q .0) (length (p .rec))) (ok (q .0)) (q .0) end (q .2) in
+      q .1 ∙ ap ok (eqb-true _ _ (r .0))
+
+  pub walked-passes : (es : List Event) → walk p tree ≡ done (length (p .rec)) es → treeCheck (p .rec) (count p) tree ≡ ok (length (p .rec))
+  unfolding treeCheck andThen walk
+  walked-passes es e =
+      let c : list-end tree ≡ ok (length (p .rec)) = subst (λ (o : Outcome). Agree p (list-end tree) o) e (decs-step .agrees tree) in
+      let t = eq-eqb (length (p .rec)) (length (p .rec)) refl in
+      rw (c, treeCheck, andThen, t) refl
+
+  pub passes-walks : (end : ℕ) → treeCheck (p .rec) (count p) tree ≡ ok end → EndsAt p (length (p .rec)) (walk p tree)
+  unfolding walk
+  passes-walks end e = go (walk p tree) (decs-step .agrees tree)
+    where
+      go : (o : Outcome) → Agree p (list-end tree) o → EndsAt p (length (p .rec)) o
+      go (done next es) m = let c = list-ends end e in cc
+      go (stopped why es) m = m (length (p .rec)) (list-ends end e)
+
+  pub passes-free : (end : ℕ) → treeCheck (p .rec) (count p) tree ≡ ok end → Unbounded.walk p tree ≡ walk p tree
+  unfolding walk Unbounded.walk
+  passes-free end e = decs-step .free tree (length (p .rec)) (list-ends end e)

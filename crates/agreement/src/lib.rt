@@ -1,0 +1,1 @@
+// The walk and the record check agree on every record.
