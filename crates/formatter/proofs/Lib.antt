@@ -4,3 +4,4 @@ pub mod RunLaws
 pub mod JudgeLaws
 pub mod VerdictLaws
 pub mod Demands
+pub mod InStep

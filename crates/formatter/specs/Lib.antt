@@ -1,3 +1,4 @@
 pub mod Verdict
 pub mod Lookup
 pub mod Judging
+pub mod WalkFirst

@@ -21,6 +21,7 @@ use Rattle.layout.specs.Walk as Walk
 use Rattle.layout.specs.Events as Events
 use Rattle.formatter.specs.Verdict as Verdict
 use Rattle.formatter.specs.Lookup as Lookup
+use Rattle.formatter.specs.WalkFirst as WalkFirst
 use Rattle.doc_comment.specs.Doc as Doc
 use Rattle.doc_comment.specs.Lines as Lines
 use Rattle.program.specs.Program as Program
@@ -109,6 +110,10 @@ unfoldable pub runLookup : Unit {0}
 unfolding Lookup.ask Lookup.told Lookup.lookup Lookup.numberOf Lookup.placeOf Lookup.answerOf Lookup.keywordOf Lookup.lookedOf
 runLookup = tt
 
+unfoldable pub runWalkFirst : Unit {0}
+unfolding WalkFirst.byCheck WalkFirst.byWalk WalkFirst.recordFirst WalkFirst.textFirst WalkFirst.judgeWalkFirst
+runWalkFirst = tt
+
 unfoldable pub runDoc : Unit {0}
 unfolding Doc.withoutReturn Doc.linesFrom Doc.afterAsterisk Doc.withoutSpace Doc.starred Doc.joined Doc.closed Doc.opened Doc.docText Doc.put Doc.docOf Doc.docSaid Doc.docLookup Doc.docLooked
 runDoc = tt
@@ -122,5 +127,5 @@ unfolding Program.digits Program.decimal Program.line Program.printed Program.ta
 runProgram = tt
 
 unfoldable pub run : Unit {0}
-unfolding runBytes runFields runCommands runTokens runCheck runReading runSet runAbove runMeaning runHelpers runGetDec runTy runPat runExp runSigExp runStrExp runDecOne runWalk runEvents runVerdict runLookup runDoc runLines runProgram
+unfolding runBytes runFields runCommands runTokens runCheck runReading runSet runAbove runMeaning runHelpers runGetDec runTy runPat runExp runSigExp runStrExp runDecOne runWalk runEvents runVerdict runLookup runWalkFirst runDoc runLines runProgram
 run = tt
