@@ -8,7 +8,7 @@ import os
 import re
 
 OWN = {"State", "Words", "Grammar", "Tree", "Answers", "Wide", "Tables"}
-CRATES = ["text", "reader", "comments", "layout", "formatter", "doc_comment", "program"]
+CRATES = ["text", "reader", "comments", "layout", "agreement", "formatter", "doc_comment", "program"]
 
 
 def modules():

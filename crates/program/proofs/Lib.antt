@@ -2,3 +2,4 @@ pub mod Run
 pub mod Sheets
 pub mod PrintingLaws
 pub mod InputLaws
+pub mod Bounds

@@ -19,6 +19,7 @@ use Rattle.layout.specs.StrExp as StrExp
 use Rattle.layout.specs.DecOne as DecOne
 use Rattle.layout.specs.Walk as Walk
 use Rattle.layout.specs.Events as Events
+use Rattle.agreement.specs.Unbounded as Unbounded
 use Rattle.formatter.specs.Verdict as Verdict
 use Rattle.formatter.specs.Lookup as Lookup
 use Rattle.formatter.specs.WalkFirst as WalkFirst
@@ -102,6 +103,10 @@ unfoldable pub runEvents : Unit {0}
 unfolding Events.sumOf Events.formedDepth Events.deepest Events.indentDepth Events.units Events.lettersOf Events.trimmed Events.letters Events.spelt Events.formatted Events.writesComment Events.written Events.isLeft
 runEvents = tt
 
+unfoldable pub runUnbounded : Unit {0}
+unfolding Unbounded.onwards Unbounded.outcome Unbounded.walk
+runUnbounded = tt
+
 unfoldable pub runVerdict : Unit {0}
 unfolding Verdict.measuresOf Verdict.comments Verdict.walked Verdict.judge Verdict.check Verdict.put Verdict.format Verdict.get Verdict.numberOf Verdict.placeOf Verdict.givenMeasures Verdict.verdictOf
 runVerdict = tt
@@ -127,5 +132,5 @@ unfolding Program.digits Program.decimal Program.line Program.printed Program.ta
 runProgram = tt
 
 unfoldable pub run : Unit {0}
-unfolding runBytes runFields runCommands runTokens runCheck runReading runSet runAbove runMeaning runHelpers runGetDec runTy runPat runExp runSigExp runStrExp runDecOne runWalk runEvents runVerdict runLookup runWalkFirst runDoc runLines runProgram
+unfolding runBytes runFields runCommands runTokens runCheck runReading runSet runAbove runMeaning runHelpers runGetDec runTy runPat runExp runSigExp runStrExp runDecOne runWalk runEvents runUnbounded runVerdict runLookup runWalkFirst runDoc runLines runProgram
 run = tt

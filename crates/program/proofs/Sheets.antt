@@ -19,17 +19,17 @@ use Rattle.program.specs.Program.{program}
 use Rattle.program.proofs.Run.{run}
 
 -- The value of a hexadecimal digit: `0` to `9`, `A` to `F`.
-unfoldable digit : ℕ → ℕ
+unfoldable pub digit : ℕ → ℕ
 digit b = elim (leb b 57) [ true ↦ b - 48 | false ↦ b - 55 ]
 
 -- The bytes that pairs of digits spell, one space between.
-unfoldable pairs : List ℕ → List ℕ
+unfoldable pub pairs : List ℕ → List ℕ
 pairs [] = []
 pairs (h ∷ []) = []
 pairs (h ∷ l ∷ []) = (16 * digit h + digit l) ∷ []
 pairs (h ∷ l ∷ space ∷ more) = (16 * digit h + digit l) ∷ pairs more
 
-unfoldable hex : String → List ℕ
+unfoldable pub hex : String → List ℕ
 hex s = pairs (bytes s)
 
 abbrev result : Verdict → List ℕ → Result
@@ -47,7 +47,7 @@ abbrev Declines : List ℕ → List ℕ → Verdict → Type 0
 Declines text rec v = (check text rec ≡ v) × ((tab : ℕ) (out : List ℕ) → get text rec tab out ≡ result v out)
 
 -- A: unchanged, (0, 9, 0).
-abbrev textA : List ℕ
+abbrev pub textA : List ℕ
 textA = bytes "val x = 1"
 
 abbrev recA : List ℕ
