@@ -1,6 +1,6 @@
 -- Demand 3, and what demand 1 says of the output, for every text, record, tab size and output. Assumes nothing.
 -- Measures are those of the walk over the sheet and not what a call reports: `deepest es`, `letters p es` and `units es`
--- where `judge text rec ≡ accepted p es` (VerdictLaws.Sheet says what that comes to).
+-- where `judge text rec ≡ accepted p es` (Sheet says what that comes to).
 use Prim.Native.Nat.{ℕ, _+_, _*_, _≤_}
 use native.Mathlib.Omega.{arith}
 use mathlib.Core.Path.{_≡_, refl, sym, ap, ap₂, _∙_}
@@ -13,30 +13,11 @@ use borrow.Author.Tests.{leb-true, leb-false}
 use Rattle.comments.specs.Set.{isComment}
 use Rattle.layout.specs.Meaning.{Page, Event}
 use Rattle.layout.specs.Events.{deepest, letters, units, trimmed, formatted}
+use Rattle.measures.proofs.Measures.{small-done, sheet-lengths}
 use Rattle.formatter.specs.Verdict.{Verdict, verdict, measuresOf, Judged, declined, accepted, judge, check, Result, maxWidth, get}
-use Rattle.formatter.proofs.EventLaws.{Holds, withoutSpaces, length-formatted, same-at-tabs, same-spaceless, holds-written, all-written}
-use Rattle.formatter.proofs.VerdictLaws.{Sheet, accepted-is, declined-number, check-declined, get-declined, check-accepted, get-accepted, format-wide, format-short, format-fits}
-
--- ---- the terms of the demand
--- The check refuses where its number is not 0.
-abbrev pub Refuses : List ℕ → List ℕ → Type 0
-Refuses text rec = check text rec .number ≡ 0 → ⊥
-
--- The check accepts the sheet, and the two bounds hold.
-pub record Fits (text rec : List ℕ) (tab : ℕ) (out : List ℕ) : Type 0 where
-  pub page : Page
-  pub events : List Event
-  pub accepts : judge text rec ≡ accepted page events
-  pub width : deepest events * tab ≤ 4_294_967_295
-  pub room : letters page events + tab * units events ≤ length out
-
--- A text is written where formatting's number is 0: the formatted text at that call's tab size.
-pub record Written (text rec : List ℕ) (tab : ℕ) (out w : List ℕ) : Type 0 where
-  pub page : Page
-  pub events : List Event
-  pub accepts : judge text rec ≡ accepted page events
-  pub number : get text rec tab out .verdict .number ≡ 0
-  pub is : w ≡ formatted page tab events
+use Rattle.formatter.specs.Demands.{Refuses, Sheet, Fits, Written, withoutSpaces, Holds}
+use Rattle.formatter.proofs.EventLaws.{length-formatted, same-at-tabs, same-spaceless, holds-written, all-written}
+use Rattle.formatter.proofs.VerdictLaws.{accepted-is, declined-number, check-declined, get-declined, check-accepted, get-accepted, format-wide, format-short, format-fits}
 
 -- ---- by cases
 -- Formatting refuses and leaves the output as it was.
@@ -90,6 +71,15 @@ module _ (text rec : List ℕ) where
       go : (j : Judged) → judge text rec ≡ j → check text rec .number ≡ 0 → (p : Page) × (es : List Event) × Sheet text rec p es
       go (declined v) e z = absurd (declined-number text rec e (ap (λ u. u .number) (sym (check-declined text rec e)) ∙ z))
       go (accepted p es) e z = (p, es, accepted-is text rec p es .0 e)
+
+  -- "*Deepest* is .. never over 400." (01)
+  pub depth-bounded : {p : Page} {es : List Event} → judge text rec ≡ accepted p es → deepest es ≤ 400
+  depth-bounded {p} {es} e =
+      let s = accepted-is text rec p es .0 e in
+      let l = sheet-lengths text rec (p .tokens) (s .tree) (s .reads) in
+      let t : length (p .text) ≤ 32768 = omega (arith, l .0, ap (λ (q : Page). length (q .text)) (s .page)) in
+      let r : length (p .rec) ≤ 65536 = omega (arith, l .1, ap (λ (q : Page). length (q .rec)) (s .page)) in
+      small-done p (s .tree) t r (s .walks) .deep
 
 module _ (text rec : List ℕ) (tab : ℕ) (out : List ℕ) where
   -- Formatting accepts exactly when the check accepts and both bounds hold.

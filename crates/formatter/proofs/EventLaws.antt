@@ -16,17 +16,7 @@ use Rattle.comments.proofs.Words.{whether}
 use Rattle.comments.proofs.Search.{no-comment}
 use Rattle.layout.specs.Meaning.{Page, Event, Word, Token, Comment, Formed, Indent, tokenText}
 use Rattle.layout.specs.Events.{sumOf, indentDepth, units, lettersOf, trimmed, letters, spelt, formatted, writesComment, written, isLeft}
-
--- A text holds another: its bytes stand somewhere in it, in order and without a break.
-pub record Holds (part whole : List ℕ) : Type 0 where
-  pub before : List ℕ
-  pub after : List ℕ
-  pub is : whole ≡ before ++ part ++ after
-
--- The text after all spaces are deleted; a space is byte 32.
-unfoldable pub withoutSpaces : List ℕ → List ℕ
-withoutSpaces [] = []
-withoutSpaces (b ∷ bs) = elim (eqb b 32) [ true ↦ withoutSpaces bs | false ↦ b ∷ withoutSpaces bs ]
+use Rattle.formatter.specs.Demands.{withoutSpaces, Holds}
 
 spaceless-append : (a b : List ℕ) → withoutSpaces (a ++ b) ≡ withoutSpaces a ++ withoutSpaces b
 unfolding withoutSpaces

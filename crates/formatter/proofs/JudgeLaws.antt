@@ -27,7 +27,8 @@ use Rattle.layout.specs.GetDec.{get-dec}
 use Rattle.layout.specs.Events.{deepest, letters, units, formatted, isLeft}
 use Rattle.layout.specs.State.{Run, runOf, at, effects, Ran, went, fell, run, runs, packed, Walked, page}
 use Rattle.layout.proofs.Exact.{exact-letters, exact-units, exact-deepest}
-use Rattle.measures.proofs.Measures.{Small, small-done, sheet-lengths}
+use Rattle.measures.specs.Small.{Small}
+use Rattle.measures.proofs.Measures.{small-done, sheet-lengths}
 use Rattle.formatter.specs.declared.Measures.{Measures}
 use Rattle.formatter.specs.declared.Answer.{Answer}
 use Rattle.formatter.specs.declared.Answer.the-variants as Case

@@ -15,6 +15,7 @@ use Rattle.layout.specs.Meaning.{Page, Event, Outcome, done, stopped}
 use Rattle.layout.specs.Walk.{walk}
 use Rattle.layout.specs.Events.{deepest, letters, units, formatted, isLeft}
 use Rattle.formatter.specs.Verdict.{Verdict, verdict, measuresOf, Judged, declined, accepted, comments, walked, judge, check, maxWidth, put, format, get}
+use Rattle.formatter.specs.Demands.{Sheet}
 use Rattle.formatter.proofs.EventLaws.{length-formatted}
 
 -- ---- a refusal's number is never 0
@@ -55,15 +56,6 @@ judge-number text rec = go (read text rec) refl
     go (sheet tokens tree) f = rw (f, judge) (walked-number (record { text = text; rec = rec; tokens = tokens }) tree)
 
 -- ---- an accepted sheet
--- What an accepted sheet is: read to its tokens, walked to its end, and no comment left.
-pub record Sheet (text rec : List ℕ) (p : Page) (es : List Event) : Type 0 where
-  pub tree : ℕ
-  pub end : ℕ
-  pub page : p ≡ record { text = text; rec = rec; tokens = p .tokens }
-  pub reads : read text rec ≡ sheet (p .tokens) tree
-  pub walks : walk p tree ≡ done end es
-  pub none-left : first (isLeft (p .tokens .kinds) es) 0 (length (p .tokens .kinds)) ≡ none
-
 comments-accepted : (p q : Page) (es fs : List Event) → comments p es ≡ accepted q fs
     → (p ≡ q) × (es ≡ fs) × (first (isLeft (p .tokens .kinds) es) 0 (length (p .tokens .kinds)) ≡ none)
 unfolding comments

@@ -23,6 +23,7 @@ use Rattle.layout.specs.GetDec.{get-dec}
 use Rattle.layout.specs.DecOne.{one-dec}
 use Rattle.layout.specs.Walk.{walks, top, walk}
 use Rattle.layout.specs.State.{cap}
+use Rattle.measures.specs.Small.{eventsOf, Small}
 use Rattle.measures.proofs.Credit.{size, Within}
 use Rattle.measures.proofs.Paying.{Paid, Short, eased, halts, _then_, families, declarations}
 use Rattle.measures.proofs.Following as Following
@@ -78,16 +79,6 @@ module _ {p : Page} (short : Short p) where
   top-paid = get-decs short (walks-paid 200 (omega arith)) (omega arith) top (omega arith)
 
 -- ---- the measures
--- Letters and units together are at most half the cap, and no depth is over 400.
-pub record Small (p : Page) (es : List Event) : Type 0 where
-  pub both : letters p es + units es ≤ 0x4000_0000
-  pub deep : deepest es ≤ 400
-
--- What a walk did, whether it ends or stops.
-abbrev pub eventsOf : Outcome → List Event
-eventsOf (done end es) = es
-eventsOf (stopped why es) = es
-
 size-is : (p : Page) (es : List Event) → size p es ≡ letters p es + units es
 unfolding sumOf letters units
 size-is p [] = omega arith

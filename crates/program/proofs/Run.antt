@@ -23,6 +23,7 @@ use Rattle.agreement.specs.Unbounded as Unbounded
 use Rattle.formatter.specs.Verdict as Verdict
 use Rattle.formatter.specs.Lookup as Lookup
 use Rattle.formatter.specs.WalkFirst as WalkFirst
+use Rattle.formatter.specs.Demands as Demands
 use Rattle.doc_comment.specs.Doc as Doc
 use Rattle.doc_comment.specs.Lines as Lines
 use Rattle.program.specs.Program as Program
@@ -119,6 +120,10 @@ unfoldable pub runWalkFirst : Unit {0}
 unfolding WalkFirst.byCheck WalkFirst.byWalk WalkFirst.recordFirst WalkFirst.textFirst WalkFirst.judgeWalkFirst
 runWalkFirst = tt
 
+unfoldable pub runDemands : Unit {0}
+unfolding Demands.withoutSpaces
+runDemands = tt
+
 unfoldable pub runDoc : Unit {0}
 unfolding Doc.withoutReturn Doc.linesFrom Doc.afterAsterisk Doc.withoutSpace Doc.starred Doc.joined Doc.closed Doc.opened Doc.docText Doc.put Doc.docOf Doc.docSaid Doc.docLookup Doc.docLooked
 runDoc = tt
@@ -132,5 +137,5 @@ unfolding Program.digits Program.decimal Program.line Program.printed Program.ta
 runProgram = tt
 
 unfoldable pub run : Unit {0}
-unfolding runBytes runFields runCommands runTokens runCheck runReading runSet runAbove runMeaning runHelpers runGetDec runTy runPat runExp runSigExp runStrExp runDecOne runWalk runEvents runUnbounded runVerdict runLookup runWalkFirst runDoc runLines runProgram
+unfolding runBytes runFields runCommands runTokens runCheck runReading runSet runAbove runMeaning runHelpers runGetDec runTy runPat runExp runSigExp runStrExp runDecOne runWalk runEvents runUnbounded runVerdict runLookup runWalkFirst runDemands runDoc runLines runProgram
 run = tt
