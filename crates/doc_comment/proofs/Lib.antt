@@ -1,3 +1,4 @@
 pub mod Scan
 pub mod Text
 pub mod Lookup
+pub mod Output

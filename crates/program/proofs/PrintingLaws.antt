@@ -17,8 +17,8 @@ use Rattle.formatter.specs.declared.Measures.{Measures}
 use Rattle.formatter.specs.declared.Answer.{Answer}
 use Rattle.formatter.specs.declared.Answer.the-variants.{Accepted, TooLong, NotAscii, Malformed, TooDeep, Syntax, Comments, TooWide, NoRoom}
 use Rattle.formatter.specs.Verdict.{Verdict, numberOf, givenMeasures, verdictOf}
-use Rattle.program.specs.Program.{digits, decimal, line, printed}
-use Rattle.program.specs.Printing.{said, saidWith, TextWithin, Puts, Prints}
+use Rattle.program.specs.Program.{digits, decimal, line}
+use Rattle.program.specs.Printing.{said, saidWith, shown, TextWithin, Puts, Prints}
 
 -- ---- digits
 
@@ -131,15 +131,15 @@ declines-number (TooWide m) d = refl
 declines-number (NoRoom m) d = refl
 
 module _ (tab : ℕ) (a : Answer) (page : List ℕ) where
-  pub printed-declined : Declines a → printed tab (saidWith a page) ≡ line (said a)
-  unfolding printed verdictOf
-  printed-declined d = rw (printed, declines-number a d) (append-nil (line (said a)))
+  pub shown-declined : Declines a → shown tab (saidWith a page) ≡ line (said a)
+  unfolding shown verdictOf
+  shown-declined d = rw (shown, declines-number a d) (append-nil (line (said a)))
 
   module _ {m : Measures} (e : a ≡ Accepted m) where
-    pub printed-accepted : printed tab (saidWith a page) ≡ line (said a) ++ take (m .letters + tab * m .units) page
-    unfolding printed verdictOf numberOf givenMeasures
-    printed-accepted =
-        ap (λ (x : Answer). printed tab (saidWith x page)) e ∙ ap (λ (x : Answer). line (said x) ++ take (m .letters + tab * m .units) page) (sym e)
+    pub shown-accepted : shown tab (saidWith a page) ≡ line (said a) ++ take (m .letters + tab * m .units) page
+    unfolding shown verdictOf numberOf givenMeasures
+    shown-accepted =
+        ap (λ (x : Answer). shown tab (saidWith x page)) e ∙ ap (λ (x : Answer). line (said x) ++ take (m .letters + tab * m .units) page) (sym e)
 
     pub text-within : TextWithin tab a page → m .letters + tab * m .units ≤ length page
     unfolding numberOf givenMeasures
@@ -153,12 +153,7 @@ puts-copy {out} {piece} {out′} {at} e f =
     }
 
 -- What is written from the start on is printed.
-pub puts-prints : {out new out′ : List ℕ} {r : ℕ} → Puts out 0 new out′ r → Prints new out′ r
+pub puts-prints : {out new out′ : List ℕ} {r : ℕ} → Puts out 0 new out′ r → Prints new out out′ r
 puts-prints {out} {new} {out′} {r} p =
-    let n : length new ≡ r = omega (arith, p .next) in
-    let w : r ≤ length out′ = omega (arith, ap length (p .written), length-append new (drop r out)) in
-    record {
-      within = w;
-      long = sym (length-take-le r out′ w);
-      is = ap (λ (l : List ℕ). take r l) (p .written) ∙ take-at new (drop r out) r n;
-    }
+    let w : r ≤ length out′ = omega (arith, p .next, ap length (p .written), length-append new (drop r out)) in
+    record { within = w; long = sym (length-take-le r out′ w); is = p .written }

@@ -27,6 +27,7 @@ use Rattle.formatter.specs.Demands as Demands
 use Rattle.doc_comment.specs.Doc as Doc
 use Rattle.doc_comment.specs.Lines as Lines
 use Rattle.program.specs.Program as Program
+use Rattle.program.specs.Printing as Printing
 
 unfoldable pub runBytes : Unit {0}
 unfolding Bytes.bytes Bytes.between Bytes.isSpace Bytes.isLetter Bytes.isDigit Bytes.trimStart Bytes.trimEnd Bytes.trim Bytes.sameBytes Bytes.firstIs Bytes.firstWide Bytes.wideAt
@@ -133,9 +134,13 @@ unfolding Lines.before Lines.Starts Lines.kept Lines.Nexts Lines.size Lines.Bodi
 runLines = tt
 
 unfoldable pub runProgram : Unit {0}
-unfolding Program.digits Program.decimal Program.line Program.printed Program.tabSize Program.textLength Program.formatInput Program.program
+unfolding Program.digits Program.decimal Program.line Program.textOf Program.lineOf Program.printed Program.tabSize Program.textLength Program.formatInput Program.program
 runProgram = tt
 
+unfoldable pub runPrinting : Unit {0}
+unfolding Printing.shown
+runPrinting = tt
+
 unfoldable pub run : Unit {0}
-unfolding runBytes runFields runCommands runTokens runCheck runReading runSet runAbove runMeaning runHelpers runGetDec runTy runPat runExp runSigExp runStrExp runDecOne runWalk runEvents runUnbounded runVerdict runLookup runWalkFirst runDemands runDoc runLines runProgram
+unfolding runBytes runFields runCommands runTokens runCheck runReading runSet runAbove runMeaning runHelpers runGetDec runTy runPat runExp runSigExp runStrExp runDecOne runWalk runEvents runUnbounded runVerdict runLookup runWalkFirst runDemands runDoc runLines runProgram runPrinting
 run = tt

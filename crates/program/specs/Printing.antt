@@ -1,8 +1,10 @@
 -- What the contracts of the program's functions cite.
 use Prim.Native.Nat.{ℕ, _+_, _*_, _≤_}
 use mathlib.Core.Path.{_≡_}
-use mathlib.Core.List.{List, _++_}
+use mathlib.Core.Bool.{true, false}
+use mathlib.Core.List.{List, [], _++_}
 use lib.ListN.{length, take, drop}
+use lib.Dec.{eqb}
 use Rattle.formatter.specs.declared.Answer.{Answer}
 use Rattle.formatter.specs.Verdict.{Verdict, Result, emptySet, numberOf, givenMeasures, verdictOf}
 use Rattle.program.specs.Program.{line}
@@ -19,6 +21,13 @@ said a = verdictOf a emptySet
 abbrev pub saidWith : Answer → List ℕ → Result
 saidWith a out = record { verdict = said a; out = out }
 
+-- The line of a result, then the text that it says stands in the output's first bytes.
+unfoldable pub shown : ℕ → Result → List ℕ
+shown tab r =
+    line (r .verdict)
+    ++ elim (eqb (r .verdict .number) 0)
+    [ true ↦ take (r .verdict .measures .letters + tab * r .verdict .measures .units) (r .out) | false ↦ [] ]
+
 -- The text of an answer that accepts lies within the output.
 abbrev pub TextWithin : ℕ → Answer → List ℕ → Type 0
 TextWithin tab a out = numberOf a ≡ 0 → givenMeasures a .letters + tab * givenMeasures a .units ≤ length out
@@ -33,8 +42,9 @@ pub record PutsLine (out : List ℕ) (v : Verdict) (out′ : List ℕ) (r : ℕ)
   pub puts : Puts out 0 (line v) out′ r
   pub short : r ≤ maxLine
 
--- Contract: the bytes are the output's first r. That r is their length follows; said, a caller's proof finds it.
-pub record Prints (new out : List ℕ) (r : ℕ) : Type 0 where
-  pub within : r ≤ length out
-  pub long : r ≡ length (take r out)
-  pub is : take r out ≡ new
+-- Contract: the bytes are the output's first r, and the rest is as it was. That r is their length follows; said, a caller's proof
+-- finds it.
+pub record Prints (new out out′ : List ℕ) (r : ℕ) : Type 0 where
+  pub within : r ≤ length out′
+  pub long : r ≡ length (take r out′)
+  pub is : out′ ≡ new ++ drop r out

@@ -6,7 +6,8 @@ use lib.ListN.{length, take, drop, replicate}
 use lib.Dec.{leb, ltb, eqb}
 use Rattle.text.specs.Bytes.{bytes}
 use Rattle.reader.specs.Commands.{u16}
-use Rattle.formatter.specs.Verdict.{Verdict, Result, get, noMeasures, verdict}
+use Rattle.layout.specs.Events.{formatted}
+use Rattle.formatter.specs.Verdict.{Verdict, Judged, declined, accepted, judge, get, noMeasures, verdict}
 
 -- The decimal digits of a number that has at most this many.
 unfoldable pub digits : ℕ → ℕ → List ℕ
@@ -30,12 +31,20 @@ line v =
 abbrev pub room : ℕ
 room = 65536
 
--- The line, then the text if accepted.
-unfoldable pub printed : ℕ → Result → List ℕ
-printed tab r =
-    line (r .verdict)
-    ++ elim (eqb (r .verdict .number) 0)
-    [ true ↦ take (r .verdict .measures .letters + tab * r .verdict .measures .units) (r .out) | false ↦ [] ]
+-- The formatted text of a sheet.
+unfoldable pub textOf : ℕ → Judged → List ℕ
+textOf tab (declined v) = []
+textOf tab (accepted p es) = formatted p tab es
+
+-- The line of formatting's verdict.
+unfoldable pub lineOf : ℕ → List ℕ → List ℕ → List ℕ
+lineOf tab text rec = line (get text rec tab (replicate room 0) .verdict)
+
+-- The line, then the formatted text if formatting accepts.
+unfoldable pub printed : ℕ → List ℕ → List ℕ → List ℕ
+printed tab text rec =
+    lineOf tab text rec
+    ++ elim (eqb (get text rec tab (replicate room 0) .verdict .number) 0) [ true ↦ textOf tab (judge text rec) | false ↦ [] ]
 
 -- The first bytes of the input: tab size (u32, little-endian) and text length (u16).
 abbrev pub headLength : ℕ
@@ -49,7 +58,7 @@ textLength input = u16 input 4
 
 -- What follows the head: the text, then the record.
 unfoldable pub formatInput : ℕ → ℕ → List ℕ → List ℕ
-formatInput tab n rest = printed tab (get (take n rest) (drop n rest) tab (replicate room 0))
+formatInput tab n rest = printed tab (take n rest) (drop n rest)
 
 -- Input shorter than it says prints `1 0 0 0 0`; past the limits `get` gives number 1, which prints the same line.
 unfoldable pub program : List ℕ → List ℕ

@@ -7,8 +7,8 @@ ghost use mathlib.Core.List.{[], _∷_, _++_};
 ghost use Prim.Native.Nat.{_+_, _≤_, _<_};
 ghost use lib.ListN.{length, take, drop};
 ghost use Rattle.formatter.specs.Verdict.{verdict, noMeasures};
-ghost use Rattle.program.specs.Program.{decimal, printed, headLength, tabSize, textLength, program};
-ghost use Rattle.program.specs.Printing.{maxLine, said, saidWith, TextWithin, Puts, PutsLine, Prints};
+ghost use Rattle.program.specs.Program.{decimal, headLength, tabSize, textLength, program};
+ghost use Rattle.program.specs.Printing.{maxLine, said, saidWith, shown, TextWithin, Puts, PutsLine, Prints};
 
 // ---- the line
 // Writes a byte at an offset.
@@ -117,7 +117,7 @@ fn put_line(out: &mut [u8], answer: Answer) -> usize
 fn print(out: &mut [u8], answer: Answer, tab: u32, page: &[u8]) -> usize
     requires { ⌜ TextWithin tab answer (now page) ⌝ }
     requires { ⌜ maxLine + length (now page) ≤ length (now out) ⌝ }
-    ensures { λ r. ⌜ Puts (now (out .entry)) 0 (printed tab (saidWith answer (now (page .entry)))) (now (out .exit)) r ⌝ }
+    ensures { λ r. ⌜ Puts (now (out .entry)) 0 (shown tab (saidWith answer (now (page .entry)))) (now (out .exit)) r ⌝ }
 {
     let n = put_line(out, answer);
     let Answer::Accepted(m) = answer else {
@@ -160,9 +160,9 @@ fn record_in(input: &[u8], n: usize) -> &[u8]
     &input[start..]
 }
 
-// From the bytes of standard input to the bytes printed.
+// From the bytes of standard input to the bytes printed; the rest of the output stays.
 pub fn process(input: &[u8], out: &mut [u8; 65641]) -> usize
-    ensures { λ r. ⌜ Prints (program (now (input .entry))) (now (out .exit)) r ⌝ }
+    ensures { λ r. ⌜ Prints (program (now (input .entry))) (now (out .entry)) (now (out .exit)) r ⌝ }
 {
     let n = text_length(input);
     if input.len() < 6 + n {

@@ -6,7 +6,7 @@ use lib.ListN.{length, take}
 use lib.Seq.{length-take-le}
 use denote.Ref.{now}
 use Rattle.formatter.specs.declared.Measures.{Measures}
-use Rattle.program.proofs.PrintingLaws.{printed-declined, printed-accepted, text-within, puts-both, puts-copy}
+use Rattle.program.proofs.PrintingLaws.{shown-declined, shown-accepted, text-within, puts-both, puts-copy}
 use borrow.Author.Needs.{needs}
 use Rattle.program.proofs.print.Statement.{statement}
 use Rattle.program.proofs.print.Tie as tie
@@ -40,7 +40,7 @@ same-length c = search needs
 returns : tie.Need-returns
 returns c =
     let a = c .before .before .before .before .before .before .before .args in
-    rw (printed-declined (a .tab) (a .answer) (now (a .page)) (c .match .keys2)) (c .before .before .before .put-line .ensures .puts)
+    rw (shown-declined (a .tab) (a .answer) (now (a .page)) (c .match .keys2)) (c .before .before .before .put-line .ensures .puts)
 
 mul-len : tie.Need-mul-len
 mul-len c = omega (arith, within (c .before .before))
@@ -69,7 +69,7 @@ returns-2 : tie.Need-returns-2
 returns-2 c =
     let at = c .before .before .before .before .before .before .before .before in
     let line = at .before .before .before .before .put-line in
-    rw (printed-accepted (begin at .args .tab) (begin at .args .answer) (now (begin at .args .page)) (at .answer .given .1))
+    rw (shown-accepted (begin at .args .tab) (begin at .args .answer) (now (begin at .args .page)) (at .answer .given .1))
     (puts-both (line .ensures .puts) (puts-copy (c .before .before .copy .ensures) (ap (λ (k : ℕ). line .result + k) (sym (part at)))) (omega arith))
 
 pub print-spec : {M : Type 1} → statement M
