@@ -28,7 +28,11 @@ extern "C" {
 /* What stands for none in an answer of a lookup. */
 #define DIVERPLUME_NONE UINT64_MAX
 
-/* The numbers of verdicts. For 1 to 6 the sheet is at fault, for 7 to 9 what else the caller brings. */
+/* An output of this many bytes holds the tokens of any text: four bytes a token. */
+#define DIVERPLUME_MAX_SCANNED (4 * DIVERPLUME_MAX_TOKENS)
+
+/* The numbers of verdicts. For 1 to 6 the sheet is at fault, for 7 to 9 what else the caller brings, from 10 on
+ * the text that is scanned. */
 enum {
     DIVERPLUME_ACCEPTED = 0,
     DIVERPLUME_TOO_LONG = 1,         /* text or record past its limit */
@@ -39,7 +43,10 @@ enum {
     DIVERPLUME_COMMENTS_LEFT = 6,    /* place: text offset of the first comment that would be lost */
     DIVERPLUME_INDENT_TOO_WIDE = 7,  /* deepest * tab size is over 4294967295 */
     DIVERPLUME_OUTPUT_TOO_SHORT = 8, /* the output is shorter than the text to be written */
-    DIVERPLUME_NO_TOKEN = 9          /* a lookup of a token number not below the count */
+    DIVERPLUME_NO_TOKEN = 9,         /* a lookup of a token number not below the count */
+    DIVERPLUME_OPEN_COMMENT = 10,    /* place: the text's first comment without an end */
+    DIVERPLUME_NO_STRING = 11,       /* place: a double quote that begins no string constant */
+    DIVERPLUME_BEGINS_NO_TOKEN = 12  /* place: another byte that begins no token */
 };
 
 /* What the check or formatting says. Measures are 0 for numbers 1 to 6. */
@@ -67,6 +74,13 @@ typedef struct diverplume_lookup {
     uint64_t found; /* the length written, or DIVERPLUME_NONE */
 } diverplume_lookup;
 
+/* What a call with an output says, where it has neither measures nor a set. Refused, it wrote 0 bytes. */
+typedef struct diverplume_written {
+    uint64_t number;
+    uint64_t place;
+    uint64_t written; /* bytes written at the output's start; the others are unchanged */
+} diverplume_written;
+
 /* Whether a sheet can be formatted: numbers 0 to 6. */
 void diverplume_check(const uint8_t *text, size_t text_length,
                       const uint8_t *record, size_t record_length,
@@ -91,6 +105,13 @@ void diverplume_doc_comment_above(const uint8_t *text, size_t text_length,
                                   const uint8_t *record, size_t record_length,
                                   uint64_t token, uint8_t *output, size_t output_length,
                                   diverplume_lookup *answer);
+
+/* The tokens of a text, after The Definition of Standard ML, as the record starts with them: 0x05, kind, length
+ * (u16, little-endian) for each, at the output's start. Numbers 0, 1 (text too long, or more than
+ * DIVERPLUME_MAX_TOKENS tokens), 2, 10 to 12, and 8. An output of DIVERPLUME_MAX_SCANNED bytes is long enough. */
+void diverplume_scan(const uint8_t *text, size_t text_length,
+                     uint8_t *output, size_t output_length,
+                     diverplume_written *answer);
 
 /* The length of the formatted text at a tab size, for a verdict of number 0, 7 or 8. */
 static inline uint64_t diverplume_length(const diverplume_verdict *verdict, uint32_t tab_size)

@@ -1,13 +1,12 @@
 -- Laws of the doc text: the last line, the lines joined and their length, how they are written, and the answer. Assumes nothing.
 use Prim.Native.Nat.{ℕ, zero, suc, _+_, _-_, _≤_, _<_}
-use native.Mathlib.Numerals.{add-one}
 use native.Mathlib.Omega.{arith}
 use mathlib.Core.Path.{_≡_, refl, sym, ap, ap₂, _∙_}
 use mathlib.Core.Bool.{Bool, true, false, false≢true}
 use mathlib.Core.List.{List, [], _∷_, _++_, append-assoc, append-nil, reverse, reverseAux, reverse-append, reverse-reverse}
 use mathlib.Core.Option.{none, some}
 use lib.ListN.{length, getD, take, drop, set, length-append, length-take, length-drop}
-use lib.Seq.{paste, paste-suc, append-snoc, drop-cons, drop-drop, set-at, take-at, drop-at, take-length}
+use lib.Seq.{paste, append-snoc, drop-cons, drop-drop, set-at, take-at, drop-at, take-length}
 use borrow.Author.Tests.{le-leb, lt-leb}
 use Rattle.text.specs.Bytes.{bytes, sameBytes}
 use Rattle.text.proofs.Laws.{never, same-true, same-refl}
@@ -158,10 +157,6 @@ pub fed-later : (out : List ℕ) (t : ℕ) → 0 < t → set out (t - 1) 10 ≡ 
 unfolding fed
 fed-later out zero h = absurd (omega arith)
 fed-later out (suc t) h = let e : suc t - 1 ≡ t = omega arith in ap (λ (i : ℕ). set out i 10) e
-
-pub copied-more : (d d′ s : List ℕ) (at j : ℕ) → d′ ≡ paste d at s j → at + j < length d → j < length s → set d′ (at + j) (getD s j 0) ≡ paste d at s (j + 1)
-copied-more d d′ s at j e h l =
-    ap (λ (o : List ℕ). set o (at + j) (getD s j 0)) e ∙ paste-suc d at s j 0 h l ∙ ap (λ (n : ℕ). paste d at s n) (sym (add-one j))
 
 -- A line behind j, which has q bytes and a line feed behind them.
 module _ (j l out : List ℕ) (q : ℕ) (is : length j ≡ q) (room : suc q + length l ≤ length out) where

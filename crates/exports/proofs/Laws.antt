@@ -1,10 +1,11 @@
--- Laws of the answers as numbers: an answer by its case, the record check with its tables, verdicts, the doc lookup. Assumes nothing.
+-- Laws of the answers as numbers: an answer by its case, the record check with its tables, verdicts, the doc lookup, the scanner. Assumes nothing.
 use Prim.Native.Nat.{ℕ}
 use native.Mathlib.Omega.{arith}
 use mathlib.Core.Path.{_≡_, sym, _∙_, ap}
 use mathlib.Core.List.{List, [], _∷_, append-nil}
 use lib.ListN.{length, getD, replicate}
 use lib.Seq.{paste, take-all}
+use Rattle.text.specs.Output.{Plain, Reply}
 use Rattle.reader.specs.declared.Reading.{Reading}
 use Rattle.reader.specs.declared.Reading.the-variants.{Sheet, TooLong, NotAscii, Malformed, TooDeep}
 use Rattle.reader.specs.declared.tree.Checked as Code
@@ -13,6 +14,10 @@ use Rattle.reader.specs.Tree.{checkedIn}
 use Rattle.reader.specs.Reading.{refused, read, numberOf, placeOf, Reads}
 use Rattle.comments.specs.declared.Passed.{Passed}
 use Rattle.comments.specs.Above.{passedIn}
+use Rattle.scanner.specs.declared.Refusal.{Refusal}
+use Rattle.scanner.specs.declared.Scanned.{Scanned}
+use Rattle.scanner.specs.Scan.{scan}
+use Rattle.scanner.specs.Answers as Scanner
 use Rattle.formatter.specs.declared.Lookup.{Lookup}
 use Rattle.formatter.specs.declared.Lookup.the-variants.{Found}
 use Rattle.formatter.specs.declared.Answer.{Answer}
@@ -22,7 +27,7 @@ use Rattle.formatter.proofs.LookupLaws.{reading-says, reading-counts}
 use Rattle.doc_comment.specs.Doc.{Doc, docLookup, docLooked}
 use Rattle.program.specs.declared.Numbers.{Numbers}
 use Rattle.program.specs.Printing.{said}
-use Rattle.exports.specs.Numbers.{endNumbers, orNone, commentNumbers, docNumbers, readNumbers, verdictNumbers, Tabled, ReadOut, DocOut, GetOut}
+use Rattle.exports.specs.Numbers.{endNumbers, orNone, commentNumbers, docNumbers, readNumbers, verdictNumbers, replyNumbers, Tabled, ReadOut, DocOut, GetOut, ScanOut}
 
 pub end-case : {f x : Code.Checked} → f ≡ x → endNumbers (checkedIn x) ≡ endNumbers (checkedIn f)
 end-case e = ap (λ (y : Code.Checked). endNumbers (checkedIn y)) (sym e)
@@ -45,6 +50,21 @@ pub doc-out : (text rec : List ℕ) (token : ℕ) (out out′ found : List ℕ) 
 unfolding docLooked
 doc-out text rec token out out′ found l e f =
     record { numbers = first-three found (lookedOf l) f ∙ ap (λ (d : Doc). docNumbers (d .answer)) e; written = ap (λ (d : Doc). d .out) e }
+
+pub refusal-case : {f x : Refusal} → f ≡ x → _≡_ {A = List ℕ} (Scanner.numberOf x ∷ Scanner.placeOf x ∷ 0 ∷ []) (Scanner.numberOf f ∷ Scanner.placeOf f ∷ 0 ∷ [])
+refusal-case e = ap (λ (y : Refusal). Scanner.numberOf y ∷ Scanner.placeOf y ∷ 0 ∷ []) (sym e)
+
+-- The numbers of the scanner's answer.
+abbrev pub scannedNumbers : Scanned → List ℕ
+scannedNumbers a = Scanner.verdictOf a .number ∷ Scanner.verdictOf a .place ∷ Scanner.writtenOf a ∷ []
+
+pub scanned-case : {f x : Scanned} → f ≡ x → scannedNumbers x ≡ scannedNumbers f
+scanned-case e = ap scannedNumbers (sym e)
+
+pub scan-out : (text out out′ answer : List ℕ) (a : Scanned) → Scanner.replyOf a out′ ≡ scan text out → answer ≡ scannedNumbers a → ScanOut text out out′ answer
+unfolding Scanner.replyOf replyNumbers
+scan-out text out out′ answer a e f =
+    record { numbers = f ∙ ap replyNumbers e; written = ap (λ (r : Reply Plain). r .out) e }
 
 -- The five numbers of a verdict before the words of its set.
 abbrev five : Numbers → List ℕ → List ℕ

@@ -4,9 +4,11 @@ use mathlib.Core.Path.{_≡_}
 use mathlib.Core.List.{List, [], _∷_}
 use mathlib.Core.Option.{Option, none, some}
 use lib.ListN.{length}
+use Rattle.text.specs.Output.{Plain, Reply}
 use Rattle.reader.specs.Tokens.{tokensIn}
 use Rattle.reader.specs.Check.{Checked, ok, malformed, tooDeep}
 use Rattle.reader.specs.Reading.{Read, refused, sheet, read}
+use Rattle.scanner.specs.Scan.{scan}
 use Rattle.formatter.specs.Lookup.{Looked}
 use Rattle.formatter.specs.Verdict.{Verdict, get}
 use Rattle.doc_comment.specs.Doc.{docLookup}
@@ -39,6 +41,10 @@ readNumbers (sheet tokens tree) = 0 ∷ 0 ∷ length (tokens .kinds) ∷ tree �
 unfoldable pub verdictNumbers : Verdict → List ℕ
 verdictNumbers v = v .number ∷ v .place ∷ v .measures .deepest ∷ v .measures .letters ∷ v .measures .units ∷ v .left
 
+-- Number, place, and the bytes written.
+unfoldable pub replyNumbers : Reply Plain → List ℕ
+replyNumbers r = r .verdict .number ∷ r .verdict .place ∷ r .written ∷ []
+
 -- The tokens of a sheet stand first in the tables.
 unfoldable pub Tabled : Read → List ℕ → List ℕ → List ℕ → Type 0
 Tabled (refused number place) kinds starts lens = Unit {0}
@@ -58,3 +64,8 @@ pub record DocOut (text rec : List ℕ) (token : ℕ) (out out′ answer : List 
 pub record GetOut (text rec : List ℕ) (tab : ℕ) (out out′ answer : List ℕ) : Type 0 where
   pub numbers : answer ≡ verdictNumbers (get text rec tab out .verdict)
   pub written : out′ ≡ get text rec tab out .out
+
+-- Contract: the scanner's reply and the final output.
+pub record ScanOut (text out out′ answer : List ℕ) : Type 0 where
+  pub numbers : answer ≡ replyNumbers (scan text out)
+  pub written : out′ ≡ scan text out .out

@@ -1,6 +1,7 @@
 -- `unfolding run` opens every definition of specs/, so that a theorem about a sheet is closed by computation.
 -- Written by tools/unfold.py.
 use Rattle.text.specs.Bytes as Bytes
+use Rattle.text.specs.Output as Output
 use Rattle.reader.specs.Fields as Fields
 use Rattle.reader.specs.Commands as Commands
 use Rattle.reader.specs.Tokens as Tokens
@@ -32,6 +33,10 @@ use Rattle.program.specs.Printing as Printing
 unfoldable pub runBytes : Unit {0}
 unfolding Bytes.bytes Bytes.between Bytes.isSpace Bytes.isLetter Bytes.isDigit Bytes.trimStart Bytes.trimEnd Bytes.trim Bytes.sameBytes Bytes.firstIs Bytes.firstWide Bytes.wideAt
 runBytes = tt
+
+unfoldable pub runOutput : Unit {0}
+unfolding Output.fitted
+runOutput = tt
 
 unfoldable pub runFields : Unit {0}
 unfolding Fields.forms Fields.firstForm
@@ -142,5 +147,5 @@ unfolding Printing.shown
 runPrinting = tt
 
 unfoldable pub run : Unit {0}
-unfolding runBytes runFields runCommands runTokens runCheck runReading runSet runAbove runMeaning runHelpers runGetDec runTy runPat runExp runSigExp runStrExp runDecOne runWalk runEvents runUnbounded runVerdict runLookup runWalkFirst runDemands runDoc runLines runProgram runPrinting
+unfolding runBytes runOutput runFields runCommands runTokens runCheck runReading runSet runAbove runMeaning runHelpers runGetDec runTy runPat runExp runSigExp runStrExp runDecOne runWalk runEvents runUnbounded runVerdict runLookup runWalkFirst runDemands runDoc runLines runProgram runPrinting
 run = tt

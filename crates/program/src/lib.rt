@@ -124,7 +124,7 @@ fn print(out: &mut [u8], answer: Answer, tab: u32, page: &[u8]) -> usize
         return n;
     };
     let len = (m.letters + tab as u64 * m.units) as usize;
-    doc_comment::copy(out, n, &page[..len]);
+    text::copy(out, n, &page[..len]);
     n + len
 }
 

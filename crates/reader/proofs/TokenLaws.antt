@@ -15,7 +15,7 @@ use Rattle.reader.specs.declared.tokens.Next.{Next}
 use Rattle.reader.specs.declared.tokens.Next.the-variants.{Is, Malformed, End}
 use Rattle.reader.specs.declared.tokens.Tiled as Code
 use Rattle.reader.specs.declared.tokens.Tiled.the-variants as Case
-use Rattle.reader.specs.Tokens.{Tokens, noTokens, Tiling, tiled, untiled, isToken, endTokens, withToken, tokensFrom, tokens, nextAt, tokensIn, endAt, Tiles}
+use Rattle.reader.specs.Tokens.{Tokens, noTokens, Tiling, tiled, untiled, isToken, endTokens, withToken, tokensFrom, tokens, nextAt, tokensIn, endAt, Long, Tiles}
 use Rattle.reader.proofs.CommandLaws.{and-left, and-right, command-fits}
 
 -- ---- the next token
@@ -96,7 +96,7 @@ module _ (size : ℕ) (rec : List ℕ) (start at : ℕ) where
         (and-left (command rec 5 4 at) (leb (getD rec (at + 1) 0) 20)
         (and-left _ (leb 1 (u16 rec (at + 2))) (and-left _ (leb (start + u16 rec (at + 2)) size) (parts .1))))
 
-    from-is : (n : ℕ) → tokensFrom size rec (suc n) start at ≡ withToken size rec start at (tokensFrom size rec n (start + len) (at + 4))
+    pub from-is : (n : ℕ) → tokensFrom size rec (suc n) start at ≡ withToken size rec start at (tokensFrom size rec n (start + len) (at + 4))
     unfolding tokensFrom
     from-is n =
         rw (parts .0, tokensFrom, parts .1)
@@ -108,7 +108,7 @@ module _ (size : ℕ) (rec : List ℕ) (start at : ℕ) where
       let p = malformed-parts (getD rec (at + 1) 0) (u16 rec (at + 2)) (eqb (getD rec at 0) 5) (isToken size rec start at) e in
       rw (p .0, tokensFrom, p .1)
 
-  from-end : (n : ℕ) → End ≡ nextAt size rec start at → tokensFrom size rec (suc n) start at ≡ endTokens size rec start at
+  pub from-end : (n : ℕ) → End ≡ nextAt size rec start at → tokensFrom size rec (suc n) start at ≡ endTokens size rec start at
   unfolding tokensFrom nextAt
   from-end n e =
       rw (end-parts (getD rec (at + 1) 0) (u16 rec (at + 2)) (eqb (getD rec at 0) 5) (isToken size rec start at) e, tokensFrom)
@@ -117,19 +117,19 @@ module _ (size : ℕ) (rec : List ℕ) (start at : ℕ) where
   unfolding tokensFrom
   full-more e = rw (eq-eqb (getD rec at 0) 5 e, tokensFrom)
 
-  full-end : (getD rec at 0 ≡ 5 → ⊥) → tokensFrom size rec 0 start at ≡ endTokens size rec start at
+  pub full-end : (getD rec at 0 ≡ 5 → ⊥) → tokensFrom size rec 0 start at ≡ endTokens size rec start at
   unfolding tokensFrom
   full-end e = rw (ne-eqb (getD rec at 0) 5 e, tokensFrom)
 
 -- ---- tokens in front of others
-abbrev joined : Tokens → Tokens → Tokens
+abbrev pub joined : Tokens → Tokens → Tokens
 joined ts us = record { kinds = ts .kinds ++ us .kinds; starts = ts .starts ++ us .starts; lengths = ts .lengths ++ us .lengths }
 
 abbrev prefix : Tokens → Tiling → Tiling
 prefix ts (tiled us end) = tiled (joined ts us) end
 prefix ts (untiled place) = untiled place
 
-abbrev one : ℕ → ℕ → ℕ → Tokens
+abbrev pub one : ℕ → ℕ → ℕ → Tokens
 one kind start len = record { kinds = kind ∷ []; starts = start ∷ []; lengths = len ∷ [] }
 
 prefix-one : (ts : Tokens) (size : ℕ) (rec : List ℕ) (start at : ℕ) (u : Tiling)
@@ -138,7 +138,7 @@ unfolding withToken
 prefix-one ts size rec start at (tiled us end) = simp append-assoc
 prefix-one ts size rec start at (untiled place) = refl
 
-joined-none : (ts : Tokens) → joined ts noTokens ≡ ts
+pub joined-none : (ts : Tokens) → joined ts noTokens ≡ ts
 joined-none ts = simp append-nil
 
 prefix-end : (ts : Tokens) (size : ℕ) (rec : List ℕ) (start at : ℕ) (b : Bool) → eqb start size ≡ b
@@ -159,18 +159,19 @@ pub record Filled (size : ℕ) (rec kinds starts lens : List ℕ) (count start a
 take-more : (l : List ℕ) (i a : ℕ) → i < length l → take (i + 1) (set l i a) ≡ take i l ++ (a ∷ [])
 take-more l i a h = rw add-one (take-suc-set l i a h)
 
+-- One more token in the tables.
+pub tokens-more : (kinds starts lens : List ℕ) (count kind start len : ℕ) → Long kinds starts lens → count < 4096
+    → tokensIn (count + 1) (set kinds count kind) (set starts count start) (set lens count len) ≡ joined (tokensIn count kinds starts lens) (one kind start len)
+tokens-more kinds starts lens count kind start len l h =
+    rw (take-more kinds count kind (rw (l .0) h), take-more starts count start (rw (l .1) h), take-more lens count len (rw (l .2) h))
+
 module _ {size : ℕ} {rec kinds starts lens : List ℕ} {count start at : ℕ} (p : Filled size rec kinds starts lens count start at) where
   still : count < 4096 → 4096 - count ≡ suc (4096 - (count + 1))
   still h = omega arith
 
   module _ (h : count < 4096) {kind len : ℕ} (e : Is kind len ≡ nextAt size rec start at) where
     more : tokensIn (count + 1) (set kinds count kind) (set starts count start) (set lens count len) ≡ joined (tokensIn count kinds starts lens) (one kind start len)
-    more =
-        rw (
-          take-more kinds count kind (rw (p .kinds-long) h),
-          take-more starts count start (rw (p .starts-long) h),
-          take-more lens count len (rw (p .lens-long) h),
-        )
+    more = tokens-more kinds starts lens count kind start len (p .kinds-long, p .starts-long, p .lens-long) h
 
     pub filled-more : Filled size rec (set kinds count kind) (set starts count start) (set lens count len) (count + 1) (start + len) (at + 4)
     filled-more =

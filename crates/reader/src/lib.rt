@@ -29,7 +29,7 @@ pub enum Reading {
     TooDeep(usize),
 }
 
-const MAX_TEXT: usize = 32768;
+pub const MAX_TEXT: usize = 32768;
 
 const MAX_RECORD: usize = 65536;
 

@@ -1,4 +1,4 @@
--- Laws of the definitions in specs/Bytes.antt: a scan's step and its end, trim as a part, equality of two runs. Assumes nothing.
+-- Laws of the definitions in specs/Bytes.antt: a scan's step and its end, trim as a part, equality of two runs; a turn of a copy. Assumes nothing.
 use Prim.Native.Nat.{ℕ, zero, suc, _+_, _-_, _≤_, _<_, zero-le, suc-le-suc}
 use native.Mathlib.Numerals.{add-one}
 use native.Mathlib.Omega.{arith}
@@ -7,8 +7,8 @@ use mathlib.Core.Bool.{Bool, true, false, _&&_, _||_, false≢true}
 use mathlib.Core.List.{List, [], _∷_, _++_, reverse, reverse-append, reverse-reverse}
 use mathlib.Core.Option.{none, some}
 use lib.Dec.{eqb}
-use lib.ListN.{length, getD, take, drop, length-take, length-drop, length-reverse, drop-of-length-le, take-append-drop}
-use lib.Seq.{drop-cons, take-suc, take-all, drop-at}
+use lib.ListN.{length, getD, take, drop, set, length-take, length-drop, length-reverse, drop-of-length-le, take-append-drop}
+use lib.Seq.{drop-cons, take-suc, take-all, drop-at, paste, paste-suc}
 use borrow.Author.Tests.{le-leb, lt-leb, eq-eqb, ne-eqb, eqb-true}
 use Rattle.text.specs.Bytes.{isSpace, trimStart, trimEnd, trim, sameBytes, firstIs, firstWide}
 
@@ -167,3 +167,8 @@ pub length-trim : (s : List ℕ) → length (trim s) ≤ length s
 length-trim s =
     let p = trim-part s in
     omega (arith, p .2, ap length (p .3), length-take (p .1) (drop (p .0) s), length-drop (p .0) s)
+
+-- A turn of a copy: j elements, then one more.
+pub copied-more : (d d′ s : List ℕ) (at j : ℕ) → d′ ≡ paste d at s j → at + j < length d → j < length s → set d′ (at + j) (getD s j 0) ≡ paste d at s (j + 1)
+copied-more d d′ s at j e h l =
+    ap (λ (o : List ℕ). set o (at + j) (getD s j 0)) e ∙ paste-suc d at s j 0 h l ∙ ap (λ (n : ℕ). paste d at s n) (sym (add-one j))

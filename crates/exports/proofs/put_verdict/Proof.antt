@@ -4,7 +4,7 @@ use native.Mathlib.Omega.{arith}
 use mathlib.Core.Path.{_≡_, refl, _∙_}
 use lib.ListN.{length, length-set}
 use lib.Seq.{paste, paste-zero}
-use Rattle.doc_comment.proofs.Text.{copied-more}
+use Rattle.text.proofs.Laws.{copied-more}
 use Rattle.exports.proofs.Laws.{unfilled, verdict-put}
 use borrow.Author.Needs.{needs}
 use Rattle.exports.proofs.put_verdict.Statement.{statement}

@@ -1,0 +1,17 @@
+pub mod Bytes
+pub mod ReachLaws
+pub mod NumberLaws
+pub mod StringLaws
+pub mod CommentLaws
+pub mod TokenLaws
+pub mod KindLaws
+pub mod Corners
+pub mod CutLaws
+pub mod LongestLaws
+pub mod ScanLaws
+pub mod Lists
+pub mod TableLaws
+pub mod WriteLaws
+pub mod CallLaws
+pub mod ReadBack
+pub mod Accepted

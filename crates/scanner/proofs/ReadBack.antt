@@ -1,0 +1,115 @@
+-- Document 02, Ticket 2: the tokens are "written as 0x05 commands", which the reader reads as exactly these tokens. Assumes nothing.
+use Prim.Native.Nat.{ℕ, zero, suc, _+_, _*_, _≤_}
+use native.Mathlib.Omega.{arith}
+use native.Mathlib.Nat.{add-zero}
+use mathlib.Core.Path.{_≡_, refl, sym, ap, ap₂, _∙_}
+use mathlib.Core.List.{List, [], _∷_, _++_, append-assoc}
+use mathlib.Core.Bool.{true}
+use lib.ListN.{length, getD, drop, length-append, length-drop}
+use lib.Seq.{getD-drop, drop-drop}
+use borrow.Author.Tests.{le-leb, eq-eqb}
+use Rattle.reader.specs.Commands as Reader
+use Rattle.reader.specs.Tokens.{Tokens, noTokens, token∷, tiled, endTokens, withToken, tokensFrom}
+use Rattle.reader.specs.Tokens as Reading
+use Rattle.reader.proofs.TokenLaws.{next-end, next-token, from-is, from-end, full-end}
+use Rattle.scanner.specs.Lexical.{kindOf}
+use Rattle.scanner.specs.Scan.{command, commands}
+use Rattle.scanner.specs.ListOf.{joined, AllLongest, tokensOf, ListOf}
+use Rattle.scanner.proofs.CutLaws.{kind-known}
+use Rattle.scanner.proofs.WriteLaws.{length-commands}
+
+-- A byte of what follows an offset.
+byte-at : (rec : List ℕ) (at i : ℕ) {rest : List ℕ} → drop at rec ≡ rest → getD rec (at + i) 0 ≡ getD rest i 0
+byte-at rec at i e = sym (getD-drop at rec i 0) ∙ ap (λ (l : List ℕ). getD l i 0) e
+
+first-at : (rec : List ℕ) (at : ℕ) {rest : List ℕ} → drop at rec ≡ rest → getD rec at 0 ≡ getD rest 0 0
+first-at rec at e = ap (λ (i : ℕ). getD rec i 0) (sym (add-zero at)) ∙ byte-at rec at 0 e
+
+-- ---- one token
+module _ (size : ℕ) (rec : List ℕ) (start at kind len : ℕ) (rest : List ℕ) (e : drop at rec ≡ command kind len ++ rest) where
+  kind-at : getD rec (at + 1) 0 ≡ kind
+  unfolding command
+  kind-at = byte-at rec at 1 e
+
+  length-at : Reader.u16 rec (at + 2) ≡ len
+  unfolding command Reader.u16
+  length-at =
+      let high : at + 2 + 1 ≡ at + 3 = omega arith in
+      ap₂ (λ (l h : ℕ). l + 256 * h) (byte-at rec at 2 e) (ap (λ (i : ℕ). getD rec i 0) high ∙ byte-at rec at 3 e)
+      ∙ omega arith
+
+  stands : Reader.command rec 5 4 at ≡ true
+  unfolding command Reader.command
+  stands =
+      let whole : at + 4 ≤ length rec = omega (arith, ap length e, length-drop at rec) in
+      rw (le-leb (at + 4) (length rec) whole, eq-eqb (getD rec at 0) 5 (first-at rec at e))
+
+  behind : drop (at + 4) rec ≡ rest
+  unfolding command
+  behind = sym (drop-drop 4 at rec) ∙ ap (drop 4) e
+
+  read-token : (n : ℕ) {ts : Tokens} {end : ℕ} → kind ≤ 20 → 1 ≤ len → start + len ≤ size → tokensFrom size rec n (start + len) (at + 4) ≡ tiled ts end
+      → tokensFrom size rec (suc n) start at ≡ tiled (token∷ kind start len ts) end
+  unfolding command withToken
+  read-token n {ts} {end} k l w more =
+      from-is size rec start at
+      (next-token size rec start at (first-at rec at e) (record { is = sym stands }) refl (sym kind-at) k (sym length-at) l w) n
+      ∙ ap (withToken size rec start at) more
+      ∙ ap₂ (λ (x y : ℕ). tiled (token∷ x start y ts) end) kind-at length-at
+
+-- ---- all tokens, then a part that does not start with a token
+module _ (size : ℕ) (rec tree : List ℕ) (other : getD tree 0 0 ≡ 5 → ⊥) where
+  read-end : (n start at : ℕ) → drop at rec ≡ tree → start ≡ size → tokensFrom size rec n start at ≡ tiled noTokens at
+  unfolding endTokens
+  read-end zero start at e s =
+      full-end size rec start at (λ q. other (sym (first-at rec at e) ∙ q)) ∙ rw (eq-eqb start size s, endTokens)
+  read-end (suc n) start at e s =
+      from-end size rec start at n (next-end size rec start at (λ q. other (sym (first-at rec at e) ∙ q)))
+      ∙ rw (eq-eqb start size s, endTokens)
+
+  read-pieces : (pieces : List (List ℕ)) (n start at : ℕ) → drop at rec ≡ commands (tokensOf start pieces .kinds) (tokensOf start pieces .lengths) ++ tree
+      → AllLongest pieces → start + length (joined pieces) ≡ size → length pieces ≤ n
+      → tokensFrom size rec n start at ≡ tiled (tokensOf start pieces) (at + 4 * length pieces)
+  unfolding commands tokensOf AllLongest joined
+  read-pieces [] n start at e a s l = read-end n start at e (omega arith) ∙ ap (tiled noTokens) (omega arith)
+  read-pieces (piece ∷ more) zero start at e a s l = absurd (omega arith)
+  read-pieces (piece ∷ more) (suc n) start at e a s l =
+      let ts = tokensOf (start + length piece) more in
+      let kind = kindOf piece in
+      let rest = commands (ts .kinds) (ts .lengths) ++ tree in
+      let e′ : drop at rec ≡ command kind (length piece) ++ rest = e ∙ append-assoc (command kind (length piece)) (commands (ts .kinds) (ts .lengths)) tree in
+      let end : at + 4 + 4 * length more ≡ at + 4 * suc (length more) = omega arith in
+      read-token size rec start at kind (length piece) rest e′ n (kind-known piece) (a .0 .some) (omega (arith, length-append piece (joined more)))
+      (read-pieces more n (start + length piece) (at + 4) (behind size rec start at kind (length piece) rest e′) (a .1)
+      (omega (arith, length-append piece (joined more))) (omega arith)
+      ∙ ap (tiled ts) end)
+
+length-kinds : (at : ℕ) (pieces : List (List ℕ)) → length (tokensOf at pieces .kinds) ≡ length pieces
+unfolding tokensOf
+length-kinds at [] = refl
+length-kinds at (piece ∷ more) = ap suc (length-kinds (at + length piece) more)
+
+length-lengths : (at : ℕ) (pieces : List (List ℕ)) → length (tokensOf at pieces .lengths) ≡ length pieces
+unfolding tokensOf
+length-lengths at [] = refl
+length-lengths at (piece ∷ more) = ap suc (length-lengths (at + length piece) more)
+
+-- Four bytes a token.
+pub length-list : {text : List ℕ} {ts : Tokens} → ListOf text ts → length (commands (ts .kinds) (ts .lengths)) ≡ 4 * length (ts .kinds)
+length-list l =
+    rw (l .are)
+    (length-commands (tokensOf 0 (l .pieces) .kinds) (tokensOf 0 (l .pieces) .lengths)
+    (length-lengths 0 (l .pieces) ∙ sym (length-kinds 0 (l .pieces))))
+
+-- In front of any part of a record that does not start with a token.
+pub tokens-read : {text : List ℕ} {ts : Tokens} → ListOf text ts → length (ts .kinds) ≤ 4096 → (tree : List ℕ) → (getD tree 0 0 ≡ 5 → ⊥)
+    → Reading.tokens (length text) (commands (ts .kinds) (ts .lengths) ++ tree) ≡ tiled ts (4 * length (ts .kinds))
+unfolding Reading.tokens
+tokens-read {text} {ts} l few tree other =
+    let us = tokensOf 0 (l .pieces) in
+    let count : length (us .kinds) ≡ length (l .pieces) = length-kinds 0 (l .pieces) in
+    let n : length (us .kinds) ≤ 4096 = rw (l .are) at few in
+    rw (l .are)
+    (read-pieces (length text) (commands (us .kinds) (us .lengths) ++ tree) tree other (l .pieces) 4096 0 0 refl (l .longest)
+    (omega (arith, ap length (l .joins))) (omega arith)
+    ∙ ap (tiled us) (omega arith))

@@ -1,0 +1,501 @@
+-- Laws of string constants: what `next` says at each place, how a part of a string ends, the longest string constant. Assumes nothing.
+use Prim.Native.Nat.{ℕ, zero, suc, _+_, _-_, _*_, _≤_, _<_}
+use native.Mathlib.Omega.{arith}
+use native.Mathlib.Nat.{zero-add}
+use native.Mathlib.Numerals.{add-one}
+use mathlib.Core.Path.{_≡_, refl, sym, ap, ap₂, _∙_}
+use mathlib.Core.Bool.{Bool, true, false, false≢true}
+use mathlib.Core.List.{List, [], _∷_}
+use mathlib.Core.Option.{Option, none, some}
+use lib.Dec.{leb, eqb}
+use lib.ListN.{length, getD, drop, drop-of-length-le}
+use lib.Seq.{drop-cons, drop-drop}
+use borrow.Author.Tests.{eqb-true, ne-eqb, le-leb, lt-leb}
+use Rattle.text.specs.Bytes.{bytes, between, isSpace, isDigit, firstIs}
+use Rattle.scanner.specs.Parts.{isOneOf}
+use Rattle.scanner.specs.Strings.{Place, between-characters, escape, control, number, gap, closed, Step, wrong, to, character, isDigitOf, digitValue, numberEnds, digit, escaped, next, isClosed, characters}
+use Rattle.scanner.specs.Reach.{longer, reach, run}
+use Rattle.scanner.specs.Spans.{Span, ends, endless, further, span, onFrom, Inside, Goes}
+use Rattle.scanner.specs.declared.strings.Quoted.{Quoted}
+use Rattle.scanner.specs.declared.strings.Quoted.the-variants.{Ends, Endless}
+use Rattle.scanner.proofs.ReachLaws.{empty, onward, reach-nil, reach-cons, reach-never, reach-none, reach-step, run-yes, run-no, first-inside, first-here}
+
+-- ---- spans
+
+pub further-further : (a b c d : ℕ) (x : Span) → further a b (further c d x) ≡ further (a + c) (b + d) x
+unfolding further
+further-further a b c d (ends m n) = ap₂ ends (omega arith) (omega arith)
+further-further a b c d endless = refl
+
+further-zero : (x : Span) → further 0 0 x ≡ x
+unfolding further
+further-zero (ends m n) = ap₂ ends (omega arith) (omega arith)
+further-zero endless = refl
+
+-- ---- the longest string constant
+
+-- The text denotes a number of characters that passes.
+unfoldable pub denotes : (ℕ → Bool) → Place → List ℕ → Bool
+denotes test place t = elim (characters place t) [ none ↦ false | some n ↦ test n ]
+
+-- The bytes of a span whose characters pass.
+unfoldable pub bytesOf : (ℕ → Bool) → Span → Option ℕ
+bytesOf test (ends m n) = elim (test n) [ true ↦ some m | false ↦ none ]
+bytesOf test endless = none
+
+module _ (test : ℕ → Bool) (place : Place) (b : ℕ) where
+  denotes-wrong : next place b ≡ wrong → (t : List ℕ) → denotes test place (b ∷ t) ≡ false
+  unfolding denotes characters
+  denotes-wrong e t = rw (denotes, characters, e)
+
+  denotes-to : (after : Place) → next place b ≡ to after → (t : List ℕ) → denotes test place (b ∷ t) ≡ denotes test after t
+  unfolding denotes characters
+  denotes-to after e t = rw (denotes, characters, e)
+
+  denotes-character : next place b ≡ character → (t : List ℕ) → denotes test place (b ∷ t) ≡ denotes (λ n. test (suc n)) between-characters t
+  unfolding denotes characters
+  denotes-character e t = rw (denotes, characters, e) (go (characters between-characters t))
+    where
+      go : (x : Option ℕ) → _≡_ {A = Bool} (elim (elim x as (λ y. Option ℕ) [ none ↦ none | some n ↦ some (suc n) ]) as (λ y. Bool) [ none ↦ false | some n ↦ test n ]) (elim x as (λ y. Bool) [ none ↦ false | some n ↦ test (suc n) ])
+      go none = refl
+      go (some n) = refl
+
+denotes-open : (test : ℕ → Bool) (place : Place) → isClosed place ≡ false → denotes test place [] ≡ false
+unfolding denotes characters
+denotes-open test place e = rw (denotes, characters, e)
+
+denotes-closed : (test : ℕ → Bool) (place : Place) → isClosed place ≡ true → denotes test place [] ≡ test 0
+unfolding denotes characters
+denotes-closed test place e = rw (denotes, characters, e)
+
+closed-next : (place : Place) (b : ℕ) → isClosed place ≡ true → next place b ≡ wrong
+unfolding isClosed next
+closed-next between-characters b e = absurd (false≢true e)
+closed-next escape b e = absurd (false≢true e)
+closed-next control b e = absurd (false≢true e)
+closed-next (number base left value) b e = absurd (false≢true e)
+closed-next gap b e = absurd (false≢true e)
+closed-next closed b e = refl
+
+bytes-to : (test : ℕ → Bool) (x : Span) → longer 1 (bytesOf test x) ≡ bytesOf test (further 1 0 x)
+unfolding bytesOf further longer
+bytes-to test (ends m n) = rw (zero-add n) (go (test n))
+  where
+    go : (u : Bool) → _≡_ {A = Option ℕ} (longer 1 (elim u as (λ y. Option ℕ) [ true ↦ some m | false ↦ none ])) (elim u as (λ y. Option ℕ) [ true ↦ some (1 + m) | false ↦ none ])
+    go true = refl
+    go false = refl
+bytes-to test endless = refl
+
+bytes-character : (test : ℕ → Bool) (x : Span) → longer 1 (bytesOf (λ n. test (suc n)) x) ≡ bytesOf test (further 1 1 x)
+unfolding bytesOf further longer
+bytes-character test (ends m n) = rw (one-add n) (go (test (suc n)))
+  where
+    one-add : (n : ℕ) → 1 + n ≡ suc n
+    one-add n = omega arith
+
+    go : (u : Bool) → _≡_ {A = Option ℕ} (longer 1 (elim u as (λ y. Option ℕ) [ true ↦ some m | false ↦ none ])) (elim u as (λ y. Option ℕ) [ true ↦ some (1 + m) | false ↦ none ])
+    go true = refl
+    go false = refl
+bytes-character test endless = refl
+
+bytes-closed : (test : ℕ → Bool) → empty (test 0) ≡ bytesOf test (ends 0 0)
+unfolding bytesOf empty
+bytes-closed test = go (test 0)
+  where
+    go : (u : Bool) → empty u ≡ (elim u as (λ y. Option ℕ) [ true ↦ some 0 | false ↦ none ])
+    go true = refl
+    go false = refl
+
+module _ (place : Place) where
+  span-closed : (s : List ℕ) → isClosed place ≡ true → span place s ≡ ends 0 0
+  unfolding span
+  span-closed [] e = rw (span, e)
+  span-closed (b ∷ s) e = rw (span, e)
+
+  module _ (unclosed : isClosed place ≡ false) where
+    span-nil : span place [] ≡ endless
+    unfolding span
+    span-nil = rw (span, unclosed)
+
+    module _ (b : ℕ) (s : List ℕ) where
+      span-wrong : next place b ≡ wrong → span place (b ∷ s) ≡ endless
+      unfolding span
+      span-wrong e = rw (span, unclosed, e)
+
+      span-to : (after : Place) → next place b ≡ to after → span place (b ∷ s) ≡ further 1 0 (span after s)
+      unfolding span
+      span-to after e = rw (span, unclosed, e)
+
+      span-character : next place b ≡ character → span place (b ∷ s) ≡ further 1 1 (span between-characters s)
+      unfolding span
+      span-character e = rw (span, unclosed, e)
+
+-- By what the first byte does.
+reach-next : (test : ℕ → Bool) (place : Place) (b : ℕ) (s : List ℕ) → isClosed place ≡ false → ((test : ℕ → Bool) (place : Place) → reach (denotes test place) s ≡ bytesOf test (span place s)) → (x : Step) → next place b ≡ x → reach (denotes test place) (b ∷ s) ≡ bytesOf test (span place (b ∷ s))
+unfolding bytesOf
+reach-next test place b s unclosed ih wrong e =
+    reach-none (denotes test place) b s (denotes-open test place unclosed) (denotes-wrong test place b e) ∙ ap (bytesOf test) (sym (span-wrong place unclosed b s e))
+reach-next test place b s unclosed ih (to after) e =
+    reach-step (denotes test place) b s (denotes-open test place unclosed) (denotes-to test place b after e)
+    ∙ ap (longer 1) (ih test after)
+    ∙ bytes-to test (span after s)
+    ∙ ap (bytesOf test) (sym (span-to place unclosed b s after e))
+reach-next test place b s unclosed ih character e =
+    reach-step (denotes test place) b s (denotes-open test place unclosed) (denotes-character test place b e)
+    ∙ ap (longer 1) (ih (λ n. test (suc n)) between-characters)
+    ∙ bytes-character test (span between-characters s)
+    ∙ ap (bytesOf test) (sym (span-character place unclosed b s e))
+
+reach-closed : (test : ℕ → Bool) (place : Place) (s : List ℕ) → isClosed place ≡ true → reach (denotes test place) s ≡ bytesOf test (span place s)
+unfolding onward
+reach-closed test place [] e =
+    reach-nil (denotes test place) ∙ ap empty (denotes-closed test place e) ∙ bytes-closed test ∙ ap (bytesOf test) (sym (span-closed place [] e))
+reach-closed test place (b ∷ s) e =
+    reach-cons (denotes test place) b s
+    ∙ ap₂ onward (reach-never s (denotes-wrong test place b (closed-next place b e))) (denotes-closed test place e)
+    ∙ bytes-closed test
+    ∙ ap (bytesOf test) (sym (span-closed place (b ∷ s) e))
+
+pub reach-denotes : (s : List ℕ) (test : ℕ → Bool) (place : Place) → reach (denotes test place) s ≡ bytesOf test (span place s)
+unfolding empty bytesOf
+reach-denotes [] test place = go (isClosed place) refl
+  where
+    go : (u : Bool) → isClosed place ≡ u → reach (denotes test place) [] ≡ bytesOf test (span place [])
+    go true e = reach-closed test place [] e
+    go false e = reach-nil (denotes test place) ∙ ap empty (denotes-open test place e) ∙ ap (bytesOf test) (sym (span-nil place e))
+reach-denotes (b ∷ s) test place = go (isClosed place) refl (reach-denotes s)
+  where
+    go : (u : Bool) → isClosed place ≡ u → ((test : ℕ → Bool) (place : Place) → reach (denotes test place) s ≡ bytesOf test (span place s)) → reach (denotes test place) (b ∷ s) ≡ bytesOf test (span place (b ∷ s))
+    go true e ih = reach-closed test place (b ∷ s) e
+    go false e ih = reach-next test place b s e ih (next place b) refl
+
+-- ---- from a place to the next one between two characters
+
+inside-before : (s : List ℕ) (at : ℕ) (r : Quoted) → Inside s (at + 1) r → Inside s at r
+unfolding Inside
+inside-before s at (Ends end count) i = (omega (arith, i .0), omega (arith, i .1), i .2)
+inside-before s at Endless i = tt
+
+module _ (s : List ℕ) (at : ℕ) (place : Place) (unclosed : isClosed place ≡ false) where
+  pub goes-end : length s ≤ at → Goes s place at Endless
+  unfolding onFrom Inside further
+  goes-end h = record { is = ap (further at 0) (ap (span place) (drop-of-length-le s h) ∙ span-nil place unclosed); inside = tt }
+
+  module _ (h : at < length s) where
+    pub goes-wrong : next place (getD s at 0) ≡ wrong → Goes s place at Endless
+    unfolding onFrom Inside further
+    goes-wrong e =
+        record {
+          is = ap (further at 0) (ap (span place) (drop-cons s at 0 h) ∙ span-wrong place unclosed (getD s at 0) (drop (suc at) s) e);
+          inside = tt;
+        }
+
+    -- The byte ends what stands before the next character; it denotes one, or none.
+    lands : (count : ℕ) → count ≤ 1 → span place (drop at s) ≡ further 1 count (span between-characters (drop (suc at) s)) → Goes s place at (Ends (at + 1) count)
+    unfolding onFrom Inside
+    lands count l e =
+        record {
+          is = ap (further at 0) e
+              ∙ further-further at 0 1 count (span between-characters (drop (suc at) s))
+              ∙ ap₂ (λ (n : ℕ) (u : List ℕ). further (at + 1) n (span between-characters u)) (zero-add count) (ap (λ (n : ℕ). drop n s) (sym (add-one at)));
+          inside = (omega arith, omega arith, omega arith);
+        }
+
+    pub goes-character : next place (getD s at 0) ≡ character → Goes s place at (Ends (at + 1) 1)
+    goes-character e = lands 1 (omega arith) (ap (span place) (drop-cons s at 0 h) ∙ span-character place unclosed (getD s at 0) (drop (suc at) s) e)
+
+    pub goes-between : next place (getD s at 0) ≡ to between-characters → Goes s place at (Ends (at + 1) 0)
+    goes-between e = lands 0 (omega arith) (ap (span place) (drop-cons s at 0 h) ∙ span-to place unclosed (getD s at 0) (drop (suc at) s) between-characters e)
+
+    pub goes-to : (after : Place) {r : Quoted} → next place (getD s at 0) ≡ to after → Goes s after (at + 1) r → Goes s place at r
+    goes-to after {r} e g =
+        record {
+          is = ap (further at 0) (ap (span place) (drop-cons s at 0 h) ∙ span-to place unclosed (getD s at 0) (drop (suc at) s) after e)
+              ∙ further-further at 0 1 0 (span after (drop (suc at) s))
+              ∙ ap (λ (n : ℕ). further (at + 1) 0 (span after (drop n s))) (sym (add-one at))
+              ∙ g .is;
+          inside = inside-before s at r (g .inside);
+        }
+
+    -- Another place at which the byte does the same.
+    pub goes-as : (other : Place) {r : Quoted} → isClosed other ≡ false → next place (getD s at 0) ≡ next other (getD s at 0) → Goes s other at r → Goes s place at r
+    goes-as other {r} o e g =
+        record {
+          is = ap (further at 0) (ap (span place) (drop-cons s at 0 h) ∙ same-step (next other (getD s at 0)) e refl ∙ sym (ap (span other) (drop-cons s at 0 h))) ∙ g .is;
+          inside = g .inside;
+        }
+      where
+        same-step : (x : Step) → next place (getD s at 0) ≡ x → next other (getD s at 0) ≡ x → span place (getD s at 0 ∷ drop (suc at) s) ≡ span other (getD s at 0 ∷ drop (suc at) s)
+        same-step wrong e f = span-wrong place unclosed (getD s at 0) (drop (suc at) s) e ∙ sym (span-wrong other o (getD s at 0) (drop (suc at) s) f)
+        same-step (to after) e f = span-to place unclosed (getD s at 0) (drop (suc at) s) after e ∙ sym (span-to other o (getD s at 0) (drop (suc at) s) after f)
+        same-step character e f = span-character place unclosed (getD s at 0) (drop (suc at) s) e ∙ sym (span-character other o (getD s at 0) (drop (suc at) s) f)
+
+-- ---- what a byte does at each place
+
+module _ (b : ℕ) where
+  pub control-wrong : between 64 95 b ≡ false → next control b ≡ wrong
+  unfolding next
+  control-wrong e = rw (next, e)
+
+  pub control-right : between 64 95 b ≡ true → next control b ≡ character
+  unfolding next
+  control-right e = rw (next, e)
+
+  pub escaped-plain : isOneOf (bytes "abtnvfr\"\\") b ≡ true → next escape b ≡ character
+  unfolding next escaped
+  escaped-plain e = rw (escaped, e)
+
+  pub escaped-control : b ≡ 94 → next escape b ≡ to control
+  unfolding next escaped isOneOf bytes
+  escaped-control e = ap (next escape) e
+
+  pub escaped-u : b ≡ 117 → next escape b ≡ to (number 16 4 0)
+  unfolding next escaped isOneOf bytes isDigit between
+  escaped-u e = ap (next escape) e
+
+  module _ (plain : isOneOf (bytes "abtnvfr\"\\") b ≡ false) (caret : b ≡ 94 → ⊥) where
+    pub escaped-digit : isDigit b ≡ true → next escape b ≡ next (number 10 3 0) b
+    unfolding next escaped
+    escaped-digit e = rw (escaped, plain, ne-eqb b 94 caret, e)
+
+    pub escaped-gap : isDigit b ≡ false → (b ≡ 117 → ⊥) → isSpace b ≡ true → next escape b ≡ to gap
+    unfolding next escaped
+    escaped-gap d u e = rw (escaped, plain, ne-eqb b 94 caret, d, ne-eqb b 117 u, e)
+
+    pub escaped-wrong : isDigit b ≡ false → (b ≡ 117 → ⊥) → isSpace b ≡ false → next escape b ≡ wrong
+    unfolding next escaped
+    escaped-wrong d u e = rw (escaped, plain, ne-eqb b 94 caret, d, ne-eqb b 117 u, e)
+
+  pub between-quote : b ≡ 34 → next between-characters b ≡ to closed
+  unfolding next
+  between-quote e = ap (next between-characters) e
+
+  pub between-escape : b ≡ 92 → next between-characters b ≡ to escape
+  unfolding next
+  between-escape e = ap (next between-characters) e
+
+  module _ (quote : b ≡ 34 → ⊥) (backslash : b ≡ 92 → ⊥) where
+    pub between-wrong : between 32 126 b ≡ false → next between-characters b ≡ wrong
+    unfolding next
+    between-wrong e = rw (next, ne-eqb b 34 quote, ne-eqb b 92 backslash, e)
+
+    pub between-character : between 32 126 b ≡ true → next between-characters b ≡ character
+    unfolding next
+    between-character e = rw (next, ne-eqb b 34 quote, ne-eqb b 92 backslash, e)
+
+  gap-space : isSpace b ≡ true → next gap b ≡ to gap
+  unfolding next
+  gap-space e = rw (next, e)
+
+  gap-wrong : isSpace b ≡ false → eqb b 92 ≡ false → next gap b ≡ wrong
+  unfolding next
+  gap-wrong e f = rw (next, e, f)
+
+  gap-back : b ≡ 92 → next gap b ≡ to between-characters
+  unfolding next isSpace between
+  gap-back e = ap (next gap) e
+
+-- Places inside a string are open.
+pub open-between : isClosed between-characters ≡ false
+unfolding isClosed
+open-between = refl
+
+pub open-escape : isClosed escape ≡ false
+unfolding isClosed
+open-escape = refl
+
+pub open-control : isClosed control ≡ false
+unfolding isClosed
+open-control = refl
+
+pub open-gap : isClosed gap ≡ false
+unfolding isClosed
+open-gap = refl
+
+closed-is : isClosed closed ≡ true
+unfolding isClosed
+closed-is = refl
+
+pub open-number : (base left value : ℕ) → isClosed (number base left value) ≡ false
+unfolding isClosed
+open-number base left value = refl
+
+-- ---- gaps
+
+one-add : (n : ℕ) → 1 + n ≡ suc n
+one-add n = omega arith
+
+gap-run : (u : List ℕ) → span gap u ≡ further (run isSpace u) 0 (span gap (drop (run isSpace u) u))
+unfolding run
+gap-run [] = sym (further-zero (span gap []))
+gap-run (b ∷ u) = go (isSpace b) refl (gap-run u)
+  where
+    go : (x : Bool) → isSpace b ≡ x → span gap u ≡ further (run isSpace u) 0 (span gap (drop (run isSpace u) u)) → span gap (b ∷ u) ≡ further (run isSpace (b ∷ u)) 0 (span gap (drop (run isSpace (b ∷ u)) (b ∷ u)))
+    go true e ih =
+        span-to gap open-gap b u gap (gap-space b e)
+        ∙ ap (further 1 0) ih
+        ∙ further-further 1 0 (run isSpace u) 0 (span gap (drop (run isSpace u) u))
+        ∙ ap (λ (n : ℕ). further n 0 (span gap (drop (run isSpace u) u))) (one-add (run isSpace u))
+        ∙ ap (λ (n : ℕ). further n 0 (span gap (drop n (b ∷ u)))) (sym (run-yes isSpace b u e))
+    go false e ih =
+        sym (further-zero (span gap (b ∷ u))) ∙ ap (λ (n : ℕ). further n 0 (span gap (drop n (b ∷ u)))) (sym (run-no isSpace b u e))
+
+run-past : (test : ℕ → Bool) (u : List ℕ) → run test (drop (run test u) u) ≡ 0
+unfolding run
+run-past test [] = refl
+run-past test (b ∷ u) = go (test b) refl (run-past test u)
+  where
+    go : (x : Bool) → test b ≡ x → run test (drop (run test u) u) ≡ 0 → run test (drop (run test (b ∷ u)) (b ∷ u)) ≡ 0
+    go true e ih = ap (λ (n : ℕ). run test (drop n (b ∷ u))) (run-yes test b u e) ∙ ih
+    go false e ih = ap (λ (n : ℕ). run test (drop n (b ∷ u))) (run-no test b u e) ∙ run-no test b u e
+
+gap-stop : (u : List ℕ) → run isSpace u ≡ 0 → firstIs (λ b. eqb b 92) u ≡ false → span gap u ≡ endless
+unfolding firstIs
+gap-stop [] r e = span-nil gap open-gap
+gap-stop (b ∷ u) r e = go (isSpace b) refl
+  where
+    go : (x : Bool) → isSpace b ≡ x → span gap (b ∷ u) ≡ endless
+    go true f = absurd (omega (arith, run-yes isSpace b u f))
+    go false f = span-wrong gap open-gap b u (gap-wrong b f e)
+
+module _ (s : List ℕ) (from at : ℕ) (is : at ≡ from + run isSpace (drop from s)) where
+  gap-span : further from 0 (span gap (drop from s)) ≡ further at 0 (span gap (drop at s))
+  gap-span =
+      let n = run isSpace (drop from s) in
+      ap (further from 0) (gap-run (drop from s))
+      ∙ further-further from 0 n 0 (span gap (drop n (drop from s)))
+      ∙ ap (λ (u : List ℕ). further (from + n) 0 (span gap u)) (drop-drop n from s)
+      ∙ ap (λ (m : ℕ). further m 0 (span gap (drop m s))) (sym is)
+
+  pub gap-shut : firstIs (λ b. eqb b 92) (drop at s) ≡ true → Goes s gap from (Ends (at + 1) 0)
+  unfolding Inside
+  gap-shut h =
+      let l = first-inside (λ b. eqb b 92) s at h in
+      let e = eqb-true (getD s at 0) 92 (sym (first-here (λ b. eqb b 92) s at l) ∙ h) in
+      let g = goes-between s at gap open-gap l (gap-back (getD s at 0) e) in
+      record { is = gap-span ∙ g .is; inside = (omega arith, omega arith, omega arith) }
+
+  pub gap-open : firstIs (λ b. eqb b 92) (drop at s) ≡ false → Goes s gap from Endless
+  unfolding onFrom Inside further
+  gap-open h =
+      let r : run isSpace (drop at s) ≡ 0 = ap (run isSpace) (ap (λ (m : ℕ). drop m s) is ∙ sym (drop-drop (run isSpace (drop from s)) from s)) ∙ run-past isSpace (drop from s) in
+      record { is = gap-span ∙ ap (further at 0) (gap-stop (drop at s) r h); inside = tt }
+
+-- ---- the digits of `\ddd` and `\uxxxx`
+
+-- What stands behind this many digits less.
+unfoldable pub pending : ℕ → ℕ → ℕ → List ℕ → Span
+pending base zero value u = further 0 1 (span between-characters u)
+pending base (suc left) value u = span (number base (suc left) value) u
+
+pub pending-first : (base count : ℕ) (u : List ℕ) → 1 ≤ count → span (number base count 0) u ≡ pending base count 0 u
+unfolding pending
+pending-first base zero u h = absurd (omega arith)
+pending-first base (suc n) u h = refl
+
+module _ (base left value b : ℕ) (u : List ℕ) where
+  number-step : next (number base (suc left) value) b ≡ digit base left value b
+  unfolding next
+  number-step = ap (λ (n : ℕ). digit base n value b) (less left)
+    where
+      less : (n : ℕ) → suc n - 1 ≡ n
+      less n = omega arith
+
+  pending-other : isDigitOf base b ≡ false → pending base (suc left) value (b ∷ u) ≡ endless
+  unfolding pending digit
+  pending-other e = span-wrong (number base (suc left) value) (open-number base (suc left) value) b u (number-step ∙ rw (digit, e))
+
+  pending-over : isDigitOf base b ≡ true → leb (value * base + digitValue b) 255 ≡ false → pending base (suc left) value (b ∷ u) ≡ endless
+  unfolding pending digit
+  pending-over e f = span-wrong (number base (suc left) value) (open-number base (suc left) value) b u (number-step ∙ rw (digit, e, f))
+
+  digit-ends : isDigitOf base b ≡ true → leb (value * base + digitValue b) 255 ≡ true → next (number base (suc left) value) b ≡ numberEnds base left (value * base + digitValue b)
+  unfolding digit
+  digit-ends e f = number-step ∙ rw (digit, e, f)
+
+pending-one : (base left value b : ℕ) (u : List ℕ) → isDigitOf base b ≡ true → leb (value * base + digitValue b) 255 ≡ true → pending base (suc left) value (b ∷ u) ≡ further 1 0 (pending base left (value * base + digitValue b) u)
+unfolding pending numberEnds
+pending-one base zero value b u e f =
+    span-character (number base 1 value) (open-number base 1 value) b u (digit-ends base 0 value b u e f)
+    ∙ sym (further-further 1 0 0 1 (span between-characters u))
+pending-one base (suc left) value b u e f =
+    span-to (number base (suc (suc left)) value) (open-number base (suc (suc left)) value) b u (number base (suc left) (value * base + digitValue b))
+    (digit-ends base (suc left) value b u e f)
+
+module _ (s : List ℕ) (place : Place) (from at : ℕ) (x : Span) (is : further from 0 (span place (drop from s)) ≡ further at 0 x) where
+  pub goes-endless : x ≡ endless → Goes s place from Endless
+  unfolding onFrom Inside further
+  goes-endless e = record { is = is ∙ ap (further at 0) e; inside = tt }
+
+  -- The last digit was read.
+  pub goes-read : (base left value : ℕ) → x ≡ pending base left value (drop at s) → left ≤ 0 → from + 1 ≤ at → at ≤ length s → Goes s place from (Ends at 1)
+  unfolding onFrom Inside pending
+  goes-read base zero value e l f h =
+      let z : at + 0 ≡ at = omega arith in
+      record {
+        is = is
+            ∙ ap (further at 0) e
+            ∙ further-further at 0 0 1 (span between-characters (drop at s))
+            ∙ ap (λ (n : ℕ). further n 1 (span between-characters (drop at s))) z;
+        inside = (omega arith, omega arith, omega arith);
+      }
+  goes-read base (suc left) value e l f h = absurd (omega arith)
+
+module _ (s : List ℕ) (at base left value k : ℕ) (is : left ≡ suc k) where
+  pub digits-end : length s ≤ at → pending base left value (drop at s) ≡ endless
+  unfolding pending
+  digits-end h =
+      ap₂ (λ (n : ℕ) (u : List ℕ). pending base n value u) is (drop-of-length-le s h) ∙ span-nil (number base (suc k) value) (open-number base (suc k) value)
+
+  at-digit : at < length s → pending base left value (drop at s) ≡ pending base (suc k) value (getD s at 0 ∷ drop (suc at) s)
+  at-digit h = ap₂ (λ (n : ℕ) (u : List ℕ). pending base n value u) is (drop-cons s at 0 h)
+
+  pub digits-other : at < length s → isDigitOf base (getD s at 0) ≡ false → pending base left value (drop at s) ≡ endless
+  digits-other h e = at-digit h ∙ pending-other base k value (getD s at 0) (drop (suc at) s) e
+
+  module _ (v : ℕ) (sum : v ≡ value * base + digitValue (getD s at 0)) (h : at < length s) (e : isDigitOf base (getD s at 0) ≡ true) where
+    pub digits-over : 255 < v → pending base left value (drop at s) ≡ endless
+    digits-over f = at-digit h ∙ pending-over base k value (getD s at 0) (drop (suc at) s) e (lt-leb (value * base + digitValue (getD s at 0)) 255 (omega arith))
+
+    pub digits-more : v ≤ 255 → further at 0 (pending base left value (drop at s)) ≡ further (at + 1) 0 (pending base k v (drop (at + 1) s))
+    digits-more f =
+        ap (further at 0)
+        (at-digit h
+        ∙ pending-one base k value (getD s at 0) (drop (suc at) s) e (le-leb (value * base + digitValue (getD s at 0)) 255 (omega arith)))
+        ∙ further-further at 0 1 0 (pending base k (value * base + digitValue (getD s at 0)) (drop (suc at) s))
+        ∙ ap₂ (λ (m n : ℕ). further (at + 1) 0 (pending base k m (drop n s))) (sym sum) (sym (add-one at))
+
+-- ---- the whole string
+
+module _ (s : List ℕ) (at total : ℕ) where
+  from-total : (x : Span) → further at total x ≡ further 0 total (further at 0 x)
+  from-total x = ap₂ (λ (m n : ℕ). further m n x) (omega arith) (omega arith) ∙ sym (further-further 0 total at 0 x)
+
+  pub string-quote : at < length s → getD s at 0 ≡ 34 → further at total (span between-characters (drop at s)) ≡ ends (at + 1) total
+  unfolding further
+  string-quote h e =
+      ap (further at total)
+      (ap (span between-characters) (drop-cons s at 0 h)
+      ∙ span-to between-characters open-between (getD s at 0) (drop (suc at) s) closed (between-quote (getD s at 0) e)
+      ∙ ap (further 1 0) (span-closed closed (drop (suc at) s) closed-is))
+      ∙ ap₂ ends refl (omega arith)
+
+  pub string-end : length s ≤ at → further at total (span between-characters (drop at s)) ≡ endless
+  unfolding further
+  string-end h = ap (further at total) (ap (span between-characters) (drop-of-length-le s h) ∙ span-nil between-characters open-between)
+
+  module _ (r : Quoted) (g : Goes s between-characters at r) where
+    pub string-endless : r ≡ Endless → further at total (span between-characters (drop at s)) ≡ endless
+    unfolding onFrom further
+    string-endless e = from-total (span between-characters (drop at s)) ∙ ap (further 0 total) (g .is ∙ ap (onFrom s) e)
+
+    pub string-more : (end count : ℕ) → r ≡ Ends end count → further at total (span between-characters (drop at s)) ≡ further end (total + count) (span between-characters (drop end s))
+    unfolding onFrom
+    string-more end count e =
+        from-total (span between-characters (drop at s))
+        ∙ ap (further 0 total) (g .is ∙ ap (onFrom s) e)
+        ∙ further-further 0 total end count (span between-characters (drop end s))
+        ∙ ap (λ (n : ℕ). further n (total + count) (span between-characters (drop end s))) (zero-add end)
+
+    pub string-inside : (end count : ℕ) → r ≡ Ends end count → Inside s at (Ends end count)
+    string-inside end count e = rw e at (g .inside)

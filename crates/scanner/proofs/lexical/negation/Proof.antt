@@ -1,0 +1,25 @@
+-- `negation` meets its contract. Assumes nothing.
+use denote.Ref.{now}
+use mathlib.Core.Path.{sym, _∙_}
+use Rattle.scanner.specs.Reach.{inClass}
+use Rattle.scanner.proofs.TokenLaws.{tilde-symbol, tilde-number}
+use borrow.Author.Needs.{needs}
+use Rattle.scanner.proofs.lexical.negation.Statement.{statement}
+use Rattle.scanner.proofs.lexical.negation.Tie as tie
+
+magnitude-requires : tie.Need-magnitude-requires
+magnitude-requires c κs = search needs
+
+run-requires : tie.Need-run-requires
+run-requires c κs = search needs
+
+returns : tie.Need-returns
+unfolding inClass
+returns c = c .run .ensures ∙ sym (tilde-symbol (now (c .before .before .before .before .args .rest)) (c .before .before .before .before .pre) _ (c .before .before .magnitude .ensures) (c .before .if1 .taken))
+
+returns-2 : tie.Need-returns-2
+unfolding inClass
+returns-2 c = tilde-number (now (c .before .before .before .args .rest)) (c .before .before .before .pre) _ (c .before .magnitude .ensures) (c .if1 .left)
+
+pub negation-spec : {M : Type 1} → statement M
+negation-spec = tie.close (tie.spec magnitude-requires run-requires returns returns-2)

@@ -1,0 +1,60 @@
+-- What contracts of functions below a token cite: the longest part at a text's start that a recognizer takes, and runs of bytes.
+use Prim.Native.Nat.{ℕ, suc, _+_}
+use mathlib.Core.List.{List, [], _∷_}
+use mathlib.Core.Bool.{Bool, true, false, _&&_, _||_}
+use mathlib.Core.Option.{Option, none, some}
+use lib.Dec.{eqb}
+use Rattle.text.specs.Bytes.{bytes, sameBytes, isSpace, isDigit}
+use Rattle.scanner.specs.Parts.{oneOrMore, behind}
+use Rattle.scanner.specs.Constants.{isHexDigit, digitsThen, isFraction, isExponent}
+use Rattle.scanner.specs.Lexical.{isAlphanumericByte, isSymbol}
+use Rattle.scanner.specs.declared.runs.Class.{Class}
+use Rattle.scanner.specs.declared.runs.Class.the-variants.{Space, Alphanumeric, Symbol, Digit, HexDigit}
+use Rattle.scanner.specs.declared.lexical.Mark.{Mark}
+use Rattle.scanner.specs.declared.lexical.Mark.the-variants.{Opens, Closes, Other}
+
+-- A length, some bytes more.
+unfoldable pub longer : ℕ → Option ℕ → Option ℕ
+longer k none = none
+longer k (some n) = some (k + n)
+
+-- The length of the longest part at the start that passes.
+unfoldable pub reach : (List ℕ → Bool) → List ℕ → Option ℕ
+reach passes [] = elim (passes []) [ true ↦ some 0 | false ↦ none ]
+reach passes (b ∷ t) =
+    elim (reach (λ u. passes (b ∷ u)) t) [ some n ↦ some (suc n) | none ↦ elim (passes []) [ true ↦ some 0 | false ↦ none ] ]
+
+-- A length, 0 for none.
+unfoldable pub taken : Option ℕ → ℕ
+taken none = 0
+taken (some n) = n
+
+-- How many bytes at the start pass the test.
+unfoldable pub run : (ℕ → Bool) → List ℕ → ℕ
+run test [] = 0
+run test (b ∷ t) = elim (test b) [ true ↦ suc (run test t) | false ↦ 0 ]
+
+-- The test of a class of bytes.
+unfoldable pub inClass : Class → ℕ → Bool
+inClass Space = isSpace
+inClass Alphanumeric = isAlphanumericByte
+inClass Symbol = isSymbol
+inClass Digit = isDigit
+inClass HexDigit = isHexDigit
+
+-- A hexadecimal integer, and any integer or real constant, without a negation symbol.
+unfoldable pub isHexadecimal : List ℕ → Bool
+isHexadecimal t = behind (bytes "0x") (oneOrMore isHexDigit) t
+
+unfoldable pub isMagnitude : List ℕ → Bool
+isMagnitude t = oneOrMore isDigit t || isHexadecimal t || digitsThen (λ r. isFraction r || isExponent r) t
+
+-- What the first two bytes mean in a comment.
+unfoldable pub markOf : List ℕ → Mark
+markOf [] = Other
+markOf (b ∷ []) = Other
+markOf (b ∷ c ∷ t) = elim (eqb b 40 && eqb c 42) [ true ↦ Opens | false ↦ elim (eqb b 42 && eqb c 41) [ true ↦ Closes | false ↦ Other ] ]
+
+-- The kind where the text is the word, else the other.
+unfoldable pub kindIf : List ℕ → List ℕ → ℕ → ℕ → ℕ
+kindIf t word kind other = elim (sameBytes t word) [ true ↦ kind | false ↦ other ]

@@ -1,0 +1,237 @@
+// The longest token at the start of a text, and the kind of a token.
+use crate::numbers;
+use crate::runs;
+use crate::runs::Class;
+use crate::strings;
+use crate::strings::Quoted;
+ghost use mathlib.Core.Path.{_≡_};
+ghost use mathlib.Core.List.{_∷_};
+ghost use mathlib.Core.Bool.{true, false};
+ghost use Prim.Native.Nat.{_<_};
+ghost use lib.ListN.{length, drop};
+ghost use Rattle.text.specs.Bytes.{isSpace, isLetter, isDigit};
+ghost use Rattle.scanner.specs.Lexical.{closes, longest, kindOf};
+ghost use Rattle.scanner.specs.Reach.{longer, reach, taken, markOf, kindIf};
+
+// What two bytes mean in a comment.
+enum Mark {
+    Opens,
+    Closes,
+    Other,
+}
+
+fn mark_at(s: &[u8], at: usize) -> Mark
+    requires { ⌜ at < length (now s) ⌝ }
+    ensures { λ r. ⌜ r ≡ markOf (drop at (now (s .entry))) ⌝ }
+{
+    let b = s[at];
+    if b == 40 {
+        if runs::stands(s, at + 1, 42) {
+            return Mark::Opens;
+        }
+        return Mark::Other;
+    }
+    if b == 42 {
+        if runs::stands(s, at + 1, 41) {
+            return Mark::Closes;
+        }
+    }
+    Mark::Other
+}
+
+// The end of a comment that starts with the two bytes before an offset; 0 where it has none.
+fn comment_end(s: &[u8], from: usize) -> usize
+    ensures { λ r. ⌜ r ≡ taken (longer from (reach (λ t. closes t 1) (drop from (now (s .entry))))) ⌝ }
+{
+    let mut at = from;
+    let mut depth: usize = 1;
+    while at < s.len() {
+        match mark_at(s, at) {
+            Mark::Opens => {
+                depth += 1;
+                at += 2;
+                continue;
+            }
+            Mark::Closes => {
+                depth -= 1;
+                at += 2;
+                if depth == 0 {
+                    return at;
+                }
+                continue;
+            }
+            Mark::Other => {
+                at += 1;
+                continue;
+            }
+        }
+    }
+    0
+}
+
+// A token that starts with `~`.
+fn negation(rest: &[u8]) -> usize
+    requires { ⌜ now rest ≡ 126 ∷ drop 1 (now rest) ⌝ }
+    ensures { λ r. ⌜ r ≡ longest (now (rest .entry)) ⌝ }
+{
+    let end = numbers::magnitude(rest, 1);
+    if end == 1 {
+        return runs::run(rest, 1, Class::Symbol);
+    }
+    end
+}
+
+// A token that starts with `#`.
+fn hash(rest: &[u8]) -> usize
+    requires { ⌜ now rest ≡ 35 ∷ drop 1 (now rest) ⌝ }
+    ensures { λ r. ⌜ r ≡ longest (now (rest .entry)) ⌝ }
+{
+    if !runs::stands(rest, 1, 34) {
+        return runs::run(rest, 1, Class::Symbol);
+    }
+    let Quoted::Ends { end, count } = strings::string(rest, 2) else {
+        return 1;
+    };
+    if count == 1 {
+        return end;
+    }
+    1
+}
+
+// A token that starts with `"`.
+fn quoted(rest: &[u8]) -> usize
+    requires { ⌜ now rest ≡ 34 ∷ drop 1 (now rest) ⌝ }
+    ensures { λ r. ⌜ r ≡ longest (now (rest .entry)) ⌝ }
+{
+    let Quoted::Ends { end, count: _ } = strings::string(rest, 1) else {
+        return 0;
+    };
+    end
+}
+
+// A token that starts with a digit.
+fn number(rest: &[u8], b: u8) -> usize
+    requires { ⌜ now rest ≡ b ∷ drop 1 (now rest) ⌝ }
+    requires { ⌜ isDigit b ≡ true ⌝ }
+    ensures { λ r. ⌜ r ≡ longest (now (rest .entry)) ⌝ }
+{
+    let end = numbers::word(rest);
+    if end == 0 {
+        return numbers::magnitude(rest, 0);
+    }
+    end
+}
+
+// A token that starts with `(`.
+fn bracket(rest: &[u8]) -> usize
+    requires { ⌜ now rest ≡ 40 ∷ drop 1 (now rest) ⌝ }
+    ensures { λ r. ⌜ r ≡ longest (now (rest .entry)) ⌝ }
+{
+    if runs::stands(rest, 1, 42) {
+        return comment_end(rest, 2);
+    }
+    1
+}
+
+// A token that starts with `.`.
+fn dots(rest: &[u8]) -> usize
+    requires { ⌜ now rest ≡ 46 ∷ drop 1 (now rest) ⌝ }
+    ensures { λ r. ⌜ r ≡ longest (now (rest .entry)) ⌝ }
+{
+    if runs::stands(rest, 1, 46) {
+        if runs::stands(rest, 2, 46) {
+            return 3;
+        }
+    }
+    1
+}
+
+// A token that starts with none of letters, primes, digits, white space.
+fn other(rest: &[u8], b: u8) -> usize
+    requires { ⌜ now rest ≡ b ∷ drop 1 (now rest) ⌝ }
+    requires { ⌜ (isSpace b ≡ false) × (isLetter b ≡ false) × (b ≡ 39 → ⊥) × (isDigit b ≡ false) ⌝ }
+    ensures { λ r. ⌜ r ≡ longest (now (rest .entry)) ⌝ }
+{
+    match b {
+        34 => quoted(rest),
+        35 => hash(rest),
+        40 => bracket(rest),
+        46 => dots(rest),
+        126 => negation(rest),
+        41 | 44 | 59 | 91 | 93 | 95 | 123 | 125 => 1,
+        _ => {
+            if runs::is_symbol(b) {
+                return runs::run(rest, 1, Class::Symbol);
+            }
+            0
+        }
+    }
+}
+
+// The length of the longest token at the start; 0 where none begins there.
+pub fn token_length(rest: &[u8]) -> usize
+    ensures { λ r. ⌜ r ≡ longest (now (rest .entry)) ⌝ }
+{
+    if rest.len() == 0 {
+        return 0;
+    }
+    let b = rest[0];
+    if text::is_space(b) {
+        return runs::run(rest, 1, Class::Space);
+    }
+    if text::is_letter(b) {
+        return runs::run(rest, 1, Class::Alphanumeric);
+    }
+    if b == 39 {
+        return runs::run(rest, 1, Class::Alphanumeric);
+    }
+    if text::is_digit(b) {
+        return number(rest, b);
+    }
+    other(rest, b)
+}
+
+// The kind where the token is the word, else the other.
+fn kind_if(token: &[u8], word: &[u8], kind: u8, other: u8) -> u8
+    ensures { λ r. ⌜ r ≡ kindIf (now (token .entry)) (now (word .entry)) kind other ⌝ }
+{
+    if text::same(token, word) {
+        return kind;
+    }
+    other
+}
+
+// The kind of a token, by its text.
+pub fn kind_of(token: &[u8]) -> u8
+    ensures { λ r. ⌜ r ≡ kindOf (now (token .entry)) ⌝ }
+{
+    if token.len() == 0 {
+        return 0;
+    }
+    match token[0] {
+        40 => {
+            if runs::stands(token, 1, 42) {
+                return 1;
+            }
+            0
+        }
+        46 => kind_if(token, b"...", 2, 0),
+        97 => kind_if(token, b"and", 3, kind_if(token, b"abstype", 9, 0)),
+        100 => kind_if(token, b"datatype", 8, kind_if(token, b"do", 15, 0)),
+        101 => kind_if(token, b"eqtype", 7, kind_if(token, b"exception", 10, 0)),
+        102 => kind_if(token, b"fun", 5, kind_if(token, b"functor", 19, 0)),
+        105 => kind_if(
+            token,
+            b"infix",
+            12,
+            kind_if(token, b"infixr", 13, kind_if(token, b"include", 20, 0)),
+        ),
+        108 => kind_if(token, b"local", 16, 0),
+        110 => kind_if(token, b"nonfix", 14, 0),
+        111 => kind_if(token, b"open", 11, 0),
+        115 => kind_if(token, b"structure", 17, kind_if(token, b"signature", 18, 0)),
+        116 => kind_if(token, b"type", 6, 0),
+        118 => kind_if(token, b"val", 4, 0),
+        _ => 0,
+    }
+}
