@@ -3,7 +3,10 @@
 //! The port reads a text and a record; the Rust reads a tree at hand. So two times of the Rust stand
 //! beside the port's: over the tree at hand, and with the tree made from the record before.
 
+mod greedy;
+mod scan;
 mod sheets;
+mod texts;
 mod time;
 
 use decode::decode;
@@ -11,7 +14,7 @@ use diverplume::Number;
 use sheets::Named;
 use sml_syntax::ast::AstNode as _;
 use std::hint::black_box;
-use time::{times, Call, Times, REPEATS};
+use time::{call, named, Times, REPEATS};
 
 /// The tab size.
 const TAB_SIZE: u32 = 2;
@@ -33,6 +36,7 @@ fn main() {
             println!("{call:8} {:6.2}", full.for_a_byte[at] / small.for_a_byte[at]);
         }
     }
+    scan::measure(only.as_deref());
 }
 
 /// What is kept of a sheet.
@@ -70,15 +74,6 @@ fn print(rows: &[(&'static str, Times)]) -> Times {
         println!();
     }
     port
-}
-
-fn named(mut calls: Vec<Call<'_>>) -> Vec<(&'static str, Times)> {
-    let times = times(&mut calls);
-    calls.iter().map(|call| call.name).zip(times).collect()
-}
-
-fn call<'a>(name: &'static str, run: impl FnMut() + 'a) -> Call<'a> {
-    Call { name, run: Box::new(run) }
 }
 
 fn get_times(text: &[u8], record: &[u8], length: usize) -> Vec<(&'static str, Times)> {

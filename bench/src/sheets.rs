@@ -16,7 +16,7 @@ pub struct Named {
 }
 
 /// The text of several branches: the rule file so many times, the structure's name numbered.
-fn branches(count: usize) -> String {
+pub fn branches(count: usize) -> String {
     (1..=count).map(|branch| RULES.replace("HarbourStreet", &format!("Branch{branch}"))).collect()
 }
 

@@ -51,7 +51,7 @@ fn runs(call: &mut Call<'_>) -> u32 {
 }
 
 /// The times of all calls. Each repeat has a turn of every call, and begins with another call.
-pub fn times(calls: &mut [Call<'_>]) -> Vec<Times> {
+fn times(calls: &mut [Call<'_>]) -> Vec<Times> {
     let runs: Vec<_> = calls.iter_mut().map(runs).collect();
     let mut taken = vec![Vec::new(); calls.len()];
     for repeat in 0..REPEATS {
@@ -67,4 +67,15 @@ pub fn times(calls: &mut [Call<'_>]) -> Vec<Times> {
 fn spread(mut taken: Vec<f64>) -> Times {
     taken.sort_by(f64::total_cmp);
     Times { least: taken[0], median: taken[taken.len() / 2], greatest: taken[taken.len() - 1] }
+}
+
+/// The times of calls with their names.
+pub fn named(mut calls: Vec<Call<'_>>) -> Vec<(&'static str, Times)> {
+    let times = times(&mut calls);
+    calls.iter().map(|call| call.name).zip(times).collect()
+}
+
+/// A call with its name.
+pub fn call<'a>(name: &'static str, run: impl FnMut() + 'a) -> Call<'a> {
+    Call { name, run: Box::new(run) }
 }

@@ -4,7 +4,7 @@ use crate::message::Cause;
 use crate::verdict::{CommentAbove, Lookup, Verdict, NUMBERS};
 
 /// What stands in an answer before a call; no number of a verdict.
-const UNWRITTEN: u64 = 0x5A5A_5A5A_5A5A_5A5A;
+pub(crate) const UNWRITTEN: u64 = 0x5A5A_5A5A_5A5A_5A5A;
 
 // A slice is passed as its pointer and its length, an array as its pointer.
 extern "C" {

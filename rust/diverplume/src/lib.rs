@@ -36,13 +36,30 @@
 //! );
 //! ```
 //!
+//! [`scan`] gives the tokens of a text, for a parser that has none of its own:
+//!
+//! ```
+//! let tokens = diverplume::scan(b"op :: ")?;
+//! let ranges: Vec<_> = tokens.iter().map(|(_, range)| range).collect();
+//! assert_eq!(ranges, [0..2, 2..3, 3..5, 5..6]);
+//! let refusal = diverplume::scan(b"val x =\n  (* why").unwrap_err();
+//! assert_eq!(
+//!     refusal.to_string(),
+//!     "refused (10): the comment that opens at line 2, column 3 of the text (offset 10) has no end; \
+//!      close it, and each comment inside it, with *)"
+//! );
+//! # Ok::<(), diverplume::Refusal>(())
+//! ```
+//!
 //! The archive is what `rt staticlib exports` makes in the repository's root; the variable
 //! `DIVERPLUME_ARCHIVE` may name another place of it.
 
 mod calls;
 mod message;
+mod scan;
 mod verdict;
 
 pub use calls::{check, comment_above, doc_comment_above, format, get};
 pub use diverplume_record as record;
+pub use scan::{scan, scan_into, Refusal, TokenRanges, Tokens};
 pub use verdict::{CommentAbove, CommentSet, Comments, Lookup, Measures, Number, Verdict};

@@ -1,5 +1,6 @@
 //! Verdicts in words.
 
+use crate::scan::{longest_output, Refusal};
 use crate::verdict::{CommentAbove, Lookup, Measures, Number, Verdict};
 use diverplume_record::{command, limit};
 use std::fmt;
@@ -21,6 +22,10 @@ pub(crate) enum Cause {
     DocOutput(usize),
     /// A token number, and the count of tokens.
     Token(u64, usize),
+    /// The length of a text by itself.
+    TextLength(usize),
+    /// The output of a scan, and a length that is enough.
+    TokenOutput(usize, usize),
 }
 
 /// A line and a column, both from 1.
@@ -46,11 +51,24 @@ impl Cause {
     pub(crate) fn of_sheet(number: Number, place: usize, text: &[u8], record: &[u8]) -> Self {
         match number {
             Number::TooLong => Self::Lengths(text.len(), record.len()),
-            Number::NotAscii | Number::CommentsLeft => text
-                .get(place)
-                .map_or(Self::None, |&byte| Self::Text(Position::of(text, place), byte)),
+            Number::NotAscii | Number::CommentsLeft => Self::in_text(place, text),
             Number::Malformed | Number::TooDeep => Self::Record(Fault::at(place, text, record)),
             _ => Self::None,
+        }
+    }
+
+    /// A place in the text.
+    fn in_text(place: usize, text: &[u8]) -> Self {
+        let byte = text.get(place);
+        byte.map_or(Self::None, |&byte| Self::Text(Position::of(text, place), byte))
+    }
+
+    /// The cause of a scan's number.
+    pub(crate) fn of_scan(number: Number, place: usize, text: &[u8], output: usize) -> Self {
+        match number {
+            Number::TooLong => Self::TextLength(text.len()),
+            Number::OutputTooShort => Self::TokenOutput(output, longest_output(text)),
+            _ => Self::in_text(place, text),
         }
     }
 
@@ -143,11 +161,7 @@ fn write_sheet(
             limit::TEXT,
             limit::RECORD
         ),
-        Cause::Text(at, byte) => write!(
-            f,
-            "the byte 0x{byte:02X} at {at} of the text (offset {place}) is not ASCII; write it \
-             another way, in a string constant as \\{byte}"
-        ),
+        Cause::Text(at, byte) => write_text(f, number, place, at, byte),
         Cause::Record(Fault::Command(byte)) if number == Number::TooDeep => write!(
             f,
             "the form {} (0x{byte:02X}) at offset {place} of the record stands inside {} others, \
@@ -161,6 +175,39 @@ fn write_sheet(
              example with diverplume::record"
         ),
         _ => write!(f, "place {place}"),
+    }
+}
+
+/// Writes what is said of a place in the text, numbers 2 and 10 to 12.
+fn write_text(
+    f: &mut fmt::Formatter<'_>,
+    number: Number,
+    place: usize,
+    at: Position,
+    byte: u8,
+) -> fmt::Result {
+    let at = format_args!("{at} of the text (offset {place})");
+    match number {
+        Number::OpenComment => write!(
+            f,
+            "the comment that opens at {at} has no end; close it, and each comment inside it, \
+             with *)"
+        ),
+        Number::NoString => write!(
+            f,
+            "the double quote at {at} begins no string constant; close the string on its line, \
+             write control characters as escapes such as \\n or \\009, and a backslash as \\\\"
+        ),
+        Number::BeginsNoToken => write!(
+            f,
+            "no token begins with the byte 0x{byte:02X} at {at}; remove it, or write it in a \
+             string constant as \\{byte:03}"
+        ),
+        _ => write!(
+            f,
+            "the byte 0x{byte:02X} at {at} is not ASCII; write it another way, in a string \
+             constant as \\{byte}"
+        ),
     }
 }
 
@@ -267,6 +314,31 @@ impl fmt::Display for Lookup {
             (Number::Accepted, Some(length)) => write!(f, "found: {length} bytes"),
             (Number::Accepted, None) => f.write_str("none found"),
             _ => write_declined(f, self.number, self.place, self.cause),
+        }
+    }
+}
+
+impl fmt::Display for Refusal {
+    fn fmt(&self, f: &mut fmt::Formatter<'_>) -> fmt::Result {
+        let number = self.number as u8;
+        match self.cause {
+            Cause::TextLength(length) if length > limit::TEXT => write!(
+                f,
+                "refused ({number}): the text has {length} bytes, the most are {}; split the file",
+                limit::TEXT
+            ),
+            Cause::TextLength(_) => write!(
+                f,
+                "refused ({number}): the text has over {} tokens, the most there may be; split the \
+                 file",
+                limit::TOKENS
+            ),
+            Cause::TokenOutput(output, enough) => write!(
+                f,
+                "declined ({number}): the tokens take more than the output's {output} bytes; an \
+                 output of {enough} bytes is long enough"
+            ),
+            cause => write_sheet(f, self.number, self.place, cause),
         }
     }
 }

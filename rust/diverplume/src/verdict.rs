@@ -35,10 +35,16 @@ pub enum Number {
     OutputTooShort,
     /// A lookup of a token that the sheet doesn't have.
     NoToken,
+    /// The text has a comment without an end.
+    OpenComment,
+    /// The text has a double quote that begins no string constant.
+    NoString,
+    /// The text has another byte that begins no token.
+    BeginsNoToken,
 }
 
 impl Number {
-    const ALL: [Self; 10] = [
+    const ALL: [Self; 13] = [
         Self::Accepted,
         Self::TooLong,
         Self::NotAscii,
@@ -49,9 +55,12 @@ impl Number {
         Self::IndentTooWide,
         Self::OutputTooShort,
         Self::NoToken,
+        Self::OpenComment,
+        Self::NoString,
+        Self::BeginsNoToken,
     ];
 
-    fn of(number: u64) -> Self {
+    pub(crate) fn of(number: u64) -> Self {
         let known = usize::try_from(number).ok().and_then(|at| Self::ALL.get(at).copied());
         known.unwrap_or_else(|| {
             panic!("the archive gave the number {number}; build it and this crate from one source")
@@ -257,6 +266,6 @@ fn or_none(number: u64) -> Option<usize> {
     (number != NONE).then(|| offset(number))
 }
 
-fn offset(number: u64) -> usize {
+pub(crate) fn offset(number: u64) -> usize {
     usize::try_from(number).expect("an offset, a length or a token number")
 }

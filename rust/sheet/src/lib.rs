@@ -1,7 +1,7 @@
 //! Makes sheets from rule files in a part of Standard ML.
 //!
-//! It shows how a parser of one's own writes a sheet: each token goes to the builder as it is read,
-//! and the functions of the parser give nodes of the tree.
+//! It shows how a parser of one's own writes a sheet: the tokens of [`diverplume::scan`] go to the
+//! builder, and the functions of the parser give nodes of the tree.
 //!
 //! ```
 //! let sheet = diverplume_sheet::sheet("(* why *)\nval late = true")?;
@@ -19,6 +19,7 @@
 mod lex;
 mod parse;
 
+use diverplume::Refusal;
 use diverplume_record::tree::Dec;
 use diverplume_record::{BuildError, Sheet, SheetBuilder};
 use std::fmt;
@@ -48,6 +49,8 @@ pub fn tokens_and_tree(text: &str) -> Result<(SheetBuilder, Vec<Dec>), Error> {
 /// Why a text gives no sheet.
 #[derive(Debug, Clone, PartialEq, Eq)]
 pub enum Error {
+    /// The text has no tokens, or too many.
+    Scan(Refusal),
     /// Something else is expected at a place of the text.
     Text {
         /// The line, from 1.
@@ -76,6 +79,7 @@ impl fmt::Display for Error {
             Self::Text { line, column, problem } => {
                 write!(f, "line {line}, column {column}: {problem}")
             }
+            Self::Scan(refusal) => refusal.fmt(f),
             Self::Build(error) => error.fmt(f),
         }
     }

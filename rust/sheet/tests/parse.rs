@@ -1,7 +1,7 @@
 //! Texts of the part that is known, formatted; and what is refused.
 
-use diverplume::format;
-use diverplume_sheet::sheet;
+use diverplume::{format, Number};
+use diverplume_sheet::{sheet, Error};
 
 /// The formatted text at tab size 2. Formatting that text again has to change nothing.
 fn formatted(text: &str) -> String {
@@ -87,12 +87,30 @@ fn sample() {
 }
 
 #[test]
+fn texts_without_tokens() {
+    let long = "val x = 1\n".repeat(1_000);
+    let texts = [
+        ("val x = \"a\n\"", Number::NoString, 8),
+        ("val x\n(* (* *)", Number::OpenComment, 6),
+        ("val x = \u{e9}", Number::NotAscii, 8),
+        ("(* \u{e9} *) val x = 1", Number::NotAscii, 3),
+        ("val x = \0", Number::BeginsNoToken, 8),
+        (&long, Number::TooLong, 0),
+    ];
+    for (text, number, place) in texts {
+        let Err(Error::Scan(refusal)) = sheet(text) else { panic!("{text} has tokens") };
+        assert_eq!((refusal.number, refusal.place), (number, place), "{text}");
+    }
+    let error = sheet("val x\n(* (* *)").unwrap_err().to_string();
+    assert!(
+        error.starts_with("refused (10): the comment that opens at line 2, column 1"),
+        "{error}"
+    );
+}
+
+#[test]
 fn refused_texts() {
     let texts = [
-        ("val x = \"a\n\"", "line 1, column 9: this string has no end on its line"),
-        ("val x\n(* (* *)", "line 2, column 1: this comment has no end"),
-        ("val x = \u{e9}", "line 1, column 9: no token begins here"),
-        ("(* \u{e9} *) val x = 1", "token 0 has the byte 0xC3, which is not ASCII"),
         ("functor F () = A", "line 1, column 1: a declaration is expected, not \"functor\""),
         ("val = 1", "line 1, column 5: a pattern is expected, not \"=\""),
         ("val x =", "line 1, column 8: an expression is expected, not the end"),
@@ -109,7 +127,4 @@ fn refused_texts() {
             "{text}"
         );
     }
-    let long = "val x = 1\n".repeat(1_000);
-    let error = sheet(&long).unwrap_err().to_string();
-    assert_eq!(error, "token 4096 is one too many, a sheet has at most 4096");
 }

@@ -33,4 +33,10 @@ pub mod number {
     pub const OUTPUT: u8 = 8;
     /// Lookup of a token number not below the count.
     pub const TOKEN: u8 = 9;
+    /// A comment without an end.
+    pub const OPEN_COMMENT: u8 = 10;
+    /// A double quote that begins no string constant.
+    pub const NO_STRING: u8 = 11;
+    /// Another byte that begins no token.
+    pub const BEGINS_NO_TOKEN: u8 = 12;
 }

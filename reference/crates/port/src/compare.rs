@@ -44,7 +44,7 @@ impl fmt::Display for Difference {
     }
 }
 
-fn hex(bytes: &[u8]) -> String {
+pub(crate) fn hex(bytes: &[u8]) -> String {
     bytes.iter().fold(String::new(), |text, byte| text + &format!("{byte:02x}"))
 }
 
@@ -259,11 +259,16 @@ fn lengths(needed: u128, is_written: bool) -> Vec<usize> {
 /// An output of that length with a text at its start. No byte of the rest is ASCII, so none passes
 /// for a text's, and neighbours differ.
 fn filled(length: usize, text: Option<&str>) -> Output {
-    let mut output: Vec<_> = (0..length).map(|at| 0x80 | (at % 101) as u8).collect();
+    let mut output = fill(length);
     if let Some(text) = text {
         output[..text.len()].copy_from_slice(text.as_bytes());
     }
     Output(output)
+}
+
+/// The bytes of an output before a call.
+pub(crate) fn fill(length: usize) -> Vec<u8> {
+    (0..length).map(|at| 0x80 | (at % 101) as u8).collect()
 }
 
 /// A verdict in the terms of both sides.

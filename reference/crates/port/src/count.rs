@@ -3,9 +3,12 @@
 use std::fmt;
 use std::ops::AddAssign;
 
+/// The count of numbers.
+const COUNT: u8 = 13;
+
 /// How many answers have each number from 0.
 #[derive(Debug, Clone, Copy, PartialEq, Eq, Default)]
-pub struct Numbers([u64; 10]);
+pub struct Numbers([u64; COUNT as usize]);
 
 impl Numbers {
     pub(crate) fn add(&mut self, number: u8) {
@@ -21,7 +24,7 @@ impl Numbers {
     /// The numbers that occur.
     #[must_use]
     pub fn occurring(&self) -> Vec<u8> {
-        (0..10).filter(|&number| self.of(number) > 0).collect()
+        (0..COUNT).filter(|&number| self.of(number) > 0).collect()
     }
 }
 

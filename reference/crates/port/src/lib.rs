@@ -6,10 +6,14 @@
 
 pub mod compare;
 mod count;
+mod parallel;
 pub mod run;
+pub mod scan;
 mod skip;
+pub mod texts;
 
 pub use count::{Compared, Numbers};
+pub use parallel::in_parallel;
 
 use schema::{limit, Family};
 

@@ -31,6 +31,7 @@ fn calls_run_in_a_stack_of_1_mib() {
             assert_eq!(verdict, diverplume::check(&text, &record));
             let _ = diverplume::comment_above(&text, &record, 0);
             let _ = diverplume::doc_comment_above(&text, &record, 0, &mut output);
+            let _ = diverplume::scan(&text);
         };
         let thread = thread::Builder::new().stack_size(STACK).spawn(call).expect("a thread");
         thread.join().expect("the calls end");

@@ -2,4 +2,5 @@
 
 mod calls;
 mod messages;
+mod scan;
 mod sheets;
