@@ -31,7 +31,7 @@ use Rattle.program.specs.Program as Program
 use Rattle.program.specs.Printing as Printing
 
 unfoldable pub runBytes : Unit {0}
-unfolding Bytes.bytes Bytes.between Bytes.isSpace Bytes.isLetter Bytes.isDigit Bytes.trimStart Bytes.trimEnd Bytes.trim Bytes.sameBytes Bytes.firstIs Bytes.firstWide Bytes.wideAt
+unfolding Bytes.bytes Bytes.between Bytes.isSpace Bytes.isLetter Bytes.isDigit Bytes.classOf Bytes.classesFrom Bytes.classTable Bytes.trimStart Bytes.trimEnd Bytes.trim Bytes.sameBytes Bytes.firstIs Bytes.firstWide Bytes.wideAt
 runBytes = tt
 
 unfoldable pub runOutput : Unit {0}

@@ -9,7 +9,7 @@ ghost use mathlib.Core.List.{_∷_};
 ghost use mathlib.Core.Bool.{true, false};
 ghost use Prim.Native.Nat.{_<_};
 ghost use lib.ListN.{length, drop};
-ghost use Rattle.text.specs.Bytes.{isSpace, isLetter, isDigit};
+ghost use Rattle.text.specs.Bytes.{isSpace, isLetter, isDigit, classTable};
 ghost use Rattle.scanner.specs.Lexical.{closes, longest, kindOf};
 ghost use Rattle.scanner.specs.Reach.{longer, reach, taken, markOf, kindIf};
 
@@ -70,26 +70,28 @@ fn comment_end(s: &[u8], from: usize) -> usize
 }
 
 // A token that starts with `~`.
-fn negation(rest: &[u8]) -> usize
+fn negation(table: &[u8; 256], rest: &[u8]) -> usize
     requires { ⌜ now rest ≡ 126 ∷ drop 1 (now rest) ⌝ }
+    requires { ⌜ now table ≡ classTable ⌝ }
     ensures { λ r. ⌜ r ≡ longest (now (rest .entry)) ⌝ }
 {
-    let end = numbers::magnitude(rest, 1);
+    let end = numbers::magnitude(table, rest, 1);
     if end == 1 {
-        return runs::run(rest, 1, Class::Symbol);
+        return runs::run(table, rest, 1, Class::Symbol);
     }
     end
 }
 
 // A token that starts with `#`.
-fn hash(rest: &[u8]) -> usize
+fn hash(table: &[u8; 256], rest: &[u8]) -> usize
     requires { ⌜ now rest ≡ 35 ∷ drop 1 (now rest) ⌝ }
+    requires { ⌜ now table ≡ classTable ⌝ }
     ensures { λ r. ⌜ r ≡ longest (now (rest .entry)) ⌝ }
 {
     if !runs::stands(rest, 1, 34) {
-        return runs::run(rest, 1, Class::Symbol);
+        return runs::run(table, rest, 1, Class::Symbol);
     }
-    let Quoted::Ends { end, count } = strings::string(rest, 2) else {
+    let Quoted::Ends { end, count } = strings::string(table, rest, 2) else {
         return 1;
     };
     if count == 1 {
@@ -99,25 +101,27 @@ fn hash(rest: &[u8]) -> usize
 }
 
 // A token that starts with `"`.
-fn quoted(rest: &[u8]) -> usize
+fn quoted(table: &[u8; 256], rest: &[u8]) -> usize
     requires { ⌜ now rest ≡ 34 ∷ drop 1 (now rest) ⌝ }
+    requires { ⌜ now table ≡ classTable ⌝ }
     ensures { λ r. ⌜ r ≡ longest (now (rest .entry)) ⌝ }
 {
-    let Quoted::Ends { end, count: _ } = strings::string(rest, 1) else {
+    let Quoted::Ends { end, count: _ } = strings::string(table, rest, 1) else {
         return 0;
     };
     end
 }
 
 // A token that starts with a digit.
-fn number(rest: &[u8], b: u8) -> usize
+fn number(table: &[u8; 256], rest: &[u8], b: u8) -> usize
     requires { ⌜ now rest ≡ b ∷ drop 1 (now rest) ⌝ }
     requires { ⌜ isDigit b ≡ true ⌝ }
+    requires { ⌜ now table ≡ classTable ⌝ }
     ensures { λ r. ⌜ r ≡ longest (now (rest .entry)) ⌝ }
 {
-    let end = numbers::word(rest);
+    let end = numbers::word(table, rest);
     if end == 0 {
-        return numbers::magnitude(rest, 0);
+        return numbers::magnitude(table, rest, 0);
     }
     end
 }
@@ -147,21 +151,22 @@ fn dots(rest: &[u8]) -> usize
 }
 
 // A token that starts with none of letters, primes, digits, white space.
-fn other(rest: &[u8], b: u8) -> usize
+fn other(table: &[u8; 256], rest: &[u8], b: u8) -> usize
     requires { ⌜ now rest ≡ b ∷ drop 1 (now rest) ⌝ }
     requires { ⌜ (isSpace b ≡ false) × (isLetter b ≡ false) × (b ≡ 39 → ⊥) × (isDigit b ≡ false) ⌝ }
+    requires { ⌜ now table ≡ classTable ⌝ }
     ensures { λ r. ⌜ r ≡ longest (now (rest .entry)) ⌝ }
 {
     match b {
-        34 => quoted(rest),
-        35 => hash(rest),
+        34 => quoted(table, rest),
+        35 => hash(table, rest),
         40 => bracket(rest),
         46 => dots(rest),
-        126 => negation(rest),
+        126 => negation(table, rest),
         41 | 44 | 59 | 91 | 93 | 95 | 123 | 125 => 1,
         _ => {
             if runs::is_symbol(b) {
-                return runs::run(rest, 1, Class::Symbol);
+                return runs::run(table, rest, 1, Class::Symbol);
             }
             0
         }
@@ -169,7 +174,8 @@ fn other(rest: &[u8], b: u8) -> usize
 }
 
 // The length of the longest token at the start; 0 where none begins there.
-pub fn token_length(rest: &[u8]) -> usize
+pub fn token_length(table: &[u8; 256], rest: &[u8]) -> usize
+    requires { ⌜ now table ≡ classTable ⌝ }
     ensures { λ r. ⌜ r ≡ longest (now (rest .entry)) ⌝ }
 {
     if rest.len() == 0 {
@@ -177,18 +183,18 @@ pub fn token_length(rest: &[u8]) -> usize
     }
     let b = rest[0];
     if text::is_space(b) {
-        return runs::run(rest, 1, Class::Space);
+        return runs::run(table, rest, 1, Class::Space);
     }
-    if text::is_letter(b) {
-        return runs::run(rest, 1, Class::Alphanumeric);
+    if text::is_letter_in(table, b) {
+        return runs::run(table, rest, 1, Class::Alphanumeric);
     }
     if b == 39 {
-        return runs::run(rest, 1, Class::Alphanumeric);
+        return runs::run(table, rest, 1, Class::Alphanumeric);
     }
-    if text::is_digit(b) {
-        return number(rest, b);
+    if text::is_digit_in(table, b) {
+        return number(table, rest, b);
     }
-    other(rest, b)
+    other(table, rest, b)
 }
 
 // The kind where the token is the word, else the other.

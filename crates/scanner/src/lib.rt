@@ -14,6 +14,7 @@ ghost use mathlib.Core.Path.{_≡_};
 ghost use mathlib.Core.List.{_++_};
 ghost use Prim.Native.Nat.{_*_, _≤_};
 ghost use lib.ListN.{length, drop};
+ghost use Rattle.text.specs.Bytes.{classTable};
 ghost use Rattle.reader.specs.Tokens.{Long};
 ghost use Rattle.reader.specs.Reading.{maxText};
 ghost use Rattle.scanner.specs.Scan.{numberAt, commands, scan as scan·};
@@ -84,16 +85,23 @@ fn keep(
 }
 
 // Fills the tables from the front. Tokens past their end are counted.
-fn fill(text: &[u8], kinds: &mut [u8], starts: &mut [u16], lens: &mut [u16]) -> Tabled
+fn fill(
+    table: &[u8; 256],
+    text: &[u8],
+    kinds: &mut [u8],
+    starts: &mut [u16],
+    lens: &mut [u16],
+) -> Tabled
     requires { ⌜ length (now text) ≤ maxText ⌝ }
     requires { ⌜ Long (now kinds) (now starts) (now lens) ⌝ }
+    requires { ⌜ now table ≡ classTable ⌝ }
     ensures { λ r. ⌜ Fills (now (text .entry)) (now (kinds .exit)) (now (starts .exit)) (now (lens .exit)) r ⌝ }
 {
     let mut count: usize = 0;
     let mut at: usize = 0;
     while at < text.len() {
         let rest = &text[at..];
-        let len = token_length(rest);
+        let len = token_length(table, rest);
         if len == 0 {
             return Tabled::Refused(refused_at(text[at], at));
         }
@@ -123,7 +131,8 @@ pub fn tables(
     if let Wide::At(place) = first_wide(text) {
         return Tabled::Refused(Refusal::NotAscii(place));
     }
-    fill(text, kinds, starts, lens)
+    let table = text::classes();
+    fill(&table, text, kinds, starts, lens)
 }
 
 // ---- commands of a record

@@ -4,23 +4,24 @@ use crate::runs::Class;
 ghost use mathlib.Core.Path.{_≡_};
 ghost use Prim.Native.Nat.{_+_};
 ghost use lib.ListN.{drop};
-ghost use Rattle.text.specs.Bytes.{bytes};
+ghost use Rattle.text.specs.Bytes.{bytes, classTable};
 ghost use Rattle.scanner.specs.Parts.{isOneOf};
 ghost use Rattle.scanner.specs.Constants.{isDecimal, isExponent, isFraction, isWord};
 ghost use Rattle.scanner.specs.Reach.{reach, taken, isHexadecimal, isMagnitude};
 
 // An optional negation symbol, then digits.
-fn decimal(s: &[u8], at: usize) -> usize
+fn decimal(table: &[u8; 256], s: &[u8], at: usize) -> usize
+    requires { ⌜ now table ≡ classTable ⌝ }
     ensures { λ r. ⌜ r ≡ at + taken (reach isDecimal (drop at (now (s .entry)))) ⌝ }
 {
     if runs::stands(s, at, 126) {
-        let end = runs::run(s, at + 1, Class::Digit);
+        let end = runs::run(table, s, at + 1, Class::Digit);
         if end == at + 1 {
             return at;
         }
         return end;
     }
-    runs::run(s, at, Class::Digit)
+    runs::run(table, s, at, Class::Digit)
 }
 
 fn is_exponent_symbol(b: u8) -> bool
@@ -30,7 +31,8 @@ fn is_exponent_symbol(b: u8) -> bool
 }
 
 // `E` or `e`, then an integer.
-fn exponent(s: &[u8], at: usize) -> usize
+fn exponent(table: &[u8; 256], s: &[u8], at: usize) -> usize
+    requires { ⌜ now table ≡ classTable ⌝ }
     ensures { λ r. ⌜ r ≡ at + taken (reach isExponent (drop at (now (s .entry)))) ⌝ }
 {
     if s.len() <= at {
@@ -39,7 +41,7 @@ fn exponent(s: &[u8], at: usize) -> usize
     if !is_exponent_symbol(s[at]) {
         return at;
     }
-    let end = decimal(s, at + 1);
+    let end = decimal(table, s, at + 1);
     if end == at + 1 {
         return at;
     }
@@ -47,21 +49,23 @@ fn exponent(s: &[u8], at: usize) -> usize
 }
 
 // A point and digits, with the exponent behind them.
-fn fraction(s: &[u8], at: usize) -> usize
+fn fraction(table: &[u8; 256], s: &[u8], at: usize) -> usize
+    requires { ⌜ now table ≡ classTable ⌝ }
     ensures { λ r. ⌜ r ≡ at + taken (reach isFraction (drop at (now (s .entry)))) ⌝ }
 {
     if !runs::stands(s, at, 46) {
         return at;
     }
-    let end = runs::run(s, at + 1, Class::Digit);
+    let end = runs::run(table, s, at + 1, Class::Digit);
     if end == at + 1 {
         return at;
     }
-    exponent(s, end)
+    exponent(table, s, end)
 }
 
 // `0x` and hexadecimal digits.
-fn hexadecimal(s: &[u8], at: usize) -> usize
+fn hexadecimal(table: &[u8; 256], s: &[u8], at: usize) -> usize
+    requires { ⌜ now table ≡ classTable ⌝ }
     ensures { λ r. ⌜ r ≡ at + taken (reach isHexadecimal (drop at (now (s .entry)))) ⌝ }
 {
     if !runs::stands(s, at, 48) {
@@ -70,7 +74,7 @@ fn hexadecimal(s: &[u8], at: usize) -> usize
     if !runs::stands(s, at + 1, 120) {
         return at;
     }
-    let end = runs::run(s, at + 2, Class::HexDigit);
+    let end = runs::run(table, s, at + 2, Class::HexDigit);
     if end == at + 2 {
         return at;
     }
@@ -78,25 +82,27 @@ fn hexadecimal(s: &[u8], at: usize) -> usize
 }
 
 // An integer or a real without a negation symbol.
-pub fn magnitude(s: &[u8], at: usize) -> usize
+pub fn magnitude(table: &[u8; 256], s: &[u8], at: usize) -> usize
+    requires { ⌜ now table ≡ classTable ⌝ }
     ensures { λ r. ⌜ r ≡ at + taken (reach isMagnitude (drop at (now (s .entry)))) ⌝ }
 {
-    let hex = hexadecimal(s, at);
+    let hex = hexadecimal(table, s, at);
     if hex != at {
         return hex;
     }
-    let end = runs::run(s, at, Class::Digit);
+    let end = runs::run(table, s, at, Class::Digit);
     if end == at {
         return at;
     }
     if runs::stands(s, end, 46) {
-        return fraction(s, end);
+        return fraction(table, s, end);
     }
-    exponent(s, end)
+    exponent(table, s, end)
 }
 
 // A word constant.
-pub fn word(s: &[u8]) -> usize
+pub fn word(table: &[u8; 256], s: &[u8]) -> usize
+    requires { ⌜ now table ≡ classTable ⌝ }
     ensures { λ r. ⌜ r ≡ taken (reach isWord (now (s .entry))) ⌝ }
 {
     if !runs::stands(s, 0, 48) {
@@ -106,13 +112,13 @@ pub fn word(s: &[u8]) -> usize
         return 0;
     }
     if runs::stands(s, 2, 120) {
-        let hex = runs::run(s, 3, Class::HexDigit);
+        let hex = runs::run(table, s, 3, Class::HexDigit);
         if hex == 3 {
             return 0;
         }
         return hex;
     }
-    let end = runs::run(s, 2, Class::Digit);
+    let end = runs::run(table, s, 2, Class::Digit);
     if end == 2 {
         return 0;
     }

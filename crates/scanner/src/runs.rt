@@ -3,7 +3,7 @@ ghost use mathlib.Core.Path.{_≡_};
 ghost use Prim.Native.Nat.{_+_};
 ghost use lib.ListN.{drop};
 ghost use lib.Dec.{eqb};
-ghost use Rattle.text.specs.Bytes.{firstIs};
+ghost use Rattle.text.specs.Bytes.{firstIs, classTable};
 ghost use Rattle.scanner.specs.Constants.{isHexDigit};
 ghost use Rattle.scanner.specs.Lexical.{isAlphanumericByte, isSymbol};
 ghost use Rattle.scanner.specs.Reach.{inClass, run};
@@ -17,13 +17,14 @@ pub enum Class {
 }
 
 // What an alphanumeric identifier goes on with.
-fn is_alphanumeric(b: u8) -> bool
+fn is_alphanumeric(table: &[u8; 256], b: u8) -> bool
+    requires { ⌜ now table ≡ classTable ⌝ }
     ensures { λ r. ⌜ r ≡ isAlphanumericByte b ⌝ }
 {
-    if text::is_letter(b) {
+    if text::is_letter_in(table, b) {
         return true;
     }
-    if text::is_digit(b) {
+    if text::is_digit_in(table, b) {
         return true;
     }
     b == 39 || b == 95
@@ -39,11 +40,12 @@ pub fn is_symbol(b: u8) -> bool
     }
 }
 
-pub fn is_hex_digit(b: u8) -> bool
+pub fn is_hex_digit(table: &[u8; 256], b: u8) -> bool
+    requires { ⌜ now table ≡ classTable ⌝ }
     ensures { λ r. ⌜ r ≡ isHexDigit b ⌝ }
 {
     if b < 65 {
-        return text::is_digit(b);
+        return text::is_digit_in(table, b);
     }
     if b <= 70 {
         return true;
@@ -57,25 +59,27 @@ pub fn is_hex_digit(b: u8) -> bool
     false
 }
 
-fn is_in(class: Class, b: u8) -> bool
+fn is_in(table: &[u8; 256], class: Class, b: u8) -> bool
+    requires { ⌜ now table ≡ classTable ⌝ }
     ensures { λ r. ⌜ r ≡ inClass class b ⌝ }
 {
     match class {
         Class::Space => text::is_space(b),
-        Class::Alphanumeric => is_alphanumeric(b),
+        Class::Alphanumeric => is_alphanumeric(table, b),
         Class::Symbol => is_symbol(b),
-        Class::Digit => text::is_digit(b),
-        Class::HexDigit => is_hex_digit(b),
+        Class::Digit => text::is_digit_in(table, b),
+        Class::HexDigit => is_hex_digit(table, b),
     }
 }
 
 // The end of the run of a class that starts at an offset.
-pub fn run(s: &[u8], from: usize, class: Class) -> usize
+pub fn run(table: &[u8; 256], s: &[u8], from: usize, class: Class) -> usize
+    requires { ⌜ now table ≡ classTable ⌝ }
     ensures { λ r. ⌜ r ≡ from + run (inClass class) (drop from (now (s .entry))) ⌝ }
 {
     let mut at = from;
     while at < s.len() {
-        if !is_in(class, s[at]) {
+        if !is_in(table, class, s[at]) {
             return at;
         }
         at += 1;

@@ -5,7 +5,7 @@ ghost use mathlib.Core.Path.{_≡_};
 ghost use mathlib.Core.Bool.{true};
 ghost use Prim.Native.Nat.{_<_, _≤_};
 ghost use lib.ListN.{length, getD, drop};
-ghost use Rattle.text.specs.Bytes.{bytes};
+ghost use Rattle.text.specs.Bytes.{bytes, classTable};
 ghost use Rattle.scanner.specs.Parts.{isOneOf};
 ghost use Rattle.scanner.specs.Constants.{isHexDigit};
 ghost use Rattle.scanner.specs.Strings.{between-characters, escape, control, number, gap, isDigitOf, digitValue};
@@ -40,18 +40,20 @@ fn digit_value(b: u8) -> usize
     (b - 87) as usize
 }
 
-fn is_digit_of(base: usize, b: u8) -> bool
+fn is_digit_of(table: &[u8; 256], base: usize, b: u8) -> bool
+    requires { ⌜ now table ≡ classTable ⌝ }
     ensures { λ r. ⌜ r ≡ isDigitOf base b ⌝ }
 {
     if base == 10 {
-        return text::is_digit(b);
+        return text::is_digit_in(table, b);
     }
-    runs::is_hex_digit(b)
+    runs::is_hex_digit(table, b)
 }
 
 // The digits of `\ddd` and `\uxxxx`.
-fn digits(s: &[u8], from: usize, base: usize, count: usize) -> Quoted
+fn digits(table: &[u8; 256], s: &[u8], from: usize, base: usize, count: usize) -> Quoted
     requires { ⌜ (1 ≤ count) × (base ≤ 16) ⌝ }
+    requires { ⌜ now table ≡ classTable ⌝ }
     ensures { λ r. ⌜ Goes (now (s .entry)) (number base count 0) from r ⌝ }
 {
     let mut at = from;
@@ -62,7 +64,7 @@ fn digits(s: &[u8], from: usize, base: usize, count: usize) -> Quoted
             return Quoted::Endless;
         }
         let b = s[at];
-        if !is_digit_of(base, b) {
+        if !is_digit_of(table, base, b) {
             return Quoted::Endless;
         }
         value = value * base + digit_value(b);
@@ -96,10 +98,11 @@ fn control(s: &[u8], at: usize) -> Quoted
 }
 
 // The rest of a gap.
-fn gap(s: &[u8], from: usize) -> Quoted
+fn gap(table: &[u8; 256], s: &[u8], from: usize) -> Quoted
+    requires { ⌜ now table ≡ classTable ⌝ }
     ensures { λ r. ⌜ Goes (now (s .entry)) gap from r ⌝ }
 {
-    let at = runs::run(s, from, Class::Space);
+    let at = runs::run(table, s, from, Class::Space);
     if runs::stands(s, at, 92) {
         return Quoted::Ends {
             end: at + 1,
@@ -110,7 +113,8 @@ fn gap(s: &[u8], from: usize) -> Quoted
 }
 
 // What stands behind a backslash.
-fn escape(s: &[u8], at: usize) -> Quoted
+fn escape(table: &[u8; 256], s: &[u8], at: usize) -> Quoted
+    requires { ⌜ now table ≡ classTable ⌝ }
     ensures { λ r. ⌜ Goes (now (s .entry)) escape at r ⌝ }
 {
     if s.len() <= at {
@@ -126,27 +130,28 @@ fn escape(s: &[u8], at: usize) -> Quoted
     if b == 94 {
         return control(s, at + 1);
     }
-    if text::is_digit(b) {
-        return digits(s, at, 10, 3);
+    if text::is_digit_in(table, b) {
+        return digits(table, s, at, 10, 3);
     }
     if b == 117 {
-        return digits(s, at + 1, 16, 4);
+        return digits(table, s, at + 1, 16, 4);
     }
     if text::is_space(b) {
-        return gap(s, at + 1);
+        return gap(table, s, at + 1);
     }
     Quoted::Endless
 }
 
 // A printable character, or an escape.
-fn item(s: &[u8], at: usize) -> Quoted
+fn item(table: &[u8; 256], s: &[u8], at: usize) -> Quoted
     requires { ⌜ at < length (now s) ⌝ }
     requires { ⌜ (getD (now s) at 0 ≡ 34 → ⊥) ⌝ }
+    requires { ⌜ now table ≡ classTable ⌝ }
     ensures { λ r. ⌜ Goes (now (s .entry)) between-characters at r ⌝ }
 {
     let b = s[at];
     if b == 92 {
-        return escape(s, at + 1);
+        return escape(table, s, at + 1);
     }
     if b < 32 {
         return Quoted::Endless;
@@ -161,7 +166,8 @@ fn item(s: &[u8], at: usize) -> Quoted
 }
 
 // The string constant whose opening quote stands before an offset.
-pub fn string(s: &[u8], from: usize) -> Quoted
+pub fn string(table: &[u8; 256], s: &[u8], from: usize) -> Quoted
+    requires { ⌜ now table ≡ classTable ⌝ }
     ensures { λ r. ⌜ spanOf r ≡ further from 0 (span between-characters (drop from (now (s .entry)))) ⌝ }
 {
     let mut at = from;
@@ -173,7 +179,7 @@ pub fn string(s: &[u8], from: usize) -> Quoted
                 count: total,
             };
         }
-        let Quoted::Ends { end, count } = item(s, at) else {
+        let Quoted::Ends { end, count } = item(table, s, at) else {
             return Quoted::Endless;
         };
         at = end;

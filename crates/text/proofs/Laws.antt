@@ -3,14 +3,14 @@ use Prim.Native.Nat.{ℕ, zero, suc, _+_, _-_, _≤_, _<_, zero-le, suc-le-suc}
 use native.Mathlib.Numerals.{add-one}
 use native.Mathlib.Omega.{arith}
 use mathlib.Core.Path.{_≡_, refl, sym, ap, _∙_}
-use mathlib.Core.Bool.{Bool, true, false, _&&_, _||_, false≢true}
+use mathlib.Core.Bool.{Bool, true, false, _&&_, _||_, and-false, false≢true}
 use mathlib.Core.List.{List, [], _∷_, _++_, reverse, reverse-append, reverse-reverse}
 use mathlib.Core.Option.{none, some}
-use lib.Dec.{eqb}
+use lib.Dec.{leb, eqb}
 use lib.ListN.{length, getD, take, drop, set, length-take, length-drop, length-reverse, drop-of-length-le, take-append-drop}
 use lib.Seq.{drop-cons, take-suc, take-all, drop-at, paste, paste-suc}
-use borrow.Author.Tests.{le-leb, lt-leb, eq-eqb, ne-eqb, eqb-true}
-use Rattle.text.specs.Bytes.{isSpace, trimStart, trimEnd, trim, sameBytes, firstIs, firstWide}
+use borrow.Author.Tests.{le-leb, lt-leb, eq-eqb, ne-eqb, eqb-true, leb-true}
+use Rattle.text.specs.Bytes.{between, isSpace, isLetter, isDigit, letterEntry, digitEntry, otherEntry, classOf, classesFrom, classTable, trimStart, trimEnd, trim, sameBytes, firstIs, firstWide}
 
 -- Two different constructors are not equal: from an equation of theirs `cc` proves `0 ≡ 1`.
 pub never : {A : Type 0} → _≡_ {A = ℕ} 0 1 → A
@@ -22,6 +22,52 @@ or-true b e t = rw (← e, t)
 
 pub or-false : {r a s b : Bool} → r ≡ a → r ≡ false → s ≡ b → s ≡ (a || b)
 or-false e f g = rw (← e, f, ← g)
+
+-- ---- the table of classes
+-- The rule of the table at each byte.
+entry-from : (b n k : ℕ) → k < n → getD (classesFrom b n) k 0 ≡ classOf (b + k)
+unfolding classesFrom
+entry-from b zero k h = absurd (omega arith)
+entry-from b (suc n) zero h = ap classOf (omega arith)
+entry-from b (suc n) (suc k) h = entry-from (suc b) n k (omega arith) ∙ ap classOf (omega arith)
+
+entry : (b : ℕ) → b < 256 → getD classTable b 0 ≡ classOf b
+unfolding classTable
+entry b h = entry-from 0 256 b h ∙ ap classOf (omega arith)
+
+-- No digit is a letter.
+digit-no-letter : (b : ℕ) → isDigit b ≡ true → isLetter b ≡ false
+unfolding isDigit isLetter between
+digit-no-letter b e = go (leb b 57) refl
+  where
+    go : (h : Bool) → leb b 57 ≡ h → (between 65 90 b || between 97 122 b) ≡ false
+    go true f = let high = leb-true b 57 f in rw (lt-leb 65 b (omega (arith, high)), lt-leb 97 b (omega (arith, high)))
+    go false f = absurd (false≢true (sym (and-false (leb 48 b)) ∙ (rw f at e)))
+
+class-letter : (b : ℕ) → eqb (classOf b) letterEntry ≡ isLetter b
+unfolding classOf
+class-letter b = go (isLetter b) (isDigit b) refl
+  where
+    go : (l d : Bool) → isLetter b ≡ l → eqb (elim l as (λ x. ℕ) [ true ↦ letterEntry | false ↦ elim d as (λ x. ℕ) [ true ↦ digitEntry | false ↦ otherEntry ] ]) letterEntry ≡ l
+    go true d e = refl
+    go false true e = refl
+    go false false e = refl
+
+class-digit : (b : ℕ) → eqb (classOf b) digitEntry ≡ isDigit b
+unfolding classOf
+class-digit b = go (isLetter b) (isDigit b) refl refl
+  where
+    go : (l d : Bool) → isLetter b ≡ l → isDigit b ≡ d → eqb (elim l as (λ x. ℕ) [ true ↦ letterEntry | false ↦ elim d as (λ x. ℕ) [ true ↦ digitEntry | false ↦ otherEntry ] ]) digitEntry ≡ d
+    go true true e f = absurd (false≢true (sym (digit-no-letter b f) ∙ e))
+    go true false e f = refl
+    go false true e f = refl
+    go false false e f = refl
+
+pub letter-entry : (table : List ℕ) (b : ℕ) → b < 256 → table ≡ classTable → eqb (getD table b 0) letterEntry ≡ isLetter b
+letter-entry table b h e = ap (λ (t : List ℕ). eqb (getD t b 0) letterEntry) e ∙ ap (λ (x : ℕ). eqb x letterEntry) (entry b h) ∙ class-letter b
+
+pub digit-entry : (table : List ℕ) (b : ℕ) → b < 256 → table ≡ classTable → eqb (getD table b 0) digitEntry ≡ isDigit b
+digit-entry table b h e = ap (λ (t : List ℕ). eqb (getD t b 0) digitEntry) e ∙ ap (λ (x : ℕ). eqb x digitEntry) (entry b h) ∙ class-digit b
 
 -- The first byte.
 pub first-none : (test : ℕ → Bool) (s : List ℕ) → length s ≡ 0 → firstIs test s ≡ false

@@ -1,5 +1,5 @@
 -- Document 01, module 1: bytes. A run of bytes is a list of numbers below 256.
-use Prim.Native.Nat.{ℕ, suc}
+use Prim.Native.Nat.{ℕ, zero, suc}
 use Prim.Native.Char.{code}
 use Prim.Native.String.{String}
 use mathlib.Core.List.{List, [], _∷_, reverse}
@@ -29,6 +29,29 @@ isLetter b = between 65 90 b || between 97 122 b
 -- ASCII digits: `0` to `9`.
 unfoldable pub isDigit : ℕ → Bool
 isDigit b = between 48 57 b
+
+-- Document 02, Ticket 3: an entry of the table says of a byte that it is a letter, `a`, a digit, `9`, or neither, `-`.
+abbrev pub letterEntry : ℕ
+letterEntry = 97
+
+abbrev pub digitEntry : ℕ
+digitEntry = 57
+
+abbrev pub otherEntry : ℕ
+otherEntry = 45
+
+unfoldable pub classOf : ℕ → ℕ
+classOf b =
+    elim (isLetter b) [ true ↦ letterEntry | false ↦ elim (isDigit b) [ true ↦ digitEntry | false ↦ otherEntry ] ]
+
+-- The classes of the n bytes from b on.
+unfoldable pub classesFrom : ℕ → ℕ → List ℕ
+classesFrom b zero = []
+classesFrom b (suc n) = classOf b ∷ classesFrom (suc b) n
+
+-- The table: the class of each byte.
+unfoldable pub classTable : List ℕ
+classTable = classesFrom 0 256
 
 -- The text without the white space that it starts with.
 unfoldable pub trimStart : List ℕ → List ℕ

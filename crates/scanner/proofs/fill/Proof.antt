@@ -15,10 +15,10 @@ use Rattle.scanner.proofs.fill.Statement.{statement}
 use Rattle.scanner.proofs.fill.Tie as tie
 
 abbrev Inv-loop : tie.InvT-loop
-Inv-loop text kinds₀ starts₀ lens₀ count₀ at₀ kinds starts lens count at = Filled text kinds starts lens count at
+Inv-loop table text kinds₀ starts₀ lens₀ count₀ at₀ kinds starts lens count at = Filled text kinds starts lens count at
 
 abbrev μ-loop : tie.MeasureT-loop
-μ-loop text kinds₀ starts₀ lens₀ count₀ at₀ kinds starts lens count at = length text - at
+μ-loop table text kinds₀ starts₀ lens₀ count₀ at₀ kinds starts lens count at = length text - at
 
 -- the longest token of what is left
 module _ (c : tie.After-token-length Inv-loop μ-loop) where
@@ -47,7 +47,7 @@ module _ (c : tie.After-token-length Inv-loop μ-loop) where
   part = rw (take-rest text at) (length-take-le len (drop at text) fits)
 
 loop-holds : tie.Need-loop-holds Inv-loop μ-loop
-loop-holds c = filled-none _ (c .before .before .before .before .pre .1)
+loop-holds c = filled-none _ (c .before .before .before .before .pre .1 .0)
 
 sub-rest : tie.Need-sub-rest Inv-loop μ-loop
 sub-rest c = search needs
@@ -68,13 +68,13 @@ refused-at-requires : tie.Need-refused-at-requires Inv-loop μ-loop
 refused-at-requires c κs = search needs
 
 same-length : tie.Need-same-length Inv-loop μ-loop
-same-length c = c .before .before .before .before .before .before .loop .inv .long .0 ∙ sym (c .before .before .before .before .before .before .before .before .before .before .before .pre .1 .0)
+same-length c = c .before .before .before .before .before .before .loop .inv .long .0 ∙ sym (c .before .before .before .before .before .before .before .before .before .before .before .pre .1 .0 .0)
 
 same-length-2 : tie.Need-same-length-2 Inv-loop μ-loop
-same-length-2 c = c .before .before .before .before .before .before .loop .inv .long .1 ∙ sym (c .before .before .before .before .before .before .before .before .before .before .before .pre .1 .1)
+same-length-2 c = c .before .before .before .before .before .before .loop .inv .long .1 ∙ sym (c .before .before .before .before .before .before .before .before .before .before .before .pre .1 .0 .1)
 
 same-length-3 : tie.Need-same-length-3 Inv-loop μ-loop
-same-length-3 c = c .before .before .before .before .before .before .loop .inv .long .2 ∙ sym (c .before .before .before .before .before .before .before .before .before .before .before .pre .1 .2)
+same-length-3 c = c .before .before .before .before .before .before .loop .inv .long .2 ∙ sym (c .before .before .before .before .before .before .before .before .before .before .before .pre .1 .0 .2)
 
 returns : tie.Need-returns Inv-loop μ-loop
 returns c = let t = c .before .before .before in filled-refused (turn t .before .loop .inv) (turn t .loop-test .taken) (sym (c .before .before .if1 .taken) ∙ is t) (c .refused-at .ensures)
@@ -113,25 +113,25 @@ loop-again c =
     (kept .keep .ensures)
 
 same-length-4 : tie.Need-same-length-4 Inv-loop μ-loop
-same-length-4 c = c .before .before .loop .inv .long .0 ∙ sym (c .before .before .before .before .before .before .before .pre .1 .0)
+same-length-4 c = c .before .before .loop .inv .long .0 ∙ sym (c .before .before .before .before .before .before .before .pre .1 .0 .0)
 
 same-length-5 : tie.Need-same-length-5 Inv-loop μ-loop
-same-length-5 c = c .before .before .loop .inv .long .1 ∙ sym (c .before .before .before .before .before .before .before .pre .1 .1)
+same-length-5 c = c .before .before .loop .inv .long .1 ∙ sym (c .before .before .before .before .before .before .before .pre .1 .0 .1)
 
 same-length-6 : tie.Need-same-length-6 Inv-loop μ-loop
-same-length-6 c = c .before .before .loop .inv .long .2 ∙ sym (c .before .before .before .before .before .before .before .pre .1 .2)
+same-length-6 c = c .before .before .loop .inv .long .2 ∙ sym (c .before .before .before .before .before .before .before .pre .1 .0 .2)
 
 returns-2 : tie.Need-returns-2 Inv-loop μ-loop
 returns-2 c = filled-past (c .before .before .loop .inv) (c .before .loop-test .left) (c .if2 .taken)
 
 same-length-7 : tie.Need-same-length-7 Inv-loop μ-loop
-same-length-7 c = c .before .before .loop .inv .long .0 ∙ sym (c .before .before .before .before .before .before .before .pre .1 .0)
+same-length-7 c = c .before .before .loop .inv .long .0 ∙ sym (c .before .before .before .before .before .before .before .pre .1 .0 .0)
 
 same-length-8 : tie.Need-same-length-8 Inv-loop μ-loop
-same-length-8 c = c .before .before .loop .inv .long .1 ∙ sym (c .before .before .before .before .before .before .before .pre .1 .1)
+same-length-8 c = c .before .before .loop .inv .long .1 ∙ sym (c .before .before .before .before .before .before .before .pre .1 .0 .1)
 
 same-length-9 : tie.Need-same-length-9 Inv-loop μ-loop
-same-length-9 c = c .before .before .loop .inv .long .2 ∙ sym (c .before .before .before .before .before .before .before .pre .1 .2)
+same-length-9 c = c .before .before .loop .inv .long .2 ∙ sym (c .before .before .before .before .before .before .before .pre .1 .0 .2)
 
 returns-3 : tie.Need-returns-3 Inv-loop μ-loop
 returns-3 c = filled-all (c .before .before .loop .inv) (c .before .loop-test .left) (c .if2 .left)

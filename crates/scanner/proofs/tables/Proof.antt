@@ -19,11 +19,14 @@ returns-2 c = reads-wide (c .before .before .before .before .if1 .left) (c .befo
 enum-told : tie.Need-enum-told
 enum-told c = search needs
 
+classes-requires : tie.Need-classes-requires
+classes-requires c κs = search needs
+
 fill-requires : tie.Need-fill-requires
 fill-requires c κs = search needs
 
 returns-3 : tie.Need-returns-3
-returns-3 c = reads-filled (c .before .before .before .before .before .before .before .if1 .left) (c .before .before .before .before .before .before .first-wide .ensures) (c .before .before .before .before .enum-told .given .1) (c .fill .ensures)
+returns-3 c = reads-filled (c .before .before .before .before .before .before .before .before .before .if1 .left) (c .before .before .before .before .before .before .before .before .first-wide .ensures) (c .before .before .before .before .before .before .enum-told .given .1) (c .fill .ensures)
 
 pub tables-spec : {M : Type 1} → statement M
 tables-spec =
@@ -34,5 +37,6 @@ tables-spec =
     enum-known-place
     returns-2
     enum-told
+    classes-requires
     fill-requires
     returns-3)

@@ -35,6 +35,9 @@ extern "C" {
         starts: &mut [u16; limit::TOKENS],
         lengths: &mut [u16; limit::TOKENS],
     );
+    fn diverplume_test_classes(table: &mut [u8; 256]);
+    fn diverplume_test_is_letter(byte: u8) -> bool;
+    fn diverplume_test_is_digit(byte: u8) -> bool;
     fn diverplume_test_exp_end(
         record: *const u8,
         record_length: usize,
@@ -49,6 +52,29 @@ extern "C" {
         at: u64,
         answer: &mut [u64; 2],
     );
+}
+
+/// The table of letters and digits: `a`, `9` or `-` for each byte.
+#[must_use]
+pub fn classes() -> [u8; 256] {
+    let mut table = [0; 256];
+    // SAFETY: the pointer is that of an array of 256 bytes.
+    unsafe { diverplume_test_classes(&mut table) };
+    table
+}
+
+/// Whether the port takes a byte for an ASCII letter.
+#[must_use]
+pub fn is_letter(byte: u8) -> bool {
+    // SAFETY: the call takes any byte.
+    unsafe { diverplume_test_is_letter(byte) }
+}
+
+/// Whether the port takes a byte for an ASCII digit.
+#[must_use]
+pub fn is_digit(byte: u8) -> bool {
+    // SAFETY: the call takes any byte.
+    unsafe { diverplume_test_is_digit(byte) }
 }
 
 /// What the record check gives.

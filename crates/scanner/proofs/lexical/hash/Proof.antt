@@ -16,7 +16,7 @@ run-requires c κs = search needs
 
 returns : tie.Need-returns
 unfolding inClass
-returns c = c .run .ensures ∙ sym (hash-symbol (now (c .before .before .before .before .args .rest)) (c .before .before .before .before .pre) (sym (c .before .before .stands .ensures) ∙ not-true _ (c .before .if1 .taken)))
+returns c = c .run .ensures ∙ sym (hash-symbol (now (c .before .before .before .before .args .rest)) (c .before .before .before .before .pre .0) (sym (c .before .before .stands .ensures) ∙ not-true _ (c .before .if1 .taken)))
 
 string-requires : tie.Need-string-requires
 string-requires c κs = search needs
@@ -28,13 +28,13 @@ enum-told : tie.Need-enum-told
 enum-told c = search needs
 
 returns-2 : tie.Need-returns-2
-returns-2 c = hash-endless (now (c .before .before .before .before .before .before .args .rest)) (c .before .before .before .before .before .before .pre) (sym (c .before .before .before .before .stands .ensures) ∙ not-false _ (c .before .before .before .if1 .left)) _ (c .before .before .string .ensures) (c .enum-told .given .1)
+returns-2 c = hash-endless (now (c .before .before .before .before .before .before .args .rest)) (c .before .before .before .before .before .before .pre .0) (sym (c .before .before .before .before .stands .ensures) ∙ not-false _ (c .before .before .before .if1 .left)) _ (c .before .before .string .ensures) (c .enum-told .given .1)
 
 returns-3 : tie.Need-returns-3
-returns-3 c = hash-one (now (c .before .before .before .before .before .before .before .before .args .rest)) (c .before .before .before .before .before .before .before .before .pre) (sym (c .before .before .before .before .before .before .stands .ensures) ∙ not-false _ (c .before .before .before .before .before .if1 .left)) _ (c .before .before .before .before .string .ensures) _ _ (c .before .before .end .given .1) (eq-eqb _ 1 (c .if2 .taken))
+returns-3 c = hash-one (now (c .before .before .before .before .before .before .before .before .args .rest)) (c .before .before .before .before .before .before .before .before .pre .0) (sym (c .before .before .before .before .before .before .stands .ensures) ∙ not-false _ (c .before .before .before .before .before .if1 .left)) _ (c .before .before .before .before .string .ensures) _ _ (c .before .before .end .given .1) (eq-eqb _ 1 (c .if2 .taken))
 
 returns-4 : tie.Need-returns-4
-returns-4 c = hash-other (now (c .before .before .before .before .before .before .before .before .args .rest)) (c .before .before .before .before .before .before .before .before .pre) (sym (c .before .before .before .before .before .before .stands .ensures) ∙ not-false _ (c .before .before .before .before .before .if1 .left)) _ (c .before .before .before .before .string .ensures) _ _ (c .before .before .end .given .1) (ne-eqb _ 1 (c .if2 .left))
+returns-4 c = hash-other (now (c .before .before .before .before .before .before .before .before .args .rest)) (c .before .before .before .before .before .before .before .before .pre .0) (sym (c .before .before .before .before .before .before .stands .ensures) ∙ not-false _ (c .before .before .before .before .before .if1 .left)) _ (c .before .before .before .before .string .ensures) _ _ (c .before .before .end .given .1) (ne-eqb _ 1 (c .if2 .left))
 
 pub hash-spec : {M : Type 1} → statement M
 hash-spec = tie.close (tie.spec stands-requires run-requires returns string-requires enum-known-end enum-told returns-2 returns-3 returns-4)

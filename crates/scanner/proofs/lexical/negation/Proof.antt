@@ -15,11 +15,11 @@ run-requires c κs = search needs
 
 returns : tie.Need-returns
 unfolding inClass
-returns c = c .run .ensures ∙ sym (tilde-symbol (now (c .before .before .before .before .args .rest)) (c .before .before .before .before .pre) _ (c .before .before .magnitude .ensures) (c .before .if1 .taken))
+returns c = c .run .ensures ∙ sym (tilde-symbol (now (c .before .before .before .before .args .rest)) (c .before .before .before .before .pre .0) _ (c .before .before .magnitude .ensures) (c .before .if1 .taken))
 
 returns-2 : tie.Need-returns-2
 unfolding inClass
-returns-2 c = tilde-number (now (c .before .before .before .args .rest)) (c .before .before .before .pre) _ (c .before .magnitude .ensures) (c .if1 .left)
+returns-2 c = tilde-number (now (c .before .before .before .args .rest)) (c .before .before .before .pre .0) _ (c .before .magnitude .ensures) (c .if1 .left)
 
 pub negation-spec : {M : Type 1} → statement M
 negation-spec = tie.close (tie.spec magnitude-requires run-requires returns returns-2)

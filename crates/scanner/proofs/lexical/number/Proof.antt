@@ -15,10 +15,10 @@ magnitude-requires : tie.Need-magnitude-requires
 magnitude-requires c κs = search needs
 
 returns : tie.Need-returns
-returns c = let a = c .before .before .before .before .args in c .magnitude .ensures ∙ zero-add _ ∙ sym (number-plain (now (a .rest)) (a .b) (c .before .before .before .before .pre .0) (omega arith) (c .before .before .before .before .pre .1) (sym (c .before .before .word .ensures) ∙ c .before .if1 .taken))
+returns c = let a = c .before .before .before .before .args in c .magnitude .ensures ∙ zero-add _ ∙ sym (number-plain (now (a .rest)) (a .b) (c .before .before .before .before .pre .0) (omega arith) (c .before .before .before .before .pre .1 .0) (sym (c .before .before .word .ensures) ∙ c .before .if1 .taken))
 
 returns-2 : tie.Need-returns-2
-returns-2 c = let a = c .before .before .before .args in c .before .word .ensures ∙ sym (number-word (now (a .rest)) (a .b) (c .before .before .before .pre .0) (omega arith) (c .before .before .before .pre .1) (λ h. c .if1 .left (c .before .word .ensures ∙ h)))
+returns-2 c = let a = c .before .before .before .args in c .before .word .ensures ∙ sym (number-word (now (a .rest)) (a .b) (c .before .before .before .pre .0) (omega arith) (c .before .before .before .pre .1 .0) (λ h. c .if1 .left (c .before .word .ensures ∙ h)))
 
 pub number-spec : {M : Type 1} → statement M
 number-spec = tie.close (tie.spec word-requires magnitude-requires returns returns-2)

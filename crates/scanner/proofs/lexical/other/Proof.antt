@@ -13,10 +13,10 @@ use Rattle.scanner.proofs.lexical.other.Statement.{statement}
 use Rattle.scanner.proofs.lexical.other.Tie as tie
 
 quoted-requires : tie.Need-quoted-requires
-quoted-requires c κs = c .before .before .pre .0 ∙ ap (λ (x : ℕ). x ∷ drop 1 (now (c .before .before .args .rest))) (c .match .keys1)
+quoted-requires c κs = (c .before .before .pre .0 ∙ ap (λ (x : ℕ). x ∷ drop 1 (now (c .before .before .args .rest))) (c .match .keys1), c .before .before .pre .1 .1)
 
 hash-requires : tie.Need-hash-requires
-hash-requires c κs = c .before .before .pre .0 ∙ ap (λ (x : ℕ). x ∷ drop 1 (now (c .before .before .args .rest))) (c .match .keys2)
+hash-requires c κs = (c .before .before .pre .0 ∙ ap (λ (x : ℕ). x ∷ drop 1 (now (c .before .before .args .rest))) (c .match .keys2), c .before .before .pre .1 .1)
 
 bracket-requires : tie.Need-bracket-requires
 bracket-requires c κs = c .before .before .pre .0 ∙ ap (λ (x : ℕ). x ∷ drop 1 (now (c .before .before .args .rest))) (c .match .keys3)
@@ -25,7 +25,7 @@ dots-requires : tie.Need-dots-requires
 dots-requires c κs = c .before .before .pre .0 ∙ ap (λ (x : ℕ). x ∷ drop 1 (now (c .before .before .args .rest))) (c .match .keys4)
 
 negation-requires : tie.Need-negation-requires
-negation-requires c κs = c .before .before .pre .0 ∙ ap (λ (x : ℕ). x ∷ drop 1 (now (c .before .before .args .rest))) (c .match .keys5)
+negation-requires c κs = (c .before .before .pre .0 ∙ ap (λ (x : ℕ). x ∷ drop 1 (now (c .before .before .args .rest))) (c .match .keys5), c .before .before .pre .1 .1)
 
 is-symbol-requires : tie.Need-is-symbol-requires
 is-symbol-requires c κs = search needs
@@ -56,7 +56,7 @@ returns-7 : tie.Need-returns-7
 returns-7 c = let a = c .before .before .args in sym (longest-lone (now (a .rest)) (a .b) (c .before .before .pre .0) (c .match .keys6) (lone-other (a .b) (c .match .keys6)))
 
 returns-8 : tie.Need-returns-8
-returns-8 c = let a = c .before .before .before .before .args in sym (longest-none (now (a .rest)) (a .b) (c .before .before .before .before .pre .0) (c .before .before .before .before .pre .1 .0) (no-name (a .b) (c .before .before .before .before .pre .1 .1) (c .before .before .before .before .pre .1 .2)) (c .before .before .before .before .pre .1 .3) (sym (c .before .is-symbol .ensures) ∙ c .if1 .left) (no-mark (a .b) (c .before .before .match .rest .0 .0 .0 .0 .0 .1) (c .before .before .match .rest .0 .0 .0 .1) (c .before .before .match .rest .0 .0 .1) (c .before .before .match .rest .1)) (ne-eqb (a .b) 40 (c .before .before .match .rest .0 .0 .0 .1)))
+returns-8 c = let a = c .before .before .before .before .args in sym (longest-none (now (a .rest)) (a .b) (c .before .before .before .before .pre .0) (c .before .before .before .before .pre .1 .0 .0) (no-name (a .b) (c .before .before .before .before .pre .1 .0 .1) (c .before .before .before .before .pre .1 .0 .2)) (c .before .before .before .before .pre .1 .0 .3) (sym (c .before .is-symbol .ensures) ∙ c .if1 .left) (no-mark (a .b) (c .before .before .match .rest .0 .0 .0 .0 .0 .1) (c .before .before .match .rest .0 .0 .0 .1) (c .before .before .match .rest .0 .0 .1) (c .before .before .match .rest .1)) (ne-eqb (a .b) 40 (c .before .before .match .rest .0 .0 .0 .1)))
 
 pub other-spec : {M : Type 1} → statement M
 other-spec = tie.close (tie.spec quoted-requires hash-requires bracket-requires dots-requires negation-requires is-symbol-requires run-requires returns returns-2 returns-3 returns-4 returns-5 returns-6 returns-7 returns-8)

@@ -15,10 +15,10 @@ enum-told : tie.Need-enum-told
 enum-told c = search needs
 
 returns : tie.Need-returns
-returns c = quote-endless (now (c .before .before .before .before .args .rest)) (c .before .before .before .before .pre) _ (c .before .before .string .ensures) (c .enum-told .given .1)
+returns c = quote-endless (now (c .before .before .before .before .args .rest)) (c .before .before .before .before .pre .0) _ (c .before .before .string .ensures) (c .enum-told .given .1)
 
 returns-2 : tie.Need-returns-2
-returns-2 c = quote-ends (now (c .before .before .before .before .before .args .rest)) (c .before .before .before .before .before .pre) _ (c .before .before .before .string .ensures) _ _ (c .before .end .given .1)
+returns-2 c = quote-ends (now (c .before .before .before .before .before .args .rest)) (c .before .before .before .before .before .pre .0) _ (c .before .before .before .string .ensures) _ _ (c .before .end .given .1)
 
 pub quoted-spec : {M : Type 1} → statement M
 quoted-spec = tie.close (tie.spec string-requires enum-known-end enum-told returns returns-2)

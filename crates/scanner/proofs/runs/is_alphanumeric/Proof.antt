@@ -9,19 +9,19 @@ use borrow.Author.Needs.{needs}
 use Rattle.scanner.proofs.runs.is_alphanumeric.Statement.{statement}
 use Rattle.scanner.proofs.runs.is_alphanumeric.Tie as tie
 
-is-letter-requires : tie.Need-is-letter-requires
-is-letter-requires c κs = search needs
+is-letter-in-requires : tie.Need-is-letter-in-requires
+is-letter-in-requires c κs = search needs
 
 returns : tie.Need-returns
 unfolding isAlphanumericByte isOneOf bytes
-returns c = rw (sym (c .before .is-letter .ensures) ∙ c .if1 .taken)
+returns c = rw (sym (c .before .is-letter-in .ensures) ∙ c .if1 .taken)
 
-is-digit-requires : tie.Need-is-digit-requires
-is-digit-requires c κs = search needs
+is-digit-in-requires : tie.Need-is-digit-in-requires
+is-digit-in-requires c κs = search needs
 
 returns-2 : tie.Need-returns-2
 unfolding isAlphanumericByte isOneOf bytes
-returns-2 c = rw (sym (c .before .before .before .is-letter .ensures) ∙ c .before .before .if1 .left, sym (c .before .is-digit .ensures) ∙ c .if2 .taken)
+returns-2 c = rw (sym (c .before .before .before .is-letter-in .ensures) ∙ c .before .before .if1 .left, sym (c .before .is-digit-in .ensures) ∙ c .if2 .taken)
 
 returns-3 : tie.Need-returns-3
 unfolding isAlphanumericByte isOneOf bytes isLetter isDigit between
@@ -30,9 +30,9 @@ returns-3 c = rw (c .if3 .taken)
 returns-4 : tie.Need-returns-4
 unfolding isAlphanumericByte isOneOf bytes
 returns-4 c =
-    rw (sym (c .before .before .before .before .is-letter .ensures) ∙ c .before .before .before .if1 .left, sym (c .before .before .is-digit .ensures) ∙ c .before .if2 .left, ne-eqb _ 39 (c .if3 .left))
+    rw (sym (c .before .before .before .before .is-letter-in .ensures) ∙ c .before .before .before .if1 .left, sym (c .before .before .is-digit-in .ensures) ∙ c .before .if2 .left, ne-eqb _ 39 (c .if3 .left))
     (sym (or-false _))
 
 pub is-alphanumeric-spec : {M : Type 1} → statement M
 is-alphanumeric-spec =
-    tie.close (tie.spec is-letter-requires returns is-digit-requires returns-2 returns-3 returns-4)
+    tie.close (tie.spec is-letter-in-requires returns is-digit-in-requires returns-2 returns-3 returns-4)

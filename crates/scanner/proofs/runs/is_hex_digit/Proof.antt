@@ -10,11 +10,11 @@ use borrow.Author.Needs.{needs}
 use Rattle.scanner.proofs.runs.is_hex_digit.Statement.{statement}
 use Rattle.scanner.proofs.runs.is_hex_digit.Tie as tie
 
-is-digit-requires : tie.Need-is-digit-requires
-is-digit-requires c κs = search needs
+is-digit-in-requires : tie.Need-is-digit-in-requires
+is-digit-in-requires c κs = search needs
 
 returns : tie.Need-returns
-returns c = c .is-digit .ensures ∙ hex-below (c .before .before .args .b) (omega arith)
+returns c = c .is-digit-in .ensures ∙ hex-below (c .before .before .args .b) (omega arith)
 
 returns-2 : tie.Need-returns-2
 unfolding allBelow same decides between-keys isHexDigit isDigit between
@@ -34,4 +34,4 @@ returns-5 c = by-range [] 103 256 isHexDigit false refl (c .before .before .befo
 
 pub is-hex-digit-spec : {M : Type 1} → statement M
 is-hex-digit-spec =
-    tie.close (tie.spec is-digit-requires returns returns-2 returns-3 returns-4 returns-5)
+    tie.close (tie.spec is-digit-in-requires returns returns-2 returns-3 returns-4 returns-5)

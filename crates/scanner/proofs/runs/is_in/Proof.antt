@@ -25,8 +25,8 @@ is-symbol-requires c κs = search needs
 enum-told-4 : tie.Need-enum-told-4
 enum-told-4 c = search needs
 
-is-digit-requires : tie.Need-is-digit-requires
-is-digit-requires c κs = search needs
+is-digit-in-requires : tie.Need-is-digit-in-requires
+is-digit-in-requires c κs = search needs
 
 enum-told-5 : tie.Need-enum-told-5
 enum-told-5 c = search needs
@@ -65,7 +65,7 @@ is-in-spec =
     enum-told-3
     is-symbol-requires
     enum-told-4
-    is-digit-requires
+    is-digit-in-requires
     enum-told-5
     is-hex-digit-requires
     returns

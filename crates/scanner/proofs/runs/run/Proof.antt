@@ -12,10 +12,10 @@ use Rattle.scanner.proofs.runs.run.Statement.{statement}
 use Rattle.scanner.proofs.runs.run.Tie as tie
 
 abbrev Inv-loop : tie.InvT-loop
-Inv-loop s from class at₀ at = from + run (inClass class) (drop from s) ≡ at + run (inClass class) (drop at s)
+Inv-loop table s from class at₀ at = from + run (inClass class) (drop from s) ≡ at + run (inClass class) (drop at s)
 
 abbrev μ-loop : tie.MeasureT-loop
-μ-loop s from class at₀ at = length s - at
+μ-loop table s from class at₀ at = length s - at
 
 loop-holds : tie.Need-loop-holds Inv-loop μ-loop
 loop-holds c = refl

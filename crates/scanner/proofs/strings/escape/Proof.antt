@@ -18,8 +18,8 @@ shared-slice-read-b c = search needs
 is-plain-escape-requires : tie.Need-is-plain-escape-requires
 is-plain-escape-requires c κs = search needs
 
-add-t9 : tie.Need-add-t9
-add-t9 c = search needs
+add-t10 : tie.Need-add-t10
+add-t10 c = search needs
 
 returns-2 : tie.Need-returns-2
 returns-2 c = let a = c .before .before .before .before .before .args in goes-character (now (a .s)) (a .at) escape open-escape (c .before .before .before .if1 .left) (escaped-plain (getD (now (a .s)) (a .at) 0) (sym (c .before .is-plain-escape .ensures) ∙ c .if2 .taken))
@@ -33,20 +33,20 @@ control-requires c κs = search needs
 returns-3 : tie.Need-returns-3
 returns-3 c = let a = c .before .before .before .before .before .before .before .args in goes-to (now (a .s)) (a .at) escape open-escape (c .before .before .before .before .before .if1 .left) control (escaped-control (getD (now (a .s)) (a .at) 0) (c .before .if3 .taken)) (c .control .ensures)
 
-is-digit-requires : tie.Need-is-digit-requires
-is-digit-requires c κs = search needs
+is-digit-in-requires : tie.Need-is-digit-in-requires
+is-digit-in-requires c κs = search needs
 
 digits-requires : tie.Need-digits-requires
-digits-requires c κs = (omega arith, omega arith)
+digits-requires c κs = ((omega arith, omega arith), search needs)
 
 returns-4 : tie.Need-returns-4
-returns-4 c = let a = c .before .before .before .before .before .before .before .before .before .args in goes-as (now (a .s)) (a .at) escape open-escape (c .before .before .before .before .before .before .before .if1 .left) (number 10 3 0) (open-number 10 3 0) (escaped-digit (getD (now (a .s)) (a .at) 0) (sym (c .before .before .before .before .before .is-plain-escape .ensures) ∙ c .before .before .before .before .if2 .left) (c .before .before .before .if3 .left) (sym (c .before .before .is-digit .ensures) ∙ c .before .if4 .taken)) (c .digits .ensures)
+returns-4 c = let a = c .before .before .before .before .before .before .before .before .before .args in goes-as (now (a .s)) (a .at) escape open-escape (c .before .before .before .before .before .before .before .if1 .left) (number 10 3 0) (open-number 10 3 0) (escaped-digit (getD (now (a .s)) (a .at) 0) (sym (c .before .before .before .before .before .is-plain-escape .ensures) ∙ c .before .before .before .before .if2 .left) (c .before .before .before .if3 .left) (sym (c .before .before .is-digit-in .ensures) ∙ c .before .if4 .taken)) (c .digits .ensures)
 
 add-digits : tie.Need-add-digits
 add-digits c = search needs
 
 digits-requires-2 : tie.Need-digits-requires-2
-digits-requires-2 c κs = (omega arith, omega arith)
+digits-requires-2 c κs = ((omega arith, omega arith), search needs)
 
 returns-5 : tie.Need-returns-5
 returns-5 c = let a = c .before .before .before .before .before .before .before .before .before .before .args in goes-to (now (a .s)) (a .at) escape open-escape (c .before .before .before .before .before .before .before .before .if1 .left) (number 16 4 0) (escaped-u (getD (now (a .s)) (a .at) 0) (c .before .if5 .taken)) (c .digits2 .ensures)
@@ -61,10 +61,10 @@ gap-requires : tie.Need-gap-requires
 gap-requires c κs = search needs
 
 returns-6 : tie.Need-returns-6
-returns-6 c = let a = c .before .before .before .before .before .before .before .before .before .before .before .before .args in goes-to (now (a .s)) (a .at) escape open-escape (c .before .before .before .before .before .before .before .before .before .before .if1 .left) gap (escaped-gap (getD (now (a .s)) (a .at) 0) (sym (c .before .before .before .before .before .before .before .before .is-plain-escape .ensures) ∙ c .before .before .before .before .before .before .before .if2 .left) (c .before .before .before .before .before .before .if3 .left) (sym (c .before .before .before .before .before .is-digit .ensures) ∙ c .before .before .before .before .if4 .left) (c .before .before .before .if5 .left) (sym (c .before .before .is-space .ensures) ∙ c .before .if6 .taken)) (c .gap .ensures)
+returns-6 c = let a = c .before .before .before .before .before .before .before .before .before .before .before .before .args in goes-to (now (a .s)) (a .at) escape open-escape (c .before .before .before .before .before .before .before .before .before .before .if1 .left) gap (escaped-gap (getD (now (a .s)) (a .at) 0) (sym (c .before .before .before .before .before .before .before .before .is-plain-escape .ensures) ∙ c .before .before .before .before .before .before .before .if2 .left) (c .before .before .before .before .before .before .if3 .left) (sym (c .before .before .before .before .before .is-digit-in .ensures) ∙ c .before .before .before .before .if4 .left) (c .before .before .before .if5 .left) (sym (c .before .before .is-space .ensures) ∙ c .before .if6 .taken)) (c .gap .ensures)
 
 returns-7 : tie.Need-returns-7
-returns-7 c = let a = c .before .before .before .before .before .before .before .before .before .before .before .args in goes-wrong (now (a .s)) (a .at) escape open-escape (c .before .before .before .before .before .before .before .before .before .if1 .left) (escaped-wrong (getD (now (a .s)) (a .at) 0) (sym (c .before .before .before .before .before .before .before .is-plain-escape .ensures) ∙ c .before .before .before .before .before .before .if2 .left) (c .before .before .before .before .before .if3 .left) (sym (c .before .before .before .before .is-digit .ensures) ∙ c .before .before .before .if4 .left) (c .before .before .if5 .left) (sym (c .before .is-space .ensures) ∙ c .if6 .left))
+returns-7 c = let a = c .before .before .before .before .before .before .before .before .before .before .before .args in goes-wrong (now (a .s)) (a .at) escape open-escape (c .before .before .before .before .before .before .before .before .before .if1 .left) (escaped-wrong (getD (now (a .s)) (a .at) 0) (sym (c .before .before .before .before .before .before .before .is-plain-escape .ensures) ∙ c .before .before .before .before .before .before .if2 .left) (c .before .before .before .before .before .if3 .left) (sym (c .before .before .before .before .is-digit-in .ensures) ∙ c .before .before .before .if4 .left) (c .before .before .if5 .left) (sym (c .before .is-space .ensures) ∙ c .if6 .left))
 
 pub escape-spec : {M : Type 1} → statement M
-escape-spec = tie.close (tie.spec returns shared-slice-read-b is-plain-escape-requires add-t9 returns-2 add-control control-requires returns-3 is-digit-requires digits-requires returns-4 add-digits digits-requires-2 returns-5 is-space-requires add-gap gap-requires returns-6 returns-7)
+escape-spec = tie.close (tie.spec returns shared-slice-read-b is-plain-escape-requires add-t10 returns-2 add-control control-requires returns-3 is-digit-in-requires digits-requires returns-4 add-digits digits-requires-2 returns-5 is-space-requires add-gap gap-requires returns-6 returns-7)

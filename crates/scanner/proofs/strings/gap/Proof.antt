@@ -15,8 +15,8 @@ run-requires c κs = search needs
 stands-requires : tie.Need-stands-requires
 stands-requires c κs = search needs
 
-add-t6 : tie.Need-add-t6
-add-t6 c = omega (arith, first-inside _ (now (c .before .before .before .before .args .s)) (c .before .before .run .result) (sym (c .before .stands .ensures) ∙ c .if1 .taken))
+add-t7 : tie.Need-add-t7
+add-t7 c = omega (arith, first-inside _ (now (c .before .before .before .before .args .s)) (c .before .before .run .result) (sym (c .before .stands .ensures) ∙ c .if1 .taken))
 
 returns : tie.Need-returns
 unfolding inClass
@@ -27,4 +27,4 @@ unfolding inClass
 returns-2 c = let a = c .before .before .before .before .args in gap-open (now (a .s)) (a .from) (c .before .before .run .result) (c .before .before .run .ensures) (sym (c .before .stands .ensures) ∙ c .if1 .left)
 
 pub gap-spec : {M : Type 1} → statement M
-gap-spec = tie.close (tie.spec run-requires stands-requires add-t6 returns returns-2)
+gap-spec = tie.close (tie.spec run-requires stands-requires add-t7 returns returns-2)

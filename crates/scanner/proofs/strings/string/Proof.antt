@@ -12,10 +12,10 @@ use Rattle.scanner.proofs.strings.string.Statement.{statement}
 use Rattle.scanner.proofs.strings.string.Tie as tie
 
 abbrev Inv-loop : tie.InvT-loop
-Inv-loop s from at₀ total₀ at total = (further from 0 (span between-characters (drop from s)) ≡ further at total (span between-characters (drop at s))) × (total ≤ at)
+Inv-loop table s from at₀ total₀ at total = (further from 0 (span between-characters (drop from s)) ≡ further at total (span between-characters (drop at s))) × (total ≤ at)
 
 abbrev μ-loop : tie.MeasureT-loop
-μ-loop s from at₀ total₀ at total = length s - at
+μ-loop table s from at₀ total₀ at total = length s - at
 
 loop-holds : tie.Need-loop-holds Inv-loop μ-loop
 loop-holds c = (refl, omega arith)
@@ -23,15 +23,15 @@ loop-holds c = (refl, omega arith)
 shared-slice-read-if1 : tie.Need-shared-slice-read-if1 Inv-loop μ-loop
 shared-slice-read-if1 c = search needs
 
-add-t11 : tie.Need-add-t11 Inv-loop μ-loop
-add-t11 c = search needs
+add-t12 : tie.Need-add-t12 Inv-loop μ-loop
+add-t12 c = search needs
 
 returns : tie.Need-returns Inv-loop μ-loop
 unfolding spanOf
 returns c = let l = c .before .before .before .loop in sym (l .inv .0 ∙ string-quote (now (c .before .before .before .before .before .args .s)) (l .at) (l .total) (c .before .before .loop-test .taken) (c .if1 .taken))
 
 item-requires : tie.Need-item-requires Inv-loop μ-loop
-item-requires c κs = (c .before .before .loop-test .taken, c .if1 .left)
+item-requires c κs = (c .before .before .loop-test .taken, (c .if1 .left, search needs))
 
 enum-known-end : tie.Need-enum-known-end Inv-loop μ-loop
 enum-known-end c = search needs
@@ -60,4 +60,4 @@ unfolding spanOf
 returns-3 c = let l = c .before .loop in sym (l .inv .0 ∙ string-end (now (c .before .before .before .args .s)) (l .at) (l .total) (c .loop-test .left))
 
 pub string-spec : {M : Type 1} → statement M
-string-spec = tie.close (tie.spec Inv-loop μ-loop loop-holds shared-slice-read-if1 add-t11 returns item-requires enum-known-end enum-told returns-2 add-total loop-less loop-again returns-3)
+string-spec = tie.close (tie.spec Inv-loop μ-loop loop-holds shared-slice-read-if1 add-t12 returns item-requires enum-known-end enum-told returns-2 add-total loop-less loop-again returns-3)
