@@ -1,18 +1,15 @@
 //! The builder: checks a description against the schema and writes the record.
 
-use crate::describe::{NodeDescription, PartDescription, Token};
+use crate::describe::{Name, NodeDescription, PartDescription, Token};
 use crate::error::{BuildError, Problem};
-use crate::tree::Dec;
+use crate::tokens::Tokens;
+use crate::tree::{Dec, Root};
 use crate::{command, limit, FieldKind, Node, Part, Sheet, SyntaxKind};
 
 /// Builds a sheet: first the tokens in the order of the text, then the tree.
 #[derive(Debug, Clone, Default)]
 pub struct SheetBuilder {
-    text: Vec<u8>,
-    record: Vec<u8>,
-    token_count: usize,
-    /// The first token that can't be written.
-    refused: Option<Problem>,
+    tokens: Tokens,
     /// Whether the sheet may be past the limits.
     unlimited: bool,
 }
@@ -32,40 +29,7 @@ impl SheetBuilder {
 
     /// Appends a token to the text. A token that can't be written is told by [`Self::finish`].
     pub fn token(&mut self, kind: SyntaxKind, text: impl AsRef<[u8]>) -> Token {
-        let text = text.as_ref();
-        let number = self.token_count;
-        self.token_count += 1;
-        if let Some(problem) = self.past_limits(number, text) {
-            self.refused.get_or_insert(problem);
-        }
-        let problem = match (u16::try_from(number), u16::try_from(text.len())) {
-            (Err(_) | Ok(command::NO_TOKEN), _) => Problem::TooManyTokens(number),
-            (_, Err(_)) => Problem::LongToken(number),
-            (_, Ok(0)) => Problem::EmptyToken(number),
-            (Ok(number), Ok(length)) => {
-                self.text.extend_from_slice(text);
-                self.record.extend([command::TOKEN, kind.number()]);
-                self.record.extend(length.to_le_bytes());
-                return Token(number);
-            }
-        };
-        self.refused.get_or_insert(problem);
-        Token(command::NO_TOKEN)
-    }
-
-    /// The limit that a token passes.
-    fn past_limits(&self, number: usize, text: &[u8]) -> Option<Problem> {
-        if self.unlimited {
-            return None;
-        }
-        if number >= limit::TOKENS {
-            return Some(Problem::TooManyTokens(number));
-        }
-        if self.text.len() + text.len() > limit::TEXT {
-            return Some(Problem::LongText(number));
-        }
-        let wide = text.iter().find(|byte| !byte.is_ascii());
-        wide.map(|&byte| Problem::NotAscii(number, byte))
+        self.tokens.push(kind, text.as_ref())
     }
 
     /// Appends a token of the kind that its text has in Standard ML.
@@ -96,23 +60,34 @@ impl SheetBuilder {
     /// # Errors
     ///
     /// As [`Self::finish`], and if a description doesn't fit the schema.
-    pub fn finish_named<T>(mut self, decs: T) -> Result<Sheet, BuildError>
+    pub fn finish_named<T>(self, decs: T) -> Result<Sheet, BuildError>
     where
         T: IntoIterator<Item = NodeDescription>,
     {
-        if let Some(problem) = self.refused.take() {
-            return Err(BuildError::on_the_whole(problem));
-        }
         let decs: Vec<_> = decs.into_iter().collect();
-        let root = crate::node(Node::Root.name()).with("decs", decs);
+        self.write(&NodeDescription::known(Node::Root).with("decs", decs))
+    }
+
+    /// The sheet with this tree, in which neighbouring tokens of kind [`SyntaxKind::Other`] that no
+    /// node names are one token. It is formatted as that of [`Self::finish`], and has fewer tokens.
+    ///
+    /// # Errors
+    ///
+    /// As [`Self::finish`].
+    pub fn finish_fused(self, root: &Root) -> Result<Sheet, BuildError> {
+        let tokens = self.tokens.fused(root.as_ref());
+        Self { tokens, ..self }.write(root.as_ref())
+    }
+
+    fn write(self, root: &NodeDescription) -> Result<Sheet, BuildError> {
+        let record = self.tokens.record(self.unlimited)?;
         let most_forms = if self.unlimited { usize::MAX } else { limit::FORMS };
-        let (record, token_count) = (self.record, self.token_count);
-        let writer = TreeWriter { record, token_count, most_forms, steps: Vec::new() };
-        let record = writer.write(&root)?;
+        let writer = TreeWriter { record, tokens: &self.tokens, most_forms, steps: Vec::new() };
+        let record = writer.write(root)?;
         if record.len() > limit::RECORD && !self.unlimited {
-            return Err(BuildError::on_the_whole(Problem::LongRecord(record.len())));
+            return Err(BuildError::on_the_whole(Problem::LongRecord(record.len()), None));
         }
-        Ok(Sheet { text: self.text, record })
+        Ok(Sheet { text: self.tokens.into_text(), record })
     }
 }
 
@@ -124,8 +99,17 @@ struct Task<'a> {
     part: &'a PartDescription,
     /// Its place in the steps.
     step: usize,
-    /// The number of forms around it.
+    /// What stands around it.
+    around: Around,
+}
+
+/// What stands around a field.
+#[derive(Clone, Copy, Default)]
+struct Around {
+    /// The number of forms.
     forms: usize,
+    /// The first token of the declaration.
+    declaration: Option<Token>,
 }
 
 /// A step from a node to a field or from a list to an item.
@@ -140,9 +124,9 @@ enum StepName {
 }
 
 /// Writes the tree without recursion, so that deep nesting needs no deep stack.
-struct TreeWriter {
+struct TreeWriter<'b> {
     record: Vec<u8>,
-    token_count: usize,
+    tokens: &'b Tokens,
     /// The most forms inside one another.
     most_forms: usize,
     steps: Vec<Step>,
@@ -153,9 +137,9 @@ static ABSENT: PartDescription = PartDescription::Absent;
 /// What a list that is not named holds.
 static EMPTY: PartDescription = PartDescription::List(Vec::new());
 
-impl TreeWriter {
+impl TreeWriter<'_> {
     fn write(mut self, root: &NodeDescription) -> Result<Vec<u8>, BuildError> {
-        let mut tasks = self.fields(Node::Root, root, None, 0)?;
+        let mut tasks = self.fields(Node::Root, root, None, Around::default())?;
         while let Some(task) = tasks.pop() {
             let inner = match (task.kind, task.part) {
                 (FieldKind::List(_), PartDescription::List(items)) if !task.is_item => {
@@ -179,9 +163,9 @@ impl TreeWriter {
         node: Node,
         description: &'a NodeDescription,
         outer: Option<usize>,
-        forms: usize,
+        around: Around,
     ) -> Result<Vec<Task<'a>>, BuildError> {
-        check_names(node, description).map_err(|problem| self.error(outer, problem))?;
+        check_names(node, description).map_err(|problem| self.error(outer, around, problem))?;
         let tasks = node.fields().iter().rev().map(|field| {
             let given = description.fields.iter().find(|(name, _)| name == field.accessor);
             let unnamed = match field.kind {
@@ -190,7 +174,7 @@ impl TreeWriter {
             };
             let part = given.map_or(unnamed, |(_, part)| part);
             self.steps.push(Step { outer, name: StepName::Field(field.accessor) });
-            Task { kind: field.kind, is_item: false, part, step: self.steps.len() - 1, forms }
+            Task { kind: field.kind, is_item: false, part, step: self.steps.len() - 1, around }
         });
         Ok(tasks.collect())
     }
@@ -202,13 +186,13 @@ impl TreeWriter {
         items: &'a [PartDescription],
     ) -> Result<Vec<Task<'a>>, BuildError> {
         let count = u16::try_from(items.len())
-            .map_err(|_| self.error(Some(task.step), Problem::LongList(items.len())))?;
+            .map_err(|_| self.error_at(task, Problem::LongList(items.len())))?;
         self.record.push(command::LIST);
         self.record.extend(count.to_le_bytes());
         let tasks = items.iter().enumerate().rev().map(|(at, part)| {
             self.steps.push(Step { outer: Some(task.step), name: StepName::Item(at) });
             let step = self.steps.len() - 1;
-            Task { kind: task.kind, is_item: true, part, step, forms: task.forms }
+            Task { kind: task.kind, is_item: true, part, step, around: task.around }
         });
         Ok(tasks.collect())
     }
@@ -217,8 +201,7 @@ impl TreeWriter {
     fn part<'a>(&mut self, task: &Task<'a>) -> Result<Vec<Task<'a>>, BuildError> {
         match (task.kind.part(), task.part) {
             (Part::Token, PartDescription::Token(token)) => {
-                let number =
-                    self.known(*token).map_err(|problem| self.error(Some(task.step), problem))?;
+                let number = self.known(*token).map_err(|problem| self.error_at(task, problem))?;
                 self.record.push(command::TOKEN_REF);
                 self.record.extend(number.to_le_bytes());
                 Ok(Vec::new())
@@ -235,19 +218,22 @@ impl TreeWriter {
         description: &'a NodeDescription,
     ) -> Result<Vec<Task<'a>>, BuildError> {
         let part = task.kind.part();
-        let node = Node::named(&description.name).ok_or_else(|| {
-            let problem = Problem::UnknownNode(description.name.clone());
-            self.error(Some(task.step), problem)
-        })?;
+        let node = match &description.name {
+            Name::Known(node) => *node,
+            Name::Unknown(name) => {
+                return Err(self.error_at(task, Problem::UnknownNode(name.clone())));
+            }
+        };
         let bytes = head(part, node).ok_or_else(|| self.unfitting(task))?;
-        let forms = task.forms + usize::from(matches!(part, Part::Form(_)));
+        let forms = task.around.forms + usize::from(matches!(part, Part::Form(_)));
         if forms > self.most_forms {
-            return Err(self.error(Some(task.step), Problem::TooDeep(node)));
+            return Err(self.error_at(task, Problem::TooDeep(node)));
         }
         self.record.extend(bytes);
         self.first_token(part, node, description)
-            .map_err(|problem| self.error(Some(task.step), problem))?;
-        self.fields(node, description, Some(task.step), forms)
+            .map_err(|problem| self.error_at(task, problem))?;
+        let declaration = description.first_token.or(task.around.declaration);
+        self.fields(node, description, Some(task.step), Around { forms, declaration })
     }
 
     /// Writes a declaration's operand.
@@ -267,22 +253,25 @@ impl TreeWriter {
     }
 
     fn known(&self, token: Token) -> Result<u16, Problem> {
-        let known = usize::from(token.0) < self.token_count;
-        known.then_some(token.0).ok_or(Problem::UnknownToken(token.0))
+        self.tokens.number(token).ok_or(Problem::UnknownToken(token.0))
     }
 
     fn unfitting(&self, task: &Task<'_>) -> BuildError {
         let found = match task.part {
             PartDescription::Absent => "absent".to_owned(),
             PartDescription::Token(token) => format!("token {}", token.0),
-            PartDescription::Node(node) => format!("node {}", node.name),
+            PartDescription::Node(node) => format!("node {}", node.name()),
             PartDescription::List(items) => format!("a list of {}", items.len()),
         };
-        self.error(Some(task.step), Problem::Unfitting { expected: task.kind, found })
+        self.error_at(task, Problem::Unfitting { expected: task.kind, found })
+    }
+
+    fn error_at(&self, task: &Task<'_>, problem: Problem) -> BuildError {
+        self.error(Some(task.step), task.around, problem)
     }
 
     /// The error with the steps from the root to this one.
-    fn error(&self, step: Option<usize>, problem: Problem) -> BuildError {
+    fn error(&self, step: Option<usize>, around: Around, problem: Problem) -> BuildError {
         let mut names = Vec::new();
         let mut next = step;
         while let Some(Step { outer, name }) = next.map(|step| &self.steps[step]) {
@@ -294,7 +283,8 @@ impl TreeWriter {
             next = *outer;
         }
         names.reverse();
-        BuildError { at: names.concat(), problem }
+        let offset = around.declaration.map(|token| self.tokens.offset(token));
+        BuildError { at: names.concat(), problem, offset }
     }
 }
 
@@ -312,7 +302,7 @@ fn head(part: Part, node: Node) -> Option<Vec<u8>> {
 fn check_names(node: Node, description: &NodeDescription) -> Result<(), Problem> {
     for (at, (name, _)) in description.fields.iter().enumerate() {
         let Some(field) = node.fields().iter().find(|field| field.accessor == name) else {
-            return Err(Problem::UnknownField(node, name.clone()));
+            return Err(Problem::UnknownField(node, name.clone().into_owned()));
         };
         if description.fields[..at].iter().any(|(other, _)| other == name) {
             return Err(Problem::FieldTwice(node, field.accessor));

@@ -11,6 +11,9 @@ pub struct BuildError {
     pub at: String,
     /// What is wrong there.
     pub problem: Problem,
+    /// The text offset of the token that is wrong, or of the declaration in which a part of the
+    /// tree is; none for the record as a whole.
+    pub offset: Option<usize>,
 }
 
 /// What is wrong with a description.
@@ -32,7 +35,7 @@ pub enum Problem {
     /// A first token on a node that is no declaration.
     FirstToken(Node),
     /// A token number that isn't below the count.
-    UnknownToken(u16),
+    UnknownToken(u32),
     /// A list with more items than a u16 counts.
     LongList(usize),
     /// A token of no bytes; its number.
@@ -53,8 +56,8 @@ pub enum Problem {
 
 impl BuildError {
     /// An error that no place in the tree has.
-    pub(crate) fn on_the_whole(problem: Problem) -> Self {
-        Self { at: String::new(), problem }
+    pub(crate) fn on_the_whole(problem: Problem, offset: Option<usize>) -> Self {
+        Self { at: String::new(), problem, offset }
     }
 }
 

@@ -40,6 +40,7 @@ mod input;
 mod kind;
 mod nodes;
 mod schema;
+mod tokens;
 pub mod tree;
 
 pub use build::SheetBuilder;

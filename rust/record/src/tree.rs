@@ -7,8 +7,8 @@
 //!   that its nodes convert to, so that `ParenExp::of(exp)` stands wherever an [`Exp`] may.
 //! - A form of [`DecOne`] converts by `first` or `without_first`: its first token has to be said.
 
-use crate::describe::{node, NodeDescription, PartDescription, Token};
-use crate::with_nodes;
+use crate::describe::{NodeDescription, PartDescription, Token};
+use crate::{with_nodes, Node};
 
 /// The type of a part of the schema.
 macro_rules! part {
@@ -32,7 +32,8 @@ macro_rules! setters {
             I::Item: Into<part!($($part)+)>,
         {
             let items = items.into_iter().map(|item| PartDescription::from(item.into()));
-            Self(self.0.with(stringify!($field), items.collect::<Vec<_>>()))
+            let items = PartDescription::List(items.collect());
+            Self(self.0.with_known(stringify!($field), items))
         }
         setters!($($rest)*);
     };
@@ -40,7 +41,8 @@ macro_rules! setters {
         #[doc = concat!("Sets the field `", stringify!($field), "`.")]
         #[must_use]
         pub fn $field(self, part: impl Into<Option<part!($($part)+)>>) -> Self {
-            Self(self.0.with(stringify!($field), part.into()))
+            let part = PartDescription::from(part.into());
+            Self(self.0.with_known(stringify!($field), part))
         }
         setters!($($rest)*);
     };
@@ -114,6 +116,12 @@ macro_rules! described {
             }
         }
 
+        impl AsRef<NodeDescription> for $name {
+            fn as_ref(&self) -> &NodeDescription {
+                &self.0
+            }
+        }
+
         impl From<$name> for PartDescription {
             fn from(node: $name) -> Self {
                 Self::Node(node.0)
@@ -143,7 +151,7 @@ macro_rules! typed {
                 /// A node without its parts: fields absent, lists empty.
                 #[must_use]
                 pub fn new() -> Self {
-                    Self(node(stringify!($node)))
+                    Self(NodeDescription::known(Node::$node))
                 }
 
                 of!($($fields)*);
@@ -162,6 +170,14 @@ macro_rules! typed {
 }
 
 with_nodes!(typed);
+
+impl DecOne {
+    /// Sets the declaration's last token. The record has no place for it.
+    #[must_use]
+    pub fn last(self, token: Token) -> Self {
+        Self(self.0.last(token))
+    }
+}
 
 impl Dec {
     /// A `Dec` that holds one declaration, without semicolons or sharing tails.

@@ -74,3 +74,28 @@ fn unlimited_builders_check_none() {
     words(&mut builder, "é", 20_000);
     assert_eq!(builder.finish([]).unwrap().text.len(), 40_000);
 }
+
+#[test]
+fn tokens_that_no_node_names_become_one() {
+    let mut builder = SheetBuilder::new();
+    let [val, _, x, _, _, _] = builder.words(["val", " ", "x", " ", "=", " "]);
+    let [_, _, one, _, _] = builder.words(["(* c *)", " ", "1", " ", ";"]);
+    let bind = tree::ValBind::new()
+        .pat(tree::ConPat::new().path(tree::Path::named([x])))
+        .eq_exp(tree::EqExp::of(tree::SConExp::of(one)));
+    let dec = tree::ValDec::of([bind]).first(val).last(one);
+    let root = tree::Root::of([Dec::one(dec)]);
+    let sheet = builder.finish_fused(&root).unwrap();
+    assert_eq!(sheet.text, b"val x = (* c *) 1 ;");
+    let tokens: Vec<_> = sheet.record.chunks(4).take_while(|token| token[0] == 5).collect();
+    let lengths: Vec<_> = tokens.iter().map(|token| (token[1], token[2])).collect();
+    // val, space, x, " = ", comment, space, 1, " ;"
+    assert_eq!(lengths, [(4, 3), (0, 1), (0, 1), (0, 3), (1, 7), (0, 1), (0, 1), (0, 2)]);
+    let mut same = SheetBuilder::new();
+    let [val, _, x, _, _, _, one, _] =
+        same.words(["val", " ", "x", " = ", "(* c *)", " ", "1", " ;"]);
+    let bind = tree::ValBind::new()
+        .pat(tree::ConPat::new().path(tree::Path::named([x])))
+        .eq_exp(tree::EqExp::of(tree::SConExp::of(one)));
+    assert_eq!(same.finish([Dec::one(tree::ValDec::of([bind]).first(val))]).unwrap(), sheet);
+}

@@ -1,88 +1,117 @@
-//! Makes sheets from rule files in a part of Standard ML.
+//! Parses Standard ML and makes sheets from it.
 //!
-//! It shows how a parser of one's own writes a sheet: the tokens of [`diverplume::scan`] go to the
-//! builder, and the functions of the parser give nodes of the tree.
+//! The language is that of The Definition of Standard ML (Revised), modules included, with the
+//! forms of Successor ML for which there is a layout: or-patterns, vectors, `do`, rows of an
+//! expression without a value, `op andalso` and `op orelse`, and `...` and `_` for what is left
+//! open. Fixity directives have the scope that the Definition gives them.
 //!
 //! ```
 //! let sheet = diverplume_sheet::sheet("(* why *)\nval late = true")?;
 //! assert_eq!(sheet.text, b"(* why *)\nval late = true");
 //! let error = diverplume_sheet::sheet("val late\n  = then").unwrap_err();
-//! assert_eq!(error.to_string(), "line 2, column 5: an expression is expected, not \"then\"");
+//! assert_eq!(error.to_string(), "2:5: an expression is expected, not \"then\"");
 //! # Ok::<(), diverplume_sheet::Error>(())
 //! ```
 //!
-//! The part: `val`, `fun`, `type`, `datatype`, `exception`, `open`, fixity declarations, `do`,
-//! `local`, `structure` and `signature`; all expressions, with the infix names of the initial basis
-//! and `|>`; all patterns and types; or-patterns and vectors. Not: `functor`, `abstype`, `include`,
-//! `sharing`, `where`, functor applications, other infix names.
+//! What the layouts would lose is refused in words:
+//!
+//! ```
+//! let error = diverplume_sheet::sheet("val 'a x = []").unwrap_err();
+//! assert_eq!(
+//!     error.to_string(),
+//!     "1:5: type variables behind \"val\" would be lost; annotate the pattern instead"
+//! );
+//! ```
 
+mod above;
+mod error;
+mod fixity;
+mod judge;
 mod lex;
 mod parse;
+mod tree;
 
-use diverplume::Refusal;
-use diverplume_record::tree::Dec;
-use diverplume_record::{BuildError, Sheet, SheetBuilder};
-use std::fmt;
+pub use above::{Above, Stray};
+pub use error::{Error, Position, Reason};
+pub use judge::{judge, Change};
+pub use tree::{Declaration, Difference};
+
+use diverplume_record::tree::{Dec, Root};
+use diverplume_record::{Sheet, SheetBuilder};
+use lex::Lexeme;
+use parse::Loss;
 
 /// The sheet of a text.
 ///
 /// # Errors
 ///
-/// If the text is outside the part that is known, or past the limits of a sheet.
-pub fn sheet(text: &str) -> Result<Sheet, Error> {
-    let (builder, decs) = tokens_and_tree(text)?;
-    builder.finish(decs).map_err(Error::Build)
+/// If the text is no Standard ML, has something that formatting would lose, or is past the limits
+/// of a sheet.
+pub fn sheet(text: impl AsRef<[u8]>) -> Result<Sheet, Error> {
+    File::parse(text.as_ref())?.sheet()
 }
 
 /// A builder with the text's tokens, and its declarations.
 ///
 /// # Errors
 ///
-/// If the text is outside the part that is known.
-pub fn tokens_and_tree(text: &str) -> Result<(SheetBuilder, Vec<Dec>), Error> {
+/// If the text is no Standard ML.
+pub fn tokens_and_tree(text: impl AsRef<[u8]>) -> Result<(SheetBuilder, Vec<Dec>), Error> {
+    let text = text.as_ref();
+    let tokens = lex::tokens(text).map_err(|broken| Error::of_tokens(text, broken))?;
+    let (decs, _) = parse::file(text, &lex::words(text, &tokens))?;
+    Ok((builder(text, &tokens), decs))
+}
+
+/// A builder with these tokens.
+fn builder(text: &[u8], tokens: &[Lexeme]) -> SheetBuilder {
     let mut builder = SheetBuilder::new();
-    let words = lex::words(text, &mut builder)?;
-    let decs = parse::file(text, &words)?;
-    Ok((builder, decs))
-}
-
-/// Why a text gives no sheet.
-#[derive(Debug, Clone, PartialEq, Eq)]
-pub enum Error {
-    /// The text has no tokens, or too many.
-    Scan(Refusal),
-    /// Something else is expected at a place of the text.
-    Text {
-        /// The line, from 1.
-        line: usize,
-        /// The column, from 1.
-        column: usize,
-        /// What is wrong there.
-        problem: String,
-    },
-    /// The sheet can't be built.
-    Build(BuildError),
-}
-
-impl Error {
-    fn at(text: &str, offset: usize, problem: String) -> Self {
-        let before = &text[..offset];
-        let line = before.matches('\n').count() + 1;
-        let column = before.rsplit('\n').next().map_or(0, str::len) + 1;
-        Self::Text { line, column, problem }
+    for token in tokens {
+        builder.token(token.kind, &text[token.range.clone()]);
     }
+    builder
 }
 
-impl fmt::Display for Error {
-    fn fmt(&self, f: &mut fmt::Formatter<'_>) -> fmt::Result {
-        match self {
-            Self::Text { line, column, problem } => {
-                write!(f, "line {line}, column {column}: {problem}")
-            }
-            Self::Scan(refusal) => refusal.fmt(f),
-            Self::Build(error) => error.fmt(f),
+/// A text with its tokens and its tree.
+#[derive(Debug)]
+pub struct File<'a> {
+    text: &'a [u8],
+    tokens: Vec<Lexeme>,
+    root: Root,
+    losses: Vec<Loss>,
+}
+
+impl<'a> File<'a> {
+    /// Parses a text, of any length.
+    ///
+    /// # Errors
+    ///
+    /// If the text is no Standard ML, or has too many forms inside one another.
+    pub fn parse(text: &'a [u8]) -> Result<Self, Error> {
+        let tokens = lex::tokens(text).map_err(|broken| Error::of_tokens(text, broken))?;
+        let (decs, losses) = parse::file(text, &lex::words(text, &tokens))?;
+        Ok(Self { text, tokens, root: Root::of(decs), losses })
+    }
+
+    /// What formatting would lose, in the order of the text.
+    pub fn losses(&self) -> impl Iterator<Item = Error> + '_ {
+        self.losses.iter().map(|loss| Error {
+            at: Position::of(self.text, loss.offset),
+            reason: Reason::Loss,
+            problem: loss.problem.clone(),
+        })
+    }
+
+    /// The sheet of the text.
+    ///
+    /// # Errors
+    ///
+    /// If formatting would lose something, or the sheet is past a limit.
+    pub fn sheet(&self) -> Result<Sheet, Error> {
+        if let Some(loss) = self.losses().next() {
+            return Err(loss);
         }
+        let sheet = builder(self.text, &self.tokens).finish_fused(&self.root);
+        sheet.map_err(|error| Error::of_build(self.text, &error))
     }
 }
-
-impl std::error::Error for Error {}

@@ -32,8 +32,8 @@ fn run(arguments: &[&str]) -> Result<Vec<u8>, String> {
     let tab_size = tab_size
         .parse()
         .map_err(|error| format!("the tab size {tab_size:?} is no number below 2^32: {error}"))?;
-    let text = fs::read_to_string(file).map_err(|error| format!("{file}: {error}"))?;
-    let sheet = sheet(&text).map_err(|error| format!("{file}: {error}"))?;
+    let text = fs::read(file).map_err(|error| format!("{file}: {error}"))?;
+    let sheet = sheet(&text).map_err(|error| format!("{file}:{error}"))?;
     let input = Input { tab_size, text: &sheet.text, record: &sheet.record };
     input.to_bytes().ok_or_else(|| format!("{file}: the text is over 65,535 bytes"))
 }

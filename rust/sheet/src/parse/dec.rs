@@ -1,174 +1,133 @@
-//! Declarations, structures and signatures.
+//! Programs and declarations.
 
-use super::{is_name, is_ty_var, Parsed, Parser};
-use crate::lex::is_symbolic;
+use super::{Parsed, Parser};
+use crate::fixity::Fixity;
+use crate::lex::Class;
 use diverplume_record::tree::{
-    AscriptionTail, ConBind, DatBind, DatCopyDec, DatDec, Dec, DecInSeq, DecOne, DecWithTail,
-    DoDec, EqConBinds, EqExp, EqStrExp, EqTy, ExBind, ExDec, FunBind, FunBindCase, FunBindCaseHead,
-    FunDec, InfixDec, InfixFunBindCaseHead, InfixrDec, LocalDec, LocalDecHd, LocalDecTl,
-    NameSigExp, NonfixDec, OfTy, OpenDec, PathStrExp, PrefixFunBindCaseHead, SigBind, SigExp,
-    SigSigExp, SignatureDec, StrBind, StrExp, StructStrExp, StructureDec, TyAnnotation, TyBind,
-    TyDec, TyVarArg, TyVarSeq, ValBind, ValDec,
+    Dec, DecInSeq, DecOne, DoDec, ExDec, ExpDec, FunctorDec, HoleDec, InfixDec, InfixrDec,
+    LocalDec, LocalDecHd, LocalDecTl, NonfixDec, OpenDec, SignatureDec, StructureDec, TyDec,
+    ValDec,
 };
 use diverplume_record::Token;
 
+/// Where a declaration stands.
+#[derive(Debug, Clone, Copy, PartialEq, Eq)]
+pub(super) enum Site {
+    /// Among declarations.
+    Dec,
+    /// Among the specifications of a signature.
+    Spec,
+}
+
 impl Parser<'_> {
-    /// Declarations, as many as there are; a semicolon may stand behind each.
-    pub(super) fn decs(&mut self) -> Parsed<Vec<Dec>> {
-        let mut decs = Vec::new();
-        while let Some(dec_one) = self.dec_one()? {
-            let in_seq = DecInSeq::new().dec_one(dec_one);
-            let with_tail = DecWithTail::new().dec_in_seqs([in_seq]);
-            decs.push(Dec::new().dec_with_tail(with_tail).semicolon(self.eat(";")));
+    /// All declarations of a file.
+    pub(super) fn program(&mut self) -> Parsed<Vec<Dec>> {
+        let items = self.dec_items(Self::top_dec)?;
+        if self.at < self.words.len() {
+            return Err(self.unexpected("a declaration"));
         }
-        Ok(decs)
+        Ok(one_each(items))
     }
 
-    /// A declaration; none where no known one begins.
-    fn dec_one(&mut self) -> Parsed<Option<DecOne>> {
-        let Some(first) = self.words.get(self.at) else {
+    /// Declarations, as many as there are.
+    pub(super) fn decs(&mut self) -> Parsed<Vec<Dec>> {
+        Ok(one_each(self.dec_items(Self::dec_one)?))
+    }
+
+    /// The word that ends a list of declarations.
+    pub(super) fn expect_after_decs(&mut self, text: &str) -> Parsed<Token> {
+        self.eat(text).ok_or_else(|| self.unexpected(&format!("a declaration or {text:?}")))
+    }
+
+    /// Declarations of a kind, as many as there are; a semicolon may stand behind each.
+    pub(super) fn dec_items(
+        &mut self,
+        dec_one: fn(&mut Self, Token) -> Parsed<Option<DecOne>>,
+    ) -> Parsed<Vec<DecInSeq>> {
+        let mut items = Vec::new();
+        loop {
+            while self.peek() == ";" {
+                self.lose(
+                    "this semicolon has no declaration before it and would be lost; remove it",
+                );
+                self.next();
+            }
+            let Some(first) = self.ahead(0) else { break };
+            let Some(dec) = self.nested(|parser| dec_one(parser, first.token))? else { break };
+            let dec = self.last().into_iter().fold(dec, DecOne::last);
+            items.push(DecInSeq::new().dec_one(dec).semicolon(self.eat(";")));
+        }
+        Ok(items)
+    }
+
+    /// A declaration or an expression with a semicolon behind it.
+    fn top_dec(&mut self, first: Token) -> Parsed<Option<DecOne>> {
+        if let Some(dec) = self.dec_one(first)? {
+            return Ok(Some(dec));
+        }
+        if !self.starts_exp() {
             return Ok(None);
-        };
+        }
+        let exp = self.exp()?;
+        if !matches!(self.peek(), ";" | "") {
+            return Err(self.unexpected("\";\""));
+        }
+        Ok(Some(ExpDec::of(exp).first(first)))
+    }
+
+    /// A declaration; none where none begins.
+    pub(super) fn dec_one(&mut self, first: Token) -> Parsed<Option<DecOne>> {
+        let keyword = self.peek();
         self.at += 1;
-        let dec = match first.text {
-            "val" => ValDec::of(self.separated("and", Self::val_bind)?).first(first.token),
-            "fun" => self.fun_dec()?.first(first.token),
-            "type" | "eqtype" => {
-                let binds = self.separated("and", Self::ty_bind)?;
-                TyDec::new().ty_head(first.token).ty_binds(binds).first(first.token)
-            }
-            "datatype" => self.datatype(first.token)?,
-            "exception" => ExDec::of(self.separated("and", Self::ex_bind)?).first(first.token),
-            "open" => {
-                let mut paths = vec![self.path()?];
-                while is_name(self.peek()) {
-                    paths.push(self.path()?);
-                }
-                OpenDec::of(paths).first(first.token)
-            }
-            "infix" | "infixr" | "nonfix" => self.fixity_dec(first.text, first.token)?,
-            "do" => DoDec::of(self.exp()?).first(first.token),
-            "local" => self.local_dec()?.first(first.token),
-            "structure" => {
-                StructureDec::of(self.separated("and", Self::str_bind)?).first(first.token)
-            }
-            "signature" => {
-                SignatureDec::of(self.separated("and", Self::sig_bind)?).first(first.token)
-            }
+        Ok(Some(match keyword {
+            "val" => ValDec::of(self.val_binds()?).first(first),
+            "fun" => self.fun_dec()?.first(first),
+            "type" => self.ty_dec(first, Site::Dec)?,
+            "datatype" => self.datatype(first)?,
+            "abstype" => self.abstype()?.first(first),
+            "exception" => ExDec::of(self.separated("and", Self::ex_bind)?).first(first),
+            "open" => self.open_dec()?.first(first),
+            "infix" | "infixr" | "nonfix" => self.fixity_dec(keyword, first)?,
+            "do" => DoDec::of(self.exp()?).first(first),
+            "local" => self.local_dec()?.first(first),
+            "structure" => StructureDec::of(self.str_binds(Site::Dec)?).first(first),
+            "signature" => SignatureDec::of(self.separated("and", Self::sig_bind)?).first(first),
+            "functor" => FunctorDec::of(self.separated("and", Self::functor_bind)?).first(first),
+            "..." => HoleDec::new().first(first),
             _ => {
                 self.at -= 1;
                 return Ok(None);
             }
+        }))
+    }
+
+    /// What follows `type` or `eqtype`.
+    pub(super) fn ty_dec(&mut self, head: Token, site: Site) -> Parsed<DecOne> {
+        Ok(TyDec::new().ty_head(head).ty_binds(self.ty_binds(site)?).first(head))
+    }
+
+    /// What follows `open`.
+    pub(super) fn open_dec(&mut self) -> Parsed<OpenDec> {
+        let mut paths = vec![self.path()?];
+        while self.is_at(Class::Name) {
+            paths.push(self.path()?);
+        }
+        Ok(OpenDec::of(paths))
+    }
+
+    /// What follows `infix`, `infixr` or `nonfix`.
+    pub(super) fn fixity_dec(&mut self, keyword: &str, first: Token) -> Parsed<DecOne> {
+        let (digit, precedence) = match self.peek().parse::<u8>() {
+            Ok(precedence @ 0..=9) if keyword != "nonfix" => (self.next(), precedence),
+            _ => (None, 0),
         };
-        Ok(Some(dec))
-    }
-
-    fn val_bind(&mut self) -> Parsed<ValBind> {
-        let bind = ValBind::new().rec_kw(self.eat("rec")).pat(self.pat()?);
-        if self.eat("=").is_none() {
-            return Ok(bind);
-        }
-        Ok(bind.eq_exp(EqExp::of(self.exp()?)))
-    }
-
-    fn fun_dec(&mut self) -> Parsed<FunDec> {
-        let dec = FunDec::new().ty_var_seq(self.ty_var_seq()?);
-        let binds = self.separated("and", |parser| {
-            Ok(FunBind::of(parser.separated("|", Self::fun_bind_case)?))
-        })?;
-        Ok(dec.fun_binds(binds))
-    }
-
-    fn fun_bind_case(&mut self) -> Parsed<FunBindCase> {
-        let mut case = FunBindCase::new().fun_bind_case_head(self.fun_bind_case_head()?);
-        let mut pats = Vec::new();
-        while self.starts_atomic_pat() {
-            pats.push(self.atomic_pat()?);
-        }
-        case = case.pats(pats);
-        if self.eat(":").is_some() {
-            case = case.ty_annotation(TyAnnotation::of(self.ty()?));
-        }
-        self.expect("=")?;
-        Ok(case.eq_exp(EqExp::of(self.exp()?)))
-    }
-
-    /// A name and its arguments behind it, or a symbolic name between two.
-    fn fun_bind_case_head(&mut self) -> Parsed<FunBindCaseHead> {
-        let is_infix = self.ahead(1).starts_with(is_symbolic) && is_name(self.ahead(1));
-        if is_infix && self.peek() != "op" {
-            let lhs = self.atomic_pat()?;
-            let head = InfixFunBindCaseHead::new().lhs(lhs).name_star_eq(self.name()?);
-            return Ok(head.rhs(self.atomic_pat()?).into());
-        }
-        let op = self.eat("op");
-        Ok(PrefixFunBindCaseHead::new().op_kw(op).name_star_eq(self.name()?).into())
-    }
-
-    fn ty_var_seq(&mut self) -> Parsed<Option<TyVarSeq>> {
-        let ty_var =
-            |parser: &mut Self| Ok(TyVarArg::of(parser.word("a type variable", is_ty_var)?));
-        if is_ty_var(self.peek()) {
-            return Ok(Some(TyVarSeq::new().ty_var_args([ty_var(self)?])));
-        }
-        if self.peek() != "(" || !is_ty_var(self.ahead(1)) {
-            return Ok(None);
-        }
-        let open = self.expect("(")?;
-        Ok(Some(TyVarSeq::new().l_round(open).ty_var_args(self.until(")", ty_var)?)))
-    }
-
-    fn ty_bind(&mut self) -> Parsed<TyBind> {
-        let bind = TyBind::new().ty_var_seq(self.ty_var_seq()?).name(self.name()?);
-        if self.eat("=").is_none() {
-            return Ok(bind);
-        }
-        Ok(bind.eq_ty(EqTy::of(self.ty()?)))
-    }
-
-    /// What follows `datatype`.
-    fn datatype(&mut self, first: Token) -> Parsed<DecOne> {
-        if self.ahead(1) == "=" && self.ahead(2) == "datatype" {
-            let dec = DatCopyDec::new().name(self.name()?);
-            self.at += 2;
-            return Ok(dec.path(self.path()?).first(first));
-        }
-        Ok(DatDec::new().dat_binds(self.separated("and", Self::dat_bind)?).first(first))
-    }
-
-    fn dat_bind(&mut self) -> Parsed<DatBind> {
-        let bind = DatBind::new().ty_var_seq(self.ty_var_seq()?).name(self.name()?);
-        self.expect("=")?;
-        let cons = self.separated("|", |parser| {
-            let con = ConBind::new().name_star_eq(parser.name()?);
-            Ok(con.of_ty(parser.of_ty()?))
-        })?;
-        Ok(bind.eq_con_binds(EqConBinds::of(cons)))
-    }
-
-    fn of_ty(&mut self) -> Parsed<Option<OfTy>> {
-        let of = self.eat("of");
-        of.map(|_| Ok(OfTy::of(self.ty()?))).transpose()
-    }
-
-    fn ex_bind(&mut self) -> Parsed<ExBind> {
-        let bind = ExBind::new().name_star_eq(self.name()?);
-        if self.eat("=").is_some() {
-            return Ok(bind.ex_bind_inner(EqExp::of(self.exp()?)));
-        }
-        Ok(match self.of_ty()? {
-            Some(of_ty) => bind.ex_bind_inner(of_ty),
-            None => bind,
-        })
-    }
-
-    fn fixity_dec(&mut self, keyword: &str, first: Token) -> Parsed<DecOne> {
-        let is_digit = |text: &str| text.starts_with(|c: char| c.is_ascii_digit());
-        let has_digit = keyword != "nonfix" && is_digit(self.peek());
-        let digit = has_digit.then(|| self.word("a digit", is_digit)).transpose()?;
-        let mut names = vec![self.name()?];
-        while is_name(self.peek()) {
-            names.push(self.name()?);
+        let fixity = Fixity { precedence, is_right: keyword == "infixr" };
+        let fixity = (keyword != "nonfix").then_some(fixity);
+        let mut names = Vec::new();
+        while names.is_empty() || self.is_at(Class::Name) || self.peek() == "=" {
+            let text = self.peek();
+            names.push(self.name_or_equals()?);
+            self.fixities.set(text, fixity);
         }
         Ok(match keyword {
             "infix" => InfixDec::new().int_lit(digit).name_star_eqs(names).first(first),
@@ -177,47 +136,20 @@ impl Parser<'_> {
         })
     }
 
+    /// What follows `local`.
     fn local_dec(&mut self) -> Parsed<LocalDec> {
-        let head = LocalDecHd::of(self.decs()?);
-        self.expect("in")?;
-        let tail = LocalDecTl::of(self.decs()?);
-        self.expect("end")?;
-        Ok(LocalDec::new().local_dec_hd(head).local_dec_tl(tail))
+        let head = self.fixities.mark();
+        let dec = LocalDec::new().local_dec_hd(LocalDecHd::of(self.decs()?));
+        self.expect_after_decs("in")?;
+        let tail = self.fixities.mark();
+        let dec = dec.local_dec_tl(LocalDecTl::of(self.decs()?));
+        self.expect_after_decs("end")?;
+        self.fixities.end_local(head, tail);
+        Ok(dec)
     }
+}
 
-    fn str_bind(&mut self) -> Parsed<StrBind> {
-        let mut bind = StrBind::new().name(self.name()?);
-        if let Some(ascription) = self.eat(":").or_else(|| self.eat(":>")) {
-            let tail = AscriptionTail::new().ascription(ascription).sig_exp(self.sig_exp()?);
-            bind = bind.ascription_tail(tail);
-        }
-        if self.eat("=").is_none() {
-            return Ok(bind);
-        }
-        Ok(bind.eq_str_exp(EqStrExp::of(self.str_exp()?)))
-    }
-
-    fn str_exp(&mut self) -> Parsed<StrExp> {
-        if self.eat("struct").is_none() {
-            return Ok(PathStrExp::of(self.path()?).into());
-        }
-        let decs = self.decs()?;
-        self.expect("end")?;
-        Ok(StructStrExp::of(decs).into())
-    }
-
-    fn sig_bind(&mut self) -> Parsed<SigBind> {
-        let bind = SigBind::new().name(self.name()?);
-        self.expect("=")?;
-        Ok(bind.sig_exp(self.sig_exp()?))
-    }
-
-    fn sig_exp(&mut self) -> Parsed<SigExp> {
-        if self.eat("sig").is_none() {
-            return Ok(NameSigExp::of(self.name()?).into());
-        }
-        let decs = self.decs()?;
-        self.expect("end")?;
-        Ok(SigSigExp::of(decs).into())
-    }
+/// Each declaration as a `Dec` of its own.
+fn one_each(items: Vec<DecInSeq>) -> Vec<Dec> {
+    items.into_iter().map(|item| Dec::sequence([item])).collect()
 }

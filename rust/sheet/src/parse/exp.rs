@@ -1,55 +1,88 @@
 //! Expressions.
 
-use super::{is_constant, is_label, is_name, Parsed, Parser};
+use super::operators::{Link, Operands, Operator};
+use super::{Parsed, Parser};
+use crate::error::Reason;
 use diverplume_record::tree::{
-    AndalsoExp, AppExp, Arm, CaseExp, EqExp, Exp, ExpArg, ExpInSeq, ExpRow, FnExp, HandleExp,
-    IfExp, InfixExp, LetExp, ListExp, Matcher, OrelseExp, ParenExp, PathExp, RaiseExp, RecordExp,
-    SConExp, SelectorExp, SeqExp, TupleExp, TypedExp, VectorExp, WhileExp,
+    AndalsoExp, AppExp, Arm, CaseExp, Exp, FnExp, HandleExp, IfExp, InfixExp, Matcher, OrelseExp,
+    RaiseExp, TypedExp, WhileExp,
 };
 
-/// The precedence of an infix name, and whether it groups to the right.
-fn fixity(text: &str) -> Option<(u8, bool)> {
-    match text {
-        "*" | "/" | "div" | "mod" => Some((7, false)),
-        "+" | "-" | "^" => Some((6, false)),
-        "::" | "@" => Some((5, true)),
-        "=" | "<>" | "<" | ">" | "<=" | ">=" => Some((4, false)),
-        ":=" | "o" => Some((3, false)),
-        "before" | "|>" => Some((0, false)),
-        _ => None,
+fn joined(link: Link, lhs: Exp, rhs: Exp) -> Exp {
+    match link {
+        Link::Orelse => OrelseExp::new().lhs(lhs).rhs(rhs).into(),
+        Link::Andalso => AndalsoExp::new().lhs(lhs).rhs(rhs).into(),
+        Link::Infix(name) => InfixExp::new().name_star_eq(name).lhs(lhs).rhs(rhs).into(),
     }
 }
 
 impl Parser<'_> {
     pub(super) fn exp(&mut self) -> Parsed<Exp> {
-        match self.peek() {
-            "raise" | "if" | "while" | "case" | "fn" => return self.keyword_exp(),
-            _ => {}
+        self.nested(Self::operators_exp)
+    }
+
+    fn operators_exp(&mut self) -> Parsed<Exp> {
+        let mut operands = Operands::new(self.operand()?, joined);
+        let mut is_typed = false;
+        loop {
+            while self.eat(":").is_some() {
+                let ty = self.ty()?;
+                operands = operands.wrap(|exp| TypedExp::new().exp(exp).ty(ty).into());
+                is_typed = true;
+            }
+            let operator = match self.peek() {
+                "orelse" => Some(Operator::ORELSE),
+                "andalso" => Some(Operator::ANDALSO),
+                // What has a type behind it is no operand of an infix name.
+                _ if is_typed => None,
+                _ => self.infix_ahead(0),
+            };
+            let Some(operator) = operator else { break };
+            self.next();
+            is_typed = false;
+            let is_infix = matches!(operator.link, Link::Infix(_));
+            let operand = if is_infix { self.infix_operand()? } else { self.operand()? };
+            operands = operands.push(operator, operand);
         }
-        let exp = self.orelse_exp()?;
+        let exp = operands.finish();
         if self.eat("handle").is_none() {
             return Ok(exp);
         }
         Ok(HandleExp::new().exp(exp).matcher(self.matcher()?).into())
     }
 
-    fn keyword_exp(&mut self) -> Parsed<Exp> {
-        if self.eat("raise").is_some() {
-            return Ok(RaiseExp::of(self.exp()?).into());
+    fn starts_keyword_exp(&self) -> bool {
+        matches!(self.peek(), "raise" | "if" | "while" | "case" | "fn")
+    }
+
+    /// An expression that reaches as far as it can, or applications.
+    fn operand(&mut self) -> Parsed<Exp> {
+        match self.peek() {
+            "raise" => {
+                self.next();
+                Ok(RaiseExp::of(self.exp()?).into())
+            }
+            "fn" => {
+                self.next();
+                Ok(FnExp::of(self.matcher()?).into())
+            }
+            "if" => self.if_exp(),
+            "while" => self.while_exp(),
+            "case" => self.case_exp(),
+            _ => self.app_exp(),
         }
-        if self.eat("fn").is_some() {
-            return Ok(FnExp::of(self.matcher()?).into());
+    }
+
+    /// What stands behind an infix name.
+    fn infix_operand(&mut self) -> Parsed<Exp> {
+        if self.starts_keyword_exp() {
+            let problem = format!("{:?} is expected in parentheses here", self.peek());
+            return Err(self.error(Reason::Syntax, problem));
         }
-        if self.eat("while").is_some() {
-            let exp = WhileExp::new().cond(self.exp()?);
-            self.expect("do")?;
-            return Ok(exp.body(self.exp()?).into());
-        }
-        if self.eat("case").is_some() {
-            let exp = CaseExp::new().exp(self.exp()?);
-            self.expect("of")?;
-            return Ok(exp.matcher(self.matcher()?).into());
-        }
+        self.app_exp()
+    }
+
+    fn if_exp(&mut self) -> Parsed<Exp> {
         self.expect("if")?;
         let exp = IfExp::new().cond(self.exp()?);
         self.expect("then")?;
@@ -58,8 +91,22 @@ impl Parser<'_> {
         Ok(exp.no(self.exp()?).into())
     }
 
+    fn while_exp(&mut self) -> Parsed<Exp> {
+        self.expect("while")?;
+        let exp = WhileExp::new().cond(self.exp()?);
+        self.expect("do")?;
+        Ok(exp.body(self.exp()?).into())
+    }
+
+    fn case_exp(&mut self) -> Parsed<Exp> {
+        self.expect("case")?;
+        let exp = CaseExp::new().exp(self.exp()?);
+        self.expect("of")?;
+        Ok(exp.matcher(self.matcher()?).into())
+    }
+
     fn matcher(&mut self) -> Parsed<Matcher> {
-        let arms = self.separated("|", |parser| {
+        let arms = self.barred(|parser| {
             let arm = Arm::new().pat(parser.pat()?);
             parser.expect("=>")?;
             Ok(arm.exp(parser.exp()?))
@@ -67,144 +114,23 @@ impl Parser<'_> {
         Ok(Matcher::of(arms))
     }
 
-    fn orelse_exp(&mut self) -> Parsed<Exp> {
-        let mut lhs = self.andalso_exp()?;
-        while self.eat("orelse").is_some() {
-            lhs = OrelseExp::new().lhs(lhs).rhs(self.andalso_exp()?).into();
-        }
-        Ok(lhs)
-    }
-
-    fn andalso_exp(&mut self) -> Parsed<Exp> {
-        let mut lhs = self.typed_exp()?;
-        while self.eat("andalso").is_some() {
-            lhs = AndalsoExp::new().lhs(lhs).rhs(self.typed_exp()?).into();
-        }
-        Ok(lhs)
-    }
-
-    fn typed_exp(&mut self) -> Parsed<Exp> {
-        let mut exp = self.infix_exp(0)?;
-        while self.eat(":").is_some() {
-            exp = TypedExp::new().exp(exp).ty(self.ty()?).into();
-        }
-        Ok(exp)
-    }
-
-    /// Operands with infix names of at least this precedence between.
-    fn infix_exp(&mut self, least: u8) -> Parsed<Exp> {
-        let mut lhs = self.app_exp()?;
-        while let Some((precedence, is_right)) = fixity(self.peek()) {
-            if precedence < least {
-                break;
-            }
-            let name = self.word("an infix name", |_| true)?;
-            let rhs = match self.peek() {
-                "raise" | "if" | "while" | "case" | "fn" => self.keyword_exp()?,
-                _ => self.infix_exp(precedence + u8::from(!is_right))?,
-            };
-            lhs = InfixExp::new().name_star_eq(name).lhs(lhs).rhs(rhs).into();
-        }
-        Ok(lhs)
-    }
-
+    /// An expression and its arguments.
     fn app_exp(&mut self) -> Parsed<Exp> {
+        let is_bang = self.peek() == "!" && self.text_ahead(1) != ".";
         let mut func = self.atomic_exp()?;
+        if is_bang && self.starts_symbolic_mark() {
+            self.lose(format!(
+                "the \"!\" before {:?} would be written as one name with it; set parentheses",
+                self.peek()
+            ));
+        }
         while self.starts_atomic_exp() {
             func = AppExp::new().func(func).arg(self.atomic_exp()?).into();
         }
         Ok(func)
     }
 
-    fn starts_atomic_exp(&self) -> bool {
-        let text = self.peek();
-        matches!(text, "{" | "(" | "[" | "#" | "let" | "op")
-            || is_constant(text)
-            || (is_name(text) && fixity(text).is_none())
-    }
-
-    fn atomic_exp(&mut self) -> Parsed<Exp> {
-        if !self.starts_atomic_exp() {
-            return Err(self.unexpected("an expression"));
-        }
-        if is_constant(self.peek()) {
-            return Ok(SConExp::of(self.word("a constant", is_constant)?).into());
-        }
-        if self.eat("{").is_some() {
-            return Ok(RecordExp::of(self.until("}", Self::exp_row)?).into());
-        }
-        if self.eat("[").is_some() {
-            return Ok(ListExp::of(self.exp_args("]")?).into());
-        }
-        if self.eat("(").is_some() {
-            return self.exp_in_parentheses();
-        }
-        if self.eat("let").is_some() {
-            return self.let_exp();
-        }
-        if self.eat("#").is_none() {
-            let op = self.eat("op");
-            return Ok(PathExp::new().op_kw(op).path(self.path()?).into());
-        }
-        if self.eat("[").is_some() {
-            return Ok(VectorExp::of(ListExp::of(self.exp_args("]")?)).into());
-        }
-        Ok(SelectorExp::of(self.word("a label", is_label)?).into())
-    }
-
-    fn exp_args(&mut self, close: &str) -> Parsed<Vec<ExpArg>> {
-        self.until(close, |parser| Ok(ExpArg::of(parser.exp()?)))
-    }
-
-    fn exp_row(&mut self) -> Parsed<ExpRow> {
-        let row = ExpRow::new().lab(self.word("a label", is_label)?);
-        if self.eat("=").is_none() {
-            return Ok(row);
-        }
-        Ok(row.eq_exp(EqExp::of(self.exp()?)))
-    }
-
-    /// What follows an opening parenthesis: nothing, one expression, several, or a sequence.
-    fn exp_in_parentheses(&mut self) -> Parsed<Exp> {
-        if self.eat(")").is_some() {
-            return Ok(TupleExp::new().into());
-        }
-        let first = self.exp()?;
-        if self.eat(")").is_some() {
-            return Ok(ParenExp::of(first).into());
-        }
-        if self.eat(",").is_some() {
-            let mut args = vec![ExpArg::of(first)];
-            args.extend(self.exp_args(")")?);
-            return Ok(TupleExp::of(args).into());
-        }
-        let sequence = self.sequence(first)?;
-        self.expect(")")?;
-        Ok(SeqExp::of(sequence).into())
-    }
-
-    /// A sequence whose first expression is read.
-    fn sequence(&mut self, first: Exp) -> Parsed<Vec<ExpInSeq>> {
-        let mut items = Vec::new();
-        let mut exp = first;
-        while let Some(semicolon) = self.eat(";") {
-            items.push(ExpInSeq::new().exp(exp).semicolon(semicolon));
-            if self.peek() == "end" {
-                return Ok(items);
-            }
-            exp = self.exp()?;
-        }
-        items.push(ExpInSeq::new().exp(exp));
-        Ok(items)
-    }
-
-    /// What follows `let`.
-    fn let_exp(&mut self) -> Parsed<Exp> {
-        let decs = self.decs()?;
-        self.expect("in")?;
-        let first = self.exp()?;
-        let sequence = self.sequence(first)?;
-        self.expect("end")?;
-        Ok(LetExp::new().decs(decs).exps_in_seq(sequence).into())
+    pub(super) fn starts_exp(&self) -> bool {
+        self.starts_keyword_exp() || self.starts_atomic_exp() || self.is_infix()
     }
 }

@@ -1,17 +1,28 @@
 //! Types.
 
-use super::{is_alphanumeric_name, is_label, is_ty_var, Parsed, Parser};
+use super::{Parsed, Parser};
+use crate::lex::Class;
 use diverplume_record::tree::{
-    ConTy, FnTy, OneArgConTy, ParenTy, RecordTy, StarTy, TupleTy, Ty, TyArg, TyRow, TySeq, TyVarTy,
+    ConTy, FnTy, HoleTy, OneArgConTy, ParenTy, RecordTy, StarTy, TupleTy, Ty, TyAnnotation, TyArg,
+    TyRow, TySeq, TyVarArg, TyVarSeq, TyVarTy, WildcardTy,
 };
+use diverplume_record::Token;
 
 impl Parser<'_> {
     pub(super) fn ty(&mut self) -> Parsed<Ty> {
-        let param = self.tuple_ty()?;
-        if self.eat("->").is_none() {
-            return Ok(param);
-        }
-        Ok(FnTy::new().param(param).res(self.ty()?).into())
+        self.nested(|parser| {
+            let param = parser.tuple_ty()?;
+            if parser.eat("->").is_none() {
+                return Ok(param);
+            }
+            Ok(FnTy::new().param(param).res(parser.ty()?).into())
+        })
+    }
+
+    /// A colon and a type, if a colon is next.
+    pub(super) fn ty_annotation(&mut self) -> Parsed<Option<TyAnnotation>> {
+        let colon = self.eat(":");
+        colon.map(|_| Ok(TyAnnotation::of(self.ty()?))).transpose()
     }
 
     fn tuple_ty(&mut self) -> Parsed<Ty> {
@@ -29,27 +40,42 @@ impl Parser<'_> {
     /// A type and the constructors behind it.
     fn con_ty(&mut self) -> Parsed<Ty> {
         let mut ty = self.atomic_ty()?;
-        while is_alphanumeric_name(self.peek()) {
+        while self.is_ty_con() {
             ty = OneArgConTy::new().ty(ty).path(self.path()?).into();
         }
         Ok(ty)
     }
 
+    fn is_ty_con(&self) -> bool {
+        self.is_at(Class::Name) && self.peek() != "*"
+    }
+
     fn atomic_ty(&mut self) -> Parsed<Ty> {
-        if is_ty_var(self.peek()) {
-            return Ok(TyVarTy::of(self.word("a type variable", is_ty_var)?).into());
-        }
-        if self.eat("{").is_some() {
-            return Ok(RecordTy::of(self.until("}", Self::ty_row)?).into());
-        }
-        if self.eat("(").is_none() {
-            if !is_alphanumeric_name(self.peek()) {
-                return Err(self.unexpected("a type"));
+        match self.peek() {
+            "{" => {
+                self.next();
+                Ok(RecordTy::of(self.until("}", Self::ty_row)?).into())
             }
-            return Ok(ConTy::new().path(self.path()?).into());
+            "(" => self.ty_in_parentheses(),
+            "_" => {
+                self.next();
+                Ok(WildcardTy::new().into())
+            }
+            "..." => {
+                self.next();
+                Ok(HoleTy::new().into())
+            }
+            _ if self.is_at(Class::TyVar) => Ok(TyVarTy::of(self.ty_var()?).into()),
+            _ if self.is_ty_con() => Ok(ConTy::new().path(self.path()?).into()),
+            _ => Err(self.unexpected("a type")),
         }
+    }
+
+    /// A type in parentheses, or several with a constructor behind.
+    fn ty_in_parentheses(&mut self) -> Parsed<Ty> {
+        self.expect("(")?;
         let mut args = self.separated(",", Self::ty)?;
-        self.expect(")")?;
+        self.close_list(")")?;
         match args.pop() {
             Some(inside) if args.is_empty() => Ok(ParenTy::of(inside).into()),
             last => {
@@ -60,8 +86,31 @@ impl Parser<'_> {
     }
 
     fn ty_row(&mut self) -> Parsed<TyRow> {
-        let label = self.word("a label", is_label)?;
+        let label = self.label()?;
         self.expect(":")?;
         Ok(TyRow::new().lab(label).ty(self.ty()?))
+    }
+
+    fn ty_var(&mut self) -> Parsed<Token> {
+        self.of_class(Class::TyVar, "a type variable")
+    }
+
+    /// A type variable, several in parentheses, or none.
+    pub(super) fn ty_var_seq(&mut self) -> Parsed<Option<TyVarSeq>> {
+        let arg = |parser: &mut Self| Ok(TyVarArg::of(parser.ty_var()?));
+        if self.is_at(Class::TyVar) {
+            return Ok(Some(TyVarSeq::new().ty_var_args([arg(self)?])));
+        }
+        if !self.is_ty_var_seq() {
+            return Ok(None);
+        }
+        let open = self.expect("(")?;
+        Ok(Some(TyVarSeq::new().l_round(open).ty_var_args(self.until(")", arg)?)))
+    }
+
+    /// Whether type variables are next.
+    pub(super) fn is_ty_var_seq(&self) -> bool {
+        let is_ty_var = |by| self.ahead(by).is_some_and(|word| word.class == Class::TyVar);
+        is_ty_var(0) || (self.peek() == "(" && is_ty_var(1))
     }
 }
