@@ -21,7 +21,7 @@ pub fn branches(count: usize) -> String {
 }
 
 fn parsed(count: usize) -> (SheetBuilder, Vec<Dec>) {
-    tokens_and_tree(&branches(count)).expect("the rule file is in the part that is known")
+    tokens_and_tree(&branches(count)).expect("the rule file is Standard ML")
 }
 
 /// The rules of so many branches.
@@ -41,7 +41,7 @@ fn paragraphs() -> &'static str {
 /// in the tree while they fit, then `...` while they do.
 fn repeated(branches: usize, record: usize) -> Sheet {
     let text = format!("{}\n", paragraphs()).repeat(branches);
-    let (builder, decs) = tokens_and_tree(&text).expect("the rules are in the part that is known");
+    let (builder, decs) = tokens_and_tree(&text).expect("the rules are Standard ML");
     let hole = Dec::one(HoleDec::new().without_first());
     let sheet = |rules: usize, holes: usize| {
         let rules = decs.iter().cycle().take(rules);
