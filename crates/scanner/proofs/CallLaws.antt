@@ -1,9 +1,10 @@
 -- Laws of the answers: each case of `tables` and of `scan`. Assumes nothing.
-use Prim.Native.Nat.{ℕ, _*_, _≤_, _<_}
+use Prim.Native.Nat.{ℕ, suc, _*_, _≤_, _<_}
 use native.Mathlib.Omega.{arith}
-use mathlib.Core.Path.{_≡_, sym, subst, ap, _∙_}
-use mathlib.Core.List.{List, _++_}
-use lib.ListN.{length, take, drop}
+use mathlib.Core.Path.{_≡_, refl, sym, subst, ap, _∙_}
+use mathlib.Core.List.{List, [], _∷_, _++_}
+use mathlib.Core.Option.{none}
+use lib.ListN.{length, getD, take, drop}
 use lib.Seq.{length-take-le}
 use borrow.Author.Tests.{le-leb, lt-leb}
 use Rattle.text.specs.Bytes.{firstWide, wideAt}
@@ -86,3 +87,9 @@ module _ {text kinds starts lens : List ℕ} {r : Tabled} (s : Reads text kinds 
     scan-written out h f =
         rw (f, counted-kinds, ← size)
         (sym (fitted-room (plain 0 0) (plain 8 0) bytes out (rw size h)) ∙ scan-tokens text out (counts .is))
+
+-- A text without a byte of 128 or more.
+pub none-wide : (k : ℕ) (s : List ℕ) → ((i : ℕ) → i < length s → getD s i 0 < 128) → firstWide k s ≡ none
+unfolding firstWide
+none-wide k [] h = refl
+none-wide k (b ∷ s) h = rw (firstWide, lt-leb 128 b (h 0 (omega arith))) (none-wide (suc k) s (λ i l. h (suc i) (omega (arith, l))))

@@ -7,14 +7,14 @@ use Rattle.scanner.proofs.tables.Tie as tie
 returns : tie.Need-returns
 returns c = reads-long (c .if1 .taken)
 
-first-wide-requires : tie.Need-first-wide-requires
-first-wide-requires c κs = search needs
+first-not-ascii-requires : tie.Need-first-not-ascii-requires
+first-not-ascii-requires c κs = search needs
 
 enum-known-place : tie.Need-enum-known-place
 enum-known-place c = search needs
 
 returns-2 : tie.Need-returns-2
-returns-2 c = reads-wide (c .before .before .before .before .if1 .left) (c .before .before .before .first-wide .ensures) (c .before .place .given .1)
+returns-2 c = reads-wide (c .before .before .before .before .if1 .left) (c .before .before .before .first-not-ascii .ensures) (c .before .place .given .1)
 
 enum-told : tie.Need-enum-told
 enum-told c = search needs
@@ -26,14 +26,14 @@ fill-requires : tie.Need-fill-requires
 fill-requires c κs = search needs
 
 returns-3 : tie.Need-returns-3
-returns-3 c = reads-filled (c .before .before .before .before .before .before .before .before .before .if1 .left) (c .before .before .before .before .before .before .before .before .first-wide .ensures) (c .before .before .before .before .before .before .enum-told .given .1) (c .fill .ensures)
+returns-3 c = reads-filled (c .before .before .before .before .before .before .before .before .before .if1 .left) (c .before .before .before .before .before .before .before .before .first-not-ascii .ensures) (c .before .before .before .before .before .before .enum-told .given .1) (c .fill .ensures)
 
 pub tables-spec : {M : Type 1} → statement M
 tables-spec =
     tie.close
     (tie.spec
     returns
-    first-wide-requires
+    first-not-ascii-requires
     enum-known-place
     returns-2
     enum-told
