@@ -21,6 +21,21 @@ const LONGEST: usize = 1 << 20;
 /// What a call takes beyond reading the record, in bytes of it.
 const CALL: usize = 500;
 
+/// The most bytes of record that the lookups of a sheet read. Each one reads the whole record; where
+/// lookups at every token would read more, they are at some tokens only.
+#[derive(Debug, Clone, Copy)]
+pub struct Work {
+    /// Lookups of a comment.
+    pub comments: usize,
+    /// Lookups of a doc comment.
+    pub docs: usize,
+}
+
+impl Work {
+    /// Lookups at every token.
+    pub const ALL: Self = Self { comments: usize::MAX, docs: usize::MAX };
+}
+
 /// A difference between the port and the reference.
 #[derive(Debug, Clone, PartialEq, Eq)]
 pub struct Difference {
@@ -48,23 +63,21 @@ pub(crate) fn hex(bytes: &[u8]) -> String {
     bytes.iter().fold(String::new(), |text, byte| text + &format!("{byte:02x}"))
 }
 
-/// Compares the answers on a sheet. A lookup reads the whole record; where that takes more than
-/// `most_work` bytes over all tokens, the lookups are at some tokens only.
+/// Compares the answers on a sheet, with lookups as far as `most` allows.
 ///
 /// # Errors
 ///
 /// The first difference.
-pub fn compare(sheet: &Sheet, most_work: usize) -> Result<Compared, Difference> {
-    let mut comparison = Comparison {
-        sheet,
-        reference: Reference::new(sheet),
-        compared: Compared { sheets: 1, ..Compared::default() },
-    };
+pub fn compare(sheet: &Sheet, most: Work) -> Result<Compared, Difference> {
+    let reference = Reference::new(sheet);
+    let tokens = reference.token_count() as u64;
+    let compared = Compared { sheets: 1, tokens, ..Compared::default() };
+    let mut comparison = Comparison { sheet, reference, compared };
     comparison.read()?;
     comparison.ends()?;
     comparison.check()?;
     comparison.get_all()?;
-    comparison.lookups(most_work)?;
+    comparison.lookups(most)?;
     Ok(comparison.compared)
 }
 
@@ -181,20 +194,31 @@ impl Comparison<'_> {
         Ok(())
     }
 
-    /// Both lookups at the tokens and at numbers past the last.
-    fn lookups(&mut self, most_work: usize) -> Result<(), Difference> {
-        let count = self.reference.token_count();
-        let length = self.sheet.record.len();
-        let step = 1 + count * (CALL + length) / most_work;
-        self.compared.whole += u64::from(step == 1);
-        let tokens = (length % step..count).step_by(step).map(|token| token as u64);
-        let count = count as u64;
-        let past = [count, count + 1, 0xFFFF, 0x1_0000, 1 << 32, u64::MAX];
-        for token in tokens.chain(past) {
+    /// Both lookups.
+    fn lookups(&mut self, most: Work) -> Result<(), Difference> {
+        for token in self.looked_up(self.step(most.comments)) {
             self.comment_above(token)?;
+        }
+        let step = self.step(most.docs);
+        self.compared.whole += u64::from(step == 1);
+        for token in self.looked_up(step) {
             self.doc_comment_above_all(token)?;
         }
         Ok(())
+    }
+
+    /// From one token to the next so that lookups read at most this many bytes of record.
+    fn step(&self, most_work: usize) -> usize {
+        1 + self.reference.token_count() * (CALL + self.sheet.record.len()) / most_work
+    }
+
+    /// The tokens by that step, and numbers past the last.
+    fn looked_up(&self, step: usize) -> impl Iterator<Item = u64> {
+        let count = self.reference.token_count();
+        let tokens = (self.sheet.record.len() % step..count).step_by(step);
+        let count = count as u64;
+        let past = [count, count + 1, 0xFFFF, 0x1_0000, 1 << 32, u64::MAX];
+        tokens.map(|token| token as u64).chain(past)
     }
 
     fn comment_above(&mut self, token: u64) -> Result<(), Difference> {

@@ -41,7 +41,9 @@ impl AddAssign for Numbers {
 pub struct Compared {
     /// Sheets: number, place and tokens.
     pub sheets: u64,
-    /// Sheets with lookups at every token.
+    /// Tokens of the sheets that meet none of numbers 1 to 4.
+    pub tokens: u64,
+    /// Sheets with lookups of a doc comment at every token.
     pub whole: u64,
     /// Ends of fields, refusals among them.
     pub ends: u64,
@@ -70,6 +72,7 @@ pub struct Compared {
 impl AddAssign for Compared {
     fn add_assign(&mut self, other: Self) {
         self.sheets += other.sheets;
+        self.tokens += other.tokens;
         self.whole += other.whole;
         self.ends += other.ends;
         self.ended += other.ended;
@@ -87,7 +90,8 @@ impl AddAssign for Compared {
 
 impl fmt::Display for Compared {
     fn fmt(&self, f: &mut fmt::Formatter<'_>) -> fmt::Result {
-        writeln!(f, "{} sheets, {} of them with lookups at every token", self.sheets, self.whole)?;
+        writeln!(f, "{} sheets of {} tokens", self.sheets, self.tokens)?;
+        writeln!(f, "{} of them with lookups of a doc comment at every token", self.whole)?;
         writeln!(f, "number      check        get    comment_above    doc_comment_above")?;
         for number in 0..10 {
             writeln!(

@@ -1,14 +1,13 @@
 //! The comparison at scale: the cases of a seed.
 
-use crate::compare::{compare, Difference};
+use crate::compare::{compare, Difference, Work};
 use crate::count::Compared;
 use crate::parallel::in_parallel;
 use generate::{Case, Generator};
 use std::fmt;
 
-/// The most bytes of record that the lookups of a sheet read; 24 sheets in 25 have lookups at every
-/// token.
-pub const WORK: usize = 1_000_000;
+/// Comments are looked up at every token, doc comments too on 24 sheets in 25.
+const WORK: Work = Work { docs: 1_000_000, ..Work::ALL };
 
 /// A case on which port and reference differ.
 #[derive(Debug, Clone, PartialEq, Eq)]

@@ -18,7 +18,8 @@ fn generated_sheets() {
     let accepted = compared.check.of(0);
     assert!(3 * accepted >= SHEETS, "{accepted} accepted");
     assert!(compared.indented > 0 && compared.doc_texts > 0 && compared.ended > 0);
-    assert!(20 * compared.whole >= 19 * SHEETS, "{} with lookups at every token", compared.whole);
+    assert_eq!(compared.comment_above.of(0), compared.tokens, "a lookup at every token");
+    assert!(20 * compared.whole >= 19 * SHEETS, "{} with doc lookups everywhere", compared.whole);
 }
 
 fn every_number_occurs(compared: &Compared) {

@@ -1,13 +1,13 @@
 //! The lettered sheets of document 01.
 
 use diverplume::{comment_above, doc_comment_above, get};
-use port::compare::compare;
+use port::compare::{compare, Work};
 use sheet::lettered;
 
 #[test]
 fn lettered_sheets() {
     for (name, sheet) in lettered::all() {
-        let compared = compare(&sheet, usize::MAX);
+        let compared = compare(&sheet, Work::ALL);
         let compared = compared.unwrap_or_else(|difference| panic!("{name}: {difference}"));
         assert_eq!(compared.whole, 1, "{name}");
     }

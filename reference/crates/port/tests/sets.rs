@@ -1,6 +1,6 @@
 //! Comments left: every word and bit of the set.
 
-use port::compare::compare;
+use port::compare::{compare, Work};
 use schema::{limit, Sheet, SheetBuilder, SyntaxKind};
 
 /// A sheet of so many tokens without declarations, those a comment that `is_comment` takes.
@@ -14,7 +14,8 @@ fn sheet(count: usize, is_comment: impl Fn(usize) -> bool) -> Sheet {
 }
 
 fn refused(sheet: &Sheet) {
-    let compared = compare(sheet, 100_000).unwrap_or_else(|difference| panic!("{difference}"));
+    let work = Work { comments: 100_000, docs: 100_000 };
+    let compared = compare(sheet, work).unwrap_or_else(|difference| panic!("{difference}"));
     assert_eq!(compared.check.of(6), 1);
 }
 

@@ -2,7 +2,7 @@
 
 use diverplume::record::limit;
 use generate::{Generator, Size};
-use port::compare::compare;
+use port::compare::{compare, Work};
 use sheet::{lettered, worst, Sheet};
 use std::thread;
 
@@ -41,8 +41,8 @@ fn calls_run_in_a_stack_of_1_mib() {
 #[test]
 fn worst_sheets() {
     for (name, sheet) in worst::all() {
-        // A lookup at few tokens is enough here.
-        let compared = compare(&sheet, 1_000_000);
+        // Lookups at few tokens are enough here.
+        let compared = compare(&sheet, Work { comments: 1_000_000, docs: 1_000_000 });
         let compared = compared.unwrap_or_else(|difference| panic!("{name}: {difference}"));
         assert_eq!(compared.check.of(0), 1, "{name}");
     }
