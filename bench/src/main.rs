@@ -3,29 +3,53 @@
 //! The port reads a text and a record; the Rust reads a tree at hand. So two times of the Rust stand
 //! beside the port's: over the tree at hand, and with the tree made from the record before.
 
+mod against;
 mod greedy;
 mod scan;
 mod sheets;
 mod texts;
 mod time;
 
+use against::Archives;
 use decode::decode;
 use diverplume::Number;
 use sheets::Named;
 use sml_syntax::ast::AstNode as _;
+use std::env;
 use std::hint::black_box;
-use time::{call, named, Times, REPEATS};
+use std::process::ExitCode;
+use time::{call, named, Times, AGAINST_RUST};
 
 /// The tab size.
 const TAB_SIZE: u32 = 2;
 
-fn main() {
-    let only = std::env::args().nth(1);
-    println!("times in microseconds, of {REPEATS} repeats");
+fn main() -> ExitCode {
+    let arguments: Vec<_> = env::args().skip(1).collect();
+    let arguments: Vec<_> = arguments.iter().map(String::as_str).collect();
+    match arguments[..] {
+        // As `bench/against` calls it.
+        ["against", places, only, ref objects @ ..] => {
+            let places = places.parse().expect("a count of places");
+            match Archives::open(places, objects) {
+                Ok(archives) => archives.measure(only),
+                Err(message) => {
+                    eprintln!("bench: {message}");
+                    return ExitCode::FAILURE;
+                }
+            }
+        }
+        _ => against_rust(arguments.first().copied()),
+    }
+    ExitCode::SUCCESS
+}
+
+/// Times the port against the Rust on the sheets and texts whose names have the word.
+fn against_rust(only: Option<&str>) {
+    println!("times in microseconds, of {} repeats", AGAINST_RUST.repeats);
     println!("ratios are port / Rust: of the medians, of the least");
     let mut rows = Vec::new();
     for named in sheets::all() {
-        if only.as_ref().is_none_or(|only| named.name.contains(only)) {
+        if only.is_none_or(|only| named.name.contains(only)) {
             rows.push(measure(&named));
         }
     }
@@ -36,7 +60,7 @@ fn main() {
             println!("{call:8} {:6.2}", full.for_a_byte[at] / small.for_a_byte[at]);
         }
     }
-    scan::measure(only.as_deref());
+    scan::measure(only);
 }
 
 /// What is kept of a sheet.

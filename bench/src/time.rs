@@ -3,11 +3,17 @@
 use std::fmt;
 use std::time::{Duration, Instant};
 
-/// How often every call is timed.
-pub const REPEATS: usize = 11;
+/// How calls are timed.
+#[derive(Debug, Clone, Copy)]
+pub struct Plan {
+    /// How often every call has a turn.
+    pub repeats: usize,
+    /// What a turn takes at least.
+    pub turn: Duration,
+}
 
-/// What a turn of one call takes at least.
-const TURN: Duration = Duration::from_millis(4);
+/// The calls of the port and of the Rust.
+pub const AGAINST_RUST: Plan = Plan { repeats: 11, turn: Duration::from_millis(4) };
 
 /// A call that is timed.
 pub struct Call<'a> {
@@ -41,37 +47,39 @@ fn turn(call: &mut Call<'_>, runs: u32) -> Duration {
     start.elapsed()
 }
 
-/// The runs that a turn needs to take long enough.
-fn runs(call: &mut Call<'_>) -> u32 {
+/// The runs that a turn needs to take that long.
+fn runs(call: &mut Call<'_>, least: Duration) -> u32 {
     let mut runs = 1;
-    while turn(call, runs) < TURN {
+    while turn(call, runs) < least {
         runs *= 2;
     }
     runs
 }
 
-/// The times of all calls. Each repeat has a turn of every call, and begins with another call.
-fn times(calls: &mut [Call<'_>]) -> Vec<Times> {
-    let runs: Vec<_> = calls.iter_mut().map(runs).collect();
+/// The times of all calls in nanoseconds, repeat by repeat. Each repeat has a turn of every call, and
+/// begins with another call.
+pub fn turns(calls: &mut [Call<'_>], plan: Plan) -> Vec<Vec<f64>> {
+    let runs: Vec<_> = calls.iter_mut().map(|call| runs(call, plan.turn)).collect();
     let mut taken = vec![Vec::new(); calls.len()];
-    for repeat in 0..REPEATS {
+    for repeat in 0..plan.repeats {
         for at in 0..calls.len() {
             let at = (at + repeat) % calls.len();
             let nanos = turn(&mut calls[at], runs[at]).as_nanos();
             taken[at].push(nanos as f64 / f64::from(runs[at]));
         }
     }
-    taken.into_iter().map(spread).collect()
+    taken
 }
 
-fn spread(mut taken: Vec<f64>) -> Times {
+/// The least, the median and the greatest of some numbers.
+pub fn spread(mut taken: Vec<f64>) -> Times {
     taken.sort_by(f64::total_cmp);
     Times { least: taken[0], median: taken[taken.len() / 2], greatest: taken[taken.len() - 1] }
 }
 
 /// The times of calls with their names.
 pub fn named(mut calls: Vec<Call<'_>>) -> Vec<(&'static str, Times)> {
-    let times = times(&mut calls);
+    let times = turns(&mut calls, AGAINST_RUST).into_iter().map(spread);
     calls.iter().map(|call| call.name).zip(times).collect()
 }
 
