@@ -9,7 +9,8 @@ use lib.Dec.{leb, ltb, eqb, T}
 use mir.Val.{hasKey}
 use types.Run.{OneOf, hit}
 use borrow.Author.Tests.{eqb-true, eqb-false, leb-true, leb-false, not-true, le-leb, lt-leb, lt-ltb, eq-eqb, ne-eqb}
-use Rattle.text.specs.Bytes.{between, isDigit}
+use lib.ListN.{getD}
+use Rattle.text.specs.Bytes.{between, isLetter, isDigit, classOf, classesFrom, classTable}
 use Rattle.scanner.specs.Parts.{every, isOneOf}
 use Rattle.scanner.specs.Constants.{isHexDigit}
 use Rattle.scanner.specs.Strings.{isDigitOf, digitValue}
@@ -130,6 +131,18 @@ module _ (lo hi b : ℕ) where
   pub within : lo ≤ b → b ≤ hi → between lo hi b ≡ true
   unfolding between
   within l h = rw (le-leb lo b l, le-leb b hi h)
+
+-- The table's entry of a byte is that of a letter or a digit exactly where the byte is one.
+module _ (table : List ℕ) (b : ℕ) (f : b < 256) (e : table ≡ classTable) where
+  entry : not (eqb (getD table b 0) 45) ≡ (isLetter b || isDigit b)
+  unfolding allBelow same isLetter isDigit between classOf classesFrom classTable
+  entry = ap (λ (t : List ℕ). not (eqb (getD t b 0) 45)) e ∙ same-is _ _ (below 256 (λ b. same (not (eqb (getD classTable b 0) 45)) (isLetter b || isDigit b)) refl b f)
+
+  pub one-entry : (getD table b 0 ≡ 45 → ⊥) → (isLetter b || isDigit b) ≡ true
+  one-entry n = sym entry ∙ ap not (ne-eqb (getD table b 0) 45 n)
+
+  pub no-entry : getD table b 0 ≡ 45 → (isLetter b || isDigit b) ≡ false
+  no-entry h = sym entry ∙ ap not (eq-eqb (getD table b 0) 45 h)
 
 -- Below the letters a hexadecimal digit is a digit.
 pub hex-below : (b : ℕ) → b < 65 → isDigit b ≡ isHexDigit b

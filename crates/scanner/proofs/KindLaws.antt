@@ -1,12 +1,12 @@
 -- Laws of the kind of a token. Assumes nothing.
-use Prim.Native.Nat.{ℕ, suc}
+use Prim.Native.Nat.{ℕ, suc, _≤_, _<_}
 use Prim.Native.String.{String}
 use native.Mathlib.Omega.{arith}
 use mathlib.Core.Path.{_≡_, refl, sym, ap, ap₂, _∙_}
-use mathlib.Core.Bool.{Bool, true, false, false≢true}
+use mathlib.Core.Bool.{Bool, true, false, and-false, false≢true}
 use mathlib.Core.List.{List, [], _∷_}
-use lib.Dec.{eqb}
-use lib.ListN.{length, drop}
+use lib.Dec.{leb, eqb}
+use lib.ListN.{length, getD, drop}
 use borrow.Author.Tests.{eqb-true}
 use Rattle.text.specs.Bytes.{bytes, sameBytes, firstIs}
 use Rattle.scanner.specs.Parts.{isEmpty, behind, isOneOf}
@@ -15,10 +15,35 @@ use Rattle.scanner.proofs.Bytes.{and-left, and-right, not-so}
 use Rattle.scanner.proofs.ReachLaws.{behind-no, starts}
 use Rattle.scanner.proofs.TokenLaws.{wordsPass, token-bracket}
 
-pub kind-empty : (t : List ℕ) → length t ≡ 0 → kindOf t ≡ 0
-unfolding kindOf opensComment behind bytes numbered keywords sameBytes
-kind-empty [] h = refl
-kind-empty (b ∷ t) h = absurd (omega arith)
+-- No keyword is the text.
+kind-other : (t : List ℕ) → opensComment t ≡ false → numbered 2 keywords t ≡ 0 → kindOf t ≡ 0
+unfolding kindOf
+kind-other t e f = rw (kindOf, e) f
+
+no-number : (t : List ℕ) (passes : List ℕ → Bool) → ((w : List ℕ) → passes w ≡ true → sameBytes t w ≡ false) → (k : ℕ) (ws : List String) → wordsPass passes ws ≡ true → numbered k ws t ≡ 0
+unfolding numbered wordsPass
+no-number t passes differs k [] h = refl
+no-number t passes differs k (w ∷ ws) h = rw (numbered, differs (bytes w) (and-left (passes (bytes w)) (wordsPass passes ws) h)) (no-number t passes differs (suc k) ws (and-right (passes (bytes w)) (wordsPass passes ws) h))
+
+-- A keyword has two bytes or more.
+pub kind-short : (t : List ℕ) → length t < 2 → kindOf t ≡ 0
+unfolding kindOf opensComment behind bytes numbered keywords sameBytes wordsPass
+kind-short [] h = refl
+kind-short (b ∷ []) h = kind-other (b ∷ []) (closed (eqb b 40)) (no-number (b ∷ []) (λ w. leb 2 (length w)) differs 2 keywords refl)
+  where
+    closed : (u : Bool) → _≡_ {A = Bool} (elim u as (λ x. Bool) [ true ↦ false | false ↦ false ]) false
+    closed true = refl
+    closed false = refl
+
+    differs : (w : List ℕ) → leb 2 (length w) ≡ true → sameBytes (b ∷ []) w ≡ false
+    differs [] f = absurd (false≢true f)
+    differs (c ∷ []) f = absurd (false≢true f)
+    differs (c ∷ d ∷ w) f = and-false (eqb b c)
+kind-short (b ∷ c ∷ t) h = absurd (omega arith)
+
+pub begins : (t : List ℕ) → 2 ≤ length t → t ≡ getD t 0 0 ∷ drop 1 t
+begins [] h = absurd (omega arith)
+begins (b ∷ t) h = refl
 
 -- The kind of a token that starts with a byte.
 pub by-first : (token : List ℕ) (b : ℕ) (kind : List ℕ → ℕ) → token ≡ b ∷ drop 1 token → ((t : List ℕ) → kind (b ∷ t) ≡ kindOf (b ∷ t)) → kind token ≡ kindOf token
@@ -37,31 +62,20 @@ module _ (token : List ℕ) (s : token ≡ 40 ∷ drop 1 token) where
   pub kind-bracket : firstIs (λ c. eqb c 42) (drop 1 token) ≡ false → kindOf token ≡ 0
   kind-bracket h = ap kindOf s ∙ kind-bracket-of (drop 1 token) h
 
--- No word starts with such a byte.
-no-number : (test : ℕ → Bool) (b : ℕ) (t : List ℕ) → test b ≡ false → (k : ℕ) (ws : List String) → wordsPass (firstIs test) ws ≡ true → numbered k ws (b ∷ t) ≡ 0
-unfolding numbered wordsPass firstIs sameBytes
-no-number test b t e k [] h = refl
-no-number test b t e k (w ∷ ws) h = go (sameBytes (b ∷ t) (bytes w)) (differs (bytes w) (and-left (firstIs test (bytes w)) (wordsPass (firstIs test) ws) h)) (no-number test b t e (suc k) ws (and-right (firstIs test (bytes w)) (wordsPass (firstIs test) ws) h))
-  where
-    differs : (w : List ℕ) → firstIs test w ≡ true → sameBytes (b ∷ t) w ≡ false
-    differs [] f = absurd (false≢true f)
-    differs (c ∷ w) f = rw (not-so (eqb b c) (λ g. false≢true (sym e ∙ ap test (eqb-true b c g) ∙ f)))
-
-    go : (u : Bool) → u ≡ false → numbered (suc k) ws (b ∷ t) ≡ 0 → _≡_ {A = ℕ} (elim u as (λ x. ℕ) [ true ↦ k | false ↦ numbered (suc k) ws (b ∷ t) ]) 0
-    go true f ih = absurd (false≢true (sym f))
-    go false f ih = ih
-
 abbrev wordStarts : List ℕ
 wordStarts = 46 ∷ 97 ∷ 100 ∷ 101 ∷ 102 ∷ 105 ∷ 108 ∷ 110 ∷ 111 ∷ 115 ∷ 116 ∷ 118 ∷ []
 
+-- No keyword starts with such a byte.
 pub kind-none : (token : List ℕ) (b : ℕ) → token ≡ b ∷ drop 1 token → eqb b 40 ≡ false → isOneOf wordStarts b ≡ false → kindOf token ≡ 0
-unfolding kindOf opensComment bytes wordsPass keywords firstIs isOneOf
+unfolding opensComment bytes wordsPass keywords firstIs isOneOf sameBytes
 kind-none token b s e f =
-    ap kindOf s ∙ closed (opensComment (b ∷ drop 1 token)) (behind-no (42 ∷ []) (λ r. true) 40 b e (drop 1 token))
+    let t = b ∷ drop 1 token in
+    ap kindOf s
+    ∙ kind-other t (behind-no (42 ∷ []) (λ r. true) 40 b e (drop 1 token)) (no-number t (firstIs (isOneOf wordStarts)) differs 2 keywords refl)
   where
-    closed : (u : Bool) → u ≡ false → _≡_ {A = ℕ} (elim u as (λ x. ℕ) [ true ↦ 1 | false ↦ numbered 2 keywords (b ∷ drop 1 token) ]) 0
-    closed true g = absurd (false≢true (sym g))
-    closed false g = no-number (isOneOf wordStarts) b (drop 1 token) f 2 keywords refl
+    differs : (w : List ℕ) → firstIs (isOneOf wordStarts) w ≡ true → sameBytes (b ∷ drop 1 token) w ≡ false
+    differs [] g = absurd (false≢true g)
+    differs (c ∷ w) g = rw (not-so (eqb b c) (λ h. false≢true (sym f ∙ ap (isOneOf wordStarts) (eqb-true b c h) ∙ g)))
 
 -- ---- a token that starts with `(*` is a comment
 

@@ -172,6 +172,28 @@ module _ (test : ℕ → Bool) (s : List ℕ) (i : ℕ) where
   unfolding firstIs
   first-here h = rw (drop-cons s i 0)
 
+-- A run goes on behind a run of bytes that pass as well.
+run-within : (part whole : ℕ → Bool) → ((b : ℕ) → part b ≡ true → whole b ≡ true) → (u : List ℕ) → run whole u ≡ run part u + run whole (drop (run part u) u)
+unfolding run
+run-within part whole h [] = refl
+run-within part whole h (b ∷ u) = go (part b) refl (run-within part whole h u)
+  where
+    go : (x : Bool) → part b ≡ x → run whole u ≡ run part u + run whole (drop (run part u) u) → run whole (b ∷ u) ≡ run part (b ∷ u) + run whole (drop (run part (b ∷ u)) (b ∷ u))
+    go true e ih = run-yes whole b u (h b e) ∙ ap suc ih ∙ suc-add (run part u) _ ∙ ap (λ (n : ℕ). n + run whole (drop n (b ∷ u))) (sym (run-yes part b u e))
+      where
+        suc-add : (m n : ℕ) → suc (m + n) ≡ suc m + n
+        suc-add m n = omega arith
+    go false e ih = zero-left (run whole (b ∷ u)) ∙ ap (λ (n : ℕ). n + run whole (drop n (b ∷ u))) (sym (run-no part b u e))
+      where
+        zero-left : (n : ℕ) → n ≡ 0 + n
+        zero-left n = omega arith
+
+pub run-on : (part whole : ℕ → Bool) → ((b : ℕ) → part b ≡ true → whole b ≡ true) → (s : List ℕ) (from at : ℕ) → at ≡ from + run part (drop from s) → from + run whole (drop from s) ≡ at + run whole (drop at s)
+run-on part whole h s from at e =
+    let u = drop from s in
+    let same : drop (run part u) u ≡ drop at s = drop-drop (run part u) from s ∙ ap (λ (n : ℕ). drop n s) (sym e) in
+    omega (arith, run-within part whole h u ∙ ap (λ (v : List ℕ). run part u + run whole v) same, e)
+
 every-yes : (test : ℕ → Bool) (b : ℕ) → test b ≡ true → (t : List ℕ) → every test (b ∷ t) ≡ every test t
 unfolding every
 every-yes test b e t = rw (every, e)

@@ -1,15 +1,17 @@
 -- What contracts of functions below a token cite: the longest part at a text's start that a recognizer takes, and runs of bytes.
-use Prim.Native.Nat.{ℕ, suc, _+_}
+use Prim.Native.Nat.{ℕ, suc, _+_, _<_}
+use mathlib.Core.Path.{_≡_}
 use mathlib.Core.List.{List, [], _∷_}
 use mathlib.Core.Bool.{Bool, true, false, _&&_, _||_}
 use mathlib.Core.Option.{Option, none, some}
 use lib.Dec.{eqb}
-use Rattle.text.specs.Bytes.{bytes, sameBytes, isSpace, isDigit}
+use lib.ListN.{getD}
+use Rattle.text.specs.Bytes.{bytes, between, sameBytes, isDigit}
 use Rattle.scanner.specs.Parts.{oneOrMore, behind}
 use Rattle.scanner.specs.Constants.{isHexDigit, digitsThen, isFraction, isExponent}
 use Rattle.scanner.specs.Lexical.{isAlphanumericByte, isSymbol}
 use Rattle.scanner.specs.declared.runs.Class.{Class}
-use Rattle.scanner.specs.declared.runs.Class.the-variants.{Space, Alphanumeric, Symbol, Digit, HexDigit}
+use Rattle.scanner.specs.declared.runs.Class.the-variants.{Blank, Alphanumeric, Digit, HexDigit, Plain}
 use Rattle.scanner.specs.declared.lexical.Mark.{Mark}
 use Rattle.scanner.specs.declared.lexical.Mark.the-variants.{Opens, Closes, Other}
 
@@ -34,13 +36,21 @@ unfoldable pub run : (ℕ → Bool) → List ℕ → ℕ
 run test [] = 0
 run test (b ∷ t) = elim (test b) [ true ↦ suc (run test t) | false ↦ 0 ]
 
+-- The bytes that stand for themselves in a string constant: printable, no quote and no backslash.
+unfoldable pub isPlain : ℕ → Bool
+isPlain b = elim (eqb b 34 || eqb b 92) [ true ↦ false | false ↦ between 32 126 b ]
+
 -- The test of a class of bytes.
 unfoldable pub inClass : Class → ℕ → Bool
-inClass Space = isSpace
+inClass Blank = λ b. eqb b 32
 inClass Alphanumeric = isAlphanumericByte
-inClass Symbol = isSymbol
 inClass Digit = isDigit
 inClass HexDigit = isHexDigit
+inClass Plain = isPlain
+
+-- A table that tells of each byte whether it is a symbol: its entry is `*` where it is.
+unfoldable pub TellsSymbols : List ℕ → Type 0
+TellsSymbols table = (b : ℕ) → b < 256 → eqb (getD table b 0) 42 ≡ isSymbol b
 
 -- A hexadecimal integer, and any integer or real constant, without a negation symbol.
 unfoldable pub isHexadecimal : List ℕ → Bool

@@ -11,7 +11,7 @@ ghost use Prim.Native.Nat.{_<_};
 ghost use lib.ListN.{length, drop};
 ghost use Rattle.text.specs.Bytes.{isSpace, isLetter, isDigit, classTable};
 ghost use Rattle.scanner.specs.Lexical.{closes, longest, kindOf};
-ghost use Rattle.scanner.specs.Reach.{longer, reach, taken, markOf, kindIf};
+ghost use Rattle.scanner.specs.Reach.{longer, reach, taken, markOf, kindIf, TellsSymbols};
 
 // What two bytes mean in a comment.
 enum Mark {
@@ -70,26 +70,28 @@ fn comment_end(s: &[u8], from: usize) -> usize
 }
 
 // A token that starts with `~`.
-fn negation(table: &[u8; 256], rest: &[u8]) -> usize
+fn negation(table: &[u8; 256], symbols: &[u8; 256], rest: &[u8]) -> usize
     requires { ⌜ now rest ≡ 126 ∷ drop 1 (now rest) ⌝ }
     requires { ⌜ now table ≡ classTable ⌝ }
+    requires { ⌜ TellsSymbols (now symbols) ⌝ }
     ensures { λ r. ⌜ r ≡ longest (now (rest .entry)) ⌝ }
 {
     let end = numbers::magnitude(table, rest, 1);
     if end == 1 {
-        return runs::run(table, rest, 1, Class::Symbol);
+        return runs::symbols(symbols, rest, 1);
     }
     end
 }
 
 // A token that starts with `#`.
-fn hash(table: &[u8; 256], rest: &[u8]) -> usize
+fn hash(table: &[u8; 256], symbols: &[u8; 256], rest: &[u8]) -> usize
     requires { ⌜ now rest ≡ 35 ∷ drop 1 (now rest) ⌝ }
     requires { ⌜ now table ≡ classTable ⌝ }
+    requires { ⌜ TellsSymbols (now symbols) ⌝ }
     ensures { λ r. ⌜ r ≡ longest (now (rest .entry)) ⌝ }
 {
     if !runs::stands(rest, 1, 34) {
-        return runs::run(table, rest, 1, Class::Symbol);
+        return runs::symbols(symbols, rest, 1);
     }
     let Quoted::Ends { end, count } = strings::string(table, rest, 2) else {
         return 1;
@@ -151,22 +153,23 @@ fn dots(rest: &[u8]) -> usize
 }
 
 // A token that starts with none of letters, primes, digits, white space.
-fn other(table: &[u8; 256], rest: &[u8], b: u8) -> usize
+fn other(table: &[u8; 256], symbols: &[u8; 256], rest: &[u8], b: u8) -> usize
     requires { ⌜ now rest ≡ b ∷ drop 1 (now rest) ⌝ }
     requires { ⌜ (isSpace b ≡ false) × (isLetter b ≡ false) × (b ≡ 39 → ⊥) × (isDigit b ≡ false) ⌝ }
     requires { ⌜ now table ≡ classTable ⌝ }
+    requires { ⌜ TellsSymbols (now symbols) ⌝ }
     ensures { λ r. ⌜ r ≡ longest (now (rest .entry)) ⌝ }
 {
     match b {
         34 => quoted(table, rest),
-        35 => hash(table, rest),
+        35 => hash(table, symbols, rest),
         40 => bracket(rest),
         46 => dots(rest),
-        126 => negation(table, rest),
+        126 => negation(table, symbols, rest),
         41 | 44 | 59 | 91 | 93 | 95 | 123 | 125 => 1,
         _ => {
-            if runs::is_symbol(b) {
-                return runs::run(table, rest, 1, Class::Symbol);
+            if runs::is_symbol(symbols, b) {
+                return runs::symbols(symbols, rest, 1);
             }
             0
         }
@@ -174,27 +177,28 @@ fn other(table: &[u8; 256], rest: &[u8], b: u8) -> usize
 }
 
 // The length of the longest token at the start; 0 where none begins there.
-pub fn token_length(table: &[u8; 256], rest: &[u8]) -> usize
+pub fn token_length(table: &[u8; 256], symbols: &[u8; 256], rest: &[u8]) -> usize
     requires { ⌜ now table ≡ classTable ⌝ }
+    requires { ⌜ TellsSymbols (now symbols) ⌝ }
     ensures { λ r. ⌜ r ≡ longest (now (rest .entry)) ⌝ }
 {
     if rest.len() == 0 {
         return 0;
     }
     let b = rest[0];
-    if text::is_space(b) {
-        return runs::run(table, rest, 1, Class::Space);
-    }
     if text::is_letter_in(table, b) {
-        return runs::run(table, rest, 1, Class::Alphanumeric);
-    }
-    if b == 39 {
         return runs::run(table, rest, 1, Class::Alphanumeric);
     }
     if text::is_digit_in(table, b) {
         return number(table, rest, b);
     }
-    other(table, rest, b)
+    if text::is_space(b) {
+        return runs::spaces(table, rest, 1);
+    }
+    if b == 39 {
+        return runs::run(table, rest, 1, Class::Alphanumeric);
+    }
+    other(table, symbols, rest, b)
 }
 
 // The kind where the token is the word, else the other.
@@ -211,7 +215,7 @@ fn kind_if(token: &[u8], word: &[u8], kind: u8, other: u8) -> u8
 pub fn kind_of(token: &[u8]) -> u8
     ensures { λ r. ⌜ r ≡ kindOf (now (token .entry)) ⌝ }
 {
-    if token.len() == 0 {
+    if token.len() < 2 {
         return 0;
     }
     match token[0] {

@@ -8,6 +8,7 @@ use lexical::kind_of;
 use lexical::token_length;
 use reader::MAX_TEXT;
 use reader::tokens::MAX_TOKENS;
+use runs::symbol_table;
 use text::Wide;
 use text::first_wide;
 ghost use mathlib.Core.Path.{_≡_};
@@ -17,6 +18,7 @@ ghost use lib.ListN.{length, getD, drop};
 ghost use Rattle.text.specs.Bytes.{firstWide, wideAt, classTable};
 ghost use Rattle.reader.specs.Tokens.{Long};
 ghost use Rattle.reader.specs.Reading.{maxText};
+ghost use Rattle.scanner.specs.Reach.{TellsSymbols};
 ghost use Rattle.scanner.specs.Scan.{numberAt, commands, scan as scan·};
 ghost use Rattle.scanner.specs.Answers.{numberOf, placeOf, replyOf, Kept, Fills, Reads};
 
@@ -87,6 +89,7 @@ fn keep(
 // Fills the tables from the front. Tokens past their end are counted.
 fn fill(
     table: &[u8; 256],
+    symbols: &[u8; 256],
     text: &[u8],
     kinds: &mut [u8],
     starts: &mut [u16],
@@ -95,13 +98,14 @@ fn fill(
     requires { ⌜ length (now text) ≤ maxText ⌝ }
     requires { ⌜ Long (now kinds) (now starts) (now lens) ⌝ }
     requires { ⌜ now table ≡ classTable ⌝ }
+    requires { ⌜ TellsSymbols (now symbols) ⌝ }
     ensures { λ r. ⌜ Fills (now (text .entry)) (now (kinds .exit)) (now (starts .exit)) (now (lens .exit)) r ⌝ }
 {
     let mut count: usize = 0;
     let mut at: usize = 0;
     while at < text.len() {
         let rest = &text[at..];
-        let len = token_length(table, rest);
+        let len = token_length(table, symbols, rest);
         if len == 0 {
             return Tabled::Refused(refused_at(text[at], at));
         }
@@ -158,7 +162,8 @@ pub fn tables(
         return Tabled::Refused(Refusal::NotAscii(place));
     }
     let table = text::classes();
-    fill(&table, text, kinds, starts, lens)
+    let symbols = symbol_table();
+    fill(&table, &symbols, text, kinds, starts, lens)
 }
 
 // ---- commands of a record

@@ -1,6 +1,5 @@
 // String constants.
 use crate::runs;
-use crate::runs::Class;
 ghost use mathlib.Core.Path.{_≡_};
 ghost use mathlib.Core.Bool.{true};
 ghost use Prim.Native.Nat.{_<_, _≤_};
@@ -102,7 +101,7 @@ fn gap(table: &[u8; 256], s: &[u8], from: usize) -> Quoted
     requires { ⌜ now table ≡ classTable ⌝ }
     ensures { λ r. ⌜ Goes (now (s .entry)) gap from r ⌝ }
 {
-    let at = runs::run(table, s, from, Class::Space);
+    let at = runs::spaces(table, s, from);
     if runs::stands(s, at, 92) {
         return Quoted::Ends {
             end: at + 1,

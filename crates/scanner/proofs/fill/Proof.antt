@@ -15,10 +15,10 @@ use Rattle.scanner.proofs.fill.Statement.{statement}
 use Rattle.scanner.proofs.fill.Tie as tie
 
 abbrev Inv-loop : tie.InvT-loop
-Inv-loop table text kinds₀ starts₀ lens₀ count₀ at₀ kinds starts lens count at = Filled text kinds starts lens count at
+Inv-loop table symbols text kinds₀ starts₀ lens₀ count₀ at₀ kinds starts lens count at = Filled text kinds starts lens count at
 
 abbrev μ-loop : tie.MeasureT-loop
-μ-loop table text kinds₀ starts₀ lens₀ count₀ at₀ kinds starts lens count at = length text - at
+μ-loop table symbols text kinds₀ starts₀ lens₀ count₀ at₀ kinds starts lens count at = length text - at
 
 -- the longest token of what is left
 module _ (c : tie.After-token-length Inv-loop μ-loop) where

@@ -22,11 +22,14 @@ enum-told c = search needs
 classes-requires : tie.Need-classes-requires
 classes-requires c κs = search needs
 
+symbol-table-requires : tie.Need-symbol-table-requires
+symbol-table-requires c κs = search needs
+
 fill-requires : tie.Need-fill-requires
-fill-requires c κs = search needs
+fill-requires c κs = (search needs, (search needs, (search needs, search needs)))
 
 returns-3 : tie.Need-returns-3
-returns-3 c = reads-filled (c .before .before .before .before .before .before .before .before .before .if1 .left) (c .before .before .before .before .before .before .before .before .first-not-ascii .ensures) (c .before .before .before .before .before .before .enum-told .given .1) (c .fill .ensures)
+returns-3 c = reads-filled (c .before .before .before .before .before .before .before .before .before .before .before .if1 .left) (c .before .before .before .before .before .before .before .before .before .before .first-not-ascii .ensures) (c .before .before .before .before .before .before .before .before .enum-told .given .1) (c .fill .ensures)
 
 pub tables-spec : {M : Type 1} → statement M
 tables-spec =
@@ -38,5 +41,6 @@ tables-spec =
     returns-2
     enum-told
     classes-requires
+    symbol-table-requires
     fill-requires
     returns-3)

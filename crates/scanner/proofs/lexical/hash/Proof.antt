@@ -2,7 +2,6 @@
 use denote.Ref.{now}
 use mathlib.Core.Path.{sym, _∙_}
 use borrow.Author.Tests.{not-true, not-false, eq-eqb, ne-eqb}
-use Rattle.scanner.specs.Reach.{inClass}
 use Rattle.scanner.proofs.TokenLaws.{hash-symbol, hash-endless, hash-one, hash-other}
 use borrow.Author.Needs.{needs}
 use Rattle.scanner.proofs.lexical.hash.Statement.{statement}
@@ -11,12 +10,11 @@ use Rattle.scanner.proofs.lexical.hash.Tie as tie
 stands-requires : tie.Need-stands-requires
 stands-requires c κs = search needs
 
-run-requires : tie.Need-run-requires
-run-requires c κs = search needs
+symbols-requires : tie.Need-symbols-requires
+symbols-requires c κs = search needs
 
 returns : tie.Need-returns
-unfolding inClass
-returns c = c .run .ensures ∙ sym (hash-symbol (now (c .before .before .before .before .args .rest)) (c .before .before .before .before .pre .0) (sym (c .before .before .stands .ensures) ∙ not-true _ (c .before .if1 .taken)))
+returns c = c .symbols .ensures ∙ sym (hash-symbol (now (c .before .before .before .before .args .rest)) (c .before .before .before .before .pre .0) (sym (c .before .before .stands .ensures) ∙ not-true _ (c .before .if1 .taken)))
 
 string-requires : tie.Need-string-requires
 string-requires c κs = search needs
@@ -37,4 +35,4 @@ returns-4 : tie.Need-returns-4
 returns-4 c = hash-other (now (c .before .before .before .before .before .before .before .before .args .rest)) (c .before .before .before .before .before .before .before .before .pre .0) (sym (c .before .before .before .before .before .before .stands .ensures) ∙ not-false _ (c .before .before .before .before .before .if1 .left)) _ (c .before .before .before .before .string .ensures) _ _ (c .before .before .end .given .1) (ne-eqb _ 1 (c .if2 .left))
 
 pub hash-spec : {M : Type 1} → statement M
-hash-spec = tie.close (tie.spec stands-requires run-requires returns string-requires enum-known-end enum-told returns-2 returns-3 returns-4)
+hash-spec = tie.close (tie.spec stands-requires symbols-requires returns string-requires enum-known-end enum-told returns-2 returns-3 returns-4)

@@ -1,7 +1,6 @@
 -- `negation` meets its contract. Assumes nothing.
 use denote.Ref.{now}
 use mathlib.Core.Path.{sym, _∙_}
-use Rattle.scanner.specs.Reach.{inClass}
 use Rattle.scanner.proofs.TokenLaws.{tilde-symbol, tilde-number}
 use borrow.Author.Needs.{needs}
 use Rattle.scanner.proofs.lexical.negation.Statement.{statement}
@@ -10,16 +9,14 @@ use Rattle.scanner.proofs.lexical.negation.Tie as tie
 magnitude-requires : tie.Need-magnitude-requires
 magnitude-requires c κs = search needs
 
-run-requires : tie.Need-run-requires
-run-requires c κs = search needs
+symbols-requires : tie.Need-symbols-requires
+symbols-requires c κs = search needs
 
 returns : tie.Need-returns
-unfolding inClass
-returns c = c .run .ensures ∙ sym (tilde-symbol (now (c .before .before .before .before .args .rest)) (c .before .before .before .before .pre .0) _ (c .before .before .magnitude .ensures) (c .before .if1 .taken))
+returns c = c .symbols .ensures ∙ sym (tilde-symbol (now (c .before .before .before .before .args .rest)) (c .before .before .before .before .pre .0) _ (c .before .before .magnitude .ensures) (c .before .if1 .taken))
 
 returns-2 : tie.Need-returns-2
-unfolding inClass
 returns-2 c = tilde-number (now (c .before .before .before .args .rest)) (c .before .before .before .pre .0) _ (c .before .magnitude .ensures) (c .if1 .left)
 
 pub negation-spec : {M : Type 1} → statement M
-negation-spec = tie.close (tie.spec magnitude-requires run-requires returns returns-2)
+negation-spec = tie.close (tie.spec magnitude-requires symbols-requires returns returns-2)

@@ -7,9 +7,6 @@ use Rattle.scanner.proofs.runs.is_in.Tie as tie
 enum-told : tie.Need-enum-told
 enum-told c = search needs
 
-is-space-requires : tie.Need-is-space-requires
-is-space-requires c κs = search needs
-
 enum-told-2 : tie.Need-enum-told-2
 enum-told-2 c = search needs
 
@@ -19,20 +16,20 @@ is-alphanumeric-requires c κs = search needs
 enum-told-3 : tie.Need-enum-told-3
 enum-told-3 c = search needs
 
-is-symbol-requires : tie.Need-is-symbol-requires
-is-symbol-requires c κs = search needs
+is-digit-in-requires : tie.Need-is-digit-in-requires
+is-digit-in-requires c κs = search needs
 
 enum-told-4 : tie.Need-enum-told-4
 enum-told-4 c = search needs
 
-is-digit-in-requires : tie.Need-is-digit-in-requires
-is-digit-in-requires c κs = search needs
+is-hex-digit-requires : tie.Need-is-hex-digit-requires
+is-hex-digit-requires c κs = search needs
 
 enum-told-5 : tie.Need-enum-told-5
 enum-told-5 c = search needs
 
-is-hex-digit-requires : tie.Need-is-hex-digit-requires
-is-hex-digit-requires c κs = search needs
+is-plain-requires : tie.Need-is-plain-requires
+is-plain-requires c κs = search needs
 
 returns : tie.Need-returns
 unfolding inClass
@@ -59,15 +56,14 @@ is-in-spec =
     tie.close
     (tie.spec
     enum-told
-    is-space-requires
     enum-told-2
     is-alphanumeric-requires
     enum-told-3
-    is-symbol-requires
-    enum-told-4
     is-digit-in-requires
-    enum-told-5
+    enum-told-4
     is-hex-digit-requires
+    enum-told-5
+    is-plain-requires
     returns
     returns-2
     returns-3
