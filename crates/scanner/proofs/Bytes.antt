@@ -156,45 +156,29 @@ hex-below b h =
 -- ---- digits of base 10 and 16
 
 module _ (b : ℕ) where
-  pub value-digit : b ≤ 57 → digitValue b ≡ b - 48
+  value-digit : b ≤ 57 → digitValue b ≡ b - 48
   unfolding digitValue
   value-digit h = rw (digitValue, le-leb b 57 h)
 
-  pub value-upper : 57 < b → b ≤ 70 → digitValue b ≡ b - 55
-  unfolding digitValue
-  value-upper g h = rw (digitValue, lt-leb b 57 g, le-leb b 70 h)
+  pub digit-high : isDigit b ≡ true → b ≤ 57
+  unfolding isDigit between
+  digit-high e = leb-true b 57 (and-right (leb 48 b) (leb b 57) e)
 
-  pub value-lower : 57 < b → 70 < b → digitValue b ≡ b - 87
-  unfolding digitValue
-  value-lower g h = rw (digitValue, lt-leb b 57 g, lt-leb b 70 h)
+  pub digit-low : isDigit b ≡ true → 48 ≤ b
+  unfolding isDigit between
+  digit-low e = leb-true 48 b (and-left (leb 48 b) (leb b 57) e)
 
-  pub value-small : digitValue b ≤ b
-  value-small = go (leb b 57) refl (leb b 70) refl
-    where
-      go : (t : Bool) → leb b 57 ≡ t → (u : Bool) → leb b 70 ≡ u → digitValue b ≤ b
-      go true e u f = omega (arith, value-digit (leb-true b 57 e))
-      go false e true f = omega (arith, value-upper (leb-false b 57 e) (leb-true b 70 f))
-      go false e false f = omega (arith, value-lower (leb-false b 57 e) (leb-false b 70 f))
+  pub digit-value : isDigit b ≡ true → digitValue b ≡ b - 48
+  digit-value e = value-digit (digit-high e)
 
-  pub hex-low : b < 256 → isHexDigit b ≡ true → 48 ≤ b
-  unfolding allBelow same decides between-keys isHexDigit isDigit between
-  hex-low f e = go (leb 48 b) refl
-    where
-      go : (t : Bool) → leb 48 b ≡ t → 48 ≤ b
-      go true h = leb-true 48 b h
-      go false h = absurd (false≢true (by-range [] 0 48 isHexDigit false refl b f (omega arith) (leb-false 48 b h) (λ n. n) ∙ e))
+  pub hex-small : b < 256 → isHexDigit b ≡ true → digitValue b ≤ 15
+  unfolding allBelow same decides isHexDigit isDigit between digitValue
+  hex-small f e = leb-true (digitValue b) 15 (sym (by-bytes isHexDigit (λ b. leb (digitValue b) 15) true refl b f e))
 
-  pub hex-high : b < 256 → 70 < b → isHexDigit b ≡ true → 97 ≤ b
-  unfolding allBelow same decides between-keys isHexDigit isDigit between
-  hex-high f g e = go (leb 97 b) refl
-    where
-      go : (t : Bool) → leb 97 b ≡ t → 97 ≤ b
-      go true h = leb-true 97 b h
-      go false h = absurd (false≢true (by-range [] 71 97 isHexDigit false refl b f (omega arith) (leb-false 97 b h) (λ n. n) ∙ e))
-
-  pub digit-is-hex : isDigit b ≡ true → isHexDigit b ≡ true
-  unfolding isHexDigit
-  digit-is-hex e = rw (isHexDigit, e)
+  -- Only `0` is 0.
+  pub hex-positive : b < 256 → isHexDigit b ≡ true → (b ≡ 48 → ⊥) → 1 ≤ digitValue b
+  unfolding allBelow same decides isHexDigit isDigit between digitValue
+  hex-positive f e n = leb-true 1 (digitValue b) (sym (by-bytes (λ b. isHexDigit b && not (eqb b 48)) (λ b. leb 1 (digitValue b)) true refl b f (both e (ap not (ne-eqb b 48 n)))))
 
 module _ (base b : ℕ) where
   pub of-ten : base ≡ 10 → isDigitOf base b ≡ isDigit b
@@ -204,10 +188,3 @@ module _ (base b : ℕ) where
   pub of-other : (base ≡ 10 → ⊥) → isDigitOf base b ≡ isHexDigit b
   unfolding isDigitOf
   of-other e = rw (isDigitOf, ne-eqb base 10 e)
-
-  pub digit-hex : isDigitOf base b ≡ true → isHexDigit b ≡ true
-  digit-hex h = go (eqb base 10) refl
-    where
-      go : (t : Bool) → eqb base 10 ≡ t → isHexDigit b ≡ true
-      go true e = digit-is-hex b (sym (of-ten (eqb-true base 10 e)) ∙ h)
-      go false e = sym (of-other (eqb-false base 10 e)) ∙ h

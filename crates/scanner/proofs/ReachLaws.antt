@@ -172,6 +172,19 @@ module _ (test : ℕ → Bool) (s : List ℕ) (i : ℕ) where
   unfolding firstIs
   first-here h = rw (drop-cons s i 0)
 
+-- A run ends with the text at the latest.
+run-length : (test : ℕ → Bool) (u : List ℕ) → run test u ≤ length u
+unfolding run
+run-length test [] = omega arith
+run-length test (b ∷ u) = go (test b) refl (run-length test u)
+  where
+    go : (x : Bool) → test b ≡ x → run test u ≤ length u → run test (b ∷ u) ≤ length (b ∷ u)
+    go true e ih = omega (arith, ih, run-yes test b u e)
+    go false e ih = omega (arith, run-no test b u e)
+
+pub run-inside : (test : ℕ → Bool) (s : List ℕ) (at : ℕ) → at ≤ length s → at + run test (drop at s) ≤ length s
+run-inside test s at h = omega (arith, run-length test (drop at s), length-drop at s)
+
 -- A run goes on behind a run of bytes that pass as well.
 run-within : (part whole : ℕ → Bool) → ((b : ℕ) → part b ≡ true → whole b ≡ true) → (u : List ℕ) → run whole u ≡ run part u + run whole (drop (run part u) u)
 unfolding run

@@ -4,21 +4,23 @@ use native.Mathlib.Omega.{arith}
 use native.Mathlib.Nat.{zero-add}
 use native.Mathlib.Numerals.{add-one}
 use mathlib.Core.Path.{_≡_, refl, sym, ap, ap₂, _∙_}
-use mathlib.Core.Bool.{Bool, true, false, false≢true}
+use mathlib.Core.Bool.{Bool, true, false, _||_, false≢true}
 use mathlib.Core.List.{List, [], _∷_}
 use mathlib.Core.Option.{Option, none, some}
 use lib.Dec.{leb, eqb}
-use lib.ListN.{length, getD, drop, drop-of-length-le}
+use lib.ListN.{length, getD, drop, length-drop, drop-of-length-le}
 use lib.Seq.{drop-cons, drop-drop}
-use borrow.Author.Tests.{eqb-true, ne-eqb, le-leb, lt-leb}
+use borrow.Author.Tests.{eqb-true, eqb-false, leb-true, ne-eqb, le-leb}
 use Rattle.text.specs.Bytes.{bytes, between, isSpace, isDigit, firstIs}
-use Rattle.scanner.specs.Parts.{isOneOf}
+use Rattle.scanner.specs.Parts.{every, isOneOf}
+use Rattle.scanner.specs.Constants.{isHexDigit}
 use Rattle.scanner.specs.Strings.{Place, between-characters, escape, control, number, gap, closed, Step, wrong, to, character, isDigitOf, digitValue, numberEnds, digit, escaped, next, isClosed, characters}
-use Rattle.scanner.specs.Reach.{longer, reach, run}
+use Rattle.scanner.specs.Reach.{longer, reach, run, isPlain}
 use Rattle.scanner.specs.Spans.{Span, ends, endless, further, span, onFrom, Inside, Goes}
 use Rattle.scanner.specs.declared.strings.Quoted.{Quoted}
 use Rattle.scanner.specs.declared.strings.Quoted.the-variants.{Ends, Endless}
-use Rattle.scanner.proofs.ReachLaws.{empty, onward, reach-nil, reach-cons, reach-never, reach-none, reach-step, run-yes, run-no, first-inside, first-here}
+use Rattle.scanner.proofs.Bytes.{not-so, allBelow, same, decides, by-bytes, apart, apart-all, of-ten, of-other, digit-value, hex-small, hex-positive}
+use Rattle.scanner.proofs.ReachLaws.{empty, onward, reach-nil, reach-cons, reach-never, reach-none, reach-step, run-yes, run-no, run-more, first-inside, first-here}
 
 -- ---- spans
 
@@ -258,13 +260,19 @@ module _ (b : ℕ) where
     unfolding next escaped
     escaped-digit e = rw (escaped, plain, ne-eqb b 94 caret, e)
 
-    pub escaped-gap : isDigit b ≡ false → (b ≡ 117 → ⊥) → isSpace b ≡ true → next escape b ≡ to gap
+    escaped-gap : isDigit b ≡ false → (b ≡ 117 → ⊥) → isSpace b ≡ true → next escape b ≡ to gap
     unfolding next escaped
     escaped-gap d u e = rw (escaped, plain, ne-eqb b 94 caret, d, ne-eqb b 117 u, e)
 
     pub escaped-wrong : isDigit b ≡ false → (b ≡ 117 → ⊥) → isSpace b ≡ false → next escape b ≡ wrong
     unfolding next escaped
     escaped-wrong d u e = rw (escaped, plain, ne-eqb b 94 caret, d, ne-eqb b 117 u, e)
+
+  -- White space is none of the others.
+  pub escaped-space : b < 256 → isSpace b ≡ true → next escape b ≡ to gap
+  unfolding allBelow same decides every isOneOf bytes isSpace isDigit between
+  escaped-space f e =
+      escaped-gap (apart-all isSpace b e (bytes "abtnvfr\"\\") refl) (eqb-false b 94 (apart isSpace b e 94 refl)) (sym (by-bytes isSpace isDigit false refl b f e)) (eqb-false b 117 (apart isSpace b e 117 refl)) e
 
   pub between-quote : b ≡ 34 → next between-characters b ≡ to closed
   unfolding next
@@ -320,10 +328,41 @@ pub open-number : (base left value : ℕ) → isClosed (number base left value) 
 unfolding isClosed
 open-number base left value = refl
 
--- ---- gaps
-
 one-add : (n : ℕ) → 1 + n ≡ suc n
 one-add n = omega arith
+
+-- ---- plain bytes
+
+module _ (b : ℕ) (quote : b ≡ 34 → ⊥) (backslash : b ≡ 92 → ⊥) where
+  plain-is : isPlain b ≡ between 32 126 b
+  unfolding isPlain
+  plain-is = rw (isPlain, ne-eqb b 34 quote, ne-eqb b 92 backslash)
+
+plain-character : (b : ℕ) → isPlain b ≡ true → next between-characters b ≡ character
+unfolding isPlain
+plain-character b h = go (eqb b 34) refl (eqb b 92) refl h
+  where
+    go : (x : Bool) → eqb b 34 ≡ x → (y : Bool) → eqb b 92 ≡ y → _≡_ {A = Bool} (elim (x || y) as (λ z. Bool) [ true ↦ false | false ↦ between 32 126 b ]) true → next between-characters b ≡ character
+    go true e y f g = absurd (false≢true g)
+    go false e true f g = absurd (false≢true g)
+    go false e false f g = between-character b (eqb-false b 34 e) (eqb-false b 92 f) g
+
+plain-run : (u : List ℕ) → span between-characters u ≡ further (run isPlain u) (run isPlain u) (span between-characters (drop (run isPlain u) u))
+unfolding run
+plain-run [] = sym (further-zero (span between-characters []))
+plain-run (b ∷ u) = go (isPlain b) refl (plain-run u)
+  where
+    go : (x : Bool) → isPlain b ≡ x → span between-characters u ≡ further (run isPlain u) (run isPlain u) (span between-characters (drop (run isPlain u) u)) → span between-characters (b ∷ u) ≡ further (run isPlain (b ∷ u)) (run isPlain (b ∷ u)) (span between-characters (drop (run isPlain (b ∷ u)) (b ∷ u)))
+    go true e ih =
+        span-character between-characters open-between b u (plain-character b e)
+        ∙ ap (further 1 1) ih
+        ∙ further-further 1 1 (run isPlain u) (run isPlain u) (span between-characters (drop (run isPlain u) u))
+        ∙ ap (λ (n : ℕ). further n n (span between-characters (drop (run isPlain u) u))) (one-add (run isPlain u))
+        ∙ ap (λ (n : ℕ). further n n (span between-characters (drop n (b ∷ u)))) (sym (run-yes isPlain b u e))
+    go false e ih =
+        sym (further-zero (span between-characters (b ∷ u))) ∙ ap (λ (n : ℕ). further n n (span between-characters (drop n (b ∷ u)))) (sym (run-no isPlain b u e))
+
+-- ---- gaps
 
 gap-run : (u : List ℕ) → span gap u ≡ further (run isSpace u) 0 (span gap (drop (run isSpace u) u))
 unfolding run
@@ -422,48 +461,216 @@ pending-one base (suc left) value b u e f =
     span-to (number base (suc (suc left)) value) (open-number base (suc (suc left)) value) b u (number base (suc left) (value * base + digitValue b))
     (digit-ends base (suc left) value b u e f)
 
-module _ (s : List ℕ) (place : Place) (from at : ℕ) (x : Span) (is : further from 0 (span place (drop from s)) ≡ further at 0 x) where
-  pub goes-endless : x ≡ endless → Goes s place from Endless
-  unfolding onFrom Inside further
-  goes-endless e = record { is = is ∙ ap (further at 0) e; inside = tt }
+further-endless : (m n : ℕ) → further m n endless ≡ endless
+unfolding further
+further-endless m n = refl
 
-  -- The last digit was read.
-  pub goes-read : (base left value : ℕ) → x ≡ pending base left value (drop at s) → left ≤ 0 → from + 1 ≤ at → at ≤ length s → Goes s place from (Ends at 1)
-  unfolding onFrom Inside pending
-  goes-read base zero value e l f h =
-      let z : at + 0 ≡ at = omega arith in
+-- Behind a byte that is no digit, or is one and takes the value over 255, or behind which nothing ends a string.
+digit-endless : (base left value b : ℕ) (u : List ℕ) → (isDigitOf base b ≡ true → value * base + digitValue b ≤ 255 → pending base left (value * base + digitValue b) u ≡ endless) → pending base (suc left) value (b ∷ u) ≡ endless
+digit-endless base left value b u behind = go (isDigitOf base b) refl (leb (value * base + digitValue b) 255) refl
+  where
+    go : (x : Bool) → isDigitOf base b ≡ x → (y : Bool) → leb (value * base + digitValue b) 255 ≡ y → pending base (suc left) value (b ∷ u) ≡ endless
+    go false e y f = pending-other base left value b u e
+    go true e false f = pending-over base left value b u e f
+    go true e true f = pending-one base left value b u e f ∙ ap (further 1 0) (behind e (leb-true (value * base + digitValue b) 255 f)) ∙ further-endless 1 0
+
+-- Fewer bytes than digits.
+pending-short : (base left value : ℕ) (u : List ℕ) → length u < left → pending base left value u ≡ endless
+unfolding pending
+pending-short base zero value u h = absurd (omega arith)
+pending-short base (suc left) value [] h = span-nil (number base (suc left) value) (open-number base (suc left) value)
+pending-short base (suc left) value (b ∷ u) h = digit-endless base left value b u (λ e l. pending-short base left (value * base + digitValue b) u (omega arith))
+
+module _ (s : List ℕ) (at base left : ℕ) (h : 1 ≤ left) where
+  pub digits-endless : pending base left 0 (drop at s) ≡ endless → Goes s (number base left 0) at Endless
+  unfolding onFrom Inside
+  digits-endless e = record { is = ap (further at 0) (pending-first base left (drop at s) h ∙ e) ∙ further-endless at 0; inside = tt }
+
+  pub digits-short : at ≤ length s → length s - at < left → Goes s (number base left 0) at Endless
+  digits-short w l = digits-endless (pending-short base left 0 (drop at s) (omega (arith, length-drop at s)))
+
+  -- As many bytes as digits, which denote a character.
+  pub digits-read : at + left ≤ length s → pending base left 0 (drop at s) ≡ further left 1 (span between-characters (drop (at + left) s)) → Goes s (number base left 0) at (Ends (at + left) 1)
+  unfolding onFrom Inside
+  digits-read w e =
       record {
-        is = is
-            ∙ ap (further at 0) e
-            ∙ further-further at 0 0 1 (span between-characters (drop at s))
-            ∙ ap (λ (n : ℕ). further n 1 (span between-characters (drop at s))) z;
+        is = ap (further at 0) (pending-first base left (drop at s) h ∙ e) ∙ further-further at 0 left 1 (span between-characters (drop (at + left) s));
         inside = (omega arith, omega arith, omega arith);
       }
-  goes-read base (suc left) value e l f h = absurd (omega arith)
 
-module _ (s : List ℕ) (at base left value k : ℕ) (is : left ≡ suc k) where
-  pub digits-end : length s ≤ at → pending base left value (drop at s) ≡ endless
+-- The bytes from an offset on.
+drop-three : (s : List ℕ) (at : ℕ) → at + 3 ≤ length s → drop at s ≡ getD s at 0 ∷ getD s (at + 1) 0 ∷ getD s (at + 2) 0 ∷ drop (at + 3) s
+drop-three s at h =
+    drop-cons s at 0 (omega arith)
+    ∙ ap (λ (u : List ℕ). getD s at 0 ∷ u)
+    (ap (λ (n : ℕ). drop n s) (sym (add-one at))
+    ∙ drop-cons s (at + 1) 0 (omega arith)
+    ∙ ap (λ (u : List ℕ). getD s (at + 1) 0 ∷ u)
+    (ap (λ (n : ℕ). drop n s) two ∙ drop-cons s (at + 2) 0 (omega arith) ∙ ap (λ (n : ℕ). getD s (at + 2) 0 ∷ drop n s) three))
+  where
+    two : suc (at + 1) ≡ at + 2
+    two = omega arith
+
+    three : suc (at + 2) ≡ at + 3
+    three = omega arith
+
+-- ---- `\ddd`
+module _ (s : List ℕ) (at : ℕ) (h : at + 3 ≤ length s) where
+  abbrev first : ℕ
+  first = getD s at 0
+
+  abbrev second : ℕ
+  second = getD s (at + 1) 0
+
+  abbrev third : ℕ
+  third = getD s (at + 2) 0
+
+  abbrev rest : List ℕ
+  rest = drop (at + 3) s
+
+  decimals : pending 10 3 0 (drop at s) ≡ pending 10 3 0 (first ∷ second ∷ third ∷ rest)
+  decimals = ap (pending 10 3 0) (drop-three s at h)
+
+  is-decimal : (b : ℕ) → isDigitOf 10 b ≡ isDigit b
+  is-decimal b = of-ten 10 b refl
+
+  pub decimal-first : isDigit first ≡ false → Goes s (number 10 3 0) at Endless
+  decimal-first e = digits-endless s at 10 3 (omega arith) (decimals ∙ pending-other 10 2 0 first (second ∷ third ∷ rest) (is-decimal first ∙ e))
+
+  pub decimal-second : isDigit second ≡ false → Goes s (number 10 3 0) at Endless
+  decimal-second e =
+      digits-endless s at 10 3 (omega arith)
+      (decimals ∙ digit-endless 10 2 0 first (second ∷ third ∷ rest) (λ d l. pending-other 10 1 (0 * 10 + digitValue first) second (third ∷ rest) (is-decimal second ∙ e)))
+
+  pub decimal-third : isDigit third ≡ false → Goes s (number 10 3 0) at Endless
+  decimal-third e =
+      digits-endless s at 10 3 (omega arith)
+      (decimals
+      ∙ digit-endless 10 2 0 first (second ∷ third ∷ rest)
+      (λ d l. digit-endless 10 1 (0 * 10 + digitValue first) second (third ∷ rest)
+      (λ d l. pending-other 10 0 ((0 * 10 + digitValue first) * 10 + digitValue second) third rest (is-decimal third ∙ e))))
+
+  module _ (d₁ : isDigit first ≡ true) (d₂ : isDigit second ≡ true) (d₃ : isDigit third ≡ true) where
+    abbrev value : ℕ
+    value = 100 * (first - 48) + 10 * (second - 48) + (third - 48)
+
+    pub decimal-over : 255 < value → Goes s (number 10 3 0) at Endless
+    decimal-over o =
+        digits-endless s at 10 3 (omega arith)
+        (decimals
+        ∙ digit-endless 10 2 0 first (second ∷ third ∷ rest)
+        (λ d l. digit-endless 10 1 (0 * 10 + digitValue first) second (third ∷ rest)
+        (λ d l. digit-endless 10 0 ((0 * 10 + digitValue first) * 10 + digitValue second) third rest
+        (λ d l. absurd (omega (arith, o, l, digit-value first d₁, digit-value second d₂, digit-value third d₃))))))
+
+    pub decimal-read : value ≤ 255 → Goes s (number 10 3 0) at (Ends (at + 3) 1)
+    unfolding pending
+    decimal-read w =
+        let v₁ = 0 * 10 + digitValue first in
+        let v₂ = v₁ * 10 + digitValue second in
+        let v₃ = v₂ * 10 + digitValue third in
+        let e₁ = digit-value first d₁ in
+        let e₂ = digit-value second d₂ in
+        let e₃ = digit-value third d₃ in
+        digits-read s at 10 3 (omega arith) h
+        (decimals
+        ∙ pending-one 10 2 0 first (second ∷ third ∷ rest) (is-decimal first ∙ d₁) (le-leb v₁ 255 (omega (arith, w, e₁)))
+        ∙ ap (further 1 0)
+        (pending-one 10 1 v₁ second (third ∷ rest) (is-decimal second ∙ d₂) (le-leb v₂ 255 (omega (arith, w, e₁, e₂)))
+        ∙ ap (further 1 0) (pending-one 10 0 v₂ third rest (is-decimal third ∙ d₃) (le-leb v₃ 255 (omega (arith, w, e₁, e₂, e₃)))))
+        ∙ ap (further 1 0) (further-further 1 0 1 0 (further 0 1 (span between-characters rest)))
+        ∙ further-further 1 0 2 0 (further 0 1 (span between-characters rest))
+        ∙ further-further 3 0 0 1 (span between-characters rest))
+
+-- ---- `\uxxxx`
+zero-digit : (left : ℕ) (u : List ℕ) → pending 16 (suc left) 0 (48 ∷ u) ≡ further 1 0 (pending 16 left 0 u)
+unfolding isDigitOf isHexDigit isDigit between digitValue
+zero-digit left u = pending-one 16 left 0 48 u refl refl
+
+module _ (s : List ℕ) (at : ℕ) (h : at + 4 ≤ length s) where
+  abbrev x₁ : ℕ
+  x₁ = getD s at 0
+
+  abbrev x₂ : ℕ
+  x₂ = getD s (at + 1) 0
+
+  abbrev x₃ : ℕ
+  x₃ = getD s (at + 2) 0
+
+  abbrev x₄ : ℕ
+  x₄ = getD s (at + 3) 0
+
+  abbrev behind-four : List ℕ
+  behind-four = drop (at + 4) s
+
+  hexadecimals : pending 16 4 0 (drop at s) ≡ pending 16 4 0 (x₁ ∷ x₂ ∷ x₃ ∷ x₄ ∷ behind-four)
+  hexadecimals =
+      ap (pending 16 4 0)
+      (drop-three s at (omega arith)
+      ∙ ap (λ (u : List ℕ). x₁ ∷ x₂ ∷ x₃ ∷ u) (drop-cons s (at + 3) 0 (omega arith) ∙ ap (λ (n : ℕ). x₄ ∷ drop n s) four))
+    where
+      four : suc (at + 3) ≡ at + 4
+      four = omega arith
+
+  is-hex : (b : ℕ) → isDigitOf 16 b ≡ isHexDigit b
+  is-hex b = of-other 16 b (λ e. absurd (omega (arith, e)))
+
+  pub hex-first : x₁ < 256 → (x₁ ≡ 48 → ⊥) → Goes s (number 16 4 0) at Endless
+  hex-first f n =
+      digits-endless s at 16 4 (omega arith)
+      (hexadecimals
+      ∙ digit-endless 16 3 0 x₁ (x₂ ∷ x₃ ∷ x₄ ∷ behind-four)
+      (λ d l. digit-endless 16 2 (0 * 16 + digitValue x₁) x₂ (x₃ ∷ x₄ ∷ behind-four)
+      (λ e l. digit-endless 16 1 ((0 * 16 + digitValue x₁) * 16 + digitValue x₂) x₃ (x₄ ∷ behind-four)
+      (λ e l. absurd (omega (arith, l, hex-positive x₁ f (sym (is-hex x₁) ∙ d) n))))))
+
+  pub hex-second : x₂ < 256 → (x₂ ≡ 48 → ⊥) → Goes s (number 16 4 0) at Endless
+  hex-second f n =
+      digits-endless s at 16 4 (omega arith)
+      (hexadecimals
+      ∙ digit-endless 16 3 0 x₁ (x₂ ∷ x₃ ∷ x₄ ∷ behind-four)
+      (λ e l. digit-endless 16 2 (0 * 16 + digitValue x₁) x₂ (x₃ ∷ x₄ ∷ behind-four)
+      (λ d l. digit-endless 16 1 ((0 * 16 + digitValue x₁) * 16 + digitValue x₂) x₃ (x₄ ∷ behind-four)
+      (λ e l. digit-endless 16 0 (((0 * 16 + digitValue x₁) * 16 + digitValue x₂) * 16 + digitValue x₃) x₄ behind-four
+      (λ e l. absurd (omega (arith, l, hex-positive x₂ f (sym (is-hex x₂) ∙ d) n)))))))
+
+  pub hex-third : isHexDigit x₃ ≡ false → Goes s (number 16 4 0) at Endless
+  hex-third n =
+      digits-endless s at 16 4 (omega arith)
+      (hexadecimals
+      ∙ digit-endless 16 3 0 x₁ (x₂ ∷ x₃ ∷ x₄ ∷ behind-four)
+      (λ e l. digit-endless 16 2 (0 * 16 + digitValue x₁) x₂ (x₃ ∷ x₄ ∷ behind-four)
+      (λ e l. pending-other 16 1 ((0 * 16 + digitValue x₁) * 16 + digitValue x₂) x₃ (x₄ ∷ behind-four) (is-hex x₃ ∙ n))))
+
+  pub hex-fourth : isHexDigit x₄ ≡ false → Goes s (number 16 4 0) at Endless
+  hex-fourth n =
+      digits-endless s at 16 4 (omega arith)
+      (hexadecimals
+      ∙ digit-endless 16 3 0 x₁ (x₂ ∷ x₃ ∷ x₄ ∷ behind-four)
+      (λ e l. digit-endless 16 2 (0 * 16 + digitValue x₁) x₂ (x₃ ∷ x₄ ∷ behind-four)
+      (λ e l. digit-endless 16 1 ((0 * 16 + digitValue x₁) * 16 + digitValue x₂) x₃ (x₄ ∷ behind-four)
+      (λ e l. pending-other 16 0 (((0 * 16 + digitValue x₁) * 16 + digitValue x₂) * 16 + digitValue x₃) x₄ behind-four (is-hex x₄ ∙ n)))))
+
+  pub hex-read : x₁ ≡ 48 → x₂ ≡ 48 → x₃ < 256 → isHexDigit x₃ ≡ true → x₄ < 256 → isHexDigit x₄ ≡ true → Goes s (number 16 4 0) at (Ends (at + 4) 1)
   unfolding pending
-  digits-end h =
-      ap₂ (λ (n : ℕ) (u : List ℕ). pending base n value u) is (drop-of-length-le s h) ∙ span-nil (number base (suc k) value) (open-number base (suc k) value)
-
-  at-digit : at < length s → pending base left value (drop at s) ≡ pending base (suc k) value (getD s at 0 ∷ drop (suc at) s)
-  at-digit h = ap₂ (λ (n : ℕ) (u : List ℕ). pending base n value u) is (drop-cons s at 0 h)
-
-  pub digits-other : at < length s → isDigitOf base (getD s at 0) ≡ false → pending base left value (drop at s) ≡ endless
-  digits-other h e = at-digit h ∙ pending-other base k value (getD s at 0) (drop (suc at) s) e
-
-  module _ (v : ℕ) (sum : v ≡ value * base + digitValue (getD s at 0)) (h : at < length s) (e : isDigitOf base (getD s at 0) ≡ true) where
-    pub digits-over : 255 < v → pending base left value (drop at s) ≡ endless
-    digits-over f = at-digit h ∙ pending-over base k value (getD s at 0) (drop (suc at) s) e (lt-leb (value * base + digitValue (getD s at 0)) 255 (omega arith))
-
-    pub digits-more : v ≤ 255 → further at 0 (pending base left value (drop at s)) ≡ further (at + 1) 0 (pending base k v (drop (at + 1) s))
-    digits-more f =
-        ap (further at 0)
-        (at-digit h
-        ∙ pending-one base k value (getD s at 0) (drop (suc at) s) e (le-leb (value * base + digitValue (getD s at 0)) 255 (omega arith)))
-        ∙ further-further at 0 1 0 (pending base k (value * base + digitValue (getD s at 0)) (drop (suc at) s))
-        ∙ ap₂ (λ (m n : ℕ). further (at + 1) 0 (pending base k m (drop n s))) (sym sum) (sym (add-one at))
+  hex-read e₁ e₂ f₃ d₃ f₄ d₄ =
+      let v₃ = 0 * 16 + digitValue x₃ in
+      let v₄ = v₃ * 16 + digitValue x₄ in
+      let small₃ = hex-small x₃ f₃ d₃ in
+      let small₄ = hex-small x₄ f₄ d₄ in
+      digits-read s at 16 4 (omega arith) h
+      (hexadecimals
+      ∙ ap₂ (λ (a b : ℕ). pending 16 4 0 (a ∷ b ∷ x₃ ∷ x₄ ∷ behind-four)) e₁ e₂
+      ∙ zero-digit 3 (48 ∷ x₃ ∷ x₄ ∷ behind-four)
+      ∙ ap (further 1 0)
+      (zero-digit 2 (x₃ ∷ x₄ ∷ behind-four)
+      ∙ ap (further 1 0)
+      (pending-one 16 1 0 x₃ (x₄ ∷ behind-four) (is-hex x₃ ∙ d₃) (le-leb v₃ 255 (omega (arith, small₃)))
+      ∙ ap (further 1 0) (pending-one 16 0 v₃ x₄ behind-four (is-hex x₄ ∙ d₄) (le-leb v₄ 255 (omega (arith, small₃, small₄))))
+      ∙ further-further 1 0 1 0 (further 0 1 (span between-characters behind-four)))
+      ∙ further-further 1 0 2 0 (further 0 1 (span between-characters behind-four)))
+      ∙ further-further 1 0 3 0 (further 0 1 (span between-characters behind-four))
+      ∙ further-further 4 0 0 1 (span between-characters behind-four))
 
 -- ---- the whole string
 
@@ -483,6 +690,25 @@ module _ (s : List ℕ) (at total : ℕ) where
   pub string-end : length s ≤ at → further at total (span between-characters (drop at s)) ≡ endless
   unfolding further
   string-end h = ap (further at total) (ap (span between-characters) (drop-of-length-le s h) ∙ span-nil between-characters open-between)
+
+  -- A run of plain bytes, each a character.
+  pub string-plain : (end : ℕ) → end ≡ at + run isPlain (drop at s) → further at total (span between-characters (drop at s)) ≡ further end (total + (end - at)) (span between-characters (drop end s))
+  string-plain end e =
+      let n = run isPlain (drop at s) in
+      ap (further at total) (plain-run (drop at s))
+      ∙ further-further at total n n (span between-characters (drop n (drop at s)))
+      ∙ ap (λ (u : List ℕ). further (at + n) (total + n) (span between-characters u)) (drop-drop n at s)
+      ∙ ap₂ (λ (m k : ℕ). further m k (span between-characters (drop m s))) (sym e) (omega (arith, e))
+
+  -- A byte that is no quote, no backslash and not plain.
+  pub string-other : at < length s → (getD s at 0 ≡ 34 → ⊥) → (getD s at 0 ≡ 92 → ⊥) → at ≡ at + run isPlain (drop at s) → further at total (span between-characters (drop at s)) ≡ endless
+  unfolding further
+  string-other h quote backslash e =
+      let b = getD s at 0 in
+      let other : isPlain b ≡ false = not-so (isPlain b) (λ f. absurd (omega (arith, e, run-more isPlain s at h f))) in
+      ap (further at total)
+      (ap (span between-characters) (drop-cons s at 0 h)
+      ∙ span-wrong between-characters open-between b (drop (suc at) s) (between-wrong b quote backslash (sym (plain-is b quote backslash) ∙ other)))
 
   module _ (r : Quoted) (g : Goes s between-characters at r) where
     pub string-endless : r ≡ Endless → further at total (span between-characters (drop at s)) ≡ endless

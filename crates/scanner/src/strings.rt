@@ -1,13 +1,12 @@
 // String constants.
 use crate::runs;
+use crate::runs::Class;
 ghost use mathlib.Core.Path.{_≡_};
-ghost use mathlib.Core.Bool.{true};
-ghost use Prim.Native.Nat.{_<_, _≤_};
-ghost use lib.ListN.{length, getD, drop};
+ghost use Prim.Native.Nat.{_≤_};
+ghost use lib.ListN.{length, drop};
 ghost use Rattle.text.specs.Bytes.{bytes, classTable};
 ghost use Rattle.scanner.specs.Parts.{isOneOf};
-ghost use Rattle.scanner.specs.Constants.{isHexDigit};
-ghost use Rattle.scanner.specs.Strings.{between-characters, escape, control, number, gap, isDigitOf, digitValue};
+ghost use Rattle.scanner.specs.Strings.{between-characters, escape, control, number, gap};
 ghost use Rattle.scanner.specs.Spans.{further, span, spanOf, Goes};
 
 // What is read of a string constant: its end, and the characters that are denoted.
@@ -26,54 +25,61 @@ fn is_plain_escape(b: u8) -> bool
     }
 }
 
-fn digit_value(b: u8) -> usize
-    requires { ⌜ isHexDigit b ≡ true ⌝ }
-    ensures { λ r. ⌜ r ≡ digitValue b ⌝ }
+// The digits of `\ddd`.
+fn decimal(table: &[u8; 256], s: &[u8], at: usize) -> Quoted
+    requires { ⌜ at ≤ length (now s) ⌝ }
+    requires { ⌜ now table ≡ classTable ⌝ }
+    ensures { λ r. ⌜ Goes (now (s .entry)) (number 10 3 0) at r ⌝ }
 {
-    if b <= 57 {
-        return (b - 48) as usize;
+    if s.len() - at < 3 {
+        return Quoted::Endless;
     }
-    if b <= 70 {
-        return (b - 55) as usize;
+    let a = s[at];
+    if !text::is_digit_in(table, a) {
+        return Quoted::Endless;
     }
-    (b - 87) as usize
+    let b = s[at + 1];
+    if !text::is_digit_in(table, b) {
+        return Quoted::Endless;
+    }
+    let c = s[at + 2];
+    if !text::is_digit_in(table, c) {
+        return Quoted::Endless;
+    }
+    if 255 < 100 * ((a - 48) as usize) + 10 * ((b - 48) as usize) + ((c - 48) as usize) {
+        return Quoted::Endless;
+    }
+    Quoted::Ends {
+        end: at + 3,
+        count: 1,
+    }
 }
 
-fn is_digit_of(table: &[u8; 256], base: usize, b: u8) -> bool
+// The digits of `\uxxxx`: no value is over 255, so the first two are 0.
+fn hexadecimal(table: &[u8; 256], s: &[u8], at: usize) -> Quoted
+    requires { ⌜ at ≤ length (now s) ⌝ }
     requires { ⌜ now table ≡ classTable ⌝ }
-    ensures { λ r. ⌜ r ≡ isDigitOf base b ⌝ }
+    ensures { λ r. ⌜ Goes (now (s .entry)) (number 16 4 0) at r ⌝ }
 {
-    if base == 10 {
-        return text::is_digit_in(table, b);
+    if s.len() - at < 4 {
+        return Quoted::Endless;
     }
-    runs::is_hex_digit(table, b)
-}
-
-// The digits of `\ddd` and `\uxxxx`.
-fn digits(table: &[u8; 256], s: &[u8], from: usize, base: usize, count: usize) -> Quoted
-    requires { ⌜ (1 ≤ count) × (base ≤ 16) ⌝ }
-    requires { ⌜ now table ≡ classTable ⌝ }
-    ensures { λ r. ⌜ Goes (now (s .entry)) (number base count 0) from r ⌝ }
-{
-    let mut at = from;
-    let mut value = 0;
-    let mut left = count;
-    while 0 < left {
-        if s.len() <= at {
-            return Quoted::Endless;
-        }
-        let b = s[at];
-        if !is_digit_of(table, base, b) {
-            return Quoted::Endless;
-        }
-        value = value * base + digit_value(b);
-        if 255 < value {
-            return Quoted::Endless;
-        }
-        at += 1;
-        left -= 1;
+    if s[at] != 48 {
+        return Quoted::Endless;
     }
-    Quoted::Ends { end: at, count: 1 }
+    if s[at + 1] != 48 {
+        return Quoted::Endless;
+    }
+    if !runs::is_hex_digit(table, s[at + 2]) {
+        return Quoted::Endless;
+    }
+    if !runs::is_hex_digit(table, s[at + 3]) {
+        return Quoted::Endless;
+    }
+    Quoted::Ends {
+        end: at + 4,
+        count: 1,
+    }
 }
 
 // What stands behind `\^`.
@@ -120,6 +126,9 @@ fn escape(table: &[u8; 256], s: &[u8], at: usize) -> Quoted
         return Quoted::Endless;
     }
     let b = s[at];
+    if text::is_space(b) {
+        return gap(table, s, at + 1);
+    }
     if is_plain_escape(b) {
         return Quoted::Ends {
             end: at + 1,
@@ -129,39 +138,13 @@ fn escape(table: &[u8; 256], s: &[u8], at: usize) -> Quoted
     if b == 94 {
         return control(s, at + 1);
     }
-    if text::is_digit_in(table, b) {
-        return digits(table, s, at, 10, 3);
-    }
     if b == 117 {
-        return digits(table, s, at + 1, 16, 4);
+        return hexadecimal(table, s, at + 1);
     }
-    if text::is_space(b) {
-        return gap(table, s, at + 1);
+    if text::is_digit_in(table, b) {
+        return decimal(table, s, at);
     }
     Quoted::Endless
-}
-
-// A printable character, or an escape.
-fn item(table: &[u8; 256], s: &[u8], at: usize) -> Quoted
-    requires { ⌜ at < length (now s) ⌝ }
-    requires { ⌜ (getD (now s) at 0 ≡ 34 → ⊥) ⌝ }
-    requires { ⌜ now table ≡ classTable ⌝ }
-    ensures { λ r. ⌜ Goes (now (s .entry)) between-characters at r ⌝ }
-{
-    let b = s[at];
-    if b == 92 {
-        return escape(table, s, at + 1);
-    }
-    if b < 32 {
-        return Quoted::Endless;
-    }
-    if 126 < b {
-        return Quoted::Endless;
-    }
-    Quoted::Ends {
-        end: at + 1,
-        count: 1,
-    }
 }
 
 // The string constant whose opening quote stands before an offset.
@@ -172,17 +155,27 @@ pub fn string(table: &[u8; 256], s: &[u8], from: usize) -> Quoted
     let mut at = from;
     let mut total = 0;
     while at < s.len() {
-        if s[at] == 34 {
+        let b = s[at];
+        if b == 34 {
             return Quoted::Ends {
                 end: at + 1,
                 count: total,
             };
         }
-        let Quoted::Ends { end, count } = item(table, s, at) else {
+        if b == 92 {
+            let Quoted::Ends { end, count } = escape(table, s, at + 1) else {
+                return Quoted::Endless;
+            };
+            at = end;
+            total += count;
+            continue;
+        }
+        let end = runs::run(table, s, at, Class::Plain);
+        if end == at {
             return Quoted::Endless;
-        };
+        }
+        total += end - at;
         at = end;
-        total += count;
     }
     Quoted::Endless
 }
