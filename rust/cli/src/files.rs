@@ -1,5 +1,6 @@
 //! The files that the arguments name.
 
+use std::collections::HashSet;
 use std::path::{Path, PathBuf};
 use std::{fs, io};
 
@@ -22,6 +23,13 @@ pub fn find(paths: &[PathBuf]) -> Vec<Found> {
         }
     }
     found
+}
+
+/// Leaves each file once, by whatever paths and links it was found.
+pub fn keep_once(found: &mut Vec<Found>) {
+    let mut seen = HashSet::new();
+    // What can't be resolved is told when it is read.
+    found.retain(|file| fs::canonicalize(&file.path).map_or(true, |path| seen.insert(path)));
 }
 
 /// Adds the files of a folder. Folders that wait are kept in a list, so that deep ones need no deep

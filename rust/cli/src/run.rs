@@ -39,7 +39,13 @@ impl Outcome {
 
 /// Does what the options say.
 pub fn run(options: &Options) -> Exit {
-    let files = files::find(&options.paths);
+    let mut files = files::find(&options.paths);
+    if options.mode == Mode::Write {
+        files::keep_once(&mut files);
+    }
+    if files.is_empty() {
+        eprintln!("diverplume: no file .sml, .sig or .fun stands there");
+    }
     let mut progress = Progress::new(files.len(), options.is_quiet);
     let mut exit = Exit::Fine;
     let mut counts = Counts::default();

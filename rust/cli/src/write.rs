@@ -14,7 +14,11 @@ use std::{fs, io, process};
 pub fn write(path: &Path, before: &[u8], after: &[u8]) -> Result<(), String> {
     // A link stays a link: the file behind it is written.
     let path = fs::canonicalize(path).map_err(|error| error.to_string())?;
-    let permissions = fs::metadata(&path).map_err(|error| error.to_string())?.permissions();
+    let metadata = fs::metadata(&path).map_err(|error| error.to_string())?;
+    if !metadata.is_file() {
+        return Err("it is a pipe or a device, no file that can be written back".to_owned());
+    }
+    let permissions = metadata.permissions();
     if permissions.readonly() {
         return Err("the file is write-protected and left alone".to_owned());
     }

@@ -3,7 +3,7 @@
 use std::io::Write as _;
 use std::path::{Path, PathBuf};
 use std::process::{Command, Stdio};
-use std::{env, fs, process};
+use std::{env, fs, process, thread};
 
 /// A folder for one test.
 struct Folder(PathBuf);
@@ -24,6 +24,16 @@ impl Folder {
 
     fn read(&self, file: &str) -> String {
         fs::read_to_string(self.0.join(file)).expect("a file")
+    }
+
+    /// A named pipe, and what is done with it once the command reads it.
+    #[cfg(unix)]
+    fn with_pipe(self, name: &str, read: impl FnOnce(fs::File) + Send + 'static) -> Self {
+        let path = self.0.join(name);
+        assert!(Command::new("mkfifo").arg(&path).status().expect("mkfifo").success());
+        // A pipe is opened when its other end is.
+        thread::spawn(move || read(fs::OpenOptions::new().write(true).open(path).expect("a pipe")));
+        self
     }
 
     /// The names of all files in the folder.
@@ -125,9 +135,12 @@ fn files_and_folders() {
         .with("b/c.sig", "signature S=A")
         .with("b/d.fun", "functor F()=A")
         .with("b/.hidden/e.sml", "val e=1")
-        .with("b/f.txt", "no file of ours");
+        .with("b/f.txt", "no file of ours")
+        .with("g/h.txt", "no file of ours");
     assert_eq!(folder.run(&["a.sml"]), said(0, "val a = 1\n", ""));
     assert_eq!(folder.run(&["b"]), said(0, "signature S = A\nfunctor F () = A\n", ""));
+    let none = "diverplume: no file .sml, .sig or .fun stands there\n";
+    assert_eq!(folder.run(&["g"]), said(0, "", none));
     let (status, _, messages) = folder.run(&["none.sml", "a.sml"]);
     assert_eq!(status, 2);
     assert!(messages.starts_with("none.sml: "), "{messages}");
@@ -157,6 +170,15 @@ fn write() {
 }
 
 #[test]
+fn files_named_twice_are_written_once() {
+    let folder = Folder::new("twice").with("a.sml", "val a=1").with("b.sml", "val b=1");
+    let message = "diverplume: 2 written, 0 formatted before, 0 left alone\n";
+    assert_eq!(folder.run(&["-w", "a.sml", ".", "./b.sml", "a.sml"]), said(0, "", message));
+    assert_eq!(folder.read("a.sml"), "val a = 1\n");
+    assert_eq!(folder.run(&["a.sml", "./a.sml"]), said(0, "val a = 1\nval a = 1\n", ""));
+}
+
+#[test]
 fn protected_files_are_left_alone() {
     let folder = Folder::new("protected").with("a.sml", "val a=1");
     let path = folder.0.join("a.sml");
@@ -167,6 +189,33 @@ fn protected_files_are_left_alone() {
     assert_eq!(folder.run(&["-w", "a.sml"]), said(2, "", message));
     assert_eq!(folder.read("a.sml"), "val a=1");
     assert_eq!(folder.run(&["a.sml"]), said(0, "val a = 1\n", ""));
+}
+
+#[cfg(unix)]
+#[test]
+fn files_that_change_are_left_alone() {
+    let folder = Folder::new("changed").with("other", "val a=2");
+    let [other, path] = ["other", "a.sml"].map(|name| folder.0.join(name));
+    // The command has opened the one when the other takes its name.
+    let folder = folder.with_pipe("a.sml", move |mut pipe| {
+        fs::rename(other, path).expect("the other file");
+        pipe.write_all(b"val a=1").expect("the text");
+    });
+    let message = "a.sml: the file changed while it was formatted, and is left alone\n";
+    assert_eq!(folder.run(&["-w", "a.sml"]), said(2, "", message));
+    assert_eq!(folder.read("a.sml"), "val a=2");
+    assert_eq!(folder.names(), ["a.sml"]);
+}
+
+#[cfg(unix)]
+#[test]
+fn pipes_are_read_and_not_written() {
+    let text = |mut pipe: fs::File| pipe.write_all(b"val a=1").expect("the text");
+    let folder = Folder::new("pipes").with_pipe("a.sml", text).with_pipe("b.sml", text);
+    assert_eq!(folder.run(&["a.sml"]), said(0, "val a = 1\n", ""));
+    let message = "b.sml: it is a pipe or a device, no file that can be written back\n";
+    assert_eq!(folder.run(&["-w", "b.sml"]), said(2, "", message));
+    assert_eq!(folder.names(), ["a.sml", "b.sml"]);
 }
 
 #[test]
