@@ -16,7 +16,8 @@ Formats each FILE, and each file .sml, .sig and .fun in a FOLDER and below it. W
   -d, --diff       prints how the files would change
       --tab N      the spaces of an indent, 2 if not given
       --why L:C    prints the comment above the declaration at line L, column C, and the keyword
-                   that the search for it passed
+                   that the search for it passed; for a comment there, the same of the
+                   declarations that have it
   -q, --quiet      no warnings and no progress
       --help       this text
       --version    the version

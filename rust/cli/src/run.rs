@@ -4,7 +4,8 @@ use crate::files::{self, Found};
 use crate::format::format;
 use crate::options::{Mode, Options};
 use crate::parallel::{self, Progress};
-use crate::{diff, why, write};
+use crate::why::{why, Why};
+use crate::{diff, write};
 use std::fs;
 use std::io::{self, Read as _, Write as _};
 
@@ -180,9 +181,10 @@ fn shown(name: &str, before: &[u8], after: Vec<u8>, options: &Options) -> Vec<u8
 }
 
 fn explained(name: &str, text: &[u8], line: usize, column: usize) -> Outcome {
-    match why::why(text, line, column) {
-        Ok(said) => {
-            let output = format!("{name}:{said}").into_bytes();
+    match why(text, line, column) {
+        Ok(Why { messages, comment }) => {
+            let lines = messages.iter().map(|message| message.of_file(name)).chain(comment);
+            let output = lines.map(|line| line + "\n").collect::<String>().into_bytes();
             Outcome { exit: Exit::Fine, output, messages: Vec::new(), is_changed: false }
         }
         Err(message) => Outcome::failed(Exit::Refused, vec![message.of_file(name)]),

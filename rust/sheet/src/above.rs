@@ -37,6 +37,12 @@ pub enum Stray {
 }
 
 impl File<'_> {
+    /// The places of the comments, in the order of the text.
+    pub fn comments(&self) -> impl Iterator<Item = Range<usize>> + '_ {
+        let comments = self.tokens.iter().filter(|token| token.kind == SyntaxKind::BlockComment);
+        comments.map(|token| token.range.clone())
+    }
+
     /// The comment that is written above a declaration: the search goes back from its first token,
     /// ends at a block comment, and finds none behind two keywords.
     #[must_use]
