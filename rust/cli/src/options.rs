@@ -8,8 +8,9 @@ diverplume - formats files of Standard ML
 
 usage: diverplume [OPTION].. [FILE|FOLDER]..
 
-Formats each FILE, and each file .sml, .sig and .fun in a FOLDER and below it. Without one, or for
--, it formats standard input. The formatted text goes to standard output.
+Formats each FILE, and each file .sml, .sig and .fun in a FOLDER and below it; hidden ones and links
+in a FOLDER are passed over. Without one, or for -, it formats standard input. The formatted text
+goes to standard output.
 
   -w, --write      writes each file back if it changes; nothing is touched on a refusal
       --check      prints the names of the files that would change, exit 1 if there are some

@@ -18,11 +18,10 @@ pub fn write(path: &Path, before: &[u8], after: &[u8]) -> Result<(), String> {
     if !metadata.is_file() {
         return Err("it is a pipe or a device, no file that can be written back".to_owned());
     }
-    let permissions = metadata.permissions();
-    if permissions.readonly() {
+    if metadata.permissions().readonly() {
         return Err("the file is write-protected and left alone".to_owned());
     }
-    let beside = Beside::create(&path, after, permissions)
+    let beside = Beside::create(&path, after, &metadata)
         .map_err(|error| format!("no file can be written beside it: {error}"))?;
     let now = fs::read(&path).map_err(|error| error.to_string())?;
     if now != before {
@@ -37,7 +36,7 @@ struct Beside {
 }
 
 impl Beside {
-    fn create(path: &Path, text: &[u8], permissions: fs::Permissions) -> io::Result<Self> {
+    fn create(path: &Path, text: &[u8], like: &fs::Metadata) -> io::Result<Self> {
         let mut name = OsString::from(".");
         name.push(path.file_name().unwrap_or_default());
         name.push(format!(".diverplume-{}", process::id()));
@@ -45,7 +44,8 @@ impl Beside {
         let mut file = fs::OpenOptions::new().write(true).create_new(true).open(&path)?;
         let beside = Self { path: Some(path) };
         file.write_all(text)?;
-        file.set_permissions(permissions)?;
+        keep_owner(&file, like);
+        file.set_permissions(like.permissions())?;
         file.sync_all()?;
         Ok(beside)
     }
@@ -58,6 +58,17 @@ impl Beside {
         Ok(())
     }
 }
+
+/// Gives a file the owner and the group of another, as far as the system lets the user.
+#[cfg(unix)]
+fn keep_owner(file: &fs::File, like: &fs::Metadata) {
+    use std::os::unix::fs::{fchown, MetadataExt as _};
+    let _ = fchown(file, None, Some(like.gid()));
+    let _ = fchown(file, Some(like.uid()), None);
+}
+
+#[cfg(not(unix))]
+fn keep_owner(_: &fs::File, _: &fs::Metadata) {}
 
 impl Drop for Beside {
     fn drop(&mut self) {
@@ -116,6 +127,22 @@ mod tests {
             fs::set_permissions(&path, permissions).unwrap();
             assert!(write(&path, b"before", b"after").unwrap_err().contains("write-protected"));
             assert_eq!(fs::read(&path).unwrap(), b"before");
+        });
+    }
+
+    #[cfg(unix)]
+    #[test]
+    fn the_owner_stays() {
+        use std::os::unix::fs::{chown, MetadataExt as _};
+        in_folder("owner", |folder| {
+            let path = folder.join("a.sml");
+            fs::write(&path, "before").unwrap();
+            // Only the superuser may give a file away.
+            if chown(&path, Some(1), Some(2)).is_ok() {
+                assert_eq!(write(&path, b"before", b"after"), Ok(()));
+                let metadata = fs::metadata(&path).unwrap();
+                assert_eq!((metadata.uid(), metadata.gid()), (1, 2));
+            }
         });
     }
 
