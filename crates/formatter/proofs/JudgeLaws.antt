@@ -1,12 +1,13 @@
 -- From what the walk's code leaves to the verdicts of `check` and `get`. Assumes nothing.
 use Prim.Native.Nat.{ℕ, _+_, _*_, _≤_, _<_}
-use native.Mathlib.Nat.{mul-comm, mul-le-mul}
+use native.Mathlib.Nat.{mul-comm, mul-le-mul, zero-add}
 use native.Mathlib.Omega.{arith}
 use mathlib.Core.Path.{_≡_, refl, sym, ap, ap₂, _∙_, subst}
 use mathlib.Core.Bool.{Bool, true, false}
 use mathlib.Core.List.{List, _++_}
 use mathlib.Core.Option.{none}
 use lib.ListN.{length, getD, take, drop, length-take}
+use lib.Seq.{paste, take-append-seam, take-length}
 use lib.Dec.{eqb}
 use borrow.Author.Tests.{eq-eqb, eqb-true}
 use Rattle.text.proofs.Laws.{never}
@@ -32,8 +33,11 @@ use Rattle.measures.proofs.Measures.{small-done, sheet-lengths}
 use Rattle.formatter.specs.declared.Measures.{Measures}
 use Rattle.formatter.specs.declared.Answer.{Answer}
 use Rattle.formatter.specs.declared.Answer.the-variants as Case
+use Rattle.formatter.specs.declared.Judged as Code
+use Rattle.formatter.specs.declared.Judged.the-variants as Judged
 use Rattle.formatter.specs.Verdict.{Result, judge, check, get, declined, accepted, comments, walked, measuresOf, noMeasures, emptySet, verdict, verdictOf, numberOf, placeOf, givenMeasures, format, maxWidth}
-use Rattle.formatter.specs.Judging.{Weight, Accepts, Puts}
+use Rattle.formatter.specs.Judging.{Limits, Weight, Drafts, Accepts, Weighs, Within, Judges, Puts}
+use Rattle.formatter.proofs.EventLaws.{length-formatted}
 use Rattle.formatter.proofs.RunLaws.{out-is, left-comments, empty-left, first-left, comments-some, comments-none}
 use Rattle.formatter.proofs.VerdictLaws.{format-wide, format-short, format-fits, check-declined, get-declined, check-accepted, get-accepted}
 use Rattle.formatter.proofs.LookupLaws.{reading-says, reading-counts}
@@ -122,9 +126,10 @@ module _ {p : Page} {tree tab : ℕ} {o m : List ℕ} {r : Walking.Answer} {o′
       stopped-is (walk p tree)
       (sym (run-falls p tab (walk p tree) (runOf (begin tree) o m)) ∙ ap falls (sym whole ∙ ap (λ x. packed x o′ m′) f))
 
-  pub weigh-syntax : {s : St} {place : ℕ} {import : Bool} → r ≡ Stopped s place import → walked p tree ≡ declined (verdictOf Case.Syntax emptySet)
+  pub weigh-syntax : {s : St} {place : ℕ} {import : Bool} → r ≡ Stopped s place import → {j : Code.Judged} {count : ℕ} {draft left : List ℕ}
+      → (j ≡ Judged.Declined Case.Syntax) × (left ≡ emptySet) → Weighs p count tree tab draft left j
   unfolding walked verdictOf numberOf placeOf givenMeasures
-  weigh-syntax f = rw (whole-stops f .2, walked) refl
+  weigh-syntax f h = record { is = rw (h .0, h .1, whole-stops f .2, walked) refl }
 
 -- ---- 6, and what is accepted
 module _ {p : Page} {tree tab : ℕ} {o m : List ℕ} {r : Walking.Answer} {o′ m′ : List ℕ} {s : St} (w : Whole p tree tab o m r o′ m′) (f : r ≡ Done s)
@@ -138,6 +143,17 @@ module _ {p : Page} {tree tab : ℕ} {o m : List ℕ} {r : Walking.Answer} {o′
 
   words-are : m′ ≡ wordsOf (isLeft (p .tokens .kinds) es)
   words-are = whole-left w walk-is ∙ left-comments p tab (p .tokens .kinds) es (runOf (begin tree) o m) all
+
+  -- The text stands in the output, where it fits.
+  drafts : length o′ ≡ length o → Drafts p tree tab o′
+  drafts long =
+      record {
+        is = λ end fs e fits.
+            let small : Small p fs = small-done p tree text-fits rec-fits e in
+            let room : letters p fs + tab * units fs ≤ length o = omega (arith, length-formatted p tab fs) in
+            rw (whole-out w e ∙ out-is p tab fs (runOf (begin tree) o m) refl refl (omega (arith, small .both)) (omega (arith, small .both)) room)
+            (take-append-seam (formatted p tab fs) (drop (length (formatted p tab fs)) o));
+      }
 
   is-small : Small p es
   is-small = small-done p tree text-fits rec-fits walk-is
@@ -166,18 +182,20 @@ module _ {p : Page} {tree tab : ℕ} {o m : List ℕ} {r : Walking.Answer} {o′
   walked-is = rw (walk-is, walked) refl
 
   module _ {b : Bool} (h : b ≡ eqb (count (holds m′) 0 room) 0) where
-    pub weigh-accepts : b ≡ true → Accepts p tree (record { deepest = s .deepest; letters = s .letters; units = s .units }) m′
+    pub weigh-accepts : {count : ℕ} → length o′ ≡ length o → b ≡ true
+        → Weighs p count tree tab o′ m′ (Judged.Accepted count tree (record { deepest = s .deepest; letters = s .letters; units = s .units }))
     unfolding weight
-    weigh-accepts e =
+    weigh-accepts long e =
         let z : count (holds m′) 0 room ≡ 0 = eqb-true (count (holds m′) 0 room) 0 (sym h ∙ e) in
         let gone : first (isLeft (p .tokens .kinds) es) 0 (length (p .tokens .kinds)) ≡ none = empty-left (p .tokens .kinds) es m′ few words-are .0 z in
         let none-left = comments-none p es m′ few words-are (first-left (p .tokens .kinds) es m′ few words-are ∙ gone) in
-        record { weight = weight; accepts = none-left .0; empty = none-left .1 }
+        record { is = (refl, refl, record { weight = weight; accepts = walked-is ∙ none-left .0; drafts = drafts long; empty = none-left .1 }) }
 
     module _ {x : First} (i : firstAt x ≡ first (holds m′) 0 room) where
-      pub weigh-comments : {k place : ℕ} → x ≡ Seen.At k → place ≡ getD (p .tokens .starts) k 0 → walked p tree ≡ declined (verdictOf (Case.Comments place) m′)
+      pub weigh-comments : {k place count : ℕ} {draft : List ℕ} → x ≡ Seen.At k → place ≡ getD (p .tokens .starts) k 0
+          → Weighs p count tree tab draft m′ (Judged.Declined (Case.Comments place))
       unfolding firstAt verdictOf numberOf placeOf givenMeasures
-      weigh-comments {k} j q = rw q (walked-is ∙ comments-some p es m′ few words-are (sym i ∙ ap firstAt j))
+      weigh-comments {k} j q = record { is = rw q (walked-is ∙ comments-some p es m′ few words-are (sym i ∙ ap firstAt j)) }
 
       pub weigh-never : {A : Type 0} → b ≡ false → x ≡ Seen.Nowhere → A
       unfolding firstAt
@@ -235,19 +253,40 @@ module _ {p : Page} {tree : ℕ} (tab : ℕ) {m : Measures} (w : Weight p tree m
     unfolding verdictOf numberOf placeOf givenMeasures
     put-short h = puts (rw (← w .measures) at (sym (format-short tab p (w .events) out (rw (← deepest-is) narrow) (rw (← size-is) h))))
 
-    pub put-fits : {r : Walking.Answer} {spent out′ spent′ : List ℕ} → size ≤ length out → Whole p tree tab out spent r out′ spent′
-        → Puts p tree tab out (Case.Accepted m) out′
-    unfolding verdictOf numberOf placeOf givenMeasures
-    put-fits {spent = spent} {out′ = out′} h x =
-        let fits : letters p (w .events) + tab * units (w .events) ≤ length out = rw (← size-is) h in
-        let text : out′ ≡ formatted p tab (w .events) ++ drop (length (formatted p tab (w .events))) out =
-        whole-out x (w .walks) ∙ out-is p tab (w .events) (runOf (begin tree) out spent) refl refl (omega (arith, w .few)) (omega (arith, w .low)) fits in
-        puts (rw (text, w .measures) (sym (format-fits tab p (w .events) out (rw (← deepest-is) narrow) fits)))
+    module _ (fits : size ≤ length out) where
+      abbrev text : List ℕ
+      text = formatted p tab (w .events)
+
+      put-text : {out′ : List ℕ} → out′ ≡ text ++ drop (length text) out → Puts p tree tab out (Case.Accepted m) out′
+      unfolding verdictOf numberOf placeOf givenMeasures
+      put-text e = puts (rw (e, w .measures) (sym (format-fits tab p (w .events) out (rw (← deepest-is) narrow) (rw (← size-is) fits))))
+
+      -- From the draft.
+      pub put-copied : {draft out′ : List ℕ} → Drafts p tree tab draft → size ≤ length draft → out′ ≡ paste out 0 (take size draft) (length (take size draft))
+          → Puts p tree tab out (Case.Accepted m) out′
+      put-copied {draft} d h e =
+          let long : size ≡ length text = size-is ∙ sym (length-formatted p tab (w .events)) in
+          let piece : take size draft ≡ text = rw long (d .is (w .end) (w .events) (w .walks) (omega arith)) in
+          put-text
+          (e ∙ ap (λ l. paste out 0 l (length l)) piece ∙ ap₂ (λ x n. x ++ drop n out) (take-length text) (zero-add (length text)))
+
+      -- By a second walk.
+      pub put-walked : {r : Walking.Answer} {spent out′ spent′ : List ℕ} → Whole p tree tab out spent r out′ spent′ → Puts p tree tab out (Case.Accepted m) out′
+      put-walked {spent = spent} x =
+          put-text
+          (whole-out x (w .walks)
+          ∙ out-is p tab (w .events) (runOf (begin tree) out spent) refl refl (omega (arith, w .few)) (omega (arith, w .low)) (rw (← size-is) fits))
 
 -- ---- the calls
 -- The first entries of a table.
 pub taken : (n : ℕ) (l : List ℕ) → n ≤ length l → n ≡ length (take n l)
 taken n l h = omega (arith, length-take n l)
+
+pub taken-fits : {n k : ℕ} (l : List ℕ) → n ≤ length l → n ≤ k → 0 + length (take n l) ≤ k
+taken-fits {n} l h k = omega (arith, length-take n l)
+
+pub kinds-few : {text rec kinds starts lens : List ℕ} {count : ℕ} → Limits text rec kinds starts lens count → length (take count kinds) ≤ room
+kinds-few {kinds = kinds} {count = count} f = omega (arith, length-take count kinds, f .few)
 
 module _ {text rec kinds starts lens : List ℕ} {r : Reading} (s : Reads text rec kinds starts lens r) where
   -- 1 to 4.
@@ -256,14 +295,9 @@ module _ {text rec kinds starts lens : List ℕ} {r : Reading} (s : Reads text r
     unfolding judge
     judge-refused = rw (e, judge) refl
 
-    pub check-refused : {a b : Answer} {left : List ℕ} → (b ≡ a) × (left ≡ emptySet) → verdictOf a emptySet ≡ verdict number place noMeasures
-        → verdictOf b left ≡ check text rec
-    check-refused {a} {b} {left} h q = ap₂ verdictOf (h .0) (h .1) ∙ q ∙ sym (check-declined text rec judge-refused)
-
-    pub get-refused : {a b : Answer} {left : List ℕ} (tab : ℕ) (out : List ℕ) → (b ≡ a) × (left ≡ emptySet) → verdictOf a emptySet ≡ verdict number place noMeasures
-        → _≡_ {A = Result} (record { verdict = verdictOf b left; out = out }) (get text rec tab out)
-    get-refused {a} {b} {left} tab out h q =
-        ap (λ v. record { verdict = v; out = out }) (ap₂ verdictOf (h .0) (h .1) ∙ q) ∙ sym (get-declined text rec judge-refused tab out)
+    pub judges-refused : {tab : ℕ} {draft left : List ℕ} {j : Code.Judged} {a : Answer} → (j ≡ Judged.Declined a) × (left ≡ emptySet)
+        → verdictOf a emptySet ≡ verdict number place noMeasures → Judges text rec tab kinds starts lens draft left j
+    judges-refused h q = record { is = rw (h .0, h .1) (judge-refused ∙ ap declined (sym q)) }
 
   module _ {count tree : ℕ} (e : r ≡ Says.Sheet count tree) where
     abbrev sheetPage : Page
@@ -272,42 +306,63 @@ module _ {text rec kinds starts lens : List ℕ} {r : Reading} (s : Reads text r
     reads-sheet : read text rec ≡ sheet (tokensIn count kinds starts lens) tree
     reads-sheet = reading-says s e
 
-    pub sheet-fits : (length text ≤ 32768) × (length rec ≤ 65536) × (length (take count kinds) ≤ 4096)
+    pub sheet-fits : Limits text rec kinds starts lens count
     sheet-fits =
         let h = sheet-lengths text rec (tokensIn count kinds starts lens) tree reads-sheet in
         let c = reading-counts s e in
-        (h .0, h .1, omega (arith, c .0, c .1))
-
-    pub sheet-within : count ≤ length kinds
-    sheet-within = omega (arith, reading-counts s e .0, length-take count kinds)
-
-    pub tables : (count ≤ length starts) × (count ≤ length lens)
-    tables = tables-within text rec kinds starts lens reads-sheet (reading-counts s e .0)
+        let t = tables-within text rec kinds starts lens reads-sheet (c .0) in
+        record { text-fits = h .0; rec-fits = h .1; few = c .1; within = (omega (arith, c .0, length-take count kinds), t .0, t .1) }
 
     judge-walked : judge text rec ≡ walked sheetPage tree
     unfolding judge
     judge-walked = rw (reads-sheet, judge) refl
 
-    module _ (a : Answer) (left : List ℕ) (d : walked sheetPage tree ≡ declined (verdictOf a left)) where
-      pub check-walked : verdictOf a left ≡ check text rec
-      check-walked = sym (check-declined text rec (judge-walked ∙ d))
+    pub judges-sheet : {tab : ℕ} {draft left : List ℕ} {j : Code.Judged} → Weighs sheetPage count tree tab draft left j → Judges text rec tab kinds starts lens draft left j
+    judges-sheet {j = Judged.Accepted n at m} w =
+        let d = w .is .2 in
+        record {
+          is = rw (w .is .0, w .is .1)
+              (sheet-fits .within, record { weight = d .weight; accepts = judge-walked ∙ d .accepts; drafts = d .drafts; empty = d .empty });
+        }
+    judges-sheet {j = Judged.Declined a} w = record { is = judge-walked ∙ w .is }
 
-      pub get-walked : (tab : ℕ) (out : List ℕ) → _≡_ {A = Result} (record { verdict = verdictOf a left; out = out }) (get text rec tab out)
-      get-walked tab out = sym (get-declined text rec (judge-walked ∙ d) tab out)
+-- The public calls by what is judged.
+module _ {text rec : List ℕ} {tab : ℕ} {kinds starts lens draft left : List ℕ} {j : Code.Judged} (s : Judges text rec tab kinds starts lens draft left j) where
+  module _ {a : Answer} (e : j ≡ Judged.Declined a) where
+    judge-declined : judge text rec ≡ declined (verdictOf a left)
+    judge-declined = rw e at (s .is)
 
-    module _ {m : Measures} {left : List ℕ} (d : Accepts sheetPage tree m left) where
-      judge-accepts : judge text rec ≡ accepted sheetPage (d .weight .events)
-      unfolding walked
-      judge-accepts = judge-walked ∙ rw (d .weight .walks, walked) (d .accepts)
+    pub check-refuses : verdictOf a left ≡ check text rec
+    check-refuses = sym (check-declined text rec judge-declined)
 
-      pub check-accepts : verdictOf (Case.Accepted m) left ≡ check text rec
-      unfolding verdictOf numberOf placeOf givenMeasures
-      check-accepts =
-          ap₂ (λ x y. record { number = 0; place = 0; measures = x; left = y }) (d .weight .measures) (d .empty) ∙ sym (check-accepted text rec judge-accepts)
+    pub get-refuses : (out : List ℕ) → _≡_ {A = Result} (record { verdict = verdictOf a left; out = out }) (get text rec tab out)
+    get-refuses out = sym (get-declined text rec judge-declined tab out)
 
-      pub get-puts : {tab : ℕ} {out out′ : List ℕ} {a : Answer} → Puts sheetPage tree tab out a out′
-          → _≡_ {A = Result} (record { verdict = verdictOf a left; out = out′ }) (get text rec tab out)
-      get-puts {tab} {out} {out′} {a} q =
-          ap (λ x. record { verdict = verdictOf a x; out = out′ }) (d .empty)
-          ∙ q .is (d .weight .end) (d .weight .events) (d .weight .walks)
-          ∙ sym (get-accepted text rec judge-accepts tab out)
+  module _ {count tree : ℕ} {m : Measures} (e : j ≡ Judged.Accepted count tree m) where
+    abbrev sheetOf : Page
+    sheetOf = page text rec (take count kinds) (take count starts) (take count lens)
+
+    pub within : Within count kinds starts lens
+    within = (rw e at (s .is)) .0
+
+    accepts : Accepts (judge text rec) sheetOf tree tab m draft left
+    accepts = (rw e at (s .is)) .1
+
+    pub weight-is : Weight sheetOf tree m
+    weight-is = accepts .weight
+
+    pub draft-is : Drafts sheetOf tree tab draft
+    draft-is = accepts .drafts
+
+    pub check-accepts : verdictOf (Case.Accepted m) left ≡ check text rec
+    unfolding verdictOf numberOf placeOf givenMeasures
+    check-accepts =
+        ap₂ (λ x y. record { number = 0; place = 0; measures = x; left = y }) (accepts .weight .measures) (accepts .empty)
+        ∙ sym (check-accepted text rec (accepts .accepts))
+
+    pub get-puts : {out out′ : List ℕ} {a : Answer} → Puts sheetOf tree tab out a out′
+        → _≡_ {A = Result} (record { verdict = verdictOf a left; out = out′ }) (get text rec tab out)
+    get-puts {out} {out′} {a} q =
+        ap (λ x. record { verdict = verdictOf a x; out = out′ }) (accepts .empty)
+        ∙ q .is (accepts .weight .end) (accepts .weight .events) (accepts .weight .walks)
+        ∙ sym (get-accepted text rec (accepts .accepts) tab out)

@@ -2,14 +2,18 @@
 use Prim.Native.Nat.{ℕ, _≤_}
 use mathlib.Core.Path.{_≡_}
 use mathlib.Core.List.{List}
+use lib.ListN.{length, take}
+use Rattle.reader.specs.Tokens.{maxTokens}
+use Rattle.reader.specs.Reading.{maxText, maxRecord}
 use Rattle.layout.specs.Meaning.{Page, Event, done}
 use Rattle.layout.specs.Walk.{walk}
-use Rattle.layout.specs.Events.{deepest, letters, units}
+use Rattle.layout.specs.Events.{deepest, letters, units, formatted}
+use Rattle.layout.specs.State.{page}
 use Rattle.formatter.specs.declared.Measures.{Measures}
 use Rattle.formatter.specs.declared.Answer.{Answer}
 use Rattle.formatter.specs.declared.Judged as Code
 use Rattle.formatter.specs.declared.Judged.the-variants as Case
-use Rattle.formatter.specs.Verdict.{Result, declined, accepted, comments, walked, measuresOf, emptySet, verdictOf, format}
+use Rattle.formatter.specs.Verdict.{Result, Judged, declined, accepted, walked, judge, measuresOf, emptySet, verdictOf, format}
 
 -- The walk over a sheet ends, with these measures, none of which is large.
 pub record Weight (p : Page) (tree : ℕ) (m : Measures) : Type 0 where
@@ -21,16 +25,46 @@ pub record Weight (p : Page) (tree : ℕ) (m : Measures) : Type 0 where
   pub few : letters p events ≤ 0x4000_0000
   pub low : units events ≤ 0x4000_0000
 
--- No comment is left.
-pub record Accepts (p : Page) (tree : ℕ) (m : Measures) (left : List ℕ) : Type 0 where
+-- What the walk leaves in a draft: the formatted text stands in its first bytes, where it fits.
+pub record Drafts (p : Page) (tree tab : ℕ) (draft : List ℕ) : Type 0 where
+  pub is : (end : ℕ) (es : List Event) → walk p tree ≡ done end es → length (formatted p tab es) ≤ length draft
+      → take (length (formatted p tab es)) draft ≡ formatted p tab es
+
+-- The judgement accepts the sheet: its measures, the draft, and no comment left.
+pub record Accepts (j : Judged) (p : Page) (tree tab : ℕ) (m : Measures) (draft left : List ℕ) : Type 0 where
   pub weight : Weight p tree m
-  pub accepts : comments p (weight .events) ≡ accepted p (weight .events)
+  pub accepts : j ≡ accepted p (weight .events)
+  pub drafts : Drafts p tree tab draft
   pub empty : left ≡ emptySet
 
--- 5, then 6.
-abbrev pub Weighs : Page → ℕ → List ℕ → Code.Judged → Type 0
-Weighs p tree left (Case.Accepted m) = Accepts p tree m left
-Weighs p tree left (Case.Declined a) = walked p tree ≡ declined (verdictOf a left)
+-- Each table has this many entries.
+abbrev pub Within : ℕ → List ℕ → List ℕ → List ℕ → Type 0
+Within count kinds starts lens = (count ≤ length kinds) × (count ≤ length starts) × (count ≤ length lens)
+
+-- 01's limits, with the tokens in the tables.
+pub record Limits (text rec kinds starts lens : List ℕ) (count : ℕ) : Type 0 where
+  pub text-fits : length text ≤ maxText
+  pub rec-fits : length rec ≤ maxRecord
+  pub few : count ≤ maxTokens
+  pub within : Within count kinds starts lens
+
+-- What an answer says of a page: 5, then 6.
+abbrev weighed : Page → ℕ → ℕ → ℕ → List ℕ → List ℕ → Code.Judged → Type 0
+weighed p count tree tab draft left (Case.Accepted n at m) = (n ≡ count) × (at ≡ tree) × Accepts (walked p tree) p tree tab m draft left
+weighed p count tree tab draft left (Case.Declined a) = walked p tree ≡ declined (verdictOf a left)
+
+pub record Weighs (p : Page) (count tree tab : ℕ) (draft left : List ℕ) (r : Code.Judged) : Type 0 where
+  pub is : weighed p count tree tab draft left r
+
+-- What an answer says of a text and a record with the tables: 1 to 6.
+abbrev judged : List ℕ → List ℕ → ℕ → List ℕ → List ℕ → List ℕ → List ℕ → List ℕ → Code.Judged → Type 0
+judged text rec tab kinds starts lens draft left (Case.Accepted count tree m) =
+    Within count kinds starts lens
+    × Accepts (judge text rec) (page text rec (take count kinds) (take count starts) (take count lens)) tree tab m draft left
+judged text rec tab kinds starts lens draft left (Case.Declined a) = judge text rec ≡ declined (verdictOf a left)
+
+pub record Judges (text rec : List ℕ) (tab : ℕ) (kinds starts lens draft left : List ℕ) (r : Code.Judged) : Type 0 where
+  pub is : judged text rec tab kinds starts lens draft left r
 
 -- 7, then 8, or the text, of the walk over the sheet.
 pub record Puts (p : Page) (tree tab : ℕ) (out : List ℕ) (a : Answer) (out′ : List ℕ) : Type 0 where

@@ -5,13 +5,14 @@ use comments::Passed;
 use comments::Set;
 use layout::entry;
 use reader::Reading;
+use text::copy;
 ghost use mathlib.Core.Path.{_≡_};
 ghost use Prim.Native.Nat.{_*_, _≤_};
-ghost use lib.ListN.{length};
+ghost use lib.ListN.{length, take};
 ghost use Rattle.layout.specs.State.{page};
 ghost use Rattle.formatter.specs.Lookup.{Asks, lookedOf, lookup};
 ghost use Rattle.formatter.specs.Verdict.{emptySet, verdictOf, check as check·, get as get·};
-ghost use Rattle.formatter.specs.Judging.{Weighs, Weight, Puts};
+ghost use Rattle.formatter.specs.Judging.{Limits, Weighs, Weight, Drafts, Judges, Puts};
 
 // Deepest, letters and units of a walk (document 01, module 5).
 pub struct Measures {
@@ -67,55 +68,70 @@ pub enum Asked {
     Declined(Lookup),
 }
 
-// What the walk over a sheet decides.
+// What the sheet alone decides.
 pub enum Judged {
-    Accepted(Measures),
+    // The number of tokens, which stand in the tables, the offset in the record of the list of declarations, and what the walk measured.
+    Accepted {
+        count: usize,
+        tree: usize,
+        measures: Measures,
+    },
     Declined(Answer),
 }
 
 // ---- check and get
 const MAX_WIDTH: u64 = 0xFFFF_FFFF;
 
-// 5, then 6, of a sheet that passes 1 to 4: the walk over an empty output. The words become those of the comments left.
+// A text of this length is written in one walk.
+const DRAFT: usize = 65536;
+
+// A refusal of 1 to 5, whose set is empty.
+fn refused(left: &mut [u64; 64], answer: Answer) -> Judged
+    ensures { λ r. ⌜ (r ≡ Judged.Declined answer) × (now (left .exit) ≡ emptySet) ⌝ }
+{
+    *left = [0u64; 64];
+    Judged::Declined(answer)
+}
+
+// 5, then 6, of a sheet that passes 1 to 4: the walk at a tab size over a draft of the output. The words become those of the comments left.
 fn weigh(
     text: &[u8],
     rec: &[u8],
     kinds: &[u8],
     starts: &[u16],
     lens: &[u16],
+    draft: &mut [u8],
     left: &mut [u64; 64],
+    count: usize,
     tree: usize,
+    tab: u32,
 ) -> Judged
-    requires { ⌜ (length (now text) ≤ 32768) × (length (now rec) ≤ 65536) × (length (now kinds) ≤ 4096) ⌝ }
-    ensures { λ r. ⌜ Weighs (page (now (text .entry)) (now (rec .entry)) (now (kinds .entry)) (now (starts .entry)) (now (lens .entry))) tree (now (left .exit)) r ⌝ }
+    requires { ⌜ Limits (now text) (now rec) (now kinds) (now starts) (now lens) count ⌝ }
+    ensures { λ r. ⌜ Weighs (page (now (text .entry)) (now (rec .entry)) (take count (now (kinds .entry))) (take count (now (starts .entry))) (take count (now (lens .entry)))) count tree tab (now (draft .exit)) (now (left .exit)) r ⌝ }
 {
+    let kinds = &kinds[..count];
+    let starts = &starts[..count];
+    let lens = &lens[..count];
     let all = Set::all(kinds);
     let words = all.words;
     *left = words;
-    let mut none = [0u8; 1];
-    let walked = walk::walk(
-        text,
-        rec,
-        kinds,
-        starts,
-        lens,
-        &mut none[..0],
-        left,
-        tree,
-        0,
-    );
+    let walked = walk::walk(text, rec, kinds, starts, lens, draft, left, tree, tab);
     let layout::Answer::Done(s) = walked else {
-        *left = [0u64; 64];
-        return Judged::Declined(Answer::Syntax);
+        return refused(left, Answer::Syntax);
     };
     let unwritten = *left;
     let set = Set { words: unwritten };
     if set.is_empty() {
-        return Judged::Accepted(Measures {
+        let measures = Measures {
             deepest: s.deepest,
             letters: s.letters,
             units: s.units,
-        });
+        };
+        return Judged::Accepted {
+            count,
+            tree,
+            measures,
+        };
     }
     let First::At(k) = set.first() else {
         return Judged::Declined(Answer::Comments(0));
@@ -123,12 +139,38 @@ fn weigh(
     Judged::Declined(Answer::Comments(entry(starts, k)))
 }
 
-// A refusal of 1 to 4, whose set is empty.
-fn refused(left: &mut [u64; 64], answer: Answer) -> Answer
-    ensures { λ r. ⌜ (r ≡ answer) × (now (left .exit) ≡ emptySet) ⌝ }
+// 1 to 6. The words become those of the comments left, which are none but for 6.
+fn judge(
+    text: &[u8],
+    rec: &[u8],
+    kinds: &mut [u8; 4096],
+    starts: &mut [u16; 4096],
+    lens: &mut [u16; 4096],
+    draft: &mut [u8],
+    left: &mut [u64; 64],
+    tab: u32,
+) -> Judged
+    ensures { λ r. ⌜ Judges (now (text .entry)) (now (rec .entry)) tab (now (kinds .exit)) (now (starts .exit)) (now (lens .exit)) (now (draft .exit)) (now (left .exit)) r ⌝ }
 {
-    *left = [0u64; 64];
-    answer
+    let reading = reader::check(text, rec, kinds, starts, lens);
+    match reading {
+        Reading::Sheet { count, tree } => weigh(
+            text,
+            rec,
+            kinds,
+            starts,
+            lens,
+            draft,
+            left,
+            count,
+            tree,
+            tab,
+        ),
+        Reading::TooLong => refused(left, Answer::TooLong),
+        Reading::NotAscii(place) => refused(left, Answer::NotAscii(place)),
+        Reading::Malformed(place) => refused(left, Answer::Malformed(place)),
+        Reading::TooDeep(place) => refused(left, Answer::TooDeep(place)),
+    }
 }
 
 // Whether the sheet can be formatted. The words become those of the comments left, which are none but for 6.
@@ -138,27 +180,24 @@ pub fn check(text: &[u8], rec: &[u8], left: &mut [u64; 64]) -> Answer
     let mut kinds = [0u8; 4096];
     let mut starts = [0u16; 4096];
     let mut lens = [0u16; 4096];
-    let reading = reader::check(text, rec, &mut kinds, &mut starts, &mut lens);
-    match reading {
-        Reading::Sheet { count, tree } => {
-            let judged = weigh(
-                text,
-                rec,
-                &kinds[..count],
-                &starts[..count],
-                &lens[..count],
-                left,
-                tree,
-            );
-            match judged {
-                Judged::Accepted(measures) => Answer::Accepted(measures),
-                Judged::Declined(answer) => answer,
-            }
-        }
-        Reading::TooLong => refused(left, Answer::TooLong),
-        Reading::NotAscii(place) => refused(left, Answer::NotAscii(place)),
-        Reading::Malformed(place) => refused(left, Answer::Malformed(place)),
-        Reading::TooDeep(place) => refused(left, Answer::TooDeep(place)),
+    let mut none = [0u8; 1];
+    let judged = judge(
+        text,
+        rec,
+        &mut kinds,
+        &mut starts,
+        &mut lens,
+        &mut none[..0],
+        left,
+        0,
+    );
+    match judged {
+        Judged::Accepted {
+            count: _,
+            tree: _,
+            measures,
+        } => Answer::Accepted(measures),
+        Judged::Declined(answer) => answer,
     }
 }
 
@@ -170,19 +209,20 @@ fn scaled(n: u64, tab: u32) -> u64
     n * (tab as u64)
 }
 
-// 7, then 8; or the formatted text in the output's first bytes.
+// 7, then 8; or the formatted text in the output's first bytes, from the draft where it is whole there, else by a second walk.
 fn put(
     text: &[u8],
     rec: &[u8],
     kinds: &[u8],
     starts: &[u16],
     lens: &[u16],
+    draft: &[u8],
     out: &mut [u8],
     tree: usize,
     tab: u32,
     measures: Measures,
 ) -> Answer
-    requires { ⌜ Weight (page (now text) (now rec) (now kinds) (now starts) (now lens)) tree measures ⌝ }
+    requires { ⌜ Weight (page (now text) (now rec) (now kinds) (now starts) (now lens)) tree measures × Drafts (page (now text) (now rec) (now kinds) (now starts) (now lens)) tree tab (now draft) ⌝ }
     ensures { λ r. ⌜ Puts (page (now (text .entry)) (now (rec .entry)) (now (kinds .entry)) (now (starts .entry)) (now (lens .entry))) tree tab (now (out .entry)) r (now (out .exit)) ⌝ }
 {
     let deepest = measures.deepest;
@@ -197,6 +237,10 @@ fn put(
     if (out.len() as u64) < size {
         return Answer::NoRoom(measures);
     }
+    if size <= draft.len() as u64 {
+        copy(out, 0, &draft[..size as usize]);
+        return Answer::Accepted(measures);
+    }
     let mut spent = [0u64; 64];
     let _walked = walk::walk(text, rec, kinds, starts, lens, out, &mut spent, tree, tab);
     Answer::Accepted(measures)
@@ -209,37 +253,35 @@ pub fn get(text: &[u8], rec: &[u8], tab: u32, out: &mut [u8], left: &mut [u64; 6
     let mut kinds = [0u8; 4096];
     let mut starts = [0u16; 4096];
     let mut lens = [0u16; 4096];
-    let reading = reader::check(text, rec, &mut kinds, &mut starts, &mut lens);
-    match reading {
-        Reading::Sheet { count, tree } => {
-            let judged = weigh(
-                text,
-                rec,
-                &kinds[..count],
-                &starts[..count],
-                &lens[..count],
-                left,
-                tree,
-            );
-            match judged {
-                Judged::Accepted(measures) => put(
-                    text,
-                    rec,
-                    &kinds[..count],
-                    &starts[..count],
-                    &lens[..count],
-                    out,
-                    tree,
-                    tab,
-                    measures,
-                ),
-                Judged::Declined(answer) => answer,
-            }
-        }
-        Reading::TooLong => refused(left, Answer::TooLong),
-        Reading::NotAscii(place) => refused(left, Answer::NotAscii(place)),
-        Reading::Malformed(place) => refused(left, Answer::Malformed(place)),
-        Reading::TooDeep(place) => refused(left, Answer::TooDeep(place)),
+    let mut draft = [0u8; DRAFT];
+    let judged = judge(
+        text,
+        rec,
+        &mut kinds,
+        &mut starts,
+        &mut lens,
+        &mut draft,
+        left,
+        tab,
+    );
+    match judged {
+        Judged::Accepted {
+            count,
+            tree,
+            measures,
+        } => put(
+            text,
+            rec,
+            &kinds[..count],
+            &starts[..count],
+            &lens[..count],
+            &draft,
+            out,
+            tree,
+            tab,
+            measures,
+        ),
+        Judged::Declined(answer) => answer,
     }
 }
 
