@@ -9,13 +9,17 @@ use mathlib.Core.Option.{none}
 use lib.ListN.{length, getD, take, drop, length-take}
 use lib.Seq.{paste, take-append-seam, take-length}
 use lib.Dec.{eqb}
-use borrow.Author.Tests.{eq-eqb, eqb-true}
+use borrow.Author.Tests.{eq-eqb, ne-eqb, eqb-true, le-leb, lt-leb}
 use Rattle.text.proofs.Laws.{never}
-use Rattle.reader.specs.Check.{maxForms}
-use Rattle.reader.specs.Tokens.{tokensIn}
-use Rattle.reader.specs.Reading.{Reads, refused, sheet, read}
-use Rattle.reader.specs.declared.Reading.{Reading}
-use Rattle.reader.specs.declared.Reading.the-variants as Says
+use Rattle.reader.specs.Check.{maxForms, treeCheck}
+use Rattle.text.specs.declared.Wide.{Wide}
+use Rattle.text.specs.Bytes.{firstWide, wideAt}
+use Rattle.reader.specs.Tokens.{maxTokens, tokens, tokensIn, tilingIn, Tiles}
+use Rattle.reader.specs.Reading.{maxText, maxRecord}
+use Rattle.reader.specs.Tree.{checkedIn, TreeEnd}
+use Rattle.reader.specs.declared.tree.Checked as Tree
+use Rattle.reader.specs.declared.tokens.Tiled as Tokens
+use Rattle.reader.specs.declared.tokens.Tiled.the-variants as Tiled
 use Rattle.comments.specs.declared.First.{First}
 use Rattle.comments.specs.declared.First.the-variants as Seen
 use Rattle.comments.specs.Set.{isComment, holds, wordsOf, room, count, first, firstAt}
@@ -29,19 +33,20 @@ use Rattle.layout.specs.Events.{deepest, letters, units, formatted, isLeft}
 use Rattle.layout.specs.State.{Run, runOf, at, effects, Ran, went, fell, run, runs, packed, Walked, page}
 use Rattle.layout.proofs.Exact.{exact-letters, exact-units, exact-deepest}
 use Rattle.measures.specs.Small.{Small}
-use Rattle.measures.proofs.Measures.{small-done, sheet-lengths}
+use Rattle.measures.proofs.Measures.{small-done}
 use Rattle.formatter.specs.declared.Measures.{Measures}
 use Rattle.formatter.specs.declared.Answer.{Answer}
 use Rattle.formatter.specs.declared.Answer.the-variants as Case
 use Rattle.formatter.specs.declared.Judged as Code
-use Rattle.formatter.specs.declared.Judged.the-variants as Judged
-use Rattle.formatter.specs.Verdict.{Result, judge, check, get, declined, accepted, comments, walked, measuresOf, noMeasures, emptySet, verdict, verdictOf, numberOf, placeOf, givenMeasures, format, maxWidth}
+use Rattle.formatter.specs.declared.Judged.the-variants as Says
+use Rattle.formatter.specs.Verdict.{Result, Judged, judge, check, get, declined, comments, measuresOf, emptySet, verdictOf, numberOf, placeOf, givenMeasures, format, maxWidth}
+use Rattle.formatter.specs.WalkFirst.{byCheck, byWalk, recordFirst, textFirst, judgeWalkFirst}
 use Rattle.formatter.specs.Judging.{Limits, Weight, Drafts, Accepts, Weighs, Within, Judges, Puts}
 use Rattle.formatter.proofs.EventLaws.{length-formatted}
 use Rattle.formatter.proofs.RunLaws.{out-is, left-comments, empty-left, first-left, comments-some, comments-none}
 use Rattle.formatter.proofs.VerdictLaws.{format-wide, format-short, format-fits, check-declined, get-declined, check-accepted, get-accepted}
-use Rattle.formatter.proofs.LookupLaws.{reading-says, reading-counts}
-use Rattle.reader.proofs.TableLaws.{tables-within}
+use Rattle.formatter.proofs.InStep.{walk-first}
+use Rattle.reader.proofs.TableLaws.{tiled-even}
 
 measures-same : {d d′ l l′ u u′ : ℕ} → d ≡ d′ → l ≡ l′ → u ≡ u′
     → _≡_ {A = Measures} (record { deepest = d; letters = l; units = u }) (record { deepest = d′; letters = l′; units = u′ })
@@ -120,21 +125,45 @@ module _ {p : Page} {tree tab : ℕ} {o m : List ℕ} {r : Walking.Answer} {o′
       done-is (walk p tree)
       (sym (run-falls p tab (walk p tree) (runOf (begin tree) o m)) ∙ ap falls (sym whole ∙ ap (λ x. packed x o′ m′) f))
 
-  -- ---- 5
+  -- ---- 3 to 5
+  abbrev checked : Judged
+  checked = byCheck (treeCheck (p .rec) (length (p .tokens .kinds)) tree)
+
+  weigh-checked : byWalk p tree ≡ checked → {a : Answer} {j : Code.Judged} {count : ℕ} {draft left : List ℕ}
+      → declined (verdictOf a emptySet) ≡ checked → (j ≡ Says.Declined a) × (left ≡ emptySet) → Weighs p count tree tab draft left j
+  weigh-checked e q h = record { is = rw (h .0, h .1) (e ∙ sym q) }
+
   whole-stops : {s : St} {place : ℕ} {import : Bool} → r ≡ Stopped s place import → (why : Stop) × (es : List Event) × (walk p tree ≡ stopped why es)
   whole-stops f =
       stopped-is (walk p tree)
       (sym (run-falls p tab (walk p tree) (runOf (begin tree) o m)) ∙ ap falls (sym whole ∙ ap (λ x. packed x o′ m′) f))
 
-  pub weigh-syntax : {s : St} {place : ℕ} {import : Bool} → r ≡ Stopped s place import → {j : Code.Judged} {count : ℕ} {draft left : List ℕ}
-      → (j ≡ Judged.Declined Case.Syntax) × (left ≡ emptySet) → Weighs p count tree tab draft left j
-  unfolding walked verdictOf numberOf placeOf givenMeasures
-  weigh-syntax f h = record { is = rw (h .0, h .1, whole-stops f .2, walked) refl }
+  -- A walk that stopped.
+  pub weigh-stopped : {s : St} {place : ℕ} {import : Bool} → r ≡ Stopped s place import → {a : Answer} {j : Code.Judged} {count : ℕ} {draft left : List ℕ}
+      → declined (verdictOf a emptySet) ≡ checked → (j ≡ Says.Declined a) × (left ≡ emptySet) → Weighs p count tree tab draft left j
+  unfolding byWalk
+  weigh-stopped f = weigh-checked (rw (whole-stops f .2, byWalk) refl)
+
+  module _ {s : St} (f : r ≡ Done s) where
+    ended : walk p tree ≡ done (s .at) (whole-ends f .1)
+    ended =
+        let e = whole-ends f .2 in
+        e ∙ ap (λ n. done n (whole-ends f .1)) (sym (ap (λ x. x .at) (whole-st e f)))
+
+    -- A walk that ended elsewhere than at the record's end.
+    pub weigh-short : (s .at ≡ length (p .rec) → ⊥) → {a : Answer} {j : Code.Judged} {count : ℕ} {draft left : List ℕ}
+        → declined (verdictOf a emptySet) ≡ checked → (j ≡ Says.Declined a) × (left ≡ emptySet) → Weighs p count tree tab draft left j
+    unfolding byWalk
+    weigh-short ne = weigh-checked (rw (ended, byWalk, ne-eqb (s .at) (length (p .rec)) ne) refl)
+
+    whole-is : s .at ≡ length (p .rec) → byWalk p tree ≡ comments p (whole-ends f .1)
+    unfolding byWalk
+    whole-is e = rw (ended, byWalk, eq-eqb (s .at) (length (p .rec)) e) refl
 
 -- ---- 6, and what is accepted
 module _ {p : Page} {tree tab : ℕ} {o m : List ℕ} {r : Walking.Answer} {o′ m′ : List ℕ} {s : St} (w : Whole p tree tab o m r o′ m′) (f : r ≡ Done s)
     (text-fits : length (p .text) ≤ 32768) (rec-fits : length (p .rec) ≤ 65536) (few : length (p .tokens .kinds) ≤ room)
-    (all : m ≡ wordsOf (isComment (p .tokens .kinds))) where
+    (all : m ≡ wordsOf (isComment (p .tokens .kinds))) (whole-read : s .at ≡ length (p .rec)) where
   abbrev es : List Event
   es = whole-ends w f .1
 
@@ -177,13 +206,12 @@ module _ {p : Page} {tree tab : ℕ} {o m : List ℕ} {r : Walking.Answer} {o′
         low = omega (arith, small .both);
       }
 
-  walked-is : walked p tree ≡ comments p es
-  unfolding walked
-  walked-is = rw (walk-is, walked) refl
+  walked-is : byWalk p tree ≡ comments p es
+  walked-is = whole-is w f whole-read
 
   module _ {b : Bool} (h : b ≡ eqb (count (holds m′) 0 room) 0) where
     pub weigh-accepts : {count : ℕ} → length o′ ≡ length o → b ≡ true
-        → Weighs p count tree tab o′ m′ (Judged.Accepted count tree (record { deepest = s .deepest; letters = s .letters; units = s .units }))
+        → Weighs p count tree tab o′ m′ (Says.Accepted count tree (record { deepest = s .deepest; letters = s .letters; units = s .units }))
     unfolding weight
     weigh-accepts long e =
         let z : count (holds m′) 0 room ≡ 0 = eqb-true (count (holds m′) 0 room) 0 (sym h ∙ e) in
@@ -193,7 +221,7 @@ module _ {p : Page} {tree tab : ℕ} {o m : List ℕ} {r : Walking.Answer} {o′
 
     module _ {x : First} (i : firstAt x ≡ first (holds m′) 0 room) where
       pub weigh-comments : {k place count : ℕ} {draft : List ℕ} → x ≡ Seen.At k → place ≡ getD (p .tokens .starts) k 0
-          → Weighs p count tree tab draft m′ (Judged.Declined (Case.Comments place))
+          → Weighs p count tree tab draft m′ (Says.Declined (Case.Comments place))
       unfolding firstAt verdictOf numberOf placeOf givenMeasures
       weigh-comments {k} j q = record { is = rw q (walked-is ∙ comments-some p es m′ few words-are (sym i ∙ ap firstAt j)) }
 
@@ -288,47 +316,78 @@ taken-fits {n} l h k = omega (arith, length-take n l)
 pub kinds-few : {text rec kinds starts lens : List ℕ} {count : ℕ} → Limits text rec kinds starts lens count → length (take count kinds) ≤ room
 kinds-few {kinds = kinds} {count = count} f = omega (arith, length-take count kinds, f .few)
 
-module _ {text rec kinds starts lens : List ℕ} {r : Reading} (s : Reads text rec kinds starts lens r) where
-  -- 1 to 4.
-  module _ {number place : ℕ} (e : read text rec ≡ refused number place) where
-    judge-refused : judge text rec ≡ declined (verdict number place noMeasures)
-    unfolding judge
-    judge-refused = rw (e, judge) refl
+-- 1 to 3, with the walk before the record check.
+module _ (text rec : List ℕ) where
+  pub text-long : maxText < length text → judge text rec ≡ declined (verdictOf Case.TooLong emptySet)
+  unfolding judgeWalkFirst verdictOf numberOf placeOf givenMeasures
+  text-long h = walk-first text rec ∙ rw (lt-leb (length text) maxText h, judgeWalkFirst) refl
 
-    pub judges-refused : {tab : ℕ} {draft left : List ℕ} {j : Code.Judged} {a : Answer} → (j ≡ Judged.Declined a) × (left ≡ emptySet)
-        → verdictOf a emptySet ≡ verdict number place noMeasures → Judges text rec tab kinds starts lens draft left j
-    judges-refused h q = record { is = rw (h .0, h .1) (judge-refused ∙ ap declined (sym q)) }
+  module _ (a : length text ≤ maxText) where
+    pub record-long : maxRecord < length rec → judge text rec ≡ declined (verdictOf Case.TooLong emptySet)
+    unfolding judgeWalkFirst verdictOf numberOf placeOf givenMeasures
+    record-long h = walk-first text rec ∙ rw (le-leb (length text) maxText a, lt-leb (length rec) maxRecord h, judgeWalkFirst) refl
 
-  module _ {count tree : ℕ} (e : r ≡ Says.Sheet count tree) where
-    abbrev sheetPage : Page
-    sheetPage = page text rec (take count kinds) (take count starts) (take count lens)
+    module _ (b : length rec ≤ maxRecord) where
+      text-first : judge text rec ≡ textFirst text rec
+      unfolding judgeWalkFirst
+      text-first = walk-first text rec ∙ rw (le-leb (length text) maxText a, le-leb (length rec) maxRecord b, judgeWalkFirst) refl
 
-    reads-sheet : read text rec ≡ sheet (tokensIn count kinds starts lens) tree
-    reads-sheet = reading-says s e
+      module _ {w : Wide} (s : wideAt w ≡ firstWide 0 text) where
+        pub not-ascii : {place : ℕ} → w ≡ Wide.At place → judge text rec ≡ declined (verdictOf (Case.NotAscii place) emptySet)
+        unfolding textFirst wideAt verdictOf numberOf placeOf givenMeasures
+        not-ascii e = text-first ∙ rw (sym s ∙ ap wideAt e, textFirst) refl
 
-    pub sheet-fits : Limits text rec kinds starts lens count
-    sheet-fits =
-        let h = sheet-lengths text rec (tokensIn count kinds starts lens) tree reads-sheet in
-        let c = reading-counts s e in
-        let t = tables-within text rec kinds starts lens reads-sheet (c .0) in
-        record { text-fits = h .0; rec-fits = h .1; few = c .1; within = (omega (arith, c .0, length-take count kinds), t .0, t .1) }
+        module _ (e : w ≡ Wide.Nowhere) {kinds starts lens : List ℕ} {t : Tokens.Tiled} (u : Tiles (length text) rec kinds starts lens t) where
+          record-first : judge text rec ≡ recordFirst text rec
+          unfolding textFirst wideAt
+          record-first = text-first ∙ rw (sym s ∙ ap wideAt e, textFirst) refl
 
-    judge-walked : judge text rec ≡ walked sheetPage tree
-    unfolding judge
-    judge-walked = rw (reads-sheet, judge) refl
+          tiling-is : {x : Tokens.Tiled} → t ≡ x → tokens (length text) rec ≡ tilingIn x kinds starts lens
+          tiling-is f = sym (u .is) ∙ ap (λ x. tilingIn x kinds starts lens) f
 
-    pub judges-sheet : {tab : ℕ} {draft left : List ℕ} {j : Code.Judged} → Weighs sheetPage count tree tab draft left j → Judges text rec tab kinds starts lens draft left j
-    judges-sheet {j = Judged.Accepted n at m} w =
-        let d = w .is .2 in
-        record {
-          is = rw (w .is .0, w .is .1)
-              (sheet-fits .within, record { weight = d .weight; accepts = judge-walked ∙ d .accepts; drafts = d .drafts; empty = d .empty });
-        }
-    judges-sheet {j = Judged.Declined a} w = record { is = judge-walked ∙ w .is }
+          pub not-tiled : {place : ℕ} → t ≡ Tiled.Untiled place → judge text rec ≡ declined (verdictOf (Case.Malformed place) emptySet)
+          unfolding recordFirst verdictOf numberOf placeOf givenMeasures
+          not-tiled f = record-first ∙ rw (tiling-is f, recordFirst) refl
+
+          module _ {count tree : ℕ} (f : t ≡ Tiled.Tiled count tree) where
+            abbrev sheetPage : Page
+            sheetPage = page text rec (take count kinds) (take count starts) (take count lens)
+
+            pub sheet-limits : Limits text rec kinds starts lens count
+            sheet-limits =
+                let c : (length (take count kinds) ≡ count) × (count ≤ maxTokens) = rw f at (u .counts) in
+                let even = tiled-even (length text) rec (tokensIn count kinds starts lens) tree (tiling-is f) in
+                let long : Within count kinds starts lens = (
+                  omega (arith, c .0, length-take count kinds),
+                  omega (arith, c .0, even .0, length-take count starts),
+                  omega (arith, c .0, even .1, length-take count lens),
+                ) in
+                record { text-fits = a; rec-fits = b; few = c .1; within = long }
+
+            judge-is : judge text rec ≡ byWalk sheetPage tree
+            unfolding recordFirst
+            judge-is = record-first ∙ rw (tiling-is f, recordFirst) refl
+
+            pub judges-sheet : {tab : ℕ} {draft left : List ℕ} {j : Code.Judged} → Weighs sheetPage count tree tab draft left j
+                → Judges text rec tab kinds starts lens draft left j
+            judges-sheet {j = Says.Accepted n at m} x =
+                let d = x .is .2 in
+                record {
+                  is = rw (x .is .0, x .is .1)
+                      (sheet-limits .within, record { weight = d .weight; accepts = judge-is ∙ d .accepts; drafts = d .drafts; empty = d .empty });
+                }
+            judges-sheet {j = Says.Declined a} x = record { is = judge-is ∙ x .is }
+
+pub checks : {rec : List ℕ} {count tree : ℕ} {r x : Tree.Checked} → TreeEnd rec count tree r → r ≡ x → byCheck (checkedIn x) ≡ byCheck (treeCheck rec count tree)
+checks u e = ap byCheck (ap checkedIn (sym e) ∙ u .is)
+
+pub judges-declined : {text rec : List ℕ} {tab : ℕ} {kinds starts lens draft left : List ℕ} {j : Code.Judged} {a : Answer}
+    → judge text rec ≡ declined (verdictOf a emptySet) → (j ≡ Says.Declined a) × (left ≡ emptySet) → Judges text rec tab kinds starts lens draft left j
+judges-declined e h = record { is = rw (h .0, h .1) e }
 
 -- The public calls by what is judged.
 module _ {text rec : List ℕ} {tab : ℕ} {kinds starts lens draft left : List ℕ} {j : Code.Judged} (s : Judges text rec tab kinds starts lens draft left j) where
-  module _ {a : Answer} (e : j ≡ Judged.Declined a) where
+  module _ {a : Answer} (e : j ≡ Says.Declined a) where
     judge-declined : judge text rec ≡ declined (verdictOf a left)
     judge-declined = rw e at (s .is)
 
@@ -338,7 +397,7 @@ module _ {text rec : List ℕ} {tab : ℕ} {kinds starts lens draft left : List 
     pub get-refuses : (out : List ℕ) → _≡_ {A = Result} (record { verdict = verdictOf a left; out = out }) (get text rec tab out)
     get-refuses out = sym (get-declined text rec judge-declined tab out)
 
-  module _ {count tree : ℕ} {m : Measures} (e : j ≡ Judged.Accepted count tree m) where
+  module _ {count tree : ℕ} {m : Measures} (e : j ≡ Says.Accepted count tree m) where
     abbrev sheetOf : Page
     sheetOf = page text rec (take count kinds) (take count starts) (take count lens)
 

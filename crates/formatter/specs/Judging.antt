@@ -13,7 +13,8 @@ use Rattle.formatter.specs.declared.Measures.{Measures}
 use Rattle.formatter.specs.declared.Answer.{Answer}
 use Rattle.formatter.specs.declared.Judged as Code
 use Rattle.formatter.specs.declared.Judged.the-variants as Case
-use Rattle.formatter.specs.Verdict.{Result, Judged, declined, accepted, walked, judge, measuresOf, emptySet, verdictOf, format}
+use Rattle.formatter.specs.WalkFirst.{byWalk}
+use Rattle.formatter.specs.Verdict.{Result, Judged, declined, accepted, judge, measuresOf, emptySet, verdictOf, format}
 
 -- The walk over a sheet ends, with these measures, none of which is large.
 pub record Weight (p : Page) (tree : ℕ) (m : Measures) : Type 0 where
@@ -48,10 +49,10 @@ pub record Limits (text rec kinds starts lens : List ℕ) (count : ℕ) : Type 0
   pub few : count ≤ maxTokens
   pub within : Within count kinds starts lens
 
--- What an answer says of a page: 5, then 6.
+-- What an answer says of a page: 3 to 6.
 abbrev weighed : Page → ℕ → ℕ → ℕ → List ℕ → List ℕ → Code.Judged → Type 0
-weighed p count tree tab draft left (Case.Accepted n at m) = (n ≡ count) × (at ≡ tree) × Accepts (walked p tree) p tree tab m draft left
-weighed p count tree tab draft left (Case.Declined a) = walked p tree ≡ declined (verdictOf a left)
+weighed p count tree tab draft left (Case.Accepted n at m) = (n ≡ count) × (at ≡ tree) × Accepts (byWalk p tree) p tree tab m draft left
+weighed p count tree tab draft left (Case.Declined a) = byWalk p tree ≡ declined (verdictOf a left)
 
 pub record Weighs (p : Page) (count tree tab : ℕ) (draft left : List ℕ) (r : Code.Judged) : Type 0 where
   pub is : weighed p count tree tab draft left r

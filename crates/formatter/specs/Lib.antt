@@ -1,5 +1,5 @@
 pub mod Verdict
 pub mod Lookup
-pub mod Judging
 pub mod WalkFirst
+pub mod Judging
 pub mod Demands

@@ -4,14 +4,23 @@ use comments::First;
 use comments::Passed;
 use comments::Set;
 use layout::entry;
+use reader::MAX_TEXT;
 use reader::Reading;
+use reader::tokens::Tiled;
+use reader::tokens::read_tokens;
+use reader::tree::Checked;
+use reader::tree::tree_end;
+use text::Wide;
 use text::copy;
+use text::first_wide;
 ghost use mathlib.Core.Path.{_≡_};
 ghost use Prim.Native.Nat.{_*_, _≤_};
 ghost use lib.ListN.{length, take};
+ghost use Rattle.reader.specs.Check.{treeCheck};
 ghost use Rattle.layout.specs.State.{page};
 ghost use Rattle.formatter.specs.Lookup.{Asks, lookedOf, lookup};
-ghost use Rattle.formatter.specs.Verdict.{emptySet, verdictOf, check as check·, get as get·};
+ghost use Rattle.formatter.specs.Verdict.{declined, emptySet, verdictOf, check as check·, get as get·};
+ghost use Rattle.formatter.specs.WalkFirst.{byCheck};
 ghost use Rattle.formatter.specs.Judging.{Limits, Weighs, Weight, Drafts, Judges, Puts};
 
 // Deepest, letters and units of a walk (document 01, module 5).
@@ -70,7 +79,7 @@ pub enum Asked {
 
 // What the sheet alone decides.
 pub enum Judged {
-    // The number of tokens, which stand in the tables, the offset in the record of the list of declarations, and what the walk measured.
+    // The number of tokens, which stand in the tables, and the offset in the record of the list of declarations.
     Accepted {
         count: usize,
         tree: usize,
@@ -80,6 +89,8 @@ pub enum Judged {
 }
 
 // ---- check and get
+const MAX_RECORD: usize = 65536;
+
 const MAX_WIDTH: u64 = 0xFFFF_FFFF;
 
 // A text of this length is written in one walk.
@@ -93,7 +104,20 @@ fn refused(left: &mut [u64; 64], answer: Answer) -> Judged
     Judged::Declined(answer)
 }
 
-// 5, then 6, of a sheet that passes 1 to 4: the walk at a tab size over a draft of the output. The words become those of the comments left.
+// 3 and 4 of a record whose walk did not end at its end; where the check passes, 5.
+fn by_check(rec: &[u8], count: usize, tree: usize) -> Answer
+    ensures { λ r. ⌜ declined (verdictOf r emptySet) ≡ byCheck (treeCheck (now (rec .entry)) count tree) ⌝ }
+{
+    let found = tree_end(rec, count, tree);
+    match found {
+        Checked::Ok(_) => Answer::Syntax,
+        Checked::Malformed(place) => Answer::Malformed(place),
+        Checked::TooDeep(place) => Answer::TooDeep(place),
+    }
+}
+
+// 3 to 6 of a sheet whose tokens stand in the tables: the walk at a tab size over a draft of the output.
+// The words become those of the comments left.
 fn weigh(
     text: &[u8],
     rec: &[u8],
@@ -117,8 +141,11 @@ fn weigh(
     *left = words;
     let walked = walk::walk(text, rec, kinds, starts, lens, draft, left, tree, tab);
     let layout::Answer::Done(s) = walked else {
-        return refused(left, Answer::Syntax);
+        return refused(left, by_check(rec, kinds.len(), tree));
     };
+    if s.at != rec.len() {
+        return refused(left, by_check(rec, kinds.len(), tree));
+    }
     let unwritten = *left;
     let set = Set { words: unwritten };
     if set.is_empty() {
@@ -139,7 +166,8 @@ fn weigh(
     Judged::Declined(Answer::Comments(entry(starts, k)))
 }
 
-// 1 to 6. The words become those of the comments left, which are none but for 6.
+// 1 to 6. The record check is run only where the walk did not end at the record's end.
+// The words become those of the comments left, which are none but for 6.
 fn judge(
     text: &[u8],
     rec: &[u8],
@@ -152,9 +180,18 @@ fn judge(
 ) -> Judged
     ensures { λ r. ⌜ Judges (now (text .entry)) (now (rec .entry)) tab (now (kinds .exit)) (now (starts .exit)) (now (lens .exit)) (now (draft .exit)) (now (left .exit)) r ⌝ }
 {
-    let reading = reader::check(text, rec, kinds, starts, lens);
-    match reading {
-        Reading::Sheet { count, tree } => weigh(
+    if MAX_TEXT < text.len() {
+        return refused(left, Answer::TooLong);
+    }
+    if MAX_RECORD < rec.len() {
+        return refused(left, Answer::TooLong);
+    }
+    if let Wide::At(place) = first_wide(text) {
+        return refused(left, Answer::NotAscii(place));
+    }
+    let tokens = read_tokens(text.len() as u16, rec, kinds, starts, lens);
+    match tokens {
+        Tiled::Tiled { count, tree } => weigh(
             text,
             rec,
             kinds,
@@ -166,10 +203,7 @@ fn judge(
             tree,
             tab,
         ),
-        Reading::TooLong => refused(left, Answer::TooLong),
-        Reading::NotAscii(place) => refused(left, Answer::NotAscii(place)),
-        Reading::Malformed(place) => refused(left, Answer::Malformed(place)),
-        Reading::TooDeep(place) => refused(left, Answer::TooDeep(place)),
+        Tiled::Untiled(place) => refused(left, Answer::Malformed(place)),
     }
 }
 
@@ -209,7 +243,7 @@ fn scaled(n: u64, tab: u32) -> u64
     n * (tab as u64)
 }
 
-// 7, then 8; or the formatted text in the output's first bytes, from the draft where it is whole there, else by a second walk.
+// 7, then 8; or the formatted text in the output's first bytes: from the draft, or by a second walk where it is longer.
 fn put(
     text: &[u8],
     rec: &[u8],

@@ -1,5 +1,5 @@
--- `formatter::weigh` meets its contract: the walk over a draft.
-use Rattle.formatter.proofs.JudgeLaws.{taken, kinds-few, weigh-syntax, weigh-accepts, weigh-never, weigh-comments}
+-- `formatter::weigh` meets its contract: the walk over a draft; the record check where it did not end at the record's end.
+use Rattle.formatter.proofs.JudgeLaws.{taken, kinds-few, weigh-stopped, weigh-short, weigh-accepts, weigh-never, weigh-comments}
 use borrow.Author.Needs.{needs}
 use Rattle.formatter.proofs.weigh.Statement.{statement}
 use Rattle.formatter.proofs.weigh.Tie as tie
@@ -25,6 +25,9 @@ enum-known-walked c = search needs
 enum-told : tie.Need-enum-told
 enum-told c = search needs
 
+by-check-requires : tie.Need-by-check-requires
+by-check-requires c κs = search needs
+
 refused-requires : tie.Need-refused-requires
 refused-requires c κs = search needs
 
@@ -32,16 +35,28 @@ same-length : tie.Need-same-length
 same-length c = search needs
 
 returns : tie.Need-returns
-returns c = weigh-syntax (c .before .before .before .before .before .before .walk .ensures) (c .before .before .enum-told .given .1) (c .refused .ensures)
+returns c = weigh-stopped (c .before .before .before .before .before .before .before .walk .ensures) (c .before .before .before .enum-told .given .1) (c .before .by-check .ensures) (c .refused .ensures)
 
-is-empty-requires : tie.Need-is-empty-requires
-is-empty-requires c κs = search needs
+by-check-requires-2 : tie.Need-by-check-requires-2
+by-check-requires-2 c κs = search needs
+
+refused-requires-2 : tie.Need-refused-requires-2
+refused-requires-2 c κs = search needs
 
 same-length-2 : tie.Need-same-length-2
 same-length-2 c = search needs
 
 returns-2 : tie.Need-returns-2
-returns-2 c = weigh-accepts (c .before .before .before .before .before .before .before .before .walk .ensures) (c .before .before .before .before .walked .given .1) (c .before .before .before .before .before .before .before .before .before .before .before .before .before .before .before .before .before .before .before .before .before .before .pre .text-fits) (c .before .before .before .before .before .before .before .before .before .before .before .before .before .before .before .before .before .before .before .before .before .before .pre .rec-fits) (kinds-few (c .before .before .before .before .before .before .before .before .before .before .before .before .before .before .before .before .before .before .before .before .before .before .pre)) (c .before .before .before .before .before .before .before .before .before .before .before .before .all .ensures) (c .before .is-empty .ensures) (c .before .before .before .before .before .before .before .before .walk .kept .1 .1 .1 .1 .1 .0) (c .if1 .taken)
+returns-2 c = weigh-short (c .before .before .before .before .before .before .before .before .before .before .walk .ensures) (c .before .before .before .before .before .before .walked .given .1) (c .before .before .before .if1 .taken) (c .before .by-check2 .ensures) (c .refused2 .ensures)
+
+is-empty-requires : tie.Need-is-empty-requires
+is-empty-requires c κs = search needs
+
+same-length-3 : tie.Need-same-length-3
+same-length-3 c = search needs
+
+returns-3 : tie.Need-returns-3
+returns-3 c = weigh-accepts (c .before .before .before .before .before .before .before .before .before .before .walk .ensures) (c .before .before .before .before .before .before .walked .given .1) (c .before .before .before .before .before .before .before .before .before .before .before .before .before .before .before .before .before .before .before .before .before .before .before .before .pre .text-fits) (c .before .before .before .before .before .before .before .before .before .before .before .before .before .before .before .before .before .before .before .before .before .before .before .before .pre .rec-fits) (kinds-few (c .before .before .before .before .before .before .before .before .before .before .before .before .before .before .before .before .before .before .before .before .before .before .before .before .pre)) (c .before .before .before .before .before .before .before .before .before .before .before .before .before .before .all .ensures) (c .before .before .before .if1 .left) (c .before .is-empty .ensures) (c .before .before .before .before .before .before .before .before .before .before .walk .kept .1 .1 .1 .1 .1 .0) (c .if2 .taken)
 
 first-requires : tie.Need-first-requires
 first-requires c κs = search needs
@@ -52,20 +67,20 @@ enum-known-k c = search needs
 enum-told-2 : tie.Need-enum-told-2
 enum-told-2 c = search needs
 
-same-length-3 : tie.Need-same-length-3
-same-length-3 c = search needs
-
-returns-3 : tie.Need-returns-3
-returns-3 c = weigh-never (c .before .before .before .before .before .before .before .before .before .before .before .walk .ensures) (c .before .before .before .before .before .before .before .walked .given .1) (c .before .before .before .before .before .before .before .before .before .before .before .before .before .before .before .before .before .before .before .before .before .before .before .before .before .pre .text-fits) (c .before .before .before .before .before .before .before .before .before .before .before .before .before .before .before .before .before .before .before .before .before .before .before .before .before .pre .rec-fits) (kinds-few (c .before .before .before .before .before .before .before .before .before .before .before .before .before .before .before .before .before .before .before .before .before .before .before .before .before .pre)) (c .before .before .before .before .before .before .before .before .before .before .before .before .before .before .before .all .ensures) (c .before .before .before .before .is-empty .ensures) (c .before .before .first .ensures) (c .before .before .before .if1 .left) (c .enum-told2 .given .1)
-
-entry-requires : tie.Need-entry-requires
-entry-requires c κs = search needs
-
 same-length-4 : tie.Need-same-length-4
 same-length-4 c = search needs
 
 returns-4 : tie.Need-returns-4
-returns-4 c = weigh-comments (c .before .before .before .before .before .before .before .before .before .before .before .before .before .walk .ensures) (c .before .before .before .before .before .before .before .before .before .walked .given .1) (c .before .before .before .before .before .before .before .before .before .before .before .before .before .before .before .before .before .before .before .before .before .before .before .before .before .before .before .pre .text-fits) (c .before .before .before .before .before .before .before .before .before .before .before .before .before .before .before .before .before .before .before .before .before .before .before .before .before .before .before .pre .rec-fits) (kinds-few (c .before .before .before .before .before .before .before .before .before .before .before .before .before .before .before .before .before .before .before .before .before .before .before .before .before .before .before .pre)) (c .before .before .before .before .before .before .before .before .before .before .before .before .before .before .before .before .before .all .ensures) (c .before .before .before .before .before .before .is-empty .ensures) (c .before .before .before .before .first .ensures) (c .before .before .k .given .1) (c .entry .ensures)
+returns-4 c = weigh-never (c .before .before .before .before .before .before .before .before .before .before .before .before .before .walk .ensures) (c .before .before .before .before .before .before .before .before .before .walked .given .1) (c .before .before .before .before .before .before .before .before .before .before .before .before .before .before .before .before .before .before .before .before .before .before .before .before .before .before .before .pre .text-fits) (c .before .before .before .before .before .before .before .before .before .before .before .before .before .before .before .before .before .before .before .before .before .before .before .before .before .before .before .pre .rec-fits) (kinds-few (c .before .before .before .before .before .before .before .before .before .before .before .before .before .before .before .before .before .before .before .before .before .before .before .before .before .before .before .pre)) (c .before .before .before .before .before .before .before .before .before .before .before .before .before .before .before .before .before .all .ensures) (c .before .before .before .before .before .before .if1 .left) (c .before .before .before .before .is-empty .ensures) (c .before .before .first .ensures) (c .before .before .before .if2 .left) (c .enum-told2 .given .1)
+
+entry-requires : tie.Need-entry-requires
+entry-requires c κs = search needs
+
+same-length-5 : tie.Need-same-length-5
+same-length-5 c = search needs
+
+returns-5 : tie.Need-returns-5
+returns-5 c = weigh-comments (c .before .before .before .before .before .before .before .before .before .before .before .before .before .before .before .walk .ensures) (c .before .before .before .before .before .before .before .before .before .before .before .walked .given .1) (c .before .before .before .before .before .before .before .before .before .before .before .before .before .before .before .before .before .before .before .before .before .before .before .before .before .before .before .before .before .pre .text-fits) (c .before .before .before .before .before .before .before .before .before .before .before .before .before .before .before .before .before .before .before .before .before .before .before .before .before .before .before .before .before .pre .rec-fits) (kinds-few (c .before .before .before .before .before .before .before .before .before .before .before .before .before .before .before .before .before .before .before .before .before .before .before .before .before .before .before .before .before .pre)) (c .before .before .before .before .before .before .before .before .before .before .before .before .before .before .before .before .before .before .before .all .ensures) (c .before .before .before .before .before .before .before .before .if1 .left) (c .before .before .before .before .before .before .is-empty .ensures) (c .before .before .before .before .first .ensures) (c .before .before .k .given .1) (c .entry .ensures)
 
 pub weigh-spec : {M : Type 1} → statement M
 weigh-spec =
@@ -78,17 +93,22 @@ weigh-spec =
     walk-requires
     enum-known-walked
     enum-told
+    by-check-requires
     refused-requires
     same-length
     returns
-    is-empty-requires
+    by-check-requires-2
+    refused-requires-2
     same-length-2
     returns-2
+    is-empty-requires
+    same-length-3
+    returns-3
     first-requires
     enum-known-k
     enum-told-2
-    same-length-3
-    returns-3
-    entry-requires
     same-length-4
-    returns-4)
+    returns-4
+    entry-requires
+    same-length-5
+    returns-5)
