@@ -7,7 +7,7 @@ crates/layout/proofs/Steps.antt give for them. This tool reads the proof files t
 answers, crates/CRATE/arms.json; it fills each hole and writes the files.
 
 The answers: "functions" has an entry for each function that is written by this tool,
-  "as": "plain", "walked" or "does", the record of its contract; "certain" is "plain" of a call that cannot stop;
+  "as": "plain", "walked" or "does", the record of its contract; "operated" is that of a call that writes an operator;
   "unfold": the definitions that its layout is read through;
   "loop": the layouts of a loop's turn, ["from", U, W] or ["times", W], with "pair" behind W
     where it is two layouts; or ["own", LAWS] with the invariant and the
@@ -26,12 +26,11 @@ import subprocess
 import sys
 import tempfile
 
-READS = {"token-no": "token", "list": "list", "choice": "choice", "form": "form"}
-SURE = {"word", "between", "indent-at", "indent", "indent-in", "new-line", "new-line-in", "word-when", "app-end"}
+READS = {"list": "list", "choice": "choice", "form": "form", "expression": "look"}
+SURE = {"word", "between", "indent-at", "indent", "indent-in", "new-line", "new-line-in", "word-when", "app-end", "app-space"}
 BOTH = {"line", "line-in", "indent-deeper"}
 LOOKS = {"is-if-exp", "body-exp-needs-newline"}
-TESTS = {"is-pipe"}
-DEEPER = {"indented", "forms", "indent-in", "indent-deeper", "line-in", "new-line-in"}
+DEEPER = {"indented", "deepen", "indent-in", "indent-deeper", "line-in", "new-line-in"}
 STEPS = "Rattle.layout.proofs.Steps"
 
 
@@ -101,9 +100,7 @@ class Function:
             return "sure" if thing in self.answers.get("grouped", []) else "both"
         if name in LOOKS:
             return "look"
-        if name in TESTS:
-            return "test"
-        kinds = {"group": "group", "absent": "gone", "optional": "optional", "token": "write", "formed": "formed", "forms": "formed"}
+        kinds = {"group": "group", "absent": "gone", "present": "present", "token": "write", "formed": "formed", "deepen": "formed"}
         return kinds.get(name) or self.members.get(name) or self.members.get(thing)
 
     def steps(self, way):
@@ -155,16 +152,16 @@ class Function:
         proof = "(%s .ensures)" % path
         tail = thing in self.answers.get("tail", [])
         same = lambda law: "by-same %s %s" % ("(first-same (%s))" % law if tail else "(%s)" % law, more())
-        if kind == "sure" or kind == "write":
-            return ("last-%s %s" % (kind, proof)) if not rest and last is None else "then-%s %s %s" % (kind, proof, more())
+        if kind == "sure":
+            return ("last-sure %s" % proof) if not rest and last is None else "then-sure %s %s" % (proof, more())
         if kind in ("both", "formed"):
             return "then-%s %s %s" % (("both", proof, more()) if kind == "both" else ("sure", "(sure-formed %s)" % proof, more()))
-        if kind in ("look", "test"):
-            return same("%s-is %s (%s)" % (kind, proof, self.decided(thing)))
-        if kind in ("plain", "walked", "does", "certain", "above"):
-            return self.walked(kind, self.said(kind, thing, proof), apart, rest, more)
+        if kind in ("plain", "walked", "does"):
+            return self.walked(self.said(kind, thing, proof), apart, more)
         if kind == "read":
             law = READS[base(thing)]
+            if apart[0] == "is" and law == "look":
+                return self.looked(proof, apart, rest, last, stop)
             if apart[0] == "is":
                 return same("%s-is %s (%s)" % (law, proof, apart[1]))
             term = "%s-not (%s .ensures) %s (%s)" % (law, stop, proof, apart[1])
@@ -178,22 +175,28 @@ class Function:
             return "then-stop (%s) (%s)" % (term, apart[1]) if tail or thing in self.answers.get("regroup", []) else term
         if kind == "gone":
             return self.gone(proof, apart, same)
-        if kind == "optional":
-            laws = {"1": "optional-is", "2": "optional-no"}
+        if kind == "present":
+            laws = {"1": "present-there", "2": "present-gone"}
             if apart[0] == "is":
                 return same("%s %s (%s)" % (laws[apart[2]], proof, apart[1]))
-            term = "optional-not (%s .ensures) %s (%s)" % (stop, proof, apart[1])
+            term = "present-not (%s .ensures) %s (%s)" % (stop, proof, apart[1])
             return "then-stop (%s) (%s .ensures)" % (term, stop) if tail else term
         if kind in ("loop", "turn", "left"):
             return self.loop(kind, path, more)
         raise SystemExit("arms: no step for '%s' in %s" % (thing, self.name))
 
+    def looked(self, proof, apart, rest, last, stop):
+        """An expression that is there, and the question about it behind it."""
+        kind, thing, path, told = rest[0]
+        found = self.decided(thing)
+        law = "look-yes" if found.endswith(".taken") else "look-no"
+        more = parenthesised(self.term(rest[1:], last, stop))
+        return "by-same (%s %s (%s) (%s .ensures) (%s)) %s" % (law, proof, apart[1], path, found, more)
+
     def said(self, kind, thing, proof):
         """What a call of the walk says, as a `Walked` of the configuration at hand."""
-        if kind in ("plain", "certain"):
+        if kind == "plain":
             return "(plain %s)" % proof
-        if kind == "above":
-            return "(%s _)" % proof[1:-1]
         if kind == "does" and thing in self.deep:
             return "(along (%s .ensures) %s)" % (self.path("indented"), proof)
         return "(%s .is)" % proof[1:-1] if kind == "does" else proof
@@ -205,9 +208,7 @@ class Function:
         """A given term, with the paths to the places that it names."""
         return re.sub(r"@([a-z0-9-]+)", lambda found: self.path(found.group(1)), term)
 
-    def walked(self, kind, proof, apart, rest, more):
-        if kind == "above" or kind == "certain" and rest:
-            return "then-done %s refl %s" % (proof, more())
+    def walked(self, proof, apart, more):
         if apart is None:
             return proof[1:-1]
         if apart[0] == "not":
@@ -339,13 +340,13 @@ class Function:
         for record, thing, path in way:
             if thing == "loop":
                 kept.append(path + " .inv .2")
-            elif self.kind(thing) in ("sure", "both", "write", "plain", "walked", "does", "certain", "above"):
+            elif self.kind(thing) in ("sure", "both", "write", "plain", "walked", "does", "operated"):
                 kept.append(path + " .kept " + self.answers_lent(thing))
         return " ∙ ".join(kept[::-1]) or "search needs"
 
     def answers_lent(self, thing):
         lent = {"indent-at": ".0", "indent": ".0", "indent-in": ".0", "indent-deeper": ".0", "token": ".1 .1 .1 .0"}
-        lent.update((name, ".1 .0") for name in ("word", "between", "line", "line-in", "new-line", "new-line-in", "word-when", "app-end"))
+        lent.update((name, ".1 .0") for name in ("word", "between", "line", "line-in", "new-line", "new-line-in", "word-when", "app-end", "app-space"))
         member = ".1 .1 .1 .1 .1 .0" if self.members.get(base(thing)) in ("walked", "does") else ".1 .1 .1 .1 .0"
         return lent.get(base(thing)) or lent.get(thing) or member
 

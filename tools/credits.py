@@ -36,9 +36,11 @@ ANSWERS = "crates/%s/credits.json"
 PROOFS = "crates/%s/proofs/%s.antt"
 WIDTH = 150
 
-# How tightly the operators of the specs bind; the constructors that clauses go by.
+FORMS = "crates/reader/specs/Forms.antt"
+
+# How tightly the operators of the specs bind; the constructors that clauses go by, with the names of the forms.
 BINDS = {"∷": 5, "||": 10, "&&": 20, "⨾": 30}
-CONSTRUCTORS = {"true", "false", "none", "some", "zero", "suc", "pathExp", "otherExp"}
+CONSTRUCTORS = {"true", "false", "zero", "suc"}
 TOKEN = re.compile(r'"(?:\\.|[^"\\])*"|\[\]|[()\[\]λ]|\.[\w-]+|[^\s()\[\]λ."]+|\.')
 
 # An expression of the specs: a "name", a "var" that the written term binds, a "text", a "number", a "field", a "call",
@@ -134,6 +136,14 @@ def statements(text):
             found.append(line.strip())
             depth = indent
     return found
+
+
+def read_forms(text):
+    """The names of the forms, and their lists as definitions."""
+    for line in re.findall(r"^  ([A-Z][\w ]*) : \w+$", text, re.M):
+        CONSTRUCTORS.update(line.split())
+    return dict((one, Definition(None, False, [("", " ".join(body.split()))]))
+                for one, body in re.findall(r"^(\w+Forms) =\n((?:    .*\n)+)", text, re.M))
 
 
 def read_definitions(files):
@@ -289,15 +299,26 @@ class Terms:
         return str(node.value)
 
     def row(self, node):
-        """The arms of a list of layouts, each with its term."""
-        arms = []
+        """The arms of a list of layouts, each with its term: a list as it is written, or an arm for each form of a list."""
+        head, arguments = parts_of(node)
+        if head == name("map"):
+            of, forms = arguments
+            return [self.in_row(form.value, apply(of, (form,))) for form in self.items(self.unfolded(forms.value, ()))]
+        return [self.in_row(parts_of(item)[0].value, item) for item in self.items(node)]
+
+    def in_row(self, arm, node):
+        term = self.term(node)
+        return arm, self.arm % (term.text if "(" in self.arm else argument(term))
+
+    def items(self, node):
+        """The items of a list that is written with ∷."""
+        items = []
         while node.kind == "∷":
-            term = self.term(node.parts[0])
-            arms.append((parts_of(node.parts[0])[0].value, self.arm % (term.text if "(" in self.arm else argument(term))))
+            items.append(node.parts[0])
             node = node.parts[1]
         if node != name("[]"):
             raise Unknown("a row is a list written with ∷")
-        return arms
+        return items
 
 
 # ---- writing files
@@ -326,7 +347,8 @@ def uses(crate, definitions, laws, lines):
     words = set(re.findall(r"[^\s(){}]+", "\n".join(lines)))
     names = dict(("Rattle.layout.specs." + file, []) for file in SPECS)
     for one, definition in definitions.items():
-        names["Rattle.layout.specs." + definition.file].append(one)
+        if definition.file:
+            names["Rattle.layout.specs." + definition.file].append(one)
     for file, table in laws.items():
         names["Rattle.%s.proofs.%s" % (crate, file)] = dict.fromkeys(
             right.split()[0] for rights in table.values() for right in ([rights] if isinstance(rights, str) else rights) if file)
@@ -351,7 +373,8 @@ def main():
     files = [(crate, file, answers) for crate in CRATES for file, answers in json.load(open(ANSWERS % crate)).items()]
     crate = None
     try:
-        definitions = read_definitions(dict((file, open("crates/layout/specs/%s.antt" % file).read()) for file in SPECS))
+        definitions = read_forms(open(FORMS).read())
+        definitions.update(read_definitions(dict((file, open("crates/layout/specs/%s.antt" % file).read()) for file in SPECS)))
         texts = {}
         for crate, file, answers in files:
             texts[PROOFS % (crate, file)] = filled(crate, definitions, answers)

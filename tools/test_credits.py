@@ -43,28 +43,28 @@ class Credits(unittest.TestCase):
         self.assertEqual(writer.opened, ["row", "rest"])
 
     def test_a_depth_more(self):
-        self.assertEqual(term('indented c λ new. indent new ⨾ get-exp new'),
-                         "indenteds c _ (omega arith) (at-depth (deeper c) (omega arith) then go .exp (deeper c) (omega arith))")
+        self.assertEqual(term('deepen c ⨾ indent (deeper c) ⨾ get-exp (deeper c)'),
+                         "deepened c (omega arith) then at-depth (deeper c) (omega arith) then go .exp (deeper c) (omega arith)")
         self.assertEqual(term('in-end c "let" (get-dec ws) get-str-exp'),
                          "in-ends c (omega arith) _ _ (fixed refl) (get-decs short go low (deeper c) (omega arith)) (go .str-exp (deeper c) (omega arith))")
 
     def test_levels_by_a_number(self):
-        levels = ['levels zero c k = k c', 'levels (suc n) c k = indented c (λ new. levels n new k)']
-        self.assertEqual(term('levels 2 c (λ new. get-exp new)', *levels),
-                         "indenteds c _ (omega arith) (indenteds (deeper c) _ (omega arith) (go .exp (deeper (deeper c)) (omega arith)))")
+        levels = ['levels c zero = get-exp c', 'levels c (suc n) = deepen c ⨾ levels (deeper c) n']
+        self.assertEqual(term('levels c 2', *levels),
+                         "deepened c (omega arith) then deepened (deeper c) (omega arith) then go .exp (deeper (deeper c)) (omega arith)")
 
     def test_a_choice(self):
         self.assertEqual(term('choice (inner c)', 'inner c which = getD (text ∷ (word " " ⨾ get-exp c) ∷ []) which halt'),
                          "choices (λ which. (arm refl (texts short) ▹ arm refl (fixed refl then go .exp c (omega arith)) ▹ no-more) .at which)")
 
-    def test_an_optional_token(self):
-        self.assertEqual(term('optional λ op. when-some op (word "op") ⨾ path'),
-                         "optionals _ (λ k. whens-some (fixed refl) _ then paths short) (whens-some (fixed refl) _ then paths short)")
-        self.assertEqual(term('optional lit', 'lit none = skip', 'lit (some k) = write k ⨾ word " "'),
-                         "optionals _ (λ k. writes short then fixed refl) skips")
+    def test_a_token_that_may_be_absent(self):
+        self.assertEqual(term('present (word "(" ⨾ path) path'), "presents (fixed refl then paths short) (paths short)")
+        self.assertEqual(term('maybe (text ⨾ word " ")'), "maybes (texts short then fixed refl)")
 
     def test_a_question(self):
-        self.assertEqual(term('look isIfExp λ b. elim b [ true ↦ get-ty | false ↦ word " " ⨾ get-pat ]'), "looks _ (go .ty) (fixed refl then go .pat)")
+        self.assertEqual(term('look isIfExp get-ty (word " " ⨾ get-pat)'), "looks (go .ty) (fixed refl then go .pat)")
+        self.assertEqual(term('application λ bang symbolic. get-exp c ⨾ when (not bang || symbolic) (word " ")'),
+                         "applications (λ bang symbolic. go .exp c (omega arith) then whens (fixed refl) _)")
 
     def test_fields_followed(self):
         self.assertEqual(term('word "(" ⨾ get-ty ⨾ word ")"', file="measures/TypesFollow"), "before (alone refl) (behind (ty _ d) (alone refl))")
@@ -72,8 +72,8 @@ class Credits(unittest.TestCase):
 
     def test_fields_agreed(self):
         self.assertEqual(term('word "(" ⨾ get-exp c ⨾ word ")"', file="agreement/Rows"), "before fixed (behind (go .exp c) fixed)")
-        self.assertEqual(term('get-pat ⨾ indented c indent ⨾ get-ty', file="agreement/Rows"),
-                         "both (go .pat) (before (indenteds c _ (at-depth (deeper c))) (go .ty))")
+        self.assertEqual(term('get-pat ⨾ (deepen c ⨾ indent (deeper c)) ⨾ get-ty', file="agreement/Rows"),
+                         "both (go .pat) (before (before (deepened c) (at-depth (deeper c))) (go .ty))")
         self.assertEqual(term('maybe (dropped left get-ty)', file="agreement/Rows"), "maybes refl (go .dropped-ty)")
 
     def test_two_fields_before_a_third(self):
@@ -82,10 +82,10 @@ class Credits(unittest.TestCase):
                          "regrouped (both (both texts (before fixed (go .pat))) (go .ty))")
 
     def test_a_token_and_what_is_behind_it(self):
-        self.assertEqual(term('token write', file="agreement/Rows"), "tokens-last (λ k. writes)")
-        self.assertEqual(term('token λ k. get-exp c ⨾ write k', file="agreement/Rows"), "tokens (λ k. behind (go .exp c) writes)")
-        self.assertEqual(term('optional λ o. when-some o (word "op")', file="agreement/Rows"),
-                         "optionals-last _ (λ k. whens-some fixed _) (whens-some fixed _)")
+        self.assertEqual(term('operator (get-exp c) skip (word " ") ⨾ get-ty', file="agreement/Rows"),
+                         "regrouped (both (operators (go .exp c) skips fixed) (go .ty))")
+        self.assertEqual(term('present (word "op") skip', file="agreement/Rows"), "presents-last fixed skips")
+        self.assertEqual(term('present (word "(" ⨾ get-pat) get-pat', file="agreement/Rows"), "presents (before fixed (go .pat)) (go .pat)")
 
     def test_a_choice_of_fields(self):
         self.assertEqual(term('choice inner', 'inner which = getD (text ∷ (word " " ⨾ get-ty) ∷ []) which halt', file="agreement/Rows"),
@@ -103,13 +103,22 @@ class Credits(unittest.TestCase):
         run = subprocess.run([sys.executable, TOOL, "--check"], capture_output=True, text=True, cwd=ROOT)
         self.assertEqual((run.returncode, run.stderr), (0, ""))
 
+    def test_an_arm_for_each_form(self):
+        forms = credits.read_forms("pub data F : Type 0 where\n  OneF TwoF : F\n\nabbrev pub fForms : List F\nfForms =\n    OneF ∷ TwoF\n    ∷ []\n")
+        writer = terms(['f OneF = word "1"', 'f TwoF = get-ty'])
+        writer.definitions.update(forms)
+        self.assertEqual(writer.row(credits.parse("map f fForms")), [("OneF", "arm refl (fixed refl)"), ("TwoF", "arm refl (go .ty)")])
+
     def with_arm(self, room, body):
         """A copy of what the tool reads, with one more arm of expressions; how the tool runs there."""
-        for folder in ("crates/layout/specs", "crates/measures", "crates/agreement"):
+        for folder in ("crates/reader/specs", "crates/layout/specs", "crates/measures", "crates/agreement"):
             shutil.copytree(os.path.join(ROOT, folder), os.path.join(room, folder))
+        forms = pathlib.Path(room, "crates/reader/specs/Forms.antt")
+        text = forms.read_text()
+        self.assertEqual((text.count(" FnExp : ExpForm"), text.count("∷ FnExp\n")), (1, 1))
+        forms.write_text(text.replace(" FnExp : ExpForm", " FnExp BangExp : ExpForm").replace("∷ FnExp\n", "∷ FnExp ∷ BangExp\n"))
         spec = pathlib.Path(room, "crates/layout/specs/Exp.antt")
-        text = spec.read_text().replace("∷ FnExp c\n", "∷ FnExp c\n      ∷ BangExp c\n")
-        spec.write_text(text + "\n  unfoldable pub BangExp : Cfg → Layout\n  BangExp c = %s\n" % body)
+        spec.write_text(spec.read_text().replace("  exp c FnExp =", "  exp c BangExp = %s\n  exp c FnExp =" % body))
         return lambda *words: subprocess.run([sys.executable, TOOL, *words], capture_output=True, text=True, cwd=room)
 
     def test_a_new_arm(self):
@@ -126,7 +135,7 @@ class Credits(unittest.TestCase):
         with tempfile.TemporaryDirectory() as room:
             run = self.with_arm(room, 'list (exp-semi-more c false)')()
             self.assertNotEqual(run.returncode, 0)
-            self.assertIn("exps: BangExp: exp-semi-more: it goes by cases of an argument that is not known", run.stderr)
+            self.assertIn("exps: exp: exp-semi-more: it goes by cases of an argument that is not known", run.stderr)
             self.assertIn("Irregular.antt", run.stderr)
 
     def test_usage(self):

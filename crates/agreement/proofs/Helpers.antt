@@ -1,21 +1,21 @@
 -- The walk keeps step with the check in the helpers of 000, in declarations in sequence, and in layouts that are not regular.
 use mathlib.Core.Path.{refl}
 use mathlib.Core.Bool.{Bool, true, false}
-use mathlib.Core.Option.{Option, none, some}
 use Prim.Native.Nat.{ℕ, zero, suc}
 use Prim.Native.String.{String}
 use lib.Dec.{ltb}
 use Rattle.reader.specs.Fields as Fields
 use Rattle.reader.specs.Fields.{DecOne, StrExp, SigExp, Exp, Pat, Ty, Fields, _▸_, Path, TyVarSeq, ConBind, ExpInSeq, Dec, DecFields, AppStrExpArg}
-use Rattle.layout.specs.Layout.{Layout, Head, pathExp, otherExp, _⨾_, word, dropped}
+use Rattle.layout.specs.Layout.{Layout, _⨾_, word, text, dropped}
 use Rattle.layout.specs.Meaning.{Page}
-use Rattle.layout.specs.Helpers.{Cfg, Walkers, deeper, indented, indent, text, items, new-line, path, op-space, op-path, ty-vars, ty-var-seq-there, ty-var-seq, word-if, semicolon}
+use Rattle.layout.specs.Helpers.{Cfg, Walkers, deeper, deepen, indent, indent-deeper, items, new-line, path, op, op-path, in-parens, ty-vars, ty-var-seq-there, ty-var-seq, word-if, semicolon}
 use Rattle.layout.specs.GetDec.{dec-in-seq, sharing-tail, sharing-tails, dec-in-seqs, dec, get-dec, dec-arg}
-use Rattle.layout.specs.Exp.{item-semi, func-is-bang, arg-is-symbolic, app-space, exp-semi-item, exp-semi-more, exp-semi-items, exp-semi-seq}
+use Rattle.layout.specs.Exp.{item-semi, exp-semi-item, exp-semi-more, exp-semi-items, exp-semi-seq}
 use Rattle.layout.specs.StrExp.{app-arg, app-args}
-use Rattle.layout.specs.DecOne.{comment-line, comment-above, con-bind, con-binds}
-use Rattle.agreement.proofs.Layouts.{Agrees, Items, skips, fixed, writes, comments, indents, before, behind, both, tokens-last, optionals, optionals-last}
-use Rattle.agreement.proofs.Layouts.{groups, lists, maybes, whens, whens-some, tests, aboves, firstNames, indenteds, before-items, no-items, item-then, choice-items, itemed, each, seps, lines}
+use Rattle.layout.specs.DecOne.{con-bind, con-binds}
+use Rattle.agreement.proofs.Layouts.{Agrees, Items, skips, fixed, indents, forms-depth, before, behind, both, texts, presents, presents-then, presents-last}
+use Rattle.agreement.proofs.Layouts.{groups, lists, maybes, whens, before-items, no-items, item-then, choice-items, itemed, each, seps, lines}
+use Rattle.agreement.proofs.Looks.{firstNames}
 use Rattle.agreement.proofs.Layouts.{_▹_, no-more, pick}
 
 -- The walks one form deeper agree with the check where as many forms may stand inside one another.
@@ -31,6 +31,10 @@ pub record Walks (p : Page) (d : ℕ) (ws : Walkers) : Type 0 where
 module _ {p : Page} {d : ℕ} where
   module _ {may : Bool} where
     -- ---- helpers
+    pub deepened : (c : Cfg) → Agrees p d may Fields.none (deepen c)
+    unfolding deepen
+    deepened c = forms-depth
+
     pub at-depth : (c : Cfg) → Agrees p d may Fields.none (indent c)
     unfolding indent
     at-depth c = indents
@@ -39,62 +43,26 @@ module _ {p : Page} {d : ℕ} where
     unfolding new-line
     new-lines c s = before fixed (before (whens fixed _) (before (at-depth c) fixed))
 
-    pub texts : Agrees p d may Fields.token text
-    unfolding text
-    texts = tokens-last (λ k. writes)
-
   pub paths : {may : Bool} → Agrees p d may Path path
   unfolding path
   paths = groups (seps (groups texts) _)
 
-  module _ {may : Bool} where
-    op-spaces : (o : Option ℕ) → Agrees p d may Fields.none (op-space o)
-    unfolding op-space
-    op-spaces none = skips
-    op-spaces (some k) = tests _ (whens fixed _) (whens fixed _)
-
-    -- ---- between AppExp's expressions
-    bangs : (f : Head) (k : Bool → Layout) → ((b : Bool) → Agrees p d may Fields.none (k b)) → Agrees p d may Fields.none (func-is-bang f k)
-    unfolding func-is-bang
-    bangs otherExp k x = x false
-    bangs (pathExp fst names) k x = tests _ (x _) (x _)
-
-    symbols : (f : Head) (k : Bool → Layout) → ((b : Bool) → Agrees p d may Fields.none (k b)) → Agrees p d may Fields.none (arg-is-symbolic f k)
-    unfolding arg-is-symbolic
-    symbols otherExp k x = x false
-    symbols (pathExp fst names) k x = tests _ (x _) (x _)
-
-    pub app-spaces : (f g : Head) → Agrees p d may Fields.none (app-space f g)
-    unfolding app-space
-    app-spaces f g = bangs f _ (λ b. symbols g _ (λ s. whens fixed _))
-
-    -- ---- the comment above a declaration
-    comment-lines : (c : Cfg) (o : Option ℕ) → Agrees p d may Fields.none (comment-line c o)
-    unfolding comment-line
-    comment-lines c none = skips
-    comment-lines c (some k) = before comments (before fixed (at-depth c))
-
-    pub comments-above : (c : Cfg) (o : Option ℕ) → Agrees p d may Fields.none (comment-above c o)
-    unfolding comment-above
-    comments-above c none = skips
-    comments-above c (some k) = aboves (comment-lines c)
+  -- `op` and a path; a path alone.
+  op-there : {may : Bool} → Agrees p d may Path (op ⨾ path)
+  unfolding op
+  op-there = firstNames paths (before (before fixed fixed) paths) (before fixed paths)
 
   pub op-paths : Agrees p d true (Fields.token ▸ Path) op-path
   unfolding op-path
-  op-paths =
-      optionals _ (λ k. before (whens-some (before fixed (firstNames op-spaces)) _) paths) (before (whens-some (before fixed (firstNames op-spaces)) _) paths)
+  op-paths = presents-then op-there (before skips paths)
 
   pub ty-var-seqs : Agrees p d true TyVarSeq ty-var-seq
-  unfolding ty-var-seq ty-var-seq-there ty-vars
-  ty-var-seqs =
-      maybes refl
-      (groups
-      (optionals _ (λ k. before (whens-some fixed _) (behind (seps (groups texts) _) (before (whens-some fixed _) fixed)))
-      (before (whens-some fixed _) (behind (seps (groups texts) _) (before (whens-some fixed _) fixed)))))
+  unfolding ty-var-seq ty-var-seq-there in-parens ty-vars
+  ty-var-seqs = maybes refl (groups (behind (presents (before fixed (behind (seps (groups texts) _) fixed)) (seps (groups texts) _)) fixed))
 
   pub words-if : (s : String) → Agrees p d true Fields.token (word-if s)
   unfolding word-if
-  words-if s = optionals-last _ (λ k. whens-some fixed _) (whens-some fixed _)
+  words-if s = presents-last fixed skips
 
   pub semicolons : Agrees p d true Fields.token semicolon
   unfolding semicolon
@@ -117,12 +85,12 @@ module _ {p : Page} {d : ℕ} {ws : Walkers} (go : Walks p d ws) where
 
   pub dec-args : (c : Cfg) → Agrees p d true DecFields (dec-arg ws c)
   unfolding dec-arg
-  dec-args c = before fixed (indenteds c _ (before (at-depth (deeper c)) (behind (decs (deeper c)) fixed)))
+  dec-args c = before fixed (before (deepened c) (before (at-depth (deeper c)) (behind (decs (deeper c)) fixed)))
 
   -- ---- expressions in sequence
   semi-item : (c : Cfg) (b : Bool) → Agrees p d false ExpInSeq (exp-semi-item ws c b)
   unfolding exp-semi-item item-semi
-  semi-item c b = groups (both (go .exp c) (optionals-last _ (λ n. whens-some (whens fixed _) _) (whens-some (whens fixed _) _)))
+  semi-item c b = groups (both (go .exp c) (presents-last (whens fixed _) skips))
 
   semi-more : (c : Cfg) (b : Bool) (n : ℕ) → Items p d ExpInSeq n (exp-semi-more ws c b n)
   unfolding exp-semi-more
@@ -144,15 +112,15 @@ module _ {p : Page} {d : ℕ} {ws : Walkers} (go : Walks p d ws) where
   con-binding = groups (both texts (maybes refl (groups (before fixed (go .ty)))))
 
   pub con-bindings : (c : Cfg) (n : ℕ) → Items p d ConBind n (con-binds ws c n)
-  unfolding con-binds
+  unfolding con-binds indent-deeper
   con-bindings c n = either-way (ltb 1 n)
     where
       either-way : (b : Bool)
           → Items p d ConBind n (elim b as (λ b. Layout) [
-            | true ↦ word " =\n" ⨾ indented c indent ⨾ items n (con-bind ws) (new-line c "| " ⨾ con-bind ws)
+            | true ↦ word " =\n" ⨾ indent-deeper c ⨾ items n (con-bind ws) (new-line c "| " ⨾ con-bind ws)
             | false ↦ word " = " ⨾ items n (con-bind ws) (word " | " ⨾ con-bind ws)
           ])
-      either-way true = before-items fixed (before-items (indenteds c _ (at-depth (deeper c))) (itemed con-binding (before (new-lines c _) con-binding) n))
+      either-way true = before-items fixed (before-items (before (deepened c) (at-depth (deeper c))) (itemed con-binding (before (new-lines c _) con-binding) n))
       either-way false = before-items fixed (itemed con-binding (before fixed con-binding) n)
 
   -- ---- arguments of a functor's application

@@ -3,34 +3,35 @@ use native.Mathlib.Omega.{arith}
 use mathlib.Core.Path.{_≡_, refl, sym, ap, _∙_, subst}
 use mathlib.Core.List.{List}
 use mathlib.Core.Bool.{true}
-use mathlib.Core.Option.{some}
 use Prim.Native.Nat.{ℕ, zero, suc, _≤_}
 use lib.ListN.{length, getD}
 use lib.Dec.{eqb}
 use borrow.Author.Tests.{eq-eqb, eqb-true}
 use Rattle.reader.specs.Fields as Fields
-use Rattle.reader.specs.Fields.{DecOne, StrExp, SigExp, Exp, Pat, Ty, Dec, forms}
-use Rattle.reader.specs.Commands.{formAt, firstToken}
+use Rattle.reader.specs.Fields.{StrExp, SigExp, Exp, Pat, Ty, Dec}
+use Rattle.reader.specs.Forms.{EsImportDec, decNumber}
 use Rattle.reader.specs.Check.{Checked, ok, andThen, maxForms, operandFits, endWithin, treeCheck}
-use Rattle.reader.proofs.CommandLaws.{form-number}
 use Rattle.reader.proofs.FieldLaws.{then-parts, if-parts}
 use Rattle.layout.specs.Meaning.{Page, Event, Outcome, done, stopped}
+use Rattle.layout.specs.Layout.{halt, import}
 use Rattle.layout.specs.Helpers.{Cfg, Walkers}
 use Rattle.layout.specs.GetDec.{get-dec}
-use Rattle.layout.specs.DecOne.{one-dec}
+use Rattle.layout.specs.DecOne.{comment-line, dec-one, decs}
 use Rattle.layout.specs.Walk.{walks, top, walk}
 use Rattle.agreement.specs.Agreement.{Agree, EndsAt}
 use Rattle.agreement.specs.Unbounded as Unbounded
-use Rattle.agreement.proofs.Layouts.{InStep, Agrees, count, before, pick, families, declarations, halted, drops}
-use Rattle.agreement.proofs.Helpers.{Walks, comments-above, get-decs}
+use Rattle.agreement.proofs.Layouts.{InStep, Agrees, count, fixed, before, pick, families, declarations, halted, drops}
+use Rattle.agreement.proofs.Helpers.{Walks, at-depth, get-decs}
 use Rattle.agreement.proofs.Rows.{ty-pairs, pat-pairs, exp-pairs, sig-pairs, str-pairs, dec-pairs}
 
 -- ---- the forms
-one-decs : {p : Page} {d : ℕ} → d ≤ 200 → {ws : Walkers} → Walks p d ws → (c : Cfg) (at n : ℕ) → formAt (p .rec) DecOne at ≡ some n
-    → Agrees p d true (getD (forms DecOne) n Fields.none) (one-dec ws c (record { place = at; number = n; first = firstToken (p .rec) at }))
-unfolding one-dec
-one-decs {p} low go c at n found =
-    before (comments-above c (firstToken (p .rec) at)) (pick n (dec-pairs low go n c at found) .agrees (form-number (p .rec) at DecOne n found))
+comment-lines : {p : Page} {d : ℕ} (c : Cfg) → Agrees p d true Fields.none (comment-line c)
+unfolding comment-line
+comment-lines c = before fixed (at-depth c)
+
+import-arm : (ws : Walkers) (c : Cfg) → getD (decs ws c) (decNumber EsImportDec) halt ≡ import
+unfolding decs dec-one decNumber
+import-arm ws c = refl
 
 pub walks-agree : {p : Page} (n : ℕ) → n ≤ 200 → Walks p n (walks n)
 unfolding walks operandFits
@@ -54,7 +55,7 @@ walks-agree {p} (suc n) h =
       exp = λ c. families Exp (λ at. refl) (λ k. pick k (exp-pairs low go k c));
       str-exp = λ c. families StrExp (λ at. refl) (λ k. pick k (str-pairs low go k c));
       sig-exp = λ c. families SigExp (λ at. refl) (λ k. pick k (sig-pairs low go k c));
-      dec-one = λ c. declarations (one-decs low go c);
+      dec-one = λ c. declarations (comment-lines c) (import-arm (walks n) c) (λ k l other. pick k (dec-pairs low go k c other) .agrees l);
     }
 
 -- ---- the whole record

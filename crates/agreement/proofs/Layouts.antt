@@ -8,31 +8,35 @@ use mathlib.Core.Logic.{_⊎_, inl, inr}
 use Prim.Native.Nat.{ℕ, zero, suc, _+_, _≤_, _<_}
 use Prim.Native.String.{String}
 use lib.ListN.{length, getD}
-use lib.Dec.{ltb}
-use borrow.Author.Tests.{ltb-true, ltb-false}
+use lib.Dec.{ltb, eqb}
+use borrow.Author.Tests.{ltb-true, ltb-false, eqb-true, eqb-false}
 use Rattle.text.proofs.Laws.{never}
 use Rattle.reader.specs.Fields as Fields
 use Rattle.reader.specs.Fields.{Family, DecOne, Ty, Fields, _▸_, forms}
 use Rattle.reader.specs.Commands.{absentAt, tokenAt, listAt, groupAt, choiceAt, formAt, formWidth, firstToken}
 use Rattle.reader.specs.Check as Check
+use Rattle.reader.specs.Forms.{EsImportDec, decNumber}
 use Rattle.reader.specs.Check.{Checked, ok, malformed, tooDeep, andThen, operandFits, tokenFits, orAbsent, fields, formFits, formCheck, fieldEnd}
 use Rattle.reader.proofs.CommandLaws.{and-right, and-second, token-there, group-there, choice-there, form-there, form-fits, form-number}
 use Rattle.reader.proofs.FieldLaws.{then-parts, if-parts, or-is, token-parts, fits-parts, fits-yes, zero-never}
 use Rattle.reader.proofs.Ends.{ends-more}
-use Rattle.comments.specs.Above.{commentAbove}
-use Rattle.layout.specs.Layout.{Layout, Look, Test, Declared, skip, _⨾_, word, write, comment, output-indent, formed, token, group, choice, form, list}
-use Rattle.layout.specs.Layout.{declaration, optional, maybe, look, test, above, firstName, dropped, halt, import}
-use Rattle.layout.specs.Meaning.{Page, Event, Outcome, done, stopped, Stop, absent, imported, outcome, orStop, bind, after, onwards, sees, passes}
-use Rattle.layout.specs.Meaning.{Name, name, noName, pathName}
-use Rattle.layout.specs.Helpers.{Cfg, deeper, indented, indent, new-line, when, when-some, times, items, for-each, sep, sep-with-lines}
-use Rattle.agreement.specs.Agreement.{importNumber, Proper, Agree}
+use Rattle.layout.specs.Layout.{Layout, isPipe, skip, _⨾_, word, output-indent, formed, text, group, choice, form, list}
+use Rattle.layout.specs.Layout.{maybe, present, operator, declaration, dropped, halt, import}
+use Rattle.layout.specs.Meaning.{Page, Event, Token, Comment, Outcome, done, stopped, Stop, absent, imported, outcome, orStop, bind, after, commented, operated, aboveFirst, onwards, passes}
+use Rattle.layout.specs.Helpers.{Cfg, indent, new-line, when, times, items, for-each, sep, sep-with-lines}
+use Rattle.agreement.specs.Agreement.{Proper, Agree}
 use Rattle.agreement.specs.Unbounded as Unbounded
 
 -- The check of fields, where `d` more forms may stand inside one another; `may` says whether a field may be absent.
 abbrev pub ends : Page → ℕ → Bool → Fields → ℕ → Checked
 ends p d may f at = fields (p .rec) (length (p .tokens .starts)) (formCheck (p .rec) (length (p .tokens .starts)) d) may f at
 
--- A check and a layout agree from every offset; where the check passes, its bounds play no part in the walk.
+-- A check and a walk agree from every offset; where the check passes, its bounds play no part: `g` is the walk without them.
+pub record Keeps (p : Page) (check : ℕ → Checked) (f g : ℕ → Outcome) : Type 0 where
+  pub agrees : (at : ℕ) → Agree p (check at) (f at)
+  pub free : (at end : ℕ) → check at ≡ ok end → g at ≡ f at
+
+-- The walk of a layout.
 pub record InStep (p : Page) (check : ℕ → Checked) (w : Layout) : Type 0 where
   pub agrees : (at : ℕ) → Agree p (check at) (outcome p w at)
   pub free : (at end : ℕ) → check at ≡ ok end → Unbounded.outcome p w at ≡ outcome p w at
@@ -214,22 +218,64 @@ module _ (p : Page) where
 
 -- ---- steps
 module _ {p : Page} where
-  step-as : {k l : ℕ → Checked} {w : Layout} → ((at : ℕ) → k at ≡ l at) → InStep p k w → InStep p l w
-  step-as {k} {l} {w} e x =
+  keeps : {k : ℕ → Checked} {w : Layout} → InStep p k w → Keeps p k (λ at. outcome p w at) (λ at. Unbounded.outcome p w at)
+  keeps x = record { agrees = x .agrees; free = x .free }
+
+  keeps-as : {k l : ℕ → Checked} {f g : ℕ → Outcome} → ((at : ℕ) → k at ≡ l at) → Keeps p k f g → Keeps p l f g
+  keeps-as {k} {l} {f} {g} e x =
       record {
-        agrees = λ at. subst (λ (c : Checked). Agree p c (outcome p w at)) (e at) (x .agrees at);
-        free = λ at end f. x .free at end (e at ∙ f);
+        agrees = λ at. subst (λ (c : Checked). Agree p c (f at)) (e at) (x .agrees at);
+        free = λ at end h. x .free at end (e at ∙ h);
+      }
+
+  keeps-then : {k l : ℕ → Checked} {f g f′ g′ : ℕ → Outcome} → Keeps p k f g → Keeps p l f′ g′
+      → Keeps p (λ at. andThen (k at) l) (λ at. bind (f at) f′) (λ at. bind (g at) g′)
+  keeps-then {k} {l} {f} {g} {f′} {g′} x y =
+      record {
+        agrees = λ at. then-agrees p (k at) l (f at) f′ (x .agrees at) (y .agrees);
+        free = λ at end e. then-free p (k at) l (f at) (g at) f′ g′ (x .agrees at) (x .free at) (y .free) end e;
       }
 
   step-then : {k l : ℕ → Checked} {v w : Layout} → InStep p k v → InStep p l w → InStep p (λ at. andThen (k at) l) (v ⨾ w)
   unfolding outcome Unbounded.outcome
-  step-then {k} {l} {v} {w} x y =
-      record {
-        agrees = λ at. then-agrees p (k at) l (outcome p v at) (λ next. outcome p w next) (x .agrees at) (y .agrees);
-        free =
-            λ at end e. then-free p (k at) l (outcome p v at) (Unbounded.outcome p v at) (λ next. outcome p w next) (λ next. Unbounded.outcome p w next)
-            (x .agrees at) (x .free at) (y .free) end e;
-      }
+  step-then x y = let z = keeps-then (keeps x) (keeps y) in record { agrees = z .agrees; free = z .free }
+
+  step-as : {k l : ℕ → Checked} {w : Layout} → ((at : ℕ) → k at ≡ l at) → InStep p k w → InStep p l w
+  step-as e x = let z = keeps-as e (keeps x) in record { agrees = z .agrees; free = z .free }
+
+  -- ---- what reads nothing
+  silent-then : {f g f′ g′ : ℕ → Outcome} → Keeps p ok f g → Keeps p ok f′ g′ → Keeps p ok (λ at. bind (f at) f′) (λ at. bind (g at) g′)
+  unfolding andThen
+  silent-then x y = keeps-then x y
+
+  events-silent : (es : List Event) → Keeps p ok (λ at. done at es) (λ at. done at es)
+  events-silent es = record { agrees = λ at. refl; free = λ at end e. refl }
+
+  -- An operator that was kept.
+  operated-silent : (k : ℕ) {f g f′ g′ : ℕ → Outcome} → Keeps p ok f g → Keeps p ok f′ g′ → Keeps p ok (operated p k f f′) (operated p k g g′)
+  unfolding operated bind
+  operated-silent k {f} {g} {f′} {g′} x y =
+      record { agrees = λ at. agrees at (passes p isPipe k); free = λ at end e. free at end e (passes p isPipe k) }
+    where
+      spelt : Keeps p ok (λ at. bind (f′ at) (λ next. bind (done next (Token k ∷ [])) f′)) (λ at. bind (g′ at) (λ next. bind (done next (Token k ∷ [])) g′))
+      spelt = silent-then y (silent-then (events-silent (Token k ∷ [])) y)
+
+      agrees : (at : ℕ) (b : Bool)
+          → Agree p (ok at) (elim b as (λ b. Outcome) [ true ↦ f at | false ↦ bind (f′ at) (λ next. bind (done next (Token k ∷ [])) f′) ])
+      agrees at true = x .agrees at
+      agrees at false = spelt .agrees at
+
+      free : (at end : ℕ) → ok at ≡ ok end → (b : Bool)
+          → _≡_ {A = Outcome} (elim b [ true ↦ g at | false ↦ bind (g′ at) (λ next. bind (done next (Token k ∷ [])) g′) ])
+          (elim b [ true ↦ f at | false ↦ bind (f′ at) (λ next. bind (done next (Token k ∷ [])) f′) ])
+      free at end e true = x .free at end e
+      free at end e false = spelt .free at end e
+
+  -- A comment and what is behind it.
+  commented-silent : (o : Option ℕ) {f g : ℕ → Outcome} → Keeps p ok f g → Keeps p ok (commented o f) (commented o g)
+  unfolding commented bind
+  commented-silent (some k) x = silent-then (events-silent (Comment k ∷ [])) x
+  commented-silent none x = events-silent []
 
 -- A field that may be absent.
 abbrev mayBe : Fields → Bool
@@ -265,14 +311,6 @@ module _ {p : Page} {d : ℕ} {may : Bool} where
   unfolding fields outcome Unbounded.outcome
   fixed = record { step = record { agrees = λ at. refl; free = λ at end e. refl } }
 
-  pub writes : {k : ℕ} → Agrees p d may Fields.none (write k)
-  unfolding fields outcome Unbounded.outcome
-  writes = record { step = record { agrees = λ at. refl; free = λ at end e. refl } }
-
-  pub comments : {k : ℕ} → Agrees p d may Fields.none (comment k)
-  unfolding fields outcome Unbounded.outcome
-  comments = record { step = record { agrees = λ at. refl; free = λ at end e. refl } }
-
   pub indents : {depth : ℕ} → Agrees p d may Fields.none (output-indent depth)
   unfolding fields outcome Unbounded.outcome
   indents = record { step = record { agrees = λ at. refl; free = λ at end e. refl } }
@@ -281,9 +319,9 @@ module _ {p : Page} {d : ℕ} {may : Bool} where
   unfolding fields outcome Unbounded.outcome
   forms-depth = record { step = record { agrees = λ at. refl; free = λ at end e. refl } }
 
-  pub imports : {place : ℕ} → formAt (p .rec) DecOne place ≡ some importNumber → Agrees p d may Fields.none (import place)
-  unfolding fields outcome Unbounded.outcome
-  imports found = record { step = record { agrees = λ at end e. found; free = λ at end e. refl } }
+  silent : {w : Layout} → Agrees p d may Fields.none w → Keeps p ok (λ at. outcome p w at) (λ at. Unbounded.outcome p w at)
+  unfolding fields
+  silent x = keeps (x .step)
 
   -- ---- one after another
   module _ {f : Fields} {v w : Layout} where
@@ -310,20 +348,45 @@ module _ {p : Page} {d : ℕ} {may : Bool} where
   last {f} x = record { step = step-as (λ at. then-ok (ends p d may f at)) (x .step) }
 
   -- ---- commands
-  pub tokens : {g : Fields} {k : ℕ → Layout} → ((n : ℕ) → Agrees p d may g (k n)) → Agrees p d may (Fields.token ▸ g) (token k)
+  pub texts : Agrees p d may Fields.token text
   unfolding outcome Unbounded.outcome fields
-  tokens {g} {k} x =
+  texts =
       record {
         step =
             record {
               agrees =
-                  λ at. token-agrees p may at (λ next. ends p d may g next) (λ n. outcome p (k n) (at + 3)) (tokenFits (p .rec) (count p) at) refl
-                  (λ n. x n .step .agrees (at + 3));
+                  λ at. read-agrees p may at (λ n. ok (at + 3)) (λ k. done (at + 3) (Token k ∷ [])) (tokenFits (p .rec) (count p) at)
+                  (λ n e. token-there (p .rec) at n (token-parts (p .rec) (count p) at n e .0)) (λ n e. refl);
               free =
-                  λ at end e. token-free p may at (λ next. ends p d may g next) (λ n. outcome p (k n) (at + 3)) (λ n. Unbounded.outcome p (k n) (at + 3)) end
-                  (tokenFits (p .rec) (count p) at) refl (λ n f. x n .step .free (at + 3) end f) e;
+                  λ at end e. read-free p may at (λ n. ok (at + 3)) (λ k. done (at + 3) (Token k ∷ [])) (λ k. done (at + 3) (Token k ∷ []))
+                  (tokenFits (p .rec) (count p) at) (tokenAt (p .rec) at) (λ n e. token-parts (p .rec) (count p) at n e .0) (token-there (p .rec) at) (λ n end e f. refl) end e;
             };
       }
+
+  pub operators : {f : Fields} {lhs pipe gap : Layout} → Agrees p d may f lhs → Agrees p d may Fields.none pipe → Agrees p d may Fields.none gap
+      → Agrees p d may (Fields.token ▸ f) (operator lhs pipe gap)
+  unfolding outcome Unbounded.outcome fields
+  operators {f} {lhs} {pipe} {gap} x y z =
+      record {
+        step =
+            record {
+              agrees =
+                  λ at. token-agrees p may at (λ next. ends p d may f next) (λ k. walk k (at + 3)) (tokenFits (p .rec) (count p) at) refl
+                  (λ k. behind k .agrees (at + 3));
+              free =
+                  λ at end e. token-free p may at (λ next. ends p d may f next) (λ k. walk k (at + 3)) (λ k. unbounded k (at + 3)) end
+                  (tokenFits (p .rec) (count p) at) refl (λ k g. behind k .free (at + 3) end g) e;
+            };
+      }
+    where
+      walk : ℕ → ℕ → Outcome
+      walk k at = bind (outcome p lhs at) (operated p k (λ next. outcome p pipe next) (λ next. outcome p gap next))
+
+      unbounded : ℕ → ℕ → Outcome
+      unbounded k at = bind (Unbounded.outcome p lhs at) (operated p k (λ next. Unbounded.outcome p pipe next) (λ next. Unbounded.outcome p gap next))
+
+      behind : (k : ℕ) → Keeps p (λ at. ends p d may f at) (walk k) (unbounded k)
+      behind k = keeps-as (λ at. then-ok (ends p d may f at)) (keeps-then (keeps (x .step)) (operated-silent k (silent y) (silent z)))
 
   pub groups : {f : Fields} {w : Layout} → Agrees p d true f w → Agrees p d may (Fields.group f) (group w)
   unfolding outcome Unbounded.outcome fields
@@ -369,22 +432,51 @@ module _ {p : Page} {d : ℕ} {may : Bool} where
             };
       }
 
+-- A token asked for its presence, with what is behind either layout.
+bind-given : (p : Page) (at : ℕ) (k : ℕ → Checked) (l m : Outcome) (u : ℕ → Outcome) (o : Option ℕ) (b : Bool)
+    → bind (givenOf p at k (λ n. l) m o b) u ≡ givenOf p at k (λ n. bind l u) (bind m u) o b
+unfolding bind
+bind-given p at k l m u (some n) b = refl
+bind-given p at k l m u none true = refl
+bind-given p at k l m u none false = refl
+
 module _ {p : Page} {d : ℕ} where
-  pub optionals : {g : Fields} (k : Option ℕ → Layout) → ((n : ℕ) → Agrees p d true g (k (some n))) → Agrees p d true g (k none) → Agrees p d true (Fields.token ▸ g) (optional k)
+  pub presents : {g : Fields} {v w : Layout} → Agrees p d true g v → Agrees p d true g w → Agrees p d true (Fields.token ▸ g) (present v w)
   unfolding outcome Unbounded.outcome fields
-  optionals {g} k x y =
+  presents {g} {v} {w} x y =
       record {
         step =
             record {
               agrees =
-                  λ at. optional-agrees p at (λ next. ends p d true g next) (λ n. outcome p (k (some n)) (at + 3)) (outcome p (k none) (at + 1))
-                  (tokenFits (p .rec) (count p) at) refl (absentAt (p .rec) at) refl (λ n. x n .step .agrees (at + 3)) (y .step .agrees (at + 1));
+                  λ at. optional-agrees p at (λ next. ends p d true g next) (λ n. outcome p v (at + 3)) (outcome p w (at + 1))
+                  (tokenFits (p .rec) (count p) at) refl (absentAt (p .rec) at) refl (λ n. x .step .agrees (at + 3)) (y .step .agrees (at + 1));
               free =
-                  λ at end e. optional-free p at (λ next. ends p d true g next) (λ n. outcome p (k (some n)) (at + 3)) (λ n. Unbounded.outcome p (k (some n)) (at + 3))
-                  (outcome p (k none) (at + 1)) (Unbounded.outcome p (k none) (at + 1)) end (tokenFits (p .rec) (count p) at) refl (absentAt (p .rec) at) refl
-                  (λ n f. x n .step .free (at + 3) end f) (y .step .free (at + 1) end) e;
+                  λ at end e. optional-free p at (λ next. ends p d true g next) (λ n. outcome p v (at + 3)) (λ n. Unbounded.outcome p v (at + 3))
+                  (outcome p w (at + 1)) (Unbounded.outcome p w (at + 1)) end (tokenFits (p .rec) (count p) at) refl (absentAt (p .rec) at) refl
+                  (λ n f. x .step .free (at + 3) end f) (y .step .free (at + 1) end) e;
             };
       }
+
+  pub presents-then : {g : Fields} {u v w : Layout} → Agrees p d true g (v ⨾ u) → Agrees p d true g (w ⨾ u) → Agrees p d true (Fields.token ▸ g) (present v w ⨾ u)
+  unfolding outcome Unbounded.outcome fields
+  presents-then {g} {u} {v} {w} x y =
+      let both = presents x y .step in
+      record {
+        step =
+            record {
+              agrees =
+                  λ at. subst (λ (o : Outcome). Agree p (ends p d true (Fields.token ▸ g) at) o)
+                  (sym (bind-given p at (λ next. ends p d true g next) (outcome p v (at + 3)) (outcome p w (at + 1)) (λ next. outcome p u next) (tokenFits (p .rec) (count p) at) (absentAt (p .rec) at)))
+                  (both .agrees at);
+              free =
+                  λ at end e. bind-given p at (λ next. ends p d true g next) (Unbounded.outcome p v (at + 3)) (Unbounded.outcome p w (at + 1)) (λ next. Unbounded.outcome p u next) (tokenAt (p .rec) at) (absentAt (p .rec) at)
+                  ∙ both .free at end e
+                  ∙ sym (bind-given p at (λ next. ends p d true g next) (outcome p v (at + 3)) (outcome p w (at + 1)) (λ next. outcome p u next) (tokenFits (p .rec) (count p) at) (absentAt (p .rec) at));
+            };
+      }
+
+  pub presents-last : {v w : Layout} → Agrees p d true Fields.none v → Agrees p d true Fields.none w → Agrees p d true Fields.token (present v w)
+  presents-last x y = last (presents x y)
 
   pub maybes : {f : Fields} {w : Layout} → mayBe f ≡ true → Agrees p d true f w → Agrees p d true f (maybe w)
   unfolding outcome Unbounded.outcome
@@ -406,50 +498,6 @@ module _ {p : Page} {d : ℕ} {may : Bool} where
   unfolding when
   whens x true = x
   whens x false = skips
-
-  pub whens-some : {w : Layout} → Agrees p d may Fields.none w → (o : Option ℕ) → Agrees p d may Fields.none (when-some o w)
-  unfolding when-some
-  whens-some x (some n) = x
-  whens-some x none = skips
-
-module _ {p : Page} {d : ℕ} {may : Bool} {f : Fields} where
-  module _ (k : Bool → Layout) (x : Agrees p d may f (k true)) (y : Agrees p d may f (k false)) where
-    either : (b : Bool) → Agrees p d may f (k b)
-    either true = x
-    either false = y
-
-    pub looks : {l : Look} → Agrees p d may f (look l k)
-    unfolding outcome Unbounded.outcome
-    looks {l} = record { step = record { agrees = λ at. either (sees p l at) .step .agrees at; free = λ at. either (sees p l at) .step .free at } }
-
-    pub tests : {t : Test} {n : ℕ} → Agrees p d may f (test t n k)
-    unfolding outcome Unbounded.outcome
-    tests {t} {n} = record { step = record { agrees = λ at. either (passes p t n) .step .agrees at; free = λ at. either (passes p t n) .step .free at } }
-
-  module _ {k : Option ℕ → Layout} (x : (o : Option ℕ) → Agrees p d may f (k o)) where
-    pub aboves : {n : ℕ} → Agrees p d may f (above n k)
-    unfolding outcome Unbounded.outcome
-    aboves {n} =
-        record { step = record { agrees = λ at. x (commentAbove (p .tokens .kinds) n) .step .agrees at; free = λ at. x (commentAbove (p .tokens .kinds) n) .step .free at } }
-
-    pub firstNames : Agrees p d may f (firstName k)
-    unfolding outcome Unbounded.outcome
-    firstNames = record { step = record { agrees = λ at. agrees at (pathName (p .rec) at); free = λ at end e. free at end (pathName (p .rec) at) e } }
-      where
-        agrees : (at : ℕ) (n : Name) → Agree p (ends p d may f at) (elim n as (λ n. Outcome) [ name n m ↦ outcome p (k (some n)) at | noName place ↦ outcome p (k none) at ])
-        agrees at (name n m) = x (some n) .step .agrees at
-        agrees at (noName place) = x none .step .agrees at
-
-        free : (at end : ℕ) (n : Name) → ends p d may f at ≡ ok end
-            → _≡_ {A = Outcome} (elim n [ name n m ↦ Unbounded.outcome p (k (some n)) at | noName place ↦ Unbounded.outcome p (k none) at ])
-            (elim n [ name n m ↦ outcome p (k (some n)) at | noName place ↦ outcome p (k none) at ])
-        free at end (name n m) e = x (some n) .step .free at end e
-        free at end (noName place) e = x none .step .free at end e
-
-  -- ---- a depth more
-  pub indenteds : (c : Cfg) (k : Cfg → Layout) → Agrees p d may f (k (deeper c)) → Agrees p d may f (indented c k)
-  unfolding indented
-  indenteds c k x = before forms-depth x
 
 -- ---- items
 module _ {p : Page} {d : ℕ} {f : Fields} where
@@ -564,33 +612,90 @@ module _ {p : Page} {may : Bool} where
       arm : (at n : ℕ) → formAt (p .rec) family at ≡ some n → Agrees p d true (getD (forms family) n Fields.none) (k n)
       arm at n e = x n .agrees (form-number (p .rec) at family n e)
 
-  pub declarations : {d : ℕ} {k : Declared → Layout}
-      → ((at n : ℕ) → formAt (p .rec) DecOne at ≡ some n
-      → Agrees p d true (getD (forms DecOne) n Fields.none) (k (record { place = at; number = n; first = firstToken (p .rec) at })))
-      → Agrees p (suc d) may (Fields.form DecOne) (declaration k)
+-- ---- declarations
+-- The check of the fields of a number's arm; the comment above a first token and the arm, with and without the bounds.
+abbrev arm-check : Page → ℕ → ℕ → ℕ → Checked
+arm-check p d n at = ends p d true (getD (forms DecOne) n Fields.none) at
+
+abbrev declared : Page → Layout → Layout → Option ℕ → ℕ → Outcome
+declared p line arm first at = bind (commented (aboveFirst p first) (λ next. outcome p line next) at) (λ next. outcome p arm next)
+
+abbrev declared-free : Page → Layout → Layout → Option ℕ → ℕ → Outcome
+declared-free p line arm first at =
+    bind (commented (aboveFirst p first) (λ next. Unbounded.outcome p line next) at) (λ next. Unbounded.outcome p arm next)
+
+module _ (p : Page) where
+  -- Behind an import's command the walk stops.
+  import-stop : (at : ℕ) → formAt (p .rec) DecOne at ≡ some (decNumber EsImportDec) → (end : ℕ) (o : Outcome) → Agree p (ok (at + formWidth DecOne)) o
+      → Agree p (ok end) (bind o (λ next. stopped (imported next) []))
+  unfolding bind after
+  import-stop at found end (done next es) m = λ end e. (at, cc, found)
+  import-stop at found end (stopped why es) m = λ end e. m (at + formWidth DecOne) refl
+
+  found-form : (at n : ℕ) → formFits (p .rec) (count p) DecOne at ≡ some n → formAt (p .rec) DecOne at ≡ some n
+  found-form at n e = fits-parts (p .rec) (count p) DecOne at n e .0
+
+module _ {p : Page} {d : ℕ} {line : Layout} {arm : ℕ → Layout} (l : Agrees p d true Fields.none line) (i : arm (decNumber EsImportDec) ≡ import)
+    (x : (n : ℕ) → n < length (forms DecOne) → (n ≡ decNumber EsImportDec → ⊥) → Agrees p d true (getD (forms DecOne) n Fields.none) (arm n)) where
+  above : (first : Option ℕ) → Keeps p ok (commented (aboveFirst p first) (λ next. outcome p line next)) (commented (aboveFirst p first) (λ next. Unbounded.outcome p line next))
+  above first = commented-silent (aboveFirst p first) (silent l)
+
+  -- A command whose arm is no import; one whose arm is.
+  other-keeps : (first : Option ℕ) (n : ℕ) → n < length (forms DecOne) → (n ≡ decNumber EsImportDec → ⊥)
+      → Keeps p (arm-check p d n) (declared p line (arm n) first) (declared-free p line (arm n) first)
+  unfolding andThen
+  other-keeps first n h o = keeps-then (above first) (keeps (x n h o .step))
+
+  import-agrees : (at : ℕ) → formAt (p .rec) DecOne at ≡ some (decNumber EsImportDec)
+      → Agree p (arm-check p d (decNumber EsImportDec) (at + formWidth DecOne)) (declared p line (arm (decNumber EsImportDec)) (firstToken (p .rec) at) (at + formWidth DecOne))
+  unfolding outcome fields forms decNumber
+  import-agrees at found =
+      rw i
+      (import-stop p at found (at + formWidth DecOne) (commented (aboveFirst p (firstToken (p .rec) at)) (λ next. outcome p line next) (at + formWidth DecOne))
+      (above (firstToken (p .rec) at) .agrees (at + formWidth DecOne)))
+
+  import-free : (first : Option ℕ) (at end : ℕ) → arm-check p d (decNumber EsImportDec) at ≡ ok end
+      → declared-free p line (arm (decNumber EsImportDec)) first at ≡ declared p line (arm (decNumber EsImportDec)) first at
+  unfolding outcome Unbounded.outcome fields forms decNumber
+  import-free first at end e = rw i (ap (λ (o : Outcome). bind o (λ next. stopped (imported next) [])) (above first .free at end e))
+
+  number-agrees : (at n : ℕ) → formAt (p .rec) DecOne at ≡ some n → (b : Bool) → eqb n (decNumber EsImportDec) ≡ b
+      → Agree p (arm-check p d n (at + formWidth DecOne)) (declared p line (arm n) (firstToken (p .rec) at) (at + formWidth DecOne))
+  number-agrees at n found true e =
+      let z = eqb-true n (decNumber EsImportDec) e in
+      subst (λ (n : ℕ). Agree p (arm-check p d n (at + formWidth DecOne)) (declared p line (arm n) (firstToken (p .rec) at) (at + formWidth DecOne))) (sym z)
+      (import-agrees at (found ∙ ap some z))
+  number-agrees at n found false e =
+      other-keeps (firstToken (p .rec) at) n (form-number (p .rec) at DecOne n found) (eqb-false n (decNumber EsImportDec) e) .agrees (at + formWidth DecOne)
+
+  number-free : (at n end : ℕ) → formAt (p .rec) DecOne at ≡ some n → arm-check p d n (at + formWidth DecOne) ≡ ok end → (b : Bool) → eqb n (decNumber EsImportDec) ≡ b
+      → declared-free p line (arm n) (firstToken (p .rec) at) (at + formWidth DecOne) ≡ declared p line (arm n) (firstToken (p .rec) at) (at + formWidth DecOne)
+  number-free at n end found f true e =
+      let z = eqb-true n (decNumber EsImportDec) e in
+      subst
+      (λ (n : ℕ). arm-check p d n (at + formWidth DecOne) ≡ ok end
+      → declared-free p line (arm n) (firstToken (p .rec) at) (at + formWidth DecOne) ≡ declared p line (arm n) (firstToken (p .rec) at) (at + formWidth DecOne))
+      (sym z) (import-free (firstToken (p .rec) at) (at + formWidth DecOne) end) f
+  number-free at n end found f false e =
+      other-keeps (firstToken (p .rec) at) n (form-number (p .rec) at DecOne n found) (eqb-false n (decNumber EsImportDec) e) .free (at + formWidth DecOne) end f
+
+  pub declarations : {may : Bool} → Agrees p (suc d) may (Fields.form DecOne) (declaration line arm)
   unfolding outcome Unbounded.outcome fields formCheck
-  declarations {d} {k} x =
+  declarations {may} =
       record {
         step =
             record {
               agrees =
-                  λ at. read-agrees p may at (inner at) (λ n. outcome p (arm at n) (at + formWidth DecOne)) (formFits (p .rec) (count p) DecOne at)
-                  (λ n e. form-there (p .rec) at DecOne n (found at n e)) (λ n e. x at n (found at n e) .step .agrees (at + formWidth DecOne));
+                  λ at. read-agrees p may at (λ n. arm-check p d n (at + formWidth DecOne)) (λ n. declared p line (arm n) (firstToken (p .rec) at) (at + formWidth DecOne))
+                  (formFits (p .rec) (count p) DecOne at) (λ n e. form-there (p .rec) at DecOne n (found-form p at n e))
+                  (λ n e. number-agrees at n (found-form p at n e) (eqb n (decNumber EsImportDec)) refl);
               free =
-                  λ at end e. read-free p may at (inner at) (λ n. outcome p (arm at n) (at + formWidth DecOne)) (λ n. Unbounded.outcome p (arm at n) (at + formWidth DecOne))
-                  (formFits (p .rec) (count p) DecOne at) (formAt (p .rec) DecOne at) (found at) (form-there (p .rec) at DecOne)
-                  (λ n end f g. x at n (found at n f) .step .free (at + formWidth DecOne) end g) end e;
+                  λ at end e. read-free p may at (λ n. arm-check p d n (at + formWidth DecOne)) (λ n. declared p line (arm n) (firstToken (p .rec) at) (at + formWidth DecOne))
+                  (λ n. declared-free p line (arm n) (firstToken (p .rec) at) (at + formWidth DecOne)) (formFits (p .rec) (count p) DecOne at) (formAt (p .rec) DecOne at)
+                  (found-form p at) (form-there (p .rec) at DecOne)
+                  (λ n end f g. number-free at n end (found-form p at n f) g (eqb n (decNumber EsImportDec)) refl) end e;
             };
       }
-    where
-      arm : ℕ → ℕ → Layout
-      arm at n = k (record { place = at; number = n; first = firstToken (p .rec) at })
-
-      inner : ℕ → ℕ → Checked
-      inner at n = ends p d true (getD (forms DecOne) n Fields.none) (at + formWidth DecOne)
-
-      found : (at n : ℕ) → formFits (p .rec) (count p) DecOne at ≡ some n → formAt (p .rec) DecOne at ≡ some n
-      found at n e = fits-parts (p .rec) (count p) DecOne at n e .0
 
 -- ---- a row of arms and the row of their fields, by number
 -- From the arm `from` on, where the arm that is taken has a number.
@@ -670,11 +775,3 @@ module _ {p : Page} {d : ℕ} {w : Layout} (low : d ≤ 200) (x : Agrees p d tru
               free = λ at end e. ap (λ (o : Outcome). Unbounded.onwards p at o) (x .step .free at end e) ∙ onwards-free at end (outcome p w at) e;
             };
       }
-
--- ---- a token, and nothing read behind it
-pub tokens-last : {p : Page} {d : ℕ} {may : Bool} {k : ℕ → Layout} → ((n : ℕ) → Agrees p d may Fields.none (k n)) → Agrees p d may Fields.token (token k)
-tokens-last x = last (tokens x)
-
-pub optionals-last : {p : Page} {d : ℕ} (k : Option ℕ → Layout) → ((n : ℕ) → Agrees p d true Fields.none (k (some n))) → Agrees p d true Fields.none (k none)
-    → Agrees p d true Fields.token (optional k)
-optionals-last k x y = last (optionals k x y)

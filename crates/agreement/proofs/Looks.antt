@@ -13,14 +13,16 @@ use borrow.Author.Tests.{eqb-true, ne-eqb}
 use Rattle.text.proofs.Laws.{never}
 use Rattle.reader.specs.Fields as Fields
 use Rattle.reader.specs.Fields.{Exp, Fields, _▸_, Path, forms}
+use Rattle.reader.specs.Forms.{PathExp, expNumber}
 use Rattle.reader.specs.Commands.{absentAt, tokenAt, listAt, groupAt, formAt, formWidth}
 use Rattle.reader.specs.Check as Check
 use Rattle.reader.specs.Check.{Checked, ok, malformed, tooDeep, andThen, operandFits, tokenFits, orAbsent, fields, formFits, formCheck, fieldEnd}
 use Rattle.reader.proofs.CommandLaws.{token-there, group-there, form-there, form-fits}
 use Rattle.reader.proofs.FieldLaws.{then-parts, some-parts, or-is, fits-yes, zero-never}
 use Rattle.reader.proofs.Ends.{ends-more}
-use Rattle.layout.specs.Layout.{Layout, Head, pathExp, otherExp, heads}
-use Rattle.layout.specs.Meaning.{Page, Outcome, stopped, absent, outcome, Name, name, noName, dotName, listName, pathName, opPathName, pathExpNumber}
+use Rattle.layout.specs.Layout.{Layout, Look, Test, _⨾_, look, firstName, application}
+use Rattle.layout.specs.Meaning.{Page, Outcome, stopped, absent, bind, orStop, outcome, sees, namePasses, Name, name, noName, dotName, listName, pathName, opPathName}
+use Rattle.layout.specs.Meaning.{Head, pathExp, otherExp, funcIsBang, argIsSymbolic}
 use Rattle.layout.specs.Meaning.{Seen, seen, unseen, bothSeen, Heads, both, missing, headOf, headsFrom, headsAt}
 use Rattle.agreement.specs.Agreement.{Proper, Agree}
 use Rattle.agreement.specs.Unbounded as Unbounded
@@ -127,12 +129,17 @@ module _ (p : Page) where
     unfolding fields opPathName
     named at = op-finds at (tokenAt (p .rec) at) refl (absentAt (p .rec) at) refl
 
+  -- No path stands there.
+  no-path : (d : ℕ) (may : Bool) (at : ℕ) → groupAt (p .rec) at ≡ false → (end : ℕ) → ends p d may Path at ≡ ok end → absentAt (p .rec) at ≡ true
+  unfolding fields
+  no-path d may at e end g = gone p may at end (rw (e, fields) at g)
+
   -- ---- one expression
   bad-sees : (c : Checked) (s : Seen) → ((end : ℕ) → c ≡ ok end → ⊥) → Sees c s
   bad-sees c (seen h) b = tt
   bad-sees c (unseen place) b = λ end e. absurd (b end e)
 
-  name-sees : (c : Checked) (at : ℕ) → formAt (p .rec) Exp at ≡ some pathExpNumber → (n : Name) → opPathName (p .rec) (at + 1) ≡ n → Finds c n
+  name-sees : (c : Checked) (at : ℕ) → formAt (p .rec) Exp at ≡ some (expNumber PathExp) → (n : Name) → opPathName (p .rec) (at + 1) ≡ n → Finds c n
       → Sees c (elim n as (λ n. Seen) [ name t m ↦ seen (pathExp t m) | noName place ↦ unseen place ])
   name-sees c at found (name t m) e f = tt
   name-sees c at found (noName place) e f = λ end g. go (f end g)
@@ -142,16 +149,16 @@ module _ (p : Page) where
       go (inr h) = inr (at, found, e, h)
 
   -- The fields of an expression by its number.
-  head-sees : (d n at : ℕ) → formAt (p .rec) Exp at ≡ some n → (b : Bool) → eqb n pathExpNumber ≡ b
+  head-sees : (d n at : ℕ) → formAt (p .rec) Exp at ≡ some n → (b : Bool) → eqb n (expNumber PathExp) ≡ b
       → Sees (ends p d true (getD (forms Exp) n Fields.none) (at + 1))
       (elim b as (λ b. Seen) [
         | true ↦ elim (opPathName (p .rec) (at + 1)) [ name t m ↦ seen (pathExp t m) | noName place ↦ unseen place ]
         | false ↦ seen otherExp
       ])
-  unfolding forms
+  unfolding forms expNumber
   head-sees d n at found false e = tt
   head-sees d n at found true e =
-      let z : n ≡ pathExpNumber = eqb-true n pathExpNumber e in
+      let z : n ≡ expNumber PathExp = eqb-true n (expNumber PathExp) e in
       subst (λ (n : ℕ). Sees (ends p d true (getD (forms Exp) n Fields.none) (at + 1)) (elim (opPathName (p .rec) (at + 1)) as (λ n. Seen) [ name t m ↦ seen (pathExp t m) | noName place ↦ unseen place ]))
       (sym z) (name-sees (ends p d true (Fields.token ▸ Path) (at + 1)) at (found ∙ ap some z) (opPathName (p .rec) (at + 1)) refl (named d (at + 1)))
 
@@ -160,7 +167,7 @@ module _ (p : Page) where
   form-sees zero n at e = bad-sees (formCheck (p .rec) (count p) zero Exp at) (headOf (p .rec) n (at + 1)) (zero-never (p .rec) (count p) Exp at)
   form-sees (suc d) n at e =
       let f : formFits (p .rec) (count p) Exp at ≡ some n = fits-yes (p .rec) (count p) Exp at refl ∙ e in
-      rw (f, formCheck) (head-sees d n at e (eqb n pathExpNumber) refl)
+      rw (f, formCheck) (head-sees d n at e (eqb n (expNumber PathExp)) refl)
 
   there-sees : (d n at : ℕ) → formAt (p .rec) Exp at ≡ some n → Sees (ends p d true (Fields.form Exp) at) (headOf (p .rec) n (at + 1))
   unfolding fields
@@ -174,9 +181,9 @@ module _ (p : Page) where
   none-check zero at e = let f : formFits (p .rec) (count p) Exp at ≡ none = fits-yes (p .rec) (count p) Exp at refl ∙ e in rw (f, formCheck) refl
   none-check (suc d) at e = let f : formFits (p .rec) (count p) Exp at ≡ none = fits-yes (p .rec) (count p) Exp at refl ∙ e in rw (f, formCheck) refl
 
-  none-agrees : (d at : ℕ) → formAt (p .rec) Exp at ≡ none → Agree p (ends p d true (Fields.form Exp) at) (stopped (absent at) [])
+  none-agrees : (d : ℕ) (may : Bool) (at : ℕ) → formAt (p .rec) Exp at ≡ none → Agree p (ends p d may (Fields.form Exp) at) (stopped (absent at) [])
   unfolding fields
-  none-agrees d at e = λ end g. inl (gone p true at end (ap (λ (c : Checked). orAbsent (p .rec) (count p) true at c) (sym (none-check d at e)) ∙ g))
+  none-agrees d may at e = λ end g. inl (gone p may at end (ap (λ (c : Checked). orAbsent (p .rec) (count p) may at c) (sym (none-check d at e)) ∙ g))
 
   -- ---- both
   both-sees : (c : Checked) (mid : ℕ) (f a : Seen) → Sees (ok mid) f → Sees c a → SeesBoth c (bothSeen f a)
@@ -190,7 +197,7 @@ module _ (p : Page) where
       (elim o as (λ o. Heads) [ some m ↦ bothSeen (headOf (p .rec) n (func + 1)) (headOf (p .rec) m (arg + 1)) | none ↦ missing arg ])
   from-sees d n func arg x (some m) e =
       both-sees (ends p d true (Fields.form Exp) arg) arg (headOf (p .rec) n (func + 1)) (headOf (p .rec) m (arg + 1)) x (there-sees d m arg e)
-  from-sees d n func arg x none e = none-agrees d arg e
+  from-sees d n func arg x none e = none-agrees d true arg e
 
   bad-both : (c : Checked) (h : Heads) → ((end : ℕ) → c ≡ ok end → ⊥) → SeesBoth c h
   bad-both c (both f a) b = tt
@@ -219,30 +226,30 @@ module _ (p : Page) where
         → SeesBoth (andThen (next-exp func) (λ next. next-exp next))
         (elim o as (λ o. Heads) [ some n ↦ headed n func (fieldEnd (p .rec) (count p) (Fields.form Exp) func) | none ↦ missing func ])
     first-sees func (some n) e = behind-sees n func (next-exp func) (fieldEnd (p .rec) (count p) (Fields.form Exp) func) refl refl e
-    first-sees func none e = λ end g. let q = then-parts (next-exp func) (λ next. next-exp next) end g in none-agrees d func e (q .0) (q .1)
+    first-sees func none e = λ end g. let q = then-parts (next-exp func) (λ next. next-exp next) end g in none-agrees d true func e (q .0) (q .1)
 
     sees-heads : (at : ℕ) → SeesBoth (ends p d true (Fields.form Exp ▸ Fields.form Exp) at) (headsAt (p .rec) (count p) at)
     unfolding fields headsAt
     sees-heads at = first-sees at (formAt (p .rec) Exp at) refl
 
-module _ {p : Page} {d : ℕ} {k : Head → Head → Layout} (low : d ≤ 200) (x : (f a : Head) → Agrees p d true (Fields.form Exp ▸ Fields.form Exp) (k f a)) where
+module _ {p : Page} {d : ℕ} {k : Bool → Bool → Layout} (low : d ≤ 200) (x : (b c : Bool) → Agrees p d true (Fields.form Exp ▸ Fields.form Exp) (k b c)) where
   abbrev two : ℕ → Checked
   two at = ends p d true (Fields.form Exp ▸ Fields.form Exp) at
 
   seen-agrees : (at : ℕ) (h : Heads) → SeesBoth p (two at) h
-      → Agree p (two at) (elim h as (λ h. Outcome) [ both f a ↦ outcome p (k f a) at | missing place ↦ stopped (absent place) [] ])
-  seen-agrees at (both f a) s = x f a .step .agrees at
+      → Agree p (two at) (elim h as (λ h. Outcome) [ both f a ↦ outcome p (k (funcIsBang p f) (argIsSymbolic p a)) at | missing place ↦ stopped (absent place) [] ])
+  seen-agrees at (both f a) s = x (funcIsBang p f) (argIsSymbolic p a) .step .agrees at
   seen-agrees at (missing place) s = s
 
   seen-free : (at end : ℕ) (h : Heads) → two at ≡ ok end
-      → _≡_ {A = Outcome} (elim h [ both f a ↦ Unbounded.outcome p (k f a) at | missing place ↦ stopped (absent place) [] ])
-      (elim h [ both f a ↦ outcome p (k f a) at | missing place ↦ stopped (absent place) [] ])
-  seen-free at end (both f a) e = x f a .step .free at end e
+      → _≡_ {A = Outcome} (elim h [ both f a ↦ Unbounded.outcome p (k (funcIsBang p f) (argIsSymbolic p a)) at | missing place ↦ stopped (absent place) [] ])
+      (elim h [ both f a ↦ outcome p (k (funcIsBang p f) (argIsSymbolic p a)) at | missing place ↦ stopped (absent place) [] ])
+  seen-free at end (both f a) e = x (funcIsBang p f) (argIsSymbolic p a) .step .free at end e
   seen-free at end (missing place) e = refl
 
-  pub headed-both : Agrees p d true (Fields.form Exp ▸ Fields.form Exp) (heads k)
+  pub applications : Agrees p d true (Fields.form Exp ▸ Fields.form Exp) (application k)
   unfolding outcome Unbounded.outcome
-  headed-both =
+  applications =
       record {
         step =
             record {
@@ -250,3 +257,57 @@ module _ {p : Page} {d : ℕ} {k : Head → Head → Layout} (low : d ≤ 200) (
               free = λ at end e. seen-free at end (headsAt (p .rec) (count p) at) e;
             };
       }
+
+-- ---- a question, by its answer
+module _ {p : Page} {d : ℕ} {may : Bool} {f : Fields} {v w : Layout} (x : Agrees p d may f v) (y : Agrees p d may f w) where
+  either-agrees : (at : ℕ) (b : Bool) → Agree p (ends p d may f at) (elim b as (λ b. Outcome) [ true ↦ outcome p v at | false ↦ outcome p w at ])
+  either-agrees at true = x .step .agrees at
+  either-agrees at false = y .step .agrees at
+
+  either-free : (at end : ℕ) → ends p d may f at ≡ ok end → (b : Bool)
+      → _≡_ {A = Outcome} (elim b [ true ↦ Unbounded.outcome p v at | false ↦ Unbounded.outcome p w at ]) (elim b [ true ↦ outcome p v at | false ↦ outcome p w at ])
+  either-free at end e true = x .step .free at end e
+  either-free at end e false = y .step .free at end e
+
+-- About the expression at the cursor.
+module _ {p : Page} {d : ℕ} {may : Bool} {v w : Layout} (x : Agrees p d may (Fields.form Exp) v) (y : Agrees p d may (Fields.form Exp) w) where
+  pub looks : {l : Look} → Agrees p d may (Fields.form Exp) (look l v w)
+  unfolding outcome Unbounded.outcome orStop
+  looks {l} = record { step = record { agrees = λ at. agrees at (formAt (p .rec) Exp at) refl; free = λ at end e. free at end e (formAt (p .rec) Exp at) } }
+    where
+      answer : ℕ → Outcome
+      answer at = elim (sees p l at) [ true ↦ outcome p v at | false ↦ outcome p w at ]
+
+      agrees : (at : ℕ) (o : Option ℕ) → formAt (p .rec) Exp at ≡ o
+          → Agree p (ends p d may (Fields.form Exp) at) (orStop o at (λ n. answer at))
+      agrees at (some n) e = either-agrees x y at (sees p l at)
+      agrees at none e = none-agrees p d may at e
+
+      free : (at end : ℕ) → ends p d may (Fields.form Exp) at ≡ ok end → (o : Option ℕ)
+          → orStop o at (λ n. elim (sees p l at) [ true ↦ Unbounded.outcome p v at | false ↦ Unbounded.outcome p w at ]) ≡ orStop o at (λ n. answer at)
+      free at end e (some n) = either-free x y at end e (sees p l at)
+      free at end e none = refl
+
+-- About the first name of the path at the cursor, which is walked next.
+module _ {p : Page} {d : ℕ} {may : Bool} {u v w : Layout} (z : Agrees p d may Path u) (x : Agrees p d may Path (v ⨾ u)) (y : Agrees p d may Path (w ⨾ u)) where
+  pub firstNames : {t : Test} → Agrees p d may Path (firstName t v w ⨾ u)
+  unfolding outcome Unbounded.outcome bind
+  firstNames {t} =
+      record { step = record { agrees = λ at. agrees at (namePasses p t at) (groupAt (p .rec) at) refl; free = λ at end e. free at end e (namePasses p t at) (groupAt (p .rec) at) } }
+    where
+      answer : ℕ → Bool → Bool → Outcome
+      answer at b c = bind (elim c [ true ↦ elim b [ true ↦ outcome p v at | false ↦ outcome p w at ] | false ↦ stopped (absent at) [] ]) (λ next. outcome p u next)
+
+      unbounded : ℕ → Bool → Bool → Outcome
+      unbounded at b c =
+          bind (elim c [ true ↦ elim b [ true ↦ Unbounded.outcome p v at | false ↦ Unbounded.outcome p w at ] | false ↦ stopped (absent at) [] ]) (λ next. Unbounded.outcome p u next)
+
+      agrees : (at : ℕ) (b c : Bool) → groupAt (p .rec) at ≡ c → Agree p (ends p d may Path at) (answer at b c)
+      agrees at true true e = x .step .agrees at
+      agrees at false true e = y .step .agrees at
+      agrees at b false e = λ end g. inl (no-path p d may at e end g)
+
+      free : (at end : ℕ) → ends p d may Path at ≡ ok end → (b c : Bool) → unbounded at b c ≡ answer at b c
+      free at end e true true = x .step .free at end e
+      free at end e false true = y .step .free at end e
+      free at end e b false = refl

@@ -4,22 +4,21 @@ use Prim.Native.Nat.{ℕ, _+_}
 use mathlib.Core.List.{List, [], _∷_}
 use mathlib.Core.Bool.{true, false}
 use mathlib.Core.Option.{none, some}
-use lib.ListN.{length}
-use Rattle.reader.specs.Fields.{DecOne, Ty}
+use Rattle.reader.specs.Fields.{DecOne, Exp, Ty}
 use Rattle.reader.specs.Fields as Fields
 use Rattle.reader.specs.Commands.{absentAt, tokenAt, listAt, groupAt, choiceAt, formAt, formWidth, firstToken}
+use Rattle.reader.specs.Tokens.{countOf}
 use Rattle.reader.specs.Check.{ok, malformed, tooDeep, maxForms, fieldEnd}
-use Rattle.comments.specs.Above.{commentAbove}
-use Rattle.layout.specs.Layout.{Layout, skip, _⨾_, word, write, comment, output-indent, formed, token, group, choice, form, list, declaration, optional}
-use Rattle.layout.specs.Layout.{maybe, look, test, above, firstName, heads, dropped, halt, import}
-use Rattle.layout.specs.Meaning.{Page, Word, Token, Comment, Formed, Indent, Outcome, done, stopped, absent, imported, bind, orStop, passes, sees}
-use Rattle.layout.specs.Meaning.{name, noName, pathName, both, missing, headsAt}
+use Rattle.layout.specs.Layout.{Layout, skip, _⨾_, word, output-indent, formed, text, group, choice, form, list, maybe, present}
+use Rattle.layout.specs.Layout.{look, firstName, application, operator, declaration, dropped, halt, import}
+use Rattle.layout.specs.Meaning.{Page, Word, Token, Formed, Indent, Outcome, done, stopped, absent, imported, bind, commented, orStop, sees}
+use Rattle.layout.specs.Meaning.{namePasses, both, missing, headsAt, funcIsBang, argIsSymbolic, aboveFirst, operated}
 use Rattle.layout.specs.GetDec.{get-dec}
 use Rattle.layout.specs.Walk.{walks, top}
 
 module _ (p : Page) where
   abbrev count : ℕ
-  count = length (p .tokens .starts)
+  count = countOf (p .tokens)
 
   unfoldable pub onwards : ℕ → Outcome → Outcome
   onwards at (done next es) = done next es
@@ -31,21 +30,23 @@ module _ (p : Page) where
       ]
 
   unfoldable pub outcome : Layout → ℕ → Outcome
-  outcome (token k) at = orStop (tokenAt (p .rec) at) at (λ n. outcome (k n) (at + 3))
-  outcome (declaration k) at =
-      orStop (formAt (p .rec) DecOne at) at
-      (λ n. outcome (k (record { place = at; number = n; first = firstToken (p .rec) at })) (at + formWidth DecOne))
-  outcome (optional k) at =
+  outcome text at = orStop (tokenAt (p .rec) at) at (λ k. done (at + 3) (Token k ∷ []))
+  outcome (present v w) at =
       elim (tokenAt (p .rec) at) [
-        | some n ↦ outcome (k (some n)) (at + 3)
-        | none ↦ elim (absentAt (p .rec) at) [ true ↦ outcome (k none) (at + 1) | false ↦ stopped (absent at) [] ]
+        | some k ↦ outcome v (at + 3)
+        | none ↦ elim (absentAt (p .rec) at) [ true ↦ outcome w (at + 1) | false ↦ stopped (absent at) [] ]
       ]
+  outcome (operator lhs pipe gap) at =
+      orStop (tokenAt (p .rec) at) at
+      (λ k. bind (outcome lhs (at + 3)) (operated p k (λ next. outcome pipe next) (λ next. outcome gap next)))
+  outcome (declaration line arm) at =
+      orStop (formAt (p .rec) DecOne at) at
+      (λ n. bind (commented (aboveFirst p (firstToken (p .rec) at)) (λ next. outcome line next) (at + formWidth DecOne))
+      (λ next. outcome (arm n) next))
   outcome (dropped left w) at = onwards at (outcome w at)
   outcome skip at = done at []
   outcome (v ⨾ w) at = bind (outcome v at) (λ next. outcome w next)
   outcome (word w) at = done at (Word w ∷ [])
-  outcome (write k) at = done at (Token k ∷ [])
-  outcome (comment k) at = done at (Comment k ∷ [])
   outcome (output-indent depth) at = done at (Indent depth ∷ [])
   outcome (formed depth) at = done at (Formed depth ∷ [])
   outcome (group w) at = elim (groupAt (p .rec) at) [ true ↦ outcome w (at + 1) | false ↦ stopped (absent at) [] ]
@@ -53,15 +54,18 @@ module _ (p : Page) where
   outcome (form family k) at = orStop (formAt (p .rec) family at) at (λ n. outcome (k n) (at + formWidth family))
   outcome (list k) at = orStop (listAt (p .rec) at) at (λ n. outcome (k n) (at + 3))
   outcome (maybe w) at = elim (absentAt (p .rec) at) [ true ↦ done (at + 1) [] | false ↦ outcome w at ]
-  outcome (look l k) at = outcome (k (sees p l at)) at
-  outcome (test t n k) at = outcome (k (passes p t n)) at
-  outcome (above n k) at = outcome (k (commentAbove (p .tokens .kinds) n)) at
-  outcome (firstName k) at =
-      elim (pathName (p .rec) at) [ name n m ↦ outcome (k (some n)) at | noName place ↦ outcome (k none) at ]
-  outcome (heads k) at =
-      elim (headsAt (p .rec) count at) [ both f a ↦ outcome (k f a) at | missing place ↦ stopped (absent place) [] ]
+  outcome (look l v w) at =
+      orStop (formAt (p .rec) Exp at) at (λ n. elim (sees p l at) [ true ↦ outcome v at | false ↦ outcome w at ])
+  outcome (firstName t v w) at =
+      elim (groupAt (p .rec) at) [
+        | true ↦ elim (namePasses p t at) [ true ↦ outcome v at | false ↦ outcome w at ]
+        | false ↦ stopped (absent at) []
+      ]
+  outcome (application k) at =
+      elim (headsAt (p .rec) count at)
+      [ both f a ↦ outcome (k (funcIsBang p f) (argIsSymbolic p a)) at | missing place ↦ stopped (absent place) [] ]
   outcome halt at = stopped (absent at) []
-  outcome (import place) at = stopped (imported place) []
+  outcome import at = stopped (imported at) []
 
 unfoldable pub walk : Page → ℕ → Outcome
 walk p tree = outcome p (get-dec (walks maxForms) top) tree

@@ -10,11 +10,10 @@ use lib.Dec.{leb, eqb}
 use borrow.Author.Tests.{eqb-true, eqb-false}
 use Rattle.text.specs.Bytes.{firstWide}
 use Rattle.text.proofs.Laws.{never}
-use Rattle.reader.specs.Tokens.{Tokens, Tiling, tiled, untiled, tokens}
+use Rattle.reader.specs.Tokens.{Tokens, countOf, Tiling, tiled, untiled, tokens}
 use Rattle.reader.specs.Check.{Checked, ok, malformed, tooDeep, treeCheck}
 use Rattle.reader.specs.Reading.{Read, refused, sheet, readTree, readRecord, readText, read, maxText, maxRecord}
 use Rattle.reader.proofs.ReadingLaws.{read-cases}
-use Rattle.reader.proofs.TableLaws.{tiled-even}
 use Rattle.layout.specs.Meaning.{Page, Event, Outcome, done, stopped}
 use Rattle.layout.specs.Walk.{walk}
 use Rattle.agreement.specs.Agreement.{EndsAt}
@@ -27,20 +26,15 @@ abbrev pub page : List ℕ → List ℕ → Tokens → Page
 page text rec ts = record { text = text; rec = rec; tokens = ts }
 
 -- ---- the record behind its tokens
-module _ (text rec : List ℕ) (ts : Tokens) (tree : ℕ) (t : tokens (length text) rec ≡ tiled ts tree) where
-  -- The check counts kinds, the walk starts: both are the number of tokens.
-  counted : (c : Checked) → treeCheck rec (length (ts .kinds)) tree ≡ c → treeCheck rec (length (ts .starts)) tree ≡ c
-  counted c e = subst (λ (n : ℕ). treeCheck rec n tree ≡ c) (sym (tiled-even (length text) rec ts tree t .0)) e
+module _ (text rec : List ℕ) (ts : Tokens) (tree : ℕ) where
+  tree-ends : (end : ℕ) → treeCheck rec (countOf ts) tree ≡ ok end → EndsAt (page text rec ts) (length rec) (walk (page text rec ts) tree)
+  tree-ends end e = Knot.passes-walks (page text rec ts) tree end e
 
-  tree-ends : (end : ℕ) → treeCheck rec (length (ts .kinds)) tree ≡ ok end → EndsAt (page text rec ts) (length rec) (walk (page text rec ts) tree)
-  tree-ends end e = Knot.passes-walks (page text rec ts) tree end (counted (ok end) e)
+  tree-free : (end : ℕ) → treeCheck rec (countOf ts) tree ≡ ok end → Unbounded.walk (page text rec ts) tree ≡ walk (page text rec ts) tree
+  tree-free end e = Knot.passes-free (page text rec ts) tree end e
 
-  tree-free : (end : ℕ) → treeCheck rec (length (ts .kinds)) tree ≡ ok end → Unbounded.walk (page text rec ts) tree ≡ walk (page text rec ts) tree
-  tree-free end e = Knot.passes-free (page text rec ts) tree end (counted (ok end) e)
-
-  tree-passes : (es : List Event) → walk (page text rec ts) tree ≡ done (length rec) es → treeCheck rec (length (ts .kinds)) tree ≡ ok (length rec)
-  tree-passes es e =
-      subst (λ (n : ℕ). treeCheck rec n tree ≡ ok (length rec)) (tiled-even (length text) rec ts tree t .0) (Knot.walked-passes (page text rec ts) tree es e)
+  tree-passes : (es : List Event) → walk (page text rec ts) tree ≡ done (length rec) es → treeCheck rec (countOf ts) tree ≡ ok (length rec)
+  tree-passes es e = Knot.walked-passes (page text rec ts) tree es e
 
 module _ (text rec : List ℕ) where
   abbrev AllEnd : Read → Type 0
@@ -49,7 +43,7 @@ module _ (text rec : List ℕ) where
       EndsAt (page text rec ts) (length rec) (walk (page text rec ts) tree) × (Unbounded.walk (page text rec ts) tree ≡ walk (page text rec ts) tree)
 
   all-end : AllEnd (read text rec)
-  all-end = read-cases AllEnd text rec (λ number place ne. tt) (λ ts tree end t c. (tree-ends text rec ts tree t end c, tree-free text rec ts tree t end c))
+  all-end = read-cases AllEnd text rec (λ number place ne. tt) (λ ts tree end t c. (tree-ends text rec ts tree end c, tree-free text rec ts tree end c))
 
   module _ {ts : Tokens} {tree : ℕ} where
     -- On a record that passes the check the walk ends at the record's end, or stops at an absent field, at AppExp's empty path, or at an import.
@@ -60,7 +54,7 @@ module _ (text rec : List ℕ) where
     pub walked-passes : {es : List Event} → tokens (length text) rec ≡ tiled ts tree → walk (page text rec ts) tree ≡ done (length rec) es
         → readRecord rec (length text) ≡ sheet ts tree
     unfolding readRecord readTree
-    walked-passes {es} t e = rw (t, readRecord, tree-passes text rec ts tree t es e, readTree) refl
+    walked-passes {es} t e = rw (t, readRecord, tree-passes text rec ts tree es e, readTree) refl
 
     -- On a record that passes the check its bounds play no part: the walk is the same if it takes a token and a declaration's first token of
     -- any number, and looks through a dropped type with 200 forms.
@@ -71,7 +65,7 @@ module _ (text rec : List ℕ) where
 abbrev judgeOf : List ℕ → List ℕ → Read → Judged
 judgeOf text rec r = elim r [ refused number place ↦ declined (verdict number place noMeasures) | sheet ts tree ↦ walked (page text rec ts) tree ]
 
-module _ (text rec : List ℕ) (ts : Tokens) (tree : ℕ) (t : tokens (length text) rec ≡ tiled ts tree) where
+module _ (text rec : List ℕ) (ts : Tokens) (tree : ℕ) where
   abbrev judged : Outcome → Judged
   judged o = elim o [ done end es ↦ comments (page text rec ts) es | stopped why es ↦ declined (verdict 5 0 noMeasures) ]
 
@@ -82,23 +76,23 @@ module _ (text rec : List ℕ) (ts : Tokens) (tree : ℕ) (t : tokens (length te
   at-end es c b = elim b [ true ↦ comments (page text rec ts) es | false ↦ byCheck c ]
 
   -- A walk that ends.
-  end-is : (c : Checked) (next : ℕ) (es : List Event) (b : Bool) → eqb next (length rec) ≡ b → treeCheck rec (length (ts .kinds)) tree ≡ c
+  end-is : (c : Checked) (next : ℕ) (es : List Event) (b : Bool) → eqb next (length rec) ≡ b → treeCheck rec (countOf ts) tree ≡ c
       → walk (page text rec ts) tree ≡ done next es → judgeOf text rec (tree-read c) ≡ at-end es c b
   unfolding walked byCheck
   end-is (ok end) next es true h e f = ap judged f
   end-is (ok end) next es false h e f =
-      let m : next ≡ length rec = subst (λ (o : Outcome). EndsAt (page text rec ts) (length rec) o) f (tree-ends text rec ts tree t end e) in
+      let m : next ≡ length rec = subst (λ (o : Outcome). EndsAt (page text rec ts) (length rec) o) f (tree-ends text rec ts tree end e) in
       absurd (eqb-false next (length rec) h m)
   end-is (malformed place) next es true h e f =
-      let d = tree-passes text rec ts tree t es (f ∙ ap (λ (n : ℕ). done n es) (eqb-true next (length rec) h)) in
+      let d = tree-passes text rec ts tree es (f ∙ ap (λ (n : ℕ). done n es) (eqb-true next (length rec) h)) in
       never (cc)
   end-is (malformed place) next es false h e f = refl
   end-is (tooDeep place) next es true h e f =
-      let d = tree-passes text rec ts tree t es (f ∙ ap (λ (n : ℕ). done n es) (eqb-true next (length rec) h)) in
+      let d = tree-passes text rec ts tree es (f ∙ ap (λ (n : ℕ). done n es) (eqb-true next (length rec) h)) in
       never (cc)
   end-is (tooDeep place) next es false h e f = refl
 
-  tree-is : (c : Checked) (o : Outcome) → treeCheck rec (length (ts .kinds)) tree ≡ c → walk (page text rec ts) tree ≡ o
+  tree-is : (c : Checked) (o : Outcome) → treeCheck rec (countOf ts) tree ≡ c → walk (page text rec ts) tree ≡ o
       → judgeOf text rec (tree-read c) ≡ elim o as (λ o. Judged) [ done end es ↦ at-end es c (eqb end (length rec)) | stopped why es ↦ byCheck c ]
   unfolding walked byCheck
   tree-is c (done next es) e f = end-is c next es (eqb next (length rec)) refl e f
@@ -110,7 +104,7 @@ module _ (text rec : List ℕ) where
   record-is : (t : Tiling) → tokens (length text) rec ≡ t → judgeOf text rec (readRecord rec (length text)) ≡ recordFirst text rec
   unfolding readRecord readTree recordFirst byWalk
   record-is (tiled ts tree) e =
-      rw (e, readRecord, recordFirst, readTree, byWalk) (tree-is text rec ts tree e (treeCheck rec (length (ts .kinds)) tree) (walk (page text rec ts) tree) refl refl)
+      rw (e, readRecord, recordFirst, readTree, byWalk) (tree-is text rec ts tree (treeCheck rec (countOf ts) tree) (walk (page text rec ts) tree) refl refl)
   record-is (untiled place) e = rw (e, readRecord, recordFirst) refl
 
   text-is : (o : Option ℕ) → firstWide 0 text ≡ o → judgeOf text rec (readText text rec) ≡ textFirst text rec

@@ -14,7 +14,7 @@ use Rattle.text.proofs.Laws.{never}
 use Rattle.reader.specs.Check.{maxForms, treeCheck}
 use Rattle.text.specs.declared.Wide.{Wide}
 use Rattle.text.specs.Bytes.{firstWide, wideAt}
-use Rattle.reader.specs.Tokens.{maxTokens, tokens, tokensIn, tilingIn, Tiles}
+use Rattle.reader.specs.Tokens.{countOf, maxTokens, tokens, tokensIn, tilingIn, Tiles}
 use Rattle.reader.specs.Reading.{maxText, maxRecord}
 use Rattle.reader.specs.Tree.{checkedIn, TreeEnd}
 use Rattle.reader.specs.declared.tree.Checked as Tree
@@ -46,7 +46,7 @@ use Rattle.formatter.proofs.EventLaws.{length-formatted}
 use Rattle.formatter.proofs.RunLaws.{out-is, left-comments, empty-left, first-left, comments-some, comments-none}
 use Rattle.formatter.proofs.VerdictLaws.{format-wide, format-short, format-fits, check-declined, get-declined, check-accepted, get-accepted}
 use Rattle.formatter.proofs.InStep.{walk-first}
-use Rattle.reader.proofs.TableLaws.{tiled-even}
+use Rattle.reader.proofs.EvenLaws.{tiled-even}
 
 measures-same : {d d′ l l′ u u′ : ℕ} → d ≡ d′ → l ≡ l′ → u ≡ u′
     → _≡_ {A = Measures} (record { deepest = d; letters = l; units = u }) (record { deepest = d′; letters = l′; units = u′ })
@@ -127,7 +127,7 @@ module _ {p : Page} {tree tab : ℕ} {o m : List ℕ} {r : Walking.Answer} {o′
 
   -- ---- 3 to 5
   abbrev checked : Judged
-  checked = byCheck (treeCheck (p .rec) (length (p .tokens .kinds)) tree)
+  checked = byCheck (treeCheck (p .rec) (countOf (p .tokens)) tree)
 
   weigh-checked : byWalk p tree ≡ checked → {a : Answer} {j : Code.Judged} {count : ℕ} {draft left : List ℕ}
       → declined (verdictOf a emptySet) ≡ checked → (j ≡ Says.Declined a) × (left ≡ emptySet) → Weighs p count tree tab draft left j

@@ -6,7 +6,7 @@ use mathlib.Core.Option.{none, some}
 use lib.ListN.{length}
 use lib.Dec.{leb, eqb}
 use Rattle.text.specs.Bytes.{firstWide}
-use Rattle.reader.specs.Tokens.{tiled, untiled, tokens}
+use Rattle.reader.specs.Tokens.{countOf, tiled, untiled, tokens}
 use Rattle.reader.specs.Check.{Checked, ok, malformed, tooDeep, treeCheck}
 use Rattle.reader.specs.Reading.{maxText, maxRecord}
 use Rattle.layout.specs.Meaning.{Page, done, stopped}
@@ -27,8 +27,8 @@ unfoldable pub byWalk : Page → ℕ → Judged
 byWalk p tree =
     elim (walk p tree) [
       | done end es ↦ elim (eqb end (length (p .rec)))
-          [ true ↦ comments p es | false ↦ byCheck (treeCheck (p .rec) (length (p .tokens .kinds)) tree) ]
-      | stopped why es ↦ byCheck (treeCheck (p .rec) (length (p .tokens .kinds)) tree)
+          [ true ↦ comments p es | false ↦ byCheck (treeCheck (p .rec) (countOf (p .tokens)) tree) ]
+      | stopped why es ↦ byCheck (treeCheck (p .rec) (countOf (p .tokens)) tree)
     ]
 
 module _ (text rec : List ℕ) where

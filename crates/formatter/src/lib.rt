@@ -141,10 +141,10 @@ fn weigh(
     *left = words;
     let walked = walk::walk(text, rec, kinds, starts, lens, draft, left, tree, tab);
     let layout::Answer::Done(s) = walked else {
-        return refused(left, by_check(rec, kinds.len(), tree));
+        return refused(left, by_check(rec, starts.len(), tree));
     };
     if s.at != rec.len() {
-        return refused(left, by_check(rec, kinds.len(), tree));
+        return refused(left, by_check(rec, starts.len(), tree));
     }
     let unwritten = *left;
     let set = Set { words: unwritten };

@@ -1,12 +1,13 @@
 -- Laws of what AppExp sees of its expressions.
 use mathlib.Core.Path.{_≡_, refl, sym, ap, _∙_}
-use mathlib.Core.Bool.{false}
+use mathlib.Core.Bool.{Bool, false}
 use mathlib.Core.List.{List}
 use Prim.Native.Nat.{ℕ, _+_}
 use lib.ListN.{length}
 use borrow.Author.Tests.{eq-eqb, ne-eqb}
 use Rattle.reader.specs.Fields as Fields
 use Rattle.reader.specs.Fields.{Exp}
+use Rattle.reader.specs.Forms.{expNumber}
 use Rattle.reader.specs.declared.commands.Family.the-variants as Case
 use Rattle.reader.specs.declared.commands.Number.{Number}
 use Rattle.reader.specs.declared.tree.Checked as Tree
@@ -19,25 +20,25 @@ use Rattle.layout.specs.declared.Answer.the-variants.{Stopped}
 use Rattle.layout.specs.declared.names.Name as Code
 use Rattle.layout.specs.declared.looks.Head as Looks
 use Rattle.layout.specs.declared.looks.BothSeen as Both
-use Rattle.layout.specs.Layout.{Layout, Head, pathExp, otherExp, heads}
-use Rattle.layout.specs.Meaning.{Page, opPathName, Seen, seen, unseen, headOf, Heads, missing, bothSeen, headsFrom, headsAt, outcome}
-use Rattle.layout.specs.State.{runOf, run, runs, effects, packed, stopOf, Walked, nameIn, headIn, headsIn}
+use Rattle.layout.specs.Layout.{Layout, application}
+use Rattle.layout.specs.Meaning.{Page, opPathName, Head, pathExp, otherExp, Seen, seen, unseen, headOf, Heads, missing, bothSeen, headsFrom, headsAt, funcIsBang, argIsSymbolic, outcome}
+use Rattle.layout.specs.State.{runOf, run, runs, effects, packed, page, stopOf, Walked, nameIn, headIn, headsIn, BangIs, SymbolicIs}
 use Rattle.layout.proofs.Steps.{Same}
 
 -- ---- one expression
 module _ (rec : List ℕ) (n fields : ℕ) where
   pub head-other : (n ≡ 5 → ⊥) → seen otherExp ≡ headOf rec n fields
-  unfolding headOf
+  unfolding headOf expNumber
   head-other h = rw (ne-eqb n 5 h, headOf) refl
 
   pub head-named : {x : Code.Name} {k m : ℕ} → n ≡ 5 → nameIn x ≡ opPathName rec fields → x ≡ Code.Name.Is k m → seen (pathExp k m) ≡ headOf rec n fields
-  unfolding headOf
+  unfolding headOf expNumber
   head-named h e f =
       let q = sym e ∙ ap nameIn f in
       rw (eq-eqb n 5 h, headOf, q) refl
 
   pub head-missing : {x : Code.Name} {place : ℕ} → n ≡ 5 → nameIn x ≡ opPathName rec fields → x ≡ Code.Name.Not place → unseen place ≡ headOf rec n fields
-  unfolding headOf
+  unfolding headOf expNumber
   head-missing h e f =
       let q = sym e ∙ ap nameIn f in
       rw (eq-eqb n 5 h, headOf, q) refl
@@ -72,17 +73,17 @@ module _ {rec : List ℕ} {func : ℕ} {x : Number} (e : FormAt Case.Exp rec fun
     at-deep i = rw (form-read e f, headsAt, sym (h .is) ∙ ap checkedIn i) refl
 
 -- ---- the walk
-module _ {p : Page} {tab : ℕ} {s : St} {o m : List ℕ} {k : Head → Head → Layout} {x : Both.BothSeen} where
-  pub heads-are : {f a : Looks.Head} → headsIn x ≡ headsAt (p .rec) (length (p .tokens .starts)) (s .at) → x ≡ Both.BothSeen.Are f a
-      → Same p tab (heads k) (runOf s o m) (k (headIn f) (headIn a)) (runOf s o m)
+module _ {x r kinds starts lens : List ℕ} {tab : ℕ} {s : St} {o m : List ℕ} {k : Bool → Bool → Layout} {y : Both.BothSeen} (e : headsIn y ≡ headsAt r (length starts) (s .at)) where
+  pub application-is : {f a : Looks.Head} {b c : Bool} → y ≡ Both.BothSeen.Are f a → BangIs x starts lens (headIn f) b → SymbolicIs x starts lens (headIn a) c
+      → Same (page x r kinds starts lens) tab (application k) (runOf s o m) (k b c) (runOf s o m)
   unfolding runs outcome
-  heads-are e f =
-      let q = sym e ∙ ap headsIn f in
-      record { is = rw (q, outcome) refl }
+  application-is {f} {a} {b} {c} h i j =
+      let q = sym e ∙ ap headsIn h in
+      record { is = rw (q, outcome, ← i .is r kinds, ← j .is r kinds) refl }
 
-  pub heads-missing : {place : ℕ} {r : Answer} → headsIn x ≡ headsAt (p .rec) (length (p .tokens .starts)) (s .at) → x ≡ Both.BothSeen.Missing place
-      → r ≡ Stopped s place false → Walked p tab (heads k) (runOf s o m) r o m
+  pub application-missing : {place : ℕ} {a : Answer} → y ≡ Both.BothSeen.Missing place → a ≡ Stopped s place false
+      → Walked (page x r kinds starts lens) tab (application k) (runOf s o m) a o m
   unfolding runs outcome run effects stopOf
-  heads-missing e f h =
+  application-missing f h =
       let q = sym e ∙ ap headsIn f in
       record { is = ap (λ y. packed y o m) h ∙ rw (q, outcome) refl }

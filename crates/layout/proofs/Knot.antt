@@ -23,7 +23,7 @@ use Rattle.layout.specs.Pat.{pats}
 use Rattle.layout.specs.Exp.{exps}
 use Rattle.layout.specs.StrExp.{str-exps}
 use Rattle.layout.specs.SigExp.{sig-exps}
-use Rattle.layout.specs.DecOne.{one-dec}
+use Rattle.layout.specs.DecOne.{comment-line, decs}
 use Rattle.layout.proofs.Steps.{by-same, form-is, last-halt}
 
 -- A number that is at least k and not k.
@@ -104,7 +104,7 @@ module _ {p : Page} {tab : ℕ} where
   unfolding walks
   dec-zero n c {s} {o} {m} {a} e f = subst (λ n. Walked p tab (walks n .get-dec-one c) (runOf s o m) a o m) (sym e) (halted f)
 
-  pub dec-form : (n : ℕ) (c : Cfg) {g : Run} {r : Answer} {o m : List ℕ} → (n ≡ 0 → ⊥) → Walked p tab (declaration (one-dec (walks (n - 1)) c)) g r o m → Walked p tab (walks n .get-dec-one c) g r o m
+  pub dec-form : (n : ℕ) (c : Cfg) {g : Run} {r : Answer} {o m : List ℕ} → (n ≡ 0 → ⊥) → Walked p tab (declaration (comment-line c) (λ k. getD (decs (walks (n - 1)) c) k halt)) g r o m → Walked p tab (walks n .get-dec-one c) g r o m
   unfolding walks
   dec-form n c {g} {r} {o} {m} e w =
       let q : n ≡ suc (n - 1) = omega arith in

@@ -1,5 +1,5 @@
 -- Laws of the first name of a path.
-use mathlib.Core.Path.{_≡_, refl, sym, _∙_}
+use mathlib.Core.Path.{_≡_, refl, sym, ap, _∙_}
 use mathlib.Core.Bool.{Bool, true, false}
 use mathlib.Core.List.{List}
 use Prim.Native.Nat.{ℕ, _+_}
@@ -7,7 +7,10 @@ use borrow.Author.Tests.{eq-eqb, ne-eqb}
 use Rattle.reader.specs.declared.commands.Number.{Number}
 use Rattle.reader.specs.Commands.{absentAt, tokenAt, listAt, groupAt, SignAt, NumberAt}
 use Rattle.reader.proofs.CommandLaws.{read-not, read-is}
-use Rattle.layout.specs.Meaning.{Name, name, noName, dotName, listName, pathName, opPathName}
+use Rattle.layout.specs.declared.names.Name as Code
+use Rattle.layout.specs.Layout.{Test}
+use Rattle.layout.specs.Meaning.{Name, name, noName, dotName, listName, pathName, opPathName, namePasses}
+use Rattle.layout.specs.State.{nameIn, TestedText, TestedName}
 
 -- What the record has, from what was read.
 sign : {reads : List ℕ → ℕ → Bool} {r : List ℕ} {at : ℕ} {b v : Bool} → SignAt reads r at b → b ≡ v → reads r at ≡ v
@@ -58,3 +61,17 @@ module _ {r : List ℕ} {at : ℕ} {x : Number} where
   pub op-neither : {b : Bool} → NumberAt tokenAt r at x → x ≡ Number.Not → SignAt absentAt r at b → b ≡ false → noName at ≡ opPathName r at
   unfolding opPathName
   op-neither t h a g = rw (read-not t h, opPathName, sign a g) refl
+
+-- ---- a test of the first name
+module _ {x r starts lens : List ℕ} {at : ℕ} {t : Test} {y : Code.Name} (e : nameIn y ≡ pathName r at) where
+  pub passes-name : {k n : ℕ} {b : Bool} → y ≡ Code.Name.Is k n → TestedText x starts lens t k b → TestedName x r starts lens t at b
+  unfolding namePasses
+  passes-name f g =
+      let q = sym e ∙ ap nameIn f in
+      record { is = λ kinds. rw (q, namePasses) (g .is r kinds) }
+
+  pub passes-none : {place : ℕ} → y ≡ Code.Name.Not place → TestedName x r starts lens t at false
+  unfolding namePasses
+  passes-none f =
+      let q = sym e ∙ ap nameIn f in
+      record { is = λ kinds. rw (q, namePasses) refl }

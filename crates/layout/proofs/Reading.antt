@@ -22,7 +22,7 @@ use Rattle.layout.specs.declared.Answer.the-variants.{Done, Stopped}
 use Rattle.layout.specs.declared.fields.Read.{Read}
 use Rattle.layout.specs.declared.fields.Gone.{Gone}
 use Rattle.layout.specs.declared.fields.Given.{Given}
-use Rattle.layout.specs.State.{moved, readOf, ReadAt, FormRead, groupOf, GroupRead, goneOf, GoneRead, optionalOf, OptionalRead, declaredAt, DeclaredAt}
+use Rattle.layout.specs.State.{moved, readOf, ReadAt, FormRead, groupOf, GroupRead, goneOf, GoneRead, presentOf, PresentRead, declaredAt, DeclaredAt}
 use Rattle.layout.proofs.Steps.{is-some, not-none, gone-true, gone-false}
 
 -- ---- what was read stands in the record
@@ -87,26 +87,26 @@ module _ {r : List ℕ} {s : St} {b : Bool} where
 
 -- ---- a token that may be absent
 module _ {r : List ℕ} {s : St} {x : Gone} where
-  pub none-absent : {s′ : St} → GoneRead r s x → x ≡ Gone.Past s′ → Given.Absent s′ ≡ optionalOf s none (absentAt r (s .at))
-  unfolding optionalOf
+  pub none-absent : {s′ : St} → GoneRead r s x → x ≡ Gone.Past s′ → Given.Absent s′ ≡ presentOf s none (absentAt r (s .at))
+  unfolding presentOf
   none-absent {s′} e f =
       let q = gone-true (absentAt r (s .at)) s s′ (sym f ∙ e .is) in
-      ap Given.Absent (q .1) ∙ ap (optionalOf s none) (sym (q .0))
+      ap Given.Absent (q .1) ∙ ap (presentOf s none) (sym (q .0))
 
-  pub none-neither : GoneRead r s x → x ≡ Gone.There → Given.Neither ≡ optionalOf s none (absentAt r (s .at))
-  unfolding optionalOf
-  none-neither e f = ap (optionalOf s none) (sym (gone-false (absentAt r (s .at)) s (sym f ∙ e .is)))
+  pub none-neither : GoneRead r s x → x ≡ Gone.There → Given.Neither ≡ presentOf s none (absentAt r (s .at))
+  unfolding presentOf
+  none-neither e f = ap (presentOf s none) (sym (gone-false (absentAt r (s .at)) s (sym f ∙ e .is)))
 
 module _ {count : ℕ} {r : List ℕ} {s : St} {x : Read} where
-  pub optional-token : {n : ℕ} {s′ : St} → ReadAt (λ bytes. tokenFits bytes count) 3 r s x → x ≡ Read.Is n s′ → OptionalRead count r s (Given.Token n s′)
-  unfolding optionalOf
-  optional-token {n} {s′} e f =
+  pub present-token : {n : ℕ} {s′ : St} → ReadAt (λ bytes. tokenFits bytes count) 3 r s x → x ≡ Read.Is n s′ → PresentRead count r s (Given.There s′)
+  unfolding presentOf
+  present-token {n} {s′} e f =
       let q = is-some (tokenFits r count (s .at)) 3 n s s′ (sym f ∙ e .is) in
-      record { is = ap (Given.Token n) (q .1) ∙ ap (λ t. optionalOf s t (absentAt r (s .at))) (sym (q .0)) }
+      record { is = ap Given.There (q .1) ∙ ap (λ t. presentOf s t (absentAt r (s .at))) (sym (q .0)) }
 
-  pub optional-none : {y : Given} → ReadAt (λ bytes. tokenFits bytes count) 3 r s x → x ≡ Read.Not → y ≡ optionalOf s none (absentAt r (s .at)) → OptionalRead count r s y
-  optional-none e f g =
-      record { is = g ∙ ap (λ t. optionalOf s t (absentAt r (s .at))) (sym (not-none (tokenFits r count (s .at)) 3 s (sym f ∙ e .is))) }
+  pub present-none : {y : Given} → ReadAt (λ bytes. tokenFits bytes count) 3 r s x → x ≡ Read.Not → y ≡ presentOf s none (absentAt r (s .at)) → PresentRead count r s y
+  present-none e f g =
+      record { is = g ∙ ap (λ t. presentOf s t (absentAt r (s .at))) (sym (not-none (tokenFits r count (s .at)) 3 s (sym f ∙ e .is))) }
 
 -- ---- a token whose number is below the count
 module _ (count : ℕ) {r : List ℕ} {s : St} {x : Number} (e : NumberAt tokenAt r (s .at) x) where

@@ -13,24 +13,23 @@ use Rattle.layout.specs.declared.St.{St}
 use Rattle.layout.specs.declared.Cfg.{Cfg}
 use Rattle.layout.specs.declared.Answer.{Answer}
 use Rattle.layout.specs.declared.Answer.the-variants.{Done, Stopped}
-use Rattle.layout.specs.Layout.{Layout, skip, _⨾_, word, write, output-indent, formed, Test, token, group, choice, form, list, optional, maybe, test, firstName, Look, look, above, comment, halt}
-use Rattle.layout.specs.Meaning.{Page, Event, Word, Token, Comment, Formed, Indent, Outcome, done, stopped, absent, after, bind, orStop, outcome, tokenText, pathName, Name}
-use Rattle.layout.specs.State.{Run, runOf, at, effect, effects, Ran, went, fell, run, runs, packed, page, Walked, Plain, Wrote, Sure, Texted, Indented, withDepth, stopOf, moved, readOf, ReadAt, FormRead, groupOf, GroupRead, goneOf, GoneRead, optionalOf, OptionalRead, joint, nameIn, TestedText, Looked, Commented, struck, cfgOf, Deeper, Does}
+use Rattle.layout.specs.Layout.{Layout, skip, _⨾_, word, output-indent, formed, text, group, choice, form, list, maybe, present, Look, look, Test, isPipe, firstName, operator, halt}
+use Rattle.layout.specs.Meaning.{Page, Event, Word, Token, Comment, Formed, Indent, Outcome, done, stopped, absent, after, bind, orStop, outcome, operated, tokenText, namePasses, sees, passes}
+use Rattle.layout.specs.State.{Run, runOf, at, effect, effects, Ran, went, fell, run, runs, packed, page, Walked, Ended, Plain, Wrote, Sure, Texted, Indented, withDepth, withLetters, placed, placeOf, stopOf, moved, readOf, ReadAt, FormRead, groupOf, GroupRead, goneOf, GoneRead, presentOf, PresentRead, joint, TestedText, TestedName, Looked, Operated, cfgOf, Deeper, Does}
 use Rattle.reader.specs.Tokens.{textOf}
 use Rattle.reader.specs.declared.commands.Family as Code
+use Rattle.reader.specs.declared.commands.Family.the-variants as Case
+use Rattle.reader.specs.Fields.{Exp}
 use Rattle.reader.specs.Check.{tokenFits}
 use Rattle.reader.specs.Commands.{absentAt, listAt, groupAt, choiceAt, formAt, formWidth, familyOf}
 use Rattle.layout.specs.declared.fields.Read.{Read}
 use Rattle.layout.specs.declared.fields.Read.the-variants.{Is}
-use Rattle.layout.specs.declared.names.Name as Code·
 use Rattle.layout.specs.declared.fields.Gone.{Gone}
 use Rattle.layout.specs.declared.fields.Given.{Given}
 use mathlib.Core.Option.{Option, none, some}
 use Rattle.layout.specs.Helpers as Helpers
 use Rattle.layout.specs.Helpers.{times, items, when}
 use Rattle.layout.specs.Walk.{walks}
-use Rattle.layout.specs.Events.{trimmed}
-use Rattle.comments.specs.Above.{commentAbove}
 use borrow.Author.Tests.{lt-ltb, le-ltb}
 
 abbrev pub andThen : Ran → (Run → Ran) → Ran
@@ -75,14 +74,47 @@ module _ (p : Page) (tab : ℕ) where
   run-after es (done a fs) g = ap (λ h. went (at a h)) (effects-append es fs g)
   run-after es (stopped why fs) g = ap (λ h. fell why (at 0 h)) (effects-append es fs g)
 
-  run-bind : (x : Outcome) (w : Layout) (g : Run) → run p tab (bind x (λ next. outcome p w next)) g ≡ andThen (run p tab x g) (runs p tab w)
-  unfolding run bind runs
-  run-bind (done a es) w g = run-after es (outcome p w a) g ∙ sym (run-at (outcome p w a) a (effects p tab es g))
-  run-bind (stopped why es) w g = refl
+  run-bind : (x : Outcome) (k : ℕ → Outcome) (g : Run) → run p tab (bind x k) g ≡ andThen (run p tab x g) (λ h. run p tab (k (h .st .at)) h)
+  unfolding run bind
+  run-bind (done a es) k g = run-after es (k a) g ∙ sym (run-at (k a) a (effects p tab es g))
+  run-bind (stopped why es) k g = refl
 
   pub runs-seq : (v w : Layout) (g : Run) → runs p tab (v ⨾ w) g ≡ andThen (runs p tab v g) (runs p tab w)
   unfolding runs outcome
-  runs-seq v w g = run-bind (outcome p v (g .st .at)) w g
+  runs-seq v w g = run-bind (outcome p v (g .st .at)) (λ next. outcome p w next) g
+
+-- ---- what an outcome leaves, from the cursor on
+module _ {p : Page} {tab : ℕ} where
+  pub ended : {w : Layout} {g : Run} {r : Answer} {o m : List ℕ} → Walked p tab w g r o m → Ended p tab (outcome p w) g r o m
+  unfolding runs
+  ended e = record { is = e .is }
+
+  pub ended-done : {f k : ℕ → Outcome} {g : Run} {s′ : St} {o′ m′ o″ m″ : List ℕ} {r r′ : Answer} → Ended p tab f g r′ o′ m′ → r′ ≡ Done s′
+      → Ended p tab k (runOf s′ o′ m′) r o″ m″ → Ended p tab (λ a. bind (f a) k) g r o″ m″
+  ended-done {f} {k} {g} {s′} {o′} {m′} e h i =
+      record {
+        is = i .is
+            ∙ sym (run-bind p tab (f (g .st .at)) k g ∙ ap (λ x. andThen x (λ x. run p tab (k (x .st .at)) x)) (sym (e .is) ∙ ap (λ x. packed x o′ m′) h));
+      }
+
+  pub ended-stop : {f : ℕ → Outcome} (k : ℕ → Outcome) {g : Run} {s′ : St} {place : ℕ} {import : Bool} {o′ m′ : List ℕ} {r′ : Answer} → Ended p tab f g r′ o′ m′
+      → r′ ≡ Stopped s′ place import → Ended p tab (λ a. bind (f a) k) g r′ o′ m′
+  ended-stop {f} k {g} {s′} {place} {import} {o′} {m′} e h =
+      record {
+        is = ap (λ x. packed x o′ m′) h
+            ∙ sym (run-bind p tab (f (g .st .at)) k g ∙ ap (λ x. andThen x (λ x. run p tab (k (x .st .at)) x)) (sym (e .is) ∙ ap (λ x. packed x o′ m′) h));
+      }
+
+  -- Behind events, which leave the cursor where it is.
+  pub ended-after : (es : List Event) {f : ℕ → Outcome} {g h : Run} {r : Answer} {o m : List ℕ} → h ≡ effects p tab es g → Ended p tab f h r o m
+      → Ended p tab (λ a. after es (f a)) g r o m
+  ended-after es {f} {g} {h} e i =
+      record {
+        is = i .is
+            ∙ ap (λ x. run p tab (f (x .st .at)) x) e
+            ∙ ap (λ a. run p tab (f a) (effects p tab es g)) (ap (λ x. x .st .at) (effects-at p tab es (g .st .at) g))
+            ∙ sym (run-after p tab es (f (g .st .at)) g);
+      }
 
 -- ---- a step for each kind of statement
 module _ {p : Page} {tab : ℕ} where
@@ -122,16 +154,12 @@ module _ {p : Page} {tab : ℕ} where
             ∙ andThen-assoc (runs p tab u g) (runs p tab v) (runs p tab w));
       }
 
-  -- A token's text by number.
-  pub last-write : {s s′ : St} {o o′ m : List ℕ} {k : ℕ} → Texted (p .text) (p .tokens .starts) (p .tokens .lengths) tab k s o s′ o′
-      → Walked p tab (write k) (runOf s o m) (Done s′) o′ m
-  unfolding runs outcome run effects effect tokenText textOf
-  last-write {m = m} e = record { is = ap₂ (λ x y. went (runOf x y m)) (e .is .st) (e .is .out) }
-
-  pub then-write : {s s′ : St} {o o′ m o″ m″ : List ℕ} {w : Layout} {k : ℕ} {r : Answer}
-      → Texted (p .text) (p .tokens .starts) (p .tokens .lengths) tab k s o s′ o′ → Walked p tab w (runOf s′ o′ m) r o″ m″
-      → Walked p tab (write k ⨾ w) (runOf s o m) r o″ m″
-  then-write e h = then-done (last-write e) refl h
+-- A token's text by number.
+module _ (p : Page) {tab : ℕ} where
+  text-effects : {s s′ : St} {o o′ m : List ℕ} {k : ℕ} → Texted (p .text) (p .tokens .starts) (p .tokens .lengths) tab k s o s′ o′
+      → runOf s′ o′ m ≡ effects p tab (Token k ∷ []) (runOf s o m)
+  unfolding effects effect tokenText textOf
+  text-effects {m = m} e = ap₂ (λ x y. runOf x y m) (e .is .st) (e .is .out)
 
 -- ---- two layouts that run alike
 pub record Same (p : Page) (tab : ℕ) (v : Layout) (g : Run) (w : Layout) (h : Run) : Type 0 where
@@ -151,10 +179,12 @@ module _ {p : Page} {tab : ℕ} where
   skip-same {w} {g} = record { is = runs-seq p tab skip w g }
 
 -- ---- fields
+pub moved-end : (p : Page) (tab a : ℕ) (f : ℕ → Outcome) (s s′ : St) (o m : List ℕ) → s′ ≡ moved a s → run p tab (f a) (runOf s o m) ≡ run p tab (f (s′ .at)) (runOf s′ o m)
+moved-end p tab a f s s′ o m e = sym (run-at p tab (f a) a (runOf s o m)) ∙ ap (λ x. run p tab (f (x .at)) (runOf x o m)) (sym e)
+
 pub moved-run : (p : Page) (tab a : ℕ) (w : Layout) (s s′ : St) (o m : List ℕ) → s′ ≡ moved a s → run p tab (outcome p w a) (runOf s o m) ≡ runs p tab w (runOf s′ o m)
 unfolding runs
-moved-run p tab a w s s′ o m e =
-    sym (run-at p tab (outcome p w a) a (runOf s o m)) ∙ ap (λ x. run p tab (outcome p w (x .at)) (runOf x o m)) (sym e)
+moved-run p tab a w s s′ o m e = moved-end p tab a (λ next. outcome p w next) s s′ o m e
 
 or-some : (x : Option ℕ) (a : ℕ) (f : ℕ → Outcome) (n : ℕ) → x ≡ some n → orStop x a f ≡ f n
 unfolding orStop
@@ -177,12 +207,17 @@ not-none (some k) width s e = never (cc)
 not-none none width s e = refl
 
 -- What is read at the cursor and handed on.
+reads-end : (p : Page) (tab width : ℕ) (x : Option ℕ) (f : ℕ → ℕ → Outcome) (n : ℕ) (s s′ : St) (o m : List ℕ) → Is n s′ ≡ readOf width s x
+    → run p tab (orStop x (s .at) (λ i. f i (s .at + width))) (runOf s o m) ≡ run p tab (f n (s′ .at)) (runOf s′ o m)
+reads-end p tab width x f n s s′ o m e =
+    let q = is-some x width n s s′ e in
+    ap (λ y. run p tab y (runOf s o m)) (or-some x (s .at) (λ i. f i (s .at + width)) n (q .0))
+    ∙ moved-end p tab (s .at + width) (f n) s s′ o m (q .1)
+
 reads-same : (p : Page) (tab width : ℕ) (x : Option ℕ) (k : ℕ → Layout) (n : ℕ) (s s′ : St) (o m : List ℕ) → Is n s′ ≡ readOf width s x
     → run p tab (orStop x (s .at) (λ i. outcome p (k i) (s .at + width))) (runOf s o m) ≡ runs p tab (k n) (runOf s′ o m)
-reads-same p tab width x k n s s′ o m e =
-    let q = is-some x width n s s′ e in
-    ap (λ y. run p tab y (runOf s o m)) (or-some x (s .at) (λ i. outcome p (k i) (s .at + width)) n (q .0))
-    ∙ moved-run p tab (s .at + width) (k n) s s′ o m (q .1)
+unfolding runs
+reads-same p tab width x k n s s′ o m e = reads-end p tab width x (λ i next. outcome p (k i) next) n s s′ o m e
 
 reads-stop : (p : Page) (tab width : ℕ) (x : Option ℕ) (f : ℕ → Outcome) (s : St) (o m : List ℕ) → Read.Not ≡ readOf width s x
     → packed (Stopped s (s .at) false) o m ≡ run p tab (orStop x (s .at) f) (runOf s o m)
@@ -191,10 +226,6 @@ reads-stop p tab width x f s o m e =
     sym (ap (λ y. run p tab y (runOf s o m)) (or-none x (s .at) f (not-none x width s e)))
 
 module _ {p : Page} {tab : ℕ} {s : St} {o m : List ℕ} {k : ℕ → Layout} {x : Read} where
-  pub token-is : {n : ℕ} {s′ : St} → ReadAt (λ bytes. tokenFits bytes (length (p .tokens .starts))) 3 (p .rec) s x → x ≡ Is n s′ → Same p tab (token k) (runOf s o m) (k n) (runOf s′ o m)
-  unfolding runs outcome
-  token-is {n} {s′} e f = record { is = reads-same p tab 3 (tokenFits (p .rec) (length (p .tokens .starts)) (s .at)) k n s s′ o m (sym f ∙ e .is) }
-
   pub list-is : {n : ℕ} {s′ : St} → ReadAt listAt 3 (p .rec) s x → x ≡ Is n s′ → Same p tab (list k) (runOf s o m) (k n) (runOf s′ o m)
   unfolding runs outcome
   list-is {n} {s′} e f = record { is = reads-same p tab 3 (listAt (p .rec) (s .at)) k n s s′ o m (sym f ∙ e .is) }
@@ -210,10 +241,6 @@ module _ {p : Page} {tab : ℕ} {s : St} {o m : List ℕ} {k : ℕ → Layout} {
       record { is = reads-same p tab (formWidth (familyOf family)) (formAt (p .rec) (familyOf family) (s .at)) k n s s′ o m (sym f ∙ e .is) }
 
   module _ {a : Answer} (h : a ≡ Stopped s (s .at) false) where
-    pub token-not : ReadAt (λ bytes. tokenFits bytes (length (p .tokens .starts))) 3 (p .rec) s x → x ≡ Read.Not → Walked p tab (token k) (runOf s o m) a o m
-    unfolding runs outcome
-    token-not e f = record { is = ap (λ y. packed y o m) h ∙ reads-stop p tab 3 (tokenFits (p .rec) (length (p .tokens .starts)) (s .at)) (λ i. outcome p (k i) (s .at + 3)) s o m (sym f ∙ e .is) }
-
     pub list-not : ReadAt listAt 3 (p .rec) s x → x ≡ Read.Not → Walked p tab (list k) (runOf s o m) a o m
     unfolding runs outcome
     list-not e f = record { is = ap (λ y. packed y o m) h ∙ reads-stop p tab 3 (listAt (p .rec) (s .at)) (λ i. outcome p (k i) (s .at + 3)) s o m (sym f ∙ e .is) }
@@ -226,6 +253,52 @@ module _ {p : Page} {tab : ℕ} {s : St} {o m : List ℕ} {k : ℕ → Layout} {
     unfolding runs outcome
     form-not {family} e f =
         record { is = ap (λ y. packed y o m) h ∙ reads-stop p tab (formWidth (familyOf family)) (formAt (p .rec) (familyOf family) (s .at)) (λ i. outcome p (k i) (s .at + formWidth (familyOf family))) s o m (sym f ∙ e .is) }
+
+-- ---- a token
+abbrev pub TokenRead : Page → St → Read → Type 0
+TokenRead p s x = ReadAt (λ bytes. tokenFits bytes (length (p .tokens .starts))) 3 (p .rec) s x
+
+abbrev reads-token : Page → St → Option ℕ
+reads-token p s = tokenFits (p .rec) (length (p .tokens .starts)) (s .at)
+
+-- An operator that is kept: the walk behind it.
+abbrev kept : Page → Layout → Layout → Layout → ℕ → ℕ → Outcome
+kept p lhs pipe gap k a = bind (outcome p lhs a) (operated p k (λ next. outcome p pipe next) (λ next. outcome p gap next))
+
+module _ {p : Page} {tab : ℕ} {s : St} {o m : List ℕ} {x : Read} where
+  pub text-is : {k : ℕ} {s′ s″ : St} {o′ : List ℕ} → TokenRead p s x → x ≡ Is k s′ → Texted (p .text) (p .tokens .starts) (p .tokens .lengths) tab k s′ o s″ o′
+      → Walked p tab text (runOf s o m) (Done s″) o′ m
+  unfolding runs outcome run effects effect
+  text-is {k} {s′} e f t =
+      record {
+        is = ap went (text-effects p t)
+            ∙ sym (reads-end p tab 3 (reads-token p s) (λ k next. done next (Token k ∷ [])) k s s′ o m (sym f ∙ e .is));
+      }
+
+  pub text-not : {a : Answer} → a ≡ Stopped s (s .at) false → TokenRead p s x → x ≡ Read.Not → Walked p tab text (runOf s o m) a o m
+  unfolding runs outcome
+  text-not h e f = record { is = ap (λ y. packed y o m) h ∙ reads-stop p tab 3 (reads-token p s) (λ k. done (s .at + 3) (Token k ∷ [])) s o m (sym f ∙ e .is) }
+
+  -- An operator that is kept.
+  module _ {lhs pipe gap : Layout} where
+    pub operator-not : {a : Answer} → a ≡ Stopped s (s .at) false → TokenRead p s x → x ≡ Read.Not → Walked p tab (operator lhs pipe gap) (runOf s o m) a o m
+    unfolding runs outcome
+    operator-not h e f = record { is = ap (λ y. packed y o m) h ∙ reads-stop p tab 3 (reads-token p s) (λ k. kept p lhs pipe gap k (s .at + 3)) s o m (sym f ∙ e .is) }
+
+    operator-ends : {k : ℕ} {s′ : St} {r : Answer} {o′ m′ : List ℕ} → TokenRead p s x → x ≡ Is k s′ → Ended p tab (kept p lhs pipe gap k) (runOf s′ o m) r o′ m′
+        → Walked p tab (operator lhs pipe gap) (runOf s o m) r o′ m′
+    unfolding runs outcome
+    operator-ends {k} {s′} e f h = record { is = h .is ∙ sym (reads-end p tab 3 (reads-token p s) (kept p lhs pipe gap) k s s′ o m (sym f ∙ e .is)) }
+
+    pub operator-stop : {k : ℕ} {s′ s″ : St} {r : Answer} {o′ m′ : List ℕ} {place : ℕ} {import : Bool} → TokenRead p s x → x ≡ Is k s′
+        → Walked p tab lhs (runOf s′ o m) r o′ m′ → r ≡ Stopped s″ place import → Walked p tab (operator lhs pipe gap) (runOf s o m) r o′ m′
+    operator-stop e f h i = operator-ends e f (ended-stop (operated p _ (λ next. outcome p pipe next) (λ next. outcome p gap next)) (ended h) i)
+
+    pub operator-done : {k : ℕ} {s′ s″ : St} {r r′ : Answer} {o′ m′ o″ m″ : List ℕ} → TokenRead p s x → x ≡ Is k s′
+        → Walked p tab lhs (runOf s′ o m) r′ o′ m′ → r′ ≡ Done s″
+        → Ended p tab (operated p k (λ next. outcome p pipe next) (λ next. outcome p gap next)) (runOf s″ o′ m′) r o″ m″
+        → Walked p tab (operator lhs pipe gap) (runOf s o m) r o″ m″
+    operator-done e f h i j = operator-ends e f (ended-done (ended h) i j)
 
 -- ---- a group
 group-true : (b : Bool) (s s′ : St) → Done s′ ≡ groupOf s b → (b ≡ true) × (s′ ≡ moved (s .at + 1) s)
@@ -347,42 +420,40 @@ module _ {p : Page} {tab : ℕ} (w : Layout) where
       rw q last-skip
 
 -- ---- a token that may be absent
-given-some : (t : Option ℕ) (b : Bool) (s s′ : St) (k : ℕ) → Given.Token k s′ ≡ optionalOf s t b → (t ≡ some k) × (s′ ≡ moved (s .at + 3) s)
-unfolding optionalOf
-given-some (some j) b s s′ k e =
-    let h : j ≡ k = cc in
-    (ap some h, cc)
-given-some none true s s′ k e = never (cc)
-given-some none false s s′ k e = never (cc)
+given-some : (t : Option ℕ) (b : Bool) (s s′ : St) → Given.There s′ ≡ presentOf s t b → (k : ℕ) × (t ≡ some k) × (s′ ≡ moved (s .at + 3) s)
+unfolding presentOf
+given-some (some k) b s s′ e = (k, refl, cc)
+given-some none true s s′ e = never (cc)
+given-some none false s s′ e = never (cc)
 
-given-none : (t : Option ℕ) (b : Bool) (s s′ : St) → Given.Absent s′ ≡ optionalOf s t b → (t ≡ none) × (b ≡ true) × (s′ ≡ moved (s .at + 1) s)
-unfolding optionalOf
+given-none : (t : Option ℕ) (b : Bool) (s s′ : St) → Given.Absent s′ ≡ presentOf s t b → (t ≡ none) × (b ≡ true) × (s′ ≡ moved (s .at + 1) s)
+unfolding presentOf
 given-none (some j) b s s′ e = never (cc)
 given-none none true s s′ e = (refl, refl, cc)
 given-none none false s s′ e = never (cc)
 
-given-neither : (t : Option ℕ) (b : Bool) (s : St) → Given.Neither ≡ optionalOf s t b → (t ≡ none) × (b ≡ false)
-unfolding optionalOf
+given-neither : (t : Option ℕ) (b : Bool) (s : St) → Given.Neither ≡ presentOf s t b → (t ≡ none) × (b ≡ false)
+unfolding presentOf
 given-neither (some j) b s e = never (cc)
 given-neither none true s e = never (cc)
 given-neither none false s e = (refl, refl)
 
-module _ {p : Page} {tab : ℕ} {s : St} {o m : List ℕ} {k : Option ℕ → Layout} {x : Given} where
-  pub optional-is : {n : ℕ} {s′ : St} → OptionalRead (length (p .tokens .starts)) (p .rec) s x → x ≡ Given.Token n s′ → Same p tab (optional k) (runOf s o m) (k (some n)) (runOf s′ o m)
+module _ {p : Page} {tab : ℕ} {s : St} {o m : List ℕ} {v w : Layout} {x : Given} where
+  pub present-there : {s′ : St} → PresentRead (length (p .tokens .starts)) (p .rec) s x → x ≡ Given.There s′ → Same p tab (present v w) (runOf s o m) v (runOf s′ o m)
   unfolding runs outcome
-  optional-is {n} {s′} e f =
-      let q = given-some (tokenFits (p .rec) (length (p .tokens .starts)) (s .at)) (absentAt (p .rec) (s .at)) s s′ n (sym f ∙ e .is) in
-      record { is = rw (q .0, outcome) (moved-run p tab (s .at + 3) (k (some n)) s s′ o m (q .1)) }
+  present-there {s′} e f =
+      let q = given-some (tokenFits (p .rec) (length (p .tokens .starts)) (s .at)) (absentAt (p .rec) (s .at)) s s′ (sym f ∙ e .is) in
+      record { is = rw (q .1, outcome) (moved-run p tab (s .at + 3) v s s′ o m (q .2)) }
 
-  pub optional-no : {s′ : St} → OptionalRead (length (p .tokens .starts)) (p .rec) s x → x ≡ Given.Absent s′ → Same p tab (optional k) (runOf s o m) (k none) (runOf s′ o m)
+  pub present-gone : {s′ : St} → PresentRead (length (p .tokens .starts)) (p .rec) s x → x ≡ Given.Absent s′ → Same p tab (present v w) (runOf s o m) w (runOf s′ o m)
   unfolding runs outcome
-  optional-no {s′} e f =
+  present-gone {s′} e f =
       let q = given-none (tokenFits (p .rec) (length (p .tokens .starts)) (s .at)) (absentAt (p .rec) (s .at)) s s′ (sym f ∙ e .is) in
-      record { is = rw (q .0, q .1, outcome) (moved-run p tab (s .at + 1) (k none) s s′ o m (q .2)) }
+      record { is = rw (q .0, q .1, outcome) (moved-run p tab (s .at + 1) w s s′ o m (q .2)) }
 
-  pub optional-not : {a : Answer} → a ≡ Stopped s (s .at) false → OptionalRead (length (p .tokens .starts)) (p .rec) s x → x ≡ Given.Neither → Walked p tab (optional k) (runOf s o m) a o m
+  pub present-not : {a : Answer} → a ≡ Stopped s (s .at) false → PresentRead (length (p .tokens .starts)) (p .rec) s x → x ≡ Given.Neither → Walked p tab (present v w) (runOf s o m) a o m
   unfolding runs outcome run effects stopOf
-  optional-not h e f =
+  present-not h e f =
       let q = given-neither (tokenFits (p .rec) (length (p .tokens .starts)) (s .at)) (absentAt (p .rec) (s .at)) s (sym f ∙ e .is) in
       record { is = ap (λ y. packed y o m) h ∙ rw (q .0, q .1, outcome) refl }
 
@@ -438,47 +509,79 @@ unfolding when
 sure-unless w e = rw (e, when) sure-skip
 
 -- ---- questions
-module _ {p : Page} {tab : ℕ} {s : St} {o m : List ℕ} {k : Option ℕ → Layout} {x : Code·.Name} where
-  pub name-is : {n j : ℕ} → nameIn x ≡ pathName (p .rec) (s .at) → x ≡ Code·.Name.Is n j → Same p tab (firstName k) (runOf s o m) (k (some n)) (runOf s o m)
+-- About the expression at the cursor.
+abbrev either : Page → Layout → Layout → ℕ → Bool → Outcome
+either p v w a b = elim b [ true ↦ outcome p v a | false ↦ outcome p w a ]
+
+module _ {p : Page} {tab : ℕ} {s : St} {o m : List ℕ} {l : Look} {v w : Layout} {x : Read} where
+  pub look-yes : {n : ℕ} {s′ : St} {b : Bool} → FormRead Case.Exp (p .rec) s x → x ≡ Is n s′ → Looked (p .rec) l (s .at) b → b ≡ true
+      → Same p tab (look l v w) (runOf s o m) v (runOf s o m)
+  unfolding runs outcome orStop
+  look-yes {n} {s′} e f g h =
+      let q = is-some (formAt (p .rec) Exp (s .at)) (formWidth Exp) n s s′ (sym f ∙ e .is) .0 in
+      let y = sym (g .is (p .text) (p .tokens .kinds) (p .tokens .starts) (p .tokens .lengths)) ∙ h in
+      record { is = rw (q, y, orStop) refl }
+
+  pub look-no : {n : ℕ} {s′ : St} {b : Bool} → FormRead Case.Exp (p .rec) s x → x ≡ Is n s′ → Looked (p .rec) l (s .at) b → b ≡ false
+      → Same p tab (look l v w) (runOf s o m) w (runOf s o m)
+  unfolding runs outcome orStop
+  look-no {n} {s′} e f g h =
+      let q = is-some (formAt (p .rec) Exp (s .at)) (formWidth Exp) n s s′ (sym f ∙ e .is) .0 in
+      let y = sym (g .is (p .text) (p .tokens .kinds) (p .tokens .starts) (p .tokens .lengths)) ∙ h in
+      record { is = rw (q, y, orStop) refl }
+
+  pub look-not : {a : Answer} → a ≡ Stopped s (s .at) false → FormRead Case.Exp (p .rec) s x → x ≡ Read.Not → Walked p tab (look l v w) (runOf s o m) a o m
   unfolding runs outcome
-  name-is e f =
-      let q = sym e ∙ ap nameIn f in
-      record { is = rw (q, outcome) refl }
+  look-not h e f =
+      record { is = ap (λ y. packed y o m) h ∙ reads-stop p tab (formWidth Exp) (formAt (p .rec) Exp (s .at)) (λ k. either p v w (s .at) (sees p l (s .at))) s o m (sym f ∙ e .is) }
 
-  pub name-not : {place : ℕ} → nameIn x ≡ pathName (p .rec) (s .at) → x ≡ Code·.Name.Not place → Same p tab (firstName k) (runOf s o m) (k none) (runOf s o m)
+-- About the first name of the path at the cursor.
+module _ {x r kinds starts lens : List ℕ} {tab : ℕ} {s : St} {o m : List ℕ} {t : Test} {v w : Layout} {a : Answer} where
+  pub name-yes : {s′ : St} {b : Bool} → GroupRead r s a → a ≡ Done s′ → TestedName x r starts lens t (s .at) b → b ≡ true
+      → Same (page x r kinds starts lens) tab (firstName t v w) (runOf s o m) v (runOf s o m)
   unfolding runs outcome
-  name-not e f =
-      let q = sym e ∙ ap nameIn f in
-      record { is = rw (q, outcome) refl }
+  name-yes {s′} e f g h =
+      let q = group-true (groupAt r (s .at)) s s′ (sym f ∙ e .is) .0 in
+      let y = sym (g .is kinds) ∙ h in
+      record { is = rw (q, y, outcome) refl }
 
--- What a test of a token's text answers.
-pub test-is : {x r kinds starts lens : List ℕ} {tab n : ℕ} {t : Test} {b c : Bool} {k : Bool → Layout} {g : Run} → TestedText x starts lens t n b → b ≡ c
-    → Same (page x r kinds starts lens) tab (test t n k) g (k c) g
-unfolding runs outcome
-test-is {r = r} {kinds = kinds} {k = k} e f =
-    let q = sym (e .is r kinds) ∙ f in
-    record { is = rw q refl }
-
--- ---- comments
-module _ {p : Page} {tab : ℕ} where
-  pub last-comment : {s s′ : St} {o m o′ m′ : List ℕ} {k : ℕ} → Commented (p .text) (p .tokens .starts) (p .tokens .lengths) tab k s o m s′ o′ m′
-      → Walked p tab (comment k) (runOf s o m) (Done s′) o′ m′
-  unfolding runs outcome run effects effect trimmed tokenText textOf
-  last-comment {s′ = s′} {m = m} {o′ = o′} {k = k} e =
-      record { is = ap (λ y. went (runOf s′ o′ y)) (e .left) ∙ ap₂ (λ x y. went (runOf x y (struck m k))) (e .wrote .st) (e .wrote .out) }
-
-  -- The comment above a token, from the kinds.
-  pub above-is : {g : Run} {n : ℕ} {k : Option ℕ → Layout} {x : Option ℕ} → x ≡ commentAbove (p .tokens .kinds) n → Same p tab (above n k) g (k x) g
+  pub name-no : {s′ : St} {b : Bool} → GroupRead r s a → a ≡ Done s′ → TestedName x r starts lens t (s .at) b → b ≡ false
+      → Same (page x r kinds starts lens) tab (firstName t v w) (runOf s o m) w (runOf s o m)
   unfolding runs outcome
-  above-is {g} {n} {k} {x} e = record { is = ap (λ y. run p tab (outcome p (k y) (g .st .at)) g) (sym e) }
+  name-no {s′} e f g h =
+      let q = group-true (groupAt r (s .at)) s s′ (sym f ∙ e .is) .0 in
+      let y = sym (g .is kinds) ∙ h in
+      record { is = rw (q, y, outcome) refl }
 
-  -- The form at the cursor.
-  pub look-is : {s : St} {o m : List ℕ} {l : Look} {k : Bool → Layout} {b c : Bool} → Looked (p .rec) l (s .at) b → b ≡ c
-      → Same p tab (look l k) (runOf s o m) (k c) (runOf s o m)
-  unfolding runs outcome
-  look-is {s} {o} {m} {l} {k} e f =
-      let q = sym (e .is (p .text) (p .tokens .kinds) (p .tokens .starts) (p .tokens .lengths)) ∙ f in
-      record { is = ap (λ y. run p tab (outcome p (k y) (s .at)) (runOf s o m)) q }
+  pub name-not : {s′ : St} {place : ℕ} {import : Bool} → GroupRead r s a → a ≡ Stopped s′ place import → Walked (page x r kinds starts lens) tab (firstName t v w) (runOf s o m) a o m
+  unfolding runs outcome run effects stopOf groupOf
+  name-not {s′} {place} {import} e f =
+      let q = group-false (groupAt r (s .at)) s s′ place import (sym f ∙ e .is) in
+      record { is = ap (λ y. packed y o m) (e .is ∙ ap (groupOf s) q) ∙ rw (q, outcome) refl }
+
+-- An operator that was kept, by its text.
+module _ {x r starts lens : List ℕ} {tab k : ℕ} {pipe gap : Layout} {b : Bool} (e : TestedText x starts lens isPipe k b) where
+  pub operated-pipe : {s s′ : St} {o o′ : List ℕ} → b ≡ true → Sure tab pipe s o s′ o′ → Operated x r starts lens tab k pipe gap s o s′ o′
+  unfolding operated
+  operated-pipe h w =
+      record {
+        is = λ kinds m.
+            let q = sym (e .is r kinds) ∙ h in
+            record { is = rw (q, operated) (ended (last-sure w) .is) };
+      }
+
+  pub operated-gap : {s s₁ s₂ s₃ : St} {o o₁ o₂ o₃ : List ℕ} → b ≡ false → Sure tab gap s o s₁ o₁ → Texted x starts lens tab k s₁ o₁ s₂ o₂ → Sure tab gap s₂ o₂ s₃ o₃
+      → Operated x r starts lens tab k pipe gap s o s₃ o₃
+  unfolding operated
+  operated-gap h v t w =
+      record {
+        is = λ kinds m.
+            let q = sym (e .is r kinds) ∙ h in
+            record {
+              is = rw (q, operated)
+                  (ended-done (ended (last-sure v)) refl (ended-after (Token k ∷ []) (text-effects (page x r kinds starts lens) t) (ended (last-sure w))) .is);
+            };
+      }
 
 -- ---- two writes in one call
 module _ {p : Page} {tab : ℕ} where

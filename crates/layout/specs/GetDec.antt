@@ -1,6 +1,6 @@
 -- `get_dec` of 000: declarations in sequence, over the walks one form deeper.
 use Rattle.layout.specs.Layout.{Layout, _⨾_, word, group}
-use Rattle.layout.specs.Helpers.{Cfg, Walkers, with-extra-blank, indented, indent, for-each, sep, sep-with-lines, path, semicolon}
+use Rattle.layout.specs.Helpers.{Cfg, Walkers, with-extra-blank, deeper, deepen, indent, for-each, sep, sep-with-lines, path, semicolon}
 use mathlib.Core.Bool.{false}
 
 module _ (ws : Walkers) where
@@ -29,4 +29,4 @@ module _ (ws : Walkers) where
 
   -- A Dec that is an argument of a functor or of its application.
   unfoldable pub dec-arg : Cfg → Layout
-  dec-arg c = word "\n" ⨾ indented c λ new. indent new ⨾ dec new ⨾ word "\n"
+  dec-arg c = word "\n" ⨾ deepen c ⨾ indent (deeper c) ⨾ dec (deeper c) ⨾ word "\n"

@@ -2,10 +2,8 @@
 use Prim.Native.Nat.{ℕ, zero, suc, _+_}
 use Prim.Native.String.{String}
 use mathlib.Core.Bool.{Bool, true, false}
-use mathlib.Core.Option.{Option, none, some}
-use Rattle.reader.specs.Fields.{Ty}
-use Rattle.layout.specs.Layout.{Layout, isAlphanumeric, skip, _⨾_, word, write, output-indent, formed, token, group}
-use Rattle.layout.specs.Layout.{list, optional, maybe, test, firstName}
+use Rattle.layout.specs.Layout.{Layout, isAlphanumeric, skip, _⨾_, word, output-indent, formed, text, group}
+use Rattle.layout.specs.Layout.{list, maybe, present, firstName}
 
 -- `Cfg`, with the depth in place of the indent's width: a depth × tab size spaces.
 pub record Cfg : Type 0 where
@@ -29,25 +27,21 @@ with-extra-blank b c = record { depth = c .depth; extra-blank = b }
 abbrev pub deeper : Cfg → Cfg
 deeper c = record { depth = c .depth + 1; extra-blank = c .extra-blank }
 
--- `let new = cfg.indented()`: a depth is formed.
-unfoldable pub indented : Cfg → (Cfg → Layout) → Layout
-indented c k = formed (deeper c .depth) ⨾ k (deeper c)
+-- `let new = cfg.indented()`: the depth of `deeper c` is formed.
+unfoldable pub deepen : Cfg → Layout
+deepen c = formed (deeper c .depth)
 
 -- `cfg.output_indent(st)`.
 unfoldable pub indent : Cfg → Layout
 indent c = output-indent (c .depth)
 
+-- `cfg.indented().output_indent(st)`.
+unfoldable pub indent-deeper : Cfg → Layout
+indent-deeper c = deepen c ⨾ indent (deeper c)
+
 -- `if b { .. }`.
 unfoldable pub when : Bool → Layout → Layout
 when b w = elim b [ true ↦ w | false ↦ skip ]
-
--- `if x.is_some() { .. }`.
-unfoldable pub when-some : Option ℕ → Layout → Layout
-when-some x w = elim x [ some k ↦ w | none ↦ skip ]
-
--- `st.write(x()?.text())`: the text of a token that is there.
-unfoldable pub text : Layout
-text = token write
 
 -- n times.
 unfoldable pub times : ℕ → Layout → Layout
@@ -75,34 +69,49 @@ sep-with-lines c s item = list (λ n. items n item (new-line c s ⨾ item))
 
 unfoldable pub in-end : Cfg → String → (Cfg → Layout) → (Cfg → Layout) → Layout
 in-end c kw f1 f2 =
-    word kw ⨾ word "\n" ⨾ indented c λ new. indent new ⨾ f1 new ⨾ word "\n" ⨾ indent c ⨾ word "in\n" ⨾ indent new ⨾ f2 new ⨾ word "\n" ⨾ indent c ⨾ word "end"
+    word kw
+    ⨾ word "\n"
+    ⨾ deepen c
+    ⨾ indent (deeper c)
+    ⨾ f1 (deeper c)
+    ⨾ word "\n"
+    ⨾ indent c
+    ⨾ word "in\n"
+    ⨾ indent (deeper c)
+    ⨾ f2 (deeper c)
+    ⨾ word "\n"
+    ⨾ indent c
+    ⨾ word "end"
 
 -- `name_star_eq_dots`, with a dot between.
 unfoldable pub path : Layout
 path = group (sep "." (group text))
 
--- After `op`: a space where the first name starts with a letter or a digit.
-unfoldable pub op-space : Option ℕ → Layout
-op-space none = skip
-op-space (some k) = test isAlphanumeric k (λ needs-space. when needs-space (word " "))
+-- `op`, with a space where the first name of the path behind it starts with a letter or a digit.
+unfoldable pub op : Layout
+op = firstName isAlphanumeric (word "op" ⨾ word " ") (word "op")
 
 -- The fields `op_kw` and `path`.
 unfoldable pub op-path : Layout
-op-path = optional λ op. when-some op (word "op" ⨾ firstName op-space) ⨾ path
+op-path = present op skip ⨾ path
 
 -- The variables of a sequence, with a comma between.
 unfoldable pub ty-vars : Layout
 ty-vars = sep ", " (group text)
 
+-- In parentheses where the token at the cursor is there.
+unfoldable pub in-parens : Layout → Layout
+in-parens w = present (word "(" ⨾ w ⨾ word ")") w
+
 unfoldable pub ty-var-seq-there : Layout
-ty-var-seq-there = group (optional λ parens. when-some parens (word "(") ⨾ ty-vars ⨾ when-some parens (word ")") ⨾ word " ")
+ty-var-seq-there = group (in-parens ty-vars ⨾ word " ")
 
 unfoldable pub ty-var-seq : Layout
 ty-var-seq = maybe ty-var-seq-there
 
 -- `if x().is_some() { st.write(w); }`.
 unfoldable pub word-if : String → Layout
-word-if w = optional λ there. when-some there (word w)
+word-if w = present (word w) skip
 
 -- `if dec.semicolon().is_some() { st.write(";"); }`.
 unfoldable pub semicolon : Layout

@@ -19,7 +19,7 @@ use Rattle.layout.specs.declared.fields.Read.the-variants.{Is}
 use Rattle.layout.specs.declared.fields.Gone.{Gone}
 use Rattle.layout.specs.declared.fields.Gone.the-variants.{Past}
 use Rattle.layout.specs.declared.fields.Given.{Given}
-use Rattle.layout.specs.declared.fields.Given.the-variants.{Absent, Neither}
+use Rattle.layout.specs.declared.fields.Given.the-variants.{There, Absent, Neither}
 use Rattle.layout.specs.declared.names.Name as Code
 use Rattle.layout.specs.declared.looks.Head as Looks
 use Rattle.layout.specs.declared.looks.Seen as One
@@ -32,9 +32,9 @@ use Rattle.reader.specs.Commands.{absentAt, groupAt, formAt, formWidth, firstTo
 use Rattle.reader.specs.declared.commands.Declaration.{Declaration}
 use mathlib.Core.Option.{Option, none, some}
 use Rattle.layout.specs.declared.Answer.the-variants.{Done, Stopped}
-use Rattle.layout.specs.Layout.{Layout, Look, Test, Head, pathExp, otherExp, skip}
+use Rattle.layout.specs.Layout.{Layout, Look, Test, skip}
 use Rattle.layout.specs.Helpers as Helpers
-use Rattle.layout.specs.Meaning.{Page, Event, Word, Token, Comment, Formed, Indent, Outcome, done, stopped, Stop, absent, imported, outcome, tokenText, passes, sees, Name, name, noName, Seen, seen, unseen, Heads, both, missing}
+use Rattle.layout.specs.Meaning.{Page, Event, Word, Token, Comment, Formed, Indent, Outcome, done, stopped, Stop, absent, imported, outcome, operated, commented, aboveFirst, tokenText, passes, funcIsBang, argIsSymbolic, namePasses, sees, Name, name, noName, Head, pathExp, otherExp, Seen, seen, unseen, Heads, both, missing}
 use Rattle.layout.specs.Events.{trimmed}
 use Rattle.layout.specs.Walk.{walks}
 
@@ -148,6 +148,10 @@ joint u i = cond (ltb 0 i) u skip
 pub record Walked (p : Page) (tab : ℕ) (w : Layout) (g : Run) (r : Answer) (o m : List ℕ) : Type 0 where
   pub is : packed r o m ≡ runs p tab w g
 
+-- The same of what is said by an outcome from the cursor on.
+pub record Ended (p : Page) (tab : ℕ) (f : ℕ → Outcome) (g : Run) (r : Answer) (o m : List ℕ) : Type 0 where
+  pub is : packed r o m ≡ run p tab (f (g .st .at)) g
+
 -- The same of a function whose layout is given by the walks one form deeper and the configuration.
 pub record Does (p : Page) (c : Cfg) (w : Helpers.Walkers → Helpers.Cfg → Layout) (g : Run) (r : Answer) (o m : List ℕ) : Type 0 where
   pub is : Walked p (c .tab) (w (walks (c .left)) (cfgOf c)) g r o m
@@ -214,14 +218,14 @@ goneOf s false = Gone.There
 pub record GoneRead (r : List ℕ) (s : St) (x : Gone) : Type 0 where
   pub is : x ≡ goneOf s (absentAt r (s .at))
 
--- A token that may be absent, read at the cursor.
-unfoldable pub optionalOf : St → Option ℕ → Bool → Given
-optionalOf s (some k) gone = Given.Token k (moved (s .at + 3) s)
-optionalOf s none true = Absent (moved (s .at + 1) s)
-optionalOf s none false = Neither
+-- Whether a token stands at the cursor or is absent, with the cursor behind it.
+unfoldable pub presentOf : St → Option ℕ → Bool → Given
+presentOf s (some k) gone = There (moved (s .at + 3) s)
+presentOf s none true = Absent (moved (s .at + 1) s)
+presentOf s none false = Neither
 
-pub record OptionalRead (count : ℕ) (r : List ℕ) (s : St) (x : Given) : Type 0 where
-  pub is : x ≡ optionalOf s (tokenFits r count (s .at)) (absentAt r (s .at))
+pub record PresentRead (count : ℕ) (r : List ℕ) (s : St) (x : Given) : Type 0 where
+  pub is : x ≡ presentOf s (tokenFits r count (s .at)) (absentAt r (s .at))
 
 -- A declaration's command whose operand is in range, read at an offset: the number of its form, its first token, the place of its fields.
 unfoldable pub declaredAt : ℕ → List ℕ → ℕ → Option (ℕ × Option ℕ × ℕ)
@@ -229,6 +233,18 @@ declaredAt count r at = elim (formFits r count DecOne at) [ none ↦ none | some
 
 pub record DeclaredAt (count : ℕ) (r : List ℕ) (at : ℕ) (x : Declaration) : Type 0 where
   pub is : declarationIn x ≡ declaredAt count r at
+
+-- What a function says that writes an operator that was kept.
+pub record Operated (x r starts lens : List ℕ) (tab k : ℕ) (pipe gap : Layout) (s : St) (o : List ℕ) (s′ : St) (o′ : List ℕ) : Type 0 where
+  pub is : (kinds m : List ℕ)
+      → Ended (page x r kinds starts lens) tab (operated (page x r kinds starts lens) k (outcome (page x r kinds starts lens) pipe) (outcome (page x r kinds starts lens) gap))
+      (runOf s o m) (Done s′) o′ m
+
+-- What a function says that writes the comment above a first token, and a layout behind it.
+pub record CommentedAbove (x kinds starts lens : List ℕ) (tab : ℕ) (first : Option ℕ) (line : Layout) (s : St) (o m : List ℕ) (s′ : St) (o′ m′ : List ℕ) : Type 0 where
+  pub is : (r : List ℕ)
+      → Ended (page x r kinds starts lens) tab (commented (aboveFirst (page x r kinds starts lens) first) (outcome (page x r kinds starts lens) line))
+      (runOf s o m) (Done s′) o′ m′
 
 -- Where the walk goes on after a type whose answer is dropped, at the type's offset.
 unfoldable pub onwardsOf : List ℕ → ℕ → ℕ → ℕ → Answer → Answer
@@ -252,6 +268,10 @@ nameIn (Code.Name.Not place) = noName place
 pub record TestedText (x starts lens : List ℕ) (t : Test) (k : ℕ) (b : Bool) : Type 0 where
   pub is : (r kinds : List ℕ) → b ≡ passes (page x r kinds starts lens) t k
 
+-- Whether the first name of the path at an offset passes a test.
+pub record TestedName (x r starts lens : List ℕ) (t : Test) (at : ℕ) (b : Bool) : Type 0 where
+  pub is : (kinds : List ℕ) → b ≡ namePasses (page x r kinds starts lens) t at
+
 -- The answer of a question about the form at an offset.
 pub record Looked (r : List ℕ) (l : Look) (at : ℕ) (b : Bool) : Type 0 where
   pub is : (x kinds starts lens : List ℕ) → b ≡ sees (page x r kinds starts lens) l at
@@ -265,6 +285,13 @@ pub record Commented (x starts lens : List ℕ) (tab k : ℕ) (s : St) (o m : Li
 abbrev pub headIn : Looks.Head → Head
 headIn (Looks.Head.PathExp k n) = pathExp k n
 headIn Looks.Head.OtherExp = otherExp
+
+-- Whether the first is the name `!`; whether the second is symbolic.
+pub record BangIs (x starts lens : List ℕ) (h : Head) (b : Bool) : Type 0 where
+  pub is : (r kinds : List ℕ) → b ≡ funcIsBang (page x r kinds starts lens) h
+
+pub record SymbolicIs (x starts lens : List ℕ) (h : Head) (b : Bool) : Type 0 where
+  pub is : (r kinds : List ℕ) → b ≡ argIsSymbolic (page x r kinds starts lens) h
 
 abbrev pub seenIn : One.Seen → Seen
 seenIn (One.Seen.Is h) = seen (headIn h)

@@ -11,7 +11,7 @@ use Rattle.layout.specs.Pat.{pats}
 use Rattle.layout.specs.Exp.{exps}
 use Rattle.layout.specs.StrExp.{str-exps}
 use Rattle.layout.specs.SigExp.{sig-exps}
-use Rattle.layout.specs.DecOne.{one-dec}
+use Rattle.layout.specs.DecOne.{comment-line, decs}
 use Rattle.layout.specs.GetDec.{get-dec}
 use Rattle.layout.specs.Meaning.{Page, Outcome, outcome}
 
@@ -35,7 +35,7 @@ walks (suc n) =
       get-exp = λ c. form Exp (λ k. getD (exps (walks n) c) k halt);
       get-str-exp = λ c. form StrExp (λ k. getD (str-exps (walks n) c) k halt);
       get-sig-exp = λ c. form SigExp (λ k. getD (sig-exps (walks n) c) k halt);
-      get-dec-one = λ c. declaration (one-dec (walks n) c);
+      get-dec-one = λ c. declaration (comment-line c) (λ k. getD (decs (walks n) c) k halt);
     }
 
 -- `Cfg::new`: depth 0, blank lines between declarations.

@@ -10,7 +10,7 @@ ghost use mathlib.Core.Bool.{false};
 ghost use Rattle.reader.specs.Commands.{absentAt, listAt, choiceAt};
 ghost use Rattle.reader.specs.Check.{tokenFits};
 ghost use mathlib.Core.Option.{none};
-ghost use Rattle.layout.specs.State.{moved as movedTo, ReadAt, FormRead, GroupRead, GoneRead, OptionalRead, optionalOf, DeclaredAt, Onwards};
+ghost use Rattle.layout.specs.State.{moved as movedTo, ReadAt, FormRead, GroupRead, GoneRead, PresentRead, presentOf, DeclaredAt, Onwards};
 
 // What is read at the cursor, with the state behind it.
 pub enum Read {
@@ -24,9 +24,9 @@ pub enum Gone {
     There,
 }
 
-// A token that may be absent: its number, with the state behind it.
+// Whether a token that may be absent stands at the cursor, with the state behind it.
 pub enum Given {
-    Token(usize, St),
+    There(St),
     Absent(St),
     Neither,
 }
@@ -116,7 +116,7 @@ pub fn absent(rec: &[u8], st: St) -> Gone
 
 // No token stands at the cursor: the field is absent, or something else stands there.
 fn no_token(rec: &[u8], st: St) -> Given
-    ensures { λ r. ⌜ r ≡ optionalOf st none (absentAt (now (rec .entry)) (st .at)) ⌝ }
+    ensures { λ r. ⌜ r ≡ presentOf st none (absentAt (now (rec .entry)) (st .at)) ⌝ }
 {
     let Gone::Past(s) = absent(rec, st) else {
         return Given::Neither;
@@ -124,13 +124,13 @@ fn no_token(rec: &[u8], st: St) -> Given
     Given::Absent(s)
 }
 
-pub fn optional(rec: &[u8], count: usize, st: St) -> Given
-    ensures { λ r. ⌜ OptionalRead count (now (rec .entry)) st r ⌝ }
+pub fn present(rec: &[u8], count: usize, st: St) -> Given
+    ensures { λ r. ⌜ PresentRead count (now (rec .entry)) st r ⌝ }
 {
-    let Read::Is(n, s) = token_no(rec, count, st) else {
+    let Read::Is(_n, s) = token_no(rec, count, st) else {
         return no_token(rec, st);
     };
-    Given::Token(n, s)
+    Given::There(s)
 }
 
 // A declaration's command at an offset. Its first token's number is below the count, or it has none.

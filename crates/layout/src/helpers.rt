@@ -9,7 +9,7 @@ use crate::fields::Read;
 use crate::fields::absent;
 use crate::fields::group;
 use crate::fields::list;
-use crate::fields::optional;
+use crate::fields::present;
 use crate::fields::stop;
 use crate::fields::token_no;
 use crate::formed;
@@ -25,14 +25,13 @@ use crate::words;
 use comments::Above;
 use reader::commands::Number;
 ghost use Rattle.layout.specs.Words.{wordOf};
-ghost use Rattle.layout.specs.Layout.{word as wordOf·, firstName, skip, _⨾_};
-ghost use Rattle.layout.specs.Helpers.{text as textField, path as pathLayout, word-if, ty-vars, ty-var-seq-there, ty-var-seq, deeper, indented, indent as indentOf, when, new-line, op-space, op-path};
-ghost use mathlib.Core.List.{List};
+ghost use Rattle.layout.specs.Layout.{word as wordOf·, text as textField, isAlphanumeric, _⨾_};
+ghost use Rattle.layout.specs.Helpers.{path as pathLayout, word-if, in-parens, ty-vars, ty-var-seq-there, ty-var-seq, deeper, indent as indentOf, indent-deeper, when, new-line, op as opLayout, op-path};
 ghost use mathlib.Core.Path.{_≡_};
 ghost use Prim.Native.Nat.{ℕ, _+_, _≤_};
 ghost use Rattle.reader.specs.Commands.{numberIn};
-ghost use Rattle.layout.specs.DecOne.{comment-above};
-ghost use Rattle.layout.specs.State.{Walked, page, runOf, Sure, Plain, withDepth, joint, cfgOf};
+ghost use Rattle.layout.specs.DecOne.{comment-line};
+ghost use Rattle.layout.specs.State.{Sure, Plain, TestedName, CommentedAbove, withDepth, joint, cfgOf};
 
 // A fixed word before an item that is not the first.
 pub fn between(text: &[u8], out: &mut [u8], st: St, tab: u32, w: usize, i: usize) -> St
@@ -113,9 +112,9 @@ pub fn word_if(
 ) -> Answer
     ensures { λ r. ⌜ Plain (now (text .entry)) (now (rec .entry)) (now (starts .entry)) (now (lens .entry)) (cfg .tab) (word-if (wordOf w)) st (now (out .entry)) r (now (out .exit)) ⌝ }
 {
-    let given = optional(rec, starts.len(), st);
+    let given = present(rec, starts.len(), st);
     match given {
-        Given::Token(_k, s) => Answer::Done(word(text, out, s, cfg.tab, w)),
+        Given::There(s) => Answer::Done(word(text, out, s, cfg.tab, w)),
         Given::Absent(s) => Answer::Done(s),
         Given::Neither => stop(st),
     }
@@ -155,6 +154,26 @@ fn ty_vars(
 }
 
 // The variables in parentheses.
+fn ty_vars_parens(
+    text: &[u8],
+    rec: &[u8],
+    starts: &[u16],
+    lens: &[u16],
+    out: &mut [u8],
+    st: St,
+    cfg: Cfg,
+) -> Answer
+    ensures { λ r. ⌜ Plain (now (text .entry)) (now (rec .entry)) (now (starts .entry)) (now (lens .entry)) (cfg .tab) (wordOf· "(" ⨾ ty-vars ⨾ wordOf· ")") st (now (out .entry)) r (now (out .exit)) ⌝ }
+{
+    let s1 = word(text, out, st, cfg.tab, words::L_ROUND);
+    let r2 = ty_vars(text, rec, starts, lens, out, s1, cfg);
+    let Answer::Done(s2) = r2 else {
+        return r2;
+    };
+    Answer::Done(word(text, out, s2, cfg.tab, words::R_ROUND))
+}
+
+// The variables, in parentheses where the token at the cursor is there.
 fn ty_vars_in_parens(
     text: &[u8],
     rec: &[u8],
@@ -164,34 +183,14 @@ fn ty_vars_in_parens(
     st: St,
     cfg: Cfg,
 ) -> Answer
-    ensures { λ r. ⌜ Plain (now (text .entry)) (now (rec .entry)) (now (starts .entry)) (now (lens .entry)) (cfg .tab) (wordOf· "(" ⨾ ty-vars ⨾ wordOf· ")" ⨾ wordOf· " ") st (now (out .entry)) r (now (out .exit)) ⌝ }
+    ensures { λ r. ⌜ Plain (now (text .entry)) (now (rec .entry)) (now (starts .entry)) (now (lens .entry)) (cfg .tab) (in-parens ty-vars) st (now (out .entry)) r (now (out .exit)) ⌝ }
 {
-    let s1 = word(text, out, st, cfg.tab, words::L_ROUND);
-    let r2 = ty_vars(text, rec, starts, lens, out, s1, cfg);
-    let Answer::Done(s2) = r2 else {
-        return r2;
-    };
-    let s3 = word(text, out, s2, cfg.tab, words::R_ROUND);
-    Answer::Done(word(text, out, s3, cfg.tab, words::SPACE))
-}
-
-// The variables without parentheses.
-fn ty_vars_bare(
-    text: &[u8],
-    rec: &[u8],
-    starts: &[u16],
-    lens: &[u16],
-    out: &mut [u8],
-    st: St,
-    cfg: Cfg,
-) -> Answer
-    ensures { λ r. ⌜ Plain (now (text .entry)) (now (rec .entry)) (now (starts .entry)) (now (lens .entry)) (cfg .tab) (skip ⨾ ty-vars ⨾ skip ⨾ wordOf· " ") st (now (out .entry)) r (now (out .exit)) ⌝ }
-{
-    let r1 = ty_vars(text, rec, starts, lens, out, st, cfg);
-    let Answer::Done(s1) = r1 else {
-        return r1;
-    };
-    Answer::Done(word(text, out, s1, cfg.tab, words::SPACE))
+    let given = present(rec, starts.len(), st);
+    match given {
+        Given::There(s) => ty_vars_parens(text, rec, starts, lens, out, s, cfg),
+        Given::Absent(s) => ty_vars(text, rec, starts, lens, out, s, cfg),
+        Given::Neither => stop(st),
+    }
 }
 
 // A sequence that is there.
@@ -210,12 +209,11 @@ fn ty_var_seq_there(
     let Answer::Done(s1) = r1 else {
         return r1;
     };
-    let given = optional(rec, starts.len(), s1);
-    match given {
-        Given::Token(_k, s2) => ty_vars_in_parens(text, rec, starts, lens, out, s2, cfg),
-        Given::Absent(s2) => ty_vars_bare(text, rec, starts, lens, out, s2, cfg),
-        Given::Neither => stop(s1),
-    }
+    let r2 = ty_vars_in_parens(text, rec, starts, lens, out, s1, cfg);
+    let Answer::Done(s2) = r2 else {
+        return r2;
+    };
+    Answer::Done(word(text, out, s2, cfg.tab, words::SPACE))
 }
 
 // A sequence of type variables, with a space behind it, where there is one.
@@ -260,7 +258,7 @@ pub fn line(text: &[u8], out: &mut [u8], st: St, cfg: Cfg) -> St
 }
 
 // The depth that a deeper configuration forms.
-pub fn forms(st: St, cfg: Cfg) -> St
+pub fn deepen(st: St, cfg: Cfg) -> St
     requires { ⌜ cfg .depth + 1 ≤ 1000 ⌝ }
     ensures { λ r. ⌜ r ≡ withDepth (cfg .depth + 1) st ⌝ }
 {
@@ -280,9 +278,9 @@ pub fn indent_in(out: &mut [u8], st: St, cfg: Cfg) -> St
 // An indent one deeper, at a depth that is formed here.
 pub fn indent_deeper(out: &mut [u8], st: St, cfg: Cfg) -> St
     requires { ⌜ cfg .depth + 1 ≤ 1000 ⌝ }
-    ensures { λ r. ⌜ Sure (cfg .tab) (indented (cfgOf cfg) indentOf) st (now (out .entry)) r (now (out .exit)) ⌝ }
+    ensures { λ r. ⌜ Sure (cfg .tab) (indent-deeper (cfgOf cfg)) st (now (out .entry)) r (now (out .exit)) ⌝ }
 {
-    let s1 = forms(st, cfg);
+    let s1 = deepen(st, cfg);
     indent_in(out, s1, cfg)
 }
 
@@ -336,8 +334,18 @@ pub fn new_line_in(text: &[u8], out: &mut [u8], st: St, cfg: Cfg, w: usize, i: u
 }
 
 // ---- paths behind `op`
-// A space where the first name of the path starts with a letter or a digit.
-fn op_space(
+// Whether the first name of the path at an offset starts with a letter or a digit.
+fn alphanumeric_name(text: &[u8], rec: &[u8], starts: &[u16], lens: &[u16], at: usize) -> bool
+    ensures { λ r. ⌜ TestedName (now (text .entry)) (now (rec .entry)) (now (starts .entry)) (now (lens .entry)) isAlphanumeric at r ⌝ }
+{
+    let Name::Is(k, _n) = path_name(rec, at) else {
+        return false;
+    };
+    alphanumeric(text, starts, lens, k)
+}
+
+// `op` before the path at the cursor.
+fn op(
     text: &[u8],
     rec: &[u8],
     starts: &[u16],
@@ -345,17 +353,19 @@ fn op_space(
     out: &mut [u8],
     st: St,
     cfg: Cfg,
-) -> St
-    ensures { λ r. ⌜ Plain (now (text .entry)) (now (rec .entry)) (now (starts .entry)) (now (lens .entry)) (cfg .tab) (firstName op-space) st (now (out .entry)) (Answer.Done r) (now (out .exit)) ⌝ }
+) -> Answer
+    ensures { λ r. ⌜ Plain (now (text .entry)) (now (rec .entry)) (now (starts .entry)) (now (lens .entry)) (cfg .tab) opLayout st (now (out .entry)) r (now (out .exit)) ⌝ }
 {
-    let at = st.at;
-    let Name::Is(k, _n) = path_name(rec, at) else {
-        return st;
+    let r1 = group(rec, st);
+    let Answer::Done(_s) = r1 else {
+        return r1;
     };
-    if alphanumeric(text, starts, lens, k) {
-        return word(text, out, st, cfg.tab, words::SPACE);
+    let at = st.at;
+    let s2 = word(text, out, st, cfg.tab, words::OP);
+    if alphanumeric_name(text, rec, starts, lens, at) {
+        return Answer::Done(word(text, out, s2, cfg.tab, words::SPACE));
     }
-    st
+    Answer::Done(s2)
 }
 
 // `op` and a path.
@@ -368,11 +378,13 @@ fn op_path_there(
     st: St,
     cfg: Cfg,
 ) -> Answer
-    ensures { λ r. ⌜ Plain (now (text .entry)) (now (rec .entry)) (now (starts .entry)) (now (lens .entry)) (cfg .tab) ((wordOf· "op" ⨾ firstName op-space) ⨾ pathLayout) st (now (out .entry)) r (now (out .exit)) ⌝ }
+    ensures { λ r. ⌜ Plain (now (text .entry)) (now (rec .entry)) (now (starts .entry)) (now (lens .entry)) (cfg .tab) (opLayout ⨾ pathLayout) st (now (out .entry)) r (now (out .exit)) ⌝ }
 {
-    let s1 = word(text, out, st, cfg.tab, words::OP);
-    let s2 = op_space(text, rec, starts, lens, out, s1, cfg);
-    path(text, rec, starts, lens, out, s2, cfg)
+    let r1 = op(text, rec, starts, lens, out, st, cfg);
+    let Answer::Done(s1) = r1 else {
+        return r1;
+    };
+    path(text, rec, starts, lens, out, s1, cfg)
 }
 
 // The fields `op_kw` and `path`.
@@ -387,9 +399,9 @@ pub fn op_path(
 ) -> Answer
     ensures { λ r. ⌜ Plain (now (text .entry)) (now (rec .entry)) (now (starts .entry)) (now (lens .entry)) (cfg .tab) op-path st (now (out .entry)) r (now (out .exit)) ⌝ }
 {
-    let given = optional(rec, starts.len(), st);
+    let given = present(rec, starts.len(), st);
     match given {
-        Given::Token(_k, s) => op_path_there(text, rec, starts, lens, out, s, cfg),
+        Given::There(s) => op_path_there(text, rec, starts, lens, out, s, cfg),
         Given::Absent(s) => path(text, rec, starts, lens, out, s, cfg),
         Given::Neither => stop(st),
     }
@@ -408,7 +420,7 @@ pub fn comment_above(
     cfg: Cfg,
     first: Number,
 ) -> St
-    ensures { λ r. ⌜ ((rec : List ℕ) → Walked (page (now (text .entry)) rec (now (kinds .entry)) (now (starts .entry)) (now (lens .entry))) (cfg .tab) (comment-above (cfgOf cfg) (numberIn first)) (runOf st (now (out .entry)) (now (left .entry))) (Answer.Done r) (now (out .exit)) (now (left .exit))) ⌝ }
+    ensures { λ r. ⌜ CommentedAbove (now (text .entry)) (now (kinds .entry)) (now (starts .entry)) (now (lens .entry)) (cfg .tab) (numberIn first) (comment-line (cfgOf cfg)) st (now (out .entry)) (now (left .entry)) r (now (out .exit)) (now (left .exit)) ⌝ }
 {
     let Number::Is(k) = first else {
         return st;

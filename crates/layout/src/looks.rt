@@ -1,5 +1,8 @@
 // Questions about the form at an offset and about a token's text; what `AppExp` sees of its expressions.
+use crate::St;
 use crate::entry;
+use crate::fields::Read;
+use crate::fields::form;
 use crate::names::Name;
 use crate::names::op_path_name;
 use crate::part;
@@ -16,10 +19,25 @@ ghost use mathlib.Core.Path.{_≡_};
 ghost use Prim.Native.Nat.{ℕ, _+_};
 ghost use Rattle.layout.specs.Layout.{isBang, isPipe, isAlphabetic, isAlphanumeric, isIfExp, bodyExpNeedsNewline};
 ghost use Rattle.layout.specs.Meaning.{onNewLine, headOf, bothSeen, headsFrom, headsAt};
-ghost use Rattle.layout.specs.State.{TestedText, Looked, seenIn, headsIn};
+ghost use Rattle.layout.specs.State.{TestedText, FormRead, Looked, seenIn, headsIn};
 
 // The number of `PathExp` among the expressions.
 const PATH_EXP: usize = 5;
+
+// The commands of the expressions that are asked about.
+const PAREN_EXP: u8 = 0x48;
+
+const SEQ_EXP: u8 = 0x4C;
+
+const LET_EXP: u8 = 0x4D;
+
+const HANDLE_EXP: u8 = 0x53;
+
+const IF_EXP: u8 = 0x55;
+
+const WHILE_EXP: u8 = 0x56;
+
+const CASE_EXP: u8 = 0x57;
 
 // ---- a token's text
 pub fn is_bang(text: &[u8], starts: &[u16], lens: &[u16], k: usize) -> bool
@@ -51,32 +69,39 @@ pub fn alphanumeric(text: &[u8], starts: &[u16], lens: &[u16], k: usize) -> bool
 }
 
 // ---- the form at an offset
+// The expression at the cursor, which is asked about before it is walked into.
+pub fn expression(rec: &[u8], st: St) -> Read
+    ensures { λ r. ⌜ FormRead Family.Exp (now (rec .entry)) st r ⌝ }
+{
+    form(rec, st, Family::Exp)
+}
+
 pub fn is_if_exp(rec: &[u8], at: usize) -> bool
     ensures { λ r. ⌜ Looked (now (rec .entry)) isIfExp at r ⌝ }
 {
-    byte_at(rec, at) == 0x55
+    byte_at(rec, at) == IF_EXP
 }
 
-// `SeqExp`, `LetExp`, `HandleExp`, `IfExp`, `WhileExp` or `CaseExp`.
+// The expressions whose body stands on a new line.
 fn on_new_line(b: u8) -> bool
     ensures { λ r. ⌜ r ≡ onNewLine b ⌝ }
 {
-    if b == 0x4C {
+    if b == SEQ_EXP {
         return true;
     }
-    if b == 0x4D {
+    if b == LET_EXP {
         return true;
     }
-    if b == 0x53 {
+    if b == HANDLE_EXP {
         return true;
     }
-    if b == 0x55 {
+    if b == IF_EXP {
         return true;
     }
-    if b == 0x56 {
+    if b == WHILE_EXP {
         return true;
     }
-    b == 0x57
+    b == CASE_EXP
 }
 
 // `body_exp_needs_newline`, which looks through `ParenExp`.
@@ -86,7 +111,7 @@ pub fn body_exp_needs_newline(rec: &[u8], at: usize) -> bool
     let mut i = at;
     while i < rec.len() {
         let b = rec[i];
-        if b != 0x48 {
+        if b != PAREN_EXP {
             return on_new_line(b);
         }
         i += 1;

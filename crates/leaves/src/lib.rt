@@ -10,7 +10,7 @@ use layout::fields::absent;
 use layout::fields::choice;
 use layout::fields::group;
 use layout::fields::list;
-use layout::fields::optional;
+use layout::fields::present;
 use layout::fields::stop;
 use layout::helpers::between;
 use layout::helpers::indent;
@@ -37,14 +37,16 @@ ghost use mathlib.Core.List.{List};
 ghost use Prim.Native.Nat.{ℕ, _+_, _≤_};
 ghost use lib.Dec.{eqb};
 ghost use Rattle.layout.specs.Words.{wordOf};
-ghost use Rattle.layout.specs.Layout.{word as wordOf·, write as write·, group as group·, optional as optional·, choice as choice·, skip, _⨾_};
-ghost use Rattle.layout.specs.Helpers.{indented, indent as indentOf, new-line, items, when};
-ghost use Rattle.layout.specs.State.{Plain, Sure, cfgOf, headIn};
+ghost use Rattle.layout.specs.Layout.{word as wordOf·, choice as choice·, _⨾_};
+ghost use Rattle.layout.specs.Helpers.{indent as indentOf, indent-deeper as indentDeeper, new-line, items, when};
+ghost use Rattle.layout.specs.State.{Plain, Sure, Operated, BangIs, SymbolicIs, cfgOf, headIn};
 ghost use Rattle.layout.specs.Walk.{walks};
-ghost use Rattle.layout.specs.Exp.{item-semi, app-space, infix-operator, SelectorExp};
+ghost use Rattle.layout.specs.Exp.{item-semi, app-space, pipe, exp as exp·};
+ghost use Rattle.reader.specs.Forms.{SelectorExp};
 ghost use Rattle.layout.specs.GetDec.{sharing-tail, sharing-tails};
-ghost use Rattle.layout.specs.DecOne.{ty-bind, ty-binds, with-type, con-bind, con-binds, dat-bind, dat-binds, PrefixFunBindCaseHead, infix-head, InfixFunBindCaseHead, case-head, case-pats, TyDec, DatDec, DatCopyDec, ex-bind-of, OpenDec, int-lit, names-space, NonfixDec};
-ghost use Rattle.leaves.specs.Heads.{BangIs, SymbolicIs, missedOf};
+ghost use Rattle.layout.specs.DecOne.{ty-bind, ty-binds, with-type, con-bind, con-binds, dat-bind, dat-binds, PrefixFunBindCaseHead, infix-head, InfixFunBindCaseHead, case-head, case-pats, ex-bind-of, int-lit, names-space, dec-one as dec-one·};
+ghost use Rattle.reader.specs.Forms.{TyDec, DatDec, DatCopyDec, OpenDec, NonfixDec};
+ghost use Rattle.leaves.specs.Heads.{missedOf};
 
 // ---- what a condition decides
 // A fixed word, where a condition holds.
@@ -77,7 +79,7 @@ pub fn app_end(text: &[u8], out: &mut [u8], st: St, cfg: Cfg, needs: bool) -> St
 
 // ---- between the expressions of an application
 // `func_is_bang`: one name, and it is `!`.
-fn func_is_bang(text: &[u8], starts: &[u16], lens: &[u16], func: Head) -> bool
+pub fn func_is_bang(text: &[u8], starts: &[u16], lens: &[u16], func: Head) -> bool
     ensures { λ r. ⌜ BangIs (now (text .entry)) (now (starts .entry)) (now (lens .entry)) (headIn func) r ⌝ }
 {
     let Head::PathExp(k, names) = func else {
@@ -90,7 +92,7 @@ fn func_is_bang(text: &[u8], starts: &[u16], lens: &[u16], func: Head) -> bool
 }
 
 // `arg_is_symbolic`: its first name does not start with a letter.
-fn arg_is_symbolic(text: &[u8], starts: &[u16], lens: &[u16], arg: Head) -> bool
+pub fn arg_is_symbolic(text: &[u8], starts: &[u16], lens: &[u16], arg: Head) -> bool
     ensures { λ r. ⌜ SymbolicIs (now (text .entry)) (now (starts .entry)) (now (lens .entry)) (headIn arg) r ⌝ }
 {
     let Head::PathExp(k, _names) = arg else {
@@ -101,25 +103,13 @@ fn arg_is_symbolic(text: &[u8], starts: &[u16], lens: &[u16], arg: Head) -> bool
 }
 
 // What `AppExp` writes between its expressions.
-pub fn app_space(
-    text: &[u8],
-    rec: &[u8],
-    starts: &[u16],
-    lens: &[u16],
-    out: &mut [u8],
-    st: St,
-    cfg: Cfg,
-    func: Head,
-    arg: Head,
-) -> St
-    ensures { λ r. ⌜ Plain (now (text .entry)) (now (rec .entry)) (now (starts .entry)) (now (lens .entry)) (cfg .tab) (app-space (headIn func) (headIn arg)) st (now (out .entry)) (Answer.Done r) (now (out .exit)) ⌝ }
+pub fn app_space(text: &[u8], out: &mut [u8], st: St, tab: u32, bang: bool, symbolic: bool) -> St
+    ensures { λ r. ⌜ Sure tab (app-space bang symbolic) st (now (out .entry)) r (now (out .exit)) ⌝ }
 {
-    let bang = func_is_bang(text, starts, lens, func);
-    let symbolic = arg_is_symbolic(text, starts, lens, arg);
     if bang {
-        return word_when(text, out, st, cfg.tab, words::SPACE, symbolic);
+        return word_when(text, out, st, tab, words::SPACE, symbolic);
     }
-    word(text, out, st, cfg.tab, words::SPACE)
+    word(text, out, st, tab, words::SPACE)
 }
 
 // A stop at the part that `AppExp` does not find.
@@ -145,16 +135,9 @@ pub fn item_semi(
 ) -> Answer
     ensures { λ r. ⌜ Plain (now (text .entry)) (now (rec .entry)) (now (starts .entry)) (now (lens .entry)) (cfg .tab) (item-semi write) st (now (out .entry)) r (now (out .exit)) ⌝ }
 {
-    let given = optional(rec, starts.len(), st);
+    let given = present(rec, starts.len(), st);
     match given {
-        Given::Token(_k, s) => Answer::Done(word_when(
-            text,
-            out,
-            s,
-            cfg.tab,
-            words::SEMICOLON,
-            write,
-        )),
+        Given::There(s) => Answer::Done(word_when(text, out, s, cfg.tab, words::SEMICOLON, write)),
         Given::Absent(s) => Answer::Done(s),
         Given::Neither => stop(st),
     }
@@ -170,7 +153,7 @@ pub fn selector_exp(
     st: St,
     cfg: Cfg,
 ) -> Answer
-    ensures { λ r. ⌜ Plain (now (text .entry)) (now (rec .entry)) (now (starts .entry)) (now (lens .entry)) (cfg .tab) (SelectorExp (walks (cfg .left))) st (now (out .entry)) r (now (out .exit)) ⌝ }
+    ensures { λ r. ⌜ Plain (now (text .entry)) (now (rec .entry)) (now (starts .entry)) (now (lens .entry)) (cfg .tab) (exp· (walks (cfg .left)) (cfgOf cfg) SelectorExp) st (now (out .entry)) r (now (out .exit)) ⌝ }
 {
     let s1 = word(text, out, st, cfg.tab, words::HASH);
     text_of(text, rec, starts, lens, out, s1, cfg)
@@ -188,7 +171,7 @@ pub fn infix_operator(
     operator: usize,
 ) -> St
     requires { ⌜ cfg .depth + 1 ≤ 1000 ⌝ }
-    ensures { λ r. ⌜ Plain (now (text .entry)) (now (rec .entry)) (now (starts .entry)) (now (lens .entry)) (cfg .tab) (infix-operator (cfgOf cfg) operator) st (now (out .entry)) (Answer.Done r) (now (out .exit)) ⌝ }
+    ensures { λ r. ⌜ Operated (now (text .entry)) (now (rec .entry)) (now (starts .entry)) (now (lens .entry)) (cfg .tab) operator (pipe (cfgOf cfg)) (wordOf· " ") st (now (out .entry)) r (now (out .exit)) ⌝ }
 {
     if is_pipe(text, starts, lens, operator) {
         let s1 = word(text, out, st, cfg.tab, words::LINE_FEED);
@@ -332,7 +315,7 @@ fn con_lines(
     n: usize,
 ) -> Answer
     requires { ⌜ cfg .depth + 1 ≤ 1000 ⌝ }
-    ensures { λ r. ⌜ Plain (now (text .entry)) (now (rec .entry)) (now (starts .entry)) (now (lens .entry)) (cfg .tab) (wordOf· " =\n" ⨾ indented (cfgOf cfg) indentOf ⨾ items n (con-bind (walks (cfg .left))) (new-line (cfgOf cfg) "| " ⨾ con-bind (walks (cfg .left)))) st (now (out .entry)) r (now (out .exit)) ⌝ }
+    ensures { λ r. ⌜ Plain (now (text .entry)) (now (rec .entry)) (now (starts .entry)) (now (lens .entry)) (cfg .tab) (wordOf· " =\n" ⨾ indentDeeper (cfgOf cfg) ⨾ items n (con-bind (walks (cfg .left))) (new-line (cfgOf cfg) "| " ⨾ con-bind (walks (cfg .left)))) st (now (out .entry)) r (now (out .exit)) ⌝ }
 {
     let s1 = word(text, out, st, cfg.tab, words::EQ_LINE);
     let s2 = indent_deeper(out, s1, cfg);
@@ -473,7 +456,7 @@ pub fn ty_dec(
     st: St,
     cfg: Cfg,
 ) -> Answer
-    ensures { λ r. ⌜ Plain (now (text .entry)) (now (rec .entry)) (now (starts .entry)) (now (lens .entry)) (cfg .tab) (TyDec (walks (cfg .left)) (cfgOf cfg)) st (now (out .entry)) r (now (out .exit)) ⌝ }
+    ensures { λ r. ⌜ Plain (now (text .entry)) (now (rec .entry)) (now (starts .entry)) (now (lens .entry)) (cfg .tab) (dec-one· (walks (cfg .left)) (cfgOf cfg) TyDec) st (now (out .entry)) r (now (out .exit)) ⌝ }
 {
     let r1 = text_of(text, rec, starts, lens, out, st, cfg);
     let Answer::Done(s1) = r1 else {
@@ -494,7 +477,7 @@ pub fn dat_dec(
     cfg: Cfg,
 ) -> Answer
     requires { ⌜ cfg .depth + 1 ≤ 1000 ⌝ }
-    ensures { λ r. ⌜ Plain (now (text .entry)) (now (rec .entry)) (now (starts .entry)) (now (lens .entry)) (cfg .tab) (DatDec (walks (cfg .left)) (cfgOf cfg)) st (now (out .entry)) r (now (out .exit)) ⌝ }
+    ensures { λ r. ⌜ Plain (now (text .entry)) (now (rec .entry)) (now (starts .entry)) (now (lens .entry)) (cfg .tab) (dec-one· (walks (cfg .left)) (cfgOf cfg) DatDec) st (now (out .entry)) r (now (out .exit)) ⌝ }
 {
     let s1 = word(text, out, st, cfg.tab, words::DATATYPE);
     let r2 = dat_binds(text, rec, starts, lens, out, s1, cfg);
@@ -514,7 +497,7 @@ pub fn dat_copy_dec(
     st: St,
     cfg: Cfg,
 ) -> Answer
-    ensures { λ r. ⌜ Plain (now (text .entry)) (now (rec .entry)) (now (starts .entry)) (now (lens .entry)) (cfg .tab) (DatCopyDec (walks (cfg .left))) st (now (out .entry)) r (now (out .exit)) ⌝ }
+    ensures { λ r. ⌜ Plain (now (text .entry)) (now (rec .entry)) (now (starts .entry)) (now (lens .entry)) (cfg .tab) (dec-one· (walks (cfg .left)) (cfgOf cfg) DatCopyDec) st (now (out .entry)) r (now (out .exit)) ⌝ }
 {
     let s1 = word(text, out, st, cfg.tab, words::DATATYPE);
     let r2 = text_of(text, rec, starts, lens, out, s1, cfg);
@@ -536,7 +519,7 @@ pub fn open_dec(
     st: St,
     cfg: Cfg,
 ) -> Answer
-    ensures { λ r. ⌜ Plain (now (text .entry)) (now (rec .entry)) (now (starts .entry)) (now (lens .entry)) (cfg .tab) (OpenDec (walks (cfg .left))) st (now (out .entry)) r (now (out .exit)) ⌝ }
+    ensures { λ r. ⌜ Plain (now (text .entry)) (now (rec .entry)) (now (starts .entry)) (now (lens .entry)) (cfg .tab) (dec-one· (walks (cfg .left)) (cfgOf cfg) OpenDec) st (now (out .entry)) r (now (out .exit)) ⌝ }
 {
     let s1 = word(text, out, st, cfg.tab, words::OPEN);
     let Read::Is(n, s2) = list(rec, s1) else {
@@ -585,24 +568,7 @@ fn names_space(
     Answer::Done(s)
 }
 
-// A precedence and a space.
-fn int_lit_there(
-    text: &[u8],
-    rec: &[u8],
-    starts: &[u16],
-    lens: &[u16],
-    out: &mut [u8],
-    st: St,
-    cfg: Cfg,
-    k: usize,
-) -> Answer
-    ensures { λ r. ⌜ Plain (now (text .entry)) (now (rec .entry)) (now (starts .entry)) (now (lens .entry)) (cfg .tab) (write· k ⨾ wordOf· " ") st (now (out .entry)) r (now (out .exit)) ⌝ }
-{
-    let s1 = token(text, starts, lens, out, st, cfg.tab, k);
-    Answer::Done(word(text, out, s1, cfg.tab, words::SPACE))
-}
-
-// A precedence, where there is one.
+// A precedence and a space, where there is one.
 fn int_lit(
     text: &[u8],
     rec: &[u8],
@@ -612,14 +578,16 @@ fn int_lit(
     st: St,
     cfg: Cfg,
 ) -> Answer
-    ensures { λ r. ⌜ Plain (now (text .entry)) (now (rec .entry)) (now (starts .entry)) (now (lens .entry)) (cfg .tab) (optional· (int-lit (walks (cfg .left)))) st (now (out .entry)) r (now (out .exit)) ⌝ }
+    ensures { λ r. ⌜ Plain (now (text .entry)) (now (rec .entry)) (now (starts .entry)) (now (lens .entry)) (cfg .tab) (int-lit (walks (cfg .left))) st (now (out .entry)) r (now (out .exit)) ⌝ }
 {
-    let given = optional(rec, starts.len(), st);
-    match given {
-        Given::Token(k, s) => int_lit_there(text, rec, starts, lens, out, s, cfg, k),
-        Given::Absent(s) => Answer::Done(s),
-        Given::Neither => stop(st),
+    if let Gone::Past(s0) = absent(rec, st) {
+        return Answer::Done(s0);
     }
+    let r1 = text_of(text, rec, starts, lens, out, st, cfg);
+    let Answer::Done(s1) = r1 else {
+        return r1;
+    };
+    Answer::Done(word(text, out, s1, cfg.tab, words::SPACE))
 }
 
 // `InfixDec` and `InfixrDec`, by their word.
@@ -633,7 +601,7 @@ pub fn infix_dec(
     cfg: Cfg,
     w: usize,
 ) -> Answer
-    ensures { λ r. ⌜ Plain (now (text .entry)) (now (rec .entry)) (now (starts .entry)) (now (lens .entry)) (cfg .tab) (wordOf· (wordOf w) ⨾ optional· (int-lit (walks (cfg .left))) ⨾ names-space (walks (cfg .left))) st (now (out .entry)) r (now (out .exit)) ⌝ }
+    ensures { λ r. ⌜ Plain (now (text .entry)) (now (rec .entry)) (now (starts .entry)) (now (lens .entry)) (cfg .tab) (wordOf· (wordOf w) ⨾ int-lit (walks (cfg .left)) ⨾ names-space (walks (cfg .left))) st (now (out .entry)) r (now (out .exit)) ⌝ }
 {
     let s1 = word(text, out, st, cfg.tab, w);
     let r2 = int_lit(text, rec, starts, lens, out, s1, cfg);
@@ -653,7 +621,7 @@ pub fn nonfix_dec(
     st: St,
     cfg: Cfg,
 ) -> Answer
-    ensures { λ r. ⌜ Plain (now (text .entry)) (now (rec .entry)) (now (starts .entry)) (now (lens .entry)) (cfg .tab) (NonfixDec (walks (cfg .left))) st (now (out .entry)) r (now (out .exit)) ⌝ }
+    ensures { λ r. ⌜ Plain (now (text .entry)) (now (rec .entry)) (now (starts .entry)) (now (lens .entry)) (cfg .tab) (dec-one· (walks (cfg .left)) (cfgOf cfg) NonfixDec) st (now (out .entry)) r (now (out .exit)) ⌝ }
 {
     let s1 = word(text, out, st, cfg.tab, words::NONFIX);
     names_space(text, rec, starts, lens, out, s1, cfg)
@@ -724,25 +692,6 @@ fn infix_in_parens(
     Answer::Done(word(text, out, s2, cfg.tab, words::R_ROUND))
 }
 
-// The same without parentheses.
-fn infix_bare(
-    text: &[u8],
-    rec: &[u8],
-    starts: &[u16],
-    lens: &[u16],
-    out: &mut [u8],
-    st: St,
-    cfg: Cfg,
-) -> Answer
-    ensures { λ r. ⌜ Plain (now (text .entry)) (now (rec .entry)) (now (starts .entry)) (now (lens .entry)) (cfg .tab) (skip ⨾ infix-head (walks (cfg .left)) ⨾ skip) st (now (out .entry)) r (now (out .exit)) ⌝ }
-{
-    let r1 = infix_pats(text, rec, starts, lens, out, st, cfg);
-    let Answer::Done(s1) = r1 else {
-        return r1;
-    };
-    Answer::Done(s1)
-}
-
 // `InfixFunBindCaseHead`.
 fn infix_head(
     text: &[u8],
@@ -755,10 +704,10 @@ fn infix_head(
 ) -> Answer
     ensures { λ r. ⌜ Plain (now (text .entry)) (now (rec .entry)) (now (starts .entry)) (now (lens .entry)) (cfg .tab) (InfixFunBindCaseHead (walks (cfg .left))) st (now (out .entry)) r (now (out .exit)) ⌝ }
 {
-    let given = optional(rec, starts.len(), st);
+    let given = present(rec, starts.len(), st);
     match given {
-        Given::Token(_k, s) => infix_in_parens(text, rec, starts, lens, out, s, cfg),
-        Given::Absent(s) => infix_bare(text, rec, starts, lens, out, s, cfg),
+        Given::There(s) => infix_in_parens(text, rec, starts, lens, out, s, cfg),
+        Given::Absent(s) => infix_pats(text, rec, starts, lens, out, s, cfg),
         Given::Neither => stop(st),
     }
 }

@@ -17,12 +17,12 @@ use Rattle.reader.specs.Check as Check
 use Rattle.reader.specs.Check.{Checked, ok, malformed, tooDeep, operandFits, tokenFits, orAbsent, fields, formFits, formCheck}
 use Rattle.reader.proofs.CommandLaws.{and-second, token-there, group-there, form-there, form-fits}
 use Rattle.reader.proofs.FieldLaws.{then-parts, or-is, token-parts, Grows, fields-grow, zero-never, form-grows, items-grow}
-use Rattle.layout.specs.Layout.{Layout, _⨾_, word, write, group, form, maybe, dropped, halt}
-use Rattle.layout.specs.Meaning.{Page, Event, Outcome, done, stopped, Stop, absent, outcome, orStop, onwards}
+use Rattle.layout.specs.Layout.{Layout, _⨾_, word, text, group, form, maybe, dropped, halt}
+use Rattle.layout.specs.Meaning.{Page, Event, Token, Outcome, done, stopped, Stop, absent, outcome, orStop, onwards}
 use Rattle.layout.specs.Events.{sumOf, deepest}
-use Rattle.layout.specs.Helpers.{text, times, items, for-each, sep}
+use Rattle.layout.specs.Helpers.{times, items, for-each, sep}
 use Rattle.measures.proofs.Credit.{Within, then-within, earned, weaker}
-use Rattle.measures.proofs.Paying.{Paid, Short, word-within, write-within}
+use Rattle.measures.proofs.Paying.{Paid, Short, word-within, token-within}
 use Rattle.reader.proofs.Ends.{ends-more, ends-agree}
 
 -- The check of fields, where `d` more forms may stand inside one another.
@@ -62,12 +62,12 @@ module _ (p : Page) where
         cc
 
     text-within : Short p → (o : Option ℕ) → tokenFits (p .rec) (length (p .tokens .starts)) at ≡ o → ends p d may Fields.token at ≡ ok lim
-        → Within p lim lim at 0 32 (orStop o at (λ n. outcome p (write n) (at + 3)))
+        → Within p lim lim at 0 32 (orStop o at (λ n. done (at + 3) (Token n ∷ [])))
     unfolding orStop
     text-within short none t e = stops lim at 0 (grows d may Fields.token at lim e)
     text-within short (some n) t e =
         let z = token-ends n t e in
-        earned p lim lim lim at 3 64 0 (outcome p (write n) (at + 3)) (omega arith) (write-within p short n lim lim (at + 3) (omega (arith, z)) (omega (arith, z)))
+        earned p lim lim lim at 3 64 0 (done (at + 3) (Token n ∷ [])) (omega arith) (token-within p short n lim lim (at + 3) (omega (arith, z)) (omega (arith, z)))
 
     group-ends : (f : Fields) → groupAt (p .rec) at ≡ true → ends p d may (Fields.group f) at ≡ ok lim → ends p d true f (at + 1) ≡ ok lim
     unfolding fields
@@ -140,7 +140,7 @@ module _ {p : Page} {d : ℕ} {may : Bool} where
 
   -- ---- commands
   pub texts : Short p → Follows p d may Fields.token 0 32 text
-  unfolding outcome text
+  unfolding outcome
   texts short = record { is = λ at lim e. text-within p d may at lim short (tokenFits (p .rec) (length (p .tokens .starts)) at) refl e }
 
   pub groups : {f : Fields} {a r : ℕ} {w : Layout} → Follows p d true f a r w → Follows p d may (Fields.group f) (a - 32) (r + (32 - a)) (group w)

@@ -2,20 +2,25 @@
 use native.Mathlib.Omega.{arith}
 use mathlib.Core.Path.{_≡_, refl}
 use mathlib.Core.Bool.{true}
-use mathlib.Core.Option.{Option, none, some}
 use Prim.Native.Nat.{ℕ, _+_, _-_, _≤_}
 use Prim.Native.String.{String}
 use lib.Dec.{leb}
 use borrow.Author.Tests.{leb-true}
 use Rattle.text.specs.Bytes.{bytes}
-use Rattle.layout.specs.Layout.{Layout, word}
+use Rattle.layout.specs.Layout.{Layout, word, text}
 use Rattle.layout.specs.Meaning.{Page}
-use Rattle.layout.specs.Helpers.{Cfg, deeper, indent, text, for-each, sep, new-line, sep-with-lines, in-end, path, op-space, op-path, ty-vars, ty-var-seq-there, ty-var-seq, word-if, semicolon}
-use Rattle.measures.proofs.Paying.{Paid, Short, eased, skips, fixed, writes, indents, _then_, tokens, lists, groups, maybes, whens, whens-some, optionals, tests, firstNames, repeats, itemed, indenteds}
+use Rattle.layout.specs.Helpers.{Cfg, deeper, deepen, indent, for-each, sep, new-line, sep-with-lines, in-end, path, op, op-path, in-parens, ty-vars, ty-var-seq-there, ty-var-seq, word-if, semicolon}
+use Rattle.measures.proofs.Paying as Paying
+use Rattle.measures.proofs.Paying.{Paid, Short, eased, skips, fixed, indents, _then_, texts, lists, groups, maybes, whens, presents, firstNames, repeats, itemed}
 
 module _ {p : Page} where
   spent : {r : ℕ} {w : Layout} → Paid p 0 r w → Paid p 0 0 w
   spent x = eased (omega arith) (omega arith) x
+
+  -- ---- a depth more
+  pub deepened : (c : Cfg) → c .depth + 1 ≤ 400 → Paid p 0 0 (deepen c)
+  unfolding deepen
+  deepened c h = Paying.forms h
 
   -- ---- items of a list
   pub each : {a r : ℕ} {item : Layout} → leb a r ≡ true → Paid p a r item → Paid p (a - 96) (a + (96 - a)) (for-each item)
@@ -46,43 +51,31 @@ module _ {p : Page} where
         lists (λ n. eased (omega (arith, l)) (omega (arith, l)) (itemed (omega (arith, l)) (new-lines w then x) x n))
 
   -- ---- words that depend on a token
-  pub words-if : {w : String} → Paid p 1 0 (word w) → Paid p 0 31 (word-if w)
+  pub words-if : {w : String} → Paid p 1 0 (word w) → Paid p 0 32 (word-if w)
   unfolding word-if
-  words-if e = optionals _ (λ n. whens-some e _) (whens-some e _)
+  words-if e = presents e skips
 
-  pub semicolons : Paid p 0 31 semicolon
+  pub semicolons : Paid p 0 32 semicolon
   unfolding semicolon bytes
   semicolons = words-if (fixed refl)
 
   -- ---- names
   module _ (short : Short p) where
-    pub texts : Paid p 0 32 text
-    unfolding text
-    texts = tokens (λ k. writes short)
-
     pub paths : Paid p 0 128 path
     unfolding path bytes
-    paths = groups (seps (fixed refl) refl (groups texts))
-
-    op-spaces : (o : Option ℕ) → Paid p 1 0 (op-space o)
-    unfolding op-space bytes
-    op-spaces none = eased (omega arith) (omega arith) skips
-    op-spaces (some k) = tests _ (whens (fixed refl) _) (whens (fixed refl) _)
+    paths = groups (seps (fixed refl) refl (groups (texts short)))
 
     pub op-paths : Paid p 0 64 op-path
-    unfolding op-path bytes
-    op-paths = eased (omega arith) (omega arith) (optionals _ (λ n. whens-some (fixed refl then firstNames op-spaces) _ then paths) (whens-some (fixed refl then firstNames op-spaces) _ then paths))
+    unfolding op-path op bytes
+    op-paths = eased (omega arith) (omega arith) (presents (firstNames (fixed refl then fixed refl) (fixed refl)) skips then paths)
 
     ty-vars-paid : Paid p 0 96 ty-vars
     unfolding ty-vars bytes
-    ty-vars-paid = seps (fixed refl) refl (groups texts)
+    ty-vars-paid = seps (fixed refl) refl (groups (texts short))
 
     pub ty-var-seqs : Paid p 0 32 ty-var-seq
-    unfolding ty-var-seq ty-var-seq-there bytes
-    ty-var-seqs =
-        maybes (groups (optionals _
-        (λ n. whens-some (fixed refl) _ then ty-vars-paid then whens-some (fixed refl) _ then fixed refl)
-        (whens-some (fixed refl) _ then ty-vars-paid then whens-some (fixed refl) _ then fixed refl)))
+    unfolding ty-var-seq ty-var-seq-there in-parens bytes
+    ty-var-seqs = maybes (groups (presents (fixed refl then ty-vars-paid then fixed refl) ty-vars-paid then fixed refl))
 
   -- ---- a depth more
   module _ (c : Cfg) (h : c .depth + 1 ≤ 400) (f g : Cfg → Layout) where
@@ -91,8 +84,8 @@ module _ {p : Page} where
     in-ends kw x y =
         kw
         then fixed refl
-        then indenteds c _ h
-        (at-depth (deeper c) h
+        then deepened c h
+        then at-depth (deeper c) h
         then spent x
         then fixed refl
         then at-depth c (omega arith)
@@ -101,4 +94,4 @@ module _ {p : Page} where
         then spent y
         then fixed refl
         then at-depth c (omega arith)
-        then fixed refl)
+        then fixed refl

@@ -8,6 +8,7 @@ use Prim.Native.Nat.{ℕ, zero, suc, _+_, _-_, _*_, _≤_, _<_}
 use lib.ListN.{length}
 use lib.Dec.{leb}
 use borrow.Author.Tests.{leb-true, leb-false}
+use Rattle.text.specs.Bytes.{bytes}
 use Rattle.text.proofs.Laws.{never}
 use Rattle.reader.specs.Fields as Fields
 use Rattle.reader.specs.Fields.{Ty, Pat, Exp, StrExp, SigExp}
@@ -15,30 +16,29 @@ use Rattle.reader.specs.Commands.{listAt, formWidth}
 use Rattle.reader.specs.Tokens.{Tokens}
 use Rattle.reader.specs.Reading.{refused, sheet, read}
 use Rattle.reader.proofs.CommandLaws.{and-left, and-right, list-fits}
-use Rattle.layout.specs.Layout.{Layout, Declared, list}
+use Rattle.layout.specs.Layout.{Layout, list}
 use Rattle.layout.specs.Meaning.{Page, Event, Outcome, done, stopped, Stop, outcome, orStop}
 use Rattle.layout.specs.Events.{sumOf, deepest, units, letters}
 use Rattle.layout.specs.Helpers.{Cfg, Walkers, sep-with-lines}
 use Rattle.layout.specs.GetDec.{get-dec}
-use Rattle.layout.specs.DecOne.{one-dec}
+use Rattle.layout.specs.DecOne.{comment-line}
 use Rattle.layout.specs.Walk.{walks, top, walk}
 use Rattle.layout.specs.State.{cap}
 use Rattle.measures.specs.Small.{eventsOf, Small}
 use Rattle.measures.proofs.Credit.{size, Within}
-use Rattle.measures.proofs.Paying.{Paid, Short, eased, halts, _then_, families, declarations}
+use Rattle.measures.proofs.Paying.{Paid, Short, eased, halts, fixed, _then_, families, declarations}
 use Rattle.measures.proofs.Following as Following
 use Rattle.measures.proofs.Following.{Follows, drops-paid}
 use Rattle.measures.proofs.Arms.{Walks}
 use Rattle.measures.proofs.Sequences.{get-decs}
-use Rattle.measures.proofs.Irregular.{comments-above}
+use Rattle.measures.proofs.Helpers.{at-depth}
 use Rattle.measures.proofs.Rows.{ty-arms, pat-arms, exp-arms, sig-arms, str-arms, dec-arms}
 use Rattle.measures.proofs.TypesFollow.{ty-pairs}
 
--- A declaration with the comment above it.
-module _ {p : Page} (short : Short p) {top : ℕ} {ws : Walkers} (go : Walks p top ws) (low : top ≤ 400) (c : Cfg) (h : c .depth + 2 ≤ top) where
-  one-decs : (d : Declared) → Paid p 82 0 (one-dec ws c d)
-  unfolding one-dec
-  one-decs d = comments-above short c (omega arith) (d .first) then dec-arms short go low c h (d .place) .at (d .number)
+-- Behind the comment above a declaration.
+comment-lines : {p : Page} (c : Cfg) → c .depth ≤ 400 → Paid p 2 0 (comment-line c)
+unfolding comment-line bytes
+comment-lines c h = fixed refl then at-depth c h
 
 -- ---- the knot: a form adds at most 2 to the depth
 module _ {p : Page} (short : Short p) where
@@ -71,7 +71,7 @@ module _ {p : Page} (short : Short p) where
         exp = λ c l. eased (omega arith) (omega arith) (families (λ k. exp-arms short go low c (omega arith) .at k) Exp);
         str-exp = λ c l. eased (omega arith) (omega arith) (families (λ k. str-arms short go low c (omega arith) .at k) StrExp);
         sig-exp = λ c l. eased (omega arith) (omega arith) (families (λ k. sig-arms short go low c (omega arith) .at k) SigExp);
-        dec-one = λ c l. eased (omega arith) (omega arith) (declarations (one-decs short go low c (omega arith)));
+        dec-one = λ c l. eased (omega arith) (omega arith) (declarations short (comment-lines c (omega arith)) (λ k. dec-arms short go low c (omega arith) .at k));
       }
 
   top-paid : Paid p 0 32 (get-dec (walks 200) top)

@@ -11,23 +11,31 @@ use lib.Dec.{leb}
 use borrow.Author.Tests.{leb-true}
 use Rattle.text.specs.Bytes.{bytes}
 use Rattle.text.proofs.Laws.{length-trim}
-use Rattle.reader.specs.Fields.{Family, DecOne}
+use Rattle.reader.specs.Fields.{Family, DecOne, Exp}
 use Rattle.reader.specs.Tokens.{textOf}
 use Rattle.reader.specs.Commands.{absentAt, tokenAt, listAt, groupAt, choiceAt, formAt, formWidth, firstToken}
 use Rattle.reader.proofs.CommandLaws.{token-fits, list-fits, choice-fits, absent-fits, group-fits, form-fits}
 use Rattle.reader.proofs.FieldLaws.{token-parts, fits-parts}
 use Rattle.reader.specs.Check.{tokenFits, formFits}
-use Rattle.comments.specs.Above.{commentAbove}
-use Rattle.layout.specs.Layout.{Layout, Look, Test, Head, Declared, skip, _⨾_, word, write, comment, output-indent, formed}
-use Rattle.layout.specs.Layout.{token, group, choice, form, list, declaration, optional, maybe, look, test, above, firstName, heads, halt, import}
-use Rattle.layout.specs.Meaning.{Page, Outcome, done, stopped, absent, outcome, orStop, tokenText, Name, name, noName, pathName, Heads, both, missing, headsAt}
+use Rattle.layout.specs.Layout.{Layout, Look, Test, isPipe, skip, _⨾_, word, output-indent, formed, text, group, choice, form, list}
+use Rattle.layout.specs.Layout.{maybe, present, look, firstName, application, operator, declaration, halt, import}
+use Rattle.layout.specs.Meaning.{Page, Token, Comment, Outcome, done, stopped, absent, after, bind, commented, outcome, orStop, operated, aboveFirst, tokenText, passes, namePasses, sees}
+use Rattle.layout.specs.Meaning.{Heads, both, missing, headsAt, funcIsBang, argIsSymbolic}
 use Rattle.layout.specs.Events.{sumOf, deepest, formedDepth, indentDepth, lettersOf, trimmed}
-use Rattle.layout.specs.Helpers.{Cfg, deeper, indented, when, when-some, times, items}
+use Rattle.layout.specs.Helpers.{when, times, items}
 use Rattle.measures.proofs.Credit.{Within, then-within, earned, weaker}
 
--- With `a` credits in hand a layout pays for all it does, and where it ends, `r` are left.
+-- With `a` credits in hand a walk pays for all it does, from every offset, and where it ends, `r` are left.
+record Pays (p : Page) (a r : ℕ) (f : ℕ → Outcome) : Type 0 where
+  from : (at : ℕ) → at ≤ length (p .rec) → Within p at (length (p .rec)) at a r (f at)
+
+-- The walk of a layout.
 pub record Paid (p : Page) (a r : ℕ) (w : Layout) : Type 0 where
   pub is : (at : ℕ) → at ≤ length (p .rec) → Within p at (length (p .rec)) at a r (outcome p w at)
+
+-- As a walk.
+walk : {p : Page} {a r : ℕ} {w : Layout} → Paid p a r w → Pays p a r (λ at. outcome p w at)
+walk x = record { from = x .is }
 
 -- Each layout of a row, by number.
 pub record Rows (p : Page) (a r : ℕ) (ws : List Layout) : Type 0 where
@@ -60,16 +68,39 @@ module _ (p : Page) where
       let l = short .text in
       omega (arith, length-take n (drop s (p .text)), length-drop s (p .text), l)
 
-  pub write-within : Short p → (k lo lim at : ℕ) → lo ≤ at → at ≤ lim → Within p lo lim at 64 0 (outcome p (write k) at)
-  unfolding outcome sumOf deepest lettersOf indentDepth formedDepth
-  write-within short k lo lim at h i =
+  pub token-within : Short p → (k lo lim at : ℕ) → lo ≤ at → at ≤ lim → Within p lo lim at 64 0 (done at (Token k ∷ []))
+  unfolding sumOf deepest lettersOf indentDepth formedDepth
+  token-within short k lo lim at h i =
       let l = token-short short k in
       (h, i, omega (arith, l), omega arith)
+
+  comment-pays : Short p → (k : ℕ) → Pays p 64 0 (λ at. done at (Comment k ∷ []))
+  unfolding sumOf deepest lettersOf indentDepth formedDepth trimmed
+  comment-pays short k =
+      let l = token-short short k in
+      let t = length-trim (tokenText p k) in
+      record { from = λ at h. (omega arith, h, omega (arith, l, t), omega arith) }
+
+  token-pays : Short p → (k : ℕ) → Pays p 64 0 (λ at. done at (Token k ∷ []))
+  token-pays short k = record { from = λ at h. token-within short k at (end p) at (omega arith) h }
+
+module _ {p : Page} where
+  -- One walk after another; more in hand, less left.
+  then-pays : {a r b s : ℕ} {f k : ℕ → Outcome} → Pays p a r f → Pays p b s k → Pays p (a + (b - r)) (s + (r - b)) (λ at. bind (f at) k)
+  then-pays {a} {r} {b} {s} {f} {k} x y =
+      record {
+        from =
+            λ at h. then-within p at (end p) at (end p) at a r b s (f at) k (omega arith) (x .from at h)
+            (λ e i j. weaker p e at (end p) e b s b s (k e) i (omega arith) (omega arith) (y .from e j));
+      }
+
+  eased-pays : {a r a′ r′ : ℕ} {f : ℕ → Outcome} → a ≤ a′ → a + r′ ≤ a′ + r → Pays p a r f → Pays p a′ r′ f
+  eased-pays {a} {r} {a′} {r′} {f} i j x = record { from = λ at h. weaker p at at (end p) at a r a′ r′ (f at) (omega arith) i j (x .from at h) }
 
 module _ {p : Page} where
   -- ---- more in hand, less left
   pub eased : {a r a′ r′ : ℕ} {w : Layout} → a ≤ a′ → a + r′ ≤ a′ + r → Paid p a r w → Paid p a′ r′ w
-  eased {a} {r} {a′} {r′} {w} i j x = record { is = λ at h. weaker p at at (end p) at a r a′ r′ (outcome p w at) (omega arith) i j (x .is at h) }
+  eased i j x = record { is = eased-pays i j (walk x) .from }
 
   -- An arm has 16 credits.
   pub arm : {a r : ℕ} {w : Layout} → leb a 16 ≡ true → Paid p a r w → Paid p 16 0 w
@@ -84,7 +115,7 @@ module _ {p : Page} where
   unfolding outcome sumOf deepest
   halts = record { is = λ at h. (omega arith, omega arith) }
 
-  pub imports : {place : ℕ} → Paid p 0 0 (import place)
+  pub imports : Paid p 0 0 import
   unfolding outcome sumOf deepest
   imports = record { is = λ at h. (omega arith, omega arith) }
 
@@ -99,64 +130,59 @@ module _ {p : Page} where
   unfolding outcome sumOf deepest lettersOf indentDepth formedDepth
   forms l = record { is = λ at h. (omega arith, h, omega arith, omega arith) }
 
-  module _ (short : Short p) where
-    pub writes : {k : ℕ} → Paid p 64 0 (write k)
-    writes {k} = record { is = λ at h. write-within p short k at (end p) at (omega arith) h }
-
-    pub comments : {k : ℕ} → Paid p 64 0 (comment k)
-    unfolding outcome sumOf deepest lettersOf indentDepth formedDepth trimmed
-    comments {k} =
-        let l = token-short p short k in
-        let t = length-trim (tokenText p k) in
-        record { is = λ at h. (omega arith, h, omega (arith, l, t), omega arith) }
-
   -- ---- one after another
   infixr 30 _then_
   pub _then_ : {a r b s : ℕ} {v w : Layout} → Paid p a r v → Paid p b s w → Paid p (a + (b - r)) (s + (r - b)) (v ⨾ w)
   unfolding outcome
-  _then_ {a} {r} {b} {s} {v} {w} x y =
-      record {
-        is =
-            λ at h. then-within p at (end p) at (end p) at a r b s (outcome p v at) (λ next. outcome p w next) (omega arith) (x .is at h)
-            (λ e i j. weaker p e at (end p) e b s b s (outcome p w e) i (omega arith) (omega arith) (y .is e j));
-      }
+  _then_ x y = record { is = then-pays (walk x) (walk y) .from }
 
   -- ---- commands
-  -- What is read at the cursor, then the layout for it.
-  module _ (width : ℕ) {a r : ℕ} {k : ℕ → Layout} (x : (n : ℕ) → Paid p a r (k n)) (at : ℕ) (h : at ≤ end p) where
+  -- What is read at the cursor, then the walk for it.
+  module _ (width : ℕ) {a r : ℕ} (k : ℕ → ℕ → Outcome) (x : (n : ℕ) → Pays p a r (k n)) (at : ℕ) (h : at ≤ end p) where
     read-within : (o : Option ℕ) → ((n : ℕ) → o ≡ some n → at + width ≤ end p)
-        → Within p at (end p) at (a - 32 * width) (r + (32 * width - a)) (orStop o at (λ n. outcome p (k n) (at + width)))
+        → Within p at (end p) at (a - 32 * width) (r + (32 * width - a)) (orStop o at (λ n. k n (at + width)))
     unfolding orStop sumOf deepest
-    read-within (some n) f =
-        earned p (at + width) at (end p) at width a r (outcome p (k n) (at + width)) (omega arith) (x n .is (at + width) (f n refl))
+    read-within (some n) f = earned p (at + width) at (end p) at width a r (k n (at + width)) (omega arith) (x n .from (at + width) (f n refl))
     read-within none f = (omega arith, omega arith)
 
-  module _ {a r : ℕ} {k : ℕ → Layout} (x : (n : ℕ) → Paid p a r (k n)) where
-    pub tokens : Paid p (a - 96) (r + (96 - a)) (token k)
-    unfolding outcome
-    tokens = record { is = λ at h. read-within 3 x at h (tokenFits (p .rec) (length (p .tokens .starts)) at) (token-whole (p .rec) _ at) }
+  -- A token, then the walk for it.
+  token-read : {a r : ℕ} (k : ℕ → ℕ → Outcome) → ((n : ℕ) → Pays p a r (k n)) → Pays p (a - 96) (r + (96 - a)) (λ at. orStop (tokenFits (p .rec) (length (p .tokens .starts)) at) at (λ n. k n (at + 3)))
+  token-read k x = record { from = λ at h. read-within 3 k x at h (tokenFits (p .rec) (length (p .tokens .starts)) at) (token-whole (p .rec) _ at) }
 
+  pub texts : Short p → Paid p 0 32 text
+  unfolding outcome
+  texts short = record { is = token-read (λ k at. done at (Token k ∷ [])) (token-pays p short) .from }
+
+  module _ {a r : ℕ} {k : ℕ → Layout} (x : (n : ℕ) → Paid p a r (k n)) where
     pub choices : Paid p (a - 64) (r + (64 - a)) (choice k)
     unfolding outcome
-    choices = record { is = λ at h. read-within 2 x at h (choiceAt (p .rec) at) (choice-fits (p .rec) at) }
+    choices = record { is = λ at h. read-within 2 (λ n next. outcome p (k n) next) (λ n. walk (x n)) at h (choiceAt (p .rec) at) (choice-fits (p .rec) at) }
 
     pub lists : Paid p (a - 96) (r + (96 - a)) (list k)
     unfolding outcome
-    lists = record { is = λ at h. read-within 3 x at h (listAt (p .rec) at) (list-fits (p .rec) at) }
+    lists = record { is = λ at h. read-within 3 (λ n next. outcome p (k n) next) (λ n. walk (x n)) at h (listAt (p .rec) at) (list-fits (p .rec) at) }
 
     pub families : (family : Family) → Paid p (a - 32 * formWidth family) (r + (32 * formWidth family - a)) (form family k)
     unfolding outcome
-    families family = record { is = λ at h. read-within (formWidth family) x at h (formAt (p .rec) family at) (form-fits (p .rec) at family) }
+    families family = record { is = λ at h. read-within (formWidth family) (λ n next. outcome p (k n) next) (λ n. walk (x n)) at h (formAt (p .rec) family at) (form-fits (p .rec) at family) }
 
-  pub declarations : {a r : ℕ} {k : Declared → Layout} → ((d : Declared) → Paid p a r (k d)) → Paid p (a - 96) (r + (96 - a)) (declaration k)
-  unfolding outcome formWidth
-  declarations {k = k} x =
-      record {
-        is =
-            λ at h. read-within 3 {k = λ n. k (record { place = at; number = n; first = firstToken (p .rec) at })}
-            (λ n. x (record { place = at; number = n; first = firstToken (p .rec) at })) at h (formFits (p .rec) (length (p .tokens .starts)) DecOne at)
-            (λ n e. form-fits (p .rec) at DecOne n (fits-parts (p .rec) (length (p .tokens .starts)) DecOne at n e .0));
-      }
+  -- The comment above a declaration and the line behind it.
+  module _ (short : Short p) {c : ℕ} {line : Layout} (x : Paid p c 0 line) where
+    commented-pays : (o : Option ℕ) → Pays p (64 + c) 0 (commented o (λ next. outcome p line next))
+    unfolding commented sumOf deepest bind
+    commented-pays (some k) = eased-pays (omega arith) (omega arith) (then-pays (comment-pays p short k) (walk x))
+    commented-pays none = record { from = λ at h. (omega arith, h, omega arith, omega arith) }
+
+    pub declarations : {b s : ℕ} {arm : ℕ → Layout} → ((n : ℕ) → Paid p b s (arm n)) → Paid p (64 + c + b - 96) (s + (96 - (64 + c + b))) (declaration line arm)
+    unfolding outcome formWidth
+    declarations {b} {s} {arm} y =
+        record {
+          is =
+              λ at h. read-within 3 (λ n next. bind (commented (aboveFirst p (firstToken (p .rec) at)) (λ next. outcome p line next) next) (λ next. outcome p (arm n) next))
+              (λ n. eased-pays (omega arith) (omega arith) (then-pays (commented-pays (aboveFirst p (firstToken (p .rec) at))) (walk (y n)))) at h
+              (formFits (p .rec) (length (p .tokens .starts)) DecOne at)
+              (λ n e. form-fits (p .rec) at DecOne n (fits-parts (p .rec) (length (p .tokens .starts)) DecOne at n e .0));
+        }
 
   module _ {a r : ℕ} {w : Layout} (x : Paid p a r w) where
     group-within : (at : ℕ) → at ≤ end p → (b : Bool) → groupAt (p .rec) at ≡ b
@@ -184,71 +210,89 @@ module _ {p : Page} where
     whens true = eased (omega arith) (omega arith) x
     whens false = eased (omega arith) (omega arith) skips
 
-    pub whens-some : (o : Option ℕ) → Paid p a 0 (when-some o w)
-    unfolding when-some
-    whens-some (some n) = eased (omega arith) (omega arith) x
-    whens-some none = eased (omega arith) (omega arith) skips
-
-  module _ {a r b s : ℕ} (k : Option ℕ → Layout) (x : (n : ℕ) → Paid p a r (k (some n))) (y : Paid p b s (k none)) where
-    optional-within : (at : ℕ) → at ≤ end p → (o : Option ℕ) → tokenFits (p .rec) (length (p .tokens .starts)) at ≡ o → (c : Bool) → absentAt (p .rec) at ≡ c
+  module _ {a r b s : ℕ} {v w : Layout} (x : Paid p a r v) (y : Paid p b s w) where
+    -- ---- a token's presence
+    present-within : (at : ℕ) → at ≤ end p → (o : Option ℕ) → tokenFits (p .rec) (length (p .tokens .starts)) at ≡ o → (c : Bool) → absentAt (p .rec) at ≡ c
         → Within p at (end p) at (max (a - 96) (b - 32)) (min (r + (96 - a)) (s + (32 - b)))
         (elim o as (λ o. Outcome) [
-          | some n ↦ outcome p (k (some n)) (at + 3)
-          | none ↦ elim c as (λ c. Outcome) [ true ↦ outcome p (k none) (at + 1) | false ↦ stopped (absent at) [] ]
+          | some n ↦ outcome p v (at + 3)
+          | none ↦ elim c as (λ c. Outcome) [ true ↦ outcome p w (at + 1) | false ↦ stopped (absent at) [] ]
         ])
     unfolding sumOf deepest
-    optional-within at h (some n) e c f =
-        weaker p at at (end p) at (a - 96) (r + (96 - a)) (max (a - 96) (b - 32)) (min (r + (96 - a)) (s + (32 - b))) (outcome p (k (some n)) (at + 3))
+    present-within at h (some n) e c f =
+        weaker p at at (end p) at (a - 96) (r + (96 - a)) (max (a - 96) (b - 32)) (min (r + (96 - a)) (s + (32 - b))) (outcome p v (at + 3))
         (omega arith) (omega arith) (omega arith)
-        (earned p (at + 3) at (end p) at 3 a r (outcome p (k (some n)) (at + 3)) (omega arith) (x n .is (at + 3) (token-whole (p .rec) _ at n e)))
-    optional-within at h none e true f =
-        weaker p at at (end p) at (b - 32) (s + (32 - b)) (max (a - 96) (b - 32)) (min (r + (96 - a)) (s + (32 - b))) (outcome p (k none) (at + 1))
+        (earned p (at + 3) at (end p) at 3 a r (outcome p v (at + 3)) (omega arith) (x .is (at + 3) (token-whole (p .rec) _ at n e)))
+    present-within at h none e true f =
+        weaker p at at (end p) at (b - 32) (s + (32 - b)) (max (a - 96) (b - 32)) (min (r + (96 - a)) (s + (32 - b))) (outcome p w (at + 1))
         (omega arith) (omega arith) (omega arith)
-        (earned p (at + 1) at (end p) at 1 b s (outcome p (k none) (at + 1)) (omega arith) (y .is (at + 1) (absent-fits (p .rec) at f)))
-    optional-within at h none e false f = (omega arith, omega arith)
+        (earned p (at + 1) at (end p) at 1 b s (outcome p w (at + 1)) (omega arith) (y .is (at + 1) (absent-fits (p .rec) at f)))
+    present-within at h none e false f = (omega arith, omega arith)
 
-    pub optionals : Paid p (max (a - 96) (b - 32)) (min (r + (96 - a)) (s + (32 - b))) (optional k)
+    pub presents : Paid p (max (a - 96) (b - 32)) (min (r + (96 - a)) (s + (32 - b))) (present v w)
     unfolding outcome
-    optionals = record { is = λ at h. optional-within at h (tokenFits (p .rec) (length (p .tokens .starts)) at) refl (absentAt (p .rec) at) refl }
+    presents = record { is = λ at h. present-within at h (tokenFits (p .rec) (length (p .tokens .starts)) at) refl (absentAt (p .rec) at) refl }
 
-  -- ---- questions
-  module _ {a r b s : ℕ} (k : Bool → Layout) (x : Paid p a r (k true)) (y : Paid p b s (k false)) where
-    either : (c : Bool) → Paid p (max a b) (min r s) (k c)
-    either true = eased (omega arith) (omega arith) x
-    either false = eased (omega arith) (omega arith) y
+    -- ---- questions
+    either : (at : ℕ) → at ≤ end p → (c : Bool) → Within p at (end p) at (max a b) (min r s) (elim c as (λ c. Outcome) [ true ↦ outcome p v at | false ↦ outcome p w at ])
+    either at h true = weaker p at at (end p) at a r (max a b) (min r s) (outcome p v at) (omega arith) (omega arith) (omega arith) (x .is at h)
+    either at h false = weaker p at at (end p) at b s (max a b) (min r s) (outcome p w at) (omega arith) (omega arith) (omega arith) (y .is at h)
 
-    pub looks : {l : Look} → Paid p (max a b) (min r s) (look l k)
+    look-within : (at : ℕ) → at ≤ end p → (c : Bool) (o : Option ℕ)
+        → Within p at (end p) at (max a b) (min r s) (orStop o at (λ n. elim c as (λ c. Outcome) [ true ↦ outcome p v at | false ↦ outcome p w at ]))
+    unfolding orStop sumOf deepest
+    look-within at h c (some n) = either at h c
+    look-within at h c none = (omega arith, omega arith)
+
+    pub looks : {l : Look} → Paid p (max a b) (min r s) (look l v w)
     unfolding outcome
-    looks {l} = record { is = λ at h. either _ .is at h }
+    looks {l} = record { is = λ at h. look-within at h (sees p l at) (formAt (p .rec) Exp at) }
 
-    pub tests : {t : Test} {n : ℕ} → Paid p (max a b) (min r s) (test t n k)
-    unfolding outcome
-    tests = record { is = λ at h. either _ .is at h }
-
-  module _ {a r : ℕ} {k : Option ℕ → Layout} (x : (o : Option ℕ) → Paid p a r (k o)) where
-    pub aboves : {n : ℕ} → Paid p a r (above n k)
-    unfolding outcome
-    aboves {n} = record { is = λ at h. x (commentAbove (p .tokens .kinds) n) .is at h }
-
-    name-within : (at : ℕ) → at ≤ end p → (n : Name)
-        → Within p at (end p) at a r (elim n as (λ n. Outcome) [ name n m ↦ outcome p (k (some n)) at | noName place ↦ outcome p (k none) at ])
-    name-within at h (name n m) = x (some n) .is at h
-    name-within at h (noName place) = x none .is at h
-
-    pub firstNames : Paid p a r (firstName k)
-    unfolding outcome
-    firstNames = record { is = λ at h. name-within at h (pathName (p .rec) at) }
-
-  module _ {a r : ℕ} {k : Head → Head → Layout} (x : (f g : Head) → Paid p a r (k f g)) where
-    heads-within : (at : ℕ) → at ≤ end p → (n : Heads)
-        → Within p at (end p) at a r (elim n as (λ n. Outcome) [ both f g ↦ outcome p (k f g) at | missing place ↦ stopped (absent place) [] ])
+    name-within : (at : ℕ) → at ≤ end p → (c d : Bool)
+        → Within p at (end p) at (max a b) (min r s)
+        (elim d as (λ d. Outcome) [ true ↦ elim c as (λ c. Outcome) [ true ↦ outcome p v at | false ↦ outcome p w at ] | false ↦ stopped (absent at) [] ])
     unfolding sumOf deepest
-    heads-within at h (both f g) = x f g .is at h
+    name-within at h c true = either at h c
+    name-within at h c false = (omega arith, omega arith)
+
+    pub firstNames : {t : Test} → Paid p (max a b) (min r s) (firstName t v w)
+    unfolding outcome
+    firstNames {t} = record { is = λ at h. name-within at h (namePasses p t at) (groupAt (p .rec) at) }
+
+  module _ {a r : ℕ} {k : Bool → Bool → Layout} (x : (b c : Bool) → Paid p a r (k b c)) where
+    heads-within : (at : ℕ) → at ≤ end p → (n : Heads)
+        → Within p at (end p) at a r (elim n as (λ n. Outcome) [ both f g ↦ outcome p (k (funcIsBang p f) (argIsSymbolic p g)) at | missing place ↦ stopped (absent place) [] ])
+    unfolding sumOf deepest
+    heads-within at h (both f g) = x (funcIsBang p f) (argIsSymbolic p g) .is at h
     heads-within at h (missing place) = (omega arith, omega arith)
 
-    pub headed : Paid p a r (heads k)
+    pub applications : Paid p a r (application k)
     unfolding outcome
-    headed = record { is = λ at h. heads-within at h (headsAt (p .rec) (length (p .tokens .starts)) at) }
+    applications = record { is = λ at h. heads-within at h (headsAt (p .rec) (length (p .tokens .starts)) at) }
+
+  -- ---- an operator, with gaps of a word
+  module _ (short : Short p) {a r b : ℕ} {lhs pipe gap : Layout} (x : Paid p a r lhs) (y : Paid p b 0 pipe) (z : Paid p 1 0 gap) where
+    operated-pays : (k : ℕ) → Pays p (max b 66) 0 (operated p k (λ next. outcome p pipe next) (λ next. outcome p gap next))
+    unfolding operated bind
+    operated-pays k = record { from = λ at h. go at h (passes p isPipe k) }
+      where
+        spelt : Pays p 66 0 (λ at. bind (outcome p gap at) (λ next. bind (done next (Token k ∷ [])) (λ next. outcome p gap next)))
+        spelt = then-pays (walk z) (then-pays (token-pays p short k) (walk z))
+
+        go : (at : ℕ) → at ≤ end p → (c : Bool)
+            → Within p at (end p) at (max b 66) 0
+            (elim c as (λ c. Outcome) [ true ↦ outcome p pipe at | false ↦ bind (outcome p gap at) (λ next. bind (done next (Token k ∷ [])) (λ next. outcome p gap next)) ])
+        go at h true = eased-pays {a′ = max b 66} {r′ = 0} (omega arith) (omega arith) (walk y) .from at h
+        go at h false = eased-pays {a′ = max b 66} {r′ = 0} (omega arith) (omega arith) spelt .from at h
+
+    pub operators : Paid p (a + (max b 66 - r) - 96) (0 + (r - max b 66) + (96 - (a + (max b 66 - r)))) (operator lhs pipe gap)
+    unfolding outcome
+    operators =
+        record {
+          is =
+              token-read (λ k at. bind (outcome p lhs at) (operated p k (λ next. outcome p pipe next) (λ next. outcome p gap next)))
+              (λ k. then-pays (walk x) (operated-pays k)) .from;
+        }
 
   -- ---- items
   module _ {b s : ℕ} {more : Layout} (l : b ≤ s) (y : Paid p b s more) where
@@ -273,9 +317,3 @@ module _ {p : Page} where
 
   pub no-more : {a r : ℕ} → Rows p a r []
   no-more = record { at = λ k. halts }
-
-  -- ---- a depth more
-  pub indenteds : {a r : ℕ} (c : Cfg) (k : Cfg → Layout) → c .depth + 1 ≤ 400 → Paid p a r (k (deeper c))
-      → Paid p a r (indented c k)
-  unfolding indented
-  indenteds c k h x = eased (omega arith) (omega arith) (forms h then x)

@@ -7,13 +7,13 @@ use Rattle.text.specs.Bytes.{bytes}
 use Rattle.layout.specs.Meaning.{Page}
 use Rattle.layout.specs.Helpers.{Cfg, Walkers, deeper, with-extra-blank}
 use Rattle.layout.specs.GetDec.{dec-in-seq, dec-in-seqs, sharing-tail, sharing-tails, dec, get-dec, dec-arg}
-use Rattle.measures.proofs.Paying.{Paid, Short, eased, fixed, _then_, groups, indenteds}
-use Rattle.measures.proofs.Helpers.{each, seps, at-depth, lines, semicolons, paths}
+use Rattle.measures.proofs.Paying.{Paid, Short, eased, fixed, _then_, groups}
+use Rattle.measures.proofs.Helpers.{each, seps, deepened, at-depth, lines, semicolons, paths}
 use Rattle.measures.proofs.Arms.{Walks}
 
 module _ {p : Page} (short : Short p) {top : ℕ} {ws : Walkers} (go : Walks p top ws) (low : top ≤ 400) where
   module _ (c : Cfg) (h : c .depth ≤ top) where
-    seq-item : Paid p 0 75 (dec-in-seq ws c)
+    seq-item : Paid p 0 76 (dec-in-seq ws c)
     unfolding dec-in-seq with-extra-blank
     seq-item = groups (go .dec-one (with-extra-blank false c) h then semicolons)
 
@@ -37,4 +37,4 @@ module _ {p : Page} (short : Short p) {top : ℕ} {ws : Walkers} (go : Walks p t
   unfolding dec-arg bytes
   dec-args c h =
       eased (omega arith) (omega arith)
-      (fixed refl then indenteds c _ (omega arith) (at-depth (deeper c) (omega arith) then one-dec-paid (deeper c) h then fixed refl))
+      (fixed refl then deepened c (omega arith) then at-depth (deeper c) (omega arith) then one-dec-paid (deeper c) h then fixed refl)

@@ -10,12 +10,12 @@ use Rattle.layout.specs.Helpers.{Walkers}
 use Rattle.measures.proofs.Paying.{Short}
 use Rattle.measures.proofs.Following.{Follows, Pairs, before, behind, both, arm, _▹_, no-more}
 use Rattle.layout.specs.Helpers.{path}
-use Rattle.layout.specs.Ty.{HoleTy, WildcardTy, TyVarTy, ty-row, ty-rows, RecordTy, ty-args, ty-seq-there, ty-seq, ConTy, OneArgConTy, star-ty, star-tys, TupleTy, FnTy, ParenTy, tys}
+use Rattle.layout.specs.Ty.{ty-row, ty-rows, ty-args, ty-seq-there, ty-seq, star-ty, star-tys, ty, tys}
 use Rattle.measures.proofs.Following.{alone, texts, groups, maybes, each, seps, drops}
 
 module _ {p : Page} (short : Short p) (ws : Walkers) (ty : (may : Bool) (d : ℕ) → Follows p d may (form Ty) 0 12 (ws .get-ty)) (d : ℕ) where
   pub ty-pairs : Pairs p d (forms Ty) (tys ws)
-  unfolding tys HoleTy WildcardTy TyVarTy RecordTy ty-rows ty-row ConTy ty-seq ty-seq-there ty-args path OneArgConTy TupleTy star-tys star-ty FnTy ParenTy forms bytes
+  unfolding tys ty ty-rows ty-row ty-seq ty-seq-there ty-args path star-tys star-ty forms bytes
   ty-pairs =
       arm refl (alone refl)  -- HoleTy
       ▹ arm refl (alone refl)  -- WildcardTy

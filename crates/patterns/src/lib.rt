@@ -21,7 +21,8 @@ use types::ty_annotation;
 ghost use Prim.Native.Nat.{_+_};
 ghost use Rattle.layout.specs.State.{Plain};
 ghost use Rattle.layout.specs.Walk.{walks};
-ghost use Rattle.layout.specs.Pat.{con-arg-there, con-arg, ConPat, LabAndPatPatRow, as-tail-there, as-tail, LabPatRow, pat-row-inner, pat-row, pat-rows, RecordPat, ParenPat, pat-args, TuplePat, ListPat, VectorPat, InfixPat, TypedPat, AsPat, OrPat};
+ghost use Rattle.layout.specs.Pat.{con-arg-there, con-arg, LabAndPatPatRow, as-tail-there, as-tail, LabPatRow, pat-row-inner, pat-row, pat-rows, pat-args, pat as pat·};
+ghost use Rattle.reader.specs.Forms.{ConPat, RecordPat, ParenPat, TuplePat, ListPat, VectorPat, InfixPat, TypedPat, AsPat, OrPat};
 
 // The argument of a constructor that is there.
 fn con_arg_there(
@@ -68,7 +69,7 @@ fn con_pat(
     st: St,
     cfg: Cfg,
 ) -> Answer
-    ensures { λ r. ⌜ Plain (now (text .entry)) (now (rec .entry)) (now (starts .entry)) (now (lens .entry)) (cfg .tab) (ConPat (walks (cfg .left))) st (now (out .entry)) r (now (out .exit)) ⌝ }
+    ensures { λ r. ⌜ Plain (now (text .entry)) (now (rec .entry)) (now (starts .entry)) (now (lens .entry)) (cfg .tab) (pat· (walks (cfg .left)) ConPat) st (now (out .entry)) r (now (out .exit)) ⌝ }
 {
     let r1 = op_path(text, rec, starts, lens, out, st, cfg);
     let Answer::Done(s1) = r1 else {
@@ -241,7 +242,7 @@ fn record_pat(
     st: St,
     cfg: Cfg,
 ) -> Answer
-    ensures { λ r. ⌜ Plain (now (text .entry)) (now (rec .entry)) (now (starts .entry)) (now (lens .entry)) (cfg .tab) (RecordPat (walks (cfg .left))) st (now (out .entry)) r (now (out .exit)) ⌝ }
+    ensures { λ r. ⌜ Plain (now (text .entry)) (now (rec .entry)) (now (starts .entry)) (now (lens .entry)) (cfg .tab) (pat· (walks (cfg .left)) RecordPat) st (now (out .entry)) r (now (out .exit)) ⌝ }
 {
     let s1 = word(text, out, st, cfg.tab, words::L_CURLY);
     let r2 = rows(text, rec, starts, lens, out, s1, cfg);
@@ -261,7 +262,7 @@ fn paren_pat(
     st: St,
     cfg: Cfg,
 ) -> Answer
-    ensures { λ r. ⌜ Plain (now (text .entry)) (now (rec .entry)) (now (starts .entry)) (now (lens .entry)) (cfg .tab) (ParenPat (walks (cfg .left))) st (now (out .entry)) r (now (out .exit)) ⌝ }
+    ensures { λ r. ⌜ Plain (now (text .entry)) (now (rec .entry)) (now (starts .entry)) (now (lens .entry)) (cfg .tab) (pat· (walks (cfg .left)) ParenPat) st (now (out .entry)) r (now (out .exit)) ⌝ }
 {
     let s1 = word(text, out, st, cfg.tab, words::L_ROUND);
     let r2 = get_pat(text, rec, starts, lens, out, s1, cfg);
@@ -314,7 +315,7 @@ fn tuple_pat(
     st: St,
     cfg: Cfg,
 ) -> Answer
-    ensures { λ r. ⌜ Plain (now (text .entry)) (now (rec .entry)) (now (starts .entry)) (now (lens .entry)) (cfg .tab) (TuplePat (walks (cfg .left))) st (now (out .entry)) r (now (out .exit)) ⌝ }
+    ensures { λ r. ⌜ Plain (now (text .entry)) (now (rec .entry)) (now (starts .entry)) (now (lens .entry)) (cfg .tab) (pat· (walks (cfg .left)) TuplePat) st (now (out .entry)) r (now (out .exit)) ⌝ }
 {
     let s1 = word(text, out, st, cfg.tab, words::L_ROUND);
     let r2 = pat_args(text, rec, starts, lens, out, s1, cfg);
@@ -334,7 +335,7 @@ fn list_pat(
     st: St,
     cfg: Cfg,
 ) -> Answer
-    ensures { λ r. ⌜ Plain (now (text .entry)) (now (rec .entry)) (now (starts .entry)) (now (lens .entry)) (cfg .tab) (ListPat (walks (cfg .left))) st (now (out .entry)) r (now (out .exit)) ⌝ }
+    ensures { λ r. ⌜ Plain (now (text .entry)) (now (rec .entry)) (now (starts .entry)) (now (lens .entry)) (cfg .tab) (pat· (walks (cfg .left)) ListPat) st (now (out .entry)) r (now (out .exit)) ⌝ }
 {
     let s1 = word(text, out, st, cfg.tab, words::L_SQUARE);
     let r2 = pat_args(text, rec, starts, lens, out, s1, cfg);
@@ -354,7 +355,7 @@ fn vector_pat(
     st: St,
     cfg: Cfg,
 ) -> Answer
-    ensures { λ r. ⌜ Plain (now (text .entry)) (now (rec .entry)) (now (starts .entry)) (now (lens .entry)) (cfg .tab) (VectorPat (walks (cfg .left))) st (now (out .entry)) r (now (out .exit)) ⌝ }
+    ensures { λ r. ⌜ Plain (now (text .entry)) (now (rec .entry)) (now (starts .entry)) (now (lens .entry)) (cfg .tab) (pat· (walks (cfg .left)) VectorPat) st (now (out .entry)) r (now (out .exit)) ⌝ }
 {
     let s1 = word(text, out, st, cfg.tab, words::HASH_L_SQUARE);
     let r2 = group(rec, s1);
@@ -378,7 +379,7 @@ fn infix_pat(
     st: St,
     cfg: Cfg,
 ) -> Answer
-    ensures { λ r. ⌜ Plain (now (text .entry)) (now (rec .entry)) (now (starts .entry)) (now (lens .entry)) (cfg .tab) (InfixPat (walks (cfg .left))) st (now (out .entry)) r (now (out .exit)) ⌝ }
+    ensures { λ r. ⌜ Plain (now (text .entry)) (now (rec .entry)) (now (starts .entry)) (now (lens .entry)) (cfg .tab) (pat· (walks (cfg .left)) InfixPat) st (now (out .entry)) r (now (out .exit)) ⌝ }
 {
     let r1 = get_pat(text, rec, starts, lens, out, st, cfg);
     let Answer::Done(s1) = r1 else {
@@ -403,7 +404,7 @@ fn typed_pat(
     st: St,
     cfg: Cfg,
 ) -> Answer
-    ensures { λ r. ⌜ Plain (now (text .entry)) (now (rec .entry)) (now (starts .entry)) (now (lens .entry)) (cfg .tab) (TypedPat (walks (cfg .left))) st (now (out .entry)) r (now (out .exit)) ⌝ }
+    ensures { λ r. ⌜ Plain (now (text .entry)) (now (rec .entry)) (now (starts .entry)) (now (lens .entry)) (cfg .tab) (pat· (walks (cfg .left)) TypedPat) st (now (out .entry)) r (now (out .exit)) ⌝ }
 {
     let r1 = get_pat(text, rec, starts, lens, out, st, cfg);
     let Answer::Done(s1) = r1 else {
@@ -423,7 +424,7 @@ fn as_pat(
     st: St,
     cfg: Cfg,
 ) -> Answer
-    ensures { λ r. ⌜ Plain (now (text .entry)) (now (rec .entry)) (now (starts .entry)) (now (lens .entry)) (cfg .tab) (AsPat (walks (cfg .left))) st (now (out .entry)) r (now (out .exit)) ⌝ }
+    ensures { λ r. ⌜ Plain (now (text .entry)) (now (rec .entry)) (now (starts .entry)) (now (lens .entry)) (cfg .tab) (pat· (walks (cfg .left)) AsPat) st (now (out .entry)) r (now (out .exit)) ⌝ }
 {
     let r1 = get_pat(text, rec, starts, lens, out, st, cfg);
     let Answer::Done(s1) = r1 else {
@@ -447,7 +448,7 @@ fn or_pat(
     st: St,
     cfg: Cfg,
 ) -> Answer
-    ensures { λ r. ⌜ Plain (now (text .entry)) (now (rec .entry)) (now (starts .entry)) (now (lens .entry)) (cfg .tab) (OrPat (walks (cfg .left))) st (now (out .entry)) r (now (out .exit)) ⌝ }
+    ensures { λ r. ⌜ Plain (now (text .entry)) (now (rec .entry)) (now (starts .entry)) (now (lens .entry)) (cfg .tab) (pat· (walks (cfg .left)) OrPat) st (now (out .entry)) r (now (out .exit)) ⌝ }
 {
     let r1 = get_pat(text, rec, starts, lens, out, st, cfg);
     let Answer::Done(s1) = r1 else {

@@ -2,6 +2,7 @@
 -- Written by tools/unfold.py.
 use Rattle.text.specs.Bytes as Bytes
 use Rattle.text.specs.Output as Output
+use Rattle.reader.specs.Forms as Forms
 use Rattle.reader.specs.Fields as Fields
 use Rattle.reader.specs.Commands as Commands
 use Rattle.reader.specs.Tokens as Tokens
@@ -38,6 +39,10 @@ unfoldable pub runOutput : Unit {0}
 unfolding Output.fitted
 runOutput = tt
 
+unfoldable pub runForms : Unit {0}
+unfolding Forms.decNumber Forms.expNumber
+runForms = tt
+
 unfoldable pub runFields : Unit {0}
 unfolding Fields.forms Fields.firstForm
 runFields = tt
@@ -67,11 +72,11 @@ unfolding Above.isKeyword Above.above Above.foundAbove Above.commentIn Above.com
 runAbove = tt
 
 unfoldable pub runMeaning : Unit {0}
-unfolding Meaning.after Meaning.bind Meaning.orStop Meaning.tokenText Meaning.passes Meaning.onNewLine Meaning.needsNewline Meaning.sees Meaning.dotName Meaning.listName Meaning.pathName Meaning.opPathName Meaning.bothSeen Meaning.headOf Meaning.headsFrom Meaning.headsAt Meaning.onwards Meaning.outcome
+unfolding Meaning.after Meaning.bind Meaning.commented Meaning.orStop Meaning.tokenText Meaning.passes Meaning.isCommand Meaning.onNewLine Meaning.needsNewline Meaning.sees Meaning.dotName Meaning.listName Meaning.pathName Meaning.opPathName Meaning.bothSeen Meaning.headOf Meaning.headsFrom Meaning.headsAt Meaning.funcIsBang Meaning.argIsSymbolic Meaning.namePasses Meaning.aboveFirst Meaning.operated Meaning.onwards Meaning.outcome
 runMeaning = tt
 
 unfoldable pub runHelpers : Unit {0}
-unfolding Helpers.with-extra-blank Helpers.indented Helpers.indent Helpers.when Helpers.when-some Helpers.text Helpers.times Helpers.items Helpers.for-each Helpers.sep Helpers.new-line Helpers.sep-with-lines Helpers.in-end Helpers.path Helpers.op-space Helpers.op-path Helpers.ty-vars Helpers.ty-var-seq-there Helpers.ty-var-seq Helpers.word-if Helpers.semicolon
+unfolding Helpers.with-extra-blank Helpers.deepen Helpers.indent Helpers.indent-deeper Helpers.when Helpers.times Helpers.items Helpers.for-each Helpers.sep Helpers.new-line Helpers.sep-with-lines Helpers.in-end Helpers.path Helpers.op Helpers.op-path Helpers.ty-vars Helpers.in-parens Helpers.ty-var-seq-there Helpers.ty-var-seq Helpers.word-if Helpers.semicolon
 runHelpers = tt
 
 unfoldable pub runGetDec : Unit {0}
@@ -79,27 +84,27 @@ unfolding GetDec.dec-in-seq GetDec.sharing-tail GetDec.sharing-tails GetDec.dec-
 runGetDec = tt
 
 unfoldable pub runTy : Unit {0}
-unfolding Ty.HoleTy Ty.WildcardTy Ty.TyVarTy Ty.ty-row Ty.ty-rows Ty.RecordTy Ty.ty-args Ty.ty-seq-there Ty.ty-seq Ty.ConTy Ty.OneArgConTy Ty.star-ty Ty.star-tys Ty.TupleTy Ty.FnTy Ty.ParenTy Ty.tys Ty.ty-annotation-there Ty.ty-annotation
+unfolding Ty.ty-row Ty.ty-rows Ty.ty-args Ty.ty-seq-there Ty.ty-seq Ty.star-ty Ty.star-tys Ty.ty Ty.tys Ty.ty-annotation-there Ty.ty-annotation
 runTy = tt
 
 unfoldable pub runPat : Unit {0}
-unfolding Pat.WildcardPat Pat.SConPat Pat.con-arg-there Pat.con-arg Pat.ConPat Pat.RestPatRow Pat.LabAndPatPatRow Pat.as-tail-there Pat.as-tail Pat.LabPatRow Pat.pat-row-inner Pat.pat-row Pat.pat-rows Pat.RecordPat Pat.ParenPat Pat.pat-args Pat.TuplePat Pat.ListPat Pat.VectorPat Pat.InfixPat Pat.TypedPat Pat.AsPat Pat.OrPat Pat.pats
+unfolding Pat.con-arg-there Pat.con-arg Pat.RestPatRow Pat.LabAndPatPatRow Pat.as-tail-there Pat.as-tail Pat.LabPatRow Pat.pat-row-inner Pat.pat-row Pat.pat-rows Pat.pat-args Pat.pat Pat.pats
 runPat = tt
 
 unfoldable pub runExp : Unit {0}
-unfolding Exp.item-semi Exp.func-is-bang Exp.arg-is-symbolic Exp.app-space Exp.infix-operator Exp.indented-levels Exp.get-body-exp-level Exp.get-body-exp Exp.eq-body Exp.get-matcher-arm Exp.arms-on-lines Exp.get-matcher-across-lines Exp.exp-args Exp.exp-semi-item Exp.exp-semi-more Exp.exp-semi-items Exp.exp-semi-seq Exp.HoleExp Exp.WildcardExp Exp.OpAndalsoExp Exp.OpOrelseExp Exp.SConExp Exp.PathExp Exp.eq-exp Exp.exp-row Exp.exp-rows Exp.RecordExp Exp.SelectorExp Exp.ParenExp Exp.TupleExp Exp.ListExp Exp.VectorExp Exp.SeqExp Exp.LetExp Exp.AppExp Exp.InfixExp Exp.TypedExp Exp.AndalsoExp Exp.OrelseExp Exp.HandleExp Exp.RaiseExp Exp.if-no Exp.IfExp Exp.WhileExp Exp.CaseExp Exp.fn-arms Exp.FnExp Exp.exps
+unfolding Exp.item-semi Exp.app-space Exp.pipe Exp.indented-levels Exp.get-body-exp-level Exp.get-body-exp Exp.eq-body Exp.get-matcher-arm Exp.arms-on-lines Exp.get-matcher-across-lines Exp.exp-args Exp.exp-semi-item Exp.exp-semi-more Exp.exp-semi-items Exp.exp-semi-seq Exp.eq-exp Exp.exp-row Exp.exp-rows Exp.if-no Exp.fn-arms Exp.exp Exp.exps
 runExp = tt
 
 unfoldable pub runSigExp : Unit {0}
-unfolding SigExp.ascription-tail SigExp.SigSigExp SigExp.NameSigExp SigExp.WhereTypeSigExp SigExp.WhereSigExp SigExp.sig-exps
+unfolding SigExp.ascription-tail SigExp.sig-exp SigExp.sig-exps
 runSigExp = tt
 
 unfoldable pub runStrExp : Unit {0}
-unfolding StrExp.StructStrExp StrExp.PathStrExp StrExp.AscriptionStrExp StrExp.app-arg StrExp.app-args StrExp.AppStrExp StrExp.LetStrExp StrExp.str-exps
+unfolding StrExp.app-arg StrExp.app-args StrExp.str-exp StrExp.str-exps
 runStrExp = tt
 
 unfoldable pub runDecOne : Unit {0}
-unfolding DecOne.comment-line DecOne.comment-above DecOne.ty-bind DecOne.ty-binds DecOne.with-type DecOne.con-bind DecOne.con-binds DecOne.dat-bind DecOne.dat-binds DecOne.HoleDec DecOne.val-bind DecOne.val-binds DecOne.ValDec DecOne.PrefixFunBindCaseHead DecOne.infix-head DecOne.InfixFunBindCaseHead DecOne.case-head DecOne.case-pats DecOne.fun-bind-case DecOne.fun-bind DecOne.FunDec DecOne.TyDec DecOne.DatDec DecOne.DatCopyDec DecOne.AbstypeDec DecOne.ex-bind-of DecOne.ex-bind-inner DecOne.ex-bind DecOne.ExDec DecOne.OpenDec DecOne.int-lit DecOne.names-space DecOne.InfixDec DecOne.InfixrDec DecOne.NonfixDec DecOne.DoDec DecOne.local-decs DecOne.LocalDec DecOne.str-bind DecOne.StructureDec DecOne.sig-bind DecOne.SignatureDec DecOne.functor-arg DecOne.functor-args DecOne.functor-bind DecOne.FunctorDec DecOne.ExpDec DecOne.IncludeDec DecOne.EsImportDec DecOne.decs DecOne.one-dec
+unfolding DecOne.comment-line DecOne.ty-bind DecOne.ty-binds DecOne.with-type DecOne.con-bind DecOne.con-binds DecOne.dat-bind DecOne.dat-binds DecOne.val-bind DecOne.val-binds DecOne.PrefixFunBindCaseHead DecOne.infix-head DecOne.InfixFunBindCaseHead DecOne.case-head DecOne.case-pats DecOne.fun-bind-case DecOne.fun-bind DecOne.ex-bind-of DecOne.ex-bind-inner DecOne.ex-bind DecOne.int-lit DecOne.names-space DecOne.local-decs DecOne.str-bind DecOne.sig-bind DecOne.functor-arg DecOne.functor-args DecOne.functor-bind DecOne.dec-one DecOne.decs
 runDecOne = tt
 
 unfoldable pub runWalk : Unit {0}
@@ -147,5 +152,5 @@ unfolding Printing.shown
 runPrinting = tt
 
 unfoldable pub run : Unit {0}
-unfolding runBytes runOutput runFields runCommands runTokens runCheck runReading runSet runAbove runMeaning runHelpers runGetDec runTy runPat runExp runSigExp runStrExp runDecOne runWalk runEvents runUnbounded runVerdict runLookup runWalkFirst runDemands runDoc runLines runProgram runPrinting
+unfolding runBytes runOutput runForms runFields runCommands runTokens runCheck runReading runSet runAbove runMeaning runHelpers runGetDec runTy runPat runExp runSigExp runStrExp runDecOne runWalk runEvents runUnbounded runVerdict runLookup runWalkFirst runDemands runDoc runLines runProgram runPrinting
 run = tt

@@ -10,7 +10,7 @@ use lib.ListN.{length, getD}
 use borrow.Author.Tests.{leb-true}
 use Rattle.text.specs.Bytes.{firstWide}
 use Rattle.reader.specs.Commands.{u16, command}
-use Rattle.reader.specs.Tokens.{Tokens, noTokens, Tiling, tiled, untiled, isToken, endTokens, withToken, tokensFrom, tokens, lastKind}
+use Rattle.reader.specs.Tokens.{Tokens, countOf, noTokens, Tiling, tiled, untiled, isToken, endTokens, withToken, tokensFrom, tokens, lastKind}
 use Rattle.reader.specs.Check.{Checked, ok, malformed, tooDeep, treeCheck}
 use Rattle.reader.specs.Reading.{Read, refused, sheet, readTree, readRecord, readText, read, maxText, maxRecord}
 use Rattle.reader.proofs.CommandLaws.{and-left, and-right}
@@ -68,7 +68,7 @@ KnownOf (sheet ts tree) = Known (ts .kinds)
 module _ (rec : List ℕ) where
   known-tree : (ts : Tokens) (at : ℕ) → Known (ts .kinds) → KnownOf (readTree rec ts at)
   unfolding readTree
-  known-tree ts at p = go (treeCheck rec (length (ts .kinds)) at)
+  known-tree ts at p = go (treeCheck rec (countOf ts) at)
     where
       go : (c : Checked) → KnownOf (elim c as (λ z. Read) [ ok end ↦ sheet ts at | malformed place ↦ refused 3 place | tooDeep place ↦ refused 4 place ])
       go (ok end) = p

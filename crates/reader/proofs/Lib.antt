@@ -1,8 +1,10 @@
+pub mod Forms
 pub mod CommandLaws
 pub mod GrammarLaws
 pub mod TreeLaws
 pub mod FieldLaws
 pub mod TokenLaws
+pub mod EvenLaws
 pub mod ReadingLaws
 pub mod Local
 pub mod Suffix

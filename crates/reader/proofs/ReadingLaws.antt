@@ -16,10 +16,11 @@ use Rattle.reader.specs.declared.tree.Checked as Checked
 use Rattle.reader.specs.declared.tree.Checked.the-variants as Tree
 use Rattle.reader.specs.declared.Reading.{Reading}
 use Rattle.reader.specs.declared.Reading.the-variants.{Sheet, TooLong, NotAscii, Malformed, TooDeep}
-use Rattle.reader.specs.Tokens.{Tokens, Tiling, tiled, untiled, tokens, tokensIn, tilingIn, Tiles}
+use Rattle.reader.specs.Tokens.{Tokens, countOf, Tiling, tiled, untiled, tokens, tokensIn, tilingIn, Tiles}
 use Rattle.reader.specs.Check as Check
 use Rattle.reader.specs.Check.{treeCheck}
 use Rattle.reader.specs.Tree.{checkedIn, TreeEnd}
+use Rattle.reader.proofs.EvenLaws.{tiled-even}
 use Rattle.reader.specs.Reading.{Read, refused, sheet, maxText, maxRecord, readTree, readRecord, readText, read, numberOf, placeOf, RecordReads, Reads}
 
 -- ---- 3 and 4
@@ -37,8 +38,8 @@ module _ {size : ℕ} {rec kinds starts lens : List ℕ} {t : Tiled.Tiled} (s : 
     counts : (length (take count kinds) ≡ count) × (count ≤ 4096)
     counts = rw e at (s .counts)
 
-    tree-says : treeCheck rec (length (take count kinds)) tree ≡ checkedIn r
-    tree-says = rw (counts .0) (sym (u .is))
+    tree-says : treeCheck rec (length (take count starts)) tree ≡ checkedIn r
+    tree-says = rw (tiled-even size rec (tokensIn count kinds starts lens) tree tiles .0 ∙ counts .0) (sym (u .is))
 
     pub record-sheet : {end : ℕ} → r ≡ Tree.Ok end → RecordReads size rec kinds starts lens (Sheet count tree)
     unfolding readRecord readTree
@@ -90,8 +91,8 @@ module _ (text rec kinds starts lens : List ℕ) where
 
 -- By cases: a refusal's number is not 0; a sheet's tokens are those of its record, and its tree passes the check.
 module _ (P : Read → Type 0) (text rec : List ℕ) (refuses : (number place : ℕ) → (number ≡ 0 → ⊥) → P (refused number place))
-    (reads : (ts : Tokens) (tree end : ℕ) → tokens (length text) rec ≡ tiled ts tree → treeCheck rec (length (ts .kinds)) tree ≡ Check.ok end → P (sheet ts tree)) where
-  tree-cases : (ts : Tokens) (tree : ℕ) → tokens (length text) rec ≡ tiled ts tree → (c : Check.Checked) → treeCheck rec (length (ts .kinds)) tree ≡ c → P (readTree rec ts tree)
+    (reads : (ts : Tokens) (tree end : ℕ) → tokens (length text) rec ≡ tiled ts tree → treeCheck rec (countOf ts) tree ≡ Check.ok end → P (sheet ts tree)) where
+  tree-cases : (ts : Tokens) (tree : ℕ) → tokens (length text) rec ≡ tiled ts tree → (c : Check.Checked) → treeCheck rec (countOf ts) tree ≡ c → P (readTree rec ts tree)
   unfolding readTree
   tree-cases ts tree t (Check.ok end) e = rw (e, readTree) (reads ts tree end t e)
   tree-cases ts tree t (Check.malformed place) e = rw (e, readTree) (refuses 3 place (λ z. omega (arith, z)))
@@ -99,7 +100,7 @@ module _ (P : Read → Type 0) (text rec : List ℕ) (refuses : (number place : 
 
   record-cases : (t : Tiling) → tokens (length text) rec ≡ t → P (readRecord rec (length text))
   unfolding readRecord
-  record-cases (tiled ts tree) e = rw (e, readRecord) (tree-cases ts tree e (treeCheck rec (length (ts .kinds)) tree) refl)
+  record-cases (tiled ts tree) e = rw (e, readRecord) (tree-cases ts tree e (treeCheck rec (countOf ts) tree) refl)
   record-cases (untiled place) e = rw (e, readRecord) (refuses 3 place (λ z. omega (arith, z)))
 
   text-cases : (o : Option ℕ) → firstWide 0 text ≡ o → P (readText text rec)

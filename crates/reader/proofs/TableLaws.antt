@@ -1,56 +1,17 @@
 -- The tables of a sheet's tokens have equally many entries.
-use Prim.Native.Nat.{ℕ, zero, suc, _+_, _≤_}
-use mathlib.Core.Path.{_≡_, refl, ap, subst}
-use mathlib.Core.Bool.{Bool, true, false}
+use Prim.Native.Nat.{ℕ, _≤_}
+use mathlib.Core.Path.{_≡_, subst}
 use mathlib.Core.List.{List}
 use native.Mathlib.Omega.{arith}
-use lib.ListN.{length, getD, take, length-take}
-use lib.Dec.{eqb}
-use Rattle.reader.specs.Commands.{u16}
-use Rattle.reader.specs.Tokens.{Tokens, Tiling, tiled, untiled, isToken, endTokens, withToken, tokensFrom, tokens, tokensIn, maxTokens}
+use lib.ListN.{length, take, length-take}
+use Rattle.reader.specs.Tokens.{tokensIn}
 use Rattle.reader.specs.Reading.{Read, refused, sheet, read}
+use Rattle.reader.proofs.EvenLaws.{Even, tiled-even}
 use Rattle.reader.proofs.ReadingLaws.{read-cases}
-
-abbrev pub Even : Tokens → Type 0
-Even ts = (length (ts .starts) ≡ length (ts .kinds)) × (length (ts .lengths) ≡ length (ts .kinds))
-
-abbrev EvenTiling : Tiling → Type 0
-EvenTiling (tiled ts at) = Even ts
-EvenTiling (untiled place) = Unit {0}
 
 abbrev EvenRead : Read → Type 0
 EvenRead (refused number place) = Unit {0}
 EvenRead (sheet ts tree) = Even ts
-
-tiling-if : (b : Bool) (x y : Tiling) → EvenTiling x → EvenTiling y → EvenTiling (elim b [ true ↦ x | false ↦ y ])
-tiling-if true x y h k = h
-tiling-if false x y h k = k
-
-module _ (size : ℕ) (rec : List ℕ) where
-  end-even : (start at : ℕ) → EvenTiling (endTokens size rec start at)
-  unfolding endTokens
-  end-even start at = tiling-if (eqb start size) (tiled _ at) (untiled at) (refl, refl) tt
-
-  with-even : (start at : ℕ) (t : Tiling) → EvenTiling t → EvenTiling (withToken size rec start at t)
-  unfolding withToken
-  with-even start at (tiled ts end) h = (ap suc (h .0), ap suc (h .1))
-  with-even start at (untiled place) h = tt
-
-  from-even : (n start at : ℕ) → EvenTiling (tokensFrom size rec n start at)
-  unfolding tokensFrom
-  from-even zero start at = tiling-if (eqb (getD rec at 0) 0x05) (untiled at) (endTokens size rec start at) tt (end-even start at)
-  from-even (suc n) start at =
-      let more : Tiling = withToken size rec start at (tokensFrom size rec n (start + u16 rec (at + 2)) (at + 4)) in
-      tiling-if (eqb (getD rec at 0) 0x05) (elim (isToken size rec start at) [ true ↦ more | false ↦ untiled at ]) (endTokens size rec start at)
-      (tiling-if (isToken size rec start at) more (untiled at) (with-even start at (tokensFrom size rec n (start + u16 rec (at + 2)) (at + 4)) (from-even n (start + u16 rec (at + 2)) (at + 4))) tt)
-      (end-even start at)
-
-  tokens-even : EvenTiling (tokens size rec)
-  unfolding tokens
-  tokens-even = from-even maxTokens 0 0
-
-pub tiled-even : (size : ℕ) (rec : List ℕ) (ts : Tokens) (tree : ℕ) → tokens size rec ≡ tiled ts tree → Even ts
-tiled-even size rec ts tree e = let even : EvenTiling (tiled ts tree) = subst EvenTiling e (tokens-even size rec) in even
 
 read-even : (text rec : List ℕ) → EvenRead (read text rec)
 read-even text rec = read-cases EvenRead text rec (λ number place ne. tt) (λ ts tree end e c. tiled-even (length text) rec ts tree e)

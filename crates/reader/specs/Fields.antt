@@ -1,8 +1,14 @@
 -- The fields of every form, group and choice: the accessors that the arm or helper of 000 calls, in the order first named there, each once.
 -- A definition here has the name of the type in 000, and the comment beside a field the accessor's.
 use Prim.Native.Nat.{ℕ}
-use mathlib.Core.List.{List, [], _∷_}
+use mathlib.Core.List.{List, [], _∷_, map}
 use lib.ListN.{length, getD}
+use Rattle.reader.specs.Forms.{DecForm, decForms, HoleDec, ValDec, FunDec, TyDec, DatDec, DatCopyDec, AbstypeDec, ExDec, OpenDec, InfixDec, InfixrDec, NonfixDec, DoDec, LocalDec, StructureDec, SignatureDec, FunctorDec, ExpDec, IncludeDec, EsImportDec}
+use Rattle.reader.specs.Forms.{StrExpForm, strExpForms, StructStrExp, PathStrExp, AscriptionStrExp, AppStrExp, LetStrExp}
+use Rattle.reader.specs.Forms.{SigExpForm, sigExpForms, SigSigExp, NameSigExp, WhereTypeSigExp, WhereSigExp}
+use Rattle.reader.specs.Forms.{ExpForm, expForms, HoleExp, WildcardExp, OpAndalsoExp, OpOrelseExp, SConExp, PathExp, RecordExp, SelectorExp, ParenExp, TupleExp, ListExp, VectorExp, SeqExp, LetExp, AppExp, InfixExp, TypedExp, AndalsoExp, OrelseExp, HandleExp, RaiseExp, IfExp, WhileExp, CaseExp, FnExp}
+use Rattle.reader.specs.Forms.{PatForm, patForms, WildcardPat, SConPat, ConPat, RecordPat, ParenPat, TuplePat, ListPat, VectorPat, InfixPat, TypedPat, AsPat, OrPat}
+use Rattle.reader.specs.Forms.{TyForm, tyForms, HoleTy, WildcardTy, TyVarTy, RecordTy, ConTy, OneArgConTy, TupleTy, FnTy, ParenTy}
 
 -- Enums of 000 with a match of many arms: their cases are forms.
 pub data Family : Type 0 where
@@ -164,114 +170,102 @@ AppStrExpArg = oneOf
     ∷ DecFields
     ∷ [])
 
--- ---- forms, in the order of the match arms in 000
-abbrev decOnes : List Fields
-decOnes =
-    none  -- HoleDec
-    ∷ list ValBind  -- ValDec: val_binds
-    ∷ (TyVarSeq ▸ list FunBind)  -- FunDec: ty_var_seq, fun_binds
-    ∷ (token ▸ list TyBind)  -- TyDec: ty_head, ty_binds
-    ∷ (list DatBind ▸ WithType)  -- DatDec: dat_binds, with_type
-    ∷ (token ▸ Path)  -- DatCopyDec: name, path
-    ∷ (list DatBind ▸ WithType ▸ list Dec)  -- AbstypeDec: dat_binds, with_type, decs
-    ∷ list ExBind  -- ExDec: ex_binds
-    ∷ list Path  -- OpenDec: paths
-    ∷ (token ▸ list token)  -- InfixDec: int_lit, name_star_eqs
-    ∷ (token ▸ list token)  -- InfixrDec: int_lit, name_star_eqs
-    ∷ list token  -- NonfixDec: name_star_eqs
-    ∷ form Exp  -- DoDec: exp
-    ∷ (group (list Dec) ▸ group (list Dec))  -- LocalDec: local_dec_hd, local_dec_tl (decs of each)
-    ∷ list StrBind  -- StructureDec: str_binds
-    ∷ list SigBind  -- SignatureDec: sig_binds
-    ∷ list FunctorBind  -- FunctorDec: functor_binds
-    ∷ form Exp  -- ExpDec: exp
-    ∷ list (form SigExp)  -- IncludeDec: sig_exps
-    ∷ none  -- EsImportDec
-    ∷ []
+-- ---- the fields of each form
+abbrev decFields : DecForm → Fields
+decFields HoleDec = none
+decFields ValDec = list ValBind  -- val_binds
+decFields FunDec = TyVarSeq ▸ list FunBind  -- ty_var_seq, fun_binds
+decFields TyDec = token ▸ list TyBind  -- ty_head, ty_binds
+decFields DatDec = list DatBind ▸ WithType  -- dat_binds, with_type
+decFields DatCopyDec = token ▸ Path  -- name, path
+decFields AbstypeDec = list DatBind ▸ WithType ▸ list Dec  -- dat_binds, with_type, decs
+decFields ExDec = list ExBind  -- ex_binds
+decFields OpenDec = list Path  -- paths
+decFields InfixDec = token ▸ list token  -- int_lit, name_star_eqs
+decFields InfixrDec = token ▸ list token  -- int_lit, name_star_eqs
+decFields NonfixDec = list token  -- name_star_eqs
+decFields DoDec = form Exp  -- exp
+decFields LocalDec = group (list Dec) ▸ group (list Dec)  -- local_dec_hd, local_dec_tl (decs of each)
+decFields StructureDec = list StrBind  -- str_binds
+decFields SignatureDec = list SigBind  -- sig_binds
+decFields FunctorDec = list FunctorBind  -- functor_binds
+decFields ExpDec = form Exp  -- exp
+decFields IncludeDec = list (form SigExp)  -- sig_exps
+decFields EsImportDec = none
 
-abbrev strExps : List Fields
-strExps =
-    list Dec  -- StructStrExp: decs
-    ∷ Path  -- PathStrExp: path
-    ∷ (form StrExp ▸ AscriptionTail)  -- AscriptionStrExp: str_exp, ascription_tail
-    ∷ (token ▸ list AppStrExpArg)  -- AppStrExp: name, app_str_exp_args
-    ∷ (list Dec ▸ form StrExp)  -- LetStrExp: decs, str_exp
-    ∷ []
+abbrev strExpFields : StrExpForm → Fields
+strExpFields StructStrExp = list Dec  -- decs
+strExpFields PathStrExp = Path  -- path
+strExpFields AscriptionStrExp = form StrExp ▸ AscriptionTail  -- str_exp, ascription_tail
+strExpFields AppStrExp = token ▸ list AppStrExpArg  -- name, app_str_exp_args
+strExpFields LetStrExp = list Dec ▸ form StrExp  -- decs, str_exp
 
-abbrev sigExps : List Fields
-sigExps =
-    list Dec  -- SigSigExp: decs
-    ∷ token  -- NameSigExp: name
-    ∷ (form SigExp ▸ TyVarSeq ▸ Path ▸ form Ty)  -- WhereTypeSigExp: sig_exp, ty_var_seq, path, ty
-    ∷ (form SigExp ▸ Path ▸ Path)  -- WhereSigExp: sig_exp, lhs, rhs
-    ∷ []
+abbrev sigExpFields : SigExpForm → Fields
+sigExpFields SigSigExp = list Dec  -- decs
+sigExpFields NameSigExp = token  -- name
+sigExpFields WhereTypeSigExp = form SigExp ▸ TyVarSeq ▸ Path ▸ form Ty  -- sig_exp, ty_var_seq, path, ty
+sigExpFields WhereSigExp = form SigExp ▸ Path ▸ Path  -- sig_exp, lhs, rhs
 
-abbrev exps : List Fields
-exps =
-    none  -- HoleExp
-    ∷ none  -- WildcardExp
-    ∷ none  -- OpAndalsoExp
-    ∷ none  -- OpOrelseExp
-    ∷ token  -- SConExp: s_con
-    ∷ (token ▸ Path)  -- PathExp: op_kw, path
-    ∷ list ExpRow  -- RecordExp: exp_rows
-    ∷ token  -- SelectorExp: lab
-    ∷ form Exp  -- ParenExp: exp
-    ∷ list ExpArg  -- TupleExp: exp_args
-    ∷ list ExpArg  -- ListExp: exp_args
-    ∷ group (list ExpArg)  -- VectorExp: list_exp (exp_args)
-    ∷ list ExpInSeq  -- SeqExp: exps_in_seq
-    ∷ (list Dec ▸ list ExpInSeq)  -- LetExp: decs, exps_in_seq
-    ∷ (form Exp ▸ form Exp)  -- AppExp: func, arg
-    ∷ (token ▸ form Exp ▸ form Exp)  -- InfixExp: name_star_eq, lhs, rhs
-    ∷ (form Exp ▸ form Ty)  -- TypedExp: exp, ty
-    ∷ (form Exp ▸ form Exp)  -- AndalsoExp: lhs, rhs
-    ∷ (form Exp ▸ form Exp)  -- OrelseExp: lhs, rhs
-    ∷ (form Exp ▸ Matcher)  -- HandleExp: exp, matcher
-    ∷ form Exp  -- RaiseExp: exp
-    ∷ (form Exp ▸ form Exp ▸ form Exp)  -- IfExp: cond, yes, no
-    ∷ (form Exp ▸ form Exp)  -- WhileExp: cond, body
-    ∷ (form Exp ▸ Matcher)  -- CaseExp: exp, matcher
-    ∷ Matcher  -- FnExp: matcher
-    ∷ []
+abbrev expFields : ExpForm → Fields
+expFields HoleExp = none
+expFields WildcardExp = none
+expFields OpAndalsoExp = none
+expFields OpOrelseExp = none
+expFields SConExp = token  -- s_con
+expFields PathExp = token ▸ Path  -- op_kw, path
+expFields RecordExp = list ExpRow  -- exp_rows
+expFields SelectorExp = token  -- lab
+expFields ParenExp = form Exp  -- exp
+expFields TupleExp = list ExpArg  -- exp_args
+expFields ListExp = list ExpArg  -- exp_args
+expFields VectorExp = group (list ExpArg)  -- list_exp (exp_args)
+expFields SeqExp = list ExpInSeq  -- exps_in_seq
+expFields LetExp = list Dec ▸ list ExpInSeq  -- decs, exps_in_seq
+expFields AppExp = form Exp ▸ form Exp  -- func, arg
+expFields InfixExp = token ▸ form Exp ▸ form Exp  -- name_star_eq, lhs, rhs
+expFields TypedExp = form Exp ▸ form Ty  -- exp, ty
+expFields AndalsoExp = form Exp ▸ form Exp  -- lhs, rhs
+expFields OrelseExp = form Exp ▸ form Exp  -- lhs, rhs
+expFields HandleExp = form Exp ▸ Matcher  -- exp, matcher
+expFields RaiseExp = form Exp  -- exp
+expFields IfExp = form Exp ▸ form Exp ▸ form Exp  -- cond, yes, no
+expFields WhileExp = form Exp ▸ form Exp  -- cond, body
+expFields CaseExp = form Exp ▸ Matcher  -- exp, matcher
+expFields FnExp = Matcher  -- matcher
 
-abbrev pats : List Fields
-pats =
-    none  -- WildcardPat
-    ∷ token  -- SConPat: s_con
-    ∷ (token ▸ Path ▸ form Pat)  -- ConPat: op_kw, path, pat
-    ∷ list PatRow  -- RecordPat: pat_rows
-    ∷ form Pat  -- ParenPat: pat
-    ∷ list PatArg  -- TuplePat: pat_args
-    ∷ list PatArg  -- ListPat: pat_args
-    ∷ group (list PatArg)  -- VectorPat: list_pat (pat_args)
-    ∷ (form Pat ▸ token ▸ form Pat)  -- InfixPat: lhs, name_star_eq, rhs
-    ∷ (form Pat ▸ form Ty)  -- TypedPat: pat, ty
-    ∷ (form Pat ▸ AsPatTail)  -- AsPat: pat, as_pat_tail
-    ∷ (form Pat ▸ form Pat)  -- OrPat: lhs, rhs
-    ∷ []
+abbrev patFields : PatForm → Fields
+patFields WildcardPat = none
+patFields SConPat = token  -- s_con
+patFields ConPat = token ▸ Path ▸ form Pat  -- op_kw, path, pat
+patFields RecordPat = list PatRow  -- pat_rows
+patFields ParenPat = form Pat  -- pat
+patFields TuplePat = list PatArg  -- pat_args
+patFields ListPat = list PatArg  -- pat_args
+patFields VectorPat = group (list PatArg)  -- list_pat (pat_args)
+patFields InfixPat = form Pat ▸ token ▸ form Pat  -- lhs, name_star_eq, rhs
+patFields TypedPat = form Pat ▸ form Ty  -- pat, ty
+patFields AsPat = form Pat ▸ AsPatTail  -- pat, as_pat_tail
+patFields OrPat = form Pat ▸ form Pat  -- lhs, rhs
 
-abbrev tys : List Fields
-tys =
-    none  -- HoleTy
-    ∷ none  -- WildcardTy
-    ∷ token  -- TyVarTy: ty_var
-    ∷ list TyRow  -- RecordTy: ty_rows
-    ∷ (TySeq ▸ Path)  -- ConTy: ty_seq, path
-    ∷ (form Ty ▸ Path)  -- OneArgConTy: ty, path
-    ∷ (form Ty ▸ list StarTy)  -- TupleTy: ty, star_tys
-    ∷ (form Ty ▸ form Ty)  -- FnTy: param, res
-    ∷ form Ty  -- ParenTy: ty
-    ∷ []
+abbrev tyFields : TyForm → Fields
+tyFields HoleTy = none
+tyFields WildcardTy = none
+tyFields TyVarTy = token  -- ty_var
+tyFields RecordTy = list TyRow  -- ty_rows
+tyFields ConTy = TySeq ▸ Path  -- ty_seq, path
+tyFields OneArgConTy = form Ty ▸ Path  -- ty, path
+tyFields TupleTy = form Ty ▸ list StarTy  -- ty, star_tys
+tyFields FnTy = form Ty ▸ form Ty  -- param, res
+tyFields ParenTy = form Ty  -- ty
 
 -- The fields of a family's forms, by number from 0.
 unfoldable pub forms : Family → List Fields
-forms DecOne = decOnes
-forms StrExp = strExps
-forms SigExp = sigExps
-forms Exp = exps
-forms Pat = pats
-forms Ty = tys
+forms DecOne = map decFields decForms
+forms StrExp = map strExpFields strExpForms
+forms SigExp = map sigExpFields sigExpForms
+forms Exp = map expFields expForms
+forms Pat = map patFields patForms
+forms Ty = map tyFields tyForms
 
 -- The command of a family's first form; the others follow it in order.
 unfoldable pub firstForm : Family → ℕ

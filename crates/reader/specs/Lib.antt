@@ -1,3 +1,4 @@
+pub mod Forms
 pub mod Fields
 pub mod Commands
 pub mod Tokens

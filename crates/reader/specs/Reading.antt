@@ -7,7 +7,7 @@ use mathlib.Core.Option.{Option, none, some}
 use lib.ListN.{length, take}
 use lib.Dec.{leb}
 use Rattle.text.specs.Bytes.{firstWide}
-use Rattle.reader.specs.Tokens.{Tokens, Tiling, tiled, untiled, tokens, tokensIn, maxTokens}
+use Rattle.reader.specs.Tokens.{Tokens, countOf, Tiling, tiled, untiled, tokens, tokensIn, maxTokens}
 use Rattle.reader.specs.Check.{Checked, ok, malformed, tooDeep, treeCheck}
 use Rattle.reader.specs.declared.Reading.{Reading}
 use Rattle.reader.specs.declared.Reading.the-variants.{Sheet, TooLong, NotAscii, Malformed, TooDeep}
@@ -27,7 +27,7 @@ module _ (rec : List ℕ) where
   -- 3 and 4: of both the earlier command's is told.
   unfoldable pub readTree : Tokens → ℕ → Read
   readTree ts at =
-      elim (treeCheck rec (length (ts .kinds)) at)
+      elim (treeCheck rec (countOf ts) at)
       [ ok end ↦ sheet ts at | malformed place ↦ refused 3 place | tooDeep place ↦ refused 4 place ]
 
   -- Over the length of the text.

@@ -17,6 +17,10 @@ pub record Tokens : Type 0 where
   pub starts : List ℕ
   pub lengths : List ℕ
 
+-- How many there are.
+abbrev pub countOf : Tokens → ℕ
+countOf ts = length (ts .starts)
+
 abbrev pub noTokens : Tokens
 noTokens = record { kinds = []; starts = []; lengths = [] }
 

@@ -21,7 +21,8 @@ ghost use Rattle.layout.specs.State.{Plain};
 ghost use Rattle.layout.specs.Helpers.{sep, for-each};
 ghost use Rattle.layout.specs.Layout.{group as groupOf, maybe as maybeOf};
 ghost use Rattle.layout.specs.Walk.{walks};
-ghost use Rattle.layout.specs.Ty.{ty-row, ty-rows, RecordTy, ty-seq, ty-seq-there, ty-args, ConTy, OneArgConTy, star-ty, star-tys, TupleTy, FnTy, ParenTy, ty-annotation-there, ty-annotation};
+ghost use Rattle.layout.specs.Ty.{ty-row, ty-rows, ty-seq, ty-seq-there, ty-args, star-ty, star-tys, ty-annotation-there, ty-annotation, ty as ty·};
+ghost use Rattle.reader.specs.Forms.{RecordTy, ConTy, OneArgConTy, TupleTy, FnTy, ParenTy};
 
 // A row of a record type.
 fn ty_row(
@@ -86,7 +87,7 @@ fn record_ty(
     st: St,
     cfg: Cfg,
 ) -> Answer
-    ensures { λ r. ⌜ Plain (now (text .entry)) (now (rec .entry)) (now (starts .entry)) (now (lens .entry)) (cfg .tab) (RecordTy (walks (cfg .left))) st (now (out .entry)) r (now (out .exit)) ⌝ }
+    ensures { λ r. ⌜ Plain (now (text .entry)) (now (rec .entry)) (now (starts .entry)) (now (lens .entry)) (cfg .tab) (ty· (walks (cfg .left)) RecordTy) st (now (out .entry)) r (now (out .exit)) ⌝ }
 {
     let s1 = word(text, out, st, cfg.tab, words::L_CURLY);
     let r2 = ty_rows(text, rec, starts, lens, out, s1, cfg);
@@ -182,7 +183,7 @@ fn con_ty(
     st: St,
     cfg: Cfg,
 ) -> Answer
-    ensures { λ r. ⌜ Plain (now (text .entry)) (now (rec .entry)) (now (starts .entry)) (now (lens .entry)) (cfg .tab) (ConTy (walks (cfg .left))) st (now (out .entry)) r (now (out .exit)) ⌝ }
+    ensures { λ r. ⌜ Plain (now (text .entry)) (now (rec .entry)) (now (starts .entry)) (now (lens .entry)) (cfg .tab) (ty· (walks (cfg .left)) ConTy) st (now (out .entry)) r (now (out .exit)) ⌝ }
 {
     let r1 = ty_seq(text, rec, starts, lens, out, st, cfg);
     let Answer::Done(s1) = r1 else {
@@ -201,7 +202,7 @@ fn one_arg_con_ty(
     st: St,
     cfg: Cfg,
 ) -> Answer
-    ensures { λ r. ⌜ Plain (now (text .entry)) (now (rec .entry)) (now (starts .entry)) (now (lens .entry)) (cfg .tab) (OneArgConTy (walks (cfg .left))) st (now (out .entry)) r (now (out .exit)) ⌝ }
+    ensures { λ r. ⌜ Plain (now (text .entry)) (now (rec .entry)) (now (starts .entry)) (now (lens .entry)) (cfg .tab) (ty· (walks (cfg .left)) OneArgConTy) st (now (out .entry)) r (now (out .exit)) ⌝ }
 {
     let r1 = get_ty(text, rec, starts, lens, out, st, cfg);
     let Answer::Done(s1) = r1 else {
@@ -269,7 +270,7 @@ fn tuple_ty(
     st: St,
     cfg: Cfg,
 ) -> Answer
-    ensures { λ r. ⌜ Plain (now (text .entry)) (now (rec .entry)) (now (starts .entry)) (now (lens .entry)) (cfg .tab) (TupleTy (walks (cfg .left))) st (now (out .entry)) r (now (out .exit)) ⌝ }
+    ensures { λ r. ⌜ Plain (now (text .entry)) (now (rec .entry)) (now (starts .entry)) (now (lens .entry)) (cfg .tab) (ty· (walks (cfg .left)) TupleTy) st (now (out .entry)) r (now (out .exit)) ⌝ }
 {
     let at = st.at;
     let count = starts.len();
@@ -291,7 +292,7 @@ fn fn_ty(
     st: St,
     cfg: Cfg,
 ) -> Answer
-    ensures { λ r. ⌜ Plain (now (text .entry)) (now (rec .entry)) (now (starts .entry)) (now (lens .entry)) (cfg .tab) (FnTy (walks (cfg .left))) st (now (out .entry)) r (now (out .exit)) ⌝ }
+    ensures { λ r. ⌜ Plain (now (text .entry)) (now (rec .entry)) (now (starts .entry)) (now (lens .entry)) (cfg .tab) (ty· (walks (cfg .left)) FnTy) st (now (out .entry)) r (now (out .exit)) ⌝ }
 {
     let r1 = get_ty(text, rec, starts, lens, out, st, cfg);
     let Answer::Done(s1) = r1 else {
@@ -311,7 +312,7 @@ fn paren_ty(
     st: St,
     cfg: Cfg,
 ) -> Answer
-    ensures { λ r. ⌜ Plain (now (text .entry)) (now (rec .entry)) (now (starts .entry)) (now (lens .entry)) (cfg .tab) (ParenTy (walks (cfg .left))) st (now (out .entry)) r (now (out .exit)) ⌝ }
+    ensures { λ r. ⌜ Plain (now (text .entry)) (now (rec .entry)) (now (starts .entry)) (now (lens .entry)) (cfg .tab) (ty· (walks (cfg .left)) ParenTy) st (now (out .entry)) r (now (out .exit)) ⌝ }
 {
     let s1 = word(text, out, st, cfg.tab, words::L_ROUND);
     let r2 = get_ty(text, rec, starts, lens, out, s1, cfg);

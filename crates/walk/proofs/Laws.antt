@@ -90,6 +90,6 @@ module _ {p : Page} {tab : ℕ} (ws : Walkers) (c : Cfg) where
   args-needs k {g = g} {r = r} {o = o} {m = m} e w = subst (λ x. Walked p tab (app-args ws c x k) g r o m) e w
 
 -- ---- an import
-pub last-import : {p : Page} {tab place : ℕ} {s : St} {o m : List ℕ} → Walked p tab (import place) (runOf s o m) (Stopped s place true) o m
+pub last-import : {p : Page} {tab : ℕ} {s : St} {o m : List ℕ} → Walked p tab import (runOf s o m) (Stopped s (s .at) true) o m
 unfolding runs outcome run effects stopOf
 last-import = record { is = refl }

@@ -19,7 +19,7 @@ use layout::fields::stop;
 use layout::fields::token_no;
 use layout::helpers::between;
 use layout::helpers::comment_above;
-use layout::helpers::forms;
+use layout::helpers::deepen;
 use layout::helpers::indent;
 use layout::helpers::indent_deeper;
 use layout::helpers::indent_in;
@@ -34,6 +34,7 @@ use layout::helpers::ty_var_seq;
 use layout::helpers::word_if;
 use layout::looks::BothSeen;
 use layout::looks::body_exp_needs_newline;
+use layout::looks::expression;
 use layout::looks::heads;
 use layout::looks::is_if_exp;
 use layout::word;
@@ -44,12 +45,14 @@ use layout::words::ORELSE;
 use layout::words::RAISE;
 use leaves::app_end;
 use leaves::app_space;
+use leaves::arg_is_symbolic;
 use leaves::case_head;
 use leaves::case_pats;
 use leaves::dat_binds;
 use leaves::dat_copy_dec;
 use leaves::dat_dec;
 use leaves::ex_bind_of;
+use leaves::func_is_bang;
 use leaves::infix_dec;
 use leaves::infix_operator;
 use leaves::item_semi;
@@ -72,15 +75,18 @@ ghost use lib.Dec.{eqb};
 ghost use Prim.Native.Nat.{_+_, _-_, _*_, _≤_, _<_};
 ghost use Rattle.reader.specs.Check.{maxForms};
 ghost use Rattle.layout.specs.Words.{wordOf};
-ghost use Rattle.layout.specs.Layout.{word as word·, maybe, halt, _⨾_};
-ghost use Rattle.layout.specs.Helpers.{text as text·, indented, indent as indentOf};
+ghost use Rattle.layout.specs.Layout.{word as word·, text as text·, maybe, halt, _⨾_};
 ghost use Rattle.layout.specs.State.{Does, Walked, page, runOf};
 ghost use Rattle.layout.specs.Walk.{walks, top};
-ghost use Rattle.layout.specs.Exp.{get-matcher-arm, get-matcher-across-lines, eq-body, exp-args, exp-semi-item, exp-semi-more, exp-semi-seq, exp-row, exp-rows, RecordExp, ParenExp, VectorExp, SeqExp, LetExp, AppExp, InfixExp, TypedExp, IfExp, WhileExp, CaseExp, FnExp};
+ghost use Rattle.layout.specs.Exp.{indented-levels, get-matcher-arm, get-matcher-across-lines, eq-body, exp-args, exp-semi-item, exp-semi-more, exp-semi-seq, exp-row, exp-rows, exp as exp·};
+ghost use Rattle.reader.specs.Forms.{RecordExp, ParenExp, VectorExp, SeqExp, LetExp, AppExp, InfixExp, TypedExp, IfExp, WhileExp, CaseExp, FnExp};
 ghost use Rattle.layout.specs.GetDec.{dec as dec·, dec-in-seq, dec-in-seqs, get-dec, dec-arg};
-ghost use Rattle.layout.specs.DecOne.{decs as decs·, val-bind, ValDec, fun-bind-case, fun-bind, FunDec, AbstypeDec, ex-bind-inner, ex-bind, ExDec, local-decs, LocalDec, str-bind, StructureDec, SignatureDec, functor-arg, functor-args, functor-bind, FunctorDec, IncludeDec};
-ghost use Rattle.layout.specs.StrExp.{StructStrExp, AscriptionStrExp, app-arg, AppStrExp, LetStrExp};
-ghost use Rattle.layout.specs.SigExp.{ascription-tail, SigSigExp, WhereTypeSigExp, WhereSigExp};
+ghost use Rattle.layout.specs.DecOne.{decs as decs·, val-bind, fun-bind-case, fun-bind, ex-bind-inner, ex-bind, local-decs, str-bind, functor-arg, functor-args, functor-bind, dec-one as dec-one·};
+ghost use Rattle.reader.specs.Forms.{ValDec, FunDec, AbstypeDec, ExDec, LocalDec, StructureDec, SignatureDec, FunctorDec, IncludeDec};
+ghost use Rattle.layout.specs.StrExp.{app-arg, str-exp as str-exp·};
+ghost use Rattle.reader.specs.Forms.{StructStrExp, AscriptionStrExp, AppStrExp, LetStrExp};
+ghost use Rattle.layout.specs.SigExp.{ascription-tail, sig-exp as sig-exp·};
+ghost use Rattle.reader.specs.Forms.{SigSigExp, WhereTypeSigExp, WhereSigExp};
 
 // ---- what a loop knows
 // Whether item i of a sequence of n has its semicolon written: the last, where that is allowed.
@@ -184,7 +190,7 @@ fn rc(
     cfg: Cfg,
 ) -> Answer
     requires { ⌜ cfg .depth + 2 * cfg .left + 2 ≤ 1000 ⌝ }
-    ensures { λ r. ⌜ Does (page (now (text .entry)) (now (rec .entry)) (now (kinds .entry)) (now (starts .entry)) (now (lens .entry))) cfg RecordExp (runOf st (now (out .entry)) (now (left .entry))) r (now (out .exit)) (now (left .exit)) ⌝ }
+    ensures { λ r. ⌜ Does (page (now (text .entry)) (now (rec .entry)) (now (kinds .entry)) (now (starts .entry)) (now (lens .entry))) cfg (λ ws c. exp· ws c RecordExp) (runOf st (now (out .entry)) (now (left .entry))) r (now (out .exit)) (now (left .exit)) ⌝ }
 {
     let s1 = word(text, out, st, cfg.tab, words::L_CURLY);
     let r2 = rs(text, rec, kinds, starts, lens, out, left, s1, cfg);
@@ -207,7 +213,7 @@ fn pa(
     cfg: Cfg,
 ) -> Answer
     requires { ⌜ cfg .depth + 2 * cfg .left + 2 ≤ 1000 ⌝ }
-    ensures { λ r. ⌜ Does (page (now (text .entry)) (now (rec .entry)) (now (kinds .entry)) (now (starts .entry)) (now (lens .entry))) cfg ParenExp (runOf st (now (out .entry)) (now (left .entry))) r (now (out .exit)) (now (left .exit)) ⌝ }
+    ensures { λ r. ⌜ Does (page (now (text .entry)) (now (rec .entry)) (now (kinds .entry)) (now (starts .entry)) (now (lens .entry))) cfg (λ ws c. exp· ws c ParenExp) (runOf st (now (out .entry)) (now (left .entry))) r (now (out .exit)) (now (left .exit)) ⌝ }
 {
     let s1 = word(text, out, st, cfg.tab, words::L_ROUND);
     let r2 = exp(text, rec, kinds, starts, lens, out, left, s1, cfg);
@@ -291,7 +297,7 @@ fn ve(
     cfg: Cfg,
 ) -> Answer
     requires { ⌜ cfg .depth + 2 * cfg .left + 2 ≤ 1000 ⌝ }
-    ensures { λ r. ⌜ Does (page (now (text .entry)) (now (rec .entry)) (now (kinds .entry)) (now (starts .entry)) (now (lens .entry))) cfg VectorExp (runOf st (now (out .entry)) (now (left .entry))) r (now (out .exit)) (now (left .exit)) ⌝ }
+    ensures { λ r. ⌜ Does (page (now (text .entry)) (now (rec .entry)) (now (kinds .entry)) (now (starts .entry)) (now (lens .entry))) cfg (λ ws c. exp· ws c VectorExp) (runOf st (now (out .entry)) (now (left .entry))) r (now (out .exit)) (now (left .exit)) ⌝ }
 {
     let s1 = word(text, out, st, cfg.tab, words::HASH_L_SQUARE);
     let r2 = group(rec, s1);
@@ -419,7 +425,7 @@ fn seq(
     cfg: Cfg,
 ) -> Answer
     requires { ⌜ cfg .depth + 2 * cfg .left + 2 ≤ 1000 ⌝ }
-    ensures { λ r. ⌜ Does (page (now (text .entry)) (now (rec .entry)) (now (kinds .entry)) (now (starts .entry)) (now (lens .entry))) cfg SeqExp (runOf st (now (out .entry)) (now (left .entry))) r (now (out .exit)) (now (left .exit)) ⌝ }
+    ensures { λ r. ⌜ Does (page (now (text .entry)) (now (rec .entry)) (now (kinds .entry)) (now (starts .entry)) (now (lens .entry))) cfg (λ ws c. exp· ws c SeqExp) (runOf st (now (out .entry)) (now (left .entry))) r (now (out .exit)) (now (left .exit)) ⌝ }
 {
     let s1 = word(text, out, st, cfg.tab, words::L_ROUND_LINE);
     let s2 = indent_deeper(out, s1, cfg);
@@ -445,7 +451,7 @@ fn lx(
     cfg: Cfg,
 ) -> Answer
     requires { ⌜ cfg .depth + 2 * cfg .left + 2 ≤ 1000 ⌝ }
-    ensures { λ r. ⌜ Does (page (now (text .entry)) (now (rec .entry)) (now (kinds .entry)) (now (starts .entry)) (now (lens .entry))) cfg LetExp (runOf st (now (out .entry)) (now (left .entry))) r (now (out .exit)) (now (left .exit)) ⌝ }
+    ensures { λ r. ⌜ Does (page (now (text .entry)) (now (rec .entry)) (now (kinds .entry)) (now (starts .entry)) (now (lens .entry))) cfg (λ ws c. exp· ws c LetExp) (runOf st (now (out .entry)) (now (left .entry))) r (now (out .exit)) (now (left .exit)) ⌝ }
 {
     let s1 = word(text, out, st, cfg.tab, words::LET);
     let s2 = word(text, out, s1, cfg.tab, words::LINE_FEED);
@@ -479,18 +485,20 @@ fn app(
     cfg: Cfg,
 ) -> Answer
     requires { ⌜ cfg .depth + 2 * cfg .left + 2 ≤ 1000 ⌝ }
-    ensures { λ r. ⌜ Does (page (now (text .entry)) (now (rec .entry)) (now (kinds .entry)) (now (starts .entry)) (now (lens .entry))) cfg AppExp (runOf st (now (out .entry)) (now (left .entry))) r (now (out .exit)) (now (left .exit)) ⌝ }
+    ensures { λ r. ⌜ Does (page (now (text .entry)) (now (rec .entry)) (now (kinds .entry)) (now (starts .entry)) (now (lens .entry))) cfg (λ ws c. exp· ws c AppExp) (runOf st (now (out .entry)) (now (left .entry))) r (now (out .exit)) (now (left .exit)) ⌝ }
 {
     let at = st.at;
     let seen = heads(rec, starts.len(), at);
     let BothSeen::Are(func, arg) = seen else {
         return missing(st, seen);
     };
+    let bang = func_is_bang(text, starts, lens, func);
+    let symbolic = arg_is_symbolic(text, starts, lens, arg);
     let r1 = exp(text, rec, kinds, starts, lens, out, left, st, cfg);
     let Answer::Done(s1) = r1 else {
         return r1;
     };
-    let s2 = app_space(text, rec, starts, lens, out, s1, cfg, func, arg);
+    let s2 = app_space(text, out, s1, cfg.tab, bang, symbolic);
     exp(text, rec, kinds, starts, lens, out, left, s2, cfg)
 }
 
@@ -507,7 +515,7 @@ fn fx(
     cfg: Cfg,
 ) -> Answer
     requires { ⌜ cfg .depth + 2 * cfg .left + 2 ≤ 1000 ⌝ }
-    ensures { λ r. ⌜ Does (page (now (text .entry)) (now (rec .entry)) (now (kinds .entry)) (now (starts .entry)) (now (lens .entry))) cfg InfixExp (runOf st (now (out .entry)) (now (left .entry))) r (now (out .exit)) (now (left .exit)) ⌝ }
+    ensures { λ r. ⌜ Does (page (now (text .entry)) (now (rec .entry)) (now (kinds .entry)) (now (starts .entry)) (now (lens .entry))) cfg (λ ws c. exp· ws c InfixExp) (runOf st (now (out .entry)) (now (left .entry))) r (now (out .exit)) (now (left .exit)) ⌝ }
 {
     let Read::Is(k, s1) = token_no(rec, starts.len(), st) else {
         return stop(st);
@@ -533,7 +541,7 @@ fn ty(
     cfg: Cfg,
 ) -> Answer
     requires { ⌜ cfg .depth + 2 * cfg .left + 2 ≤ 1000 ⌝ }
-    ensures { λ r. ⌜ Does (page (now (text .entry)) (now (rec .entry)) (now (kinds .entry)) (now (starts .entry)) (now (lens .entry))) cfg TypedExp (runOf st (now (out .entry)) (now (left .entry))) r (now (out .exit)) (now (left .exit)) ⌝ }
+    ensures { λ r. ⌜ Does (page (now (text .entry)) (now (rec .entry)) (now (kinds .entry)) (now (starts .entry)) (now (lens .entry))) cfg (λ ws c. exp· ws c TypedExp) (runOf st (now (out .entry)) (now (left .entry))) r (now (out .exit)) (now (left .exit)) ⌝ }
 {
     let r1 = exp(text, rec, kinds, starts, lens, out, left, st, cfg);
     let Answer::Done(s1) = r1 else {
@@ -580,7 +588,7 @@ fn wh(
     cfg: Cfg,
 ) -> Answer
     requires { ⌜ cfg .depth + 2 * cfg .left + 2 ≤ 1000 ⌝ }
-    ensures { λ r. ⌜ Does (page (now (text .entry)) (now (rec .entry)) (now (kinds .entry)) (now (starts .entry)) (now (lens .entry))) cfg WhileExp (runOf st (now (out .entry)) (now (left .entry))) r (now (out .exit)) (now (left .exit)) ⌝ }
+    ensures { λ r. ⌜ Does (page (now (text .entry)) (now (rec .entry)) (now (kinds .entry)) (now (starts .entry)) (now (lens .entry))) cfg (λ ws c. exp· ws c WhileExp) (runOf st (now (out .entry)) (now (left .entry))) r (now (out .exit)) (now (left .exit)) ⌝ }
 {
     let s1 = word(text, out, st, cfg.tab, words::WHILE);
     du(
@@ -634,7 +642,7 @@ fn ca(
     cfg: Cfg,
 ) -> Answer
     requires { ⌜ cfg .depth + 2 * cfg .left + 2 ≤ 1000 ⌝ }
-    ensures { λ r. ⌜ Does (page (now (text .entry)) (now (rec .entry)) (now (kinds .entry)) (now (starts .entry)) (now (lens .entry))) cfg CaseExp (runOf st (now (out .entry)) (now (left .entry))) r (now (out .exit)) (now (left .exit)) ⌝ }
+    ensures { λ r. ⌜ Does (page (now (text .entry)) (now (rec .entry)) (now (kinds .entry)) (now (starts .entry)) (now (lens .entry))) cfg (λ ws c. exp· ws c CaseExp) (runOf st (now (out .entry)) (now (left .entry))) r (now (out .exit)) (now (left .exit)) ⌝ }
 {
     let s1 = word(text, out, st, cfg.tab, words::CASE);
     ha(
@@ -684,7 +692,7 @@ fn ie(
     cfg: Cfg,
 ) -> Answer
     requires { ⌜ cfg .depth + 2 * cfg .left + 2 ≤ 1000 ⌝ }
-    ensures { λ r. ⌜ Does (page (now (text .entry)) (now (rec .entry)) (now (kinds .entry)) (now (starts .entry)) (now (lens .entry))) cfg IfExp (runOf st (now (out .entry)) (now (left .entry))) r (now (out .exit)) (now (left .exit)) ⌝ }
+    ensures { λ r. ⌜ Does (page (now (text .entry)) (now (rec .entry)) (now (kinds .entry)) (now (starts .entry)) (now (lens .entry))) cfg (λ ws c. exp· ws c IfExp) (runOf st (now (out .entry)) (now (left .entry))) r (now (out .exit)) (now (left .exit)) ⌝ }
 {
     let s1 = word(text, out, st, cfg.tab, words::IF);
     let r2 = exp(text, rec, kinds, starts, lens, out, left, s1, cfg);
@@ -700,6 +708,9 @@ fn ie(
     };
     let s6 = line(text, out, s5, cfg);
     let s7 = word(text, out, s6, cfg.tab, words::ELSE);
+    let Read::Is(_k, _s) = expression(rec, s7) else {
+        return stop(s7);
+    };
     let at = s7.at;
     if is_if_exp(rec, at) {
         let s8 = word(text, out, s7, cfg.tab, words::SPACE);
@@ -773,10 +784,13 @@ fn arm(
         return r2;
     };
     let s3 = word(text, out, s2, cfg.tab, words::EQ_ARROW);
+    let Read::Is(_k, _s) = expression(rec, s3) else {
+        return stop(s3);
+    };
     let at = s3.at;
     if body_exp_needs_newline(rec, at) {
         let s4 = word(text, out, s3, cfg.tab, words::LINE_FEED);
-        let s5 = forms(s4, cfg);
+        let s5 = deepen(s4, cfg);
         let new = cfg.indented();
         return dp(text, rec, kinds, starts, lens, out, left, s5, new);
     }
@@ -797,7 +811,7 @@ fn dp(
     cfg: Cfg,
 ) -> Answer
     requires { ⌜ cfg .depth + 2 * cfg .left + 1 ≤ 1000 ⌝ }
-    ensures { λ r. ⌜ Does (page (now (text .entry)) (now (rec .entry)) (now (kinds .entry)) (now (starts .entry)) (now (lens .entry))) cfg (λ ws c. indented c (λ new. indentOf new ⨾ ws .get-exp new)) (runOf st (now (out .entry)) (now (left .entry))) r (now (out .exit)) (now (left .exit)) ⌝ }
+    ensures { λ r. ⌜ Does (page (now (text .entry)) (now (rec .entry)) (now (kinds .entry)) (now (starts .entry)) (now (lens .entry))) cfg (λ ws c. indented-levels ws c 1) (runOf st (now (out .entry)) (now (left .entry))) r (now (out .exit)) (now (left .exit)) ⌝ }
 {
     let s1 = indent_deeper(out, st, cfg);
     let new = cfg.indented();
@@ -827,6 +841,9 @@ fn qb(
         return r1;
     };
     let s2 = word(text, out, s1, cfg.tab, words::EQ);
+    let Read::Is(_k, _s) = expression(rec, s2) else {
+        return stop(s2);
+    };
     let at = s2.at;
     if body_exp_needs_newline(rec, at) {
         let s3 = word(text, out, s2, cfg.tab, words::LINE_FEED);
@@ -849,7 +866,7 @@ fn fe(
     cfg: Cfg,
 ) -> Answer
     requires { ⌜ cfg .depth + 2 * cfg .left + 2 ≤ 1000 ⌝ }
-    ensures { λ r. ⌜ Does (page (now (text .entry)) (now (rec .entry)) (now (kinds .entry)) (now (starts .entry)) (now (lens .entry))) cfg FnExp (runOf st (now (out .entry)) (now (left .entry))) r (now (out .exit)) (now (left .exit)) ⌝ }
+    ensures { λ r. ⌜ Does (page (now (text .entry)) (now (rec .entry)) (now (kinds .entry)) (now (starts .entry)) (now (lens .entry))) cfg (λ ws c. exp· ws c FnExp) (runOf st (now (out .entry)) (now (left .entry))) r (now (out .exit)) (now (left .exit)) ⌝ }
 {
     let s1 = word(text, out, st, cfg.tab, words::FN);
     let r2 = group(rec, s1);
@@ -1122,10 +1139,10 @@ fn one(
         blank: cfg.blank,
         left: forms_left - 1,
     };
-    nu(text, rec, kinds, starts, lens, out, left, s2, sub, k, at)
+    nu(text, rec, kinds, starts, lens, out, left, s2, sub, k)
 }
 
-// A declaration at an offset in the record, by its number.
+// A declaration by its number, from its fields on.
 fn nu(
     text: &[u8],
     rec: &[u8],
@@ -1137,10 +1154,9 @@ fn nu(
     st: St,
     cfg: Cfg,
     which: usize,
-    place: usize,
 ) -> Answer
     requires { ⌜ cfg .depth + 2 * cfg .left + 2 ≤ 1000 ⌝ }
-    ensures { λ r. ⌜ Does (page (now (text .entry)) (now (rec .entry)) (now (kinds .entry)) (now (starts .entry)) (now (lens .entry))) cfg (λ ws c. getD (decs· ws c place) which halt) (runOf st (now (out .entry)) (now (left .entry))) r (now (out .exit)) (now (left .exit)) ⌝ }
+    ensures { λ r. ⌜ Does (page (now (text .entry)) (now (rec .entry)) (now (kinds .entry)) (now (starts .entry)) (now (lens .entry))) cfg (λ ws c. getD (decs· ws c) which halt) (runOf st (now (out .entry)) (now (left .entry))) r (now (out .exit)) (now (left .exit)) ⌝ }
 {
     match which {
         0 => Answer::Done(word(text, out, st, cfg.tab, words::DOT_DOT_DOT)),
@@ -1173,7 +1189,7 @@ fn nu(
         16 => cd(text, rec, kinds, starts, lens, out, left, st, cfg),
         17 => exp(text, rec, kinds, starts, lens, out, left, st, cfg),
         18 => ic(text, rec, kinds, starts, lens, out, left, st, cfg),
-        19 => Answer::Stopped(st, place, true),
+        19 => Answer::Stopped(st, st.at, true),
         _ => stop(st),
     }
 }
@@ -1191,7 +1207,7 @@ fn vd(
     cfg: Cfg,
 ) -> Answer
     requires { ⌜ cfg .depth + 2 * cfg .left + 2 ≤ 1000 ⌝ }
-    ensures { λ r. ⌜ Does (page (now (text .entry)) (now (rec .entry)) (now (kinds .entry)) (now (starts .entry)) (now (lens .entry))) cfg ValDec (runOf st (now (out .entry)) (now (left .entry))) r (now (out .exit)) (now (left .exit)) ⌝ }
+    ensures { λ r. ⌜ Does (page (now (text .entry)) (now (rec .entry)) (now (kinds .entry)) (now (starts .entry)) (now (lens .entry))) cfg (λ ws c. dec-one· ws c ValDec) (runOf st (now (out .entry)) (now (left .entry))) r (now (out .exit)) (now (left .exit)) ⌝ }
 {
     let s1 = word(text, out, st, cfg.tab, words::VAL);
     let Read::Is(n, s2) = list(rec, s1) else {
@@ -1254,7 +1270,7 @@ fn fd(
     cfg: Cfg,
 ) -> Answer
     requires { ⌜ cfg .depth + 2 * cfg .left + 2 ≤ 1000 ⌝ }
-    ensures { λ r. ⌜ Does (page (now (text .entry)) (now (rec .entry)) (now (kinds .entry)) (now (starts .entry)) (now (lens .entry))) cfg FunDec (runOf st (now (out .entry)) (now (left .entry))) r (now (out .exit)) (now (left .exit)) ⌝ }
+    ensures { λ r. ⌜ Does (page (now (text .entry)) (now (rec .entry)) (now (kinds .entry)) (now (starts .entry)) (now (lens .entry))) cfg (λ ws c. dec-one· ws c FunDec) (runOf st (now (out .entry)) (now (left .entry))) r (now (out .exit)) (now (left .exit)) ⌝ }
 {
     let s1 = word(text, out, st, cfg.tab, words::FUN);
     let r2 = ty_var_seq(text, rec, starts, lens, out, s1, cfg);
@@ -1297,7 +1313,7 @@ fn fb(
     let Answer::Done(s1) = r1 else {
         return r1;
     };
-    let s2 = forms(s1, cfg);
+    let s2 = deepen(s1, cfg);
     let Read::Is(n, s3) = list(rec, s2) else {
         return stop(s2);
     };
@@ -1362,7 +1378,7 @@ fn ab(
     cfg: Cfg,
 ) -> Answer
     requires { ⌜ cfg .depth + 2 * cfg .left + 2 ≤ 1000 ⌝ }
-    ensures { λ r. ⌜ Does (page (now (text .entry)) (now (rec .entry)) (now (kinds .entry)) (now (starts .entry)) (now (lens .entry))) cfg AbstypeDec (runOf st (now (out .entry)) (now (left .entry))) r (now (out .exit)) (now (left .exit)) ⌝ }
+    ensures { λ r. ⌜ Does (page (now (text .entry)) (now (rec .entry)) (now (kinds .entry)) (now (starts .entry)) (now (lens .entry))) cfg (λ ws c. dec-one· ws c AbstypeDec) (runOf st (now (out .entry)) (now (left .entry))) r (now (out .exit)) (now (left .exit)) ⌝ }
 {
     let s1 = word(text, out, st, cfg.tab, words::ABSTYPE);
     let r2 = dat_binds(text, rec, starts, lens, out, s1, cfg);
@@ -1394,7 +1410,7 @@ fn xd(
     cfg: Cfg,
 ) -> Answer
     requires { ⌜ cfg .depth + 2 * cfg .left + 2 ≤ 1000 ⌝ }
-    ensures { λ r. ⌜ Does (page (now (text .entry)) (now (rec .entry)) (now (kinds .entry)) (now (starts .entry)) (now (lens .entry))) cfg ExDec (runOf st (now (out .entry)) (now (left .entry))) r (now (out .exit)) (now (left .exit)) ⌝ }
+    ensures { λ r. ⌜ Does (page (now (text .entry)) (now (rec .entry)) (now (kinds .entry)) (now (starts .entry)) (now (lens .entry))) cfg (λ ws c. dec-one· ws c ExDec) (runOf st (now (out .entry)) (now (left .entry))) r (now (out .exit)) (now (left .exit)) ⌝ }
 {
     let s1 = word(text, out, st, cfg.tab, words::EXCEPTION);
     let Read::Is(n, s2) = list(rec, s1) else {
@@ -1493,7 +1509,7 @@ fn lo(
     cfg: Cfg,
 ) -> Answer
     requires { ⌜ cfg .depth + 2 * cfg .left + 2 ≤ 1000 ⌝ }
-    ensures { λ r. ⌜ Does (page (now (text .entry)) (now (rec .entry)) (now (kinds .entry)) (now (starts .entry)) (now (lens .entry))) cfg LocalDec (runOf st (now (out .entry)) (now (left .entry))) r (now (out .exit)) (now (left .exit)) ⌝ }
+    ensures { λ r. ⌜ Does (page (now (text .entry)) (now (rec .entry)) (now (kinds .entry)) (now (starts .entry)) (now (lens .entry))) cfg (λ ws c. dec-one· ws c LocalDec) (runOf st (now (out .entry)) (now (left .entry))) r (now (out .exit)) (now (left .exit)) ⌝ }
 {
     let s1 = word(text, out, st, cfg.tab, words::LOCAL);
     let s2 = word(text, out, s1, cfg.tab, words::LINE_FEED);
@@ -1552,7 +1568,7 @@ fn sd(
     cfg: Cfg,
 ) -> Answer
     requires { ⌜ cfg .depth + 2 * cfg .left + 2 ≤ 1000 ⌝ }
-    ensures { λ r. ⌜ Does (page (now (text .entry)) (now (rec .entry)) (now (kinds .entry)) (now (starts .entry)) (now (lens .entry))) cfg StructureDec (runOf st (now (out .entry)) (now (left .entry))) r (now (out .exit)) (now (left .exit)) ⌝ }
+    ensures { λ r. ⌜ Does (page (now (text .entry)) (now (rec .entry)) (now (kinds .entry)) (now (starts .entry)) (now (lens .entry))) cfg (λ ws c. dec-one· ws c StructureDec) (runOf st (now (out .entry)) (now (left .entry))) r (now (out .exit)) (now (left .exit)) ⌝ }
 {
     let s1 = word(text, out, st, cfg.tab, words::STRUCTURE);
     let Read::Is(n, s2) = list(rec, s1) else {
@@ -1623,7 +1639,7 @@ fn gd(
     cfg: Cfg,
 ) -> Answer
     requires { ⌜ cfg .depth + 2 * cfg .left + 2 ≤ 1000 ⌝ }
-    ensures { λ r. ⌜ Does (page (now (text .entry)) (now (rec .entry)) (now (kinds .entry)) (now (starts .entry)) (now (lens .entry))) cfg SignatureDec (runOf st (now (out .entry)) (now (left .entry))) r (now (out .exit)) (now (left .exit)) ⌝ }
+    ensures { λ r. ⌜ Does (page (now (text .entry)) (now (rec .entry)) (now (kinds .entry)) (now (starts .entry)) (now (lens .entry))) cfg (λ ws c. dec-one· ws c SignatureDec) (runOf st (now (out .entry)) (now (left .entry))) r (now (out .exit)) (now (left .exit)) ⌝ }
 {
     let s1 = word(text, out, st, cfg.tab, words::SIGNATURE);
     let Read::Is(n, s2) = list(rec, s1) else {
@@ -1695,7 +1711,7 @@ fn cd(
     cfg: Cfg,
 ) -> Answer
     requires { ⌜ cfg .depth + 2 * cfg .left + 2 ≤ 1000 ⌝ }
-    ensures { λ r. ⌜ Does (page (now (text .entry)) (now (rec .entry)) (now (kinds .entry)) (now (starts .entry)) (now (lens .entry))) cfg FunctorDec (runOf st (now (out .entry)) (now (left .entry))) r (now (out .exit)) (now (left .exit)) ⌝ }
+    ensures { λ r. ⌜ Does (page (now (text .entry)) (now (rec .entry)) (now (kinds .entry)) (now (starts .entry)) (now (lens .entry))) cfg (λ ws c. dec-one· ws c FunctorDec) (runOf st (now (out .entry)) (now (left .entry))) r (now (out .exit)) (now (left .exit)) ⌝ }
 {
     let s1 = word(text, out, st, cfg.tab, words::FUNCTOR);
     let Read::Is(n, s2) = list(rec, s1) else {
@@ -1833,7 +1849,7 @@ fn ic(
     cfg: Cfg,
 ) -> Answer
     requires { ⌜ cfg .depth + 2 * cfg .left + 2 ≤ 1000 ⌝ }
-    ensures { λ r. ⌜ Does (page (now (text .entry)) (now (rec .entry)) (now (kinds .entry)) (now (starts .entry)) (now (lens .entry))) cfg IncludeDec (runOf st (now (out .entry)) (now (left .entry))) r (now (out .exit)) (now (left .exit)) ⌝ }
+    ensures { λ r. ⌜ Does (page (now (text .entry)) (now (rec .entry)) (now (kinds .entry)) (now (starts .entry)) (now (lens .entry))) cfg (λ ws c. dec-one· ws c IncludeDec) (runOf st (now (out .entry)) (now (left .entry))) r (now (out .exit)) (now (left .exit)) ⌝ }
 {
     let s1 = word(text, out, st, cfg.tab, words::INCLUDE);
     let Read::Is(n, s2) = list(rec, s1) else {
@@ -1930,7 +1946,7 @@ fn ss(
     cfg: Cfg,
 ) -> Answer
     requires { ⌜ cfg .depth + 2 * cfg .left + 2 ≤ 1000 ⌝ }
-    ensures { λ r. ⌜ Does (page (now (text .entry)) (now (rec .entry)) (now (kinds .entry)) (now (starts .entry)) (now (lens .entry))) cfg StructStrExp (runOf st (now (out .entry)) (now (left .entry))) r (now (out .exit)) (now (left .exit)) ⌝ }
+    ensures { λ r. ⌜ Does (page (now (text .entry)) (now (rec .entry)) (now (kinds .entry)) (now (starts .entry)) (now (lens .entry))) cfg (λ ws c. str-exp· ws c StructStrExp) (runOf st (now (out .entry)) (now (left .entry))) r (now (out .exit)) (now (left .exit)) ⌝ }
 {
     let s1 = word(text, out, st, cfg.tab, words::STRUCT);
     let s2 = indent_deeper(out, s1, cfg);
@@ -1962,7 +1978,7 @@ fn an(
     cfg: Cfg,
 ) -> Answer
     requires { ⌜ cfg .depth + 2 * cfg .left + 2 ≤ 1000 ⌝ }
-    ensures { λ r. ⌜ Does (page (now (text .entry)) (now (rec .entry)) (now (kinds .entry)) (now (starts .entry)) (now (lens .entry))) cfg AscriptionStrExp (runOf st (now (out .entry)) (now (left .entry))) r (now (out .exit)) (now (left .exit)) ⌝ }
+    ensures { λ r. ⌜ Does (page (now (text .entry)) (now (rec .entry)) (now (kinds .entry)) (now (starts .entry)) (now (lens .entry))) cfg (λ ws c. str-exp· ws c AscriptionStrExp) (runOf st (now (out .entry)) (now (left .entry))) r (now (out .exit)) (now (left .exit)) ⌝ }
 {
     let r1 = str(text, rec, kinds, starts, lens, out, left, st, cfg);
     let Answer::Done(s1) = r1 else {
@@ -2033,7 +2049,7 @@ fn sp(
     cfg: Cfg,
 ) -> Answer
     requires { ⌜ cfg .depth + 2 * cfg .left + 2 ≤ 1000 ⌝ }
-    ensures { λ r. ⌜ Does (page (now (text .entry)) (now (rec .entry)) (now (kinds .entry)) (now (starts .entry)) (now (lens .entry))) cfg AppStrExp (runOf st (now (out .entry)) (now (left .entry))) r (now (out .exit)) (now (left .exit)) ⌝ }
+    ensures { λ r. ⌜ Does (page (now (text .entry)) (now (rec .entry)) (now (kinds .entry)) (now (starts .entry)) (now (lens .entry))) cfg (λ ws c. str-exp· ws c AppStrExp) (runOf st (now (out .entry)) (now (left .entry))) r (now (out .exit)) (now (left .exit)) ⌝ }
 {
     let r1 = text_of(text, rec, starts, lens, out, st, cfg);
     let Answer::Done(s1) = r1 else {
@@ -2097,7 +2113,7 @@ fn sl(
     cfg: Cfg,
 ) -> Answer
     requires { ⌜ cfg .depth + 2 * cfg .left + 2 ≤ 1000 ⌝ }
-    ensures { λ r. ⌜ Does (page (now (text .entry)) (now (rec .entry)) (now (kinds .entry)) (now (starts .entry)) (now (lens .entry))) cfg LetStrExp (runOf st (now (out .entry)) (now (left .entry))) r (now (out .exit)) (now (left .exit)) ⌝ }
+    ensures { λ r. ⌜ Does (page (now (text .entry)) (now (rec .entry)) (now (kinds .entry)) (now (starts .entry)) (now (lens .entry))) cfg (λ ws c. str-exp· ws c LetStrExp) (runOf st (now (out .entry)) (now (left .entry))) r (now (out .exit)) (now (left .exit)) ⌝ }
 {
     let s1 = word(text, out, st, cfg.tab, words::LET);
     let s2 = word(text, out, s1, cfg.tab, words::LINE_FEED);
@@ -2169,7 +2185,7 @@ fn sg(
     cfg: Cfg,
 ) -> Answer
     requires { ⌜ cfg .depth + 2 * cfg .left + 2 ≤ 1000 ⌝ }
-    ensures { λ r. ⌜ Does (page (now (text .entry)) (now (rec .entry)) (now (kinds .entry)) (now (starts .entry)) (now (lens .entry))) cfg SigSigExp (runOf st (now (out .entry)) (now (left .entry))) r (now (out .exit)) (now (left .exit)) ⌝ }
+    ensures { λ r. ⌜ Does (page (now (text .entry)) (now (rec .entry)) (now (kinds .entry)) (now (starts .entry)) (now (lens .entry))) cfg (λ ws c. sig-exp· ws c SigSigExp) (runOf st (now (out .entry)) (now (left .entry))) r (now (out .exit)) (now (left .exit)) ⌝ }
 {
     let s1 = word(text, out, st, cfg.tab, words::SIG);
     let s2 = indent_deeper(out, s1, cfg);
@@ -2195,7 +2211,7 @@ fn wt(
     cfg: Cfg,
 ) -> Answer
     requires { ⌜ cfg .depth + 2 * cfg .left + 2 ≤ 1000 ⌝ }
-    ensures { λ r. ⌜ Does (page (now (text .entry)) (now (rec .entry)) (now (kinds .entry)) (now (starts .entry)) (now (lens .entry))) cfg WhereTypeSigExp (runOf st (now (out .entry)) (now (left .entry))) r (now (out .exit)) (now (left .exit)) ⌝ }
+    ensures { λ r. ⌜ Does (page (now (text .entry)) (now (rec .entry)) (now (kinds .entry)) (now (starts .entry)) (now (lens .entry))) cfg (λ ws c. sig-exp· ws c WhereTypeSigExp) (runOf st (now (out .entry)) (now (left .entry))) r (now (out .exit)) (now (left .exit)) ⌝ }
 {
     let r1 = sig(text, rec, kinds, starts, lens, out, left, st, cfg);
     let Answer::Done(s1) = r1 else {
@@ -2227,7 +2243,7 @@ fn wr(
     cfg: Cfg,
 ) -> Answer
     requires { ⌜ cfg .depth + 2 * cfg .left + 2 ≤ 1000 ⌝ }
-    ensures { λ r. ⌜ Does (page (now (text .entry)) (now (rec .entry)) (now (kinds .entry)) (now (starts .entry)) (now (lens .entry))) cfg WhereSigExp (runOf st (now (out .entry)) (now (left .entry))) r (now (out .exit)) (now (left .exit)) ⌝ }
+    ensures { λ r. ⌜ Does (page (now (text .entry)) (now (rec .entry)) (now (kinds .entry)) (now (starts .entry)) (now (lens .entry))) cfg (λ ws c. sig-exp· ws c WhereSigExp) (runOf st (now (out .entry)) (now (left .entry))) r (now (out .exit)) (now (left .exit)) ⌝ }
 {
     let r1 = sig(text, rec, kinds, starts, lens, out, left, st, cfg);
     let Answer::Done(s1) = r1 else {

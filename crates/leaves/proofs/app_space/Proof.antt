@@ -4,12 +4,6 @@ use borrow.Author.Needs.{needs}
 use Rattle.leaves.proofs.app_space.Statement.{statement}
 use Rattle.leaves.proofs.app_space.Tie as tie
 
-func-is-bang-requires : tie.Need-func-is-bang-requires
-func-is-bang-requires c κs = search needs
-
-arg-is-symbolic-requires : tie.Need-arg-is-symbolic-requires
-arg-is-symbolic-requires c κs = search needs
-
 word-when-requires : tie.Need-word-when-requires
 word-when-requires c κs = search needs
 
@@ -17,7 +11,7 @@ same-length : tie.Need-same-length
 same-length c = search needs
 
 returns : tie.Need-returns
-returns c = app-banged (c .before .before .before .before .before .before .func-is-bang .ensures) (c .before .before .before .before .before .arg-is-symbolic .ensures) (c .before .before .before .before .if1 .taken) (c .before .before .word-when .ensures)
+returns c = app-banged _ (c .before .before .before .before .if1 .taken) (c .before .before .word-when .ensures)
 
 word-requires : tie.Need-word-requires
 word-requires c κs = search needs
@@ -26,17 +20,9 @@ same-length-2 : tie.Need-same-length-2
 same-length-2 c = search needs
 
 returns-2 : tie.Need-returns-2
-returns-2 c = app-spaced (c .before .before .before .before .before .before .func-is-bang .ensures) (c .before .before .before .before .before .arg-is-symbolic .ensures) (c .before .before .before .before .if1 .left) (c .before .before .word .ensures)
+returns-2 c = app-spaced _ (c .before .before .before .before .if1 .left) (c .before .before .word .ensures)
 
 pub app-space-spec : {M : Type 1} → statement M
 app-space-spec =
     tie.close
-    (tie.spec
-    func-is-bang-requires
-    arg-is-symbolic-requires
-    word-when-requires
-    same-length
-    returns
-    word-requires
-    same-length-2
-    returns-2)
+    (tie.spec word-when-requires same-length returns word-requires same-length-2 returns-2)

@@ -13,7 +13,7 @@ use Rattle.layout.specs.State.{cfgOf}
 use Rattle.layout.specs.Exp as Exp
 use Rattle.layout.specs.GetDec as GetDec
 use Rattle.layout.specs.DecOne as DecOne
-use Rattle.layout.proofs.Steps.{PlainTurn, from, plain, by-same, first-same, then-done, then-stop, then-sure, last-sure, then-both, then-write, last-write, last-skip, skip-same, list-is, list-not, choice-is, choice-not, group-is, group-not, maybe-past, maybe-there, optional-is, optional-no, optional-not, items-all, from-more, from-none, times-all, times-more, times-none, test-is}
+use Rattle.layout.proofs.Steps.{PlainTurn, from, plain, by-same, first-same, then-done, then-stop, then-sure, last-sure, then-both, last-skip, skip-same, list-is, list-not, choice-is, choice-not, group-is, group-not, maybe-past, maybe-there, items-all, from-more, from-none, times-all, times-more, times-none, regroup, present-there, present-gone, present-not, operated-pipe, operated-gap, sure-then}
 use Rattle.layout.proofs.Knot.{past, beyond, at-key}
 use Rattle.leaves.proofs.Laws.{con-over, con-under}
 use borrow.Author.Needs.{needs}
@@ -36,7 +36,7 @@ same-length : tie.Need-same-length
 same-length c = c .before .before .before .before .dat-binds .kept .1 .1 .1 .1 .0 ∙ c .before .before .before .before .before .before .before .before .word .kept .1 .0
 
 returns : tie.Need-returns
-unfolding DecOne.DatDec
+unfolding DecOne.dec-one
 returns c = record { is = λ kinds m. then-sure (c .before .before .before .before .before .before .before .before .word .ensures) (then-stop (plain (c .before .before .before .before .dat-binds .ensures)) (c .enum-told .given .1)) }
 
 with-type-requires : tie.Need-with-type-requires
@@ -46,7 +46,7 @@ same-length-2 : tie.Need-same-length-2
 same-length-2 c = c .before .before .with-type .kept .1 .1 .1 .1 .0 ∙ c .before .before .before .before .before .before .before .before .before .dat-binds .kept .1 .1 .1 .1 .0 ∙ c .before .before .before .before .before .before .before .before .before .before .before .before .before .word .kept .1 .0
 
 returns-2 : tie.Need-returns-2
-unfolding DecOne.DatDec
+unfolding DecOne.dec-one
 returns-2 c = record { is = λ kinds m. then-sure (c .before .before .before .before .before .before .before .before .before .before .before .before .before .word .ensures) (then-done (plain (c .before .before .before .before .before .before .before .before .before .dat-binds .ensures)) (c .before .before .before .before .before .r2 .given .1) (plain (c .before .before .with-type .ensures))) }
 
 pub dat-dec-spec : {M : Type 1} → statement M

@@ -13,15 +13,15 @@ use Rattle.layout.specs.State.{cfgOf}
 use Rattle.layout.specs.Exp as Exp
 use Rattle.layout.specs.GetDec as GetDec
 use Rattle.layout.specs.DecOne as DecOne
-use Rattle.layout.proofs.Steps.{PlainTurn, from, plain, by-same, first-same, then-done, then-stop, then-sure, last-sure, then-both, then-write, last-write, last-skip, skip-same, list-is, list-not, choice-is, choice-not, group-is, group-not, maybe-past, maybe-there, optional-is, optional-no, optional-not, items-all, from-more, from-none, times-all, times-more, times-none, test-is}
+use Rattle.layout.proofs.Steps.{PlainTurn, from, plain, by-same, first-same, then-done, then-stop, then-sure, last-sure, then-both, last-skip, skip-same, list-is, list-not, choice-is, choice-not, group-is, group-not, maybe-past, maybe-there, items-all, from-more, from-none, times-all, times-more, times-none, regroup, present-there, present-gone, present-not, operated-pipe, operated-gap, sure-then}
 use Rattle.layout.proofs.Knot.{past, beyond, at-key}
 use Rattle.leaves.proofs.Laws.{con-over, con-under}
 use borrow.Author.Needs.{needs}
 use Rattle.leaves.proofs.item_semi.Statement.{statement}
 use Rattle.leaves.proofs.item_semi.Tie as tie
 
-optional-requires : tie.Need-optional-requires
-optional-requires c κs = search needs
+present-requires : tie.Need-present-requires
+present-requires c κs = search needs
 
 enum-known-given : tie.Need-enum-known-given
 enum-known-given c = search needs
@@ -42,22 +42,22 @@ same-length : tie.Need-same-length
 same-length c = c .before .before .word-when .kept .1 .0
 
 returns : tie.Need-returns
-unfolding Exp.item-semi Helpers.when-some
-returns c = record { is = λ kinds m. by-same (optional-is (c .before .before .before .before .before .before .before .optional .ensures) (c .before .before .before .before .before .given .given .1)) (last-sure (c .before .before .word-when .ensures)) }
+unfolding Exp.item-semi
+returns c = record { is = λ kinds m. by-same (present-there (c .before .before .before .before .before .before .before .present .ensures) (c .before .before .before .before .before .given .given .1)) (last-sure (c .before .before .word-when .ensures)) }
 
 returns-2 : tie.Need-returns-2
-unfolding Exp.item-semi Helpers.when-some
-returns-2 c = record { is = λ kinds m. by-same (optional-no (c .before .before .before .optional .ensures) (c .before .given2 .given .1)) last-skip }
+unfolding Exp.item-semi
+returns-2 c = record { is = λ kinds m. by-same (present-gone (c .before .before .before .present .ensures) (c .before .given2 .given .1)) last-skip }
 
 returns-3 : tie.Need-returns-3
-unfolding Exp.item-semi Helpers.when-some
-returns-3 c = record { is = λ kinds m. optional-not (c .stop .ensures) (c .before .before .before .optional .ensures) (c .before .enum-told .given .1) }
+unfolding Exp.item-semi
+returns-3 c = record { is = λ kinds m. present-not (c .stop .ensures) (c .before .before .before .present .ensures) (c .before .enum-told .given .1) }
 
 pub item-semi-spec : {M : Type 1} → statement M
 item-semi-spec =
     tie.close
     (tie.spec
-    optional-requires
+    present-requires
     enum-known-given
     word-when-requires
     enum-known-given-2

@@ -13,7 +13,7 @@ use Rattle.layout.specs.State.{cfgOf}
 use Rattle.layout.specs.Exp as Exp
 use Rattle.layout.specs.GetDec as GetDec
 use Rattle.layout.specs.DecOne as DecOne
-use Rattle.layout.proofs.Steps.{PlainTurn, from, plain, by-same, first-same, then-done, then-stop, then-sure, last-sure, then-both, then-write, last-write, last-skip, skip-same, list-is, list-not, choice-is, choice-not, group-is, group-not, maybe-past, maybe-there, optional-is, optional-no, optional-not, items-all, from-more, from-none, times-all, times-more, times-none, test-is}
+use Rattle.layout.proofs.Steps.{PlainTurn, from, plain, by-same, first-same, then-done, then-stop, then-sure, last-sure, then-both, last-skip, skip-same, list-is, list-not, choice-is, choice-not, group-is, group-not, maybe-past, maybe-there, items-all, from-more, from-none, times-all, times-more, times-none, regroup, present-there, present-gone, present-not, operated-pipe, operated-gap, sure-then}
 use Rattle.layout.proofs.Knot.{past, beyond, at-key}
 use Rattle.leaves.proofs.Laws.{con-over, con-under}
 use Rattle.leaves.proofs.open_dec.Statement.{statement}
@@ -45,7 +45,7 @@ same-length : tie.Need-same-length Inv-loop μ-loop
 same-length c = c .before .before .before .before .before .before .word .kept .1 .0
 
 returns : tie.Need-returns Inv-loop μ-loop
-unfolding DecOne.OpenDec Helpers.sep
+unfolding DecOne.dec-one Helpers.sep
 returns c = record { is = λ kinds m. then-sure (c .before .before .before .before .before .before .word .ensures) (list-not (c .stop .ensures) (c .before .before .before .list .ensures) (c .before .enum-told .given .1)) }
 
 loop-holds : tie.Need-loop-holds Inv-loop μ-loop
@@ -67,7 +67,7 @@ same-length-2 : tie.Need-same-length-2 Inv-loop μ-loop
 same-length-2 c = c .before .before .before .before .path .kept .1 .1 .1 .1 .0 ∙ c .before .before .before .before .before .before .before .before .between .kept .1 .0 ∙ c .before .before .before .before .before .before .before .before .before .before .before .loop .inv .2 ∙ c .before .before .before .before .before .before .before .before .before .before .before .before .before .before .before .before .before .before .word .kept .1 .0
 
 returns-2 : tie.Need-returns-2 Inv-loop μ-loop
-unfolding DecOne.OpenDec Helpers.sep
+unfolding DecOne.dec-one Helpers.sep
 returns-2 c = record { is = λ kinds m. then-sure (c .before .before .before .before .before .before .before .before .before .before .before .before .before .before .before .before .before .before .word .ensures) (by-same (list-is (c .before .before .before .before .before .before .before .before .before .before .before .before .before .before .before .list .ensures) (c .before .before .before .before .before .before .before .before .before .before .before .before .before .n .given .1)) (by-same (items-all _ _ _) (c .before .before .before .before .before .before .before .before .before .before .before .loop .inv .1 kinds m _ _ (from-more _ _ (c .before .before .before .before .before .before .before .before .before .before .loop-test .taken) (then-sure (c .before .before .before .before .before .before .before .before .between .ensures) (then-stop (plain (c .before .before .before .before .path .ensures)) (c .enum-told2 .given .1))))))) }
 
 add-i : tie.Need-add-i Inv-loop μ-loop
@@ -77,14 +77,14 @@ loop-less : tie.Need-loop-less Inv-loop μ-loop
 loop-less c = omega arith
 
 loop-again : tie.Need-loop-again Inv-loop μ-loop
-unfolding DecOne.OpenDec Helpers.sep
+unfolding DecOne.dec-one Helpers.sep
 loop-again c = (omega (arith, c .before .before .before .before .before .before .before .before .before .before .before .before .loop .inv .0), λ kinds m r o h. c .before .before .before .before .before .before .before .before .before .before .before .before .loop .inv .1 kinds m r o (from-more _ _ (c .before .before .before .before .before .before .before .before .before .before .before .loop-test .taken) (then-sure (c .before .before .before .before .before .before .before .before .before .between .ensures) (then-done (plain (c .before .before .before .before .before .path .ensures)) (c .before .r4 .given .1) h))), c .before .before .before .before .before .path .kept .1 .1 .1 .1 .0 ∙ c .before .before .before .before .before .before .before .before .before .between .kept .1 .0 ∙ c .before .before .before .before .before .before .before .before .before .before .before .before .loop .inv .2)
 
 same-length-3 : tie.Need-same-length-3 Inv-loop μ-loop
 same-length-3 c = c .before .loop .inv .2 ∙ c .before .before .before .before .before .before .before .before .word .kept .1 .0
 
 returns-3 : tie.Need-returns-3 Inv-loop μ-loop
-unfolding DecOne.OpenDec Helpers.sep
+unfolding DecOne.dec-one Helpers.sep
 returns-3 c = record { is = λ kinds m. then-sure (c .before .before .before .before .before .before .before .before .word .ensures) (by-same (list-is (c .before .before .before .before .before .list .ensures) (c .before .before .before .n .given .1)) (by-same (items-all _ _ _) (c .before .loop .inv .1 kinds m _ _ (from-none _ _ (c .loop-test .left))))) }
 
 pub open-dec-spec : {M : Type 1} → statement M

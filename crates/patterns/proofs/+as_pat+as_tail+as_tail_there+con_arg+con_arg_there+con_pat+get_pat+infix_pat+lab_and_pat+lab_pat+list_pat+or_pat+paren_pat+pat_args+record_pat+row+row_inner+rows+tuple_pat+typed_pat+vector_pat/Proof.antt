@@ -310,7 +310,7 @@ abbrev vector-pat-below : ℕ → In 5 vector-pat-kinds.ps
 vector-pat-below t =
     and 5 vector-pat-kinds.ps (falls 5 vector-pat-kinds.ps _<_ μ-vector-pat t) vector-pat.Pre
 
--- src/lib.rt:428:9
+-- src/lib.rt:429:9
 as-pat-get-pat-requires : (t : ℕ) → as-pat-lts.Need-get-pat-requires (
   get-pat-below t,
   get-pat.Post,
@@ -321,7 +321,7 @@ as-pat-get-pat-requires : (t : ℕ) → as-pat-lts.Need-get-pat-requires (
 ) (as-pat-at t) as-pat.Post
 as-pat-get-pat-requires t c κs = omega (arith, c .before .before .before .before .before .before .pre .0)
 
--- src/lib.rt:429:22
+-- src/lib.rt:430:22
 as-pat-enum-known-r1 : (t : ℕ) → as-pat-lts.Need-enum-known-r1 (
   get-pat-below t,
   get-pat.Post,
@@ -332,7 +332,7 @@ as-pat-enum-known-r1 : (t : ℕ) → as-pat-lts.Need-enum-known-r1 (
 ) (as-pat-at t) as-pat.Post
 as-pat-enum-known-r1 t c = search needs
 
--- src/lib.rt:430:9
+-- src/lib.rt:431:9
 as-pat-enum-told : (t : ℕ) → as-pat-lts.Need-enum-told (
   get-pat-below t,
   get-pat.Post,
@@ -343,7 +343,7 @@ as-pat-enum-told : (t : ℕ) → as-pat-lts.Need-enum-told (
 ) (as-pat-at t) as-pat.Post
 as-pat-enum-told t c = search needs
 
--- src/lib.rt:430:9
+-- src/lib.rt:431:9
 as-pat-same-length : (t : ℕ) → as-pat-lts.Need-same-length (
   get-pat-below t,
   get-pat.Post,
@@ -354,7 +354,7 @@ as-pat-same-length : (t : ℕ) → as-pat-lts.Need-same-length (
 ) (as-pat-at t) as-pat.Post
 as-pat-same-length t c = c .before .before .before .before .get-pat .kept .1 .1 .1 .1 .0
 
--- src/lib.rt:430:9
+-- src/lib.rt:431:9
 as-pat-returns : (t : ℕ) → as-pat-lts.Need-returns (
   get-pat-below t,
   get-pat.Post,
@@ -363,10 +363,10 @@ as-pat-returns : (t : ℕ) → as-pat-lts.Need-returns (
   group-reads.Asked,
   group-reads.Learnt,
 ) (as-pat-at t) as-pat.Post
-unfolding Pat.AsPat
+unfolding Pat.pat
 as-pat-returns t c = record { is = λ kinds m. then-stop (plain (c .before .before .before .before .get-pat .ensures)) (c .enum-told .given .1) }
 
--- src/lib.rt:432:9
+-- src/lib.rt:433:9
 as-pat-word-requires : (t : ℕ) → as-pat-lts.Need-word-requires (
   get-pat-below t,
   get-pat.Post,
@@ -377,7 +377,7 @@ as-pat-word-requires : (t : ℕ) → as-pat-lts.Need-word-requires (
 ) (as-pat-at t) as-pat.Post
 as-pat-word-requires t c κs = search needs
 
--- src/lib.rt:433:9
+-- src/lib.rt:434:9
 as-pat-group-requires : (t : ℕ) → as-pat-lts.Need-group-requires (
   get-pat-below t,
   get-pat.Post,
@@ -388,7 +388,7 @@ as-pat-group-requires : (t : ℕ) → as-pat-lts.Need-group-requires (
 ) (as-pat-at t) as-pat.Post
 as-pat-group-requires t c κs = search needs
 
--- src/lib.rt:434:22
+-- src/lib.rt:435:22
 as-pat-enum-known-r3 : (t : ℕ) → as-pat-lts.Need-enum-known-r3 (
   get-pat-below t,
   get-pat.Post,
@@ -399,7 +399,7 @@ as-pat-enum-known-r3 : (t : ℕ) → as-pat-lts.Need-enum-known-r3 (
 ) (as-pat-at t) as-pat.Post
 as-pat-enum-known-r3 t c = search needs
 
--- src/lib.rt:435:9
+-- src/lib.rt:436:9
 as-pat-enum-told-2 : (t : ℕ) → as-pat-lts.Need-enum-told-2 (
   get-pat-below t,
   get-pat.Post,
@@ -410,7 +410,7 @@ as-pat-enum-told-2 : (t : ℕ) → as-pat-lts.Need-enum-told-2 (
 ) (as-pat-at t) as-pat.Post
 as-pat-enum-told-2 t c = search needs
 
--- src/lib.rt:435:9
+-- src/lib.rt:436:9
 as-pat-same-length-2 : (t : ℕ) → as-pat-lts.Need-same-length-2 (
   get-pat-below t,
   get-pat.Post,
@@ -421,7 +421,7 @@ as-pat-same-length-2 : (t : ℕ) → as-pat-lts.Need-same-length-2 (
 ) (as-pat-at t) as-pat.Post
 as-pat-same-length-2 t c = c .before .before .before .before .before .word .kept .1 .0 ∙ c .before .before .before .before .before .before .before .before .before .before .before .before .get-pat .kept .1 .1 .1 .1 .0
 
--- src/lib.rt:435:9
+-- src/lib.rt:436:9
 as-pat-returns-2 : (t : ℕ) → as-pat-lts.Need-returns-2 (
   get-pat-below t,
   get-pat.Post,
@@ -430,10 +430,10 @@ as-pat-returns-2 : (t : ℕ) → as-pat-lts.Need-returns-2 (
   group-reads.Asked,
   group-reads.Learnt,
 ) (as-pat-at t) as-pat.Post
-unfolding Pat.AsPat
+unfolding Pat.pat
 as-pat-returns-2 t c = record { is = λ kinds m. then-done (plain (c .before .before .before .before .before .before .before .before .before .before .before .before .get-pat .ensures)) (c .before .before .before .before .before .before .before .before .r1 .given .1) (then-sure (c .before .before .before .before .before .word .ensures) (group-not (c .before .before .group .ensures) (c .enum-told2 .given .1))) }
 
--- src/lib.rt:437:5
+-- src/lib.rt:438:5
 as-pat-get-pat-requires-2 : (t : ℕ) → as-pat-lts.Need-get-pat-requires-2 (
   get-pat-below t,
   get-pat.Post,
@@ -444,7 +444,7 @@ as-pat-get-pat-requires-2 : (t : ℕ) → as-pat-lts.Need-get-pat-requires-2 (
 ) (as-pat-at t) as-pat.Post
 as-pat-get-pat-requires-2 t c κs = omega (arith, c .before .before .before .before .before .before .before .before .before .before .before .before .before .before .before .before .before .before .before .before .before .pre .0)
 
--- src/lib.rt:417:1
+-- src/lib.rt:418:1
 as-pat-same-length-3 : (t : ℕ) → as-pat-lts.Need-same-length-3 (
   get-pat-below t,
   get-pat.Post,
@@ -455,7 +455,7 @@ as-pat-same-length-3 : (t : ℕ) → as-pat-lts.Need-same-length-3 (
 ) (as-pat-at t) as-pat.Post
 as-pat-same-length-3 t c = c .before .before .get-pat2 .kept .1 .1 .1 .1 .0 ∙ c .before .before .before .before .before .before .before .before .before .before .word .kept .1 .0 ∙ c .before .before .before .before .before .before .before .before .before .before .before .before .before .before .before .before .before .get-pat .kept .1 .1 .1 .1 .0
 
--- src/lib.rt:417:1
+-- src/lib.rt:418:1
 as-pat-returns-3 : (t : ℕ) → as-pat-lts.Need-returns-3 (
   get-pat-below t,
   get-pat.Post,
@@ -464,10 +464,10 @@ as-pat-returns-3 : (t : ℕ) → as-pat-lts.Need-returns-3 (
   group-reads.Asked,
   group-reads.Learnt,
 ) (as-pat-at t) as-pat.Post
-unfolding Pat.AsPat
+unfolding Pat.pat
 as-pat-returns-3 t c = record { is = λ kinds m. then-done (plain (c .before .before .before .before .before .before .before .before .before .before .before .before .before .before .before .before .before .get-pat .ensures)) (c .before .before .before .before .before .before .before .before .before .before .before .before .before .r1 .given .1) (then-sure (c .before .before .before .before .before .before .before .before .before .before .word .ensures) (by-same (group-is (c .before .before .before .before .before .before .before .group .ensures) (c .before .before .before .before .before .r3 .given .1)) (plain (c .before .before .get-pat2 .ensures)))) }
 
--- src/lib.rt:132:9
+-- src/lib.rt:133:9
 as-tail-absent-requires : (t : ℕ) → as-tail-lts.Need-absent-requires (
   absent-reads.Asked,
   absent-reads.Learnt,
@@ -476,7 +476,7 @@ as-tail-absent-requires : (t : ℕ) → as-tail-lts.Need-absent-requires (
 ) (as-tail-at t) as-tail.Post
 as-tail-absent-requires t c κs = search needs
 
--- src/lib.rt:134:20
+-- src/lib.rt:135:20
 as-tail-enum-known-gone : (t : ℕ) → as-tail-lts.Need-enum-known-gone (
   absent-reads.Asked,
   absent-reads.Learnt,
@@ -485,7 +485,7 @@ as-tail-enum-known-gone : (t : ℕ) → as-tail-lts.Need-enum-known-gone (
 ) (as-tail-at t) as-tail.Post
 as-tail-enum-known-gone t c = search needs
 
--- src/lib.rt:135:63
+-- src/lib.rt:136:63
 as-tail-enum-told : (t : ℕ) → as-tail-lts.Need-enum-told (
   absent-reads.Asked,
   absent-reads.Learnt,
@@ -494,7 +494,7 @@ as-tail-enum-told : (t : ℕ) → as-tail-lts.Need-enum-told (
 ) (as-tail-at t) as-tail.Post
 as-tail-enum-told t c = search needs
 
--- src/lib.rt:135:24
+-- src/lib.rt:136:24
 as-tail-as-tail-there-requires : (t : ℕ) → as-tail-lts.Need-as-tail-there-requires (
   absent-reads.Asked,
   absent-reads.Learnt,
@@ -503,7 +503,7 @@ as-tail-as-tail-there-requires : (t : ℕ) → as-tail-lts.Need-as-tail-there-re
 ) (as-tail-at t) as-tail.Post
 as-tail-as-tail-there-requires t c κs = omega (arith, c .before .before .before .before .before .before .before .before .before .pre .0)
 
--- src/lib.rt:121:1
+-- src/lib.rt:122:1
 as-tail-returns : (t : ℕ) → as-tail-lts.Need-returns (
   absent-reads.Asked,
   absent-reads.Learnt,
@@ -513,7 +513,7 @@ as-tail-returns : (t : ℕ) → as-tail-lts.Need-returns (
 unfolding Pat.as-tail
 as-tail-returns t c = record { is = λ kinds m. maybe-past (c .before .before .before .absent .ensures) (c .before .gone .given .1) }
 
--- src/lib.rt:121:1
+-- src/lib.rt:122:1
 as-tail-same-length : (t : ℕ) → as-tail-lts.Need-same-length (
   absent-reads.Asked,
   absent-reads.Learnt,
@@ -522,7 +522,7 @@ as-tail-same-length : (t : ℕ) → as-tail-lts.Need-same-length (
 ) (as-tail-at t) as-tail.Post
 as-tail-same-length t c = c .before .before .as-tail-there .kept .1 .1 .1 .1 .0
 
--- src/lib.rt:121:1
+-- src/lib.rt:122:1
 as-tail-returns-2 : (t : ℕ) → as-tail-lts.Need-returns-2 (
   absent-reads.Asked,
   absent-reads.Learnt,
@@ -532,7 +532,7 @@ as-tail-returns-2 : (t : ℕ) → as-tail-lts.Need-returns-2 (
 unfolding Pat.as-tail
 as-tail-returns-2 t c = record { is = λ kinds m. by-same (maybe-there (c .before .before .before .before .before .before .absent .ensures) (c .before .before .before .before .enum-told .given .1)) (plain (c .before .before .as-tail-there .ensures)) }
 
--- src/lib.rt:112:9
+-- src/lib.rt:113:9
 as-tail-there-group-requires : (t : ℕ) → as-tail-there-lts.Need-group-requires (
   group-reads.Asked,
   group-reads.Learnt,
@@ -543,7 +543,7 @@ as-tail-there-group-requires : (t : ℕ) → as-tail-there-lts.Need-group-requir
 ) (as-tail-there-at t) as-tail-there.Post
 as-tail-there-group-requires t c κs = search needs
 
--- src/lib.rt:113:22
+-- src/lib.rt:114:22
 as-tail-there-enum-known-r1 : (t : ℕ) → as-tail-there-lts.Need-enum-known-r1 (
   group-reads.Asked,
   group-reads.Learnt,
@@ -554,7 +554,7 @@ as-tail-there-enum-known-r1 : (t : ℕ) → as-tail-there-lts.Need-enum-known-r1
 ) (as-tail-there-at t) as-tail-there.Post
 as-tail-there-enum-known-r1 t c = search needs
 
--- src/lib.rt:114:9
+-- src/lib.rt:115:9
 as-tail-there-enum-told : (t : ℕ) → as-tail-there-lts.Need-enum-told (
   group-reads.Asked,
   group-reads.Learnt,
@@ -565,7 +565,7 @@ as-tail-there-enum-told : (t : ℕ) → as-tail-there-lts.Need-enum-told (
 ) (as-tail-there-at t) as-tail-there.Post
 as-tail-there-enum-told t c = search needs
 
--- src/lib.rt:114:9
+-- src/lib.rt:115:9
 as-tail-there-returns : (t : ℕ) → as-tail-there-lts.Need-returns (
   group-reads.Asked,
   group-reads.Learnt,
@@ -577,7 +577,7 @@ as-tail-there-returns : (t : ℕ) → as-tail-there-lts.Need-returns (
 unfolding Pat.as-tail-there
 as-tail-there-returns t c = record { is = λ kinds m. group-not (c .before .before .group .ensures) (c .enum-told .given .1) }
 
--- src/lib.rt:116:9
+-- src/lib.rt:117:9
 as-tail-there-word-requires : (t : ℕ) → as-tail-there-lts.Need-word-requires (
   group-reads.Asked,
   group-reads.Learnt,
@@ -588,7 +588,7 @@ as-tail-there-word-requires : (t : ℕ) → as-tail-there-lts.Need-word-requires
 ) (as-tail-there-at t) as-tail-there.Post
 as-tail-there-word-requires t c κs = search needs
 
--- src/lib.rt:117:5
+-- src/lib.rt:118:5
 as-tail-there-get-pat-requires : (t : ℕ) → as-tail-there-lts.Need-get-pat-requires (
   group-reads.Asked,
   group-reads.Learnt,
@@ -599,7 +599,7 @@ as-tail-there-get-pat-requires : (t : ℕ) → as-tail-there-lts.Need-get-pat-re
 ) (as-tail-there-at t) as-tail-there.Post
 as-tail-there-get-pat-requires t c κs = omega (arith, c .before .before .before .before .before .before .before .before .before .before .before .before .before .before .pre .0)
 
--- src/lib.rt:101:1
+-- src/lib.rt:102:1
 as-tail-there-same-length : (t : ℕ) → as-tail-there-lts.Need-same-length (
   group-reads.Asked,
   group-reads.Learnt,
@@ -610,7 +610,7 @@ as-tail-there-same-length : (t : ℕ) → as-tail-there-lts.Need-same-length (
 ) (as-tail-there-at t) as-tail-there.Post
 as-tail-there-same-length t c = c .before .before .get-pat .kept .1 .1 .1 .1 .0 ∙ c .before .before .before .before .before .before .word .kept .1 .0
 
--- src/lib.rt:101:1
+-- src/lib.rt:102:1
 as-tail-there-returns-2 : (t : ℕ) → as-tail-there-lts.Need-returns-2 (
   group-reads.Asked,
   group-reads.Learnt,
@@ -622,7 +622,7 @@ as-tail-there-returns-2 : (t : ℕ) → as-tail-there-lts.Need-returns-2 (
 unfolding Pat.as-tail-there
 as-tail-there-returns-2 t c = record { is = λ kinds m. by-same (group-is (c .before .before .before .before .before .before .before .before .before .before .before .group .ensures) (c .before .before .before .before .before .before .before .before .before .r1 .given .1)) (then-sure (c .before .before .before .before .before .before .word .ensures) (plain (c .before .before .get-pat .ensures))) }
 
--- src/lib.rt:54:9
+-- src/lib.rt:55:9
 con-arg-absent-requires : (t : ℕ) → con-arg-lts.Need-absent-requires (
   absent-reads.Asked,
   absent-reads.Learnt,
@@ -631,7 +631,7 @@ con-arg-absent-requires : (t : ℕ) → con-arg-lts.Need-absent-requires (
 ) (con-arg-at t) con-arg.Post
 con-arg-absent-requires t c κs = search needs
 
--- src/lib.rt:56:20
+-- src/lib.rt:57:20
 con-arg-enum-known-gone : (t : ℕ) → con-arg-lts.Need-enum-known-gone (
   absent-reads.Asked,
   absent-reads.Learnt,
@@ -640,7 +640,7 @@ con-arg-enum-known-gone : (t : ℕ) → con-arg-lts.Need-enum-known-gone (
 ) (con-arg-at t) con-arg.Post
 con-arg-enum-known-gone t c = search needs
 
--- src/lib.rt:57:63
+-- src/lib.rt:58:63
 con-arg-enum-told : (t : ℕ) → con-arg-lts.Need-enum-told (
   absent-reads.Asked,
   absent-reads.Learnt,
@@ -649,7 +649,7 @@ con-arg-enum-told : (t : ℕ) → con-arg-lts.Need-enum-told (
 ) (con-arg-at t) con-arg.Post
 con-arg-enum-told t c = search needs
 
--- src/lib.rt:57:24
+-- src/lib.rt:58:24
 con-arg-con-arg-there-requires : (t : ℕ) → con-arg-lts.Need-con-arg-there-requires (
   absent-reads.Asked,
   absent-reads.Learnt,
@@ -658,7 +658,7 @@ con-arg-con-arg-there-requires : (t : ℕ) → con-arg-lts.Need-con-arg-there-re
 ) (con-arg-at t) con-arg.Post
 con-arg-con-arg-there-requires t c κs = omega (arith, c .before .before .before .before .before .before .before .before .before .pre .0)
 
--- src/lib.rt:43:1
+-- src/lib.rt:44:1
 con-arg-returns : (t : ℕ) → con-arg-lts.Need-returns (
   absent-reads.Asked,
   absent-reads.Learnt,
@@ -668,7 +668,7 @@ con-arg-returns : (t : ℕ) → con-arg-lts.Need-returns (
 unfolding Pat.con-arg
 con-arg-returns t c = record { is = λ kinds m. maybe-past (c .before .before .before .absent .ensures) (c .before .gone .given .1) }
 
--- src/lib.rt:43:1
+-- src/lib.rt:44:1
 con-arg-same-length : (t : ℕ) → con-arg-lts.Need-same-length (
   absent-reads.Asked,
   absent-reads.Learnt,
@@ -677,7 +677,7 @@ con-arg-same-length : (t : ℕ) → con-arg-lts.Need-same-length (
 ) (con-arg-at t) con-arg.Post
 con-arg-same-length t c = c .before .before .con-arg-there .kept .1 .1 .1 .1 .0
 
--- src/lib.rt:43:1
+-- src/lib.rt:44:1
 con-arg-returns-2 : (t : ℕ) → con-arg-lts.Need-returns-2 (
   absent-reads.Asked,
   absent-reads.Learnt,
@@ -687,7 +687,7 @@ con-arg-returns-2 : (t : ℕ) → con-arg-lts.Need-returns-2 (
 unfolding Pat.con-arg
 con-arg-returns-2 t c = record { is = λ kinds m. by-same (maybe-there (c .before .before .before .before .before .before .absent .ensures) (c .before .before .before .before .enum-told .given .1)) (plain (c .before .before .con-arg-there .ensures)) }
 
--- src/lib.rt:38:9
+-- src/lib.rt:39:9
 con-arg-there-word-requires : (t : ℕ) → con-arg-there-lts.Need-word-requires (
   word-reads.Asked,
   word-reads.Learnt,
@@ -696,7 +696,7 @@ con-arg-there-word-requires : (t : ℕ) → con-arg-there-lts.Need-word-requires
 ) (con-arg-there-at t) con-arg-there.Post
 con-arg-there-word-requires t c κs = search needs
 
--- src/lib.rt:39:5
+-- src/lib.rt:40:5
 con-arg-there-get-pat-requires : (t : ℕ) → con-arg-there-lts.Need-get-pat-requires (
   word-reads.Asked,
   word-reads.Learnt,
@@ -705,7 +705,7 @@ con-arg-there-get-pat-requires : (t : ℕ) → con-arg-there-lts.Need-get-pat-re
 ) (con-arg-there-at t) con-arg-there.Post
 con-arg-there-get-pat-requires t c κs = omega (arith, c .before .before .before .before .before .before .before .before .before .before .pre .0)
 
--- src/lib.rt:27:1
+-- src/lib.rt:28:1
 con-arg-there-same-length : (t : ℕ) → con-arg-there-lts.Need-same-length (
   word-reads.Asked,
   word-reads.Learnt,
@@ -714,7 +714,7 @@ con-arg-there-same-length : (t : ℕ) → con-arg-there-lts.Need-same-length (
 ) (con-arg-there-at t) con-arg-there.Post
 con-arg-there-same-length t c = c .before .before .get-pat .kept .1 .1 .1 .1 .0 ∙ c .before .before .before .before .before .before .word .kept .1 .0
 
--- src/lib.rt:27:1
+-- src/lib.rt:28:1
 con-arg-there-returns : (t : ℕ) → con-arg-there-lts.Need-returns (
   word-reads.Asked,
   word-reads.Learnt,
@@ -724,7 +724,7 @@ con-arg-there-returns : (t : ℕ) → con-arg-there-lts.Need-returns (
 unfolding Pat.con-arg-there
 con-arg-there-returns t c = record { is = λ kinds m. then-sure (c .before .before .before .before .before .before .word .ensures) (plain (c .before .before .get-pat .ensures)) }
 
--- src/lib.rt:73:9
+-- src/lib.rt:74:9
 con-pat-op-path-requires : (t : ℕ) → con-pat-lts.Need-op-path-requires (
   op-path-reads.Asked,
   op-path-reads.Learnt,
@@ -733,7 +733,7 @@ con-pat-op-path-requires : (t : ℕ) → con-pat-lts.Need-op-path-requires (
 ) (con-pat-at t) con-pat.Post
 con-pat-op-path-requires t c κs = search needs
 
--- src/lib.rt:74:22
+-- src/lib.rt:75:22
 con-pat-enum-known-r1 : (t : ℕ) → con-pat-lts.Need-enum-known-r1 (
   op-path-reads.Asked,
   op-path-reads.Learnt,
@@ -742,7 +742,7 @@ con-pat-enum-known-r1 : (t : ℕ) → con-pat-lts.Need-enum-known-r1 (
 ) (con-pat-at t) con-pat.Post
 con-pat-enum-known-r1 t c = search needs
 
--- src/lib.rt:75:9
+-- src/lib.rt:76:9
 con-pat-enum-told : (t : ℕ) → con-pat-lts.Need-enum-told (
   op-path-reads.Asked,
   op-path-reads.Learnt,
@@ -751,7 +751,7 @@ con-pat-enum-told : (t : ℕ) → con-pat-lts.Need-enum-told (
 ) (con-pat-at t) con-pat.Post
 con-pat-enum-told t c = search needs
 
--- src/lib.rt:75:9
+-- src/lib.rt:76:9
 con-pat-same-length : (t : ℕ) → con-pat-lts.Need-same-length (
   op-path-reads.Asked,
   op-path-reads.Learnt,
@@ -760,17 +760,17 @@ con-pat-same-length : (t : ℕ) → con-pat-lts.Need-same-length (
 ) (con-pat-at t) con-pat.Post
 con-pat-same-length t c = c .before .before .before .before .op-path .kept .1 .1 .1 .1 .0
 
--- src/lib.rt:75:9
+-- src/lib.rt:76:9
 con-pat-returns : (t : ℕ) → con-pat-lts.Need-returns (
   op-path-reads.Asked,
   op-path-reads.Learnt,
   con-arg-below t,
   con-arg.Post,
 ) (con-pat-at t) con-pat.Post
-unfolding Pat.ConPat
+unfolding Pat.pat
 con-pat-returns t c = record { is = λ kinds m. then-stop (plain (c .before .before .before .before .op-path .ensures)) (c .enum-told .given .1) }
 
--- src/lib.rt:77:5
+-- src/lib.rt:78:5
 con-pat-con-arg-requires : (t : ℕ) → con-pat-lts.Need-con-arg-requires (
   op-path-reads.Asked,
   op-path-reads.Learnt,
@@ -779,7 +779,7 @@ con-pat-con-arg-requires : (t : ℕ) → con-pat-lts.Need-con-arg-requires (
 ) (con-pat-at t) con-pat.Post
 con-pat-con-arg-requires t c κs = omega (arith, c .before .before .before .before .before .before .before .before .before .before .before .before .before .pre .0)
 
--- src/lib.rt:62:1
+-- src/lib.rt:63:1
 con-pat-same-length-2 : (t : ℕ) → con-pat-lts.Need-same-length-2 (
   op-path-reads.Asked,
   op-path-reads.Learnt,
@@ -788,17 +788,17 @@ con-pat-same-length-2 : (t : ℕ) → con-pat-lts.Need-same-length-2 (
 ) (con-pat-at t) con-pat.Post
 con-pat-same-length-2 t c = c .before .before .con-arg .kept .1 .1 .1 .1 .0 ∙ c .before .before .before .before .before .before .before .before .before .op-path .kept .1 .1 .1 .1 .0
 
--- src/lib.rt:62:1
+-- src/lib.rt:63:1
 con-pat-returns-2 : (t : ℕ) → con-pat-lts.Need-returns-2 (
   op-path-reads.Asked,
   op-path-reads.Learnt,
   con-arg-below t,
   con-arg.Post,
 ) (con-pat-at t) con-pat.Post
-unfolding Pat.ConPat
+unfolding Pat.pat
 con-pat-returns-2 t c = record { is = λ kinds m. then-done (plain (c .before .before .before .before .before .before .before .before .before .op-path .ensures)) (c .before .before .before .before .before .r1 .given .1) (plain (c .before .before .con-arg .ensures)) }
 
--- src/lib.rt:474:9
+-- src/lib.rt:475:9
 get-pat-stop-requires : (t : ℕ) → get-pat-lts.Need-stop-requires (
   stop-reads.Asked,
   stop-reads.Learnt,
@@ -831,7 +831,7 @@ get-pat-stop-requires : (t : ℕ) → get-pat-lts.Need-stop-requires (
 ) (get-pat-at t) get-pat.Post
 get-pat-stop-requires t c κs = search needs
 
--- src/lib.rt:474:9
+-- src/lib.rt:475:9
 get-pat-returns : (t : ℕ) → get-pat-lts.Need-returns (
   stop-reads.Asked,
   stop-reads.Learnt,
@@ -862,10 +862,10 @@ get-pat-returns : (t : ℕ) → get-pat-lts.Need-returns (
   or-pat-below t,
   or-pat.Post,
 ) (get-pat-at t) get-pat.Post
-unfolding Pat.pats Pat.WildcardPat Pat.SConPat
+unfolding Pat.pats Pat.pat
 get-pat-returns t c = record { is = λ kinds m. pat-zero _ (c .before .if1 .taken) (c .stop .ensures) }
 
--- src/lib.rt:476:26
+-- src/lib.rt:477:26
 get-pat-form-requires : (t : ℕ) → get-pat-lts.Need-form-requires (
   stop-reads.Asked,
   stop-reads.Learnt,
@@ -898,7 +898,7 @@ get-pat-form-requires : (t : ℕ) → get-pat-lts.Need-form-requires (
 ) (get-pat-at t) get-pat.Post
 get-pat-form-requires t c κs = search needs
 
--- src/lib.rt:476:18
+-- src/lib.rt:477:18
 get-pat-enum-known-k : (t : ℕ) → get-pat-lts.Need-enum-known-k (
   stop-reads.Asked,
   stop-reads.Learnt,
@@ -931,7 +931,7 @@ get-pat-enum-known-k : (t : ℕ) → get-pat-lts.Need-enum-known-k (
 ) (get-pat-at t) get-pat.Post
 get-pat-enum-known-k t c = search needs
 
--- src/lib.rt:477:9
+-- src/lib.rt:478:9
 get-pat-enum-told : (t : ℕ) → get-pat-lts.Need-enum-told (
   stop-reads.Asked,
   stop-reads.Learnt,
@@ -964,7 +964,7 @@ get-pat-enum-told : (t : ℕ) → get-pat-lts.Need-enum-told (
 ) (get-pat-at t) get-pat.Post
 get-pat-enum-told t c = search needs
 
--- src/lib.rt:477:9
+-- src/lib.rt:478:9
 get-pat-stop-requires-2 : (t : ℕ) → get-pat-lts.Need-stop-requires-2 (
   stop-reads.Asked,
   stop-reads.Learnt,
@@ -997,7 +997,7 @@ get-pat-stop-requires-2 : (t : ℕ) → get-pat-lts.Need-stop-requires-2 (
 ) (get-pat-at t) get-pat.Post
 get-pat-stop-requires-2 t c κs = search needs
 
--- src/lib.rt:477:9
+-- src/lib.rt:478:9
 get-pat-returns-2 : (t : ℕ) → get-pat-lts.Need-returns-2 (
   stop-reads.Asked,
   stop-reads.Learnt,
@@ -1028,10 +1028,10 @@ get-pat-returns-2 : (t : ℕ) → get-pat-lts.Need-returns-2 (
   or-pat-below t,
   or-pat.Post,
 ) (get-pat-at t) get-pat.Post
-unfolding Pat.pats Pat.WildcardPat Pat.SConPat
+unfolding Pat.pats Pat.pat
 get-pat-returns-2 t c = record { is = λ kinds m. pat-form _ (c .before .before .before .before .if1 .left) (form-not (c .stop2 .ensures) (c .before .before .before .form .ensures) (c .before .enum-told .given .1)) }
 
--- src/lib.rt:483:15
+-- src/lib.rt:484:15
 get-pat-sub-t15 : (t : ℕ) → get-pat-lts.Need-sub-t15 (
   stop-reads.Asked,
   stop-reads.Learnt,
@@ -1064,7 +1064,7 @@ get-pat-sub-t15 : (t : ℕ) → get-pat-lts.Need-sub-t15 (
 ) (get-pat-at t) get-pat.Post
 get-pat-sub-t15 t c = search needs
 
--- src/lib.rt:486:27
+-- src/lib.rt:487:27
 get-pat-word-requires : (t : ℕ) → get-pat-lts.Need-word-requires (
   stop-reads.Asked,
   stop-reads.Learnt,
@@ -1097,7 +1097,7 @@ get-pat-word-requires : (t : ℕ) → get-pat-lts.Need-word-requires (
 ) (get-pat-at t) get-pat.Post
 get-pat-word-requires t c κs = search needs
 
--- src/lib.rt:487:14
+-- src/lib.rt:488:14
 get-pat-text-of-requires : (t : ℕ) → get-pat-lts.Need-text-of-requires (
   stop-reads.Asked,
   stop-reads.Learnt,
@@ -1130,7 +1130,7 @@ get-pat-text-of-requires : (t : ℕ) → get-pat-lts.Need-text-of-requires (
 ) (get-pat-at t) get-pat.Post
 get-pat-text-of-requires t c κs = search needs
 
--- src/lib.rt:488:14
+-- src/lib.rt:489:14
 get-pat-con-pat-requires : (t : ℕ) → get-pat-lts.Need-con-pat-requires (
   stop-reads.Asked,
   stop-reads.Learnt,
@@ -1163,7 +1163,7 @@ get-pat-con-pat-requires : (t : ℕ) → get-pat-lts.Need-con-pat-requires (
 ) (get-pat-at t) get-pat.Post
 get-pat-con-pat-requires t c κs = omega (arith, c .before .before .before .before .before .before .before .before .before .before .before .before .pre .0, c .before .before .before .before .before .before .if1 .left)
 
--- src/lib.rt:489:14
+-- src/lib.rt:490:14
 get-pat-record-pat-requires : (t : ℕ) → get-pat-lts.Need-record-pat-requires (
   stop-reads.Asked,
   stop-reads.Learnt,
@@ -1196,7 +1196,7 @@ get-pat-record-pat-requires : (t : ℕ) → get-pat-lts.Need-record-pat-requires
 ) (get-pat-at t) get-pat.Post
 get-pat-record-pat-requires t c κs = omega (arith, c .before .before .before .before .before .before .before .before .before .before .before .before .pre .0, c .before .before .before .before .before .before .if1 .left)
 
--- src/lib.rt:490:14
+-- src/lib.rt:491:14
 get-pat-paren-pat-requires : (t : ℕ) → get-pat-lts.Need-paren-pat-requires (
   stop-reads.Asked,
   stop-reads.Learnt,
@@ -1229,7 +1229,7 @@ get-pat-paren-pat-requires : (t : ℕ) → get-pat-lts.Need-paren-pat-requires (
 ) (get-pat-at t) get-pat.Post
 get-pat-paren-pat-requires t c κs = omega (arith, c .before .before .before .before .before .before .before .before .before .before .before .before .pre .0, c .before .before .before .before .before .before .if1 .left)
 
--- src/lib.rt:491:14
+-- src/lib.rt:492:14
 get-pat-tuple-pat-requires : (t : ℕ) → get-pat-lts.Need-tuple-pat-requires (
   stop-reads.Asked,
   stop-reads.Learnt,
@@ -1262,7 +1262,7 @@ get-pat-tuple-pat-requires : (t : ℕ) → get-pat-lts.Need-tuple-pat-requires (
 ) (get-pat-at t) get-pat.Post
 get-pat-tuple-pat-requires t c κs = omega (arith, c .before .before .before .before .before .before .before .before .before .before .before .before .pre .0, c .before .before .before .before .before .before .if1 .left)
 
--- src/lib.rt:492:14
+-- src/lib.rt:493:14
 get-pat-list-pat-requires : (t : ℕ) → get-pat-lts.Need-list-pat-requires (
   stop-reads.Asked,
   stop-reads.Learnt,
@@ -1295,7 +1295,7 @@ get-pat-list-pat-requires : (t : ℕ) → get-pat-lts.Need-list-pat-requires (
 ) (get-pat-at t) get-pat.Post
 get-pat-list-pat-requires t c κs = omega (arith, c .before .before .before .before .before .before .before .before .before .before .before .before .pre .0, c .before .before .before .before .before .before .if1 .left)
 
--- src/lib.rt:493:14
+-- src/lib.rt:494:14
 get-pat-vector-pat-requires : (t : ℕ) → get-pat-lts.Need-vector-pat-requires (
   stop-reads.Asked,
   stop-reads.Learnt,
@@ -1328,7 +1328,7 @@ get-pat-vector-pat-requires : (t : ℕ) → get-pat-lts.Need-vector-pat-requires
 ) (get-pat-at t) get-pat.Post
 get-pat-vector-pat-requires t c κs = omega (arith, c .before .before .before .before .before .before .before .before .before .before .before .before .pre .0, c .before .before .before .before .before .before .if1 .left)
 
--- src/lib.rt:494:14
+-- src/lib.rt:495:14
 get-pat-infix-pat-requires : (t : ℕ) → get-pat-lts.Need-infix-pat-requires (
   stop-reads.Asked,
   stop-reads.Learnt,
@@ -1361,7 +1361,7 @@ get-pat-infix-pat-requires : (t : ℕ) → get-pat-lts.Need-infix-pat-requires (
 ) (get-pat-at t) get-pat.Post
 get-pat-infix-pat-requires t c κs = omega (arith, c .before .before .before .before .before .before .before .before .before .before .before .before .pre .0, c .before .before .before .before .before .before .if1 .left)
 
--- src/lib.rt:495:14
+-- src/lib.rt:496:14
 get-pat-typed-pat-requires : (t : ℕ) → get-pat-lts.Need-typed-pat-requires (
   stop-reads.Asked,
   stop-reads.Learnt,
@@ -1394,7 +1394,7 @@ get-pat-typed-pat-requires : (t : ℕ) → get-pat-lts.Need-typed-pat-requires (
 ) (get-pat-at t) get-pat.Post
 get-pat-typed-pat-requires t c κs = omega (arith, c .before .before .before .before .before .before .before .before .before .before .before .before .pre .0, c .before .before .before .before .before .before .if1 .left)
 
--- src/lib.rt:496:15
+-- src/lib.rt:497:15
 get-pat-as-pat-requires : (t : ℕ) → get-pat-lts.Need-as-pat-requires (
   stop-reads.Asked,
   stop-reads.Learnt,
@@ -1427,7 +1427,7 @@ get-pat-as-pat-requires : (t : ℕ) → get-pat-lts.Need-as-pat-requires (
 ) (get-pat-at t) get-pat.Post
 get-pat-as-pat-requires t c κs = omega (arith, c .before .before .before .before .before .before .before .before .before .before .before .before .pre .0, c .before .before .before .before .before .before .if1 .left)
 
--- src/lib.rt:497:15
+-- src/lib.rt:498:15
 get-pat-or-pat-requires : (t : ℕ) → get-pat-lts.Need-or-pat-requires (
   stop-reads.Asked,
   stop-reads.Learnt,
@@ -1460,7 +1460,7 @@ get-pat-or-pat-requires : (t : ℕ) → get-pat-lts.Need-or-pat-requires (
 ) (get-pat-at t) get-pat.Post
 get-pat-or-pat-requires t c κs = omega (arith, c .before .before .before .before .before .before .before .before .before .before .before .before .pre .0, c .before .before .before .before .before .before .if1 .left)
 
--- src/lib.rt:498:14
+-- src/lib.rt:499:14
 get-pat-stop-requires-3 : (t : ℕ) → get-pat-lts.Need-stop-requires-3 (
   stop-reads.Asked,
   stop-reads.Learnt,
@@ -1493,7 +1493,7 @@ get-pat-stop-requires-3 : (t : ℕ) → get-pat-lts.Need-stop-requires-3 (
 ) (get-pat-at t) get-pat.Post
 get-pat-stop-requires-3 t c κs = search needs
 
--- src/lib.rt:461:1
+-- src/lib.rt:462:1
 get-pat-same-length : (t : ℕ) → get-pat-lts.Need-same-length (
   stop-reads.Asked,
   stop-reads.Learnt,
@@ -1526,7 +1526,7 @@ get-pat-same-length : (t : ℕ) → get-pat-lts.Need-same-length (
 ) (get-pat-at t) get-pat.Post
 get-pat-same-length t c = c .before .before .word .kept .1 .0
 
--- src/lib.rt:461:1
+-- src/lib.rt:462:1
 get-pat-returns-3 : (t : ℕ) → get-pat-lts.Need-returns-3 (
   stop-reads.Asked,
   stop-reads.Learnt,
@@ -1557,10 +1557,10 @@ get-pat-returns-3 : (t : ℕ) → get-pat-lts.Need-returns-3 (
   or-pat-below t,
   or-pat.Post,
 ) (get-pat-at t) get-pat.Post
-unfolding Pat.pats Pat.WildcardPat Pat.SConPat
+unfolding Pat.pats Pat.pat
 get-pat-returns-3 t c = record { is = λ kinds m. pat-form _ (c .before .before .before .before .before .before .before .before .before .if1 .left) (form-key (c .before .before .before .before .before .before .before .before .form .ensures) (c .before .before .before .before .before .before .k .given .1) (c .before .before .before .before .match2 .keys1) (last-sure (c .before .before .word .ensures))) }
 
--- src/lib.rt:461:1
+-- src/lib.rt:462:1
 get-pat-same-length-2 : (t : ℕ) → get-pat-lts.Need-same-length-2 (
   stop-reads.Asked,
   stop-reads.Learnt,
@@ -1593,7 +1593,7 @@ get-pat-same-length-2 : (t : ℕ) → get-pat-lts.Need-same-length-2 (
 ) (get-pat-at t) get-pat.Post
 get-pat-same-length-2 t c = c .before .before .text-of .kept .1 .1 .1 .1 .0
 
--- src/lib.rt:461:1
+-- src/lib.rt:462:1
 get-pat-returns-4 : (t : ℕ) → get-pat-lts.Need-returns-4 (
   stop-reads.Asked,
   stop-reads.Learnt,
@@ -1624,10 +1624,10 @@ get-pat-returns-4 : (t : ℕ) → get-pat-lts.Need-returns-4 (
   or-pat-below t,
   or-pat.Post,
 ) (get-pat-at t) get-pat.Post
-unfolding Pat.pats Pat.WildcardPat Pat.SConPat
+unfolding Pat.pats Pat.pat
 get-pat-returns-4 t c = record { is = λ kinds m. pat-form _ (c .before .before .before .before .before .before .before .before .before .if1 .left) (form-key (c .before .before .before .before .before .before .before .before .form .ensures) (c .before .before .before .before .before .before .k .given .1) (c .before .before .before .before .match2 .keys2) (plain (c .before .before .text-of .ensures))) }
 
--- src/lib.rt:461:1
+-- src/lib.rt:462:1
 get-pat-same-length-3 : (t : ℕ) → get-pat-lts.Need-same-length-3 (
   stop-reads.Asked,
   stop-reads.Learnt,
@@ -1660,7 +1660,7 @@ get-pat-same-length-3 : (t : ℕ) → get-pat-lts.Need-same-length-3 (
 ) (get-pat-at t) get-pat.Post
 get-pat-same-length-3 t c = c .before .before .con-pat .kept .1 .1 .1 .1 .0
 
--- src/lib.rt:461:1
+-- src/lib.rt:462:1
 get-pat-returns-5 : (t : ℕ) → get-pat-lts.Need-returns-5 (
   stop-reads.Asked,
   stop-reads.Learnt,
@@ -1691,10 +1691,10 @@ get-pat-returns-5 : (t : ℕ) → get-pat-lts.Need-returns-5 (
   or-pat-below t,
   or-pat.Post,
 ) (get-pat-at t) get-pat.Post
-unfolding Pat.pats Pat.WildcardPat Pat.SConPat
+unfolding Pat.pats Pat.pat
 get-pat-returns-5 t c = record { is = λ kinds m. pat-form _ (c .before .before .before .before .before .before .before .before .before .if1 .left) (form-key (c .before .before .before .before .before .before .before .before .form .ensures) (c .before .before .before .before .before .before .k .given .1) (c .before .before .before .before .match2 .keys3) (plain (c .before .before .con-pat .ensures))) }
 
--- src/lib.rt:461:1
+-- src/lib.rt:462:1
 get-pat-same-length-4 : (t : ℕ) → get-pat-lts.Need-same-length-4 (
   stop-reads.Asked,
   stop-reads.Learnt,
@@ -1727,7 +1727,7 @@ get-pat-same-length-4 : (t : ℕ) → get-pat-lts.Need-same-length-4 (
 ) (get-pat-at t) get-pat.Post
 get-pat-same-length-4 t c = c .before .before .record-pat .kept .1 .1 .1 .1 .0
 
--- src/lib.rt:461:1
+-- src/lib.rt:462:1
 get-pat-returns-6 : (t : ℕ) → get-pat-lts.Need-returns-6 (
   stop-reads.Asked,
   stop-reads.Learnt,
@@ -1758,10 +1758,10 @@ get-pat-returns-6 : (t : ℕ) → get-pat-lts.Need-returns-6 (
   or-pat-below t,
   or-pat.Post,
 ) (get-pat-at t) get-pat.Post
-unfolding Pat.pats Pat.WildcardPat Pat.SConPat
+unfolding Pat.pats Pat.pat
 get-pat-returns-6 t c = record { is = λ kinds m. pat-form _ (c .before .before .before .before .before .before .before .before .before .if1 .left) (form-key (c .before .before .before .before .before .before .before .before .form .ensures) (c .before .before .before .before .before .before .k .given .1) (c .before .before .before .before .match2 .keys4) (plain (c .before .before .record-pat .ensures))) }
 
--- src/lib.rt:461:1
+-- src/lib.rt:462:1
 get-pat-same-length-5 : (t : ℕ) → get-pat-lts.Need-same-length-5 (
   stop-reads.Asked,
   stop-reads.Learnt,
@@ -1794,7 +1794,7 @@ get-pat-same-length-5 : (t : ℕ) → get-pat-lts.Need-same-length-5 (
 ) (get-pat-at t) get-pat.Post
 get-pat-same-length-5 t c = c .before .before .paren-pat .kept .1 .1 .1 .1 .0
 
--- src/lib.rt:461:1
+-- src/lib.rt:462:1
 get-pat-returns-7 : (t : ℕ) → get-pat-lts.Need-returns-7 (
   stop-reads.Asked,
   stop-reads.Learnt,
@@ -1825,10 +1825,10 @@ get-pat-returns-7 : (t : ℕ) → get-pat-lts.Need-returns-7 (
   or-pat-below t,
   or-pat.Post,
 ) (get-pat-at t) get-pat.Post
-unfolding Pat.pats Pat.WildcardPat Pat.SConPat
+unfolding Pat.pats Pat.pat
 get-pat-returns-7 t c = record { is = λ kinds m. pat-form _ (c .before .before .before .before .before .before .before .before .before .if1 .left) (form-key (c .before .before .before .before .before .before .before .before .form .ensures) (c .before .before .before .before .before .before .k .given .1) (c .before .before .before .before .match2 .keys5) (plain (c .before .before .paren-pat .ensures))) }
 
--- src/lib.rt:461:1
+-- src/lib.rt:462:1
 get-pat-same-length-6 : (t : ℕ) → get-pat-lts.Need-same-length-6 (
   stop-reads.Asked,
   stop-reads.Learnt,
@@ -1861,7 +1861,7 @@ get-pat-same-length-6 : (t : ℕ) → get-pat-lts.Need-same-length-6 (
 ) (get-pat-at t) get-pat.Post
 get-pat-same-length-6 t c = c .before .before .tuple-pat .kept .1 .1 .1 .1 .0
 
--- src/lib.rt:461:1
+-- src/lib.rt:462:1
 get-pat-returns-8 : (t : ℕ) → get-pat-lts.Need-returns-8 (
   stop-reads.Asked,
   stop-reads.Learnt,
@@ -1892,10 +1892,10 @@ get-pat-returns-8 : (t : ℕ) → get-pat-lts.Need-returns-8 (
   or-pat-below t,
   or-pat.Post,
 ) (get-pat-at t) get-pat.Post
-unfolding Pat.pats Pat.WildcardPat Pat.SConPat
+unfolding Pat.pats Pat.pat
 get-pat-returns-8 t c = record { is = λ kinds m. pat-form _ (c .before .before .before .before .before .before .before .before .before .if1 .left) (form-key (c .before .before .before .before .before .before .before .before .form .ensures) (c .before .before .before .before .before .before .k .given .1) (c .before .before .before .before .match2 .keys6) (plain (c .before .before .tuple-pat .ensures))) }
 
--- src/lib.rt:461:1
+-- src/lib.rt:462:1
 get-pat-same-length-7 : (t : ℕ) → get-pat-lts.Need-same-length-7 (
   stop-reads.Asked,
   stop-reads.Learnt,
@@ -1928,7 +1928,7 @@ get-pat-same-length-7 : (t : ℕ) → get-pat-lts.Need-same-length-7 (
 ) (get-pat-at t) get-pat.Post
 get-pat-same-length-7 t c = c .before .before .list-pat .kept .1 .1 .1 .1 .0
 
--- src/lib.rt:461:1
+-- src/lib.rt:462:1
 get-pat-returns-9 : (t : ℕ) → get-pat-lts.Need-returns-9 (
   stop-reads.Asked,
   stop-reads.Learnt,
@@ -1959,10 +1959,10 @@ get-pat-returns-9 : (t : ℕ) → get-pat-lts.Need-returns-9 (
   or-pat-below t,
   or-pat.Post,
 ) (get-pat-at t) get-pat.Post
-unfolding Pat.pats Pat.WildcardPat Pat.SConPat
+unfolding Pat.pats Pat.pat
 get-pat-returns-9 t c = record { is = λ kinds m. pat-form _ (c .before .before .before .before .before .before .before .before .before .if1 .left) (form-key (c .before .before .before .before .before .before .before .before .form .ensures) (c .before .before .before .before .before .before .k .given .1) (c .before .before .before .before .match2 .keys7) (plain (c .before .before .list-pat .ensures))) }
 
--- src/lib.rt:461:1
+-- src/lib.rt:462:1
 get-pat-same-length-8 : (t : ℕ) → get-pat-lts.Need-same-length-8 (
   stop-reads.Asked,
   stop-reads.Learnt,
@@ -1995,7 +1995,7 @@ get-pat-same-length-8 : (t : ℕ) → get-pat-lts.Need-same-length-8 (
 ) (get-pat-at t) get-pat.Post
 get-pat-same-length-8 t c = c .before .before .vector-pat .kept .1 .1 .1 .1 .0
 
--- src/lib.rt:461:1
+-- src/lib.rt:462:1
 get-pat-returns-10 : (t : ℕ) → get-pat-lts.Need-returns-10 (
   stop-reads.Asked,
   stop-reads.Learnt,
@@ -2026,10 +2026,10 @@ get-pat-returns-10 : (t : ℕ) → get-pat-lts.Need-returns-10 (
   or-pat-below t,
   or-pat.Post,
 ) (get-pat-at t) get-pat.Post
-unfolding Pat.pats Pat.WildcardPat Pat.SConPat
+unfolding Pat.pats Pat.pat
 get-pat-returns-10 t c = record { is = λ kinds m. pat-form _ (c .before .before .before .before .before .before .before .before .before .if1 .left) (form-key (c .before .before .before .before .before .before .before .before .form .ensures) (c .before .before .before .before .before .before .k .given .1) (c .before .before .before .before .match2 .keys8) (plain (c .before .before .vector-pat .ensures))) }
 
--- src/lib.rt:461:1
+-- src/lib.rt:462:1
 get-pat-same-length-9 : (t : ℕ) → get-pat-lts.Need-same-length-9 (
   stop-reads.Asked,
   stop-reads.Learnt,
@@ -2062,7 +2062,7 @@ get-pat-same-length-9 : (t : ℕ) → get-pat-lts.Need-same-length-9 (
 ) (get-pat-at t) get-pat.Post
 get-pat-same-length-9 t c = c .before .before .infix-pat .kept .1 .1 .1 .1 .0
 
--- src/lib.rt:461:1
+-- src/lib.rt:462:1
 get-pat-returns-11 : (t : ℕ) → get-pat-lts.Need-returns-11 (
   stop-reads.Asked,
   stop-reads.Learnt,
@@ -2093,10 +2093,10 @@ get-pat-returns-11 : (t : ℕ) → get-pat-lts.Need-returns-11 (
   or-pat-below t,
   or-pat.Post,
 ) (get-pat-at t) get-pat.Post
-unfolding Pat.pats Pat.WildcardPat Pat.SConPat
+unfolding Pat.pats Pat.pat
 get-pat-returns-11 t c = record { is = λ kinds m. pat-form _ (c .before .before .before .before .before .before .before .before .before .if1 .left) (form-key (c .before .before .before .before .before .before .before .before .form .ensures) (c .before .before .before .before .before .before .k .given .1) (c .before .before .before .before .match2 .keys9) (plain (c .before .before .infix-pat .ensures))) }
 
--- src/lib.rt:461:1
+-- src/lib.rt:462:1
 get-pat-same-length-10 : (t : ℕ) → get-pat-lts.Need-same-length-10 (
   stop-reads.Asked,
   stop-reads.Learnt,
@@ -2129,7 +2129,7 @@ get-pat-same-length-10 : (t : ℕ) → get-pat-lts.Need-same-length-10 (
 ) (get-pat-at t) get-pat.Post
 get-pat-same-length-10 t c = c .before .before .typed-pat .kept .1 .1 .1 .1 .0
 
--- src/lib.rt:461:1
+-- src/lib.rt:462:1
 get-pat-returns-12 : (t : ℕ) → get-pat-lts.Need-returns-12 (
   stop-reads.Asked,
   stop-reads.Learnt,
@@ -2160,10 +2160,10 @@ get-pat-returns-12 : (t : ℕ) → get-pat-lts.Need-returns-12 (
   or-pat-below t,
   or-pat.Post,
 ) (get-pat-at t) get-pat.Post
-unfolding Pat.pats Pat.WildcardPat Pat.SConPat
+unfolding Pat.pats Pat.pat
 get-pat-returns-12 t c = record { is = λ kinds m. pat-form _ (c .before .before .before .before .before .before .before .before .before .if1 .left) (form-key (c .before .before .before .before .before .before .before .before .form .ensures) (c .before .before .before .before .before .before .k .given .1) (c .before .before .before .before .match2 .keys10) (plain (c .before .before .typed-pat .ensures))) }
 
--- src/lib.rt:461:1
+-- src/lib.rt:462:1
 get-pat-same-length-11 : (t : ℕ) → get-pat-lts.Need-same-length-11 (
   stop-reads.Asked,
   stop-reads.Learnt,
@@ -2196,7 +2196,7 @@ get-pat-same-length-11 : (t : ℕ) → get-pat-lts.Need-same-length-11 (
 ) (get-pat-at t) get-pat.Post
 get-pat-same-length-11 t c = c .before .before .as-pat .kept .1 .1 .1 .1 .0
 
--- src/lib.rt:461:1
+-- src/lib.rt:462:1
 get-pat-returns-13 : (t : ℕ) → get-pat-lts.Need-returns-13 (
   stop-reads.Asked,
   stop-reads.Learnt,
@@ -2227,10 +2227,10 @@ get-pat-returns-13 : (t : ℕ) → get-pat-lts.Need-returns-13 (
   or-pat-below t,
   or-pat.Post,
 ) (get-pat-at t) get-pat.Post
-unfolding Pat.pats Pat.WildcardPat Pat.SConPat
+unfolding Pat.pats Pat.pat
 get-pat-returns-13 t c = record { is = λ kinds m. pat-form _ (c .before .before .before .before .before .before .before .before .before .if1 .left) (form-key (c .before .before .before .before .before .before .before .before .form .ensures) (c .before .before .before .before .before .before .k .given .1) (c .before .before .before .before .match2 .keys11) (plain (c .before .before .as-pat .ensures))) }
 
--- src/lib.rt:461:1
+-- src/lib.rt:462:1
 get-pat-same-length-12 : (t : ℕ) → get-pat-lts.Need-same-length-12 (
   stop-reads.Asked,
   stop-reads.Learnt,
@@ -2263,7 +2263,7 @@ get-pat-same-length-12 : (t : ℕ) → get-pat-lts.Need-same-length-12 (
 ) (get-pat-at t) get-pat.Post
 get-pat-same-length-12 t c = c .before .before .or-pat .kept .1 .1 .1 .1 .0
 
--- src/lib.rt:461:1
+-- src/lib.rt:462:1
 get-pat-returns-14 : (t : ℕ) → get-pat-lts.Need-returns-14 (
   stop-reads.Asked,
   stop-reads.Learnt,
@@ -2294,10 +2294,10 @@ get-pat-returns-14 : (t : ℕ) → get-pat-lts.Need-returns-14 (
   or-pat-below t,
   or-pat.Post,
 ) (get-pat-at t) get-pat.Post
-unfolding Pat.pats Pat.WildcardPat Pat.SConPat
+unfolding Pat.pats Pat.pat
 get-pat-returns-14 t c = record { is = λ kinds m. pat-form _ (c .before .before .before .before .before .before .before .before .before .if1 .left) (form-key (c .before .before .before .before .before .before .before .before .form .ensures) (c .before .before .before .before .before .before .k .given .1) (c .before .before .before .before .match2 .keys12) (plain (c .before .before .or-pat .ensures))) }
 
--- src/lib.rt:461:1
+-- src/lib.rt:462:1
 get-pat-returns-15 : (t : ℕ) → get-pat-lts.Need-returns-15 (
   stop-reads.Asked,
   stop-reads.Learnt,
@@ -2328,10 +2328,10 @@ get-pat-returns-15 : (t : ℕ) → get-pat-lts.Need-returns-15 (
   or-pat-below t,
   or-pat.Post,
 ) (get-pat-at t) get-pat.Post
-unfolding Pat.pats Pat.WildcardPat Pat.SConPat
+unfolding Pat.pats Pat.pat
 get-pat-returns-15 t c = record { is = λ kinds m. pat-form _ (c .before .before .before .before .before .before .if1 .left) (by-same (form-is (c .before .before .before .before .before .form .ensures) (c .before .before .before .k .given .1)) (beyond (Pat.pats (walks (c .before .before .before .before .before .before .before .before .before .before .before .before .args .cfg .left - 1))) (c .before .before .before .k .given .0 .0) 12 refl (past (past (past (past (past (past (past (past (past (past (past (past zero-le (c .before .match2 .rest .0 .0 .0 .0 .0 .0 .0 .0 .0 .0 .0 .1)) (c .before .match2 .rest .0 .0 .0 .0 .0 .0 .0 .0 .0 .0 .1)) (c .before .match2 .rest .0 .0 .0 .0 .0 .0 .0 .0 .0 .1)) (c .before .match2 .rest .0 .0 .0 .0 .0 .0 .0 .0 .1)) (c .before .match2 .rest .0 .0 .0 .0 .0 .0 .0 .1)) (c .before .match2 .rest .0 .0 .0 .0 .0 .0 .1)) (c .before .match2 .rest .0 .0 .0 .0 .0 .1)) (c .before .match2 .rest .0 .0 .0 .0 .1)) (c .before .match2 .rest .0 .0 .0 .1)) (c .before .match2 .rest .0 .0 .1)) (c .before .match2 .rest .0 .1)) (c .before .match2 .rest .1)) (c .stop3 .ensures))) }
 
--- src/lib.rt:383:9
+-- src/lib.rt:384:9
 infix-pat-get-pat-requires : (t : ℕ) → infix-pat-lts.Need-get-pat-requires (
   get-pat-below t,
   get-pat.Post,
@@ -2342,7 +2342,7 @@ infix-pat-get-pat-requires : (t : ℕ) → infix-pat-lts.Need-get-pat-requires (
 ) (infix-pat-at t) infix-pat.Post
 infix-pat-get-pat-requires t c κs = omega (arith, c .before .before .before .before .before .before .pre .0)
 
--- src/lib.rt:384:22
+-- src/lib.rt:385:22
 infix-pat-enum-known-r1 : (t : ℕ) → infix-pat-lts.Need-enum-known-r1 (
   get-pat-below t,
   get-pat.Post,
@@ -2353,7 +2353,7 @@ infix-pat-enum-known-r1 : (t : ℕ) → infix-pat-lts.Need-enum-known-r1 (
 ) (infix-pat-at t) infix-pat.Post
 infix-pat-enum-known-r1 t c = search needs
 
--- src/lib.rt:385:9
+-- src/lib.rt:386:9
 infix-pat-enum-told : (t : ℕ) → infix-pat-lts.Need-enum-told (
   get-pat-below t,
   get-pat.Post,
@@ -2364,7 +2364,7 @@ infix-pat-enum-told : (t : ℕ) → infix-pat-lts.Need-enum-told (
 ) (infix-pat-at t) infix-pat.Post
 infix-pat-enum-told t c = search needs
 
--- src/lib.rt:385:9
+-- src/lib.rt:386:9
 infix-pat-same-length : (t : ℕ) → infix-pat-lts.Need-same-length (
   get-pat-below t,
   get-pat.Post,
@@ -2375,7 +2375,7 @@ infix-pat-same-length : (t : ℕ) → infix-pat-lts.Need-same-length (
 ) (infix-pat-at t) infix-pat.Post
 infix-pat-same-length t c = c .before .before .before .before .get-pat .kept .1 .1 .1 .1 .0
 
--- src/lib.rt:385:9
+-- src/lib.rt:386:9
 infix-pat-returns : (t : ℕ) → infix-pat-lts.Need-returns (
   get-pat-below t,
   get-pat.Post,
@@ -2384,10 +2384,10 @@ infix-pat-returns : (t : ℕ) → infix-pat-lts.Need-returns (
   text-of-reads.Asked,
   text-of-reads.Learnt,
 ) (infix-pat-at t) infix-pat.Post
-unfolding Pat.InfixPat
+unfolding Pat.pat
 infix-pat-returns t c = record { is = λ kinds m. then-stop (plain (c .before .before .before .before .get-pat .ensures)) (c .enum-told .given .1) }
 
--- src/lib.rt:387:9
+-- src/lib.rt:388:9
 infix-pat-word-requires : (t : ℕ) → infix-pat-lts.Need-word-requires (
   get-pat-below t,
   get-pat.Post,
@@ -2398,7 +2398,7 @@ infix-pat-word-requires : (t : ℕ) → infix-pat-lts.Need-word-requires (
 ) (infix-pat-at t) infix-pat.Post
 infix-pat-word-requires t c κs = search needs
 
--- src/lib.rt:388:9
+-- src/lib.rt:389:9
 infix-pat-text-of-requires : (t : ℕ) → infix-pat-lts.Need-text-of-requires (
   get-pat-below t,
   get-pat.Post,
@@ -2409,7 +2409,7 @@ infix-pat-text-of-requires : (t : ℕ) → infix-pat-lts.Need-text-of-requires (
 ) (infix-pat-at t) infix-pat.Post
 infix-pat-text-of-requires t c κs = search needs
 
--- src/lib.rt:389:22
+-- src/lib.rt:390:22
 infix-pat-enum-known-r3 : (t : ℕ) → infix-pat-lts.Need-enum-known-r3 (
   get-pat-below t,
   get-pat.Post,
@@ -2420,7 +2420,7 @@ infix-pat-enum-known-r3 : (t : ℕ) → infix-pat-lts.Need-enum-known-r3 (
 ) (infix-pat-at t) infix-pat.Post
 infix-pat-enum-known-r3 t c = search needs
 
--- src/lib.rt:390:9
+-- src/lib.rt:391:9
 infix-pat-enum-told-2 : (t : ℕ) → infix-pat-lts.Need-enum-told-2 (
   get-pat-below t,
   get-pat.Post,
@@ -2431,7 +2431,7 @@ infix-pat-enum-told-2 : (t : ℕ) → infix-pat-lts.Need-enum-told-2 (
 ) (infix-pat-at t) infix-pat.Post
 infix-pat-enum-told-2 t c = search needs
 
--- src/lib.rt:390:9
+-- src/lib.rt:391:9
 infix-pat-same-length-2 : (t : ℕ) → infix-pat-lts.Need-same-length-2 (
   get-pat-below t,
   get-pat.Post,
@@ -2442,7 +2442,7 @@ infix-pat-same-length-2 : (t : ℕ) → infix-pat-lts.Need-same-length-2 (
 ) (infix-pat-at t) infix-pat.Post
 infix-pat-same-length-2 t c = c .before .before .before .before .text-of .kept .1 .1 .1 .1 .0 ∙ c .before .before .before .before .before .before .before .before .word .kept .1 .0 ∙ c .before .before .before .before .before .before .before .before .before .before .before .before .before .before .before .get-pat .kept .1 .1 .1 .1 .0
 
--- src/lib.rt:390:9
+-- src/lib.rt:391:9
 infix-pat-returns-2 : (t : ℕ) → infix-pat-lts.Need-returns-2 (
   get-pat-below t,
   get-pat.Post,
@@ -2451,10 +2451,10 @@ infix-pat-returns-2 : (t : ℕ) → infix-pat-lts.Need-returns-2 (
   text-of-reads.Asked,
   text-of-reads.Learnt,
 ) (infix-pat-at t) infix-pat.Post
-unfolding Pat.InfixPat
+unfolding Pat.pat
 infix-pat-returns-2 t c = record { is = λ kinds m. then-done (plain (c .before .before .before .before .before .before .before .before .before .before .before .before .before .before .before .get-pat .ensures)) (c .before .before .before .before .before .before .before .before .before .before .before .r1 .given .1) (then-sure (c .before .before .before .before .before .before .before .before .word .ensures) (then-stop (plain (c .before .before .before .before .text-of .ensures)) (c .enum-told2 .given .1))) }
 
--- src/lib.rt:392:9
+-- src/lib.rt:393:9
 infix-pat-word-requires-2 : (t : ℕ) → infix-pat-lts.Need-word-requires-2 (
   get-pat-below t,
   get-pat.Post,
@@ -2465,7 +2465,7 @@ infix-pat-word-requires-2 : (t : ℕ) → infix-pat-lts.Need-word-requires-2 (
 ) (infix-pat-at t) infix-pat.Post
 infix-pat-word-requires-2 t c κs = search needs
 
--- src/lib.rt:393:5
+-- src/lib.rt:394:5
 infix-pat-get-pat-requires-2 : (t : ℕ) → infix-pat-lts.Need-get-pat-requires-2 (
   get-pat-below t,
   get-pat.Post,
@@ -2476,7 +2476,7 @@ infix-pat-get-pat-requires-2 : (t : ℕ) → infix-pat-lts.Need-get-pat-requires
 ) (infix-pat-at t) infix-pat.Post
 infix-pat-get-pat-requires-2 t c κs = omega (arith, c .before .before .before .before .before .before .before .before .before .before .before .before .before .before .before .before .before .before .before .before .before .before .before .before .before .before .before .before .pre .0)
 
--- src/lib.rt:372:1
+-- src/lib.rt:373:1
 infix-pat-same-length-3 : (t : ℕ) → infix-pat-lts.Need-same-length-3 (
   get-pat-below t,
   get-pat.Post,
@@ -2487,7 +2487,7 @@ infix-pat-same-length-3 : (t : ℕ) → infix-pat-lts.Need-same-length-3 (
 ) (infix-pat-at t) infix-pat.Post
 infix-pat-same-length-3 t c = c .before .before .get-pat2 .kept .1 .1 .1 .1 .0 ∙ c .before .before .before .before .before .before .word2 .kept .1 .0 ∙ c .before .before .before .before .before .before .before .before .before .before .before .before .before .text-of .kept .1 .1 .1 .1 .0 ∙ c .before .before .before .before .before .before .before .before .before .before .before .before .before .before .before .before .before .word .kept .1 .0 ∙ c .before .before .before .before .before .before .before .before .before .before .before .before .before .before .before .before .before .before .before .before .before .before .before .before .get-pat .kept .1 .1 .1 .1 .0
 
--- src/lib.rt:372:1
+-- src/lib.rt:373:1
 infix-pat-returns-3 : (t : ℕ) → infix-pat-lts.Need-returns-3 (
   get-pat-below t,
   get-pat.Post,
@@ -2496,10 +2496,10 @@ infix-pat-returns-3 : (t : ℕ) → infix-pat-lts.Need-returns-3 (
   text-of-reads.Asked,
   text-of-reads.Learnt,
 ) (infix-pat-at t) infix-pat.Post
-unfolding Pat.InfixPat
+unfolding Pat.pat
 infix-pat-returns-3 t c = record { is = λ kinds m. then-done (plain (c .before .before .before .before .before .before .before .before .before .before .before .before .before .before .before .before .before .before .before .before .before .before .before .before .get-pat .ensures)) (c .before .before .before .before .before .before .before .before .before .before .before .before .before .before .before .before .before .before .before .before .r1 .given .1) (then-sure (c .before .before .before .before .before .before .before .before .before .before .before .before .before .before .before .before .before .word .ensures) (then-done (plain (c .before .before .before .before .before .before .before .before .before .before .before .before .before .text-of .ensures)) (c .before .before .before .before .before .before .before .before .before .r3 .given .1) (then-sure (c .before .before .before .before .before .before .word2 .ensures) (plain (c .before .before .get-pat2 .ensures))))) }
 
--- src/lib.rt:92:9
+-- src/lib.rt:93:9
 lab-and-pat-text-of-requires : (t : ℕ) → lab-and-pat-lts.Need-text-of-requires (
   text-of-reads.Asked,
   text-of-reads.Learnt,
@@ -2510,7 +2510,7 @@ lab-and-pat-text-of-requires : (t : ℕ) → lab-and-pat-lts.Need-text-of-requir
 ) (lab-and-pat-at t) lab-and-pat.Post
 lab-and-pat-text-of-requires t c κs = search needs
 
--- src/lib.rt:93:22
+-- src/lib.rt:94:22
 lab-and-pat-enum-known-r1 : (t : ℕ) → lab-and-pat-lts.Need-enum-known-r1 (
   text-of-reads.Asked,
   text-of-reads.Learnt,
@@ -2521,7 +2521,7 @@ lab-and-pat-enum-known-r1 : (t : ℕ) → lab-and-pat-lts.Need-enum-known-r1 (
 ) (lab-and-pat-at t) lab-and-pat.Post
 lab-and-pat-enum-known-r1 t c = search needs
 
--- src/lib.rt:94:9
+-- src/lib.rt:95:9
 lab-and-pat-enum-told : (t : ℕ) → lab-and-pat-lts.Need-enum-told (
   text-of-reads.Asked,
   text-of-reads.Learnt,
@@ -2532,7 +2532,7 @@ lab-and-pat-enum-told : (t : ℕ) → lab-and-pat-lts.Need-enum-told (
 ) (lab-and-pat-at t) lab-and-pat.Post
 lab-and-pat-enum-told t c = search needs
 
--- src/lib.rt:94:9
+-- src/lib.rt:95:9
 lab-and-pat-same-length : (t : ℕ) → lab-and-pat-lts.Need-same-length (
   text-of-reads.Asked,
   text-of-reads.Learnt,
@@ -2543,7 +2543,7 @@ lab-and-pat-same-length : (t : ℕ) → lab-and-pat-lts.Need-same-length (
 ) (lab-and-pat-at t) lab-and-pat.Post
 lab-and-pat-same-length t c = c .before .before .before .before .text-of .kept .1 .1 .1 .1 .0
 
--- src/lib.rt:94:9
+-- src/lib.rt:95:9
 lab-and-pat-returns : (t : ℕ) → lab-and-pat-lts.Need-returns (
   text-of-reads.Asked,
   text-of-reads.Learnt,
@@ -2555,7 +2555,7 @@ lab-and-pat-returns : (t : ℕ) → lab-and-pat-lts.Need-returns (
 unfolding Pat.LabAndPatPatRow
 lab-and-pat-returns t c = record { is = λ kinds m. then-stop (plain (c .before .before .before .before .text-of .ensures)) (c .enum-told .given .1) }
 
--- src/lib.rt:96:9
+-- src/lib.rt:97:9
 lab-and-pat-word-requires : (t : ℕ) → lab-and-pat-lts.Need-word-requires (
   text-of-reads.Asked,
   text-of-reads.Learnt,
@@ -2566,7 +2566,7 @@ lab-and-pat-word-requires : (t : ℕ) → lab-and-pat-lts.Need-word-requires (
 ) (lab-and-pat-at t) lab-and-pat.Post
 lab-and-pat-word-requires t c κs = search needs
 
--- src/lib.rt:97:5
+-- src/lib.rt:98:5
 lab-and-pat-get-pat-requires : (t : ℕ) → lab-and-pat-lts.Need-get-pat-requires (
   text-of-reads.Asked,
   text-of-reads.Learnt,
@@ -2577,7 +2577,7 @@ lab-and-pat-get-pat-requires : (t : ℕ) → lab-and-pat-lts.Need-get-pat-requir
 ) (lab-and-pat-at t) lab-and-pat.Post
 lab-and-pat-get-pat-requires t c κs = omega (arith, c .before .before .before .before .before .before .before .before .before .before .before .before .before .before .before .before .before .pre .0)
 
--- src/lib.rt:81:1
+-- src/lib.rt:82:1
 lab-and-pat-same-length-2 : (t : ℕ) → lab-and-pat-lts.Need-same-length-2 (
   text-of-reads.Asked,
   text-of-reads.Learnt,
@@ -2588,7 +2588,7 @@ lab-and-pat-same-length-2 : (t : ℕ) → lab-and-pat-lts.Need-same-length-2 (
 ) (lab-and-pat-at t) lab-and-pat.Post
 lab-and-pat-same-length-2 t c = c .before .before .get-pat .kept .1 .1 .1 .1 .0 ∙ c .before .before .before .before .before .before .word .kept .1 .0 ∙ c .before .before .before .before .before .before .before .before .before .before .before .before .before .text-of .kept .1 .1 .1 .1 .0
 
--- src/lib.rt:81:1
+-- src/lib.rt:82:1
 lab-and-pat-returns-2 : (t : ℕ) → lab-and-pat-lts.Need-returns-2 (
   text-of-reads.Asked,
   text-of-reads.Learnt,
@@ -2600,7 +2600,7 @@ lab-and-pat-returns-2 : (t : ℕ) → lab-and-pat-lts.Need-returns-2 (
 unfolding Pat.LabAndPatPatRow
 lab-and-pat-returns-2 t c = record { is = λ kinds m. then-done (plain (c .before .before .before .before .before .before .before .before .before .before .before .before .before .text-of .ensures)) (c .before .before .before .before .before .before .before .before .before .r1 .given .1) (then-sure (c .before .before .before .before .before .before .word .ensures) (plain (c .before .before .get-pat .ensures))) }
 
--- src/lib.rt:151:9
+-- src/lib.rt:152:9
 lab-pat-text-of-requires : (t : ℕ) → lab-pat-lts.Need-text-of-requires (
   text-of-reads.Asked,
   text-of-reads.Learnt,
@@ -2611,7 +2611,7 @@ lab-pat-text-of-requires : (t : ℕ) → lab-pat-lts.Need-text-of-requires (
 ) (lab-pat-at t) lab-pat.Post
 lab-pat-text-of-requires t c κs = search needs
 
--- src/lib.rt:152:22
+-- src/lib.rt:153:22
 lab-pat-enum-known-r1 : (t : ℕ) → lab-pat-lts.Need-enum-known-r1 (
   text-of-reads.Asked,
   text-of-reads.Learnt,
@@ -2622,7 +2622,7 @@ lab-pat-enum-known-r1 : (t : ℕ) → lab-pat-lts.Need-enum-known-r1 (
 ) (lab-pat-at t) lab-pat.Post
 lab-pat-enum-known-r1 t c = search needs
 
--- src/lib.rt:153:9
+-- src/lib.rt:154:9
 lab-pat-enum-told : (t : ℕ) → lab-pat-lts.Need-enum-told (
   text-of-reads.Asked,
   text-of-reads.Learnt,
@@ -2633,7 +2633,7 @@ lab-pat-enum-told : (t : ℕ) → lab-pat-lts.Need-enum-told (
 ) (lab-pat-at t) lab-pat.Post
 lab-pat-enum-told t c = search needs
 
--- src/lib.rt:153:9
+-- src/lib.rt:154:9
 lab-pat-same-length : (t : ℕ) → lab-pat-lts.Need-same-length (
   text-of-reads.Asked,
   text-of-reads.Learnt,
@@ -2644,7 +2644,7 @@ lab-pat-same-length : (t : ℕ) → lab-pat-lts.Need-same-length (
 ) (lab-pat-at t) lab-pat.Post
 lab-pat-same-length t c = c .before .before .before .before .text-of .kept .1 .1 .1 .1 .0
 
--- src/lib.rt:153:9
+-- src/lib.rt:154:9
 lab-pat-returns : (t : ℕ) → lab-pat-lts.Need-returns (
   text-of-reads.Asked,
   text-of-reads.Learnt,
@@ -2656,7 +2656,7 @@ lab-pat-returns : (t : ℕ) → lab-pat-lts.Need-returns (
 unfolding Pat.LabPatRow
 lab-pat-returns t c = record { is = λ kinds m. then-stop (plain (c .before .before .before .before .text-of .ensures)) (c .enum-told .given .1) }
 
--- src/lib.rt:155:9
+-- src/lib.rt:156:9
 lab-pat-ty-annotation-requires : (t : ℕ) → lab-pat-lts.Need-ty-annotation-requires (
   text-of-reads.Asked,
   text-of-reads.Learnt,
@@ -2667,7 +2667,7 @@ lab-pat-ty-annotation-requires : (t : ℕ) → lab-pat-lts.Need-ty-annotation-re
 ) (lab-pat-at t) lab-pat.Post
 lab-pat-ty-annotation-requires t c κs = search needs
 
--- src/lib.rt:156:22
+-- src/lib.rt:157:22
 lab-pat-enum-known-r2 : (t : ℕ) → lab-pat-lts.Need-enum-known-r2 (
   text-of-reads.Asked,
   text-of-reads.Learnt,
@@ -2678,7 +2678,7 @@ lab-pat-enum-known-r2 : (t : ℕ) → lab-pat-lts.Need-enum-known-r2 (
 ) (lab-pat-at t) lab-pat.Post
 lab-pat-enum-known-r2 t c = search needs
 
--- src/lib.rt:157:9
+-- src/lib.rt:158:9
 lab-pat-enum-told-2 : (t : ℕ) → lab-pat-lts.Need-enum-told-2 (
   text-of-reads.Asked,
   text-of-reads.Learnt,
@@ -2689,7 +2689,7 @@ lab-pat-enum-told-2 : (t : ℕ) → lab-pat-lts.Need-enum-told-2 (
 ) (lab-pat-at t) lab-pat.Post
 lab-pat-enum-told-2 t c = search needs
 
--- src/lib.rt:157:9
+-- src/lib.rt:158:9
 lab-pat-same-length-2 : (t : ℕ) → lab-pat-lts.Need-same-length-2 (
   text-of-reads.Asked,
   text-of-reads.Learnt,
@@ -2700,7 +2700,7 @@ lab-pat-same-length-2 : (t : ℕ) → lab-pat-lts.Need-same-length-2 (
 ) (lab-pat-at t) lab-pat.Post
 lab-pat-same-length-2 t c = c .before .before .before .before .ty-annotation .kept .1 .1 .1 .1 .0 ∙ c .before .before .before .before .before .before .before .before .before .before .before .text-of .kept .1 .1 .1 .1 .0
 
--- src/lib.rt:157:9
+-- src/lib.rt:158:9
 lab-pat-returns-2 : (t : ℕ) → lab-pat-lts.Need-returns-2 (
   text-of-reads.Asked,
   text-of-reads.Learnt,
@@ -2712,7 +2712,7 @@ lab-pat-returns-2 : (t : ℕ) → lab-pat-lts.Need-returns-2 (
 unfolding Pat.LabPatRow
 lab-pat-returns-2 t c = record { is = λ kinds m. then-done (plain (c .before .before .before .before .before .before .before .before .before .before .before .text-of .ensures)) (c .before .before .before .before .before .before .before .r1 .given .1) (then-stop (plain (c .before .before .before .before .ty-annotation .ensures)) (c .enum-told2 .given .1)) }
 
--- src/lib.rt:159:5
+-- src/lib.rt:160:5
 lab-pat-as-tail-requires : (t : ℕ) → lab-pat-lts.Need-as-tail-requires (
   text-of-reads.Asked,
   text-of-reads.Learnt,
@@ -2723,7 +2723,7 @@ lab-pat-as-tail-requires : (t : ℕ) → lab-pat-lts.Need-as-tail-requires (
 ) (lab-pat-at t) lab-pat.Post
 lab-pat-as-tail-requires t c κs = omega (arith, c .before .before .before .before .before .before .before .before .before .before .before .before .before .before .before .before .before .before .before .before .pre .0)
 
--- src/lib.rt:140:1
+-- src/lib.rt:141:1
 lab-pat-same-length-3 : (t : ℕ) → lab-pat-lts.Need-same-length-3 (
   text-of-reads.Asked,
   text-of-reads.Learnt,
@@ -2734,7 +2734,7 @@ lab-pat-same-length-3 : (t : ℕ) → lab-pat-lts.Need-same-length-3 (
 ) (lab-pat-at t) lab-pat.Post
 lab-pat-same-length-3 t c = c .before .before .as-tail .kept .1 .1 .1 .1 .0 ∙ c .before .before .before .before .before .before .before .before .before .ty-annotation .kept .1 .1 .1 .1 .0 ∙ c .before .before .before .before .before .before .before .before .before .before .before .before .before .before .before .before .text-of .kept .1 .1 .1 .1 .0
 
--- src/lib.rt:140:1
+-- src/lib.rt:141:1
 lab-pat-returns-3 : (t : ℕ) → lab-pat-lts.Need-returns-3 (
   text-of-reads.Asked,
   text-of-reads.Learnt,
@@ -2746,7 +2746,7 @@ lab-pat-returns-3 : (t : ℕ) → lab-pat-lts.Need-returns-3 (
 unfolding Pat.LabPatRow
 lab-pat-returns-3 t c = record { is = λ kinds m. then-done (plain (c .before .before .before .before .before .before .before .before .before .before .before .before .before .before .before .before .text-of .ensures)) (c .before .before .before .before .before .before .before .before .before .before .before .before .r1 .given .1) (then-done (plain (c .before .before .before .before .before .before .before .before .before .ty-annotation .ensures)) (c .before .before .before .before .before .r2 .given .1) (plain (c .before .before .as-tail .ensures))) }
 
--- src/lib.rt:339:9
+-- src/lib.rt:340:9
 list-pat-word-requires : (t : ℕ) → list-pat-lts.Need-word-requires (
   word-reads.Asked,
   word-reads.Learnt,
@@ -2755,7 +2755,7 @@ list-pat-word-requires : (t : ℕ) → list-pat-lts.Need-word-requires (
 ) (list-pat-at t) list-pat.Post
 list-pat-word-requires t c κs = search needs
 
--- src/lib.rt:340:9
+-- src/lib.rt:341:9
 list-pat-pat-args-requires : (t : ℕ) → list-pat-lts.Need-pat-args-requires (
   word-reads.Asked,
   word-reads.Learnt,
@@ -2764,7 +2764,7 @@ list-pat-pat-args-requires : (t : ℕ) → list-pat-lts.Need-pat-args-requires (
 ) (list-pat-at t) list-pat.Post
 list-pat-pat-args-requires t c κs = omega (arith, c .before .before .before .before .before .before .before .before .before .before .pre .0)
 
--- src/lib.rt:341:22
+-- src/lib.rt:342:22
 list-pat-enum-known-r2 : (t : ℕ) → list-pat-lts.Need-enum-known-r2 (
   word-reads.Asked,
   word-reads.Learnt,
@@ -2773,7 +2773,7 @@ list-pat-enum-known-r2 : (t : ℕ) → list-pat-lts.Need-enum-known-r2 (
 ) (list-pat-at t) list-pat.Post
 list-pat-enum-known-r2 t c = search needs
 
--- src/lib.rt:342:9
+-- src/lib.rt:343:9
 list-pat-enum-told : (t : ℕ) → list-pat-lts.Need-enum-told (
   word-reads.Asked,
   word-reads.Learnt,
@@ -2782,7 +2782,7 @@ list-pat-enum-told : (t : ℕ) → list-pat-lts.Need-enum-told (
 ) (list-pat-at t) list-pat.Post
 list-pat-enum-told t c = search needs
 
--- src/lib.rt:342:9
+-- src/lib.rt:343:9
 list-pat-same-length : (t : ℕ) → list-pat-lts.Need-same-length (
   word-reads.Asked,
   word-reads.Learnt,
@@ -2791,17 +2791,17 @@ list-pat-same-length : (t : ℕ) → list-pat-lts.Need-same-length (
 ) (list-pat-at t) list-pat.Post
 list-pat-same-length t c = c .before .before .before .before .pat-args .kept .1 .1 .1 .1 .0 ∙ c .before .before .before .before .before .before .before .before .word .kept .1 .0
 
--- src/lib.rt:342:9
+-- src/lib.rt:343:9
 list-pat-returns : (t : ℕ) → list-pat-lts.Need-returns (
   word-reads.Asked,
   word-reads.Learnt,
   pat-args-below t,
   pat-args.Post,
 ) (list-pat-at t) list-pat.Post
-unfolding Pat.ListPat
+unfolding Pat.pat
 list-pat-returns t c = record { is = λ kinds m. then-sure (c .before .before .before .before .before .before .before .before .word .ensures) (then-stop (plain (c .before .before .before .before .pat-args .ensures)) (c .enum-told .given .1)) }
 
--- src/lib.rt:344:18
+-- src/lib.rt:345:18
 list-pat-word-requires-2 : (t : ℕ) → list-pat-lts.Need-word-requires-2 (
   word-reads.Asked,
   word-reads.Learnt,
@@ -2810,7 +2810,7 @@ list-pat-word-requires-2 : (t : ℕ) → list-pat-lts.Need-word-requires-2 (
 ) (list-pat-at t) list-pat.Post
 list-pat-word-requires-2 t c κs = search needs
 
--- src/lib.rt:328:1
+-- src/lib.rt:329:1
 list-pat-same-length-2 : (t : ℕ) → list-pat-lts.Need-same-length-2 (
   word-reads.Asked,
   word-reads.Learnt,
@@ -2819,17 +2819,17 @@ list-pat-same-length-2 : (t : ℕ) → list-pat-lts.Need-same-length-2 (
 ) (list-pat-at t) list-pat.Post
 list-pat-same-length-2 t c = c .before .before .word2 .kept .1 .0 ∙ c .before .before .before .before .before .before .before .before .before .pat-args .kept .1 .1 .1 .1 .0 ∙ c .before .before .before .before .before .before .before .before .before .before .before .before .before .word .kept .1 .0
 
--- src/lib.rt:328:1
+-- src/lib.rt:329:1
 list-pat-returns-2 : (t : ℕ) → list-pat-lts.Need-returns-2 (
   word-reads.Asked,
   word-reads.Learnt,
   pat-args-below t,
   pat-args.Post,
 ) (list-pat-at t) list-pat.Post
-unfolding Pat.ListPat
+unfolding Pat.pat
 list-pat-returns-2 t c = record { is = λ kinds m. then-sure (c .before .before .before .before .before .before .before .before .before .before .before .before .before .word .ensures) (then-done (plain (c .before .before .before .before .before .before .before .before .before .pat-args .ensures)) (c .before .before .before .before .before .r2 .given .1) (last-sure (c .before .before .word2 .ensures))) }
 
--- src/lib.rt:452:9
+-- src/lib.rt:453:9
 or-pat-get-pat-requires : (t : ℕ) → or-pat-lts.Need-get-pat-requires (
   get-pat-below t,
   get-pat.Post,
@@ -2838,7 +2838,7 @@ or-pat-get-pat-requires : (t : ℕ) → or-pat-lts.Need-get-pat-requires (
 ) (or-pat-at t) or-pat.Post
 or-pat-get-pat-requires t c κs = omega (arith, c .before .before .before .before .before .before .pre .0)
 
--- src/lib.rt:453:22
+-- src/lib.rt:454:22
 or-pat-enum-known-r1 : (t : ℕ) → or-pat-lts.Need-enum-known-r1 (
   get-pat-below t,
   get-pat.Post,
@@ -2847,7 +2847,7 @@ or-pat-enum-known-r1 : (t : ℕ) → or-pat-lts.Need-enum-known-r1 (
 ) (or-pat-at t) or-pat.Post
 or-pat-enum-known-r1 t c = search needs
 
--- src/lib.rt:454:9
+-- src/lib.rt:455:9
 or-pat-enum-told : (t : ℕ) → or-pat-lts.Need-enum-told (
   get-pat-below t,
   get-pat.Post,
@@ -2856,7 +2856,7 @@ or-pat-enum-told : (t : ℕ) → or-pat-lts.Need-enum-told (
 ) (or-pat-at t) or-pat.Post
 or-pat-enum-told t c = search needs
 
--- src/lib.rt:454:9
+-- src/lib.rt:455:9
 or-pat-same-length : (t : ℕ) → or-pat-lts.Need-same-length (
   get-pat-below t,
   get-pat.Post,
@@ -2865,17 +2865,17 @@ or-pat-same-length : (t : ℕ) → or-pat-lts.Need-same-length (
 ) (or-pat-at t) or-pat.Post
 or-pat-same-length t c = c .before .before .before .before .get-pat .kept .1 .1 .1 .1 .0
 
--- src/lib.rt:454:9
+-- src/lib.rt:455:9
 or-pat-returns : (t : ℕ) → or-pat-lts.Need-returns (
   get-pat-below t,
   get-pat.Post,
   word-reads.Asked,
   word-reads.Learnt,
 ) (or-pat-at t) or-pat.Post
-unfolding Pat.OrPat
+unfolding Pat.pat
 or-pat-returns t c = record { is = λ kinds m. then-stop (plain (c .before .before .before .before .get-pat .ensures)) (c .enum-told .given .1) }
 
--- src/lib.rt:456:9
+-- src/lib.rt:457:9
 or-pat-word-requires : (t : ℕ) → or-pat-lts.Need-word-requires (
   get-pat-below t,
   get-pat.Post,
@@ -2884,7 +2884,7 @@ or-pat-word-requires : (t : ℕ) → or-pat-lts.Need-word-requires (
 ) (or-pat-at t) or-pat.Post
 or-pat-word-requires t c κs = search needs
 
--- src/lib.rt:457:5
+-- src/lib.rt:458:5
 or-pat-get-pat-requires-2 : (t : ℕ) → or-pat-lts.Need-get-pat-requires-2 (
   get-pat-below t,
   get-pat.Post,
@@ -2893,7 +2893,7 @@ or-pat-get-pat-requires-2 : (t : ℕ) → or-pat-lts.Need-get-pat-requires-2 (
 ) (or-pat-at t) or-pat.Post
 or-pat-get-pat-requires-2 t c κs = omega (arith, c .before .before .before .before .before .before .before .before .before .before .before .before .before .before .before .before .before .pre .0)
 
--- src/lib.rt:441:1
+-- src/lib.rt:442:1
 or-pat-same-length-2 : (t : ℕ) → or-pat-lts.Need-same-length-2 (
   get-pat-below t,
   get-pat.Post,
@@ -2902,17 +2902,17 @@ or-pat-same-length-2 : (t : ℕ) → or-pat-lts.Need-same-length-2 (
 ) (or-pat-at t) or-pat.Post
 or-pat-same-length-2 t c = c .before .before .get-pat2 .kept .1 .1 .1 .1 .0 ∙ c .before .before .before .before .before .before .word .kept .1 .0 ∙ c .before .before .before .before .before .before .before .before .before .before .before .before .before .get-pat .kept .1 .1 .1 .1 .0
 
--- src/lib.rt:441:1
+-- src/lib.rt:442:1
 or-pat-returns-2 : (t : ℕ) → or-pat-lts.Need-returns-2 (
   get-pat-below t,
   get-pat.Post,
   word-reads.Asked,
   word-reads.Learnt,
 ) (or-pat-at t) or-pat.Post
-unfolding Pat.OrPat
+unfolding Pat.pat
 or-pat-returns-2 t c = record { is = λ kinds m. then-done (plain (c .before .before .before .before .before .before .before .before .before .before .before .before .before .get-pat .ensures)) (c .before .before .before .before .before .before .before .before .before .r1 .given .1) (then-sure (c .before .before .before .before .before .before .word .ensures) (plain (c .before .before .get-pat2 .ensures))) }
 
--- src/lib.rt:266:9
+-- src/lib.rt:267:9
 paren-pat-word-requires : (t : ℕ) → paren-pat-lts.Need-word-requires (
   word-reads.Asked,
   word-reads.Learnt,
@@ -2921,7 +2921,7 @@ paren-pat-word-requires : (t : ℕ) → paren-pat-lts.Need-word-requires (
 ) (paren-pat-at t) paren-pat.Post
 paren-pat-word-requires t c κs = search needs
 
--- src/lib.rt:267:9
+-- src/lib.rt:268:9
 paren-pat-get-pat-requires : (t : ℕ) → paren-pat-lts.Need-get-pat-requires (
   word-reads.Asked,
   word-reads.Learnt,
@@ -2930,7 +2930,7 @@ paren-pat-get-pat-requires : (t : ℕ) → paren-pat-lts.Need-get-pat-requires (
 ) (paren-pat-at t) paren-pat.Post
 paren-pat-get-pat-requires t c κs = omega (arith, c .before .before .before .before .before .before .before .before .before .before .pre .0)
 
--- src/lib.rt:268:22
+-- src/lib.rt:269:22
 paren-pat-enum-known-r2 : (t : ℕ) → paren-pat-lts.Need-enum-known-r2 (
   word-reads.Asked,
   word-reads.Learnt,
@@ -2939,7 +2939,7 @@ paren-pat-enum-known-r2 : (t : ℕ) → paren-pat-lts.Need-enum-known-r2 (
 ) (paren-pat-at t) paren-pat.Post
 paren-pat-enum-known-r2 t c = search needs
 
--- src/lib.rt:269:9
+-- src/lib.rt:270:9
 paren-pat-enum-told : (t : ℕ) → paren-pat-lts.Need-enum-told (
   word-reads.Asked,
   word-reads.Learnt,
@@ -2948,7 +2948,7 @@ paren-pat-enum-told : (t : ℕ) → paren-pat-lts.Need-enum-told (
 ) (paren-pat-at t) paren-pat.Post
 paren-pat-enum-told t c = search needs
 
--- src/lib.rt:269:9
+-- src/lib.rt:270:9
 paren-pat-same-length : (t : ℕ) → paren-pat-lts.Need-same-length (
   word-reads.Asked,
   word-reads.Learnt,
@@ -2957,17 +2957,17 @@ paren-pat-same-length : (t : ℕ) → paren-pat-lts.Need-same-length (
 ) (paren-pat-at t) paren-pat.Post
 paren-pat-same-length t c = c .before .before .before .before .get-pat .kept .1 .1 .1 .1 .0 ∙ c .before .before .before .before .before .before .before .before .word .kept .1 .0
 
--- src/lib.rt:269:9
+-- src/lib.rt:270:9
 paren-pat-returns : (t : ℕ) → paren-pat-lts.Need-returns (
   word-reads.Asked,
   word-reads.Learnt,
   get-pat-below t,
   get-pat.Post,
 ) (paren-pat-at t) paren-pat.Post
-unfolding Pat.ParenPat
+unfolding Pat.pat
 paren-pat-returns t c = record { is = λ kinds m. then-sure (c .before .before .before .before .before .before .before .before .word .ensures) (then-stop (plain (c .before .before .before .before .get-pat .ensures)) (c .enum-told .given .1)) }
 
--- src/lib.rt:271:18
+-- src/lib.rt:272:18
 paren-pat-word-requires-2 : (t : ℕ) → paren-pat-lts.Need-word-requires-2 (
   word-reads.Asked,
   word-reads.Learnt,
@@ -2976,7 +2976,7 @@ paren-pat-word-requires-2 : (t : ℕ) → paren-pat-lts.Need-word-requires-2 (
 ) (paren-pat-at t) paren-pat.Post
 paren-pat-word-requires-2 t c κs = search needs
 
--- src/lib.rt:255:1
+-- src/lib.rt:256:1
 paren-pat-same-length-2 : (t : ℕ) → paren-pat-lts.Need-same-length-2 (
   word-reads.Asked,
   word-reads.Learnt,
@@ -2985,14 +2985,14 @@ paren-pat-same-length-2 : (t : ℕ) → paren-pat-lts.Need-same-length-2 (
 ) (paren-pat-at t) paren-pat.Post
 paren-pat-same-length-2 t c = c .before .before .word2 .kept .1 .0 ∙ c .before .before .before .before .before .before .before .before .before .get-pat .kept .1 .1 .1 .1 .0 ∙ c .before .before .before .before .before .before .before .before .before .before .before .before .before .word .kept .1 .0
 
--- src/lib.rt:255:1
+-- src/lib.rt:256:1
 paren-pat-returns-2 : (t : ℕ) → paren-pat-lts.Need-returns-2 (
   word-reads.Asked,
   word-reads.Learnt,
   get-pat-below t,
   get-pat.Post,
 ) (paren-pat-at t) paren-pat.Post
-unfolding Pat.ParenPat
+unfolding Pat.pat
 paren-pat-returns-2 t c = record { is = λ kinds m. then-sure (c .before .before .before .before .before .before .before .before .before .before .before .before .before .word .ensures) (then-done (plain (c .before .before .before .before .before .before .before .before .before .get-pat .ensures)) (c .before .before .before .before .before .r2 .given .1) (last-sure (c .before .before .word2 .ensures))) }
 
 abbrev pat-args-Inv-loop : pat-args-lts.InvT-loop
@@ -3002,7 +3002,7 @@ pat-args-Inv-loop text rec starts lens out₀ cfg n s₀ i₀ out s i =
 abbrev pat-args-μ-loop : pat-args-lts.MeasureT-loop
 pat-args-μ-loop text rec starts lens out₀ cfg n s₀ i₀ out s i = n - i
 
--- src/lib.rt:286:27
+-- src/lib.rt:287:27
 pat-args-list-requires : (t : ℕ) → pat-args-lts.Need-list-requires (
   list-reads.Asked,
   list-reads.Learnt,
@@ -3017,7 +3017,7 @@ pat-args-list-requires : (t : ℕ) → pat-args-lts.Need-list-requires (
 ) (pat-args-at t) pat-args.Post pat-args-Inv-loop pat-args-μ-loop
 pat-args-list-requires t c κs = search needs
 
--- src/lib.rt:286:18
+-- src/lib.rt:287:18
 pat-args-enum-known-n : (t : ℕ) → pat-args-lts.Need-enum-known-n (
   list-reads.Asked,
   list-reads.Learnt,
@@ -3032,7 +3032,7 @@ pat-args-enum-known-n : (t : ℕ) → pat-args-lts.Need-enum-known-n (
 ) (pat-args-at t) pat-args.Post pat-args-Inv-loop pat-args-μ-loop
 pat-args-enum-known-n t c = search needs
 
--- src/lib.rt:287:9
+-- src/lib.rt:288:9
 pat-args-enum-told : (t : ℕ) → pat-args-lts.Need-enum-told (
   list-reads.Asked,
   list-reads.Learnt,
@@ -3047,7 +3047,7 @@ pat-args-enum-told : (t : ℕ) → pat-args-lts.Need-enum-told (
 ) (pat-args-at t) pat-args.Post pat-args-Inv-loop pat-args-μ-loop
 pat-args-enum-told t c = search needs
 
--- src/lib.rt:287:9
+-- src/lib.rt:288:9
 pat-args-stop-requires : (t : ℕ) → pat-args-lts.Need-stop-requires (
   list-reads.Asked,
   list-reads.Learnt,
@@ -3062,7 +3062,7 @@ pat-args-stop-requires : (t : ℕ) → pat-args-lts.Need-stop-requires (
 ) (pat-args-at t) pat-args.Post pat-args-Inv-loop pat-args-μ-loop
 pat-args-stop-requires t c κs = search needs
 
--- src/lib.rt:287:9
+-- src/lib.rt:288:9
 pat-args-returns : (t : ℕ) → pat-args-lts.Need-returns (
   list-reads.Asked,
   list-reads.Learnt,
@@ -3078,7 +3078,7 @@ pat-args-returns : (t : ℕ) → pat-args-lts.Need-returns (
 unfolding Pat.pat-args Helpers.sep
 pat-args-returns t c = record { is = λ kinds m. list-not (c .stop .ensures) (c .before .before .before .list .ensures) (c .before .enum-told .given .1) }
 
--- src/lib.rt:291:5
+-- src/lib.rt:292:5
 pat-args-loop-holds : (t : ℕ) → pat-args-lts.Need-loop-holds (
   list-reads.Asked,
   list-reads.Learnt,
@@ -3093,7 +3093,7 @@ pat-args-loop-holds : (t : ℕ) → pat-args-lts.Need-loop-holds (
 ) (pat-args-at t) pat-args.Post pat-args-Inv-loop pat-args-μ-loop
 pat-args-loop-holds t c = (omega arith, λ kinds m r o h. h, refl)
 
--- src/lib.rt:292:13
+-- src/lib.rt:293:13
 pat-args-between-requires : (t : ℕ) → pat-args-lts.Need-between-requires (
   list-reads.Asked,
   list-reads.Learnt,
@@ -3108,7 +3108,7 @@ pat-args-between-requires : (t : ℕ) → pat-args-lts.Need-between-requires (
 ) (pat-args-at t) pat-args.Post pat-args-Inv-loop pat-args-μ-loop
 pat-args-between-requires t c κs = search needs
 
--- src/lib.rt:293:13
+-- src/lib.rt:294:13
 pat-args-group-requires : (t : ℕ) → pat-args-lts.Need-group-requires (
   list-reads.Asked,
   list-reads.Learnt,
@@ -3123,7 +3123,7 @@ pat-args-group-requires : (t : ℕ) → pat-args-lts.Need-group-requires (
 ) (pat-args-at t) pat-args.Post pat-args-Inv-loop pat-args-μ-loop
 pat-args-group-requires t c κs = search needs
 
--- src/lib.rt:294:26
+-- src/lib.rt:295:26
 pat-args-enum-known-r2 : (t : ℕ) → pat-args-lts.Need-enum-known-r2 (
   list-reads.Asked,
   list-reads.Learnt,
@@ -3138,7 +3138,7 @@ pat-args-enum-known-r2 : (t : ℕ) → pat-args-lts.Need-enum-known-r2 (
 ) (pat-args-at t) pat-args.Post pat-args-Inv-loop pat-args-μ-loop
 pat-args-enum-known-r2 t c = search needs
 
--- src/lib.rt:295:13
+-- src/lib.rt:296:13
 pat-args-enum-told-2 : (t : ℕ) → pat-args-lts.Need-enum-told-2 (
   list-reads.Asked,
   list-reads.Learnt,
@@ -3153,7 +3153,7 @@ pat-args-enum-told-2 : (t : ℕ) → pat-args-lts.Need-enum-told-2 (
 ) (pat-args-at t) pat-args.Post pat-args-Inv-loop pat-args-μ-loop
 pat-args-enum-told-2 t c = search needs
 
--- src/lib.rt:295:13
+-- src/lib.rt:296:13
 pat-args-same-length : (t : ℕ) → pat-args-lts.Need-same-length (
   list-reads.Asked,
   list-reads.Learnt,
@@ -3168,7 +3168,7 @@ pat-args-same-length : (t : ℕ) → pat-args-lts.Need-same-length (
 ) (pat-args-at t) pat-args.Post pat-args-Inv-loop pat-args-μ-loop
 pat-args-same-length t c = c .before .before .before .before .before .between .kept .1 .0 ∙ c .before .before .before .before .before .before .before .before .loop .inv .2
 
--- src/lib.rt:295:13
+-- src/lib.rt:296:13
 pat-args-returns-2 : (t : ℕ) → pat-args-lts.Need-returns-2 (
   list-reads.Asked,
   list-reads.Learnt,
@@ -3184,7 +3184,7 @@ pat-args-returns-2 : (t : ℕ) → pat-args-lts.Need-returns-2 (
 unfolding Pat.pat-args Helpers.sep
 pat-args-returns-2 t c = record { is = λ kinds m. by-same (list-is (c .before .before .before .before .before .before .before .before .before .before .before .before .list .ensures) (c .before .before .before .before .before .before .before .before .before .before .n .given .1)) (by-same (items-all _ _ _) (c .before .before .before .before .before .before .before .before .loop .inv .1 kinds m _ _ (from-more _ _ (c .before .before .before .before .before .before .before .loop-test .taken) (then-sure (c .before .before .before .before .before .between .ensures) (then-stop (group-not (c .before .before .group .ensures) (c .enum-told2 .given .1)) (c .enum-told2 .given .1)))))) }
 
--- src/lib.rt:297:13
+-- src/lib.rt:298:13
 pat-args-get-pat-requires : (t : ℕ) → pat-args-lts.Need-get-pat-requires (
   list-reads.Asked,
   list-reads.Learnt,
@@ -3199,7 +3199,7 @@ pat-args-get-pat-requires : (t : ℕ) → pat-args-lts.Need-get-pat-requires (
 ) (pat-args-at t) pat-args.Post pat-args-Inv-loop pat-args-μ-loop
 pat-args-get-pat-requires t c κs = omega (arith, c .before .before .before .before .before .before .before .before .before .before .before .before .before .before .before .before .before .before .before .before .pre .0)
 
--- src/lib.rt:298:26
+-- src/lib.rt:299:26
 pat-args-enum-known-r3 : (t : ℕ) → pat-args-lts.Need-enum-known-r3 (
   list-reads.Asked,
   list-reads.Learnt,
@@ -3214,7 +3214,7 @@ pat-args-enum-known-r3 : (t : ℕ) → pat-args-lts.Need-enum-known-r3 (
 ) (pat-args-at t) pat-args.Post pat-args-Inv-loop pat-args-μ-loop
 pat-args-enum-known-r3 t c = search needs
 
--- src/lib.rt:299:13
+-- src/lib.rt:300:13
 pat-args-enum-told-3 : (t : ℕ) → pat-args-lts.Need-enum-told-3 (
   list-reads.Asked,
   list-reads.Learnt,
@@ -3229,7 +3229,7 @@ pat-args-enum-told-3 : (t : ℕ) → pat-args-lts.Need-enum-told-3 (
 ) (pat-args-at t) pat-args.Post pat-args-Inv-loop pat-args-μ-loop
 pat-args-enum-told-3 t c = search needs
 
--- src/lib.rt:299:13
+-- src/lib.rt:300:13
 pat-args-same-length-2 : (t : ℕ) → pat-args-lts.Need-same-length-2 (
   list-reads.Asked,
   list-reads.Learnt,
@@ -3244,7 +3244,7 @@ pat-args-same-length-2 : (t : ℕ) → pat-args-lts.Need-same-length-2 (
 ) (pat-args-at t) pat-args.Post pat-args-Inv-loop pat-args-μ-loop
 pat-args-same-length-2 t c = c .before .before .before .before .get-pat .kept .1 .1 .1 .1 .0 ∙ c .before .before .before .before .before .before .before .before .before .before .before .before .between .kept .1 .0 ∙ c .before .before .before .before .before .before .before .before .before .before .before .before .before .before .before .loop .inv .2
 
--- src/lib.rt:299:13
+-- src/lib.rt:300:13
 pat-args-returns-3 : (t : ℕ) → pat-args-lts.Need-returns-3 (
   list-reads.Asked,
   list-reads.Learnt,
@@ -3260,7 +3260,7 @@ pat-args-returns-3 : (t : ℕ) → pat-args-lts.Need-returns-3 (
 unfolding Pat.pat-args Helpers.sep
 pat-args-returns-3 t c = record { is = λ kinds m. by-same (list-is (c .before .before .before .before .before .before .before .before .before .before .before .before .before .before .before .before .before .before .before .list .ensures) (c .before .before .before .before .before .before .before .before .before .before .before .before .before .before .before .before .before .n .given .1)) (by-same (items-all _ _ _) (c .before .before .before .before .before .before .before .before .before .before .before .before .before .before .before .loop .inv .1 kinds m _ _ (from-more _ _ (c .before .before .before .before .before .before .before .before .before .before .before .before .before .before .loop-test .taken) (then-sure (c .before .before .before .before .before .before .before .before .before .before .before .before .between .ensures) (by-same (first-same (group-is (c .before .before .before .before .before .before .before .before .before .group .ensures) (c .before .before .before .before .before .before .before .r2 .given .1))) (then-stop (plain (c .before .before .before .before .get-pat .ensures)) (c .enum-told3 .given .1))))))) }
 
--- src/lib.rt:302:9
+-- src/lib.rt:303:9
 pat-args-add-i : (t : ℕ) → pat-args-lts.Need-add-i (
   list-reads.Asked,
   list-reads.Learnt,
@@ -3275,7 +3275,7 @@ pat-args-add-i : (t : ℕ) → pat-args-lts.Need-add-i (
 ) (pat-args-at t) pat-args.Post pat-args-Inv-loop pat-args-μ-loop
 pat-args-add-i t c = omega (arith, c .before .before .before .before .before .before .before .before .before .before .before .before .before .before .before .loop-test .taken, c .before .before .before .before .before .before .before .before .before .before .before .before .before .before .before .before .before .known-told)
 
--- src/lib.rt:291:5
+-- src/lib.rt:292:5
 pat-args-loop-less : (t : ℕ) → pat-args-lts.Need-loop-less (
   list-reads.Asked,
   list-reads.Learnt,
@@ -3290,7 +3290,7 @@ pat-args-loop-less : (t : ℕ) → pat-args-lts.Need-loop-less (
 ) (pat-args-at t) pat-args.Post pat-args-Inv-loop pat-args-μ-loop
 pat-args-loop-less t c = omega arith
 
--- src/lib.rt:291:5
+-- src/lib.rt:292:5
 pat-args-loop-again : (t : ℕ) → pat-args-lts.Need-loop-again (
   list-reads.Asked,
   list-reads.Learnt,
@@ -3306,7 +3306,7 @@ pat-args-loop-again : (t : ℕ) → pat-args-lts.Need-loop-again (
 unfolding Pat.pat-args Helpers.sep
 pat-args-loop-again t c = (omega (arith, c .before .before .before .before .before .before .before .before .before .before .before .before .before .before .before .before .loop .inv .0), λ kinds m r o h. c .before .before .before .before .before .before .before .before .before .before .before .before .before .before .before .before .loop .inv .1 kinds m r o (from-more _ _ (c .before .before .before .before .before .before .before .before .before .before .before .before .before .before .before .loop-test .taken) (then-sure (c .before .before .before .before .before .before .before .before .before .before .before .before .before .between .ensures) (by-same (first-same (group-is (c .before .before .before .before .before .before .before .before .before .before .group .ensures) (c .before .before .before .before .before .before .before .before .r2 .given .1))) (then-done (plain (c .before .before .before .before .before .get-pat .ensures)) (c .before .r3 .given .1) h)))), c .before .before .before .before .before .get-pat .kept .1 .1 .1 .1 .0 ∙ c .before .before .before .before .before .before .before .before .before .before .before .before .before .between .kept .1 .0 ∙ c .before .before .before .before .before .before .before .before .before .before .before .before .before .before .before .before .loop .inv .2)
 
--- src/lib.rt:275:1
+-- src/lib.rt:276:1
 pat-args-same-length-3 : (t : ℕ) → pat-args-lts.Need-same-length-3 (
   list-reads.Asked,
   list-reads.Learnt,
@@ -3321,7 +3321,7 @@ pat-args-same-length-3 : (t : ℕ) → pat-args-lts.Need-same-length-3 (
 ) (pat-args-at t) pat-args.Post pat-args-Inv-loop pat-args-μ-loop
 pat-args-same-length-3 t c = c .before .loop .inv .2
 
--- src/lib.rt:275:1
+-- src/lib.rt:276:1
 pat-args-returns-4 : (t : ℕ) → pat-args-lts.Need-returns-4 (
   list-reads.Asked,
   list-reads.Learnt,
@@ -3337,7 +3337,7 @@ pat-args-returns-4 : (t : ℕ) → pat-args-lts.Need-returns-4 (
 unfolding Pat.pat-args Helpers.sep
 pat-args-returns-4 t c = record { is = λ kinds m. by-same (list-is (c .before .before .before .before .before .list .ensures) (c .before .before .before .n .given .1)) (by-same (items-all _ _ _) (c .before .loop .inv .1 kinds m _ _ (from-none _ _ (c .loop-test .left)))) }
 
--- src/lib.rt:246:9
+-- src/lib.rt:247:9
 record-pat-word-requires : (t : ℕ) → record-pat-lts.Need-word-requires (
   word-reads.Asked,
   word-reads.Learnt,
@@ -3346,7 +3346,7 @@ record-pat-word-requires : (t : ℕ) → record-pat-lts.Need-word-requires (
 ) (record-pat-at t) record-pat.Post
 record-pat-word-requires t c κs = search needs
 
--- src/lib.rt:247:9
+-- src/lib.rt:248:9
 record-pat-rows-requires : (t : ℕ) → record-pat-lts.Need-rows-requires (
   word-reads.Asked,
   word-reads.Learnt,
@@ -3355,7 +3355,7 @@ record-pat-rows-requires : (t : ℕ) → record-pat-lts.Need-rows-requires (
 ) (record-pat-at t) record-pat.Post
 record-pat-rows-requires t c κs = omega (arith, c .before .before .before .before .before .before .before .before .before .before .pre .0)
 
--- src/lib.rt:248:22
+-- src/lib.rt:249:22
 record-pat-enum-known-r2 : (t : ℕ) → record-pat-lts.Need-enum-known-r2 (
   word-reads.Asked,
   word-reads.Learnt,
@@ -3364,7 +3364,7 @@ record-pat-enum-known-r2 : (t : ℕ) → record-pat-lts.Need-enum-known-r2 (
 ) (record-pat-at t) record-pat.Post
 record-pat-enum-known-r2 t c = search needs
 
--- src/lib.rt:249:9
+-- src/lib.rt:250:9
 record-pat-enum-told : (t : ℕ) → record-pat-lts.Need-enum-told (
   word-reads.Asked,
   word-reads.Learnt,
@@ -3373,7 +3373,7 @@ record-pat-enum-told : (t : ℕ) → record-pat-lts.Need-enum-told (
 ) (record-pat-at t) record-pat.Post
 record-pat-enum-told t c = search needs
 
--- src/lib.rt:249:9
+-- src/lib.rt:250:9
 record-pat-same-length : (t : ℕ) → record-pat-lts.Need-same-length (
   word-reads.Asked,
   word-reads.Learnt,
@@ -3382,17 +3382,17 @@ record-pat-same-length : (t : ℕ) → record-pat-lts.Need-same-length (
 ) (record-pat-at t) record-pat.Post
 record-pat-same-length t c = c .before .before .before .before .rows .kept .1 .1 .1 .1 .0 ∙ c .before .before .before .before .before .before .before .before .word .kept .1 .0
 
--- src/lib.rt:249:9
+-- src/lib.rt:250:9
 record-pat-returns : (t : ℕ) → record-pat-lts.Need-returns (
   word-reads.Asked,
   word-reads.Learnt,
   rows-below t,
   rows.Post,
 ) (record-pat-at t) record-pat.Post
-unfolding Pat.RecordPat
+unfolding Pat.pat
 record-pat-returns t c = record { is = λ kinds m. then-sure (c .before .before .before .before .before .before .before .before .word .ensures) (then-stop (plain (c .before .before .before .before .rows .ensures)) (c .enum-told .given .1)) }
 
--- src/lib.rt:251:18
+-- src/lib.rt:252:18
 record-pat-word-requires-2 : (t : ℕ) → record-pat-lts.Need-word-requires-2 (
   word-reads.Asked,
   word-reads.Learnt,
@@ -3401,7 +3401,7 @@ record-pat-word-requires-2 : (t : ℕ) → record-pat-lts.Need-word-requires-2 (
 ) (record-pat-at t) record-pat.Post
 record-pat-word-requires-2 t c κs = search needs
 
--- src/lib.rt:235:1
+-- src/lib.rt:236:1
 record-pat-same-length-2 : (t : ℕ) → record-pat-lts.Need-same-length-2 (
   word-reads.Asked,
   word-reads.Learnt,
@@ -3410,17 +3410,17 @@ record-pat-same-length-2 : (t : ℕ) → record-pat-lts.Need-same-length-2 (
 ) (record-pat-at t) record-pat.Post
 record-pat-same-length-2 t c = c .before .before .word2 .kept .1 .0 ∙ c .before .before .before .before .before .before .before .before .before .rows .kept .1 .1 .1 .1 .0 ∙ c .before .before .before .before .before .before .before .before .before .before .before .before .before .word .kept .1 .0
 
--- src/lib.rt:235:1
+-- src/lib.rt:236:1
 record-pat-returns-2 : (t : ℕ) → record-pat-lts.Need-returns-2 (
   word-reads.Asked,
   word-reads.Learnt,
   rows-below t,
   rows.Post,
 ) (record-pat-at t) record-pat.Post
-unfolding Pat.RecordPat
+unfolding Pat.pat
 record-pat-returns-2 t c = record { is = λ kinds m. then-sure (c .before .before .before .before .before .before .before .before .before .before .before .before .before .word .ensures) (then-done (plain (c .before .before .before .before .before .before .before .before .before .rows .ensures)) (c .before .before .before .before .before .r2 .given .1) (last-sure (c .before .before .word2 .ensures))) }
 
--- src/lib.rt:195:9
+-- src/lib.rt:196:9
 row-group-requires : (t : ℕ) → row-lts.Need-group-requires (
   group-reads.Asked,
   group-reads.Learnt,
@@ -3433,7 +3433,7 @@ row-group-requires : (t : ℕ) → row-lts.Need-group-requires (
 ) (row-at t) row.Post
 row-group-requires t c κs = search needs
 
--- src/lib.rt:196:22
+-- src/lib.rt:197:22
 row-enum-known-r1 : (t : ℕ) → row-lts.Need-enum-known-r1 (
   group-reads.Asked,
   group-reads.Learnt,
@@ -3446,7 +3446,7 @@ row-enum-known-r1 : (t : ℕ) → row-lts.Need-enum-known-r1 (
 ) (row-at t) row.Post
 row-enum-known-r1 t c = search needs
 
--- src/lib.rt:197:9
+-- src/lib.rt:198:9
 row-enum-told : (t : ℕ) → row-lts.Need-enum-told (
   group-reads.Asked,
   group-reads.Learnt,
@@ -3459,7 +3459,7 @@ row-enum-told : (t : ℕ) → row-lts.Need-enum-told (
 ) (row-at t) row.Post
 row-enum-told t c = search needs
 
--- src/lib.rt:197:9
+-- src/lib.rt:198:9
 row-returns : (t : ℕ) → row-lts.Need-returns (
   group-reads.Asked,
   group-reads.Learnt,
@@ -3473,7 +3473,7 @@ row-returns : (t : ℕ) → row-lts.Need-returns (
 unfolding Pat.pat-row
 row-returns t c = record { is = λ kinds m. group-not (c .before .before .group .ensures) (c .enum-told .given .1) }
 
--- src/lib.rt:199:27
+-- src/lib.rt:200:27
 row-choice-requires : (t : ℕ) → row-lts.Need-choice-requires (
   group-reads.Asked,
   group-reads.Learnt,
@@ -3486,7 +3486,7 @@ row-choice-requires : (t : ℕ) → row-lts.Need-choice-requires (
 ) (row-at t) row.Post
 row-choice-requires t c κs = search needs
 
--- src/lib.rt:199:18
+-- src/lib.rt:200:18
 row-enum-known-k : (t : ℕ) → row-lts.Need-enum-known-k (
   group-reads.Asked,
   group-reads.Learnt,
@@ -3499,7 +3499,7 @@ row-enum-known-k : (t : ℕ) → row-lts.Need-enum-known-k (
 ) (row-at t) row.Post
 row-enum-known-k t c = search needs
 
--- src/lib.rt:200:9
+-- src/lib.rt:201:9
 row-enum-told-2 : (t : ℕ) → row-lts.Need-enum-told-2 (
   group-reads.Asked,
   group-reads.Learnt,
@@ -3512,7 +3512,7 @@ row-enum-told-2 : (t : ℕ) → row-lts.Need-enum-told-2 (
 ) (row-at t) row.Post
 row-enum-told-2 t c = search needs
 
--- src/lib.rt:200:9
+-- src/lib.rt:201:9
 row-stop-requires : (t : ℕ) → row-lts.Need-stop-requires (
   group-reads.Asked,
   group-reads.Learnt,
@@ -3525,7 +3525,7 @@ row-stop-requires : (t : ℕ) → row-lts.Need-stop-requires (
 ) (row-at t) row.Post
 row-stop-requires t c κs = search needs
 
--- src/lib.rt:200:9
+-- src/lib.rt:201:9
 row-returns-2 : (t : ℕ) → row-lts.Need-returns-2 (
   group-reads.Asked,
   group-reads.Learnt,
@@ -3539,7 +3539,7 @@ row-returns-2 : (t : ℕ) → row-lts.Need-returns-2 (
 unfolding Pat.pat-row
 row-returns-2 t c = record { is = λ kinds m. by-same (group-is (c .before .before .before .before .before .before .before .group .ensures) (c .before .before .before .before .before .r1 .given .1)) (choice-not (c .stop .ensures) (c .before .before .before .choice .ensures) (c .before .enum-told2 .given .1)) }
 
--- src/lib.rt:202:5
+-- src/lib.rt:203:5
 row-row-inner-requires : (t : ℕ) → row-lts.Need-row-inner-requires (
   group-reads.Asked,
   group-reads.Learnt,
@@ -3552,7 +3552,7 @@ row-row-inner-requires : (t : ℕ) → row-lts.Need-row-inner-requires (
 ) (row-at t) row.Post
 row-row-inner-requires t c κs = omega (arith, c .before .before .before .before .before .before .before .before .before .before .before .before .before .before .pre .0)
 
--- src/lib.rt:184:1
+-- src/lib.rt:185:1
 row-same-length : (t : ℕ) → row-lts.Need-same-length (
   group-reads.Asked,
   group-reads.Learnt,
@@ -3565,7 +3565,7 @@ row-same-length : (t : ℕ) → row-lts.Need-same-length (
 ) (row-at t) row.Post
 row-same-length t c = c .before .before .row-inner .kept .1 .1 .1 .1 .0
 
--- src/lib.rt:184:1
+-- src/lib.rt:185:1
 row-returns-3 : (t : ℕ) → row-lts.Need-returns-3 (
   group-reads.Asked,
   group-reads.Learnt,
@@ -3579,7 +3579,7 @@ row-returns-3 : (t : ℕ) → row-lts.Need-returns-3 (
 unfolding Pat.pat-row
 row-returns-3 t c = record { is = λ kinds m. by-same (group-is (c .before .before .before .before .before .before .before .before .before .before .before .group .ensures) (c .before .before .before .before .before .before .before .before .before .r1 .given .1)) (by-same (choice-is (c .before .before .before .before .before .before .before .choice .ensures) (c .before .before .before .before .before .k .given .1)) (plain (c .before .before .row-inner .ensures))) }
 
--- src/lib.rt:176:27
+-- src/lib.rt:177:27
 row-inner-word-requires : (t : ℕ) → row-inner-lts.Need-word-requires (
   word-reads.Asked,
   word-reads.Learnt,
@@ -3592,7 +3592,7 @@ row-inner-word-requires : (t : ℕ) → row-inner-lts.Need-word-requires (
 ) (row-inner-at t) row-inner.Post
 row-inner-word-requires t c κs = search needs
 
--- src/lib.rt:177:14
+-- src/lib.rt:178:14
 row-inner-lab-and-pat-requires : (t : ℕ) → row-inner-lts.Need-lab-and-pat-requires (
   word-reads.Asked,
   word-reads.Learnt,
@@ -3605,7 +3605,7 @@ row-inner-lab-and-pat-requires : (t : ℕ) → row-inner-lts.Need-lab-and-pat-re
 ) (row-inner-at t) row-inner.Post
 row-inner-lab-and-pat-requires t c κs = omega (arith, c .before .before .before .before .before .before .before .pre .0)
 
--- src/lib.rt:178:14
+-- src/lib.rt:179:14
 row-inner-lab-pat-requires : (t : ℕ) → row-inner-lts.Need-lab-pat-requires (
   word-reads.Asked,
   word-reads.Learnt,
@@ -3618,7 +3618,7 @@ row-inner-lab-pat-requires : (t : ℕ) → row-inner-lts.Need-lab-pat-requires (
 ) (row-inner-at t) row-inner.Post
 row-inner-lab-pat-requires t c κs = omega (arith, c .before .before .before .before .before .before .before .pre .0)
 
--- src/lib.rt:179:14
+-- src/lib.rt:180:14
 row-inner-stop-requires : (t : ℕ) → row-inner-lts.Need-stop-requires (
   word-reads.Asked,
   word-reads.Learnt,
@@ -3631,7 +3631,7 @@ row-inner-stop-requires : (t : ℕ) → row-inner-lts.Need-stop-requires (
 ) (row-inner-at t) row-inner.Post
 row-inner-stop-requires t c κs = search needs
 
--- src/lib.rt:163:1
+-- src/lib.rt:164:1
 row-inner-same-length : (t : ℕ) → row-inner-lts.Need-same-length (
   word-reads.Asked,
   word-reads.Learnt,
@@ -3644,7 +3644,7 @@ row-inner-same-length : (t : ℕ) → row-inner-lts.Need-same-length (
 ) (row-inner-at t) row-inner.Post
 row-inner-same-length t c = c .before .before .word .kept .1 .0
 
--- src/lib.rt:163:1
+-- src/lib.rt:164:1
 row-inner-returns : (t : ℕ) → row-inner-lts.Need-returns (
   word-reads.Asked,
   word-reads.Learnt,
@@ -3658,7 +3658,7 @@ row-inner-returns : (t : ℕ) → row-inner-lts.Need-returns (
 unfolding Pat.pat-row-inner Pat.RestPatRow
 row-inner-returns t c = record { is = λ kinds m. at-key (Pat.pat-row-inner (walks (c .before .before .before .before .before .before .before .before .before .before .args .cfg .left))) (c .before .before .before .before .match .keys1) (last-sure (c .before .before .word .ensures)) }
 
--- src/lib.rt:163:1
+-- src/lib.rt:164:1
 row-inner-same-length-2 : (t : ℕ) → row-inner-lts.Need-same-length-2 (
   word-reads.Asked,
   word-reads.Learnt,
@@ -3671,7 +3671,7 @@ row-inner-same-length-2 : (t : ℕ) → row-inner-lts.Need-same-length-2 (
 ) (row-inner-at t) row-inner.Post
 row-inner-same-length-2 t c = c .before .before .lab-and-pat .kept .1 .1 .1 .1 .0
 
--- src/lib.rt:163:1
+-- src/lib.rt:164:1
 row-inner-returns-2 : (t : ℕ) → row-inner-lts.Need-returns-2 (
   word-reads.Asked,
   word-reads.Learnt,
@@ -3685,7 +3685,7 @@ row-inner-returns-2 : (t : ℕ) → row-inner-lts.Need-returns-2 (
 unfolding Pat.pat-row-inner Pat.RestPatRow
 row-inner-returns-2 t c = record { is = λ kinds m. at-key (Pat.pat-row-inner (walks (c .before .before .before .before .before .before .before .before .before .before .args .cfg .left))) (c .before .before .before .before .match .keys2) (plain (c .before .before .lab-and-pat .ensures)) }
 
--- src/lib.rt:163:1
+-- src/lib.rt:164:1
 row-inner-same-length-3 : (t : ℕ) → row-inner-lts.Need-same-length-3 (
   word-reads.Asked,
   word-reads.Learnt,
@@ -3698,7 +3698,7 @@ row-inner-same-length-3 : (t : ℕ) → row-inner-lts.Need-same-length-3 (
 ) (row-inner-at t) row-inner.Post
 row-inner-same-length-3 t c = c .before .before .lab-pat .kept .1 .1 .1 .1 .0
 
--- src/lib.rt:163:1
+-- src/lib.rt:164:1
 row-inner-returns-3 : (t : ℕ) → row-inner-lts.Need-returns-3 (
   word-reads.Asked,
   word-reads.Learnt,
@@ -3712,7 +3712,7 @@ row-inner-returns-3 : (t : ℕ) → row-inner-lts.Need-returns-3 (
 unfolding Pat.pat-row-inner Pat.RestPatRow
 row-inner-returns-3 t c = record { is = λ kinds m. at-key (Pat.pat-row-inner (walks (c .before .before .before .before .before .before .before .before .before .before .args .cfg .left))) (c .before .before .before .before .match .keys3) (plain (c .before .before .lab-pat .ensures)) }
 
--- src/lib.rt:163:1
+-- src/lib.rt:164:1
 row-inner-returns-4 : (t : ℕ) → row-inner-lts.Need-returns-4 (
   word-reads.Asked,
   word-reads.Learnt,
@@ -3733,7 +3733,7 @@ rows-Inv-loop text rec starts lens out₀ cfg n s₀ i₀ out s i =
 abbrev rows-μ-loop : rows-lts.MeasureT-loop
 rows-μ-loop text rec starts lens out₀ cfg n s₀ i₀ out s i = n - i
 
--- src/lib.rt:217:27
+-- src/lib.rt:218:27
 rows-list-requires : (t : ℕ) → rows-lts.Need-list-requires (
   list-reads.Asked,
   list-reads.Learnt,
@@ -3746,7 +3746,7 @@ rows-list-requires : (t : ℕ) → rows-lts.Need-list-requires (
 ) (rows-at t) rows.Post rows-Inv-loop rows-μ-loop
 rows-list-requires t c κs = search needs
 
--- src/lib.rt:217:18
+-- src/lib.rt:218:18
 rows-enum-known-n : (t : ℕ) → rows-lts.Need-enum-known-n (
   list-reads.Asked,
   list-reads.Learnt,
@@ -3759,7 +3759,7 @@ rows-enum-known-n : (t : ℕ) → rows-lts.Need-enum-known-n (
 ) (rows-at t) rows.Post rows-Inv-loop rows-μ-loop
 rows-enum-known-n t c = search needs
 
--- src/lib.rt:218:9
+-- src/lib.rt:219:9
 rows-enum-told : (t : ℕ) → rows-lts.Need-enum-told (
   list-reads.Asked,
   list-reads.Learnt,
@@ -3772,7 +3772,7 @@ rows-enum-told : (t : ℕ) → rows-lts.Need-enum-told (
 ) (rows-at t) rows.Post rows-Inv-loop rows-μ-loop
 rows-enum-told t c = search needs
 
--- src/lib.rt:218:9
+-- src/lib.rt:219:9
 rows-stop-requires : (t : ℕ) → rows-lts.Need-stop-requires (
   list-reads.Asked,
   list-reads.Learnt,
@@ -3785,7 +3785,7 @@ rows-stop-requires : (t : ℕ) → rows-lts.Need-stop-requires (
 ) (rows-at t) rows.Post rows-Inv-loop rows-μ-loop
 rows-stop-requires t c κs = search needs
 
--- src/lib.rt:218:9
+-- src/lib.rt:219:9
 rows-returns : (t : ℕ) → rows-lts.Need-returns (
   list-reads.Asked,
   list-reads.Learnt,
@@ -3799,7 +3799,7 @@ rows-returns : (t : ℕ) → rows-lts.Need-returns (
 unfolding Pat.pat-rows Helpers.sep
 rows-returns t c = record { is = λ kinds m. list-not (c .stop .ensures) (c .before .before .before .list .ensures) (c .before .enum-told .given .1) }
 
--- src/lib.rt:222:5
+-- src/lib.rt:223:5
 rows-loop-holds : (t : ℕ) → rows-lts.Need-loop-holds (
   list-reads.Asked,
   list-reads.Learnt,
@@ -3812,7 +3812,7 @@ rows-loop-holds : (t : ℕ) → rows-lts.Need-loop-holds (
 ) (rows-at t) rows.Post rows-Inv-loop rows-μ-loop
 rows-loop-holds t c = (omega arith, λ kinds m r o h. h, refl)
 
--- src/lib.rt:223:13
+-- src/lib.rt:224:13
 rows-between-requires : (t : ℕ) → rows-lts.Need-between-requires (
   list-reads.Asked,
   list-reads.Learnt,
@@ -3825,7 +3825,7 @@ rows-between-requires : (t : ℕ) → rows-lts.Need-between-requires (
 ) (rows-at t) rows.Post rows-Inv-loop rows-μ-loop
 rows-between-requires t c κs = search needs
 
--- src/lib.rt:224:13
+-- src/lib.rt:225:13
 rows-row-requires : (t : ℕ) → rows-lts.Need-row-requires (
   list-reads.Asked,
   list-reads.Learnt,
@@ -3838,7 +3838,7 @@ rows-row-requires : (t : ℕ) → rows-lts.Need-row-requires (
 ) (rows-at t) rows.Post rows-Inv-loop rows-μ-loop
 rows-row-requires t c κs = omega (arith, c .before .before .before .before .before .before .before .before .before .before .before .before .before .before .before .before .pre .0)
 
--- src/lib.rt:225:26
+-- src/lib.rt:226:26
 rows-enum-known-r2 : (t : ℕ) → rows-lts.Need-enum-known-r2 (
   list-reads.Asked,
   list-reads.Learnt,
@@ -3851,7 +3851,7 @@ rows-enum-known-r2 : (t : ℕ) → rows-lts.Need-enum-known-r2 (
 ) (rows-at t) rows.Post rows-Inv-loop rows-μ-loop
 rows-enum-known-r2 t c = search needs
 
--- src/lib.rt:226:13
+-- src/lib.rt:227:13
 rows-enum-told-2 : (t : ℕ) → rows-lts.Need-enum-told-2 (
   list-reads.Asked,
   list-reads.Learnt,
@@ -3864,7 +3864,7 @@ rows-enum-told-2 : (t : ℕ) → rows-lts.Need-enum-told-2 (
 ) (rows-at t) rows.Post rows-Inv-loop rows-μ-loop
 rows-enum-told-2 t c = search needs
 
--- src/lib.rt:226:13
+-- src/lib.rt:227:13
 rows-same-length : (t : ℕ) → rows-lts.Need-same-length (
   list-reads.Asked,
   list-reads.Learnt,
@@ -3877,7 +3877,7 @@ rows-same-length : (t : ℕ) → rows-lts.Need-same-length (
 ) (rows-at t) rows.Post rows-Inv-loop rows-μ-loop
 rows-same-length t c = c .before .before .before .before .row .kept .1 .1 .1 .1 .0 ∙ c .before .before .before .before .before .before .before .before .between .kept .1 .0 ∙ c .before .before .before .before .before .before .before .before .before .before .before .loop .inv .2
 
--- src/lib.rt:226:13
+-- src/lib.rt:227:13
 rows-returns-2 : (t : ℕ) → rows-lts.Need-returns-2 (
   list-reads.Asked,
   list-reads.Learnt,
@@ -3891,7 +3891,7 @@ rows-returns-2 : (t : ℕ) → rows-lts.Need-returns-2 (
 unfolding Pat.pat-rows Helpers.sep
 rows-returns-2 t c = record { is = λ kinds m. by-same (list-is (c .before .before .before .before .before .before .before .before .before .before .before .before .before .before .before .list .ensures) (c .before .before .before .before .before .before .before .before .before .before .before .before .before .n .given .1)) (by-same (items-all _ _ _) (c .before .before .before .before .before .before .before .before .before .before .before .loop .inv .1 kinds m _ _ (from-more _ _ (c .before .before .before .before .before .before .before .before .before .before .loop-test .taken) (then-sure (c .before .before .before .before .before .before .before .before .between .ensures) (then-stop (plain (c .before .before .before .before .row .ensures)) (c .enum-told2 .given .1)))))) }
 
--- src/lib.rt:229:9
+-- src/lib.rt:230:9
 rows-add-i : (t : ℕ) → rows-lts.Need-add-i (
   list-reads.Asked,
   list-reads.Learnt,
@@ -3904,7 +3904,7 @@ rows-add-i : (t : ℕ) → rows-lts.Need-add-i (
 ) (rows-at t) rows.Post rows-Inv-loop rows-μ-loop
 rows-add-i t c = omega (arith, c .before .before .before .before .before .before .before .before .before .before .before .loop-test .taken, c .before .before .before .before .before .before .before .before .before .before .before .before .before .known-told)
 
--- src/lib.rt:222:5
+-- src/lib.rt:223:5
 rows-loop-less : (t : ℕ) → rows-lts.Need-loop-less (
   list-reads.Asked,
   list-reads.Learnt,
@@ -3917,7 +3917,7 @@ rows-loop-less : (t : ℕ) → rows-lts.Need-loop-less (
 ) (rows-at t) rows.Post rows-Inv-loop rows-μ-loop
 rows-loop-less t c = omega arith
 
--- src/lib.rt:222:5
+-- src/lib.rt:223:5
 rows-loop-again : (t : ℕ) → rows-lts.Need-loop-again (
   list-reads.Asked,
   list-reads.Learnt,
@@ -3931,7 +3931,7 @@ rows-loop-again : (t : ℕ) → rows-lts.Need-loop-again (
 unfolding Pat.pat-rows Helpers.sep
 rows-loop-again t c = (omega (arith, c .before .before .before .before .before .before .before .before .before .before .before .before .loop .inv .0), λ kinds m r o h. c .before .before .before .before .before .before .before .before .before .before .before .before .loop .inv .1 kinds m r o (from-more _ _ (c .before .before .before .before .before .before .before .before .before .before .before .loop-test .taken) (then-sure (c .before .before .before .before .before .before .before .before .before .between .ensures) (then-done (plain (c .before .before .before .before .before .row .ensures)) (c .before .r2 .given .1) h))), c .before .before .before .before .before .row .kept .1 .1 .1 .1 .0 ∙ c .before .before .before .before .before .before .before .before .before .between .kept .1 .0 ∙ c .before .before .before .before .before .before .before .before .before .before .before .before .loop .inv .2)
 
--- src/lib.rt:206:1
+-- src/lib.rt:207:1
 rows-same-length-2 : (t : ℕ) → rows-lts.Need-same-length-2 (
   list-reads.Asked,
   list-reads.Learnt,
@@ -3944,7 +3944,7 @@ rows-same-length-2 : (t : ℕ) → rows-lts.Need-same-length-2 (
 ) (rows-at t) rows.Post rows-Inv-loop rows-μ-loop
 rows-same-length-2 t c = c .before .loop .inv .2
 
--- src/lib.rt:206:1
+-- src/lib.rt:207:1
 rows-returns-3 : (t : ℕ) → rows-lts.Need-returns-3 (
   list-reads.Asked,
   list-reads.Learnt,
@@ -3958,7 +3958,7 @@ rows-returns-3 : (t : ℕ) → rows-lts.Need-returns-3 (
 unfolding Pat.pat-rows Helpers.sep
 rows-returns-3 t c = record { is = λ kinds m. by-same (list-is (c .before .before .before .before .before .list .ensures) (c .before .before .before .n .given .1)) (by-same (items-all _ _ _) (c .before .loop .inv .1 kinds m _ _ (from-none _ _ (c .loop-test .left)))) }
 
--- src/lib.rt:319:9
+-- src/lib.rt:320:9
 tuple-pat-word-requires : (t : ℕ) → tuple-pat-lts.Need-word-requires (
   word-reads.Asked,
   word-reads.Learnt,
@@ -3967,7 +3967,7 @@ tuple-pat-word-requires : (t : ℕ) → tuple-pat-lts.Need-word-requires (
 ) (tuple-pat-at t) tuple-pat.Post
 tuple-pat-word-requires t c κs = search needs
 
--- src/lib.rt:320:9
+-- src/lib.rt:321:9
 tuple-pat-pat-args-requires : (t : ℕ) → tuple-pat-lts.Need-pat-args-requires (
   word-reads.Asked,
   word-reads.Learnt,
@@ -3976,7 +3976,7 @@ tuple-pat-pat-args-requires : (t : ℕ) → tuple-pat-lts.Need-pat-args-requires
 ) (tuple-pat-at t) tuple-pat.Post
 tuple-pat-pat-args-requires t c κs = omega (arith, c .before .before .before .before .before .before .before .before .before .before .pre .0)
 
--- src/lib.rt:321:22
+-- src/lib.rt:322:22
 tuple-pat-enum-known-r2 : (t : ℕ) → tuple-pat-lts.Need-enum-known-r2 (
   word-reads.Asked,
   word-reads.Learnt,
@@ -3985,7 +3985,7 @@ tuple-pat-enum-known-r2 : (t : ℕ) → tuple-pat-lts.Need-enum-known-r2 (
 ) (tuple-pat-at t) tuple-pat.Post
 tuple-pat-enum-known-r2 t c = search needs
 
--- src/lib.rt:322:9
+-- src/lib.rt:323:9
 tuple-pat-enum-told : (t : ℕ) → tuple-pat-lts.Need-enum-told (
   word-reads.Asked,
   word-reads.Learnt,
@@ -3994,7 +3994,7 @@ tuple-pat-enum-told : (t : ℕ) → tuple-pat-lts.Need-enum-told (
 ) (tuple-pat-at t) tuple-pat.Post
 tuple-pat-enum-told t c = search needs
 
--- src/lib.rt:322:9
+-- src/lib.rt:323:9
 tuple-pat-same-length : (t : ℕ) → tuple-pat-lts.Need-same-length (
   word-reads.Asked,
   word-reads.Learnt,
@@ -4003,17 +4003,17 @@ tuple-pat-same-length : (t : ℕ) → tuple-pat-lts.Need-same-length (
 ) (tuple-pat-at t) tuple-pat.Post
 tuple-pat-same-length t c = c .before .before .before .before .pat-args .kept .1 .1 .1 .1 .0 ∙ c .before .before .before .before .before .before .before .before .word .kept .1 .0
 
--- src/lib.rt:322:9
+-- src/lib.rt:323:9
 tuple-pat-returns : (t : ℕ) → tuple-pat-lts.Need-returns (
   word-reads.Asked,
   word-reads.Learnt,
   pat-args-below t,
   pat-args.Post,
 ) (tuple-pat-at t) tuple-pat.Post
-unfolding Pat.TuplePat
+unfolding Pat.pat
 tuple-pat-returns t c = record { is = λ kinds m. then-sure (c .before .before .before .before .before .before .before .before .word .ensures) (then-stop (plain (c .before .before .before .before .pat-args .ensures)) (c .enum-told .given .1)) }
 
--- src/lib.rt:324:18
+-- src/lib.rt:325:18
 tuple-pat-word-requires-2 : (t : ℕ) → tuple-pat-lts.Need-word-requires-2 (
   word-reads.Asked,
   word-reads.Learnt,
@@ -4022,7 +4022,7 @@ tuple-pat-word-requires-2 : (t : ℕ) → tuple-pat-lts.Need-word-requires-2 (
 ) (tuple-pat-at t) tuple-pat.Post
 tuple-pat-word-requires-2 t c κs = search needs
 
--- src/lib.rt:308:1
+-- src/lib.rt:309:1
 tuple-pat-same-length-2 : (t : ℕ) → tuple-pat-lts.Need-same-length-2 (
   word-reads.Asked,
   word-reads.Learnt,
@@ -4031,17 +4031,17 @@ tuple-pat-same-length-2 : (t : ℕ) → tuple-pat-lts.Need-same-length-2 (
 ) (tuple-pat-at t) tuple-pat.Post
 tuple-pat-same-length-2 t c = c .before .before .word2 .kept .1 .0 ∙ c .before .before .before .before .before .before .before .before .before .pat-args .kept .1 .1 .1 .1 .0 ∙ c .before .before .before .before .before .before .before .before .before .before .before .before .before .word .kept .1 .0
 
--- src/lib.rt:308:1
+-- src/lib.rt:309:1
 tuple-pat-returns-2 : (t : ℕ) → tuple-pat-lts.Need-returns-2 (
   word-reads.Asked,
   word-reads.Learnt,
   pat-args-below t,
   pat-args.Post,
 ) (tuple-pat-at t) tuple-pat.Post
-unfolding Pat.TuplePat
+unfolding Pat.pat
 tuple-pat-returns-2 t c = record { is = λ kinds m. then-sure (c .before .before .before .before .before .before .before .before .before .before .before .before .before .word .ensures) (then-done (plain (c .before .before .before .before .before .before .before .before .before .pat-args .ensures)) (c .before .before .before .before .before .r2 .given .1) (last-sure (c .before .before .word2 .ensures))) }
 
--- src/lib.rt:408:9
+-- src/lib.rt:409:9
 typed-pat-get-pat-requires : (t : ℕ) → typed-pat-lts.Need-get-pat-requires (
   get-pat-below t,
   get-pat.Post,
@@ -4052,7 +4052,7 @@ typed-pat-get-pat-requires : (t : ℕ) → typed-pat-lts.Need-get-pat-requires (
 ) (typed-pat-at t) typed-pat.Post
 typed-pat-get-pat-requires t c κs = omega (arith, c .before .before .before .before .before .before .pre .0)
 
--- src/lib.rt:409:22
+-- src/lib.rt:410:22
 typed-pat-enum-known-r1 : (t : ℕ) → typed-pat-lts.Need-enum-known-r1 (
   get-pat-below t,
   get-pat.Post,
@@ -4063,7 +4063,7 @@ typed-pat-enum-known-r1 : (t : ℕ) → typed-pat-lts.Need-enum-known-r1 (
 ) (typed-pat-at t) typed-pat.Post
 typed-pat-enum-known-r1 t c = search needs
 
--- src/lib.rt:410:9
+-- src/lib.rt:411:9
 typed-pat-enum-told : (t : ℕ) → typed-pat-lts.Need-enum-told (
   get-pat-below t,
   get-pat.Post,
@@ -4074,7 +4074,7 @@ typed-pat-enum-told : (t : ℕ) → typed-pat-lts.Need-enum-told (
 ) (typed-pat-at t) typed-pat.Post
 typed-pat-enum-told t c = search needs
 
--- src/lib.rt:410:9
+-- src/lib.rt:411:9
 typed-pat-same-length : (t : ℕ) → typed-pat-lts.Need-same-length (
   get-pat-below t,
   get-pat.Post,
@@ -4085,7 +4085,7 @@ typed-pat-same-length : (t : ℕ) → typed-pat-lts.Need-same-length (
 ) (typed-pat-at t) typed-pat.Post
 typed-pat-same-length t c = c .before .before .before .before .get-pat .kept .1 .1 .1 .1 .0
 
--- src/lib.rt:410:9
+-- src/lib.rt:411:9
 typed-pat-returns : (t : ℕ) → typed-pat-lts.Need-returns (
   get-pat-below t,
   get-pat.Post,
@@ -4094,10 +4094,10 @@ typed-pat-returns : (t : ℕ) → typed-pat-lts.Need-returns (
   get-ty-reads.Asked,
   get-ty-reads.Learnt,
 ) (typed-pat-at t) typed-pat.Post
-unfolding Pat.TypedPat
+unfolding Pat.pat
 typed-pat-returns t c = record { is = λ kinds m. then-stop (plain (c .before .before .before .before .get-pat .ensures)) (c .enum-told .given .1) }
 
--- src/lib.rt:412:9
+-- src/lib.rt:413:9
 typed-pat-word-requires : (t : ℕ) → typed-pat-lts.Need-word-requires (
   get-pat-below t,
   get-pat.Post,
@@ -4108,7 +4108,7 @@ typed-pat-word-requires : (t : ℕ) → typed-pat-lts.Need-word-requires (
 ) (typed-pat-at t) typed-pat.Post
 typed-pat-word-requires t c κs = search needs
 
--- src/lib.rt:413:5
+-- src/lib.rt:414:5
 typed-pat-get-ty-requires : (t : ℕ) → typed-pat-lts.Need-get-ty-requires (
   get-pat-below t,
   get-pat.Post,
@@ -4119,7 +4119,7 @@ typed-pat-get-ty-requires : (t : ℕ) → typed-pat-lts.Need-get-ty-requires (
 ) (typed-pat-at t) typed-pat.Post
 typed-pat-get-ty-requires t c κs = search needs
 
--- src/lib.rt:397:1
+-- src/lib.rt:398:1
 typed-pat-same-length-2 : (t : ℕ) → typed-pat-lts.Need-same-length-2 (
   get-pat-below t,
   get-pat.Post,
@@ -4130,7 +4130,7 @@ typed-pat-same-length-2 : (t : ℕ) → typed-pat-lts.Need-same-length-2 (
 ) (typed-pat-at t) typed-pat.Post
 typed-pat-same-length-2 t c = c .before .before .get-ty .kept .1 .1 .1 .1 .0 ∙ c .before .before .before .before .before .before .word .kept .1 .0 ∙ c .before .before .before .before .before .before .before .before .before .before .before .before .before .get-pat .kept .1 .1 .1 .1 .0
 
--- src/lib.rt:397:1
+-- src/lib.rt:398:1
 typed-pat-returns-2 : (t : ℕ) → typed-pat-lts.Need-returns-2 (
   get-pat-below t,
   get-pat.Post,
@@ -4139,10 +4139,10 @@ typed-pat-returns-2 : (t : ℕ) → typed-pat-lts.Need-returns-2 (
   get-ty-reads.Asked,
   get-ty-reads.Learnt,
 ) (typed-pat-at t) typed-pat.Post
-unfolding Pat.TypedPat
+unfolding Pat.pat
 typed-pat-returns-2 t c = record { is = λ kinds m. then-done (plain (c .before .before .before .before .before .before .before .before .before .before .before .before .before .get-pat .ensures)) (c .before .before .before .before .before .before .before .before .before .r1 .given .1) (then-sure (c .before .before .before .before .before .before .word .ensures) (plain (c .before .before .get-ty .ensures))) }
 
--- src/lib.rt:359:9
+-- src/lib.rt:360:9
 vector-pat-word-requires : (t : ℕ) → vector-pat-lts.Need-word-requires (
   word-reads.Asked,
   word-reads.Learnt,
@@ -4153,7 +4153,7 @@ vector-pat-word-requires : (t : ℕ) → vector-pat-lts.Need-word-requires (
 ) (vector-pat-at t) vector-pat.Post
 vector-pat-word-requires t c κs = search needs
 
--- src/lib.rt:360:9
+-- src/lib.rt:361:9
 vector-pat-group-requires : (t : ℕ) → vector-pat-lts.Need-group-requires (
   word-reads.Asked,
   word-reads.Learnt,
@@ -4164,7 +4164,7 @@ vector-pat-group-requires : (t : ℕ) → vector-pat-lts.Need-group-requires (
 ) (vector-pat-at t) vector-pat.Post
 vector-pat-group-requires t c κs = search needs
 
--- src/lib.rt:361:22
+-- src/lib.rt:362:22
 vector-pat-enum-known-r2 : (t : ℕ) → vector-pat-lts.Need-enum-known-r2 (
   word-reads.Asked,
   word-reads.Learnt,
@@ -4175,7 +4175,7 @@ vector-pat-enum-known-r2 : (t : ℕ) → vector-pat-lts.Need-enum-known-r2 (
 ) (vector-pat-at t) vector-pat.Post
 vector-pat-enum-known-r2 t c = search needs
 
--- src/lib.rt:362:9
+-- src/lib.rt:363:9
 vector-pat-enum-told : (t : ℕ) → vector-pat-lts.Need-enum-told (
   word-reads.Asked,
   word-reads.Learnt,
@@ -4186,7 +4186,7 @@ vector-pat-enum-told : (t : ℕ) → vector-pat-lts.Need-enum-told (
 ) (vector-pat-at t) vector-pat.Post
 vector-pat-enum-told t c = search needs
 
--- src/lib.rt:362:9
+-- src/lib.rt:363:9
 vector-pat-same-length : (t : ℕ) → vector-pat-lts.Need-same-length (
   word-reads.Asked,
   word-reads.Learnt,
@@ -4197,7 +4197,7 @@ vector-pat-same-length : (t : ℕ) → vector-pat-lts.Need-same-length (
 ) (vector-pat-at t) vector-pat.Post
 vector-pat-same-length t c = c .before .before .before .before .before .word .kept .1 .0
 
--- src/lib.rt:362:9
+-- src/lib.rt:363:9
 vector-pat-returns : (t : ℕ) → vector-pat-lts.Need-returns (
   word-reads.Asked,
   word-reads.Learnt,
@@ -4206,10 +4206,10 @@ vector-pat-returns : (t : ℕ) → vector-pat-lts.Need-returns (
   pat-args-below t,
   pat-args.Post,
 ) (vector-pat-at t) vector-pat.Post
-unfolding Pat.VectorPat
+unfolding Pat.pat
 vector-pat-returns t c = record { is = λ kinds m. then-sure (c .before .before .before .before .before .word .ensures) (then-stop (group-not (c .before .before .group .ensures) (c .enum-told .given .1)) (c .enum-told .given .1)) }
 
--- src/lib.rt:364:9
+-- src/lib.rt:365:9
 vector-pat-pat-args-requires : (t : ℕ) → vector-pat-lts.Need-pat-args-requires (
   word-reads.Asked,
   word-reads.Learnt,
@@ -4220,7 +4220,7 @@ vector-pat-pat-args-requires : (t : ℕ) → vector-pat-lts.Need-pat-args-requir
 ) (vector-pat-at t) vector-pat.Post
 vector-pat-pat-args-requires t c κs = omega (arith, c .before .before .before .before .before .before .before .before .before .before .before .before .before .before .pre .0)
 
--- src/lib.rt:365:22
+-- src/lib.rt:366:22
 vector-pat-enum-known-r3 : (t : ℕ) → vector-pat-lts.Need-enum-known-r3 (
   word-reads.Asked,
   word-reads.Learnt,
@@ -4231,7 +4231,7 @@ vector-pat-enum-known-r3 : (t : ℕ) → vector-pat-lts.Need-enum-known-r3 (
 ) (vector-pat-at t) vector-pat.Post
 vector-pat-enum-known-r3 t c = search needs
 
--- src/lib.rt:366:9
+-- src/lib.rt:367:9
 vector-pat-enum-told-2 : (t : ℕ) → vector-pat-lts.Need-enum-told-2 (
   word-reads.Asked,
   word-reads.Learnt,
@@ -4242,7 +4242,7 @@ vector-pat-enum-told-2 : (t : ℕ) → vector-pat-lts.Need-enum-told-2 (
 ) (vector-pat-at t) vector-pat.Post
 vector-pat-enum-told-2 t c = search needs
 
--- src/lib.rt:366:9
+-- src/lib.rt:367:9
 vector-pat-same-length-2 : (t : ℕ) → vector-pat-lts.Need-same-length-2 (
   word-reads.Asked,
   word-reads.Learnt,
@@ -4253,7 +4253,7 @@ vector-pat-same-length-2 : (t : ℕ) → vector-pat-lts.Need-same-length-2 (
 ) (vector-pat-at t) vector-pat.Post
 vector-pat-same-length-2 t c = c .before .before .before .before .pat-args .kept .1 .1 .1 .1 .0 ∙ c .before .before .before .before .before .before .before .before .before .before .before .before .word .kept .1 .0
 
--- src/lib.rt:366:9
+-- src/lib.rt:367:9
 vector-pat-returns-2 : (t : ℕ) → vector-pat-lts.Need-returns-2 (
   word-reads.Asked,
   word-reads.Learnt,
@@ -4262,10 +4262,10 @@ vector-pat-returns-2 : (t : ℕ) → vector-pat-lts.Need-returns-2 (
   pat-args-below t,
   pat-args.Post,
 ) (vector-pat-at t) vector-pat.Post
-unfolding Pat.VectorPat
+unfolding Pat.pat
 vector-pat-returns-2 t c = record { is = λ kinds m. then-sure (c .before .before .before .before .before .before .before .before .before .before .before .before .word .ensures) (by-same (first-same (group-is (c .before .before .before .before .before .before .before .before .before .group .ensures) (c .before .before .before .before .before .before .before .r2 .given .1))) (then-stop (plain (c .before .before .before .before .pat-args .ensures)) (c .enum-told2 .given .1))) }
 
--- src/lib.rt:368:18
+-- src/lib.rt:369:18
 vector-pat-word-requires-2 : (t : ℕ) → vector-pat-lts.Need-word-requires-2 (
   word-reads.Asked,
   word-reads.Learnt,
@@ -4276,7 +4276,7 @@ vector-pat-word-requires-2 : (t : ℕ) → vector-pat-lts.Need-word-requires-2 (
 ) (vector-pat-at t) vector-pat.Post
 vector-pat-word-requires-2 t c κs = search needs
 
--- src/lib.rt:348:1
+-- src/lib.rt:349:1
 vector-pat-same-length-3 : (t : ℕ) → vector-pat-lts.Need-same-length-3 (
   word-reads.Asked,
   word-reads.Learnt,
@@ -4287,7 +4287,7 @@ vector-pat-same-length-3 : (t : ℕ) → vector-pat-lts.Need-same-length-3 (
 ) (vector-pat-at t) vector-pat.Post
 vector-pat-same-length-3 t c = c .before .before .word2 .kept .1 .0 ∙ c .before .before .before .before .before .before .before .before .before .pat-args .kept .1 .1 .1 .1 .0 ∙ c .before .before .before .before .before .before .before .before .before .before .before .before .before .before .before .before .before .word .kept .1 .0
 
--- src/lib.rt:348:1
+-- src/lib.rt:349:1
 vector-pat-returns-3 : (t : ℕ) → vector-pat-lts.Need-returns-3 (
   word-reads.Asked,
   word-reads.Learnt,
@@ -4296,7 +4296,7 @@ vector-pat-returns-3 : (t : ℕ) → vector-pat-lts.Need-returns-3 (
   pat-args-below t,
   pat-args.Post,
 ) (vector-pat-at t) vector-pat.Post
-unfolding Pat.VectorPat
+unfolding Pat.pat
 vector-pat-returns-3 t c = record { is = λ kinds m. then-sure (c .before .before .before .before .before .before .before .before .before .before .before .before .before .before .before .before .before .word .ensures) (by-same (first-same (group-is (c .before .before .before .before .before .before .before .before .before .before .before .before .before .before .group .ensures) (c .before .before .before .before .before .before .before .before .before .before .before .before .r2 .given .1))) (then-done (plain (c .before .before .before .before .before .before .before .before .before .pat-args .ensures)) (c .before .before .before .before .before .r3 .given .1) (last-sure (c .before .before .word2 .ensures)))) }
 
 pub +as-pat+as-tail+as-tail-there+con-arg+con-arg-there+con-pat+get-pat+infix-pat+lab-and-pat+lab-pat+list-pat+or-pat+paren-pat+pat-args+record-pat+row+row-inner+rows+tuple-pat+typed-pat+vector-pat-spec :

@@ -220,7 +220,7 @@ ty-seq-there-below t =
     (falls 5 ty-seq-there-kinds.ps _<_ μ-ty-seq-there t)
     ty-seq-there.Pre
 
--- src/lib.rt:187:9
+-- src/lib.rt:188:9
 con-ty-ty-seq-requires : (t : ℕ) → con-ty-lts.Need-ty-seq-requires (
   ty-seq-below t,
   ty-seq.Post,
@@ -229,7 +229,7 @@ con-ty-ty-seq-requires : (t : ℕ) → con-ty-lts.Need-ty-seq-requires (
 ) (con-ty-at t) con-ty.Post
 con-ty-ty-seq-requires t c κs = omega (arith, c .before .before .before .before .before .before .pre .0)
 
--- src/lib.rt:188:22
+-- src/lib.rt:189:22
 con-ty-enum-known-r1 : (t : ℕ) → con-ty-lts.Need-enum-known-r1 (
   ty-seq-below t,
   ty-seq.Post,
@@ -238,7 +238,7 @@ con-ty-enum-known-r1 : (t : ℕ) → con-ty-lts.Need-enum-known-r1 (
 ) (con-ty-at t) con-ty.Post
 con-ty-enum-known-r1 t c = search needs
 
--- src/lib.rt:189:9
+-- src/lib.rt:190:9
 con-ty-enum-told : (t : ℕ) → con-ty-lts.Need-enum-told (
   ty-seq-below t,
   ty-seq.Post,
@@ -247,7 +247,7 @@ con-ty-enum-told : (t : ℕ) → con-ty-lts.Need-enum-told (
 ) (con-ty-at t) con-ty.Post
 con-ty-enum-told t c = search needs
 
--- src/lib.rt:189:9
+-- src/lib.rt:190:9
 con-ty-same-length : (t : ℕ) → con-ty-lts.Need-same-length (
   ty-seq-below t,
   ty-seq.Post,
@@ -256,17 +256,17 @@ con-ty-same-length : (t : ℕ) → con-ty-lts.Need-same-length (
 ) (con-ty-at t) con-ty.Post
 con-ty-same-length t c = c .before .before .before .before .ty-seq .kept .1 .1 .1 .1 .0
 
--- src/lib.rt:189:9
+-- src/lib.rt:190:9
 con-ty-returns : (t : ℕ) → con-ty-lts.Need-returns (
   ty-seq-below t,
   ty-seq.Post,
   path-reads.Asked,
   path-reads.Learnt,
 ) (con-ty-at t) con-ty.Post
-unfolding Ty.ConTy
+unfolding Ty.ty
 con-ty-returns t c = record { is = λ kinds m. then-stop (plain (c .before .before .before .before .ty-seq .ensures)) (c .enum-told .given .1) }
 
--- src/lib.rt:191:5
+-- src/lib.rt:192:5
 con-ty-path-requires : (t : ℕ) → con-ty-lts.Need-path-requires (
   ty-seq-below t,
   ty-seq.Post,
@@ -275,7 +275,7 @@ con-ty-path-requires : (t : ℕ) → con-ty-lts.Need-path-requires (
 ) (con-ty-at t) con-ty.Post
 con-ty-path-requires t c κs = search needs
 
--- src/lib.rt:176:1
+-- src/lib.rt:177:1
 con-ty-same-length-2 : (t : ℕ) → con-ty-lts.Need-same-length-2 (
   ty-seq-below t,
   ty-seq.Post,
@@ -284,17 +284,17 @@ con-ty-same-length-2 : (t : ℕ) → con-ty-lts.Need-same-length-2 (
 ) (con-ty-at t) con-ty.Post
 con-ty-same-length-2 t c = c .before .before .path .kept .1 .1 .1 .1 .0 ∙ c .before .before .before .before .before .before .before .before .before .ty-seq .kept .1 .1 .1 .1 .0
 
--- src/lib.rt:176:1
+-- src/lib.rt:177:1
 con-ty-returns-2 : (t : ℕ) → con-ty-lts.Need-returns-2 (
   ty-seq-below t,
   ty-seq.Post,
   path-reads.Asked,
   path-reads.Learnt,
 ) (con-ty-at t) con-ty.Post
-unfolding Ty.ConTy
+unfolding Ty.ty
 con-ty-returns-2 t c = record { is = λ kinds m. then-done (plain (c .before .before .before .before .before .before .before .before .before .ty-seq .ensures)) (c .before .before .before .before .before .r1 .given .1) (plain (c .before .before .path .ensures)) }
 
--- src/lib.rt:296:9
+-- src/lib.rt:297:9
 fn-ty-get-ty-requires : (t : ℕ) → fn-ty-lts.Need-get-ty-requires (
   get-ty-below t,
   get-ty.Post,
@@ -303,7 +303,7 @@ fn-ty-get-ty-requires : (t : ℕ) → fn-ty-lts.Need-get-ty-requires (
 ) (fn-ty-at t) fn-ty.Post
 fn-ty-get-ty-requires t c κs = omega (arith, c .before .before .before .before .before .before .pre .0)
 
--- src/lib.rt:297:22
+-- src/lib.rt:298:22
 fn-ty-enum-known-r1 : (t : ℕ) → fn-ty-lts.Need-enum-known-r1 (
   get-ty-below t,
   get-ty.Post,
@@ -312,7 +312,7 @@ fn-ty-enum-known-r1 : (t : ℕ) → fn-ty-lts.Need-enum-known-r1 (
 ) (fn-ty-at t) fn-ty.Post
 fn-ty-enum-known-r1 t c = search needs
 
--- src/lib.rt:298:9
+-- src/lib.rt:299:9
 fn-ty-enum-told : (t : ℕ) → fn-ty-lts.Need-enum-told (
   get-ty-below t,
   get-ty.Post,
@@ -321,7 +321,7 @@ fn-ty-enum-told : (t : ℕ) → fn-ty-lts.Need-enum-told (
 ) (fn-ty-at t) fn-ty.Post
 fn-ty-enum-told t c = search needs
 
--- src/lib.rt:298:9
+-- src/lib.rt:299:9
 fn-ty-same-length : (t : ℕ) → fn-ty-lts.Need-same-length (
   get-ty-below t,
   get-ty.Post,
@@ -330,17 +330,17 @@ fn-ty-same-length : (t : ℕ) → fn-ty-lts.Need-same-length (
 ) (fn-ty-at t) fn-ty.Post
 fn-ty-same-length t c = c .before .before .before .before .get-ty .kept .1 .1 .1 .1 .0
 
--- src/lib.rt:298:9
+-- src/lib.rt:299:9
 fn-ty-returns : (t : ℕ) → fn-ty-lts.Need-returns (
   get-ty-below t,
   get-ty.Post,
   word-reads.Asked,
   word-reads.Learnt,
 ) (fn-ty-at t) fn-ty.Post
-unfolding Ty.FnTy
+unfolding Ty.ty
 fn-ty-returns t c = record { is = λ kinds m. then-stop (plain (c .before .before .before .before .get-ty .ensures)) (c .enum-told .given .1) }
 
--- src/lib.rt:300:9
+-- src/lib.rt:301:9
 fn-ty-word-requires : (t : ℕ) → fn-ty-lts.Need-word-requires (
   get-ty-below t,
   get-ty.Post,
@@ -349,7 +349,7 @@ fn-ty-word-requires : (t : ℕ) → fn-ty-lts.Need-word-requires (
 ) (fn-ty-at t) fn-ty.Post
 fn-ty-word-requires t c κs = search needs
 
--- src/lib.rt:301:5
+-- src/lib.rt:302:5
 fn-ty-get-ty-requires-2 : (t : ℕ) → fn-ty-lts.Need-get-ty-requires-2 (
   get-ty-below t,
   get-ty.Post,
@@ -358,7 +358,7 @@ fn-ty-get-ty-requires-2 : (t : ℕ) → fn-ty-lts.Need-get-ty-requires-2 (
 ) (fn-ty-at t) fn-ty.Post
 fn-ty-get-ty-requires-2 t c κs = omega (arith, c .before .before .before .before .before .before .before .before .before .before .before .before .before .before .before .before .before .pre .0)
 
--- src/lib.rt:285:1
+-- src/lib.rt:286:1
 fn-ty-same-length-2 : (t : ℕ) → fn-ty-lts.Need-same-length-2 (
   get-ty-below t,
   get-ty.Post,
@@ -367,17 +367,17 @@ fn-ty-same-length-2 : (t : ℕ) → fn-ty-lts.Need-same-length-2 (
 ) (fn-ty-at t) fn-ty.Post
 fn-ty-same-length-2 t c = c .before .before .get-ty2 .kept .1 .1 .1 .1 .0 ∙ c .before .before .before .before .before .before .word .kept .1 .0 ∙ c .before .before .before .before .before .before .before .before .before .before .before .before .before .get-ty .kept .1 .1 .1 .1 .0
 
--- src/lib.rt:285:1
+-- src/lib.rt:286:1
 fn-ty-returns-2 : (t : ℕ) → fn-ty-lts.Need-returns-2 (
   get-ty-below t,
   get-ty.Post,
   word-reads.Asked,
   word-reads.Learnt,
 ) (fn-ty-at t) fn-ty.Post
-unfolding Ty.FnTy
+unfolding Ty.ty
 fn-ty-returns-2 t c = record { is = λ kinds m. then-done (plain (c .before .before .before .before .before .before .before .before .before .before .before .before .before .get-ty .ensures)) (c .before .before .before .before .before .before .before .before .before .r1 .given .1) (then-sure (c .before .before .before .before .before .before .word .ensures) (plain (c .before .before .get-ty2 .ensures))) }
 
--- src/lib.rt:338:9
+-- src/lib.rt:339:9
 get-ty-stop-requires : (t : ℕ) → get-ty-lts.Need-stop-requires (
   stop-reads.Asked,
   stop-reads.Learnt,
@@ -402,7 +402,7 @@ get-ty-stop-requires : (t : ℕ) → get-ty-lts.Need-stop-requires (
 ) (get-ty-at t) get-ty.Post
 get-ty-stop-requires t c κs = search needs
 
--- src/lib.rt:338:9
+-- src/lib.rt:339:9
 get-ty-returns : (t : ℕ) → get-ty-lts.Need-returns (
   stop-reads.Asked,
   stop-reads.Learnt,
@@ -425,10 +425,10 @@ get-ty-returns : (t : ℕ) → get-ty-lts.Need-returns (
   paren-ty-below t,
   paren-ty.Post,
 ) (get-ty-at t) get-ty.Post
-unfolding Ty.tys Ty.HoleTy Ty.WildcardTy Ty.TyVarTy
+unfolding Ty.tys Ty.ty
 get-ty-returns t c = record { is = λ kinds m. ty-zero _ (c .before .if1 .taken) (c .stop .ensures) }
 
--- src/lib.rt:340:26
+-- src/lib.rt:341:26
 get-ty-form-requires : (t : ℕ) → get-ty-lts.Need-form-requires (
   stop-reads.Asked,
   stop-reads.Learnt,
@@ -453,7 +453,7 @@ get-ty-form-requires : (t : ℕ) → get-ty-lts.Need-form-requires (
 ) (get-ty-at t) get-ty.Post
 get-ty-form-requires t c κs = search needs
 
--- src/lib.rt:340:18
+-- src/lib.rt:341:18
 get-ty-enum-known-k : (t : ℕ) → get-ty-lts.Need-enum-known-k (
   stop-reads.Asked,
   stop-reads.Learnt,
@@ -478,7 +478,7 @@ get-ty-enum-known-k : (t : ℕ) → get-ty-lts.Need-enum-known-k (
 ) (get-ty-at t) get-ty.Post
 get-ty-enum-known-k t c = search needs
 
--- src/lib.rt:341:9
+-- src/lib.rt:342:9
 get-ty-enum-told : (t : ℕ) → get-ty-lts.Need-enum-told (
   stop-reads.Asked,
   stop-reads.Learnt,
@@ -503,7 +503,7 @@ get-ty-enum-told : (t : ℕ) → get-ty-lts.Need-enum-told (
 ) (get-ty-at t) get-ty.Post
 get-ty-enum-told t c = search needs
 
--- src/lib.rt:341:9
+-- src/lib.rt:342:9
 get-ty-stop-requires-2 : (t : ℕ) → get-ty-lts.Need-stop-requires-2 (
   stop-reads.Asked,
   stop-reads.Learnt,
@@ -528,7 +528,7 @@ get-ty-stop-requires-2 : (t : ℕ) → get-ty-lts.Need-stop-requires-2 (
 ) (get-ty-at t) get-ty.Post
 get-ty-stop-requires-2 t c κs = search needs
 
--- src/lib.rt:341:9
+-- src/lib.rt:342:9
 get-ty-returns-2 : (t : ℕ) → get-ty-lts.Need-returns-2 (
   stop-reads.Asked,
   stop-reads.Learnt,
@@ -551,10 +551,10 @@ get-ty-returns-2 : (t : ℕ) → get-ty-lts.Need-returns-2 (
   paren-ty-below t,
   paren-ty.Post,
 ) (get-ty-at t) get-ty.Post
-unfolding Ty.tys Ty.HoleTy Ty.WildcardTy Ty.TyVarTy
+unfolding Ty.tys Ty.ty
 get-ty-returns-2 t c = record { is = λ kinds m. ty-form _ (c .before .before .before .before .if1 .left) (form-not (c .stop2 .ensures) (c .before .before .before .form .ensures) (c .before .enum-told .given .1)) }
 
--- src/lib.rt:347:15
+-- src/lib.rt:348:15
 get-ty-sub-t15 : (t : ℕ) → get-ty-lts.Need-sub-t15 (
   stop-reads.Asked,
   stop-reads.Learnt,
@@ -579,7 +579,7 @@ get-ty-sub-t15 : (t : ℕ) → get-ty-lts.Need-sub-t15 (
 ) (get-ty-at t) get-ty.Post
 get-ty-sub-t15 t c = search needs
 
--- src/lib.rt:350:27
+-- src/lib.rt:351:27
 get-ty-word-requires : (t : ℕ) → get-ty-lts.Need-word-requires (
   stop-reads.Asked,
   stop-reads.Learnt,
@@ -604,7 +604,7 @@ get-ty-word-requires : (t : ℕ) → get-ty-lts.Need-word-requires (
 ) (get-ty-at t) get-ty.Post
 get-ty-word-requires t c κs = search needs
 
--- src/lib.rt:351:27
+-- src/lib.rt:352:27
 get-ty-word-requires-2 : (t : ℕ) → get-ty-lts.Need-word-requires-2 (
   stop-reads.Asked,
   stop-reads.Learnt,
@@ -629,7 +629,7 @@ get-ty-word-requires-2 : (t : ℕ) → get-ty-lts.Need-word-requires-2 (
 ) (get-ty-at t) get-ty.Post
 get-ty-word-requires-2 t c κs = search needs
 
--- src/lib.rt:352:14
+-- src/lib.rt:353:14
 get-ty-text-of-requires : (t : ℕ) → get-ty-lts.Need-text-of-requires (
   stop-reads.Asked,
   stop-reads.Learnt,
@@ -654,7 +654,7 @@ get-ty-text-of-requires : (t : ℕ) → get-ty-lts.Need-text-of-requires (
 ) (get-ty-at t) get-ty.Post
 get-ty-text-of-requires t c κs = search needs
 
--- src/lib.rt:353:14
+-- src/lib.rt:354:14
 get-ty-record-ty-requires : (t : ℕ) → get-ty-lts.Need-record-ty-requires (
   stop-reads.Asked,
   stop-reads.Learnt,
@@ -679,7 +679,7 @@ get-ty-record-ty-requires : (t : ℕ) → get-ty-lts.Need-record-ty-requires (
 ) (get-ty-at t) get-ty.Post
 get-ty-record-ty-requires t c κs = omega (arith, c .before .before .before .before .before .before .before .before .before .before .before .before .pre .0, c .before .before .before .before .before .before .if1 .left)
 
--- src/lib.rt:354:14
+-- src/lib.rt:355:14
 get-ty-con-ty-requires : (t : ℕ) → get-ty-lts.Need-con-ty-requires (
   stop-reads.Asked,
   stop-reads.Learnt,
@@ -704,7 +704,7 @@ get-ty-con-ty-requires : (t : ℕ) → get-ty-lts.Need-con-ty-requires (
 ) (get-ty-at t) get-ty.Post
 get-ty-con-ty-requires t c κs = omega (arith, c .before .before .before .before .before .before .before .before .before .before .before .before .pre .0, c .before .before .before .before .before .before .if1 .left)
 
--- src/lib.rt:355:14
+-- src/lib.rt:356:14
 get-ty-one-arg-con-ty-requires : (t : ℕ) → get-ty-lts.Need-one-arg-con-ty-requires (
   stop-reads.Asked,
   stop-reads.Learnt,
@@ -729,7 +729,7 @@ get-ty-one-arg-con-ty-requires : (t : ℕ) → get-ty-lts.Need-one-arg-con-ty-re
 ) (get-ty-at t) get-ty.Post
 get-ty-one-arg-con-ty-requires t c κs = omega (arith, c .before .before .before .before .before .before .before .before .before .before .before .before .pre .0, c .before .before .before .before .before .before .if1 .left)
 
--- src/lib.rt:356:14
+-- src/lib.rt:357:14
 get-ty-tuple-ty-requires : (t : ℕ) → get-ty-lts.Need-tuple-ty-requires (
   stop-reads.Asked,
   stop-reads.Learnt,
@@ -754,7 +754,7 @@ get-ty-tuple-ty-requires : (t : ℕ) → get-ty-lts.Need-tuple-ty-requires (
 ) (get-ty-at t) get-ty.Post
 get-ty-tuple-ty-requires t c κs = omega (arith, c .before .before .before .before .before .before .before .before .before .before .before .before .pre .0, c .before .before .before .before .before .before .if1 .left)
 
--- src/lib.rt:357:14
+-- src/lib.rt:358:14
 get-ty-fn-ty-requires : (t : ℕ) → get-ty-lts.Need-fn-ty-requires (
   stop-reads.Asked,
   stop-reads.Learnt,
@@ -779,7 +779,7 @@ get-ty-fn-ty-requires : (t : ℕ) → get-ty-lts.Need-fn-ty-requires (
 ) (get-ty-at t) get-ty.Post
 get-ty-fn-ty-requires t c κs = omega (arith, c .before .before .before .before .before .before .before .before .before .before .before .before .pre .0, c .before .before .before .before .before .before .if1 .left)
 
--- src/lib.rt:358:14
+-- src/lib.rt:359:14
 get-ty-paren-ty-requires : (t : ℕ) → get-ty-lts.Need-paren-ty-requires (
   stop-reads.Asked,
   stop-reads.Learnt,
@@ -804,7 +804,7 @@ get-ty-paren-ty-requires : (t : ℕ) → get-ty-lts.Need-paren-ty-requires (
 ) (get-ty-at t) get-ty.Post
 get-ty-paren-ty-requires t c κs = omega (arith, c .before .before .before .before .before .before .before .before .before .before .before .before .pre .0, c .before .before .before .before .before .before .if1 .left)
 
--- src/lib.rt:359:14
+-- src/lib.rt:360:14
 get-ty-stop-requires-3 : (t : ℕ) → get-ty-lts.Need-stop-requires-3 (
   stop-reads.Asked,
   stop-reads.Learnt,
@@ -829,7 +829,7 @@ get-ty-stop-requires-3 : (t : ℕ) → get-ty-lts.Need-stop-requires-3 (
 ) (get-ty-at t) get-ty.Post
 get-ty-stop-requires-3 t c κs = search needs
 
--- src/lib.rt:325:1
+-- src/lib.rt:326:1
 get-ty-same-length : (t : ℕ) → get-ty-lts.Need-same-length (
   stop-reads.Asked,
   stop-reads.Learnt,
@@ -854,7 +854,7 @@ get-ty-same-length : (t : ℕ) → get-ty-lts.Need-same-length (
 ) (get-ty-at t) get-ty.Post
 get-ty-same-length t c = c .before .before .word .kept .1 .0
 
--- src/lib.rt:325:1
+-- src/lib.rt:326:1
 get-ty-returns-3 : (t : ℕ) → get-ty-lts.Need-returns-3 (
   stop-reads.Asked,
   stop-reads.Learnt,
@@ -877,10 +877,10 @@ get-ty-returns-3 : (t : ℕ) → get-ty-lts.Need-returns-3 (
   paren-ty-below t,
   paren-ty.Post,
 ) (get-ty-at t) get-ty.Post
-unfolding Ty.tys Ty.HoleTy Ty.WildcardTy Ty.TyVarTy
+unfolding Ty.tys Ty.ty
 get-ty-returns-3 t c = record { is = λ kinds m. ty-form _ (c .before .before .before .before .before .before .before .before .before .if1 .left) (form-key (c .before .before .before .before .before .before .before .before .form .ensures) (c .before .before .before .before .before .before .k .given .1) (c .before .before .before .before .match2 .keys1) (last-sure (c .before .before .word .ensures))) }
 
--- src/lib.rt:325:1
+-- src/lib.rt:326:1
 get-ty-same-length-2 : (t : ℕ) → get-ty-lts.Need-same-length-2 (
   stop-reads.Asked,
   stop-reads.Learnt,
@@ -905,7 +905,7 @@ get-ty-same-length-2 : (t : ℕ) → get-ty-lts.Need-same-length-2 (
 ) (get-ty-at t) get-ty.Post
 get-ty-same-length-2 t c = c .before .before .word2 .kept .1 .0
 
--- src/lib.rt:325:1
+-- src/lib.rt:326:1
 get-ty-returns-4 : (t : ℕ) → get-ty-lts.Need-returns-4 (
   stop-reads.Asked,
   stop-reads.Learnt,
@@ -928,10 +928,10 @@ get-ty-returns-4 : (t : ℕ) → get-ty-lts.Need-returns-4 (
   paren-ty-below t,
   paren-ty.Post,
 ) (get-ty-at t) get-ty.Post
-unfolding Ty.tys Ty.HoleTy Ty.WildcardTy Ty.TyVarTy
+unfolding Ty.tys Ty.ty
 get-ty-returns-4 t c = record { is = λ kinds m. ty-form _ (c .before .before .before .before .before .before .before .before .before .if1 .left) (form-key (c .before .before .before .before .before .before .before .before .form .ensures) (c .before .before .before .before .before .before .k .given .1) (c .before .before .before .before .match2 .keys2) (last-sure (c .before .before .word2 .ensures))) }
 
--- src/lib.rt:325:1
+-- src/lib.rt:326:1
 get-ty-same-length-3 : (t : ℕ) → get-ty-lts.Need-same-length-3 (
   stop-reads.Asked,
   stop-reads.Learnt,
@@ -956,7 +956,7 @@ get-ty-same-length-3 : (t : ℕ) → get-ty-lts.Need-same-length-3 (
 ) (get-ty-at t) get-ty.Post
 get-ty-same-length-3 t c = c .before .before .text-of .kept .1 .1 .1 .1 .0
 
--- src/lib.rt:325:1
+-- src/lib.rt:326:1
 get-ty-returns-5 : (t : ℕ) → get-ty-lts.Need-returns-5 (
   stop-reads.Asked,
   stop-reads.Learnt,
@@ -979,10 +979,10 @@ get-ty-returns-5 : (t : ℕ) → get-ty-lts.Need-returns-5 (
   paren-ty-below t,
   paren-ty.Post,
 ) (get-ty-at t) get-ty.Post
-unfolding Ty.tys Ty.HoleTy Ty.WildcardTy Ty.TyVarTy
+unfolding Ty.tys Ty.ty
 get-ty-returns-5 t c = record { is = λ kinds m. ty-form _ (c .before .before .before .before .before .before .before .before .before .if1 .left) (form-key (c .before .before .before .before .before .before .before .before .form .ensures) (c .before .before .before .before .before .before .k .given .1) (c .before .before .before .before .match2 .keys3) (plain (c .before .before .text-of .ensures))) }
 
--- src/lib.rt:325:1
+-- src/lib.rt:326:1
 get-ty-same-length-4 : (t : ℕ) → get-ty-lts.Need-same-length-4 (
   stop-reads.Asked,
   stop-reads.Learnt,
@@ -1007,7 +1007,7 @@ get-ty-same-length-4 : (t : ℕ) → get-ty-lts.Need-same-length-4 (
 ) (get-ty-at t) get-ty.Post
 get-ty-same-length-4 t c = c .before .before .record-ty .kept .1 .1 .1 .1 .0
 
--- src/lib.rt:325:1
+-- src/lib.rt:326:1
 get-ty-returns-6 : (t : ℕ) → get-ty-lts.Need-returns-6 (
   stop-reads.Asked,
   stop-reads.Learnt,
@@ -1030,10 +1030,10 @@ get-ty-returns-6 : (t : ℕ) → get-ty-lts.Need-returns-6 (
   paren-ty-below t,
   paren-ty.Post,
 ) (get-ty-at t) get-ty.Post
-unfolding Ty.tys Ty.HoleTy Ty.WildcardTy Ty.TyVarTy
+unfolding Ty.tys Ty.ty
 get-ty-returns-6 t c = record { is = λ kinds m. ty-form _ (c .before .before .before .before .before .before .before .before .before .if1 .left) (form-key (c .before .before .before .before .before .before .before .before .form .ensures) (c .before .before .before .before .before .before .k .given .1) (c .before .before .before .before .match2 .keys4) (plain (c .before .before .record-ty .ensures))) }
 
--- src/lib.rt:325:1
+-- src/lib.rt:326:1
 get-ty-same-length-5 : (t : ℕ) → get-ty-lts.Need-same-length-5 (
   stop-reads.Asked,
   stop-reads.Learnt,
@@ -1058,7 +1058,7 @@ get-ty-same-length-5 : (t : ℕ) → get-ty-lts.Need-same-length-5 (
 ) (get-ty-at t) get-ty.Post
 get-ty-same-length-5 t c = c .before .before .con-ty .kept .1 .1 .1 .1 .0
 
--- src/lib.rt:325:1
+-- src/lib.rt:326:1
 get-ty-returns-7 : (t : ℕ) → get-ty-lts.Need-returns-7 (
   stop-reads.Asked,
   stop-reads.Learnt,
@@ -1081,10 +1081,10 @@ get-ty-returns-7 : (t : ℕ) → get-ty-lts.Need-returns-7 (
   paren-ty-below t,
   paren-ty.Post,
 ) (get-ty-at t) get-ty.Post
-unfolding Ty.tys Ty.HoleTy Ty.WildcardTy Ty.TyVarTy
+unfolding Ty.tys Ty.ty
 get-ty-returns-7 t c = record { is = λ kinds m. ty-form _ (c .before .before .before .before .before .before .before .before .before .if1 .left) (form-key (c .before .before .before .before .before .before .before .before .form .ensures) (c .before .before .before .before .before .before .k .given .1) (c .before .before .before .before .match2 .keys5) (plain (c .before .before .con-ty .ensures))) }
 
--- src/lib.rt:325:1
+-- src/lib.rt:326:1
 get-ty-same-length-6 : (t : ℕ) → get-ty-lts.Need-same-length-6 (
   stop-reads.Asked,
   stop-reads.Learnt,
@@ -1109,7 +1109,7 @@ get-ty-same-length-6 : (t : ℕ) → get-ty-lts.Need-same-length-6 (
 ) (get-ty-at t) get-ty.Post
 get-ty-same-length-6 t c = c .before .before .one-arg-con-ty .kept .1 .1 .1 .1 .0
 
--- src/lib.rt:325:1
+-- src/lib.rt:326:1
 get-ty-returns-8 : (t : ℕ) → get-ty-lts.Need-returns-8 (
   stop-reads.Asked,
   stop-reads.Learnt,
@@ -1132,10 +1132,10 @@ get-ty-returns-8 : (t : ℕ) → get-ty-lts.Need-returns-8 (
   paren-ty-below t,
   paren-ty.Post,
 ) (get-ty-at t) get-ty.Post
-unfolding Ty.tys Ty.HoleTy Ty.WildcardTy Ty.TyVarTy
+unfolding Ty.tys Ty.ty
 get-ty-returns-8 t c = record { is = λ kinds m. ty-form _ (c .before .before .before .before .before .before .before .before .before .if1 .left) (form-key (c .before .before .before .before .before .before .before .before .form .ensures) (c .before .before .before .before .before .before .k .given .1) (c .before .before .before .before .match2 .keys6) (plain (c .before .before .one-arg-con-ty .ensures))) }
 
--- src/lib.rt:325:1
+-- src/lib.rt:326:1
 get-ty-same-length-7 : (t : ℕ) → get-ty-lts.Need-same-length-7 (
   stop-reads.Asked,
   stop-reads.Learnt,
@@ -1160,7 +1160,7 @@ get-ty-same-length-7 : (t : ℕ) → get-ty-lts.Need-same-length-7 (
 ) (get-ty-at t) get-ty.Post
 get-ty-same-length-7 t c = c .before .before .tuple-ty .kept .1 .1 .1 .1 .0
 
--- src/lib.rt:325:1
+-- src/lib.rt:326:1
 get-ty-returns-9 : (t : ℕ) → get-ty-lts.Need-returns-9 (
   stop-reads.Asked,
   stop-reads.Learnt,
@@ -1183,10 +1183,10 @@ get-ty-returns-9 : (t : ℕ) → get-ty-lts.Need-returns-9 (
   paren-ty-below t,
   paren-ty.Post,
 ) (get-ty-at t) get-ty.Post
-unfolding Ty.tys Ty.HoleTy Ty.WildcardTy Ty.TyVarTy
+unfolding Ty.tys Ty.ty
 get-ty-returns-9 t c = record { is = λ kinds m. ty-form _ (c .before .before .before .before .before .before .before .before .before .if1 .left) (form-key (c .before .before .before .before .before .before .before .before .form .ensures) (c .before .before .before .before .before .before .k .given .1) (c .before .before .before .before .match2 .keys7) (plain (c .before .before .tuple-ty .ensures))) }
 
--- src/lib.rt:325:1
+-- src/lib.rt:326:1
 get-ty-same-length-8 : (t : ℕ) → get-ty-lts.Need-same-length-8 (
   stop-reads.Asked,
   stop-reads.Learnt,
@@ -1211,7 +1211,7 @@ get-ty-same-length-8 : (t : ℕ) → get-ty-lts.Need-same-length-8 (
 ) (get-ty-at t) get-ty.Post
 get-ty-same-length-8 t c = c .before .before .fn-ty .kept .1 .1 .1 .1 .0
 
--- src/lib.rt:325:1
+-- src/lib.rt:326:1
 get-ty-returns-10 : (t : ℕ) → get-ty-lts.Need-returns-10 (
   stop-reads.Asked,
   stop-reads.Learnt,
@@ -1234,10 +1234,10 @@ get-ty-returns-10 : (t : ℕ) → get-ty-lts.Need-returns-10 (
   paren-ty-below t,
   paren-ty.Post,
 ) (get-ty-at t) get-ty.Post
-unfolding Ty.tys Ty.HoleTy Ty.WildcardTy Ty.TyVarTy
+unfolding Ty.tys Ty.ty
 get-ty-returns-10 t c = record { is = λ kinds m. ty-form _ (c .before .before .before .before .before .before .before .before .before .if1 .left) (form-key (c .before .before .before .before .before .before .before .before .form .ensures) (c .before .before .before .before .before .before .k .given .1) (c .before .before .before .before .match2 .keys8) (plain (c .before .before .fn-ty .ensures))) }
 
--- src/lib.rt:325:1
+-- src/lib.rt:326:1
 get-ty-same-length-9 : (t : ℕ) → get-ty-lts.Need-same-length-9 (
   stop-reads.Asked,
   stop-reads.Learnt,
@@ -1262,7 +1262,7 @@ get-ty-same-length-9 : (t : ℕ) → get-ty-lts.Need-same-length-9 (
 ) (get-ty-at t) get-ty.Post
 get-ty-same-length-9 t c = c .before .before .paren-ty .kept .1 .1 .1 .1 .0
 
--- src/lib.rt:325:1
+-- src/lib.rt:326:1
 get-ty-returns-11 : (t : ℕ) → get-ty-lts.Need-returns-11 (
   stop-reads.Asked,
   stop-reads.Learnt,
@@ -1285,10 +1285,10 @@ get-ty-returns-11 : (t : ℕ) → get-ty-lts.Need-returns-11 (
   paren-ty-below t,
   paren-ty.Post,
 ) (get-ty-at t) get-ty.Post
-unfolding Ty.tys Ty.HoleTy Ty.WildcardTy Ty.TyVarTy
+unfolding Ty.tys Ty.ty
 get-ty-returns-11 t c = record { is = λ kinds m. ty-form _ (c .before .before .before .before .before .before .before .before .before .if1 .left) (form-key (c .before .before .before .before .before .before .before .before .form .ensures) (c .before .before .before .before .before .before .k .given .1) (c .before .before .before .before .match2 .keys9) (plain (c .before .before .paren-ty .ensures))) }
 
--- src/lib.rt:325:1
+-- src/lib.rt:326:1
 get-ty-returns-12 : (t : ℕ) → get-ty-lts.Need-returns-12 (
   stop-reads.Asked,
   stop-reads.Learnt,
@@ -1311,10 +1311,10 @@ get-ty-returns-12 : (t : ℕ) → get-ty-lts.Need-returns-12 (
   paren-ty-below t,
   paren-ty.Post,
 ) (get-ty-at t) get-ty.Post
-unfolding Ty.tys Ty.HoleTy Ty.WildcardTy Ty.TyVarTy
+unfolding Ty.tys Ty.ty
 get-ty-returns-12 t c = record { is = λ kinds m. ty-form _ (c .before .before .before .before .before .before .if1 .left) (by-same (form-is (c .before .before .before .before .before .form .ensures) (c .before .before .before .k .given .1)) (beyond (Ty.tys (walks (c .before .before .before .before .before .before .before .before .before .before .before .before .args .cfg .left - 1))) (c .before .before .before .k .given .0 .0) 9 refl (past (past (past (past (past (past (past (past (past zero-le (c .before .match2 .rest .0 .0 .0 .0 .0 .0 .0 .0 .1)) (c .before .match2 .rest .0 .0 .0 .0 .0 .0 .0 .1)) (c .before .match2 .rest .0 .0 .0 .0 .0 .0 .1)) (c .before .match2 .rest .0 .0 .0 .0 .0 .1)) (c .before .match2 .rest .0 .0 .0 .0 .1)) (c .before .match2 .rest .0 .0 .0 .1)) (c .before .match2 .rest .0 .0 .1)) (c .before .match2 .rest .0 .1)) (c .before .match2 .rest .1)) (c .stop3 .ensures))) }
 
--- src/lib.rt:206:9
+-- src/lib.rt:207:9
 one-arg-con-ty-get-ty-requires : (t : ℕ) → one-arg-con-ty-lts.Need-get-ty-requires (
   get-ty-below t,
   get-ty.Post,
@@ -1325,7 +1325,7 @@ one-arg-con-ty-get-ty-requires : (t : ℕ) → one-arg-con-ty-lts.Need-get-ty-re
 ) (one-arg-con-ty-at t) one-arg-con-ty.Post
 one-arg-con-ty-get-ty-requires t c κs = omega (arith, c .before .before .before .before .before .before .pre .0)
 
--- src/lib.rt:207:22
+-- src/lib.rt:208:22
 one-arg-con-ty-enum-known-r1 : (t : ℕ) → one-arg-con-ty-lts.Need-enum-known-r1 (
   get-ty-below t,
   get-ty.Post,
@@ -1336,7 +1336,7 @@ one-arg-con-ty-enum-known-r1 : (t : ℕ) → one-arg-con-ty-lts.Need-enum-known-
 ) (one-arg-con-ty-at t) one-arg-con-ty.Post
 one-arg-con-ty-enum-known-r1 t c = search needs
 
--- src/lib.rt:208:9
+-- src/lib.rt:209:9
 one-arg-con-ty-enum-told : (t : ℕ) → one-arg-con-ty-lts.Need-enum-told (
   get-ty-below t,
   get-ty.Post,
@@ -1347,7 +1347,7 @@ one-arg-con-ty-enum-told : (t : ℕ) → one-arg-con-ty-lts.Need-enum-told (
 ) (one-arg-con-ty-at t) one-arg-con-ty.Post
 one-arg-con-ty-enum-told t c = search needs
 
--- src/lib.rt:208:9
+-- src/lib.rt:209:9
 one-arg-con-ty-same-length : (t : ℕ) → one-arg-con-ty-lts.Need-same-length (
   get-ty-below t,
   get-ty.Post,
@@ -1358,7 +1358,7 @@ one-arg-con-ty-same-length : (t : ℕ) → one-arg-con-ty-lts.Need-same-length (
 ) (one-arg-con-ty-at t) one-arg-con-ty.Post
 one-arg-con-ty-same-length t c = c .before .before .before .before .get-ty .kept .1 .1 .1 .1 .0
 
--- src/lib.rt:208:9
+-- src/lib.rt:209:9
 one-arg-con-ty-returns : (t : ℕ) → one-arg-con-ty-lts.Need-returns (
   get-ty-below t,
   get-ty.Post,
@@ -1367,10 +1367,10 @@ one-arg-con-ty-returns : (t : ℕ) → one-arg-con-ty-lts.Need-returns (
   path-reads.Asked,
   path-reads.Learnt,
 ) (one-arg-con-ty-at t) one-arg-con-ty.Post
-unfolding Ty.OneArgConTy
+unfolding Ty.ty
 one-arg-con-ty-returns t c = record { is = λ kinds m. then-stop (plain (c .before .before .before .before .get-ty .ensures)) (c .enum-told .given .1) }
 
--- src/lib.rt:210:9
+-- src/lib.rt:211:9
 one-arg-con-ty-word-requires : (t : ℕ) → one-arg-con-ty-lts.Need-word-requires (
   get-ty-below t,
   get-ty.Post,
@@ -1381,7 +1381,7 @@ one-arg-con-ty-word-requires : (t : ℕ) → one-arg-con-ty-lts.Need-word-requir
 ) (one-arg-con-ty-at t) one-arg-con-ty.Post
 one-arg-con-ty-word-requires t c κs = search needs
 
--- src/lib.rt:211:5
+-- src/lib.rt:212:5
 one-arg-con-ty-path-requires : (t : ℕ) → one-arg-con-ty-lts.Need-path-requires (
   get-ty-below t,
   get-ty.Post,
@@ -1392,7 +1392,7 @@ one-arg-con-ty-path-requires : (t : ℕ) → one-arg-con-ty-lts.Need-path-requir
 ) (one-arg-con-ty-at t) one-arg-con-ty.Post
 one-arg-con-ty-path-requires t c κs = search needs
 
--- src/lib.rt:195:1
+-- src/lib.rt:196:1
 one-arg-con-ty-same-length-2 : (t : ℕ) → one-arg-con-ty-lts.Need-same-length-2 (
   get-ty-below t,
   get-ty.Post,
@@ -1403,7 +1403,7 @@ one-arg-con-ty-same-length-2 : (t : ℕ) → one-arg-con-ty-lts.Need-same-length
 ) (one-arg-con-ty-at t) one-arg-con-ty.Post
 one-arg-con-ty-same-length-2 t c = c .before .before .path .kept .1 .1 .1 .1 .0 ∙ c .before .before .before .before .before .before .word .kept .1 .0 ∙ c .before .before .before .before .before .before .before .before .before .before .before .before .before .get-ty .kept .1 .1 .1 .1 .0
 
--- src/lib.rt:195:1
+-- src/lib.rt:196:1
 one-arg-con-ty-returns-2 : (t : ℕ) → one-arg-con-ty-lts.Need-returns-2 (
   get-ty-below t,
   get-ty.Post,
@@ -1412,10 +1412,10 @@ one-arg-con-ty-returns-2 : (t : ℕ) → one-arg-con-ty-lts.Need-returns-2 (
   path-reads.Asked,
   path-reads.Learnt,
 ) (one-arg-con-ty-at t) one-arg-con-ty.Post
-unfolding Ty.OneArgConTy
+unfolding Ty.ty
 one-arg-con-ty-returns-2 t c = record { is = λ kinds m. then-done (plain (c .before .before .before .before .before .before .before .before .before .before .before .before .before .get-ty .ensures)) (c .before .before .before .before .before .before .before .before .before .r1 .given .1) (then-sure (c .before .before .before .before .before .before .word .ensures) (plain (c .before .before .path .ensures))) }
 
--- src/lib.rt:316:9
+-- src/lib.rt:317:9
 paren-ty-word-requires : (t : ℕ) → paren-ty-lts.Need-word-requires (
   word-reads.Asked,
   word-reads.Learnt,
@@ -1424,7 +1424,7 @@ paren-ty-word-requires : (t : ℕ) → paren-ty-lts.Need-word-requires (
 ) (paren-ty-at t) paren-ty.Post
 paren-ty-word-requires t c κs = search needs
 
--- src/lib.rt:317:9
+-- src/lib.rt:318:9
 paren-ty-get-ty-requires : (t : ℕ) → paren-ty-lts.Need-get-ty-requires (
   word-reads.Asked,
   word-reads.Learnt,
@@ -1433,7 +1433,7 @@ paren-ty-get-ty-requires : (t : ℕ) → paren-ty-lts.Need-get-ty-requires (
 ) (paren-ty-at t) paren-ty.Post
 paren-ty-get-ty-requires t c κs = omega (arith, c .before .before .before .before .before .before .before .before .before .before .pre .0)
 
--- src/lib.rt:318:22
+-- src/lib.rt:319:22
 paren-ty-enum-known-r2 : (t : ℕ) → paren-ty-lts.Need-enum-known-r2 (
   word-reads.Asked,
   word-reads.Learnt,
@@ -1442,7 +1442,7 @@ paren-ty-enum-known-r2 : (t : ℕ) → paren-ty-lts.Need-enum-known-r2 (
 ) (paren-ty-at t) paren-ty.Post
 paren-ty-enum-known-r2 t c = search needs
 
--- src/lib.rt:319:9
+-- src/lib.rt:320:9
 paren-ty-enum-told : (t : ℕ) → paren-ty-lts.Need-enum-told (
   word-reads.Asked,
   word-reads.Learnt,
@@ -1451,7 +1451,7 @@ paren-ty-enum-told : (t : ℕ) → paren-ty-lts.Need-enum-told (
 ) (paren-ty-at t) paren-ty.Post
 paren-ty-enum-told t c = search needs
 
--- src/lib.rt:319:9
+-- src/lib.rt:320:9
 paren-ty-same-length : (t : ℕ) → paren-ty-lts.Need-same-length (
   word-reads.Asked,
   word-reads.Learnt,
@@ -1460,17 +1460,17 @@ paren-ty-same-length : (t : ℕ) → paren-ty-lts.Need-same-length (
 ) (paren-ty-at t) paren-ty.Post
 paren-ty-same-length t c = c .before .before .before .before .get-ty .kept .1 .1 .1 .1 .0 ∙ c .before .before .before .before .before .before .before .before .word .kept .1 .0
 
--- src/lib.rt:319:9
+-- src/lib.rt:320:9
 paren-ty-returns : (t : ℕ) → paren-ty-lts.Need-returns (
   word-reads.Asked,
   word-reads.Learnt,
   get-ty-below t,
   get-ty.Post,
 ) (paren-ty-at t) paren-ty.Post
-unfolding Ty.ParenTy
+unfolding Ty.ty
 paren-ty-returns t c = record { is = λ kinds m. then-sure (c .before .before .before .before .before .before .before .before .word .ensures) (then-stop (plain (c .before .before .before .before .get-ty .ensures)) (c .enum-told .given .1)) }
 
--- src/lib.rt:321:18
+-- src/lib.rt:322:18
 paren-ty-word-requires-2 : (t : ℕ) → paren-ty-lts.Need-word-requires-2 (
   word-reads.Asked,
   word-reads.Learnt,
@@ -1479,7 +1479,7 @@ paren-ty-word-requires-2 : (t : ℕ) → paren-ty-lts.Need-word-requires-2 (
 ) (paren-ty-at t) paren-ty.Post
 paren-ty-word-requires-2 t c κs = search needs
 
--- src/lib.rt:305:1
+-- src/lib.rt:306:1
 paren-ty-same-length-2 : (t : ℕ) → paren-ty-lts.Need-same-length-2 (
   word-reads.Asked,
   word-reads.Learnt,
@@ -1488,17 +1488,17 @@ paren-ty-same-length-2 : (t : ℕ) → paren-ty-lts.Need-same-length-2 (
 ) (paren-ty-at t) paren-ty.Post
 paren-ty-same-length-2 t c = c .before .before .word2 .kept .1 .0 ∙ c .before .before .before .before .before .before .before .before .before .get-ty .kept .1 .1 .1 .1 .0 ∙ c .before .before .before .before .before .before .before .before .before .before .before .before .before .word .kept .1 .0
 
--- src/lib.rt:305:1
+-- src/lib.rt:306:1
 paren-ty-returns-2 : (t : ℕ) → paren-ty-lts.Need-returns-2 (
   word-reads.Asked,
   word-reads.Learnt,
   get-ty-below t,
   get-ty.Post,
 ) (paren-ty-at t) paren-ty.Post
-unfolding Ty.ParenTy
+unfolding Ty.ty
 paren-ty-returns-2 t c = record { is = λ kinds m. then-sure (c .before .before .before .before .before .before .before .before .before .before .before .before .before .word .ensures) (then-done (plain (c .before .before .before .before .before .before .before .before .before .get-ty .ensures)) (c .before .before .before .before .before .r2 .given .1) (last-sure (c .before .before .word2 .ensures))) }
 
--- src/lib.rt:91:9
+-- src/lib.rt:92:9
 record-ty-word-requires : (t : ℕ) → record-ty-lts.Need-word-requires (
   word-reads.Asked,
   word-reads.Learnt,
@@ -1507,7 +1507,7 @@ record-ty-word-requires : (t : ℕ) → record-ty-lts.Need-word-requires (
 ) (record-ty-at t) record-ty.Post
 record-ty-word-requires t c κs = search needs
 
--- src/lib.rt:92:9
+-- src/lib.rt:93:9
 record-ty-ty-rows-requires : (t : ℕ) → record-ty-lts.Need-ty-rows-requires (
   word-reads.Asked,
   word-reads.Learnt,
@@ -1516,7 +1516,7 @@ record-ty-ty-rows-requires : (t : ℕ) → record-ty-lts.Need-ty-rows-requires (
 ) (record-ty-at t) record-ty.Post
 record-ty-ty-rows-requires t c κs = omega (arith, c .before .before .before .before .before .before .before .before .before .before .pre .0)
 
--- src/lib.rt:93:22
+-- src/lib.rt:94:22
 record-ty-enum-known-r2 : (t : ℕ) → record-ty-lts.Need-enum-known-r2 (
   word-reads.Asked,
   word-reads.Learnt,
@@ -1525,7 +1525,7 @@ record-ty-enum-known-r2 : (t : ℕ) → record-ty-lts.Need-enum-known-r2 (
 ) (record-ty-at t) record-ty.Post
 record-ty-enum-known-r2 t c = search needs
 
--- src/lib.rt:94:9
+-- src/lib.rt:95:9
 record-ty-enum-told : (t : ℕ) → record-ty-lts.Need-enum-told (
   word-reads.Asked,
   word-reads.Learnt,
@@ -1534,7 +1534,7 @@ record-ty-enum-told : (t : ℕ) → record-ty-lts.Need-enum-told (
 ) (record-ty-at t) record-ty.Post
 record-ty-enum-told t c = search needs
 
--- src/lib.rt:94:9
+-- src/lib.rt:95:9
 record-ty-same-length : (t : ℕ) → record-ty-lts.Need-same-length (
   word-reads.Asked,
   word-reads.Learnt,
@@ -1543,17 +1543,17 @@ record-ty-same-length : (t : ℕ) → record-ty-lts.Need-same-length (
 ) (record-ty-at t) record-ty.Post
 record-ty-same-length t c = c .before .before .before .before .ty-rows .kept .1 .1 .1 .1 .0 ∙ c .before .before .before .before .before .before .before .before .word .kept .1 .0
 
--- src/lib.rt:94:9
+-- src/lib.rt:95:9
 record-ty-returns : (t : ℕ) → record-ty-lts.Need-returns (
   word-reads.Asked,
   word-reads.Learnt,
   ty-rows-below t,
   ty-rows.Post,
 ) (record-ty-at t) record-ty.Post
-unfolding Ty.RecordTy
+unfolding Ty.ty
 record-ty-returns t c = record { is = λ kinds m. then-sure (c .before .before .before .before .before .before .before .before .word .ensures) (then-stop (plain (c .before .before .before .before .ty-rows .ensures)) (c .enum-told .given .1)) }
 
--- src/lib.rt:96:18
+-- src/lib.rt:97:18
 record-ty-word-requires-2 : (t : ℕ) → record-ty-lts.Need-word-requires-2 (
   word-reads.Asked,
   word-reads.Learnt,
@@ -1562,7 +1562,7 @@ record-ty-word-requires-2 : (t : ℕ) → record-ty-lts.Need-word-requires-2 (
 ) (record-ty-at t) record-ty.Post
 record-ty-word-requires-2 t c κs = search needs
 
--- src/lib.rt:80:1
+-- src/lib.rt:81:1
 record-ty-same-length-2 : (t : ℕ) → record-ty-lts.Need-same-length-2 (
   word-reads.Asked,
   word-reads.Learnt,
@@ -1571,17 +1571,17 @@ record-ty-same-length-2 : (t : ℕ) → record-ty-lts.Need-same-length-2 (
 ) (record-ty-at t) record-ty.Post
 record-ty-same-length-2 t c = c .before .before .word2 .kept .1 .0 ∙ c .before .before .before .before .before .before .before .before .before .ty-rows .kept .1 .1 .1 .1 .0 ∙ c .before .before .before .before .before .before .before .before .before .before .before .before .before .word .kept .1 .0
 
--- src/lib.rt:80:1
+-- src/lib.rt:81:1
 record-ty-returns-2 : (t : ℕ) → record-ty-lts.Need-returns-2 (
   word-reads.Asked,
   word-reads.Learnt,
   ty-rows-below t,
   ty-rows.Post,
 ) (record-ty-at t) record-ty.Post
-unfolding Ty.RecordTy
+unfolding Ty.ty
 record-ty-returns-2 t c = record { is = λ kinds m. then-sure (c .before .before .before .before .before .before .before .before .before .before .before .before .before .word .ensures) (then-done (plain (c .before .before .before .before .before .before .before .before .before .ty-rows .ensures)) (c .before .before .before .before .before .r2 .given .1) (last-sure (c .before .before .word2 .ensures))) }
 
--- src/lib.rt:226:9
+-- src/lib.rt:227:9
 star-ty-group-requires : (t : ℕ) → star-ty-lts.Need-group-requires (
   group-reads.Asked,
   group-reads.Learnt,
@@ -1592,7 +1592,7 @@ star-ty-group-requires : (t : ℕ) → star-ty-lts.Need-group-requires (
 ) (star-ty-at t) star-ty.Post
 star-ty-group-requires t c κs = search needs
 
--- src/lib.rt:227:22
+-- src/lib.rt:228:22
 star-ty-enum-known-r1 : (t : ℕ) → star-ty-lts.Need-enum-known-r1 (
   group-reads.Asked,
   group-reads.Learnt,
@@ -1603,7 +1603,7 @@ star-ty-enum-known-r1 : (t : ℕ) → star-ty-lts.Need-enum-known-r1 (
 ) (star-ty-at t) star-ty.Post
 star-ty-enum-known-r1 t c = search needs
 
--- src/lib.rt:228:9
+-- src/lib.rt:229:9
 star-ty-enum-told : (t : ℕ) → star-ty-lts.Need-enum-told (
   group-reads.Asked,
   group-reads.Learnt,
@@ -1614,7 +1614,7 @@ star-ty-enum-told : (t : ℕ) → star-ty-lts.Need-enum-told (
 ) (star-ty-at t) star-ty.Post
 star-ty-enum-told t c = search needs
 
--- src/lib.rt:228:9
+-- src/lib.rt:229:9
 star-ty-returns : (t : ℕ) → star-ty-lts.Need-returns (
   group-reads.Asked,
   group-reads.Learnt,
@@ -1626,7 +1626,7 @@ star-ty-returns : (t : ℕ) → star-ty-lts.Need-returns (
 unfolding Ty.star-ty
 star-ty-returns t c = record { is = λ kinds m. group-not (c .before .before .group .ensures) (c .enum-told .given .1) }
 
--- src/lib.rt:230:9
+-- src/lib.rt:231:9
 star-ty-word-requires : (t : ℕ) → star-ty-lts.Need-word-requires (
   group-reads.Asked,
   group-reads.Learnt,
@@ -1637,7 +1637,7 @@ star-ty-word-requires : (t : ℕ) → star-ty-lts.Need-word-requires (
 ) (star-ty-at t) star-ty.Post
 star-ty-word-requires t c κs = search needs
 
--- src/lib.rt:231:5
+-- src/lib.rt:232:5
 star-ty-get-ty-requires : (t : ℕ) → star-ty-lts.Need-get-ty-requires (
   group-reads.Asked,
   group-reads.Learnt,
@@ -1648,7 +1648,7 @@ star-ty-get-ty-requires : (t : ℕ) → star-ty-lts.Need-get-ty-requires (
 ) (star-ty-at t) star-ty.Post
 star-ty-get-ty-requires t c κs = omega (arith, c .before .before .before .before .before .before .before .before .before .before .before .before .before .before .pre .0)
 
--- src/lib.rt:215:1
+-- src/lib.rt:216:1
 star-ty-same-length : (t : ℕ) → star-ty-lts.Need-same-length (
   group-reads.Asked,
   group-reads.Learnt,
@@ -1659,7 +1659,7 @@ star-ty-same-length : (t : ℕ) → star-ty-lts.Need-same-length (
 ) (star-ty-at t) star-ty.Post
 star-ty-same-length t c = c .before .before .get-ty .kept .1 .1 .1 .1 .0 ∙ c .before .before .before .before .before .before .word .kept .1 .0
 
--- src/lib.rt:215:1
+-- src/lib.rt:216:1
 star-ty-returns-2 : (t : ℕ) → star-ty-lts.Need-returns-2 (
   group-reads.Asked,
   group-reads.Learnt,
@@ -1678,7 +1678,7 @@ star-tys-Inv-loop text rec starts lens out₀ cfg n s₀ i₀ out s i =
 abbrev star-tys-μ-loop : star-tys-lts.MeasureT-loop
 star-tys-μ-loop text rec starts lens out₀ cfg n s₀ i₀ out s i = n - i
 
--- src/lib.rt:246:27
+-- src/lib.rt:247:27
 star-tys-list-requires : (t : ℕ) → star-tys-lts.Need-list-requires (
   list-reads.Asked,
   list-reads.Learnt,
@@ -1689,7 +1689,7 @@ star-tys-list-requires : (t : ℕ) → star-tys-lts.Need-list-requires (
 ) (star-tys-at t) star-tys.Post star-tys-Inv-loop star-tys-μ-loop
 star-tys-list-requires t c κs = search needs
 
--- src/lib.rt:246:18
+-- src/lib.rt:247:18
 star-tys-enum-known-n : (t : ℕ) → star-tys-lts.Need-enum-known-n (
   list-reads.Asked,
   list-reads.Learnt,
@@ -1700,7 +1700,7 @@ star-tys-enum-known-n : (t : ℕ) → star-tys-lts.Need-enum-known-n (
 ) (star-tys-at t) star-tys.Post star-tys-Inv-loop star-tys-μ-loop
 star-tys-enum-known-n t c = search needs
 
--- src/lib.rt:247:9
+-- src/lib.rt:248:9
 star-tys-enum-told : (t : ℕ) → star-tys-lts.Need-enum-told (
   list-reads.Asked,
   list-reads.Learnt,
@@ -1711,7 +1711,7 @@ star-tys-enum-told : (t : ℕ) → star-tys-lts.Need-enum-told (
 ) (star-tys-at t) star-tys.Post star-tys-Inv-loop star-tys-μ-loop
 star-tys-enum-told t c = search needs
 
--- src/lib.rt:247:9
+-- src/lib.rt:248:9
 star-tys-stop-requires : (t : ℕ) → star-tys-lts.Need-stop-requires (
   list-reads.Asked,
   list-reads.Learnt,
@@ -1722,7 +1722,7 @@ star-tys-stop-requires : (t : ℕ) → star-tys-lts.Need-stop-requires (
 ) (star-tys-at t) star-tys.Post star-tys-Inv-loop star-tys-μ-loop
 star-tys-stop-requires t c κs = search needs
 
--- src/lib.rt:247:9
+-- src/lib.rt:248:9
 star-tys-returns : (t : ℕ) → star-tys-lts.Need-returns (
   list-reads.Asked,
   list-reads.Learnt,
@@ -1734,7 +1734,7 @@ star-tys-returns : (t : ℕ) → star-tys-lts.Need-returns (
 unfolding Ty.star-tys Helpers.for-each
 star-tys-returns t c = record { is = λ kinds m. list-not (c .stop .ensures) (c .before .before .before .list .ensures) (c .before .enum-told .given .1) }
 
--- src/lib.rt:251:5
+-- src/lib.rt:252:5
 star-tys-loop-holds : (t : ℕ) → star-tys-lts.Need-loop-holds (
   list-reads.Asked,
   list-reads.Learnt,
@@ -1745,7 +1745,7 @@ star-tys-loop-holds : (t : ℕ) → star-tys-lts.Need-loop-holds (
 ) (star-tys-at t) star-tys.Post star-tys-Inv-loop star-tys-μ-loop
 star-tys-loop-holds t c = (omega arith, λ kinds m r o h. h, refl)
 
--- src/lib.rt:252:13
+-- src/lib.rt:253:13
 star-tys-star-ty-requires : (t : ℕ) → star-tys-lts.Need-star-ty-requires (
   list-reads.Asked,
   list-reads.Learnt,
@@ -1756,7 +1756,7 @@ star-tys-star-ty-requires : (t : ℕ) → star-tys-lts.Need-star-ty-requires (
 ) (star-tys-at t) star-tys.Post star-tys-Inv-loop star-tys-μ-loop
 star-tys-star-ty-requires t c κs = omega (arith, c .before .before .before .before .before .before .before .before .before .before .before .before .pre .0)
 
--- src/lib.rt:253:26
+-- src/lib.rt:254:26
 star-tys-enum-known-r1 : (t : ℕ) → star-tys-lts.Need-enum-known-r1 (
   list-reads.Asked,
   list-reads.Learnt,
@@ -1767,7 +1767,7 @@ star-tys-enum-known-r1 : (t : ℕ) → star-tys-lts.Need-enum-known-r1 (
 ) (star-tys-at t) star-tys.Post star-tys-Inv-loop star-tys-μ-loop
 star-tys-enum-known-r1 t c = search needs
 
--- src/lib.rt:254:13
+-- src/lib.rt:255:13
 star-tys-enum-told-2 : (t : ℕ) → star-tys-lts.Need-enum-told-2 (
   list-reads.Asked,
   list-reads.Learnt,
@@ -1778,7 +1778,7 @@ star-tys-enum-told-2 : (t : ℕ) → star-tys-lts.Need-enum-told-2 (
 ) (star-tys-at t) star-tys.Post star-tys-Inv-loop star-tys-μ-loop
 star-tys-enum-told-2 t c = search needs
 
--- src/lib.rt:254:13
+-- src/lib.rt:255:13
 star-tys-same-length : (t : ℕ) → star-tys-lts.Need-same-length (
   list-reads.Asked,
   list-reads.Learnt,
@@ -1789,7 +1789,7 @@ star-tys-same-length : (t : ℕ) → star-tys-lts.Need-same-length (
 ) (star-tys-at t) star-tys.Post star-tys-Inv-loop star-tys-μ-loop
 star-tys-same-length t c = c .before .before .before .before .star-ty .kept .1 .1 .1 .1 .0 ∙ c .before .before .before .before .before .before .before .loop .inv .2
 
--- src/lib.rt:254:13
+-- src/lib.rt:255:13
 star-tys-returns-2 : (t : ℕ) → star-tys-lts.Need-returns-2 (
   list-reads.Asked,
   list-reads.Learnt,
@@ -1801,7 +1801,7 @@ star-tys-returns-2 : (t : ℕ) → star-tys-lts.Need-returns-2 (
 unfolding Ty.star-tys Helpers.for-each
 star-tys-returns-2 t c = record { is = λ kinds m. by-same (list-is (c .before .before .before .before .before .before .before .before .before .before .before .list .ensures) (c .before .before .before .before .before .before .before .before .before .n .given .1)) (by-same (times-all _ _) (c .before .before .before .before .before .before .before .loop .inv .1 kinds m _ _ (times-more _ (c .before .before .before .before .before .before .loop-test .taken) (then-stop (plain (c .before .before .before .before .star-ty .ensures)) (c .enum-told2 .given .1))))) }
 
--- src/lib.rt:257:9
+-- src/lib.rt:258:9
 star-tys-add-i : (t : ℕ) → star-tys-lts.Need-add-i (
   list-reads.Asked,
   list-reads.Learnt,
@@ -1812,7 +1812,7 @@ star-tys-add-i : (t : ℕ) → star-tys-lts.Need-add-i (
 ) (star-tys-at t) star-tys.Post star-tys-Inv-loop star-tys-μ-loop
 star-tys-add-i t c = omega (arith, c .before .before .before .before .before .before .before .loop-test .taken, c .before .before .before .before .before .before .before .before .before .known-told)
 
--- src/lib.rt:251:5
+-- src/lib.rt:252:5
 star-tys-loop-less : (t : ℕ) → star-tys-lts.Need-loop-less (
   list-reads.Asked,
   list-reads.Learnt,
@@ -1823,7 +1823,7 @@ star-tys-loop-less : (t : ℕ) → star-tys-lts.Need-loop-less (
 ) (star-tys-at t) star-tys.Post star-tys-Inv-loop star-tys-μ-loop
 star-tys-loop-less t c = omega arith
 
--- src/lib.rt:251:5
+-- src/lib.rt:252:5
 star-tys-loop-again : (t : ℕ) → star-tys-lts.Need-loop-again (
   list-reads.Asked,
   list-reads.Learnt,
@@ -1835,7 +1835,7 @@ star-tys-loop-again : (t : ℕ) → star-tys-lts.Need-loop-again (
 unfolding Ty.star-tys Helpers.for-each
 star-tys-loop-again t c = (omega (arith, c .before .before .before .before .before .before .before .before .loop .inv .0), λ kinds m r o h. c .before .before .before .before .before .before .before .before .loop .inv .1 kinds m r o (times-more _ (c .before .before .before .before .before .before .before .loop-test .taken) (then-done (plain (c .before .before .before .before .before .star-ty .ensures)) (c .before .r1 .given .1) h)), c .before .before .before .before .before .star-ty .kept .1 .1 .1 .1 .0 ∙ c .before .before .before .before .before .before .before .before .loop .inv .2)
 
--- src/lib.rt:235:1
+-- src/lib.rt:236:1
 star-tys-same-length-2 : (t : ℕ) → star-tys-lts.Need-same-length-2 (
   list-reads.Asked,
   list-reads.Learnt,
@@ -1846,7 +1846,7 @@ star-tys-same-length-2 : (t : ℕ) → star-tys-lts.Need-same-length-2 (
 ) (star-tys-at t) star-tys.Post star-tys-Inv-loop star-tys-μ-loop
 star-tys-same-length-2 t c = c .before .loop .inv .2
 
--- src/lib.rt:235:1
+-- src/lib.rt:236:1
 star-tys-returns-3 : (t : ℕ) → star-tys-lts.Need-returns-3 (
   list-reads.Asked,
   list-reads.Learnt,
@@ -1858,7 +1858,7 @@ star-tys-returns-3 : (t : ℕ) → star-tys-lts.Need-returns-3 (
 unfolding Ty.star-tys Helpers.for-each
 star-tys-returns-3 t c = record { is = λ kinds m. by-same (list-is (c .before .before .before .before .before .list .ensures) (c .before .before .before .n .given .1)) (by-same (times-all _ _) (c .before .loop .inv .1 kinds m _ _ (times-none _ (c .loop-test .left)))) }
 
--- src/lib.rt:276:9
+-- src/lib.rt:277:9
 tuple-ty-get-ty-requires : (t : ℕ) → tuple-ty-lts.Need-get-ty-requires (
   get-ty-below t,
   get-ty.Post,
@@ -1869,7 +1869,7 @@ tuple-ty-get-ty-requires : (t : ℕ) → tuple-ty-lts.Need-get-ty-requires (
 ) (tuple-ty-at t) tuple-ty.Post
 tuple-ty-get-ty-requires t c κs = omega (arith, c .before .before .before .before .before .before .pre .0)
 
--- src/lib.rt:277:9
+-- src/lib.rt:278:9
 tuple-ty-onwards-requires : (t : ℕ) → tuple-ty-lts.Need-onwards-requires (
   get-ty-below t,
   get-ty.Post,
@@ -1880,7 +1880,7 @@ tuple-ty-onwards-requires : (t : ℕ) → tuple-ty-lts.Need-onwards-requires (
 ) (tuple-ty-at t) tuple-ty.Post
 tuple-ty-onwards-requires t c κs = search needs
 
--- src/lib.rt:278:22
+-- src/lib.rt:279:22
 tuple-ty-enum-known-r1 : (t : ℕ) → tuple-ty-lts.Need-enum-known-r1 (
   get-ty-below t,
   get-ty.Post,
@@ -1891,7 +1891,7 @@ tuple-ty-enum-known-r1 : (t : ℕ) → tuple-ty-lts.Need-enum-known-r1 (
 ) (tuple-ty-at t) tuple-ty.Post
 tuple-ty-enum-known-r1 t c = search needs
 
--- src/lib.rt:279:9
+-- src/lib.rt:280:9
 tuple-ty-enum-told : (t : ℕ) → tuple-ty-lts.Need-enum-told (
   get-ty-below t,
   get-ty.Post,
@@ -1902,7 +1902,7 @@ tuple-ty-enum-told : (t : ℕ) → tuple-ty-lts.Need-enum-told (
 ) (tuple-ty-at t) tuple-ty.Post
 tuple-ty-enum-told t c = search needs
 
--- src/lib.rt:279:9
+-- src/lib.rt:280:9
 tuple-ty-same-length : (t : ℕ) → tuple-ty-lts.Need-same-length (
   get-ty-below t,
   get-ty.Post,
@@ -1913,7 +1913,7 @@ tuple-ty-same-length : (t : ℕ) → tuple-ty-lts.Need-same-length (
 ) (tuple-ty-at t) tuple-ty.Post
 tuple-ty-same-length t c = c .before .before .before .before .before .get-ty .kept .1 .1 .1 .1 .0
 
--- src/lib.rt:279:9
+-- src/lib.rt:280:9
 tuple-ty-returns : (t : ℕ) → tuple-ty-lts.Need-returns (
   get-ty-below t,
   get-ty.Post,
@@ -1922,10 +1922,10 @@ tuple-ty-returns : (t : ℕ) → tuple-ty-lts.Need-returns (
   star-tys-below t,
   star-tys.Post,
 ) (tuple-ty-at t) tuple-ty.Post
-unfolding Ty.TupleTy
+unfolding Ty.ty
 tuple-ty-returns t c = record { is = λ kinds m. then-stop (dropped-by (plain (c .before .before .before .before .before .get-ty .ensures)) (c .before .before .onwards .ensures)) (c .enum-told .given .1) }
 
--- src/lib.rt:281:5
+-- src/lib.rt:282:5
 tuple-ty-star-tys-requires : (t : ℕ) → tuple-ty-lts.Need-star-tys-requires (
   get-ty-below t,
   get-ty.Post,
@@ -1936,7 +1936,7 @@ tuple-ty-star-tys-requires : (t : ℕ) → tuple-ty-lts.Need-star-tys-requires (
 ) (tuple-ty-at t) tuple-ty.Post
 tuple-ty-star-tys-requires t c κs = omega (arith, c .before .before .before .before .before .before .before .before .before .before .before .before .before .before .pre .0)
 
--- src/lib.rt:263:1
+-- src/lib.rt:264:1
 tuple-ty-same-length-2 : (t : ℕ) → tuple-ty-lts.Need-same-length-2 (
   get-ty-below t,
   get-ty.Post,
@@ -1947,7 +1947,7 @@ tuple-ty-same-length-2 : (t : ℕ) → tuple-ty-lts.Need-same-length-2 (
 ) (tuple-ty-at t) tuple-ty.Post
 tuple-ty-same-length-2 t c = c .before .before .star-tys .kept .1 .1 .1 .1 .0 ∙ c .before .before .before .before .before .before .before .before .before .before .get-ty .kept .1 .1 .1 .1 .0
 
--- src/lib.rt:263:1
+-- src/lib.rt:264:1
 tuple-ty-returns-2 : (t : ℕ) → tuple-ty-lts.Need-returns-2 (
   get-ty-below t,
   get-ty.Post,
@@ -1956,7 +1956,7 @@ tuple-ty-returns-2 : (t : ℕ) → tuple-ty-lts.Need-returns-2 (
   star-tys-below t,
   star-tys.Post,
 ) (tuple-ty-at t) tuple-ty.Post
-unfolding Ty.TupleTy
+unfolding Ty.ty
 tuple-ty-returns-2 t c = record { is = λ kinds m. then-done (dropped-by (plain (c .before .before .before .before .before .before .before .before .before .before .get-ty .ensures)) (c .before .before .before .before .before .before .before .onwards .ensures)) (c .before .before .before .before .before .r1 .given .1) (plain (c .before .before .star-tys .ensures)) }
 
 abbrev ty-args-Inv-loop : ty-args-lts.InvT-loop
@@ -1966,7 +1966,7 @@ ty-args-Inv-loop text rec starts lens out₀ cfg n s₀ i₀ out s i =
 abbrev ty-args-μ-loop : ty-args-lts.MeasureT-loop
 ty-args-μ-loop text rec starts lens out₀ cfg n s₀ i₀ out s i = n - i
 
--- src/lib.rt:111:27
+-- src/lib.rt:112:27
 ty-args-list-requires : (t : ℕ) → ty-args-lts.Need-list-requires (
   list-reads.Asked,
   list-reads.Learnt,
@@ -1981,7 +1981,7 @@ ty-args-list-requires : (t : ℕ) → ty-args-lts.Need-list-requires (
 ) (ty-args-at t) ty-args.Post ty-args-Inv-loop ty-args-μ-loop
 ty-args-list-requires t c κs = search needs
 
--- src/lib.rt:111:18
+-- src/lib.rt:112:18
 ty-args-enum-known-n : (t : ℕ) → ty-args-lts.Need-enum-known-n (
   list-reads.Asked,
   list-reads.Learnt,
@@ -1996,7 +1996,7 @@ ty-args-enum-known-n : (t : ℕ) → ty-args-lts.Need-enum-known-n (
 ) (ty-args-at t) ty-args.Post ty-args-Inv-loop ty-args-μ-loop
 ty-args-enum-known-n t c = search needs
 
--- src/lib.rt:112:9
+-- src/lib.rt:113:9
 ty-args-enum-told : (t : ℕ) → ty-args-lts.Need-enum-told (
   list-reads.Asked,
   list-reads.Learnt,
@@ -2011,7 +2011,7 @@ ty-args-enum-told : (t : ℕ) → ty-args-lts.Need-enum-told (
 ) (ty-args-at t) ty-args.Post ty-args-Inv-loop ty-args-μ-loop
 ty-args-enum-told t c = search needs
 
--- src/lib.rt:112:9
+-- src/lib.rt:113:9
 ty-args-stop-requires : (t : ℕ) → ty-args-lts.Need-stop-requires (
   list-reads.Asked,
   list-reads.Learnt,
@@ -2026,7 +2026,7 @@ ty-args-stop-requires : (t : ℕ) → ty-args-lts.Need-stop-requires (
 ) (ty-args-at t) ty-args.Post ty-args-Inv-loop ty-args-μ-loop
 ty-args-stop-requires t c κs = search needs
 
--- src/lib.rt:112:9
+-- src/lib.rt:113:9
 ty-args-returns : (t : ℕ) → ty-args-lts.Need-returns (
   list-reads.Asked,
   list-reads.Learnt,
@@ -2042,7 +2042,7 @@ ty-args-returns : (t : ℕ) → ty-args-lts.Need-returns (
 unfolding Ty.ty-args Helpers.sep
 ty-args-returns t c = record { is = λ kinds m. list-not (c .stop .ensures) (c .before .before .before .list .ensures) (c .before .enum-told .given .1) }
 
--- src/lib.rt:116:5
+-- src/lib.rt:117:5
 ty-args-loop-holds : (t : ℕ) → ty-args-lts.Need-loop-holds (
   list-reads.Asked,
   list-reads.Learnt,
@@ -2057,7 +2057,7 @@ ty-args-loop-holds : (t : ℕ) → ty-args-lts.Need-loop-holds (
 ) (ty-args-at t) ty-args.Post ty-args-Inv-loop ty-args-μ-loop
 ty-args-loop-holds t c = (omega arith, λ kinds m r o h. h, refl)
 
--- src/lib.rt:117:13
+-- src/lib.rt:118:13
 ty-args-between-requires : (t : ℕ) → ty-args-lts.Need-between-requires (
   list-reads.Asked,
   list-reads.Learnt,
@@ -2072,7 +2072,7 @@ ty-args-between-requires : (t : ℕ) → ty-args-lts.Need-between-requires (
 ) (ty-args-at t) ty-args.Post ty-args-Inv-loop ty-args-μ-loop
 ty-args-between-requires t c κs = search needs
 
--- src/lib.rt:118:13
+-- src/lib.rt:119:13
 ty-args-group-requires : (t : ℕ) → ty-args-lts.Need-group-requires (
   list-reads.Asked,
   list-reads.Learnt,
@@ -2087,7 +2087,7 @@ ty-args-group-requires : (t : ℕ) → ty-args-lts.Need-group-requires (
 ) (ty-args-at t) ty-args.Post ty-args-Inv-loop ty-args-μ-loop
 ty-args-group-requires t c κs = search needs
 
--- src/lib.rt:119:26
+-- src/lib.rt:120:26
 ty-args-enum-known-r2 : (t : ℕ) → ty-args-lts.Need-enum-known-r2 (
   list-reads.Asked,
   list-reads.Learnt,
@@ -2102,7 +2102,7 @@ ty-args-enum-known-r2 : (t : ℕ) → ty-args-lts.Need-enum-known-r2 (
 ) (ty-args-at t) ty-args.Post ty-args-Inv-loop ty-args-μ-loop
 ty-args-enum-known-r2 t c = search needs
 
--- src/lib.rt:120:13
+-- src/lib.rt:121:13
 ty-args-enum-told-2 : (t : ℕ) → ty-args-lts.Need-enum-told-2 (
   list-reads.Asked,
   list-reads.Learnt,
@@ -2117,7 +2117,7 @@ ty-args-enum-told-2 : (t : ℕ) → ty-args-lts.Need-enum-told-2 (
 ) (ty-args-at t) ty-args.Post ty-args-Inv-loop ty-args-μ-loop
 ty-args-enum-told-2 t c = search needs
 
--- src/lib.rt:120:13
+-- src/lib.rt:121:13
 ty-args-same-length : (t : ℕ) → ty-args-lts.Need-same-length (
   list-reads.Asked,
   list-reads.Learnt,
@@ -2132,7 +2132,7 @@ ty-args-same-length : (t : ℕ) → ty-args-lts.Need-same-length (
 ) (ty-args-at t) ty-args.Post ty-args-Inv-loop ty-args-μ-loop
 ty-args-same-length t c = c .before .before .before .before .before .between .kept .1 .0 ∙ c .before .before .before .before .before .before .before .before .loop .inv .2
 
--- src/lib.rt:120:13
+-- src/lib.rt:121:13
 ty-args-returns-2 : (t : ℕ) → ty-args-lts.Need-returns-2 (
   list-reads.Asked,
   list-reads.Learnt,
@@ -2148,7 +2148,7 @@ ty-args-returns-2 : (t : ℕ) → ty-args-lts.Need-returns-2 (
 unfolding Ty.ty-args Helpers.sep
 ty-args-returns-2 t c = record { is = λ kinds m. by-same (list-is (c .before .before .before .before .before .before .before .before .before .before .before .before .list .ensures) (c .before .before .before .before .before .before .before .before .before .before .n .given .1)) (by-same (items-all _ _ _) (c .before .before .before .before .before .before .before .before .loop .inv .1 kinds m _ _ (from-more _ _ (c .before .before .before .before .before .before .before .loop-test .taken) (then-sure (c .before .before .before .before .before .between .ensures) (then-stop (group-not (c .before .before .group .ensures) (c .enum-told2 .given .1)) (c .enum-told2 .given .1)))))) }
 
--- src/lib.rt:122:13
+-- src/lib.rt:123:13
 ty-args-get-ty-requires : (t : ℕ) → ty-args-lts.Need-get-ty-requires (
   list-reads.Asked,
   list-reads.Learnt,
@@ -2163,7 +2163,7 @@ ty-args-get-ty-requires : (t : ℕ) → ty-args-lts.Need-get-ty-requires (
 ) (ty-args-at t) ty-args.Post ty-args-Inv-loop ty-args-μ-loop
 ty-args-get-ty-requires t c κs = omega (arith, c .before .before .before .before .before .before .before .before .before .before .before .before .before .before .before .before .before .before .before .before .pre .0)
 
--- src/lib.rt:123:26
+-- src/lib.rt:124:26
 ty-args-enum-known-r3 : (t : ℕ) → ty-args-lts.Need-enum-known-r3 (
   list-reads.Asked,
   list-reads.Learnt,
@@ -2178,7 +2178,7 @@ ty-args-enum-known-r3 : (t : ℕ) → ty-args-lts.Need-enum-known-r3 (
 ) (ty-args-at t) ty-args.Post ty-args-Inv-loop ty-args-μ-loop
 ty-args-enum-known-r3 t c = search needs
 
--- src/lib.rt:124:13
+-- src/lib.rt:125:13
 ty-args-enum-told-3 : (t : ℕ) → ty-args-lts.Need-enum-told-3 (
   list-reads.Asked,
   list-reads.Learnt,
@@ -2193,7 +2193,7 @@ ty-args-enum-told-3 : (t : ℕ) → ty-args-lts.Need-enum-told-3 (
 ) (ty-args-at t) ty-args.Post ty-args-Inv-loop ty-args-μ-loop
 ty-args-enum-told-3 t c = search needs
 
--- src/lib.rt:124:13
+-- src/lib.rt:125:13
 ty-args-same-length-2 : (t : ℕ) → ty-args-lts.Need-same-length-2 (
   list-reads.Asked,
   list-reads.Learnt,
@@ -2208,7 +2208,7 @@ ty-args-same-length-2 : (t : ℕ) → ty-args-lts.Need-same-length-2 (
 ) (ty-args-at t) ty-args.Post ty-args-Inv-loop ty-args-μ-loop
 ty-args-same-length-2 t c = c .before .before .before .before .get-ty .kept .1 .1 .1 .1 .0 ∙ c .before .before .before .before .before .before .before .before .before .before .before .before .between .kept .1 .0 ∙ c .before .before .before .before .before .before .before .before .before .before .before .before .before .before .before .loop .inv .2
 
--- src/lib.rt:124:13
+-- src/lib.rt:125:13
 ty-args-returns-3 : (t : ℕ) → ty-args-lts.Need-returns-3 (
   list-reads.Asked,
   list-reads.Learnt,
@@ -2224,7 +2224,7 @@ ty-args-returns-3 : (t : ℕ) → ty-args-lts.Need-returns-3 (
 unfolding Ty.ty-args Helpers.sep
 ty-args-returns-3 t c = record { is = λ kinds m. by-same (list-is (c .before .before .before .before .before .before .before .before .before .before .before .before .before .before .before .before .before .before .before .list .ensures) (c .before .before .before .before .before .before .before .before .before .before .before .before .before .before .before .before .before .n .given .1)) (by-same (items-all _ _ _) (c .before .before .before .before .before .before .before .before .before .before .before .before .before .before .before .loop .inv .1 kinds m _ _ (from-more _ _ (c .before .before .before .before .before .before .before .before .before .before .before .before .before .before .loop-test .taken) (then-sure (c .before .before .before .before .before .before .before .before .before .before .before .before .between .ensures) (by-same (first-same (group-is (c .before .before .before .before .before .before .before .before .before .group .ensures) (c .before .before .before .before .before .before .before .r2 .given .1))) (then-stop (plain (c .before .before .before .before .get-ty .ensures)) (c .enum-told3 .given .1))))))) }
 
--- src/lib.rt:127:9
+-- src/lib.rt:128:9
 ty-args-add-i : (t : ℕ) → ty-args-lts.Need-add-i (
   list-reads.Asked,
   list-reads.Learnt,
@@ -2239,7 +2239,7 @@ ty-args-add-i : (t : ℕ) → ty-args-lts.Need-add-i (
 ) (ty-args-at t) ty-args.Post ty-args-Inv-loop ty-args-μ-loop
 ty-args-add-i t c = omega (arith, c .before .before .before .before .before .before .before .before .before .before .before .before .before .before .before .loop-test .taken, c .before .before .before .before .before .before .before .before .before .before .before .before .before .before .before .before .before .known-told)
 
--- src/lib.rt:116:5
+-- src/lib.rt:117:5
 ty-args-loop-less : (t : ℕ) → ty-args-lts.Need-loop-less (
   list-reads.Asked,
   list-reads.Learnt,
@@ -2254,7 +2254,7 @@ ty-args-loop-less : (t : ℕ) → ty-args-lts.Need-loop-less (
 ) (ty-args-at t) ty-args.Post ty-args-Inv-loop ty-args-μ-loop
 ty-args-loop-less t c = omega arith
 
--- src/lib.rt:116:5
+-- src/lib.rt:117:5
 ty-args-loop-again : (t : ℕ) → ty-args-lts.Need-loop-again (
   list-reads.Asked,
   list-reads.Learnt,
@@ -2270,7 +2270,7 @@ ty-args-loop-again : (t : ℕ) → ty-args-lts.Need-loop-again (
 unfolding Ty.ty-args Helpers.sep
 ty-args-loop-again t c = (omega (arith, c .before .before .before .before .before .before .before .before .before .before .before .before .before .before .before .before .loop .inv .0), λ kinds m r o h. c .before .before .before .before .before .before .before .before .before .before .before .before .before .before .before .before .loop .inv .1 kinds m r o (from-more _ _ (c .before .before .before .before .before .before .before .before .before .before .before .before .before .before .before .loop-test .taken) (then-sure (c .before .before .before .before .before .before .before .before .before .before .before .before .before .between .ensures) (by-same (first-same (group-is (c .before .before .before .before .before .before .before .before .before .before .group .ensures) (c .before .before .before .before .before .before .before .before .r2 .given .1))) (then-done (plain (c .before .before .before .before .before .get-ty .ensures)) (c .before .r3 .given .1) h)))), c .before .before .before .before .before .get-ty .kept .1 .1 .1 .1 .0 ∙ c .before .before .before .before .before .before .before .before .before .before .before .before .before .between .kept .1 .0 ∙ c .before .before .before .before .before .before .before .before .before .before .before .before .before .before .before .before .loop .inv .2)
 
--- src/lib.rt:100:1
+-- src/lib.rt:101:1
 ty-args-same-length-3 : (t : ℕ) → ty-args-lts.Need-same-length-3 (
   list-reads.Asked,
   list-reads.Learnt,
@@ -2285,7 +2285,7 @@ ty-args-same-length-3 : (t : ℕ) → ty-args-lts.Need-same-length-3 (
 ) (ty-args-at t) ty-args.Post ty-args-Inv-loop ty-args-μ-loop
 ty-args-same-length-3 t c = c .before .loop .inv .2
 
--- src/lib.rt:100:1
+-- src/lib.rt:101:1
 ty-args-returns-4 : (t : ℕ) → ty-args-lts.Need-returns-4 (
   list-reads.Asked,
   list-reads.Learnt,
@@ -2301,7 +2301,7 @@ ty-args-returns-4 : (t : ℕ) → ty-args-lts.Need-returns-4 (
 unfolding Ty.ty-args Helpers.sep
 ty-args-returns-4 t c = record { is = λ kinds m. by-same (list-is (c .before .before .before .before .before .list .ensures) (c .before .before .before .n .given .1)) (by-same (items-all _ _ _) (c .before .loop .inv .1 kinds m _ _ (from-none _ _ (c .loop-test .left)))) }
 
--- src/lib.rt:38:9
+-- src/lib.rt:39:9
 ty-row-group-requires : (t : ℕ) → ty-row-lts.Need-group-requires (
   group-reads.Asked,
   group-reads.Learnt,
@@ -2314,7 +2314,7 @@ ty-row-group-requires : (t : ℕ) → ty-row-lts.Need-group-requires (
 ) (ty-row-at t) ty-row.Post
 ty-row-group-requires t c κs = search needs
 
--- src/lib.rt:39:22
+-- src/lib.rt:40:22
 ty-row-enum-known-r1 : (t : ℕ) → ty-row-lts.Need-enum-known-r1 (
   group-reads.Asked,
   group-reads.Learnt,
@@ -2327,7 +2327,7 @@ ty-row-enum-known-r1 : (t : ℕ) → ty-row-lts.Need-enum-known-r1 (
 ) (ty-row-at t) ty-row.Post
 ty-row-enum-known-r1 t c = search needs
 
--- src/lib.rt:40:9
+-- src/lib.rt:41:9
 ty-row-enum-told : (t : ℕ) → ty-row-lts.Need-enum-told (
   group-reads.Asked,
   group-reads.Learnt,
@@ -2340,7 +2340,7 @@ ty-row-enum-told : (t : ℕ) → ty-row-lts.Need-enum-told (
 ) (ty-row-at t) ty-row.Post
 ty-row-enum-told t c = search needs
 
--- src/lib.rt:40:9
+-- src/lib.rt:41:9
 ty-row-returns : (t : ℕ) → ty-row-lts.Need-returns (
   group-reads.Asked,
   group-reads.Learnt,
@@ -2354,7 +2354,7 @@ ty-row-returns : (t : ℕ) → ty-row-lts.Need-returns (
 unfolding Ty.ty-row
 ty-row-returns t c = record { is = λ kinds m. group-not (c .before .before .group .ensures) (c .enum-told .given .1) }
 
--- src/lib.rt:42:9
+-- src/lib.rt:43:9
 ty-row-text-of-requires : (t : ℕ) → ty-row-lts.Need-text-of-requires (
   group-reads.Asked,
   group-reads.Learnt,
@@ -2367,7 +2367,7 @@ ty-row-text-of-requires : (t : ℕ) → ty-row-lts.Need-text-of-requires (
 ) (ty-row-at t) ty-row.Post
 ty-row-text-of-requires t c κs = search needs
 
--- src/lib.rt:43:22
+-- src/lib.rt:44:22
 ty-row-enum-known-r2 : (t : ℕ) → ty-row-lts.Need-enum-known-r2 (
   group-reads.Asked,
   group-reads.Learnt,
@@ -2380,7 +2380,7 @@ ty-row-enum-known-r2 : (t : ℕ) → ty-row-lts.Need-enum-known-r2 (
 ) (ty-row-at t) ty-row.Post
 ty-row-enum-known-r2 t c = search needs
 
--- src/lib.rt:44:9
+-- src/lib.rt:45:9
 ty-row-enum-told-2 : (t : ℕ) → ty-row-lts.Need-enum-told-2 (
   group-reads.Asked,
   group-reads.Learnt,
@@ -2393,7 +2393,7 @@ ty-row-enum-told-2 : (t : ℕ) → ty-row-lts.Need-enum-told-2 (
 ) (ty-row-at t) ty-row.Post
 ty-row-enum-told-2 t c = search needs
 
--- src/lib.rt:44:9
+-- src/lib.rt:45:9
 ty-row-same-length : (t : ℕ) → ty-row-lts.Need-same-length (
   group-reads.Asked,
   group-reads.Learnt,
@@ -2406,7 +2406,7 @@ ty-row-same-length : (t : ℕ) → ty-row-lts.Need-same-length (
 ) (ty-row-at t) ty-row.Post
 ty-row-same-length t c = c .before .before .before .before .text-of .kept .1 .1 .1 .1 .0
 
--- src/lib.rt:44:9
+-- src/lib.rt:45:9
 ty-row-returns-2 : (t : ℕ) → ty-row-lts.Need-returns-2 (
   group-reads.Asked,
   group-reads.Learnt,
@@ -2420,7 +2420,7 @@ ty-row-returns-2 : (t : ℕ) → ty-row-lts.Need-returns-2 (
 unfolding Ty.ty-row
 ty-row-returns-2 t c = record { is = λ kinds m. by-same (group-is (c .before .before .before .before .before .before .before .before .before .group .ensures) (c .before .before .before .before .before .before .before .r1 .given .1)) (then-stop (plain (c .before .before .before .before .text-of .ensures)) (c .enum-told2 .given .1)) }
 
--- src/lib.rt:46:9
+-- src/lib.rt:47:9
 ty-row-word-requires : (t : ℕ) → ty-row-lts.Need-word-requires (
   group-reads.Asked,
   group-reads.Learnt,
@@ -2433,7 +2433,7 @@ ty-row-word-requires : (t : ℕ) → ty-row-lts.Need-word-requires (
 ) (ty-row-at t) ty-row.Post
 ty-row-word-requires t c κs = search needs
 
--- src/lib.rt:47:5
+-- src/lib.rt:48:5
 ty-row-get-ty-requires : (t : ℕ) → ty-row-lts.Need-get-ty-requires (
   group-reads.Asked,
   group-reads.Learnt,
@@ -2446,7 +2446,7 @@ ty-row-get-ty-requires : (t : ℕ) → ty-row-lts.Need-get-ty-requires (
 ) (ty-row-at t) ty-row.Post
 ty-row-get-ty-requires t c κs = omega (arith, c .before .before .before .before .before .before .before .before .before .before .before .before .before .before .before .before .before .before .before .before .before .pre .0)
 
--- src/lib.rt:27:1
+-- src/lib.rt:28:1
 ty-row-same-length-2 : (t : ℕ) → ty-row-lts.Need-same-length-2 (
   group-reads.Asked,
   group-reads.Learnt,
@@ -2459,7 +2459,7 @@ ty-row-same-length-2 : (t : ℕ) → ty-row-lts.Need-same-length-2 (
 ) (ty-row-at t) ty-row.Post
 ty-row-same-length-2 t c = c .before .before .get-ty .kept .1 .1 .1 .1 .0 ∙ c .before .before .before .before .before .before .word .kept .1 .0 ∙ c .before .before .before .before .before .before .before .before .before .before .before .before .before .text-of .kept .1 .1 .1 .1 .0
 
--- src/lib.rt:27:1
+-- src/lib.rt:28:1
 ty-row-returns-3 : (t : ℕ) → ty-row-lts.Need-returns-3 (
   group-reads.Asked,
   group-reads.Learnt,
@@ -2480,7 +2480,7 @@ ty-rows-Inv-loop text rec starts lens out₀ cfg n s₀ i₀ out s i =
 abbrev ty-rows-μ-loop : ty-rows-lts.MeasureT-loop
 ty-rows-μ-loop text rec starts lens out₀ cfg n s₀ i₀ out s i = n - i
 
--- src/lib.rt:62:27
+-- src/lib.rt:63:27
 ty-rows-list-requires : (t : ℕ) → ty-rows-lts.Need-list-requires (
   list-reads.Asked,
   list-reads.Learnt,
@@ -2493,7 +2493,7 @@ ty-rows-list-requires : (t : ℕ) → ty-rows-lts.Need-list-requires (
 ) (ty-rows-at t) ty-rows.Post ty-rows-Inv-loop ty-rows-μ-loop
 ty-rows-list-requires t c κs = search needs
 
--- src/lib.rt:62:18
+-- src/lib.rt:63:18
 ty-rows-enum-known-n : (t : ℕ) → ty-rows-lts.Need-enum-known-n (
   list-reads.Asked,
   list-reads.Learnt,
@@ -2506,7 +2506,7 @@ ty-rows-enum-known-n : (t : ℕ) → ty-rows-lts.Need-enum-known-n (
 ) (ty-rows-at t) ty-rows.Post ty-rows-Inv-loop ty-rows-μ-loop
 ty-rows-enum-known-n t c = search needs
 
--- src/lib.rt:63:9
+-- src/lib.rt:64:9
 ty-rows-enum-told : (t : ℕ) → ty-rows-lts.Need-enum-told (
   list-reads.Asked,
   list-reads.Learnt,
@@ -2519,7 +2519,7 @@ ty-rows-enum-told : (t : ℕ) → ty-rows-lts.Need-enum-told (
 ) (ty-rows-at t) ty-rows.Post ty-rows-Inv-loop ty-rows-μ-loop
 ty-rows-enum-told t c = search needs
 
--- src/lib.rt:63:9
+-- src/lib.rt:64:9
 ty-rows-stop-requires : (t : ℕ) → ty-rows-lts.Need-stop-requires (
   list-reads.Asked,
   list-reads.Learnt,
@@ -2532,7 +2532,7 @@ ty-rows-stop-requires : (t : ℕ) → ty-rows-lts.Need-stop-requires (
 ) (ty-rows-at t) ty-rows.Post ty-rows-Inv-loop ty-rows-μ-loop
 ty-rows-stop-requires t c κs = search needs
 
--- src/lib.rt:63:9
+-- src/lib.rt:64:9
 ty-rows-returns : (t : ℕ) → ty-rows-lts.Need-returns (
   list-reads.Asked,
   list-reads.Learnt,
@@ -2546,7 +2546,7 @@ ty-rows-returns : (t : ℕ) → ty-rows-lts.Need-returns (
 unfolding Ty.ty-rows Helpers.sep
 ty-rows-returns t c = record { is = λ kinds m. list-not (c .stop .ensures) (c .before .before .before .list .ensures) (c .before .enum-told .given .1) }
 
--- src/lib.rt:67:5
+-- src/lib.rt:68:5
 ty-rows-loop-holds : (t : ℕ) → ty-rows-lts.Need-loop-holds (
   list-reads.Asked,
   list-reads.Learnt,
@@ -2559,7 +2559,7 @@ ty-rows-loop-holds : (t : ℕ) → ty-rows-lts.Need-loop-holds (
 ) (ty-rows-at t) ty-rows.Post ty-rows-Inv-loop ty-rows-μ-loop
 ty-rows-loop-holds t c = (omega arith, λ kinds m r o h. h, refl)
 
--- src/lib.rt:68:13
+-- src/lib.rt:69:13
 ty-rows-between-requires : (t : ℕ) → ty-rows-lts.Need-between-requires (
   list-reads.Asked,
   list-reads.Learnt,
@@ -2572,7 +2572,7 @@ ty-rows-between-requires : (t : ℕ) → ty-rows-lts.Need-between-requires (
 ) (ty-rows-at t) ty-rows.Post ty-rows-Inv-loop ty-rows-μ-loop
 ty-rows-between-requires t c κs = search needs
 
--- src/lib.rt:69:13
+-- src/lib.rt:70:13
 ty-rows-ty-row-requires : (t : ℕ) → ty-rows-lts.Need-ty-row-requires (
   list-reads.Asked,
   list-reads.Learnt,
@@ -2585,7 +2585,7 @@ ty-rows-ty-row-requires : (t : ℕ) → ty-rows-lts.Need-ty-row-requires (
 ) (ty-rows-at t) ty-rows.Post ty-rows-Inv-loop ty-rows-μ-loop
 ty-rows-ty-row-requires t c κs = omega (arith, c .before .before .before .before .before .before .before .before .before .before .before .before .before .before .before .before .pre .0)
 
--- src/lib.rt:70:26
+-- src/lib.rt:71:26
 ty-rows-enum-known-r2 : (t : ℕ) → ty-rows-lts.Need-enum-known-r2 (
   list-reads.Asked,
   list-reads.Learnt,
@@ -2598,7 +2598,7 @@ ty-rows-enum-known-r2 : (t : ℕ) → ty-rows-lts.Need-enum-known-r2 (
 ) (ty-rows-at t) ty-rows.Post ty-rows-Inv-loop ty-rows-μ-loop
 ty-rows-enum-known-r2 t c = search needs
 
--- src/lib.rt:71:13
+-- src/lib.rt:72:13
 ty-rows-enum-told-2 : (t : ℕ) → ty-rows-lts.Need-enum-told-2 (
   list-reads.Asked,
   list-reads.Learnt,
@@ -2611,7 +2611,7 @@ ty-rows-enum-told-2 : (t : ℕ) → ty-rows-lts.Need-enum-told-2 (
 ) (ty-rows-at t) ty-rows.Post ty-rows-Inv-loop ty-rows-μ-loop
 ty-rows-enum-told-2 t c = search needs
 
--- src/lib.rt:71:13
+-- src/lib.rt:72:13
 ty-rows-same-length : (t : ℕ) → ty-rows-lts.Need-same-length (
   list-reads.Asked,
   list-reads.Learnt,
@@ -2624,7 +2624,7 @@ ty-rows-same-length : (t : ℕ) → ty-rows-lts.Need-same-length (
 ) (ty-rows-at t) ty-rows.Post ty-rows-Inv-loop ty-rows-μ-loop
 ty-rows-same-length t c = c .before .before .before .before .ty-row .kept .1 .1 .1 .1 .0 ∙ c .before .before .before .before .before .before .before .before .between .kept .1 .0 ∙ c .before .before .before .before .before .before .before .before .before .before .before .loop .inv .2
 
--- src/lib.rt:71:13
+-- src/lib.rt:72:13
 ty-rows-returns-2 : (t : ℕ) → ty-rows-lts.Need-returns-2 (
   list-reads.Asked,
   list-reads.Learnt,
@@ -2638,7 +2638,7 @@ ty-rows-returns-2 : (t : ℕ) → ty-rows-lts.Need-returns-2 (
 unfolding Ty.ty-rows Helpers.sep
 ty-rows-returns-2 t c = record { is = λ kinds m. by-same (list-is (c .before .before .before .before .before .before .before .before .before .before .before .before .before .before .before .list .ensures) (c .before .before .before .before .before .before .before .before .before .before .before .before .before .n .given .1)) (by-same (items-all _ _ _) (c .before .before .before .before .before .before .before .before .before .before .before .loop .inv .1 kinds m _ _ (from-more _ _ (c .before .before .before .before .before .before .before .before .before .before .loop-test .taken) (then-sure (c .before .before .before .before .before .before .before .before .between .ensures) (then-stop (plain (c .before .before .before .before .ty-row .ensures)) (c .enum-told2 .given .1)))))) }
 
--- src/lib.rt:74:9
+-- src/lib.rt:75:9
 ty-rows-add-i : (t : ℕ) → ty-rows-lts.Need-add-i (
   list-reads.Asked,
   list-reads.Learnt,
@@ -2651,7 +2651,7 @@ ty-rows-add-i : (t : ℕ) → ty-rows-lts.Need-add-i (
 ) (ty-rows-at t) ty-rows.Post ty-rows-Inv-loop ty-rows-μ-loop
 ty-rows-add-i t c = omega (arith, c .before .before .before .before .before .before .before .before .before .before .before .loop-test .taken, c .before .before .before .before .before .before .before .before .before .before .before .before .before .known-told)
 
--- src/lib.rt:67:5
+-- src/lib.rt:68:5
 ty-rows-loop-less : (t : ℕ) → ty-rows-lts.Need-loop-less (
   list-reads.Asked,
   list-reads.Learnt,
@@ -2664,7 +2664,7 @@ ty-rows-loop-less : (t : ℕ) → ty-rows-lts.Need-loop-less (
 ) (ty-rows-at t) ty-rows.Post ty-rows-Inv-loop ty-rows-μ-loop
 ty-rows-loop-less t c = omega arith
 
--- src/lib.rt:67:5
+-- src/lib.rt:68:5
 ty-rows-loop-again : (t : ℕ) → ty-rows-lts.Need-loop-again (
   list-reads.Asked,
   list-reads.Learnt,
@@ -2678,7 +2678,7 @@ ty-rows-loop-again : (t : ℕ) → ty-rows-lts.Need-loop-again (
 unfolding Ty.ty-rows Helpers.sep
 ty-rows-loop-again t c = (omega (arith, c .before .before .before .before .before .before .before .before .before .before .before .before .loop .inv .0), λ kinds m r o h. c .before .before .before .before .before .before .before .before .before .before .before .before .loop .inv .1 kinds m r o (from-more _ _ (c .before .before .before .before .before .before .before .before .before .before .before .loop-test .taken) (then-sure (c .before .before .before .before .before .before .before .before .before .between .ensures) (then-done (plain (c .before .before .before .before .before .ty-row .ensures)) (c .before .r2 .given .1) h))), c .before .before .before .before .before .ty-row .kept .1 .1 .1 .1 .0 ∙ c .before .before .before .before .before .before .before .before .before .between .kept .1 .0 ∙ c .before .before .before .before .before .before .before .before .before .before .before .before .loop .inv .2)
 
--- src/lib.rt:51:1
+-- src/lib.rt:52:1
 ty-rows-same-length-2 : (t : ℕ) → ty-rows-lts.Need-same-length-2 (
   list-reads.Asked,
   list-reads.Learnt,
@@ -2691,7 +2691,7 @@ ty-rows-same-length-2 : (t : ℕ) → ty-rows-lts.Need-same-length-2 (
 ) (ty-rows-at t) ty-rows.Post ty-rows-Inv-loop ty-rows-μ-loop
 ty-rows-same-length-2 t c = c .before .loop .inv .2
 
--- src/lib.rt:51:1
+-- src/lib.rt:52:1
 ty-rows-returns-3 : (t : ℕ) → ty-rows-lts.Need-returns-3 (
   list-reads.Asked,
   list-reads.Learnt,
@@ -2705,7 +2705,7 @@ ty-rows-returns-3 : (t : ℕ) → ty-rows-lts.Need-returns-3 (
 unfolding Ty.ty-rows Helpers.sep
 ty-rows-returns-3 t c = record { is = λ kinds m. by-same (list-is (c .before .before .before .before .before .list .ensures) (c .before .before .before .n .given .1)) (by-same (items-all _ _ _) (c .before .loop .inv .1 kinds m _ _ (from-none _ _ (c .loop-test .left)))) }
 
--- src/lib.rt:144:9
+-- src/lib.rt:145:9
 ty-seq-absent-requires : (t : ℕ) → ty-seq-lts.Need-absent-requires (
   absent-reads.Asked,
   absent-reads.Learnt,
@@ -2714,7 +2714,7 @@ ty-seq-absent-requires : (t : ℕ) → ty-seq-lts.Need-absent-requires (
 ) (ty-seq-at t) ty-seq.Post
 ty-seq-absent-requires t c κs = search needs
 
--- src/lib.rt:146:20
+-- src/lib.rt:147:20
 ty-seq-enum-known-gone : (t : ℕ) → ty-seq-lts.Need-enum-known-gone (
   absent-reads.Asked,
   absent-reads.Learnt,
@@ -2723,7 +2723,7 @@ ty-seq-enum-known-gone : (t : ℕ) → ty-seq-lts.Need-enum-known-gone (
 ) (ty-seq-at t) ty-seq.Post
 ty-seq-enum-known-gone t c = search needs
 
--- src/lib.rt:147:62
+-- src/lib.rt:148:62
 ty-seq-enum-told : (t : ℕ) → ty-seq-lts.Need-enum-told (
   absent-reads.Asked,
   absent-reads.Learnt,
@@ -2732,7 +2732,7 @@ ty-seq-enum-told : (t : ℕ) → ty-seq-lts.Need-enum-told (
 ) (ty-seq-at t) ty-seq.Post
 ty-seq-enum-told t c = search needs
 
--- src/lib.rt:147:24
+-- src/lib.rt:148:24
 ty-seq-ty-seq-there-requires : (t : ℕ) → ty-seq-lts.Need-ty-seq-there-requires (
   absent-reads.Asked,
   absent-reads.Learnt,
@@ -2741,7 +2741,7 @@ ty-seq-ty-seq-there-requires : (t : ℕ) → ty-seq-lts.Need-ty-seq-there-requir
 ) (ty-seq-at t) ty-seq.Post
 ty-seq-ty-seq-there-requires t c κs = omega (arith, c .before .before .before .before .before .before .before .before .before .pre .0)
 
--- src/lib.rt:133:1
+-- src/lib.rt:134:1
 ty-seq-returns : (t : ℕ) → ty-seq-lts.Need-returns (
   absent-reads.Asked,
   absent-reads.Learnt,
@@ -2751,7 +2751,7 @@ ty-seq-returns : (t : ℕ) → ty-seq-lts.Need-returns (
 unfolding Ty.ty-seq
 ty-seq-returns t c = record { is = λ kinds m. maybe-past (c .before .before .before .absent .ensures) (c .before .gone .given .1) }
 
--- src/lib.rt:133:1
+-- src/lib.rt:134:1
 ty-seq-same-length : (t : ℕ) → ty-seq-lts.Need-same-length (
   absent-reads.Asked,
   absent-reads.Learnt,
@@ -2760,7 +2760,7 @@ ty-seq-same-length : (t : ℕ) → ty-seq-lts.Need-same-length (
 ) (ty-seq-at t) ty-seq.Post
 ty-seq-same-length t c = c .before .before .ty-seq-there .kept .1 .1 .1 .1 .0
 
--- src/lib.rt:133:1
+-- src/lib.rt:134:1
 ty-seq-returns-2 : (t : ℕ) → ty-seq-lts.Need-returns-2 (
   absent-reads.Asked,
   absent-reads.Learnt,
@@ -2770,7 +2770,7 @@ ty-seq-returns-2 : (t : ℕ) → ty-seq-lts.Need-returns-2 (
 unfolding Ty.ty-seq
 ty-seq-returns-2 t c = record { is = λ kinds m. by-same (maybe-there (c .before .before .before .before .before .before .absent .ensures) (c .before .before .before .before .enum-told .given .1)) (plain (c .before .before .ty-seq-there .ensures)) }
 
--- src/lib.rt:163:9
+-- src/lib.rt:164:9
 ty-seq-there-group-requires : (t : ℕ) → ty-seq-there-lts.Need-group-requires (
   group-reads.Asked,
   group-reads.Learnt,
@@ -2781,7 +2781,7 @@ ty-seq-there-group-requires : (t : ℕ) → ty-seq-there-lts.Need-group-requires
 ) (ty-seq-there-at t) ty-seq-there.Post
 ty-seq-there-group-requires t c κs = search needs
 
--- src/lib.rt:164:22
+-- src/lib.rt:165:22
 ty-seq-there-enum-known-r1 : (t : ℕ) → ty-seq-there-lts.Need-enum-known-r1 (
   group-reads.Asked,
   group-reads.Learnt,
@@ -2792,7 +2792,7 @@ ty-seq-there-enum-known-r1 : (t : ℕ) → ty-seq-there-lts.Need-enum-known-r1 (
 ) (ty-seq-there-at t) ty-seq-there.Post
 ty-seq-there-enum-known-r1 t c = search needs
 
--- src/lib.rt:165:9
+-- src/lib.rt:166:9
 ty-seq-there-enum-told : (t : ℕ) → ty-seq-there-lts.Need-enum-told (
   group-reads.Asked,
   group-reads.Learnt,
@@ -2803,7 +2803,7 @@ ty-seq-there-enum-told : (t : ℕ) → ty-seq-there-lts.Need-enum-told (
 ) (ty-seq-there-at t) ty-seq-there.Post
 ty-seq-there-enum-told t c = search needs
 
--- src/lib.rt:165:9
+-- src/lib.rt:166:9
 ty-seq-there-returns : (t : ℕ) → ty-seq-there-lts.Need-returns (
   group-reads.Asked,
   group-reads.Learnt,
@@ -2815,7 +2815,7 @@ ty-seq-there-returns : (t : ℕ) → ty-seq-there-lts.Need-returns (
 unfolding Ty.ty-seq-there
 ty-seq-there-returns t c = record { is = λ kinds m. group-not (c .before .before .group .ensures) (c .enum-told .given .1) }
 
--- src/lib.rt:167:9
+-- src/lib.rt:168:9
 ty-seq-there-word-requires : (t : ℕ) → ty-seq-there-lts.Need-word-requires (
   group-reads.Asked,
   group-reads.Learnt,
@@ -2826,7 +2826,7 @@ ty-seq-there-word-requires : (t : ℕ) → ty-seq-there-lts.Need-word-requires (
 ) (ty-seq-there-at t) ty-seq-there.Post
 ty-seq-there-word-requires t c κs = search needs
 
--- src/lib.rt:168:9
+-- src/lib.rt:169:9
 ty-seq-there-ty-args-requires : (t : ℕ) → ty-seq-there-lts.Need-ty-args-requires (
   group-reads.Asked,
   group-reads.Learnt,
@@ -2837,7 +2837,7 @@ ty-seq-there-ty-args-requires : (t : ℕ) → ty-seq-there-lts.Need-ty-args-requ
 ) (ty-seq-there-at t) ty-seq-there.Post
 ty-seq-there-ty-args-requires t c κs = omega (arith, c .before .before .before .before .before .before .before .before .before .before .before .before .before .before .pre .0)
 
--- src/lib.rt:169:22
+-- src/lib.rt:170:22
 ty-seq-there-enum-known-r3 : (t : ℕ) → ty-seq-there-lts.Need-enum-known-r3 (
   group-reads.Asked,
   group-reads.Learnt,
@@ -2848,7 +2848,7 @@ ty-seq-there-enum-known-r3 : (t : ℕ) → ty-seq-there-lts.Need-enum-known-r3 (
 ) (ty-seq-there-at t) ty-seq-there.Post
 ty-seq-there-enum-known-r3 t c = search needs
 
--- src/lib.rt:170:9
+-- src/lib.rt:171:9
 ty-seq-there-enum-told-2 : (t : ℕ) → ty-seq-there-lts.Need-enum-told-2 (
   group-reads.Asked,
   group-reads.Learnt,
@@ -2859,7 +2859,7 @@ ty-seq-there-enum-told-2 : (t : ℕ) → ty-seq-there-lts.Need-enum-told-2 (
 ) (ty-seq-there-at t) ty-seq-there.Post
 ty-seq-there-enum-told-2 t c = search needs
 
--- src/lib.rt:170:9
+-- src/lib.rt:171:9
 ty-seq-there-same-length : (t : ℕ) → ty-seq-there-lts.Need-same-length (
   group-reads.Asked,
   group-reads.Learnt,
@@ -2870,7 +2870,7 @@ ty-seq-there-same-length : (t : ℕ) → ty-seq-there-lts.Need-same-length (
 ) (ty-seq-there-at t) ty-seq-there.Post
 ty-seq-there-same-length t c = c .before .before .before .before .ty-args .kept .1 .1 .1 .1 .0 ∙ c .before .before .before .before .before .before .before .before .word .kept .1 .0
 
--- src/lib.rt:170:9
+-- src/lib.rt:171:9
 ty-seq-there-returns-2 : (t : ℕ) → ty-seq-there-lts.Need-returns-2 (
   group-reads.Asked,
   group-reads.Learnt,
@@ -2882,7 +2882,7 @@ ty-seq-there-returns-2 : (t : ℕ) → ty-seq-there-lts.Need-returns-2 (
 unfolding Ty.ty-seq-there
 ty-seq-there-returns-2 t c = record { is = λ kinds m. by-same (group-is (c .before .before .before .before .before .before .before .before .before .before .before .before .before .group .ensures) (c .before .before .before .before .before .before .before .before .before .before .before .r1 .given .1)) (then-sure (c .before .before .before .before .before .before .before .before .word .ensures) (then-stop (plain (c .before .before .before .before .ty-args .ensures)) (c .enum-told2 .given .1))) }
 
--- src/lib.rt:172:18
+-- src/lib.rt:173:18
 ty-seq-there-word-requires-2 : (t : ℕ) → ty-seq-there-lts.Need-word-requires-2 (
   group-reads.Asked,
   group-reads.Learnt,
@@ -2893,7 +2893,7 @@ ty-seq-there-word-requires-2 : (t : ℕ) → ty-seq-there-lts.Need-word-requires
 ) (ty-seq-there-at t) ty-seq-there.Post
 ty-seq-there-word-requires-2 t c κs = search needs
 
--- src/lib.rt:152:1
+-- src/lib.rt:153:1
 ty-seq-there-same-length-2 : (t : ℕ) → ty-seq-there-lts.Need-same-length-2 (
   group-reads.Asked,
   group-reads.Learnt,
@@ -2904,7 +2904,7 @@ ty-seq-there-same-length-2 : (t : ℕ) → ty-seq-there-lts.Need-same-length-2 (
 ) (ty-seq-there-at t) ty-seq-there.Post
 ty-seq-there-same-length-2 t c = c .before .before .word2 .kept .1 .0 ∙ c .before .before .before .before .before .before .before .before .before .ty-args .kept .1 .1 .1 .1 .0 ∙ c .before .before .before .before .before .before .before .before .before .before .before .before .before .word .kept .1 .0
 
--- src/lib.rt:152:1
+-- src/lib.rt:153:1
 ty-seq-there-returns-3 : (t : ℕ) → ty-seq-there-lts.Need-returns-3 (
   group-reads.Asked,
   group-reads.Learnt,

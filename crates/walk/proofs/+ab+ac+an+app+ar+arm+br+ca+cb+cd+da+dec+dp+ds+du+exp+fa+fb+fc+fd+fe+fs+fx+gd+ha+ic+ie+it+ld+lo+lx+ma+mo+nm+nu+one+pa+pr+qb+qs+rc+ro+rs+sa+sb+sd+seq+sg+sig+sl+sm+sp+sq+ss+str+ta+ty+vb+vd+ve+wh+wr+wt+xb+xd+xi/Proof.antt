@@ -18,9 +18,9 @@ use Rattle.layout.specs.GetDec as GetDec
 use Rattle.layout.specs.DecOne as DecOne
 use Rattle.layout.specs.StrExp as StrExp
 use Rattle.layout.specs.SigExp as SigExp
-use Rattle.layout.proofs.Steps.{Turn, from, plain, along, deep-depth, deep-left, by-same, first-same, then-done, then-stop, then-sure, last-sure, then-both, sure-formed, last-skip, token-is, token-not, list-is, list-not, choice-is, choice-not, group-is, group-not, maybe-past, maybe-there, items-all, from-more, from-none, times-all, times-more, times-none, look-is, regroup}
+use Rattle.layout.proofs.Steps.{Turn, from, plain, along, deep-depth, deep-left, by-same, first-same, then-done, then-stop, then-sure, last-sure, then-both, sure-formed, last-skip, list-is, list-not, choice-is, choice-not, group-is, group-not, maybe-past, maybe-there, items-all, from-more, from-none, times-all, times-more, times-none, regroup, look-yes, look-no, look-not, operator-not, operator-stop, operator-done}
 use Rattle.layout.proofs.Knot.{past, beyond, at-key, form-key, exp-zero, exp-form, str-zero, str-form, sig-zero, sig-form, dec-zero, dec-form}
-use Rattle.layout.proofs.HeadLaws.{heads-are, heads-missing}
+use Rattle.layout.proofs.HeadLaws.{application-is, application-missing}
 use Rattle.layout.proofs.DecLaws.{declaration-is, declaration-not}
 use Rattle.leaves.proofs.Laws.{missed}
 use Rattle.walk.proofs.Laws.{semi-all, semi-more, semi-none, semi-zero, semi-first, args-all, args-more, args-none, args-needs, last-import}
@@ -238,7 +238,7 @@ use Rattle.layout.proofs.fields.stop.Reads as stop-reads
 use Rattle.layout.proofs.fields.token_no.Reads as token-no-reads
 use Rattle.layout.proofs.helpers.between.Reads as between-reads
 use Rattle.layout.proofs.helpers.comment_above.Reads as comment-above-reads
-use Rattle.layout.proofs.helpers.forms.Reads as forms-reads
+use Rattle.layout.proofs.helpers.deepen.Reads as deepen-reads
 use Rattle.layout.proofs.helpers.indent.Reads as indent-reads
 use Rattle.layout.proofs.helpers.indent_deeper.Reads as indent-deeper-reads
 use Rattle.layout.proofs.helpers.indent_in.Reads as indent-in-reads
@@ -252,17 +252,20 @@ use Rattle.layout.proofs.helpers.text_of.Reads as text-of-reads
 use Rattle.layout.proofs.helpers.ty_var_seq.Reads as ty-var-seq-reads
 use Rattle.layout.proofs.helpers.word_if.Reads as word-if-reads
 use Rattle.layout.proofs.looks.body_exp_needs_newline.Reads as body-exp-needs-newline-reads
+use Rattle.layout.proofs.looks.expression.Reads as expression-reads
 use Rattle.layout.proofs.looks.heads.Reads as heads-reads
 use Rattle.layout.proofs.looks.is_if_exp.Reads as is-if-exp-reads
 use Rattle.layout.proofs.word.Reads as word-reads
 use Rattle.leaves.proofs.app_end.Reads as app-end-reads
 use Rattle.leaves.proofs.app_space.Reads as app-space-reads
+use Rattle.leaves.proofs.arg_is_symbolic.Reads as arg-is-symbolic-reads
 use Rattle.leaves.proofs.case_head.Reads as case-head-reads
 use Rattle.leaves.proofs.case_pats.Reads as case-pats-reads
 use Rattle.leaves.proofs.dat_binds.Reads as dat-binds-reads
 use Rattle.leaves.proofs.dat_copy_dec.Reads as dat-copy-dec-reads
 use Rattle.leaves.proofs.dat_dec.Reads as dat-dec-reads
 use Rattle.leaves.proofs.ex_bind_of.Reads as ex-bind-of-reads
+use Rattle.leaves.proofs.func_is_bang.Reads as func-is-bang-reads
 use Rattle.leaves.proofs.infix_dec.Reads as infix-dec-reads
 use Rattle.leaves.proofs.infix_operator.Reads as infix-operator-reads
 use Rattle.leaves.proofs.item_semi.Reads as item-semi-reads
@@ -879,7 +882,7 @@ xi-at t = and 7 xi-kinds.ps (is 7 xi-kinds.ps μ-xi t) xi.Pre
 abbrev xi-below : ℕ → In 7 xi-kinds.ps
 xi-below t = and 7 xi-kinds.ps (falls 7 xi-kinds.ps _<_ μ-xi t) xi.Pre
 
--- src/lib.rt:1407:9
+-- src/lib.rt:1383:9
 ab-word-requires : (t : ℕ) → ab-lts.Need-word-requires (
   word-reads.Asked,
   word-reads.Learnt,
@@ -892,7 +895,7 @@ ab-word-requires : (t : ℕ) → ab-lts.Need-word-requires (
 ) (ab-at t) ab.Post
 ab-word-requires t c κs = search needs
 
--- src/lib.rt:1408:9
+-- src/lib.rt:1384:9
 ab-dat-binds-requires : (t : ℕ) → ab-lts.Need-dat-binds-requires (
   word-reads.Asked,
   word-reads.Learnt,
@@ -905,7 +908,7 @@ ab-dat-binds-requires : (t : ℕ) → ab-lts.Need-dat-binds-requires (
 ) (ab-at t) ab.Post
 ab-dat-binds-requires t c κs = omega (arith, c .before .before .before .before .before .before .before .before .before .before .before .pre .1)
 
--- src/lib.rt:1409:22
+-- src/lib.rt:1385:22
 ab-enum-known-r2 : (t : ℕ) → ab-lts.Need-enum-known-r2 (
   word-reads.Asked,
   word-reads.Learnt,
@@ -918,7 +921,7 @@ ab-enum-known-r2 : (t : ℕ) → ab-lts.Need-enum-known-r2 (
 ) (ab-at t) ab.Post
 ab-enum-known-r2 t c = search needs
 
--- src/lib.rt:1410:9
+-- src/lib.rt:1386:9
 ab-enum-told : (t : ℕ) → ab-lts.Need-enum-told (
   word-reads.Asked,
   word-reads.Learnt,
@@ -931,7 +934,7 @@ ab-enum-told : (t : ℕ) → ab-lts.Need-enum-told (
 ) (ab-at t) ab.Post
 ab-enum-told t c = search needs
 
--- src/lib.rt:1410:9
+-- src/lib.rt:1386:9
 ab-same-length : (t : ℕ) → ab-lts.Need-same-length (
   word-reads.Asked,
   word-reads.Learnt,
@@ -944,7 +947,7 @@ ab-same-length : (t : ℕ) → ab-lts.Need-same-length (
 ) (ab-at t) ab.Post
 ab-same-length t c = c .before .before .before .before .dat-binds .kept .1 .1 .1 .1 .0 ∙ c .before .before .before .before .before .before .before .before .word .kept .1 .0
 
--- src/lib.rt:1410:9
+-- src/lib.rt:1386:9
 ab-returns : (t : ℕ) → ab-lts.Need-returns (
   word-reads.Asked,
   word-reads.Learnt,
@@ -955,10 +958,10 @@ ab-returns : (t : ℕ) → ab-lts.Need-returns (
   ds-below t,
   ds.Post,
 ) (ab-at t) ab.Post
-unfolding DecOne.AbstypeDec
+unfolding DecOne.dec-one
 ab-returns t c = record { is = then-sure (c .before .before .before .before .before .before .before .before .word .ensures) (then-stop (plain (c .before .before .before .before .dat-binds .ensures)) (c .enum-told .given .1)) }
 
--- src/lib.rt:1412:9
+-- src/lib.rt:1388:9
 ab-with-type-requires : (t : ℕ) → ab-lts.Need-with-type-requires (
   word-reads.Asked,
   word-reads.Learnt,
@@ -971,7 +974,7 @@ ab-with-type-requires : (t : ℕ) → ab-lts.Need-with-type-requires (
 ) (ab-at t) ab.Post
 ab-with-type-requires t c κs = search needs
 
--- src/lib.rt:1413:22
+-- src/lib.rt:1389:22
 ab-enum-known-r3 : (t : ℕ) → ab-lts.Need-enum-known-r3 (
   word-reads.Asked,
   word-reads.Learnt,
@@ -984,7 +987,7 @@ ab-enum-known-r3 : (t : ℕ) → ab-lts.Need-enum-known-r3 (
 ) (ab-at t) ab.Post
 ab-enum-known-r3 t c = search needs
 
--- src/lib.rt:1414:9
+-- src/lib.rt:1390:9
 ab-enum-told-2 : (t : ℕ) → ab-lts.Need-enum-told-2 (
   word-reads.Asked,
   word-reads.Learnt,
@@ -997,7 +1000,7 @@ ab-enum-told-2 : (t : ℕ) → ab-lts.Need-enum-told-2 (
 ) (ab-at t) ab.Post
 ab-enum-told-2 t c = search needs
 
--- src/lib.rt:1414:9
+-- src/lib.rt:1390:9
 ab-same-length-2 : (t : ℕ) → ab-lts.Need-same-length-2 (
   word-reads.Asked,
   word-reads.Learnt,
@@ -1010,7 +1013,7 @@ ab-same-length-2 : (t : ℕ) → ab-lts.Need-same-length-2 (
 ) (ab-at t) ab.Post
 ab-same-length-2 t c = c .before .before .before .before .with-type .kept .1 .1 .1 .1 .0 ∙ c .before .before .before .before .before .before .before .before .before .before .before .dat-binds .kept .1 .1 .1 .1 .0 ∙ c .before .before .before .before .before .before .before .before .before .before .before .before .before .before .before .word .kept .1 .0
 
--- src/lib.rt:1414:9
+-- src/lib.rt:1390:9
 ab-returns-2 : (t : ℕ) → ab-lts.Need-returns-2 (
   word-reads.Asked,
   word-reads.Learnt,
@@ -1021,10 +1024,10 @@ ab-returns-2 : (t : ℕ) → ab-lts.Need-returns-2 (
   ds-below t,
   ds.Post,
 ) (ab-at t) ab.Post
-unfolding DecOne.AbstypeDec
+unfolding DecOne.dec-one
 ab-returns-2 t c = record { is = then-sure (c .before .before .before .before .before .before .before .before .before .before .before .before .before .before .before .word .ensures) (then-done (plain (c .before .before .before .before .before .before .before .before .before .before .before .dat-binds .ensures)) (c .before .before .before .before .before .before .before .r2 .given .1) (then-stop (plain (c .before .before .before .before .with-type .ensures)) (c .enum-told2 .given .1))) }
 
--- src/lib.rt:1416:9
+-- src/lib.rt:1392:9
 ab-word-requires-2 : (t : ℕ) → ab-lts.Need-word-requires-2 (
   word-reads.Asked,
   word-reads.Learnt,
@@ -1037,7 +1040,7 @@ ab-word-requires-2 : (t : ℕ) → ab-lts.Need-word-requires-2 (
 ) (ab-at t) ab.Post
 ab-word-requires-2 t c κs = search needs
 
--- src/lib.rt:1417:9
+-- src/lib.rt:1393:9
 ab-ds-requires : (t : ℕ) → ab-lts.Need-ds-requires (
   word-reads.Asked,
   word-reads.Learnt,
@@ -1050,7 +1053,7 @@ ab-ds-requires : (t : ℕ) → ab-lts.Need-ds-requires (
 ) (ab-at t) ab.Post
 ab-ds-requires t c κs = omega (arith, c .before .before .before .before .before .before .before .before .before .before .before .before .before .before .before .before .before .before .before .before .before .before .before .before .before .before .before .before .before .before .pre .0, c .before .before .before .before .before .before .before .before .before .before .before .before .before .before .before .before .before .before .before .before .before .before .before .before .before .before .before .before .before .before .pre .1)
 
--- src/lib.rt:1418:22
+-- src/lib.rt:1394:22
 ab-enum-known-r5 : (t : ℕ) → ab-lts.Need-enum-known-r5 (
   word-reads.Asked,
   word-reads.Learnt,
@@ -1063,7 +1066,7 @@ ab-enum-known-r5 : (t : ℕ) → ab-lts.Need-enum-known-r5 (
 ) (ab-at t) ab.Post
 ab-enum-known-r5 t c = search needs
 
--- src/lib.rt:1419:9
+-- src/lib.rt:1395:9
 ab-enum-told-3 : (t : ℕ) → ab-lts.Need-enum-told-3 (
   word-reads.Asked,
   word-reads.Learnt,
@@ -1076,7 +1079,7 @@ ab-enum-told-3 : (t : ℕ) → ab-lts.Need-enum-told-3 (
 ) (ab-at t) ab.Post
 ab-enum-told-3 t c = search needs
 
--- src/lib.rt:1419:9
+-- src/lib.rt:1395:9
 ab-same-length-3 : (t : ℕ) → ab-lts.Need-same-length-3 (
   word-reads.Asked,
   word-reads.Learnt,
@@ -1089,7 +1092,7 @@ ab-same-length-3 : (t : ℕ) → ab-lts.Need-same-length-3 (
 ) (ab-at t) ab.Post
 ab-same-length-3 t c = c .before .before .before .before .ds .kept .1 .1 .1 .1 .1 .0 ∙ c .before .before .before .before .before .before .before .before .before .word2 .kept .1 .0 ∙ c .before .before .before .before .before .before .before .before .before .before .before .before .before .before .before .before .with-type .kept .1 .1 .1 .1 .0 ∙ c .before .before .before .before .before .before .before .before .before .before .before .before .before .before .before .before .before .before .before .before .before .before .before .dat-binds .kept .1 .1 .1 .1 .0 ∙ c .before .before .before .before .before .before .before .before .before .before .before .before .before .before .before .before .before .before .before .before .before .before .before .before .before .before .before .word .kept .1 .0
 
--- src/lib.rt:1419:9
+-- src/lib.rt:1395:9
 ab-returns-3 : (t : ℕ) → ab-lts.Need-returns-3 (
   word-reads.Asked,
   word-reads.Learnt,
@@ -1100,10 +1103,10 @@ ab-returns-3 : (t : ℕ) → ab-lts.Need-returns-3 (
   ds-below t,
   ds.Post,
 ) (ab-at t) ab.Post
-unfolding DecOne.AbstypeDec
+unfolding DecOne.dec-one
 ab-returns-3 t c = record { is = then-sure (c .before .before .before .before .before .before .before .before .before .before .before .before .before .before .before .before .before .before .before .before .before .before .before .before .before .before .before .word .ensures) (then-done (plain (c .before .before .before .before .before .before .before .before .before .before .before .before .before .before .before .before .before .before .before .before .before .before .before .dat-binds .ensures)) (c .before .before .before .before .before .before .before .before .before .before .before .before .before .before .before .before .before .before .before .r2 .given .1) (then-done (plain (c .before .before .before .before .before .before .before .before .before .before .before .before .before .before .before .before .with-type .ensures)) (c .before .before .before .before .before .before .before .before .before .before .before .before .r3 .given .1) (then-sure (c .before .before .before .before .before .before .before .before .before .word2 .ensures) (then-stop (c .before .before .before .before .ds .ensures .is) (c .enum-told3 .given .1))))) }
 
--- src/lib.rt:1421:18
+-- src/lib.rt:1397:18
 ab-word-requires-3 : (t : ℕ) → ab-lts.Need-word-requires-3 (
   word-reads.Asked,
   word-reads.Learnt,
@@ -1116,7 +1119,7 @@ ab-word-requires-3 : (t : ℕ) → ab-lts.Need-word-requires-3 (
 ) (ab-at t) ab.Post
 ab-word-requires-3 t c κs = search needs
 
--- src/lib.rt:1393:1
+-- src/lib.rt:1369:1
 ab-same-length-4 : (t : ℕ) → ab-lts.Need-same-length-4 (
   word-reads.Asked,
   word-reads.Learnt,
@@ -1129,7 +1132,7 @@ ab-same-length-4 : (t : ℕ) → ab-lts.Need-same-length-4 (
 ) (ab-at t) ab.Post
 ab-same-length-4 t c = c .before .before .word3 .kept .1 .0 ∙ c .before .before .before .before .before .before .before .before .before .ds .kept .1 .1 .1 .1 .1 .0 ∙ c .before .before .before .before .before .before .before .before .before .before .before .before .before .before .word2 .kept .1 .0 ∙ c .before .before .before .before .before .before .before .before .before .before .before .before .before .before .before .before .before .before .before .before .before .with-type .kept .1 .1 .1 .1 .0 ∙ c .before .before .before .before .before .before .before .before .before .before .before .before .before .before .before .before .before .before .before .before .before .before .before .before .before .before .before .before .dat-binds .kept .1 .1 .1 .1 .0 ∙ c .before .before .before .before .before .before .before .before .before .before .before .before .before .before .before .before .before .before .before .before .before .before .before .before .before .before .before .before .before .before .before .before .word .kept .1 .0
 
--- src/lib.rt:1393:1
+-- src/lib.rt:1369:1
 ab-returns-4 : (t : ℕ) → ab-lts.Need-returns-4 (
   word-reads.Asked,
   word-reads.Learnt,
@@ -1140,10 +1143,10 @@ ab-returns-4 : (t : ℕ) → ab-lts.Need-returns-4 (
   ds-below t,
   ds.Post,
 ) (ab-at t) ab.Post
-unfolding DecOne.AbstypeDec
+unfolding DecOne.dec-one
 ab-returns-4 t c = record { is = then-sure (c .before .before .before .before .before .before .before .before .before .before .before .before .before .before .before .before .before .before .before .before .before .before .before .before .before .before .before .before .before .before .before .before .word .ensures) (then-done (plain (c .before .before .before .before .before .before .before .before .before .before .before .before .before .before .before .before .before .before .before .before .before .before .before .before .before .before .before .before .dat-binds .ensures)) (c .before .before .before .before .before .before .before .before .before .before .before .before .before .before .before .before .before .before .before .before .before .before .before .before .r2 .given .1) (then-done (plain (c .before .before .before .before .before .before .before .before .before .before .before .before .before .before .before .before .before .before .before .before .before .with-type .ensures)) (c .before .before .before .before .before .before .before .before .before .before .before .before .before .before .before .before .before .r3 .given .1) (then-sure (c .before .before .before .before .before .before .before .before .before .before .before .before .before .before .word2 .ensures) (then-done (c .before .before .before .before .before .before .before .before .before .ds .ensures .is) (c .before .before .before .before .before .r5 .given .1) (last-sure (c .before .before .word3 .ensures)))))) }
 
--- src/lib.rt:2057:29
+-- src/lib.rt:2033:29
 ac-absent-requires : (t : ℕ) → ac-lts.Need-absent-requires (
   absent-reads.Asked,
   absent-reads.Learnt,
@@ -1152,7 +1155,7 @@ ac-absent-requires : (t : ℕ) → ac-lts.Need-absent-requires (
 ) (ac-at t) ac.Post
 ac-absent-requires t c κs = search needs
 
--- src/lib.rt:2057:23
+-- src/lib.rt:2033:23
 ac-enum-known-s0 : (t : ℕ) → ac-lts.Need-enum-known-s0 (
   absent-reads.Asked,
   absent-reads.Learnt,
@@ -1161,7 +1164,7 @@ ac-enum-known-s0 : (t : ℕ) → ac-lts.Need-enum-known-s0 (
 ) (ac-at t) ac.Post
 ac-enum-known-s0 t c = search needs
 
--- src/lib.rt:2058:9
+-- src/lib.rt:2034:9
 ac-returns : (t : ℕ) → ac-lts.Need-returns (
   absent-reads.Asked,
   absent-reads.Learnt,
@@ -1178,7 +1181,7 @@ ac-enum-told : (t : ℕ) → ac-lts.Need-enum-told (
 ) (ac-at t) ac.Post
 ac-enum-told t c = search needs
 
--- src/lib.rt:2060:5
+-- src/lib.rt:2036:5
 ac-ta-requires : (t : ℕ) → ac-lts.Need-ta-requires (
   absent-reads.Asked,
   absent-reads.Learnt,
@@ -1187,7 +1190,7 @@ ac-ta-requires : (t : ℕ) → ac-lts.Need-ta-requires (
 ) (ac-at t) ac.Post
 ac-ta-requires t c κs = omega (arith, c .before .before .before .before .before .before .before .before .before .before .before .pre .0, c .before .before .before .before .before .before .before .before .before .before .before .pre .1)
 
--- src/lib.rt:2043:1
+-- src/lib.rt:2019:1
 ac-same-length : (t : ℕ) → ac-lts.Need-same-length (
   absent-reads.Asked,
   absent-reads.Learnt,
@@ -1196,7 +1199,7 @@ ac-same-length : (t : ℕ) → ac-lts.Need-same-length (
 ) (ac-at t) ac.Post
 ac-same-length t c = c .before .before .ta .kept .1 .1 .1 .1 .1 .0
 
--- src/lib.rt:2043:1
+-- src/lib.rt:2019:1
 ac-returns-2 : (t : ℕ) → ac-lts.Need-returns-2 (
   absent-reads.Asked,
   absent-reads.Learnt,
@@ -1205,13 +1208,13 @@ ac-returns-2 : (t : ℕ) → ac-lts.Need-returns-2 (
 ) (ac-at t) ac.Post
 ac-returns-2 t c = record { is = by-same (maybe-there (c .before .before .before .before .before .before .before .absent .ensures) (c .before .before .before .before .before .enum-told .given .1)) (c .before .before .ta .ensures .is) }
 
--- src/lib.rt:2007:9
+-- src/lib.rt:1983:9
 an-str-requires :
     (t : ℕ) →
     an-lts.Need-str-requires (str-below t, str.Post, ta-below t, ta.Post) (an-at t) an.Post
 an-str-requires t c κs = omega (arith, c .before .before .before .before .before .before .before .before .pre .0, c .before .before .before .before .before .before .before .before .pre .1)
 
--- src/lib.rt:2008:22
+-- src/lib.rt:1984:22
 an-enum-known-r1 : (t : ℕ) → an-lts.Need-enum-known-r1 (
   str-below t,
   str.Post,
@@ -1220,30 +1223,30 @@ an-enum-known-r1 : (t : ℕ) → an-lts.Need-enum-known-r1 (
 ) (an-at t) an.Post
 an-enum-known-r1 t c = search needs
 
--- src/lib.rt:2009:9
+-- src/lib.rt:1985:9
 an-enum-told :
     (t : ℕ) → an-lts.Need-enum-told (str-below t, str.Post, ta-below t, ta.Post) (an-at t) an.Post
 an-enum-told t c = search needs
 
--- src/lib.rt:2009:9
+-- src/lib.rt:1985:9
 an-same-length :
     (t : ℕ) →
     an-lts.Need-same-length (str-below t, str.Post, ta-below t, ta.Post) (an-at t) an.Post
 an-same-length t c = c .before .before .before .before .str .kept .1 .1 .1 .1 .1 .0
 
--- src/lib.rt:2009:9
+-- src/lib.rt:1985:9
 an-returns :
     (t : ℕ) → an-lts.Need-returns (str-below t, str.Post, ta-below t, ta.Post) (an-at t) an.Post
-unfolding StrExp.AscriptionStrExp
+unfolding StrExp.str-exp
 an-returns t c = record { is = then-stop (c .before .before .before .before .str .ensures .is) (c .enum-told .given .1) }
 
--- src/lib.rt:2011:5
+-- src/lib.rt:1987:5
 an-ta-requires :
     (t : ℕ) →
     an-lts.Need-ta-requires (str-below t, str.Post, ta-below t, ta.Post) (an-at t) an.Post
 an-ta-requires t c κs = omega (arith, c .before .before .before .before .before .before .before .before .before .before .before .before .before .before .before .before .pre .0, c .before .before .before .before .before .before .before .before .before .before .before .before .before .before .before .before .pre .1)
 
--- src/lib.rt:1993:1
+-- src/lib.rt:1969:1
 an-same-length-2 : (t : ℕ) → an-lts.Need-same-length-2 (
   str-below t,
   str.Post,
@@ -1252,18 +1255,22 @@ an-same-length-2 : (t : ℕ) → an-lts.Need-same-length-2 (
 ) (an-at t) an.Post
 an-same-length-2 t c = c .before .before .ta .kept .1 .1 .1 .1 .1 .0 ∙ c .before .before .before .before .before .before .before .before .before .before .str .kept .1 .1 .1 .1 .1 .0
 
--- src/lib.rt:1993:1
+-- src/lib.rt:1969:1
 an-returns-2 :
     (t : ℕ) → an-lts.Need-returns-2 (str-below t, str.Post, ta-below t, ta.Post) (an-at t) an.Post
-unfolding StrExp.AscriptionStrExp
+unfolding StrExp.str-exp
 an-returns-2 t c = record { is = then-done (c .before .before .before .before .before .before .before .before .before .before .str .ensures .is) (c .before .before .before .before .before .before .r1 .given .1) (c .before .before .ta .ensures .is) }
 
--- src/lib.rt:481:9
+-- src/lib.rt:491:9
 app-heads-requires : (t : ℕ) → app-lts.Need-heads-requires (
   heads-reads.Asked,
   heads-reads.Learnt,
   missing-reads.Asked,
   missing-reads.Learnt,
+  func-is-bang-reads.Asked,
+  func-is-bang-reads.Learnt,
+  arg-is-symbolic-reads.Asked,
+  arg-is-symbolic-reads.Learnt,
   exp-below t,
   exp.Post,
   app-space-reads.Asked,
@@ -1271,12 +1278,16 @@ app-heads-requires : (t : ℕ) → app-lts.Need-heads-requires (
 ) (app-at t) app.Post
 app-heads-requires t c κs = search needs
 
--- src/lib.rt:482:23
+-- src/lib.rt:492:23
 app-enum-known-seen : (t : ℕ) → app-lts.Need-enum-known-seen (
   heads-reads.Asked,
   heads-reads.Learnt,
   missing-reads.Asked,
   missing-reads.Learnt,
+  func-is-bang-reads.Asked,
+  func-is-bang-reads.Learnt,
+  arg-is-symbolic-reads.Asked,
+  arg-is-symbolic-reads.Learnt,
   exp-below t,
   exp.Post,
   app-space-reads.Asked,
@@ -1284,12 +1295,16 @@ app-enum-known-seen : (t : ℕ) → app-lts.Need-enum-known-seen (
 ) (app-at t) app.Post
 app-enum-known-seen t c = search needs
 
--- src/lib.rt:483:9
+-- src/lib.rt:493:9
 app-enum-told : (t : ℕ) → app-lts.Need-enum-told (
   heads-reads.Asked,
   heads-reads.Learnt,
   missing-reads.Asked,
   missing-reads.Learnt,
+  func-is-bang-reads.Asked,
+  func-is-bang-reads.Learnt,
+  arg-is-symbolic-reads.Asked,
+  arg-is-symbolic-reads.Learnt,
   exp-below t,
   exp.Post,
   app-space-reads.Asked,
@@ -1297,12 +1312,16 @@ app-enum-told : (t : ℕ) → app-lts.Need-enum-told (
 ) (app-at t) app.Post
 app-enum-told t c = search needs
 
--- src/lib.rt:483:9
+-- src/lib.rt:493:9
 app-missing-requires : (t : ℕ) → app-lts.Need-missing-requires (
   heads-reads.Asked,
   heads-reads.Learnt,
   missing-reads.Asked,
   missing-reads.Learnt,
+  func-is-bang-reads.Asked,
+  func-is-bang-reads.Learnt,
+  arg-is-symbolic-reads.Asked,
+  arg-is-symbolic-reads.Learnt,
   exp-below t,
   exp.Post,
   app-space-reads.Asked,
@@ -1310,39 +1329,85 @@ app-missing-requires : (t : ℕ) → app-lts.Need-missing-requires (
 ) (app-at t) app.Post
 app-missing-requires t c κs = search needs
 
--- src/lib.rt:483:9
+-- src/lib.rt:493:9
 app-returns : (t : ℕ) → app-lts.Need-returns (
   heads-reads.Asked,
   heads-reads.Learnt,
   missing-reads.Asked,
   missing-reads.Learnt,
+  func-is-bang-reads.Asked,
+  func-is-bang-reads.Learnt,
+  arg-is-symbolic-reads.Asked,
+  arg-is-symbolic-reads.Learnt,
   exp-below t,
   exp.Post,
   app-space-reads.Asked,
   app-space-reads.Learnt,
 ) (app-at t) app.Post
-unfolding Exp.AppExp
-app-returns t c = record { is = heads-missing (c .before .before .before .heads .ensures) (c .before .enum-told .given .1) (missed (c .missing .ensures) (c .before .enum-told .given .1)) }
+unfolding Exp.exp
+app-returns t c = record { is = application-missing (c .before .before .before .heads .ensures) (c .before .enum-told .given .1) (missed (c .missing .ensures) (c .before .enum-told .given .1)) }
 
--- src/lib.rt:485:9
+-- src/lib.rt:495:9
+app-func-is-bang-requires : (t : ℕ) → app-lts.Need-func-is-bang-requires (
+  heads-reads.Asked,
+  heads-reads.Learnt,
+  missing-reads.Asked,
+  missing-reads.Learnt,
+  func-is-bang-reads.Asked,
+  func-is-bang-reads.Learnt,
+  arg-is-symbolic-reads.Asked,
+  arg-is-symbolic-reads.Learnt,
+  exp-below t,
+  exp.Post,
+  app-space-reads.Asked,
+  app-space-reads.Learnt,
+) (app-at t) app.Post
+app-func-is-bang-requires t c κs = search needs
+
+-- src/lib.rt:496:9
+app-arg-is-symbolic-requires : (t : ℕ) → app-lts.Need-arg-is-symbolic-requires (
+  heads-reads.Asked,
+  heads-reads.Learnt,
+  missing-reads.Asked,
+  missing-reads.Learnt,
+  func-is-bang-reads.Asked,
+  func-is-bang-reads.Learnt,
+  arg-is-symbolic-reads.Asked,
+  arg-is-symbolic-reads.Learnt,
+  exp-below t,
+  exp.Post,
+  app-space-reads.Asked,
+  app-space-reads.Learnt,
+) (app-at t) app.Post
+app-arg-is-symbolic-requires t c κs = search needs
+
+-- src/lib.rt:497:9
 app-exp-requires : (t : ℕ) → app-lts.Need-exp-requires (
   heads-reads.Asked,
   heads-reads.Learnt,
   missing-reads.Asked,
   missing-reads.Learnt,
+  func-is-bang-reads.Asked,
+  func-is-bang-reads.Learnt,
+  arg-is-symbolic-reads.Asked,
+  arg-is-symbolic-reads.Learnt,
   exp-below t,
   exp.Post,
   app-space-reads.Asked,
   app-space-reads.Learnt,
 ) (app-at t) app.Post
-app-exp-requires t c κs = omega (arith, c .before .before .before .before .before .before .before .before .before .before .before .before .pre .0, c .before .before .before .before .before .before .before .before .before .before .before .before .pre .1)
+app-exp-requires t c κs = omega (arith, c .before .before .before .before .before .before .before .before .before .before .before .before .before .before .pre .0, c .before .before .before .before .before .before .before .before .before .before .before .before .before .before .pre .1)
 
--- src/lib.rt:486:22
+-- src/lib.rt:498:22
 app-enum-known-r1 : (t : ℕ) → app-lts.Need-enum-known-r1 (
   heads-reads.Asked,
   heads-reads.Learnt,
   missing-reads.Asked,
   missing-reads.Learnt,
+  func-is-bang-reads.Asked,
+  func-is-bang-reads.Learnt,
+  arg-is-symbolic-reads.Asked,
+  arg-is-symbolic-reads.Learnt,
   exp-below t,
   exp.Post,
   app-space-reads.Asked,
@@ -1350,12 +1415,16 @@ app-enum-known-r1 : (t : ℕ) → app-lts.Need-enum-known-r1 (
 ) (app-at t) app.Post
 app-enum-known-r1 t c = search needs
 
--- src/lib.rt:487:9
+-- src/lib.rt:499:9
 app-enum-told-2 : (t : ℕ) → app-lts.Need-enum-told-2 (
   heads-reads.Asked,
   heads-reads.Learnt,
   missing-reads.Asked,
   missing-reads.Learnt,
+  func-is-bang-reads.Asked,
+  func-is-bang-reads.Learnt,
+  arg-is-symbolic-reads.Asked,
+  arg-is-symbolic-reads.Learnt,
   exp-below t,
   exp.Post,
   app-space-reads.Asked,
@@ -1363,12 +1432,16 @@ app-enum-told-2 : (t : ℕ) → app-lts.Need-enum-told-2 (
 ) (app-at t) app.Post
 app-enum-told-2 t c = search needs
 
--- src/lib.rt:487:9
+-- src/lib.rt:499:9
 app-same-length : (t : ℕ) → app-lts.Need-same-length (
   heads-reads.Asked,
   heads-reads.Learnt,
   missing-reads.Asked,
   missing-reads.Learnt,
+  func-is-bang-reads.Asked,
+  func-is-bang-reads.Learnt,
+  arg-is-symbolic-reads.Asked,
+  arg-is-symbolic-reads.Learnt,
   exp-below t,
   exp.Post,
   app-space-reads.Asked,
@@ -1376,26 +1449,34 @@ app-same-length : (t : ℕ) → app-lts.Need-same-length (
 ) (app-at t) app.Post
 app-same-length t c = c .before .before .before .before .exp .kept .1 .1 .1 .1 .1 .0
 
--- src/lib.rt:487:9
+-- src/lib.rt:499:9
 app-returns-2 : (t : ℕ) → app-lts.Need-returns-2 (
   heads-reads.Asked,
   heads-reads.Learnt,
   missing-reads.Asked,
   missing-reads.Learnt,
+  func-is-bang-reads.Asked,
+  func-is-bang-reads.Learnt,
+  arg-is-symbolic-reads.Asked,
+  arg-is-symbolic-reads.Learnt,
   exp-below t,
   exp.Post,
   app-space-reads.Asked,
   app-space-reads.Learnt,
 ) (app-at t) app.Post
-unfolding Exp.AppExp
-app-returns-2 t c = record { is = by-same (heads-are (c .before .before .before .before .before .before .before .before .before .before .heads .ensures) (c .before .before .before .before .before .before .before .before .seen .given .1)) (then-stop (c .before .before .before .before .exp .ensures .is) (c .enum-told2 .given .1)) }
+unfolding Exp.exp
+app-returns-2 t c = record { is = by-same (application-is (c .before .before .before .before .before .before .before .before .before .before .before .before .heads .ensures) (c .before .before .before .before .before .before .before .before .before .before .seen .given .1) (c .before .before .before .before .before .before .before .before .func-is-bang .ensures) (c .before .before .before .before .before .before .before .arg-is-symbolic .ensures)) (then-stop (c .before .before .before .before .exp .ensures .is) (c .enum-told2 .given .1)) }
 
--- src/lib.rt:489:9
+-- src/lib.rt:501:9
 app-app-space-requires : (t : ℕ) → app-lts.Need-app-space-requires (
   heads-reads.Asked,
   heads-reads.Learnt,
   missing-reads.Asked,
   missing-reads.Learnt,
+  func-is-bang-reads.Asked,
+  func-is-bang-reads.Learnt,
+  arg-is-symbolic-reads.Asked,
+  arg-is-symbolic-reads.Learnt,
   exp-below t,
   exp.Post,
   app-space-reads.Asked,
@@ -1403,45 +1484,57 @@ app-app-space-requires : (t : ℕ) → app-lts.Need-app-space-requires (
 ) (app-at t) app.Post
 app-app-space-requires t c κs = search needs
 
--- src/lib.rt:490:5
+-- src/lib.rt:502:5
 app-exp-requires-2 : (t : ℕ) → app-lts.Need-exp-requires-2 (
   heads-reads.Asked,
   heads-reads.Learnt,
   missing-reads.Asked,
   missing-reads.Learnt,
+  func-is-bang-reads.Asked,
+  func-is-bang-reads.Learnt,
+  arg-is-symbolic-reads.Asked,
+  arg-is-symbolic-reads.Learnt,
   exp-below t,
   exp.Post,
   app-space-reads.Asked,
   app-space-reads.Learnt,
 ) (app-at t) app.Post
-app-exp-requires-2 t c κs = omega (arith, c .before .before .before .before .before .before .before .before .before .before .before .before .before .before .before .before .before .before .before .before .before .before .before .before .pre .0, c .before .before .before .before .before .before .before .before .before .before .before .before .before .before .before .before .before .before .before .before .before .before .before .before .pre .1)
+app-exp-requires-2 t c κs = omega (arith, c .before .before .before .before .before .before .before .before .before .before .before .before .before .before .before .before .before .before .before .before .before .before .before .before .before .before .pre .0, c .before .before .before .before .before .before .before .before .before .before .before .before .before .before .before .before .before .before .before .before .before .before .before .before .before .before .pre .1)
 
--- src/lib.rt:466:1
+-- src/lib.rt:476:1
 app-same-length-2 : (t : ℕ) → app-lts.Need-same-length-2 (
   heads-reads.Asked,
   heads-reads.Learnt,
   missing-reads.Asked,
   missing-reads.Learnt,
+  func-is-bang-reads.Asked,
+  func-is-bang-reads.Learnt,
+  arg-is-symbolic-reads.Asked,
+  arg-is-symbolic-reads.Learnt,
   exp-below t,
   exp.Post,
   app-space-reads.Asked,
   app-space-reads.Learnt,
 ) (app-at t) app.Post
-app-same-length-2 t c = c .before .before .exp2 .kept .1 .1 .1 .1 .1 .0 ∙ c .before .before .before .before .before .before .before .app-space .kept .1 .1 .1 .1 .0 ∙ c .before .before .before .before .before .before .before .before .before .before .before .before .before .before .exp .kept .1 .1 .1 .1 .1 .0
+app-same-length-2 t c = c .before .before .exp2 .kept .1 .1 .1 .1 .1 .0 ∙ c .before .before .before .before .before .before .before .app-space .kept .1 .0 ∙ c .before .before .before .before .before .before .before .before .before .before .before .before .before .before .exp .kept .1 .1 .1 .1 .1 .0
 
--- src/lib.rt:466:1
+-- src/lib.rt:476:1
 app-returns-3 : (t : ℕ) → app-lts.Need-returns-3 (
   heads-reads.Asked,
   heads-reads.Learnt,
   missing-reads.Asked,
   missing-reads.Learnt,
+  func-is-bang-reads.Asked,
+  func-is-bang-reads.Learnt,
+  arg-is-symbolic-reads.Asked,
+  arg-is-symbolic-reads.Learnt,
   exp-below t,
   exp.Post,
   app-space-reads.Asked,
   app-space-reads.Learnt,
 ) (app-at t) app.Post
-unfolding Exp.AppExp
-app-returns-3 t c = record { is = by-same (heads-are (c .before .before .before .before .before .before .before .before .before .before .before .before .before .before .before .before .before .before .before .before .heads .ensures) (c .before .before .before .before .before .before .before .before .before .before .before .before .before .before .before .before .before .before .seen .given .1)) (then-done (c .before .before .before .before .before .before .before .before .before .before .before .before .before .before .exp .ensures .is) (c .before .before .before .before .before .before .before .before .before .before .r1 .given .1) (then-done (plain (c .before .before .before .before .before .before .before .app-space .ensures)) refl (c .before .before .exp2 .ensures .is))) }
+unfolding Exp.exp
+app-returns-3 t c = record { is = by-same (application-is (c .before .before .before .before .before .before .before .before .before .before .before .before .before .before .before .before .before .before .before .before .before .before .heads .ensures) (c .before .before .before .before .before .before .before .before .before .before .before .before .before .before .before .before .before .before .before .before .seen .given .1) (c .before .before .before .before .before .before .before .before .before .before .before .before .before .before .before .before .before .before .func-is-bang .ensures) (c .before .before .before .before .before .before .before .before .before .before .before .before .before .before .before .before .before .arg-is-symbolic .ensures)) (then-done (c .before .before .before .before .before .before .before .before .before .before .before .before .before .before .exp .ensures .is) (c .before .before .before .before .before .before .before .before .before .before .r1 .given .1) (then-sure (c .before .before .before .before .before .before .before .app-space .ensures) (c .before .before .exp2 .ensures .is))) }
 
 abbrev ar-Inv-loop : ar-lts.InvT-loop
 ar-Inv-loop text rec kinds starts lens out₀ left₀ cfg n s₀ i₀ out left s i =
@@ -1450,7 +1543,7 @@ ar-Inv-loop text rec kinds starts lens out₀ left₀ cfg n s₀ i₀ out left s
 abbrev ar-μ-loop : ar-lts.MeasureT-loop
 ar-μ-loop text rec kinds starts lens out₀ left₀ cfg n s₀ i₀ out left s i = n - i
 
--- src/lib.rt:231:27
+-- src/lib.rt:241:27
 ar-list-requires : (t : ℕ) → ar-lts.Need-list-requires (
   list-reads.Asked,
   list-reads.Learnt,
@@ -1465,7 +1558,7 @@ ar-list-requires : (t : ℕ) → ar-lts.Need-list-requires (
 ) (ar-at t) ar.Post ar-Inv-loop ar-μ-loop
 ar-list-requires t c κs = search needs
 
--- src/lib.rt:231:18
+-- src/lib.rt:241:18
 ar-enum-known-n : (t : ℕ) → ar-lts.Need-enum-known-n (
   list-reads.Asked,
   list-reads.Learnt,
@@ -1480,7 +1573,7 @@ ar-enum-known-n : (t : ℕ) → ar-lts.Need-enum-known-n (
 ) (ar-at t) ar.Post ar-Inv-loop ar-μ-loop
 ar-enum-known-n t c = search needs
 
--- src/lib.rt:232:9
+-- src/lib.rt:242:9
 ar-enum-told : (t : ℕ) → ar-lts.Need-enum-told (
   list-reads.Asked,
   list-reads.Learnt,
@@ -1495,7 +1588,7 @@ ar-enum-told : (t : ℕ) → ar-lts.Need-enum-told (
 ) (ar-at t) ar.Post ar-Inv-loop ar-μ-loop
 ar-enum-told t c = search needs
 
--- src/lib.rt:232:9
+-- src/lib.rt:242:9
 ar-stop-requires : (t : ℕ) → ar-lts.Need-stop-requires (
   list-reads.Asked,
   list-reads.Learnt,
@@ -1510,7 +1603,7 @@ ar-stop-requires : (t : ℕ) → ar-lts.Need-stop-requires (
 ) (ar-at t) ar.Post ar-Inv-loop ar-μ-loop
 ar-stop-requires t c κs = search needs
 
--- src/lib.rt:232:9
+-- src/lib.rt:242:9
 ar-returns : (t : ℕ) → ar-lts.Need-returns (
   list-reads.Asked,
   list-reads.Learnt,
@@ -1526,7 +1619,7 @@ ar-returns : (t : ℕ) → ar-lts.Need-returns (
 unfolding Exp.exp-args Helpers.sep
 ar-returns t c = record { is = list-not (c .stop .ensures) (c .before .before .before .list .ensures) (c .before .enum-told .given .1) }
 
--- src/lib.rt:236:5
+-- src/lib.rt:246:5
 ar-loop-holds : (t : ℕ) → ar-lts.Need-loop-holds (
   list-reads.Asked,
   list-reads.Learnt,
@@ -1541,7 +1634,7 @@ ar-loop-holds : (t : ℕ) → ar-lts.Need-loop-holds (
 ) (ar-at t) ar.Post ar-Inv-loop ar-μ-loop
 ar-loop-holds t c = (omega arith, λ r o m h. h, refl)
 
--- src/lib.rt:237:13
+-- src/lib.rt:247:13
 ar-between-requires : (t : ℕ) → ar-lts.Need-between-requires (
   list-reads.Asked,
   list-reads.Learnt,
@@ -1556,7 +1649,7 @@ ar-between-requires : (t : ℕ) → ar-lts.Need-between-requires (
 ) (ar-at t) ar.Post ar-Inv-loop ar-μ-loop
 ar-between-requires t c κs = search needs
 
--- src/lib.rt:238:13
+-- src/lib.rt:248:13
 ar-group-requires : (t : ℕ) → ar-lts.Need-group-requires (
   list-reads.Asked,
   list-reads.Learnt,
@@ -1571,7 +1664,7 @@ ar-group-requires : (t : ℕ) → ar-lts.Need-group-requires (
 ) (ar-at t) ar.Post ar-Inv-loop ar-μ-loop
 ar-group-requires t c κs = search needs
 
--- src/lib.rt:239:26
+-- src/lib.rt:249:26
 ar-enum-known-r2 : (t : ℕ) → ar-lts.Need-enum-known-r2 (
   list-reads.Asked,
   list-reads.Learnt,
@@ -1586,7 +1679,7 @@ ar-enum-known-r2 : (t : ℕ) → ar-lts.Need-enum-known-r2 (
 ) (ar-at t) ar.Post ar-Inv-loop ar-μ-loop
 ar-enum-known-r2 t c = search needs
 
--- src/lib.rt:240:13
+-- src/lib.rt:250:13
 ar-enum-told-2 : (t : ℕ) → ar-lts.Need-enum-told-2 (
   list-reads.Asked,
   list-reads.Learnt,
@@ -1601,7 +1694,7 @@ ar-enum-told-2 : (t : ℕ) → ar-lts.Need-enum-told-2 (
 ) (ar-at t) ar.Post ar-Inv-loop ar-μ-loop
 ar-enum-told-2 t c = search needs
 
--- src/lib.rt:240:13
+-- src/lib.rt:250:13
 ar-same-length : (t : ℕ) → ar-lts.Need-same-length (
   list-reads.Asked,
   list-reads.Learnt,
@@ -1616,7 +1709,7 @@ ar-same-length : (t : ℕ) → ar-lts.Need-same-length (
 ) (ar-at t) ar.Post ar-Inv-loop ar-μ-loop
 ar-same-length t c = c .before .before .before .before .before .between .kept .1 .0 ∙ c .before .before .before .before .before .before .before .before .loop .inv .2
 
--- src/lib.rt:240:13
+-- src/lib.rt:250:13
 ar-returns-2 : (t : ℕ) → ar-lts.Need-returns-2 (
   list-reads.Asked,
   list-reads.Learnt,
@@ -1632,7 +1725,7 @@ ar-returns-2 : (t : ℕ) → ar-lts.Need-returns-2 (
 unfolding Exp.exp-args Helpers.sep
 ar-returns-2 t c = record { is = by-same (list-is (c .before .before .before .before .before .before .before .before .before .before .before .before .list .ensures) (c .before .before .before .before .before .before .before .before .before .before .n .given .1)) (by-same (items-all _ _ _) (c .before .before .before .before .before .before .before .before .loop .inv .1 _ _ _ (from-more _ _ (c .before .before .before .before .before .before .before .loop-test .taken) (then-sure (c .before .before .before .before .before .between .ensures) (then-stop (group-not (c .before .before .group .ensures) (c .enum-told2 .given .1)) (c .enum-told2 .given .1)))))) }
 
--- src/lib.rt:242:13
+-- src/lib.rt:252:13
 ar-exp-requires : (t : ℕ) → ar-lts.Need-exp-requires (
   list-reads.Asked,
   list-reads.Learnt,
@@ -1647,7 +1740,7 @@ ar-exp-requires : (t : ℕ) → ar-lts.Need-exp-requires (
 ) (ar-at t) ar.Post ar-Inv-loop ar-μ-loop
 ar-exp-requires t c κs = omega (arith, c .before .before .before .before .before .before .before .before .before .before .before .before .before .before .before .before .before .before .before .before .before .before .pre .0, c .before .before .before .before .before .before .before .before .before .before .before .before .before .before .before .before .before .before .before .before .before .before .pre .1)
 
--- src/lib.rt:243:26
+-- src/lib.rt:253:26
 ar-enum-known-r3 : (t : ℕ) → ar-lts.Need-enum-known-r3 (
   list-reads.Asked,
   list-reads.Learnt,
@@ -1662,7 +1755,7 @@ ar-enum-known-r3 : (t : ℕ) → ar-lts.Need-enum-known-r3 (
 ) (ar-at t) ar.Post ar-Inv-loop ar-μ-loop
 ar-enum-known-r3 t c = search needs
 
--- src/lib.rt:244:13
+-- src/lib.rt:254:13
 ar-enum-told-3 : (t : ℕ) → ar-lts.Need-enum-told-3 (
   list-reads.Asked,
   list-reads.Learnt,
@@ -1677,7 +1770,7 @@ ar-enum-told-3 : (t : ℕ) → ar-lts.Need-enum-told-3 (
 ) (ar-at t) ar.Post ar-Inv-loop ar-μ-loop
 ar-enum-told-3 t c = search needs
 
--- src/lib.rt:244:13
+-- src/lib.rt:254:13
 ar-same-length-2 : (t : ℕ) → ar-lts.Need-same-length-2 (
   list-reads.Asked,
   list-reads.Learnt,
@@ -1692,7 +1785,7 @@ ar-same-length-2 : (t : ℕ) → ar-lts.Need-same-length-2 (
 ) (ar-at t) ar.Post ar-Inv-loop ar-μ-loop
 ar-same-length-2 t c = c .before .before .before .before .exp .kept .1 .1 .1 .1 .1 .0 ∙ c .before .before .before .before .before .before .before .before .before .before .before .before .before .between .kept .1 .0 ∙ c .before .before .before .before .before .before .before .before .before .before .before .before .before .before .before .before .loop .inv .2
 
--- src/lib.rt:244:13
+-- src/lib.rt:254:13
 ar-returns-3 : (t : ℕ) → ar-lts.Need-returns-3 (
   list-reads.Asked,
   list-reads.Learnt,
@@ -1708,7 +1801,7 @@ ar-returns-3 : (t : ℕ) → ar-lts.Need-returns-3 (
 unfolding Exp.exp-args Helpers.sep
 ar-returns-3 t c = record { is = by-same (list-is (c .before .before .before .before .before .before .before .before .before .before .before .before .before .before .before .before .before .before .before .before .list .ensures) (c .before .before .before .before .before .before .before .before .before .before .before .before .before .before .before .before .before .before .n .given .1)) (by-same (items-all _ _ _) (c .before .before .before .before .before .before .before .before .before .before .before .before .before .before .before .before .loop .inv .1 _ _ _ (from-more _ _ (c .before .before .before .before .before .before .before .before .before .before .before .before .before .before .before .loop-test .taken) (then-sure (c .before .before .before .before .before .before .before .before .before .before .before .before .before .between .ensures) (by-same (first-same (group-is (c .before .before .before .before .before .before .before .before .before .before .group .ensures) (c .before .before .before .before .before .before .before .before .r2 .given .1))) (then-stop (c .before .before .before .before .exp .ensures .is) (c .enum-told3 .given .1))))))) }
 
--- src/lib.rt:247:9
+-- src/lib.rt:257:9
 ar-add-i : (t : ℕ) → ar-lts.Need-add-i (
   list-reads.Asked,
   list-reads.Learnt,
@@ -1723,7 +1816,7 @@ ar-add-i : (t : ℕ) → ar-lts.Need-add-i (
 ) (ar-at t) ar.Post ar-Inv-loop ar-μ-loop
 ar-add-i t c = omega (arith, c .before .before .before .before .before .before .before .before .before .before .before .before .before .before .before .before .loop-test .taken, c .before .before .before .before .before .before .before .before .before .before .before .before .before .before .before .before .before .before .known-told)
 
--- src/lib.rt:236:5
+-- src/lib.rt:246:5
 ar-loop-less : (t : ℕ) → ar-lts.Need-loop-less (
   list-reads.Asked,
   list-reads.Learnt,
@@ -1738,7 +1831,7 @@ ar-loop-less : (t : ℕ) → ar-lts.Need-loop-less (
 ) (ar-at t) ar.Post ar-Inv-loop ar-μ-loop
 ar-loop-less t c = omega arith
 
--- src/lib.rt:236:5
+-- src/lib.rt:246:5
 ar-loop-again : (t : ℕ) → ar-lts.Need-loop-again (
   list-reads.Asked,
   list-reads.Learnt,
@@ -1754,7 +1847,7 @@ ar-loop-again : (t : ℕ) → ar-lts.Need-loop-again (
 unfolding Exp.exp-args Helpers.sep
 ar-loop-again t c = (omega (arith, c .before .before .before .before .before .before .before .before .before .before .before .before .before .before .before .before .before .loop .inv .0), λ r o m h. c .before .before .before .before .before .before .before .before .before .before .before .before .before .before .before .before .before .loop .inv .1 r o m (from-more _ _ (c .before .before .before .before .before .before .before .before .before .before .before .before .before .before .before .before .loop-test .taken) (then-sure (c .before .before .before .before .before .before .before .before .before .before .before .before .before .before .between .ensures) (by-same (first-same (group-is (c .before .before .before .before .before .before .before .before .before .before .before .group .ensures) (c .before .before .before .before .before .before .before .before .before .r2 .given .1))) (then-done (c .before .before .before .before .before .exp .ensures .is) (c .before .r3 .given .1) h)))), c .before .before .before .before .before .exp .kept .1 .1 .1 .1 .1 .0 ∙ c .before .before .before .before .before .before .before .before .before .before .before .before .before .before .between .kept .1 .0 ∙ c .before .before .before .before .before .before .before .before .before .before .before .before .before .before .before .before .before .loop .inv .2)
 
--- src/lib.rt:217:1
+-- src/lib.rt:227:1
 ar-same-length-3 : (t : ℕ) → ar-lts.Need-same-length-3 (
   list-reads.Asked,
   list-reads.Learnt,
@@ -1769,7 +1862,7 @@ ar-same-length-3 : (t : ℕ) → ar-lts.Need-same-length-3 (
 ) (ar-at t) ar.Post ar-Inv-loop ar-μ-loop
 ar-same-length-3 t c = c .before .loop .inv .2
 
--- src/lib.rt:217:1
+-- src/lib.rt:227:1
 ar-returns-4 : (t : ℕ) → ar-lts.Need-returns-4 (
   list-reads.Asked,
   list-reads.Learnt,
@@ -1785,7 +1878,7 @@ ar-returns-4 : (t : ℕ) → ar-lts.Need-returns-4 (
 unfolding Exp.exp-args Helpers.sep
 ar-returns-4 t c = record { is = by-same (list-is (c .before .before .before .before .before .list .ensures) (c .before .before .before .n .given .1)) (by-same (items-all _ _ _) (c .before .loop .inv .1 _ _ _ (from-none _ _ (c .loop-test .left)))) }
 
--- src/lib.rt:763:9
+-- src/lib.rt:778:9
 arm-group-requires : (t : ℕ) → arm-lts.Need-group-requires (
   group-reads.Asked,
   group-reads.Learnt,
@@ -1793,10 +1886,14 @@ arm-group-requires : (t : ℕ) → arm-lts.Need-group-requires (
   get-pat-reads.Learnt,
   word-reads.Asked,
   word-reads.Learnt,
+  expression-reads.Asked,
+  expression-reads.Learnt,
+  stop-reads.Asked,
+  stop-reads.Learnt,
   body-exp-needs-newline-reads.Asked,
   body-exp-needs-newline-reads.Learnt,
-  forms-reads.Asked,
-  forms-reads.Learnt,
+  deepen-reads.Asked,
+  deepen-reads.Learnt,
   indented-reads.Asked,
   indented-reads.Learnt,
   dp-below t,
@@ -1806,7 +1903,7 @@ arm-group-requires : (t : ℕ) → arm-lts.Need-group-requires (
 ) (arm-at t) arm.Post
 arm-group-requires t c κs = search needs
 
--- src/lib.rt:764:22
+-- src/lib.rt:779:22
 arm-enum-known-r1 : (t : ℕ) → arm-lts.Need-enum-known-r1 (
   group-reads.Asked,
   group-reads.Learnt,
@@ -1814,10 +1911,14 @@ arm-enum-known-r1 : (t : ℕ) → arm-lts.Need-enum-known-r1 (
   get-pat-reads.Learnt,
   word-reads.Asked,
   word-reads.Learnt,
+  expression-reads.Asked,
+  expression-reads.Learnt,
+  stop-reads.Asked,
+  stop-reads.Learnt,
   body-exp-needs-newline-reads.Asked,
   body-exp-needs-newline-reads.Learnt,
-  forms-reads.Asked,
-  forms-reads.Learnt,
+  deepen-reads.Asked,
+  deepen-reads.Learnt,
   indented-reads.Asked,
   indented-reads.Learnt,
   dp-below t,
@@ -1827,7 +1928,7 @@ arm-enum-known-r1 : (t : ℕ) → arm-lts.Need-enum-known-r1 (
 ) (arm-at t) arm.Post
 arm-enum-known-r1 t c = search needs
 
--- src/lib.rt:765:9
+-- src/lib.rt:780:9
 arm-enum-told : (t : ℕ) → arm-lts.Need-enum-told (
   group-reads.Asked,
   group-reads.Learnt,
@@ -1835,10 +1936,14 @@ arm-enum-told : (t : ℕ) → arm-lts.Need-enum-told (
   get-pat-reads.Learnt,
   word-reads.Asked,
   word-reads.Learnt,
+  expression-reads.Asked,
+  expression-reads.Learnt,
+  stop-reads.Asked,
+  stop-reads.Learnt,
   body-exp-needs-newline-reads.Asked,
   body-exp-needs-newline-reads.Learnt,
-  forms-reads.Asked,
-  forms-reads.Learnt,
+  deepen-reads.Asked,
+  deepen-reads.Learnt,
   indented-reads.Asked,
   indented-reads.Learnt,
   dp-below t,
@@ -1848,7 +1953,7 @@ arm-enum-told : (t : ℕ) → arm-lts.Need-enum-told (
 ) (arm-at t) arm.Post
 arm-enum-told t c = search needs
 
--- src/lib.rt:765:9
+-- src/lib.rt:780:9
 arm-returns : (t : ℕ) → arm-lts.Need-returns (
   group-reads.Asked,
   group-reads.Learnt,
@@ -1856,10 +1961,14 @@ arm-returns : (t : ℕ) → arm-lts.Need-returns (
   get-pat-reads.Learnt,
   word-reads.Asked,
   word-reads.Learnt,
+  expression-reads.Asked,
+  expression-reads.Learnt,
+  stop-reads.Asked,
+  stop-reads.Learnt,
   body-exp-needs-newline-reads.Asked,
   body-exp-needs-newline-reads.Learnt,
-  forms-reads.Asked,
-  forms-reads.Learnt,
+  deepen-reads.Asked,
+  deepen-reads.Learnt,
   indented-reads.Asked,
   indented-reads.Learnt,
   dp-below t,
@@ -1867,10 +1976,10 @@ arm-returns : (t : ℕ) → arm-lts.Need-returns (
   exp-below t,
   exp.Post,
 ) (arm-at t) arm.Post
-unfolding Exp.get-matcher-arm Exp.get-body-exp-level Exp.indented-levels Helpers.indented
+unfolding Exp.get-matcher-arm Exp.get-body-exp-level Exp.indented-levels Helpers.indent-deeper Helpers.deepen
 arm-returns t c = record { is = group-not (c .before .before .group .ensures) (c .enum-told .given .1) }
 
--- src/lib.rt:767:9
+-- src/lib.rt:782:9
 arm-get-pat-requires : (t : ℕ) → arm-lts.Need-get-pat-requires (
   group-reads.Asked,
   group-reads.Learnt,
@@ -1878,10 +1987,14 @@ arm-get-pat-requires : (t : ℕ) → arm-lts.Need-get-pat-requires (
   get-pat-reads.Learnt,
   word-reads.Asked,
   word-reads.Learnt,
+  expression-reads.Asked,
+  expression-reads.Learnt,
+  stop-reads.Asked,
+  stop-reads.Learnt,
   body-exp-needs-newline-reads.Asked,
   body-exp-needs-newline-reads.Learnt,
-  forms-reads.Asked,
-  forms-reads.Learnt,
+  deepen-reads.Asked,
+  deepen-reads.Learnt,
   indented-reads.Asked,
   indented-reads.Learnt,
   dp-below t,
@@ -1891,7 +2004,7 @@ arm-get-pat-requires : (t : ℕ) → arm-lts.Need-get-pat-requires (
 ) (arm-at t) arm.Post
 arm-get-pat-requires t c κs = search needs
 
--- src/lib.rt:768:22
+-- src/lib.rt:783:22
 arm-enum-known-r2 : (t : ℕ) → arm-lts.Need-enum-known-r2 (
   group-reads.Asked,
   group-reads.Learnt,
@@ -1899,10 +2012,14 @@ arm-enum-known-r2 : (t : ℕ) → arm-lts.Need-enum-known-r2 (
   get-pat-reads.Learnt,
   word-reads.Asked,
   word-reads.Learnt,
+  expression-reads.Asked,
+  expression-reads.Learnt,
+  stop-reads.Asked,
+  stop-reads.Learnt,
   body-exp-needs-newline-reads.Asked,
   body-exp-needs-newline-reads.Learnt,
-  forms-reads.Asked,
-  forms-reads.Learnt,
+  deepen-reads.Asked,
+  deepen-reads.Learnt,
   indented-reads.Asked,
   indented-reads.Learnt,
   dp-below t,
@@ -1912,7 +2029,7 @@ arm-enum-known-r2 : (t : ℕ) → arm-lts.Need-enum-known-r2 (
 ) (arm-at t) arm.Post
 arm-enum-known-r2 t c = search needs
 
--- src/lib.rt:769:9
+-- src/lib.rt:784:9
 arm-enum-told-2 : (t : ℕ) → arm-lts.Need-enum-told-2 (
   group-reads.Asked,
   group-reads.Learnt,
@@ -1920,10 +2037,14 @@ arm-enum-told-2 : (t : ℕ) → arm-lts.Need-enum-told-2 (
   get-pat-reads.Learnt,
   word-reads.Asked,
   word-reads.Learnt,
+  expression-reads.Asked,
+  expression-reads.Learnt,
+  stop-reads.Asked,
+  stop-reads.Learnt,
   body-exp-needs-newline-reads.Asked,
   body-exp-needs-newline-reads.Learnt,
-  forms-reads.Asked,
-  forms-reads.Learnt,
+  deepen-reads.Asked,
+  deepen-reads.Learnt,
   indented-reads.Asked,
   indented-reads.Learnt,
   dp-below t,
@@ -1933,7 +2054,7 @@ arm-enum-told-2 : (t : ℕ) → arm-lts.Need-enum-told-2 (
 ) (arm-at t) arm.Post
 arm-enum-told-2 t c = search needs
 
--- src/lib.rt:769:9
+-- src/lib.rt:784:9
 arm-same-length : (t : ℕ) → arm-lts.Need-same-length (
   group-reads.Asked,
   group-reads.Learnt,
@@ -1941,10 +2062,14 @@ arm-same-length : (t : ℕ) → arm-lts.Need-same-length (
   get-pat-reads.Learnt,
   word-reads.Asked,
   word-reads.Learnt,
+  expression-reads.Asked,
+  expression-reads.Learnt,
+  stop-reads.Asked,
+  stop-reads.Learnt,
   body-exp-needs-newline-reads.Asked,
   body-exp-needs-newline-reads.Learnt,
-  forms-reads.Asked,
-  forms-reads.Learnt,
+  deepen-reads.Asked,
+  deepen-reads.Learnt,
   indented-reads.Asked,
   indented-reads.Learnt,
   dp-below t,
@@ -1954,7 +2079,7 @@ arm-same-length : (t : ℕ) → arm-lts.Need-same-length (
 ) (arm-at t) arm.Post
 arm-same-length t c = c .before .before .before .before .get-pat .kept .1 .1 .1 .1 .0
 
--- src/lib.rt:769:9
+-- src/lib.rt:784:9
 arm-returns-2 : (t : ℕ) → arm-lts.Need-returns-2 (
   group-reads.Asked,
   group-reads.Learnt,
@@ -1962,10 +2087,14 @@ arm-returns-2 : (t : ℕ) → arm-lts.Need-returns-2 (
   get-pat-reads.Learnt,
   word-reads.Asked,
   word-reads.Learnt,
+  expression-reads.Asked,
+  expression-reads.Learnt,
+  stop-reads.Asked,
+  stop-reads.Learnt,
   body-exp-needs-newline-reads.Asked,
   body-exp-needs-newline-reads.Learnt,
-  forms-reads.Asked,
-  forms-reads.Learnt,
+  deepen-reads.Asked,
+  deepen-reads.Learnt,
   indented-reads.Asked,
   indented-reads.Learnt,
   dp-below t,
@@ -1973,10 +2102,10 @@ arm-returns-2 : (t : ℕ) → arm-lts.Need-returns-2 (
   exp-below t,
   exp.Post,
 ) (arm-at t) arm.Post
-unfolding Exp.get-matcher-arm Exp.get-body-exp-level Exp.indented-levels Helpers.indented
+unfolding Exp.get-matcher-arm Exp.get-body-exp-level Exp.indented-levels Helpers.indent-deeper Helpers.deepen
 arm-returns-2 t c = record { is = by-same (group-is (c .before .before .before .before .before .before .before .before .before .group .ensures) (c .before .before .before .before .before .before .before .r1 .given .1)) (then-stop (plain (c .before .before .before .before .get-pat .ensures)) (c .enum-told2 .given .1)) }
 
--- src/lib.rt:771:9
+-- src/lib.rt:786:9
 arm-word-requires : (t : ℕ) → arm-lts.Need-word-requires (
   group-reads.Asked,
   group-reads.Learnt,
@@ -1984,10 +2113,14 @@ arm-word-requires : (t : ℕ) → arm-lts.Need-word-requires (
   get-pat-reads.Learnt,
   word-reads.Asked,
   word-reads.Learnt,
+  expression-reads.Asked,
+  expression-reads.Learnt,
+  stop-reads.Asked,
+  stop-reads.Learnt,
   body-exp-needs-newline-reads.Asked,
   body-exp-needs-newline-reads.Learnt,
-  forms-reads.Asked,
-  forms-reads.Learnt,
+  deepen-reads.Asked,
+  deepen-reads.Learnt,
   indented-reads.Asked,
   indented-reads.Learnt,
   dp-below t,
@@ -1997,7 +2130,158 @@ arm-word-requires : (t : ℕ) → arm-lts.Need-word-requires (
 ) (arm-at t) arm.Post
 arm-word-requires t c κs = search needs
 
--- src/lib.rt:773:8
+-- src/lib.rt:787:28
+arm-expression-requires : (t : ℕ) → arm-lts.Need-expression-requires (
+  group-reads.Asked,
+  group-reads.Learnt,
+  get-pat-reads.Asked,
+  get-pat-reads.Learnt,
+  word-reads.Asked,
+  word-reads.Learnt,
+  expression-reads.Asked,
+  expression-reads.Learnt,
+  stop-reads.Asked,
+  stop-reads.Learnt,
+  body-exp-needs-newline-reads.Asked,
+  body-exp-needs-newline-reads.Learnt,
+  deepen-reads.Asked,
+  deepen-reads.Learnt,
+  indented-reads.Asked,
+  indented-reads.Learnt,
+  dp-below t,
+  dp.Post,
+  exp-below t,
+  exp.Post,
+) (arm-at t) arm.Post
+arm-expression-requires t c κs = search needs
+
+-- src/lib.rt:787:18
+arm-enum-known--k : (t : ℕ) → arm-lts.Need-enum-known--k (
+  group-reads.Asked,
+  group-reads.Learnt,
+  get-pat-reads.Asked,
+  get-pat-reads.Learnt,
+  word-reads.Asked,
+  word-reads.Learnt,
+  expression-reads.Asked,
+  expression-reads.Learnt,
+  stop-reads.Asked,
+  stop-reads.Learnt,
+  body-exp-needs-newline-reads.Asked,
+  body-exp-needs-newline-reads.Learnt,
+  deepen-reads.Asked,
+  deepen-reads.Learnt,
+  indented-reads.Asked,
+  indented-reads.Learnt,
+  dp-below t,
+  dp.Post,
+  exp-below t,
+  exp.Post,
+) (arm-at t) arm.Post
+arm-enum-known--k t c = search needs
+
+-- src/lib.rt:788:9
+arm-enum-told-3 : (t : ℕ) → arm-lts.Need-enum-told-3 (
+  group-reads.Asked,
+  group-reads.Learnt,
+  get-pat-reads.Asked,
+  get-pat-reads.Learnt,
+  word-reads.Asked,
+  word-reads.Learnt,
+  expression-reads.Asked,
+  expression-reads.Learnt,
+  stop-reads.Asked,
+  stop-reads.Learnt,
+  body-exp-needs-newline-reads.Asked,
+  body-exp-needs-newline-reads.Learnt,
+  deepen-reads.Asked,
+  deepen-reads.Learnt,
+  indented-reads.Asked,
+  indented-reads.Learnt,
+  dp-below t,
+  dp.Post,
+  exp-below t,
+  exp.Post,
+) (arm-at t) arm.Post
+arm-enum-told-3 t c = search needs
+
+-- src/lib.rt:788:9
+arm-stop-requires : (t : ℕ) → arm-lts.Need-stop-requires (
+  group-reads.Asked,
+  group-reads.Learnt,
+  get-pat-reads.Asked,
+  get-pat-reads.Learnt,
+  word-reads.Asked,
+  word-reads.Learnt,
+  expression-reads.Asked,
+  expression-reads.Learnt,
+  stop-reads.Asked,
+  stop-reads.Learnt,
+  body-exp-needs-newline-reads.Asked,
+  body-exp-needs-newline-reads.Learnt,
+  deepen-reads.Asked,
+  deepen-reads.Learnt,
+  indented-reads.Asked,
+  indented-reads.Learnt,
+  dp-below t,
+  dp.Post,
+  exp-below t,
+  exp.Post,
+) (arm-at t) arm.Post
+arm-stop-requires t c κs = search needs
+
+-- src/lib.rt:788:9
+arm-same-length-2 : (t : ℕ) → arm-lts.Need-same-length-2 (
+  group-reads.Asked,
+  group-reads.Learnt,
+  get-pat-reads.Asked,
+  get-pat-reads.Learnt,
+  word-reads.Asked,
+  word-reads.Learnt,
+  expression-reads.Asked,
+  expression-reads.Learnt,
+  stop-reads.Asked,
+  stop-reads.Learnt,
+  body-exp-needs-newline-reads.Asked,
+  body-exp-needs-newline-reads.Learnt,
+  deepen-reads.Asked,
+  deepen-reads.Learnt,
+  indented-reads.Asked,
+  indented-reads.Learnt,
+  dp-below t,
+  dp.Post,
+  exp-below t,
+  exp.Post,
+) (arm-at t) arm.Post
+arm-same-length-2 t c = c .before .before .before .before .before .before .word .kept .1 .0 ∙ c .before .before .before .before .before .before .before .before .before .before .before .before .before .get-pat .kept .1 .1 .1 .1 .0
+
+-- src/lib.rt:788:9
+arm-returns-3 : (t : ℕ) → arm-lts.Need-returns-3 (
+  group-reads.Asked,
+  group-reads.Learnt,
+  get-pat-reads.Asked,
+  get-pat-reads.Learnt,
+  word-reads.Asked,
+  word-reads.Learnt,
+  expression-reads.Asked,
+  expression-reads.Learnt,
+  stop-reads.Asked,
+  stop-reads.Learnt,
+  body-exp-needs-newline-reads.Asked,
+  body-exp-needs-newline-reads.Learnt,
+  deepen-reads.Asked,
+  deepen-reads.Learnt,
+  indented-reads.Asked,
+  indented-reads.Learnt,
+  dp-below t,
+  dp.Post,
+  exp-below t,
+  exp.Post,
+) (arm-at t) arm.Post
+unfolding Exp.get-matcher-arm Exp.get-body-exp-level Exp.indented-levels Helpers.indent-deeper Helpers.deepen
+arm-returns-3 t c = record { is = by-same (group-is (c .before .before .before .before .before .before .before .before .before .before .before .before .before .before .before .before .before .before .group .ensures) (c .before .before .before .before .before .before .before .before .before .before .before .before .before .before .before .before .r1 .given .1)) (then-done (plain (c .before .before .before .before .before .before .before .before .before .before .before .before .before .get-pat .ensures)) (c .before .before .before .before .before .before .before .before .before .r2 .given .1) (then-sure (c .before .before .before .before .before .before .word .ensures) (look-not (c .stop .ensures) (c .before .before .before .expression .ensures) (c .before .enum-told3 .given .1)))) }
+
+-- src/lib.rt:791:8
 arm-body-exp-needs-newline-requires : (t : ℕ) → arm-lts.Need-body-exp-needs-newline-requires (
   group-reads.Asked,
   group-reads.Learnt,
@@ -2005,10 +2289,14 @@ arm-body-exp-needs-newline-requires : (t : ℕ) → arm-lts.Need-body-exp-needs-
   get-pat-reads.Learnt,
   word-reads.Asked,
   word-reads.Learnt,
+  expression-reads.Asked,
+  expression-reads.Learnt,
+  stop-reads.Asked,
+  stop-reads.Learnt,
   body-exp-needs-newline-reads.Asked,
   body-exp-needs-newline-reads.Learnt,
-  forms-reads.Asked,
-  forms-reads.Learnt,
+  deepen-reads.Asked,
+  deepen-reads.Learnt,
   indented-reads.Asked,
   indented-reads.Learnt,
   dp-below t,
@@ -2018,7 +2306,7 @@ arm-body-exp-needs-newline-requires : (t : ℕ) → arm-lts.Need-body-exp-needs-
 ) (arm-at t) arm.Post
 arm-body-exp-needs-newline-requires t c κs = search needs
 
--- src/lib.rt:774:13
+-- src/lib.rt:792:13
 arm-word-requires-2 : (t : ℕ) → arm-lts.Need-word-requires-2 (
   group-reads.Asked,
   group-reads.Learnt,
@@ -2026,10 +2314,14 @@ arm-word-requires-2 : (t : ℕ) → arm-lts.Need-word-requires-2 (
   get-pat-reads.Learnt,
   word-reads.Asked,
   word-reads.Learnt,
+  expression-reads.Asked,
+  expression-reads.Learnt,
+  stop-reads.Asked,
+  stop-reads.Learnt,
   body-exp-needs-newline-reads.Asked,
   body-exp-needs-newline-reads.Learnt,
-  forms-reads.Asked,
-  forms-reads.Learnt,
+  deepen-reads.Asked,
+  deepen-reads.Learnt,
   indented-reads.Asked,
   indented-reads.Learnt,
   dp-below t,
@@ -2039,18 +2331,22 @@ arm-word-requires-2 : (t : ℕ) → arm-lts.Need-word-requires-2 (
 ) (arm-at t) arm.Post
 arm-word-requires-2 t c κs = search needs
 
--- src/lib.rt:775:13
-arm-forms-requires : (t : ℕ) → arm-lts.Need-forms-requires (
+-- src/lib.rt:793:13
+arm-deepen-requires : (t : ℕ) → arm-lts.Need-deepen-requires (
   group-reads.Asked,
   group-reads.Learnt,
   get-pat-reads.Asked,
   get-pat-reads.Learnt,
   word-reads.Asked,
   word-reads.Learnt,
+  expression-reads.Asked,
+  expression-reads.Learnt,
+  stop-reads.Asked,
+  stop-reads.Learnt,
   body-exp-needs-newline-reads.Asked,
   body-exp-needs-newline-reads.Learnt,
-  forms-reads.Asked,
-  forms-reads.Learnt,
+  deepen-reads.Asked,
+  deepen-reads.Learnt,
   indented-reads.Asked,
   indented-reads.Learnt,
   dp-below t,
@@ -2058,9 +2354,9 @@ arm-forms-requires : (t : ℕ) → arm-lts.Need-forms-requires (
   exp-below t,
   exp.Post,
 ) (arm-at t) arm.Post
-arm-forms-requires t c κs = omega (arith, c .before .before .before .before .before .before .before .before .before .before .before .before .before .before .before .before .before .before .before .before .before .before .before .before .before .before .before .pre .1)
+arm-deepen-requires t c κs = omega (arith, c .before .before .before .before .before .before .before .before .before .before .before .before .before .before .before .before .before .before .before .before .before .before .before .before .before .before .before .before .before .before .before .pre .1)
 
--- src/lib.rt:776:13
+-- src/lib.rt:794:13
 arm-indented-requires : (t : ℕ) → arm-lts.Need-indented-requires (
   group-reads.Asked,
   group-reads.Learnt,
@@ -2068,10 +2364,14 @@ arm-indented-requires : (t : ℕ) → arm-lts.Need-indented-requires (
   get-pat-reads.Learnt,
   word-reads.Asked,
   word-reads.Learnt,
+  expression-reads.Asked,
+  expression-reads.Learnt,
+  stop-reads.Asked,
+  stop-reads.Learnt,
   body-exp-needs-newline-reads.Asked,
   body-exp-needs-newline-reads.Learnt,
-  forms-reads.Asked,
-  forms-reads.Learnt,
+  deepen-reads.Asked,
+  deepen-reads.Learnt,
   indented-reads.Asked,
   indented-reads.Learnt,
   dp-below t,
@@ -2079,9 +2379,9 @@ arm-indented-requires : (t : ℕ) → arm-lts.Need-indented-requires (
   exp-below t,
   exp.Post,
 ) (arm-at t) arm.Post
-arm-indented-requires t c κs = omega (arith, c .before .before .before .before .before .before .before .before .before .before .before .before .before .before .before .before .before .before .before .before .before .before .before .before .before .before .before .before .pre .1)
+arm-indented-requires t c κs = omega (arith, c .before .before .before .before .before .before .before .before .before .before .before .before .before .before .before .before .before .before .before .before .before .before .before .before .before .before .before .before .before .before .before .before .pre .1)
 
--- src/lib.rt:777:9
+-- src/lib.rt:795:9
 arm-dp-requires : (t : ℕ) → arm-lts.Need-dp-requires (
   group-reads.Asked,
   group-reads.Learnt,
@@ -2089,10 +2389,14 @@ arm-dp-requires : (t : ℕ) → arm-lts.Need-dp-requires (
   get-pat-reads.Learnt,
   word-reads.Asked,
   word-reads.Learnt,
+  expression-reads.Asked,
+  expression-reads.Learnt,
+  stop-reads.Asked,
+  stop-reads.Learnt,
   body-exp-needs-newline-reads.Asked,
   body-exp-needs-newline-reads.Learnt,
-  forms-reads.Asked,
-  forms-reads.Learnt,
+  deepen-reads.Asked,
+  deepen-reads.Learnt,
   indented-reads.Asked,
   indented-reads.Learnt,
   dp-below t,
@@ -2100,20 +2404,24 @@ arm-dp-requires : (t : ℕ) → arm-lts.Need-dp-requires (
   exp-below t,
   exp.Post,
 ) (arm-at t) arm.Post
-arm-dp-requires t c κs = omega (arith, c .before .before .before .before .before .before .before .before .before .before .before .before .before .before .before .before .before .before .before .before .before .before .before .before .before .before .before .before .before .before .before .pre .0, c .before .before .before .before .before .before .before .before .before .before .before .before .before .before .before .before .before .before .before .before .before .before .before .before .before .before .before .before .before .before .before .pre .1, deep-depth (c .before .before .indented .ensures), deep-left (c .before .before .indented .ensures))
+arm-dp-requires t c κs = omega (arith, c .before .before .before .before .before .before .before .before .before .before .before .before .before .before .before .before .before .before .before .before .before .before .before .before .before .before .before .before .before .before .before .before .before .before .before .pre .0, c .before .before .before .before .before .before .before .before .before .before .before .before .before .before .before .before .before .before .before .before .before .before .before .before .before .before .before .before .before .before .before .before .before .before .before .pre .1, deep-depth (c .before .before .indented .ensures), deep-left (c .before .before .indented .ensures))
 
--- src/lib.rt:777:9
-arm-same-length-2 : (t : ℕ) → arm-lts.Need-same-length-2 (
+-- src/lib.rt:795:9
+arm-same-length-3 : (t : ℕ) → arm-lts.Need-same-length-3 (
   group-reads.Asked,
   group-reads.Learnt,
   get-pat-reads.Asked,
   get-pat-reads.Learnt,
   word-reads.Asked,
   word-reads.Learnt,
+  expression-reads.Asked,
+  expression-reads.Learnt,
+  stop-reads.Asked,
+  stop-reads.Learnt,
   body-exp-needs-newline-reads.Asked,
   body-exp-needs-newline-reads.Learnt,
-  forms-reads.Asked,
-  forms-reads.Learnt,
+  deepen-reads.Asked,
+  deepen-reads.Learnt,
   indented-reads.Asked,
   indented-reads.Learnt,
   dp-below t,
@@ -2121,20 +2429,24 @@ arm-same-length-2 : (t : ℕ) → arm-lts.Need-same-length-2 (
   exp-below t,
   exp.Post,
 ) (arm-at t) arm.Post
-arm-same-length-2 t c = c .before .before .dp .kept .1 .1 .1 .1 .1 .0 ∙ c .before .before .before .before .before .before .before .before .before .word2 .kept .1 .0 ∙ c .before .before .before .before .before .before .before .before .before .before .before .before .before .before .before .word .kept .1 .0 ∙ c .before .before .before .before .before .before .before .before .before .before .before .before .before .before .before .before .before .before .before .before .before .before .get-pat .kept .1 .1 .1 .1 .0
+arm-same-length-3 t c = c .before .before .dp .kept .1 .1 .1 .1 .1 .0 ∙ c .before .before .before .before .before .before .before .before .before .word2 .kept .1 .0 ∙ c .before .before .before .before .before .before .before .before .before .before .before .before .before .before .before .before .before .before .before .word .kept .1 .0 ∙ c .before .before .before .before .before .before .before .before .before .before .before .before .before .before .before .before .before .before .before .before .before .before .before .before .before .before .get-pat .kept .1 .1 .1 .1 .0
 
--- src/lib.rt:777:9
-arm-returns-3 : (t : ℕ) → arm-lts.Need-returns-3 (
+-- src/lib.rt:795:9
+arm-returns-4 : (t : ℕ) → arm-lts.Need-returns-4 (
   group-reads.Asked,
   group-reads.Learnt,
   get-pat-reads.Asked,
   get-pat-reads.Learnt,
   word-reads.Asked,
   word-reads.Learnt,
+  expression-reads.Asked,
+  expression-reads.Learnt,
+  stop-reads.Asked,
+  stop-reads.Learnt,
   body-exp-needs-newline-reads.Asked,
   body-exp-needs-newline-reads.Learnt,
-  forms-reads.Asked,
-  forms-reads.Learnt,
+  deepen-reads.Asked,
+  deepen-reads.Learnt,
   indented-reads.Asked,
   indented-reads.Learnt,
   dp-below t,
@@ -2142,10 +2454,10 @@ arm-returns-3 : (t : ℕ) → arm-lts.Need-returns-3 (
   exp-below t,
   exp.Post,
 ) (arm-at t) arm.Post
-unfolding Exp.get-matcher-arm Exp.get-body-exp-level Exp.indented-levels Helpers.indented
-arm-returns-3 t c = record { is = by-same (group-is (c .before .before .before .before .before .before .before .before .before .before .before .before .before .before .before .before .before .before .before .before .before .before .before .before .before .before .before .group .ensures) (c .before .before .before .before .before .before .before .before .before .before .before .before .before .before .before .before .before .before .before .before .before .before .before .before .before .r1 .given .1)) (then-done (plain (c .before .before .before .before .before .before .before .before .before .before .before .before .before .before .before .before .before .before .before .before .before .before .get-pat .ensures)) (c .before .before .before .before .before .before .before .before .before .before .before .before .before .before .before .before .before .before .r2 .given .1) (then-sure (c .before .before .before .before .before .before .before .before .before .before .before .before .before .before .before .word .ensures) (by-same (look-is (c .before .before .before .before .before .before .before .before .before .before .before .before .body-exp-needs-newline .ensures) (c .before .before .before .before .before .before .before .before .before .before .before .if1 .taken)) (then-sure (c .before .before .before .before .before .before .before .before .before .word2 .ensures) (then-sure (sure-formed (c .before .before .before .before .before .before .forms .ensures)) (along (c .before .before .before .before .before .indented .ensures) (c .before .before .dp .ensures))))))) }
+unfolding Exp.get-matcher-arm Exp.get-body-exp-level Exp.indented-levels Helpers.indent-deeper Helpers.deepen
+arm-returns-4 t c = record { is = by-same (group-is (c .before .before .before .before .before .before .before .before .before .before .before .before .before .before .before .before .before .before .before .before .before .before .before .before .before .before .before .before .before .before .before .group .ensures) (c .before .before .before .before .before .before .before .before .before .before .before .before .before .before .before .before .before .before .before .before .before .before .before .before .before .before .before .before .before .r1 .given .1)) (then-done (plain (c .before .before .before .before .before .before .before .before .before .before .before .before .before .before .before .before .before .before .before .before .before .before .before .before .before .before .get-pat .ensures)) (c .before .before .before .before .before .before .before .before .before .before .before .before .before .before .before .before .before .before .before .before .before .before .r2 .given .1) (then-sure (c .before .before .before .before .before .before .before .before .before .before .before .before .before .before .before .before .before .before .before .word .ensures) (by-same (look-yes (c .before .before .before .before .before .before .before .before .before .before .before .before .before .before .before .before .expression .ensures) (c .before .before .before .before .before .before .before .before .before .before .before .before .before .before .-k .given .1) (c .before .before .before .before .before .before .before .before .before .before .before .before .body-exp-needs-newline .ensures) (c .before .before .before .before .before .before .before .before .before .before .before .if1 .taken)) (then-sure (c .before .before .before .before .before .before .before .before .before .word2 .ensures) (then-sure (sure-formed (c .before .before .before .before .before .before .deepen .ensures)) (along (c .before .before .before .before .before .indented .ensures) (c .before .before .dp .ensures))))))) }
 
--- src/lib.rt:779:9
+-- src/lib.rt:797:9
 arm-word-requires-3 : (t : ℕ) → arm-lts.Need-word-requires-3 (
   group-reads.Asked,
   group-reads.Learnt,
@@ -2153,10 +2465,14 @@ arm-word-requires-3 : (t : ℕ) → arm-lts.Need-word-requires-3 (
   get-pat-reads.Learnt,
   word-reads.Asked,
   word-reads.Learnt,
+  expression-reads.Asked,
+  expression-reads.Learnt,
+  stop-reads.Asked,
+  stop-reads.Learnt,
   body-exp-needs-newline-reads.Asked,
   body-exp-needs-newline-reads.Learnt,
-  forms-reads.Asked,
-  forms-reads.Learnt,
+  deepen-reads.Asked,
+  deepen-reads.Learnt,
   indented-reads.Asked,
   indented-reads.Learnt,
   dp-below t,
@@ -2166,7 +2482,7 @@ arm-word-requires-3 : (t : ℕ) → arm-lts.Need-word-requires-3 (
 ) (arm-at t) arm.Post
 arm-word-requires-3 t c κs = search needs
 
--- src/lib.rt:780:5
+-- src/lib.rt:798:5
 arm-exp-requires : (t : ℕ) → arm-lts.Need-exp-requires (
   group-reads.Asked,
   group-reads.Learnt,
@@ -2174,10 +2490,14 @@ arm-exp-requires : (t : ℕ) → arm-lts.Need-exp-requires (
   get-pat-reads.Learnt,
   word-reads.Asked,
   word-reads.Learnt,
+  expression-reads.Asked,
+  expression-reads.Learnt,
+  stop-reads.Asked,
+  stop-reads.Learnt,
   body-exp-needs-newline-reads.Asked,
   body-exp-needs-newline-reads.Learnt,
-  forms-reads.Asked,
-  forms-reads.Learnt,
+  deepen-reads.Asked,
+  deepen-reads.Learnt,
   indented-reads.Asked,
   indented-reads.Learnt,
   dp-below t,
@@ -2185,20 +2505,24 @@ arm-exp-requires : (t : ℕ) → arm-lts.Need-exp-requires (
   exp-below t,
   exp.Post,
 ) (arm-at t) arm.Post
-arm-exp-requires t c κs = omega (arith, c .before .before .before .before .before .before .before .before .before .before .before .before .before .before .before .before .before .before .before .before .before .before .before .before .before .before .before .before .before .pre .0, c .before .before .before .before .before .before .before .before .before .before .before .before .before .before .before .before .before .before .before .before .before .before .before .before .before .before .before .before .before .pre .1)
+arm-exp-requires t c κs = omega (arith, c .before .before .before .before .before .before .before .before .before .before .before .before .before .before .before .before .before .before .before .before .before .before .before .before .before .before .before .before .before .before .before .before .before .pre .0, c .before .before .before .before .before .before .before .before .before .before .before .before .before .before .before .before .before .before .before .before .before .before .before .before .before .before .before .before .before .before .before .before .before .pre .1)
 
--- src/lib.rt:749:1
-arm-same-length-3 : (t : ℕ) → arm-lts.Need-same-length-3 (
+-- src/lib.rt:764:1
+arm-same-length-4 : (t : ℕ) → arm-lts.Need-same-length-4 (
   group-reads.Asked,
   group-reads.Learnt,
   get-pat-reads.Asked,
   get-pat-reads.Learnt,
   word-reads.Asked,
   word-reads.Learnt,
+  expression-reads.Asked,
+  expression-reads.Learnt,
+  stop-reads.Asked,
+  stop-reads.Learnt,
   body-exp-needs-newline-reads.Asked,
   body-exp-needs-newline-reads.Learnt,
-  forms-reads.Asked,
-  forms-reads.Learnt,
+  deepen-reads.Asked,
+  deepen-reads.Learnt,
   indented-reads.Asked,
   indented-reads.Learnt,
   dp-below t,
@@ -2206,20 +2530,24 @@ arm-same-length-3 : (t : ℕ) → arm-lts.Need-same-length-3 (
   exp-below t,
   exp.Post,
 ) (arm-at t) arm.Post
-arm-same-length-3 t c = c .before .before .exp .kept .1 .1 .1 .1 .1 .0 ∙ c .before .before .before .before .before .before .before .word3 .kept .1 .0 ∙ c .before .before .before .before .before .before .before .before .before .before .before .before .before .word .kept .1 .0 ∙ c .before .before .before .before .before .before .before .before .before .before .before .before .before .before .before .before .before .before .before .before .get-pat .kept .1 .1 .1 .1 .0
+arm-same-length-4 t c = c .before .before .exp .kept .1 .1 .1 .1 .1 .0 ∙ c .before .before .before .before .before .before .before .word3 .kept .1 .0 ∙ c .before .before .before .before .before .before .before .before .before .before .before .before .before .before .before .before .before .word .kept .1 .0 ∙ c .before .before .before .before .before .before .before .before .before .before .before .before .before .before .before .before .before .before .before .before .before .before .before .before .get-pat .kept .1 .1 .1 .1 .0
 
--- src/lib.rt:749:1
-arm-returns-4 : (t : ℕ) → arm-lts.Need-returns-4 (
+-- src/lib.rt:764:1
+arm-returns-5 : (t : ℕ) → arm-lts.Need-returns-5 (
   group-reads.Asked,
   group-reads.Learnt,
   get-pat-reads.Asked,
   get-pat-reads.Learnt,
   word-reads.Asked,
   word-reads.Learnt,
+  expression-reads.Asked,
+  expression-reads.Learnt,
+  stop-reads.Asked,
+  stop-reads.Learnt,
   body-exp-needs-newline-reads.Asked,
   body-exp-needs-newline-reads.Learnt,
-  forms-reads.Asked,
-  forms-reads.Learnt,
+  deepen-reads.Asked,
+  deepen-reads.Learnt,
   indented-reads.Asked,
   indented-reads.Learnt,
   dp-below t,
@@ -2227,10 +2555,10 @@ arm-returns-4 : (t : ℕ) → arm-lts.Need-returns-4 (
   exp-below t,
   exp.Post,
 ) (arm-at t) arm.Post
-unfolding Exp.get-matcher-arm Exp.get-body-exp-level Exp.indented-levels Helpers.indented
-arm-returns-4 t c = record { is = by-same (group-is (c .before .before .before .before .before .before .before .before .before .before .before .before .before .before .before .before .before .before .before .before .before .before .before .before .before .group .ensures) (c .before .before .before .before .before .before .before .before .before .before .before .before .before .before .before .before .before .before .before .before .before .before .before .r1 .given .1)) (then-done (plain (c .before .before .before .before .before .before .before .before .before .before .before .before .before .before .before .before .before .before .before .before .get-pat .ensures)) (c .before .before .before .before .before .before .before .before .before .before .before .before .before .before .before .before .r2 .given .1) (then-sure (c .before .before .before .before .before .before .before .before .before .before .before .before .before .word .ensures) (by-same (look-is (c .before .before .before .before .before .before .before .before .before .before .body-exp-needs-newline .ensures) (c .before .before .before .before .before .before .before .before .before .if1 .left)) (then-sure (c .before .before .before .before .before .before .before .word3 .ensures) (c .before .before .exp .ensures .is))))) }
+unfolding Exp.get-matcher-arm Exp.get-body-exp-level Exp.indented-levels Helpers.indent-deeper Helpers.deepen
+arm-returns-5 t c = record { is = by-same (group-is (c .before .before .before .before .before .before .before .before .before .before .before .before .before .before .before .before .before .before .before .before .before .before .before .before .before .before .before .before .before .group .ensures) (c .before .before .before .before .before .before .before .before .before .before .before .before .before .before .before .before .before .before .before .before .before .before .before .before .before .before .before .r1 .given .1)) (then-done (plain (c .before .before .before .before .before .before .before .before .before .before .before .before .before .before .before .before .before .before .before .before .before .before .before .before .get-pat .ensures)) (c .before .before .before .before .before .before .before .before .before .before .before .before .before .before .before .before .before .before .before .before .r2 .given .1) (then-sure (c .before .before .before .before .before .before .before .before .before .before .before .before .before .before .before .before .before .word .ensures) (by-same (look-no (c .before .before .before .before .before .before .before .before .before .before .before .before .before .before .expression .ensures) (c .before .before .before .before .before .before .before .before .before .before .before .before .-k .given .1) (c .before .before .before .before .before .before .before .before .before .before .body-exp-needs-newline .ensures) (c .before .before .before .before .before .before .before .before .before .if1 .left)) (then-sure (c .before .before .before .before .before .before .before .word3 .ensures) (c .before .before .exp .ensures .is))))) }
 
--- src/lib.rt:269:9
+-- src/lib.rt:279:9
 br-word-requires : (t : ℕ) → br-lts.Need-word-requires (
   word-reads.Asked,
   word-reads.Learnt,
@@ -2239,7 +2567,7 @@ br-word-requires : (t : ℕ) → br-lts.Need-word-requires (
 ) (br-at t) br.Post
 br-word-requires t c κs = search needs
 
--- src/lib.rt:270:9
+-- src/lib.rt:280:9
 br-ar-requires : (t : ℕ) → br-lts.Need-ar-requires (
   word-reads.Asked,
   word-reads.Learnt,
@@ -2248,7 +2576,7 @@ br-ar-requires : (t : ℕ) → br-lts.Need-ar-requires (
 ) (br-at t) br.Post
 br-ar-requires t c κs = omega (arith, c .before .before .before .before .before .before .before .before .before .before .before .before .pre .0, c .before .before .before .before .before .before .before .before .before .before .before .before .pre .1)
 
--- src/lib.rt:271:22
+-- src/lib.rt:281:22
 br-enum-known-r2 : (t : ℕ) → br-lts.Need-enum-known-r2 (
   word-reads.Asked,
   word-reads.Learnt,
@@ -2257,7 +2585,7 @@ br-enum-known-r2 : (t : ℕ) → br-lts.Need-enum-known-r2 (
 ) (br-at t) br.Post
 br-enum-known-r2 t c = search needs
 
--- src/lib.rt:272:9
+-- src/lib.rt:282:9
 br-enum-told : (t : ℕ) → br-lts.Need-enum-told (
   word-reads.Asked,
   word-reads.Learnt,
@@ -2266,7 +2594,7 @@ br-enum-told : (t : ℕ) → br-lts.Need-enum-told (
 ) (br-at t) br.Post
 br-enum-told t c = search needs
 
--- src/lib.rt:272:9
+-- src/lib.rt:282:9
 br-same-length : (t : ℕ) → br-lts.Need-same-length (
   word-reads.Asked,
   word-reads.Learnt,
@@ -2275,7 +2603,7 @@ br-same-length : (t : ℕ) → br-lts.Need-same-length (
 ) (br-at t) br.Post
 br-same-length t c = c .before .before .before .before .ar .kept .1 .1 .1 .1 .1 .0 ∙ c .before .before .before .before .before .before .before .before .before .word .kept .1 .0
 
--- src/lib.rt:272:9
+-- src/lib.rt:282:9
 br-returns : (t : ℕ) → br-lts.Need-returns (
   word-reads.Asked,
   word-reads.Learnt,
@@ -2284,7 +2612,7 @@ br-returns : (t : ℕ) → br-lts.Need-returns (
 ) (br-at t) br.Post
 br-returns t c = record { is = then-sure (c .before .before .before .before .before .before .before .before .before .word .ensures) (then-stop (c .before .before .before .before .ar .ensures .is) (c .enum-told .given .1)) }
 
--- src/lib.rt:274:18
+-- src/lib.rt:284:18
 br-word-requires-2 : (t : ℕ) → br-lts.Need-word-requires-2 (
   word-reads.Asked,
   word-reads.Learnt,
@@ -2293,7 +2621,7 @@ br-word-requires-2 : (t : ℕ) → br-lts.Need-word-requires-2 (
 ) (br-at t) br.Post
 br-word-requires-2 t c κs = search needs
 
--- src/lib.rt:253:1
+-- src/lib.rt:263:1
 br-same-length-2 : (t : ℕ) → br-lts.Need-same-length-2 (
   word-reads.Asked,
   word-reads.Learnt,
@@ -2302,7 +2630,7 @@ br-same-length-2 : (t : ℕ) → br-lts.Need-same-length-2 (
 ) (br-at t) br.Post
 br-same-length-2 t c = c .before .before .word2 .kept .1 .0 ∙ c .before .before .before .before .before .before .before .before .before .ar .kept .1 .1 .1 .1 .1 .0 ∙ c .before .before .before .before .before .before .before .before .before .before .before .before .before .before .word .kept .1 .0
 
--- src/lib.rt:253:1
+-- src/lib.rt:263:1
 br-returns-2 : (t : ℕ) → br-lts.Need-returns-2 (
   word-reads.Asked,
   word-reads.Learnt,
@@ -2311,7 +2639,7 @@ br-returns-2 : (t : ℕ) → br-lts.Need-returns-2 (
 ) (br-at t) br.Post
 br-returns-2 t c = record { is = then-sure (c .before .before .before .before .before .before .before .before .before .before .before .before .before .before .word .ensures) (then-done (c .before .before .before .before .before .before .before .before .before .ar .ensures .is) (c .before .before .before .before .before .r2 .given .1) (last-sure (c .before .before .word2 .ensures))) }
 
--- src/lib.rt:635:9
+-- src/lib.rt:647:9
 ca-word-requires : (t : ℕ) → ca-lts.Need-word-requires (
   word-reads.Asked,
   word-reads.Learnt,
@@ -2320,7 +2648,7 @@ ca-word-requires : (t : ℕ) → ca-lts.Need-word-requires (
 ) (ca-at t) ca.Post
 ca-word-requires t c κs = search needs
 
--- src/lib.rt:636:5
+-- src/lib.rt:648:5
 ca-ha-requires : (t : ℕ) → ca-lts.Need-ha-requires (
   word-reads.Asked,
   word-reads.Learnt,
@@ -2329,7 +2657,7 @@ ca-ha-requires : (t : ℕ) → ca-lts.Need-ha-requires (
 ) (ca-at t) ca.Post
 ca-ha-requires t c κs = omega (arith, c .before .before .before .before .before .before .before .before .before .before .before .before .pre .0, c .before .before .before .before .before .before .before .before .before .before .before .before .pre .1)
 
--- src/lib.rt:621:1
+-- src/lib.rt:633:1
 ca-same-length : (t : ℕ) → ca-lts.Need-same-length (
   word-reads.Asked,
   word-reads.Learnt,
@@ -2338,17 +2666,17 @@ ca-same-length : (t : ℕ) → ca-lts.Need-same-length (
 ) (ca-at t) ca.Post
 ca-same-length t c = c .before .before .ha .kept .1 .1 .1 .1 .1 .0 ∙ c .before .before .before .before .before .before .before .word .kept .1 .0
 
--- src/lib.rt:621:1
+-- src/lib.rt:633:1
 ca-returns : (t : ℕ) → ca-lts.Need-returns (
   word-reads.Asked,
   word-reads.Learnt,
   ha-below t,
   ha.Post,
 ) (ca-at t) ca.Post
-unfolding Exp.CaseExp
+unfolding Exp.exp
 ca-returns t c = record { is = then-sure (c .before .before .before .before .before .before .before .word .ensures) (c .before .before .ha .ensures .is) }
 
--- src/lib.rt:1773:9
+-- src/lib.rt:1749:9
 cb-group-requires : (t : ℕ) → cb-lts.Need-group-requires (
   group-reads.Asked,
   group-reads.Learnt,
@@ -2365,7 +2693,7 @@ cb-group-requires : (t : ℕ) → cb-lts.Need-group-requires (
 ) (cb-at t) cb.Post
 cb-group-requires t c κs = search needs
 
--- src/lib.rt:1774:22
+-- src/lib.rt:1750:22
 cb-enum-known-r1 : (t : ℕ) → cb-lts.Need-enum-known-r1 (
   group-reads.Asked,
   group-reads.Learnt,
@@ -2382,7 +2710,7 @@ cb-enum-known-r1 : (t : ℕ) → cb-lts.Need-enum-known-r1 (
 ) (cb-at t) cb.Post
 cb-enum-known-r1 t c = search needs
 
--- src/lib.rt:1775:9
+-- src/lib.rt:1751:9
 cb-enum-told : (t : ℕ) → cb-lts.Need-enum-told (
   group-reads.Asked,
   group-reads.Learnt,
@@ -2399,7 +2727,7 @@ cb-enum-told : (t : ℕ) → cb-lts.Need-enum-told (
 ) (cb-at t) cb.Post
 cb-enum-told t c = search needs
 
--- src/lib.rt:1775:9
+-- src/lib.rt:1751:9
 cb-returns : (t : ℕ) → cb-lts.Need-returns (
   group-reads.Asked,
   group-reads.Learnt,
@@ -2417,7 +2745,7 @@ cb-returns : (t : ℕ) → cb-lts.Need-returns (
 unfolding DecOne.functor-bind
 cb-returns t c = record { is = group-not (c .before .before .group .ensures) (c .enum-told .given .1) }
 
--- src/lib.rt:1777:9
+-- src/lib.rt:1753:9
 cb-text-of-requires : (t : ℕ) → cb-lts.Need-text-of-requires (
   group-reads.Asked,
   group-reads.Learnt,
@@ -2434,7 +2762,7 @@ cb-text-of-requires : (t : ℕ) → cb-lts.Need-text-of-requires (
 ) (cb-at t) cb.Post
 cb-text-of-requires t c κs = search needs
 
--- src/lib.rt:1778:22
+-- src/lib.rt:1754:22
 cb-enum-known-r2 : (t : ℕ) → cb-lts.Need-enum-known-r2 (
   group-reads.Asked,
   group-reads.Learnt,
@@ -2451,7 +2779,7 @@ cb-enum-known-r2 : (t : ℕ) → cb-lts.Need-enum-known-r2 (
 ) (cb-at t) cb.Post
 cb-enum-known-r2 t c = search needs
 
--- src/lib.rt:1779:9
+-- src/lib.rt:1755:9
 cb-enum-told-2 : (t : ℕ) → cb-lts.Need-enum-told-2 (
   group-reads.Asked,
   group-reads.Learnt,
@@ -2468,7 +2796,7 @@ cb-enum-told-2 : (t : ℕ) → cb-lts.Need-enum-told-2 (
 ) (cb-at t) cb.Post
 cb-enum-told-2 t c = search needs
 
--- src/lib.rt:1779:9
+-- src/lib.rt:1755:9
 cb-same-length : (t : ℕ) → cb-lts.Need-same-length (
   group-reads.Asked,
   group-reads.Learnt,
@@ -2485,7 +2813,7 @@ cb-same-length : (t : ℕ) → cb-lts.Need-same-length (
 ) (cb-at t) cb.Post
 cb-same-length t c = c .before .before .before .before .text-of .kept .1 .1 .1 .1 .0
 
--- src/lib.rt:1779:9
+-- src/lib.rt:1755:9
 cb-returns-2 : (t : ℕ) → cb-lts.Need-returns-2 (
   group-reads.Asked,
   group-reads.Learnt,
@@ -2503,7 +2831,7 @@ cb-returns-2 : (t : ℕ) → cb-lts.Need-returns-2 (
 unfolding DecOne.functor-bind
 cb-returns-2 t c = record { is = by-same (group-is (c .before .before .before .before .before .before .before .before .before .group .ensures) (c .before .before .before .before .before .before .before .r1 .given .1)) (then-stop (plain (c .before .before .before .before .text-of .ensures)) (c .enum-told2 .given .1)) }
 
--- src/lib.rt:1781:9
+-- src/lib.rt:1757:9
 cb-word-requires : (t : ℕ) → cb-lts.Need-word-requires (
   group-reads.Asked,
   group-reads.Learnt,
@@ -2520,7 +2848,7 @@ cb-word-requires : (t : ℕ) → cb-lts.Need-word-requires (
 ) (cb-at t) cb.Post
 cb-word-requires t c κs = search needs
 
--- src/lib.rt:1782:9
+-- src/lib.rt:1758:9
 cb-fs-requires : (t : ℕ) → cb-lts.Need-fs-requires (
   group-reads.Asked,
   group-reads.Learnt,
@@ -2537,7 +2865,7 @@ cb-fs-requires : (t : ℕ) → cb-lts.Need-fs-requires (
 ) (cb-at t) cb.Post
 cb-fs-requires t c κs = omega (arith, c .before .before .before .before .before .before .before .before .before .before .before .before .before .before .before .before .before .before .before .before .before .before .before .pre .0, c .before .before .before .before .before .before .before .before .before .before .before .before .before .before .before .before .before .before .before .before .before .before .before .pre .1)
 
--- src/lib.rt:1783:22
+-- src/lib.rt:1759:22
 cb-enum-known-r4 : (t : ℕ) → cb-lts.Need-enum-known-r4 (
   group-reads.Asked,
   group-reads.Learnt,
@@ -2554,7 +2882,7 @@ cb-enum-known-r4 : (t : ℕ) → cb-lts.Need-enum-known-r4 (
 ) (cb-at t) cb.Post
 cb-enum-known-r4 t c = search needs
 
--- src/lib.rt:1784:9
+-- src/lib.rt:1760:9
 cb-enum-told-3 : (t : ℕ) → cb-lts.Need-enum-told-3 (
   group-reads.Asked,
   group-reads.Learnt,
@@ -2571,7 +2899,7 @@ cb-enum-told-3 : (t : ℕ) → cb-lts.Need-enum-told-3 (
 ) (cb-at t) cb.Post
 cb-enum-told-3 t c = search needs
 
--- src/lib.rt:1784:9
+-- src/lib.rt:1760:9
 cb-same-length-2 : (t : ℕ) → cb-lts.Need-same-length-2 (
   group-reads.Asked,
   group-reads.Learnt,
@@ -2588,7 +2916,7 @@ cb-same-length-2 : (t : ℕ) → cb-lts.Need-same-length-2 (
 ) (cb-at t) cb.Post
 cb-same-length-2 t c = c .before .before .before .before .fs .kept .1 .1 .1 .1 .1 .0 ∙ c .before .before .before .before .before .before .before .before .before .word .kept .1 .0 ∙ c .before .before .before .before .before .before .before .before .before .before .before .before .before .before .before .before .text-of .kept .1 .1 .1 .1 .0
 
--- src/lib.rt:1784:9
+-- src/lib.rt:1760:9
 cb-returns-3 : (t : ℕ) → cb-lts.Need-returns-3 (
   group-reads.Asked,
   group-reads.Learnt,
@@ -2606,7 +2934,7 @@ cb-returns-3 : (t : ℕ) → cb-lts.Need-returns-3 (
 unfolding DecOne.functor-bind
 cb-returns-3 t c = record { is = by-same (group-is (c .before .before .before .before .before .before .before .before .before .before .before .before .before .before .before .before .before .before .before .before .before .group .ensures) (c .before .before .before .before .before .before .before .before .before .before .before .before .before .before .before .before .before .before .before .r1 .given .1)) (then-done (plain (c .before .before .before .before .before .before .before .before .before .before .before .before .before .before .before .before .text-of .ensures)) (c .before .before .before .before .before .before .before .before .before .before .before .before .r2 .given .1) (then-sure (c .before .before .before .before .before .before .before .before .before .word .ensures) (then-stop (c .before .before .before .before .fs .ensures .is) (c .enum-told3 .given .1)))) }
 
--- src/lib.rt:1786:9
+-- src/lib.rt:1762:9
 cb-word-requires-2 : (t : ℕ) → cb-lts.Need-word-requires-2 (
   group-reads.Asked,
   group-reads.Learnt,
@@ -2623,7 +2951,7 @@ cb-word-requires-2 : (t : ℕ) → cb-lts.Need-word-requires-2 (
 ) (cb-at t) cb.Post
 cb-word-requires-2 t c κs = search needs
 
--- src/lib.rt:1787:9
+-- src/lib.rt:1763:9
 cb-ac-requires : (t : ℕ) → cb-lts.Need-ac-requires (
   group-reads.Asked,
   group-reads.Learnt,
@@ -2640,7 +2968,7 @@ cb-ac-requires : (t : ℕ) → cb-lts.Need-ac-requires (
 ) (cb-at t) cb.Post
 cb-ac-requires t c κs = omega (arith, c .before .before .before .before .before .before .before .before .before .before .before .before .before .before .before .before .before .before .before .before .before .before .before .before .before .before .before .before .before .before .before .before .before .before .before .pre .0, c .before .before .before .before .before .before .before .before .before .before .before .before .before .before .before .before .before .before .before .before .before .before .before .before .before .before .before .before .before .before .before .before .before .before .before .pre .1)
 
--- src/lib.rt:1788:22
+-- src/lib.rt:1764:22
 cb-enum-known-r6 : (t : ℕ) → cb-lts.Need-enum-known-r6 (
   group-reads.Asked,
   group-reads.Learnt,
@@ -2657,7 +2985,7 @@ cb-enum-known-r6 : (t : ℕ) → cb-lts.Need-enum-known-r6 (
 ) (cb-at t) cb.Post
 cb-enum-known-r6 t c = search needs
 
--- src/lib.rt:1789:9
+-- src/lib.rt:1765:9
 cb-enum-told-4 : (t : ℕ) → cb-lts.Need-enum-told-4 (
   group-reads.Asked,
   group-reads.Learnt,
@@ -2674,7 +3002,7 @@ cb-enum-told-4 : (t : ℕ) → cb-lts.Need-enum-told-4 (
 ) (cb-at t) cb.Post
 cb-enum-told-4 t c = search needs
 
--- src/lib.rt:1789:9
+-- src/lib.rt:1765:9
 cb-same-length-3 : (t : ℕ) → cb-lts.Need-same-length-3 (
   group-reads.Asked,
   group-reads.Learnt,
@@ -2691,7 +3019,7 @@ cb-same-length-3 : (t : ℕ) → cb-lts.Need-same-length-3 (
 ) (cb-at t) cb.Post
 cb-same-length-3 t c = c .before .before .before .before .ac .kept .1 .1 .1 .1 .1 .0 ∙ c .before .before .before .before .before .before .before .before .before .word2 .kept .1 .0 ∙ c .before .before .before .before .before .before .before .before .before .before .before .before .before .before .before .before .fs .kept .1 .1 .1 .1 .1 .0 ∙ c .before .before .before .before .before .before .before .before .before .before .before .before .before .before .before .before .before .before .before .before .before .word .kept .1 .0 ∙ c .before .before .before .before .before .before .before .before .before .before .before .before .before .before .before .before .before .before .before .before .before .before .before .before .before .before .before .before .text-of .kept .1 .1 .1 .1 .0
 
--- src/lib.rt:1789:9
+-- src/lib.rt:1765:9
 cb-returns-4 : (t : ℕ) → cb-lts.Need-returns-4 (
   group-reads.Asked,
   group-reads.Learnt,
@@ -2709,7 +3037,7 @@ cb-returns-4 : (t : ℕ) → cb-lts.Need-returns-4 (
 unfolding DecOne.functor-bind
 cb-returns-4 t c = record { is = by-same (group-is (c .before .before .before .before .before .before .before .before .before .before .before .before .before .before .before .before .before .before .before .before .before .before .before .before .before .before .before .before .before .before .before .before .before .group .ensures) (c .before .before .before .before .before .before .before .before .before .before .before .before .before .before .before .before .before .before .before .before .before .before .before .before .before .before .before .before .before .before .before .r1 .given .1)) (then-done (plain (c .before .before .before .before .before .before .before .before .before .before .before .before .before .before .before .before .before .before .before .before .before .before .before .before .before .before .before .before .text-of .ensures)) (c .before .before .before .before .before .before .before .before .before .before .before .before .before .before .before .before .before .before .before .before .before .before .before .before .r2 .given .1) (then-sure (c .before .before .before .before .before .before .before .before .before .before .before .before .before .before .before .before .before .before .before .before .before .word .ensures) (then-done (c .before .before .before .before .before .before .before .before .before .before .before .before .before .before .before .before .fs .ensures .is) (c .before .before .before .before .before .before .before .before .before .before .before .before .r4 .given .1) (then-sure (c .before .before .before .before .before .before .before .before .before .word2 .ensures) (then-stop (c .before .before .before .before .ac .ensures .is) (c .enum-told4 .given .1)))))) }
 
--- src/lib.rt:1791:9
+-- src/lib.rt:1767:9
 cb-word-requires-3 : (t : ℕ) → cb-lts.Need-word-requires-3 (
   group-reads.Asked,
   group-reads.Learnt,
@@ -2726,7 +3054,7 @@ cb-word-requires-3 : (t : ℕ) → cb-lts.Need-word-requires-3 (
 ) (cb-at t) cb.Post
 cb-word-requires-3 t c κs = search needs
 
--- src/lib.rt:1792:5
+-- src/lib.rt:1768:5
 cb-str-requires : (t : ℕ) → cb-lts.Need-str-requires (
   group-reads.Asked,
   group-reads.Learnt,
@@ -2743,7 +3071,7 @@ cb-str-requires : (t : ℕ) → cb-lts.Need-str-requires (
 ) (cb-at t) cb.Post
 cb-str-requires t c κs = omega (arith, c .before .before .before .before .before .before .before .before .before .before .before .before .before .before .before .before .before .before .before .before .before .before .before .before .before .before .before .before .before .before .before .before .before .before .before .before .before .before .before .before .before .before .before .before .before .before .before .pre .0, c .before .before .before .before .before .before .before .before .before .before .before .before .before .before .before .before .before .before .before .before .before .before .before .before .before .before .before .before .before .before .before .before .before .before .before .before .before .before .before .before .before .before .before .before .before .before .before .pre .1)
 
--- src/lib.rt:1759:1
+-- src/lib.rt:1735:1
 cb-same-length-4 : (t : ℕ) → cb-lts.Need-same-length-4 (
   group-reads.Asked,
   group-reads.Learnt,
@@ -2760,7 +3088,7 @@ cb-same-length-4 : (t : ℕ) → cb-lts.Need-same-length-4 (
 ) (cb-at t) cb.Post
 cb-same-length-4 t c = c .before .before .str .kept .1 .1 .1 .1 .1 .0 ∙ c .before .before .before .before .before .before .before .word3 .kept .1 .0 ∙ c .before .before .before .before .before .before .before .before .before .before .before .before .before .before .ac .kept .1 .1 .1 .1 .1 .0 ∙ c .before .before .before .before .before .before .before .before .before .before .before .before .before .before .before .before .before .before .before .word2 .kept .1 .0 ∙ c .before .before .before .before .before .before .before .before .before .before .before .before .before .before .before .before .before .before .before .before .before .before .before .before .before .before .fs .kept .1 .1 .1 .1 .1 .0 ∙ c .before .before .before .before .before .before .before .before .before .before .before .before .before .before .before .before .before .before .before .before .before .before .before .before .before .before .before .before .before .before .before .word .kept .1 .0 ∙ c .before .before .before .before .before .before .before .before .before .before .before .before .before .before .before .before .before .before .before .before .before .before .before .before .before .before .before .before .before .before .before .before .before .before .before .before .before .before .text-of .kept .1 .1 .1 .1 .0
 
--- src/lib.rt:1759:1
+-- src/lib.rt:1735:1
 cb-returns-5 : (t : ℕ) → cb-lts.Need-returns-5 (
   group-reads.Asked,
   group-reads.Learnt,
@@ -2785,7 +3113,7 @@ cd-Inv-loop text rec kinds starts lens out₀ left₀ cfg n s₀ i₀ out left s
 abbrev cd-μ-loop : cd-lts.MeasureT-loop
 cd-μ-loop text rec kinds starts lens out₀ left₀ cfg n s₀ i₀ out left s i = n - i
 
--- src/lib.rt:1740:9
+-- src/lib.rt:1716:9
 cd-word-requires : (t : ℕ) → cd-lts.Need-word-requires (
   word-reads.Asked,
   word-reads.Learnt,
@@ -2800,7 +3128,7 @@ cd-word-requires : (t : ℕ) → cd-lts.Need-word-requires (
 ) (cd-at t) cd.Post cd-Inv-loop cd-μ-loop
 cd-word-requires t c κs = search needs
 
--- src/lib.rt:1741:27
+-- src/lib.rt:1717:27
 cd-list-requires : (t : ℕ) → cd-lts.Need-list-requires (
   word-reads.Asked,
   word-reads.Learnt,
@@ -2815,7 +3143,7 @@ cd-list-requires : (t : ℕ) → cd-lts.Need-list-requires (
 ) (cd-at t) cd.Post cd-Inv-loop cd-μ-loop
 cd-list-requires t c κs = search needs
 
--- src/lib.rt:1741:18
+-- src/lib.rt:1717:18
 cd-enum-known-n : (t : ℕ) → cd-lts.Need-enum-known-n (
   word-reads.Asked,
   word-reads.Learnt,
@@ -2830,7 +3158,7 @@ cd-enum-known-n : (t : ℕ) → cd-lts.Need-enum-known-n (
 ) (cd-at t) cd.Post cd-Inv-loop cd-μ-loop
 cd-enum-known-n t c = search needs
 
--- src/lib.rt:1742:9
+-- src/lib.rt:1718:9
 cd-enum-told : (t : ℕ) → cd-lts.Need-enum-told (
   word-reads.Asked,
   word-reads.Learnt,
@@ -2845,7 +3173,7 @@ cd-enum-told : (t : ℕ) → cd-lts.Need-enum-told (
 ) (cd-at t) cd.Post cd-Inv-loop cd-μ-loop
 cd-enum-told t c = search needs
 
--- src/lib.rt:1742:9
+-- src/lib.rt:1718:9
 cd-stop-requires : (t : ℕ) → cd-lts.Need-stop-requires (
   word-reads.Asked,
   word-reads.Learnt,
@@ -2860,7 +3188,7 @@ cd-stop-requires : (t : ℕ) → cd-lts.Need-stop-requires (
 ) (cd-at t) cd.Post cd-Inv-loop cd-μ-loop
 cd-stop-requires t c κs = search needs
 
--- src/lib.rt:1742:9
+-- src/lib.rt:1718:9
 cd-same-length : (t : ℕ) → cd-lts.Need-same-length (
   word-reads.Asked,
   word-reads.Learnt,
@@ -2875,7 +3203,7 @@ cd-same-length : (t : ℕ) → cd-lts.Need-same-length (
 ) (cd-at t) cd.Post cd-Inv-loop cd-μ-loop
 cd-same-length t c = c .before .before .before .before .before .before .word .kept .1 .0
 
--- src/lib.rt:1742:9
+-- src/lib.rt:1718:9
 cd-returns : (t : ℕ) → cd-lts.Need-returns (
   word-reads.Asked,
   word-reads.Learnt,
@@ -2888,10 +3216,10 @@ cd-returns : (t : ℕ) → cd-lts.Need-returns (
   cb-below t,
   cb.Post,
 ) (cd-at t) cd.Post cd-Inv-loop cd-μ-loop
-unfolding DecOne.FunctorDec Helpers.sep-with-lines
+unfolding DecOne.dec-one Helpers.sep-with-lines
 cd-returns t c = record { is = then-sure (c .before .before .before .before .before .before .word .ensures) (list-not (c .stop .ensures) (c .before .before .before .list .ensures) (c .before .enum-told .given .1)) }
 
--- src/lib.rt:1746:5
+-- src/lib.rt:1722:5
 cd-loop-holds : (t : ℕ) → cd-lts.Need-loop-holds (
   word-reads.Asked,
   word-reads.Learnt,
@@ -2906,7 +3234,7 @@ cd-loop-holds : (t : ℕ) → cd-lts.Need-loop-holds (
 ) (cd-at t) cd.Post cd-Inv-loop cd-μ-loop
 cd-loop-holds t c = (omega arith, λ r o m h. h, refl)
 
--- src/lib.rt:1747:13
+-- src/lib.rt:1723:13
 cd-new-line-requires : (t : ℕ) → cd-lts.Need-new-line-requires (
   word-reads.Asked,
   word-reads.Learnt,
@@ -2921,7 +3249,7 @@ cd-new-line-requires : (t : ℕ) → cd-lts.Need-new-line-requires (
 ) (cd-at t) cd.Post cd-Inv-loop cd-μ-loop
 cd-new-line-requires t c κs = search needs
 
--- src/lib.rt:1748:13
+-- src/lib.rt:1724:13
 cd-cb-requires : (t : ℕ) → cd-lts.Need-cb-requires (
   word-reads.Asked,
   word-reads.Learnt,
@@ -2936,7 +3264,7 @@ cd-cb-requires : (t : ℕ) → cd-lts.Need-cb-requires (
 ) (cd-at t) cd.Post cd-Inv-loop cd-μ-loop
 cd-cb-requires t c κs = omega (arith, c .before .before .before .before .before .before .before .before .before .before .before .before .before .before .before .before .before .before .before .before .before .before .pre .0, c .before .before .before .before .before .before .before .before .before .before .before .before .before .before .before .before .before .before .before .before .before .before .pre .1)
 
--- src/lib.rt:1749:26
+-- src/lib.rt:1725:26
 cd-enum-known-r4 : (t : ℕ) → cd-lts.Need-enum-known-r4 (
   word-reads.Asked,
   word-reads.Learnt,
@@ -2951,7 +3279,7 @@ cd-enum-known-r4 : (t : ℕ) → cd-lts.Need-enum-known-r4 (
 ) (cd-at t) cd.Post cd-Inv-loop cd-μ-loop
 cd-enum-known-r4 t c = search needs
 
--- src/lib.rt:1750:13
+-- src/lib.rt:1726:13
 cd-enum-told-2 : (t : ℕ) → cd-lts.Need-enum-told-2 (
   word-reads.Asked,
   word-reads.Learnt,
@@ -2966,7 +3294,7 @@ cd-enum-told-2 : (t : ℕ) → cd-lts.Need-enum-told-2 (
 ) (cd-at t) cd.Post cd-Inv-loop cd-μ-loop
 cd-enum-told-2 t c = search needs
 
--- src/lib.rt:1750:13
+-- src/lib.rt:1726:13
 cd-same-length-2 : (t : ℕ) → cd-lts.Need-same-length-2 (
   word-reads.Asked,
   word-reads.Learnt,
@@ -2981,7 +3309,7 @@ cd-same-length-2 : (t : ℕ) → cd-lts.Need-same-length-2 (
 ) (cd-at t) cd.Post cd-Inv-loop cd-μ-loop
 cd-same-length-2 t c = c .before .before .before .before .cb .kept .1 .1 .1 .1 .1 .0 ∙ c .before .before .before .before .before .before .before .before .before .new-line .kept .1 .0 ∙ c .before .before .before .before .before .before .before .before .before .before .before .before .loop .inv .2 ∙ c .before .before .before .before .before .before .before .before .before .before .before .before .before .before .before .before .before .before .before .word .kept .1 .0
 
--- src/lib.rt:1750:13
+-- src/lib.rt:1726:13
 cd-returns-2 : (t : ℕ) → cd-lts.Need-returns-2 (
   word-reads.Asked,
   word-reads.Learnt,
@@ -2994,10 +3322,10 @@ cd-returns-2 : (t : ℕ) → cd-lts.Need-returns-2 (
   cb-below t,
   cb.Post,
 ) (cd-at t) cd.Post cd-Inv-loop cd-μ-loop
-unfolding DecOne.FunctorDec Helpers.sep-with-lines
+unfolding DecOne.dec-one Helpers.sep-with-lines
 cd-returns-2 t c = record { is = then-sure (c .before .before .before .before .before .before .before .before .before .before .before .before .before .before .before .before .before .before .before .word .ensures) (by-same (list-is (c .before .before .before .before .before .before .before .before .before .before .before .before .before .before .before .before .list .ensures) (c .before .before .before .before .before .before .before .before .before .before .before .before .before .before .n .given .1)) (by-same (items-all _ _ _) (c .before .before .before .before .before .before .before .before .before .before .before .before .loop .inv .1 _ _ _ (from-more _ _ (c .before .before .before .before .before .before .before .before .before .before .before .loop-test .taken) (then-sure (c .before .before .before .before .before .before .before .before .before .new-line .ensures) (then-stop (c .before .before .before .before .cb .ensures .is) (c .enum-told2 .given .1))))))) }
 
--- src/lib.rt:1753:9
+-- src/lib.rt:1729:9
 cd-add-i : (t : ℕ) → cd-lts.Need-add-i (
   word-reads.Asked,
   word-reads.Learnt,
@@ -3012,7 +3340,7 @@ cd-add-i : (t : ℕ) → cd-lts.Need-add-i (
 ) (cd-at t) cd.Post cd-Inv-loop cd-μ-loop
 cd-add-i t c = omega (arith, c .before .before .before .before .before .before .before .before .before .before .before .before .loop-test .taken, c .before .before .before .before .before .before .before .before .before .before .before .before .before .before .known-told)
 
--- src/lib.rt:1746:5
+-- src/lib.rt:1722:5
 cd-loop-less : (t : ℕ) → cd-lts.Need-loop-less (
   word-reads.Asked,
   word-reads.Learnt,
@@ -3027,7 +3355,7 @@ cd-loop-less : (t : ℕ) → cd-lts.Need-loop-less (
 ) (cd-at t) cd.Post cd-Inv-loop cd-μ-loop
 cd-loop-less t c = omega arith
 
--- src/lib.rt:1746:5
+-- src/lib.rt:1722:5
 cd-loop-again : (t : ℕ) → cd-lts.Need-loop-again (
   word-reads.Asked,
   word-reads.Learnt,
@@ -3040,10 +3368,10 @@ cd-loop-again : (t : ℕ) → cd-lts.Need-loop-again (
   cb-below t,
   cb.Post,
 ) (cd-at t) cd.Post cd-Inv-loop cd-μ-loop
-unfolding DecOne.FunctorDec Helpers.sep-with-lines
+unfolding DecOne.dec-one Helpers.sep-with-lines
 cd-loop-again t c = (omega (arith, c .before .before .before .before .before .before .before .before .before .before .before .before .before .loop .inv .0), λ r o m h. c .before .before .before .before .before .before .before .before .before .before .before .before .before .loop .inv .1 r o m (from-more _ _ (c .before .before .before .before .before .before .before .before .before .before .before .before .loop-test .taken) (then-sure (c .before .before .before .before .before .before .before .before .before .before .new-line .ensures) (then-done (c .before .before .before .before .before .cb .ensures .is) (c .before .r4 .given .1) h))), c .before .before .before .before .before .cb .kept .1 .1 .1 .1 .1 .0 ∙ c .before .before .before .before .before .before .before .before .before .before .new-line .kept .1 .0 ∙ c .before .before .before .before .before .before .before .before .before .before .before .before .before .loop .inv .2)
 
--- src/lib.rt:1726:1
+-- src/lib.rt:1702:1
 cd-same-length-3 : (t : ℕ) → cd-lts.Need-same-length-3 (
   word-reads.Asked,
   word-reads.Learnt,
@@ -3058,7 +3386,7 @@ cd-same-length-3 : (t : ℕ) → cd-lts.Need-same-length-3 (
 ) (cd-at t) cd.Post cd-Inv-loop cd-μ-loop
 cd-same-length-3 t c = c .before .loop .inv .2 ∙ c .before .before .before .before .before .before .before .before .word .kept .1 .0
 
--- src/lib.rt:1726:1
+-- src/lib.rt:1702:1
 cd-returns-3 : (t : ℕ) → cd-lts.Need-returns-3 (
   word-reads.Asked,
   word-reads.Learnt,
@@ -3071,10 +3399,10 @@ cd-returns-3 : (t : ℕ) → cd-lts.Need-returns-3 (
   cb-below t,
   cb.Post,
 ) (cd-at t) cd.Post cd-Inv-loop cd-μ-loop
-unfolding DecOne.FunctorDec Helpers.sep-with-lines
+unfolding DecOne.dec-one Helpers.sep-with-lines
 cd-returns-3 t c = record { is = then-sure (c .before .before .before .before .before .before .before .before .word .ensures) (by-same (list-is (c .before .before .before .before .before .list .ensures) (c .before .before .before .n .given .1)) (by-same (items-all _ _ _) (c .before .loop .inv .1 _ _ _ (from-none _ _ (c .loop-test .left))))) }
 
--- src/lib.rt:1911:9
+-- src/lib.rt:1887:9
 da-word-requires : (t : ℕ) → da-lts.Need-word-requires (
   word-reads.Asked,
   word-reads.Learnt,
@@ -3087,7 +3415,7 @@ da-word-requires : (t : ℕ) → da-lts.Need-word-requires (
 ) (da-at t) da.Post
 da-word-requires t c κs = search needs
 
--- src/lib.rt:1912:9
+-- src/lib.rt:1888:9
 da-indent-deeper-requires : (t : ℕ) → da-lts.Need-indent-deeper-requires (
   word-reads.Asked,
   word-reads.Learnt,
@@ -3100,7 +3428,7 @@ da-indent-deeper-requires : (t : ℕ) → da-lts.Need-indent-deeper-requires (
 ) (da-at t) da.Post
 da-indent-deeper-requires t c κs = omega (arith, c .before .before .before .before .before .before .before .before .before .before .before .pre .1)
 
--- src/lib.rt:1913:9
+-- src/lib.rt:1889:9
 da-indented-requires : (t : ℕ) → da-lts.Need-indented-requires (
   word-reads.Asked,
   word-reads.Learnt,
@@ -3113,7 +3441,7 @@ da-indented-requires : (t : ℕ) → da-lts.Need-indented-requires (
 ) (da-at t) da.Post
 da-indented-requires t c κs = omega (arith, c .before .before .before .before .before .before .before .before .before .before .before .before .before .before .pre .1)
 
--- src/lib.rt:1914:9
+-- src/lib.rt:1890:9
 da-dec-requires : (t : ℕ) → da-lts.Need-dec-requires (
   word-reads.Asked,
   word-reads.Learnt,
@@ -3126,7 +3454,7 @@ da-dec-requires : (t : ℕ) → da-lts.Need-dec-requires (
 ) (da-at t) da.Post
 da-dec-requires t c κs = omega (arith, c .before .before .before .before .before .before .before .before .before .before .before .before .before .before .before .before .before .pre .0, c .before .before .before .before .before .before .before .before .before .before .before .before .before .before .before .before .before .pre .1, deep-depth (c .before .before .indented .ensures), deep-left (c .before .before .indented .ensures))
 
--- src/lib.rt:1915:22
+-- src/lib.rt:1891:22
 da-enum-known-r3 : (t : ℕ) → da-lts.Need-enum-known-r3 (
   word-reads.Asked,
   word-reads.Learnt,
@@ -3139,7 +3467,7 @@ da-enum-known-r3 : (t : ℕ) → da-lts.Need-enum-known-r3 (
 ) (da-at t) da.Post
 da-enum-known-r3 t c = search needs
 
--- src/lib.rt:1916:9
+-- src/lib.rt:1892:9
 da-enum-told : (t : ℕ) → da-lts.Need-enum-told (
   word-reads.Asked,
   word-reads.Learnt,
@@ -3152,7 +3480,7 @@ da-enum-told : (t : ℕ) → da-lts.Need-enum-told (
 ) (da-at t) da.Post
 da-enum-told t c = search needs
 
--- src/lib.rt:1916:9
+-- src/lib.rt:1892:9
 da-same-length : (t : ℕ) → da-lts.Need-same-length (
   word-reads.Asked,
   word-reads.Learnt,
@@ -3165,7 +3493,7 @@ da-same-length : (t : ℕ) → da-lts.Need-same-length (
 ) (da-at t) da.Post
 da-same-length t c = c .before .before .before .before .dec .kept .1 .1 .1 .1 .1 .0 ∙ c .before .before .before .before .before .before .before .before .before .before .indent-deeper .kept .0 ∙ c .before .before .before .before .before .before .before .before .before .before .before .before .before .before .word .kept .1 .0
 
--- src/lib.rt:1916:9
+-- src/lib.rt:1892:9
 da-returns : (t : ℕ) → da-lts.Need-returns (
   word-reads.Asked,
   word-reads.Learnt,
@@ -3176,10 +3504,10 @@ da-returns : (t : ℕ) → da-lts.Need-returns (
   dec-below t,
   dec.Post,
 ) (da-at t) da.Post
-unfolding GetDec.dec-arg Helpers.indented
+unfolding GetDec.dec-arg Helpers.indent-deeper Helpers.deepen
 da-returns t c = record { is = then-sure (c .before .before .before .before .before .before .before .before .before .before .before .before .before .before .word .ensures) (then-both (c .before .before .before .before .before .before .before .before .before .before .indent-deeper .ensures) (then-stop (along (c .before .before .before .before .before .before .before .indented .ensures) (c .before .before .before .before .dec .ensures)) (c .enum-told .given .1))) }
 
--- src/lib.rt:1918:18
+-- src/lib.rt:1894:18
 da-word-requires-2 : (t : ℕ) → da-lts.Need-word-requires-2 (
   word-reads.Asked,
   word-reads.Learnt,
@@ -3192,7 +3520,7 @@ da-word-requires-2 : (t : ℕ) → da-lts.Need-word-requires-2 (
 ) (da-at t) da.Post
 da-word-requires-2 t c κs = search needs
 
--- src/lib.rt:1897:1
+-- src/lib.rt:1873:1
 da-same-length-2 : (t : ℕ) → da-lts.Need-same-length-2 (
   word-reads.Asked,
   word-reads.Learnt,
@@ -3205,7 +3533,7 @@ da-same-length-2 : (t : ℕ) → da-lts.Need-same-length-2 (
 ) (da-at t) da.Post
 da-same-length-2 t c = c .before .before .word2 .kept .1 .0 ∙ c .before .before .before .before .before .before .before .before .before .dec .kept .1 .1 .1 .1 .1 .0 ∙ c .before .before .before .before .before .before .before .before .before .before .before .before .before .before .before .indent-deeper .kept .0 ∙ c .before .before .before .before .before .before .before .before .before .before .before .before .before .before .before .before .before .before .before .word .kept .1 .0
 
--- src/lib.rt:1897:1
+-- src/lib.rt:1873:1
 da-returns-2 : (t : ℕ) → da-lts.Need-returns-2 (
   word-reads.Asked,
   word-reads.Learnt,
@@ -3216,10 +3544,10 @@ da-returns-2 : (t : ℕ) → da-lts.Need-returns-2 (
   dec-below t,
   dec.Post,
 ) (da-at t) da.Post
-unfolding GetDec.dec-arg Helpers.indented
+unfolding GetDec.dec-arg Helpers.indent-deeper Helpers.deepen
 da-returns-2 t c = record { is = then-sure (c .before .before .before .before .before .before .before .before .before .before .before .before .before .before .before .before .before .before .before .word .ensures) (then-both (c .before .before .before .before .before .before .before .before .before .before .before .before .before .before .before .indent-deeper .ensures) (then-done (along (c .before .before .before .before .before .before .before .before .before .before .before .before .indented .ensures) (c .before .before .before .before .before .before .before .before .before .dec .ensures)) (c .before .before .before .before .before .r3 .given .1) (last-sure (c .before .before .word2 .ensures)))) }
 
--- src/lib.rt:1050:9
+-- src/lib.rt:1027:9
 dec-group-requires : (t : ℕ) → dec-lts.Need-group-requires (
   group-reads.Asked,
   group-reads.Learnt,
@@ -3232,7 +3560,7 @@ dec-group-requires : (t : ℕ) → dec-lts.Need-group-requires (
 ) (dec-at t) dec.Post
 dec-group-requires t c κs = search needs
 
--- src/lib.rt:1051:22
+-- src/lib.rt:1028:22
 dec-enum-known-r1 : (t : ℕ) → dec-lts.Need-enum-known-r1 (
   group-reads.Asked,
   group-reads.Learnt,
@@ -3245,7 +3573,7 @@ dec-enum-known-r1 : (t : ℕ) → dec-lts.Need-enum-known-r1 (
 ) (dec-at t) dec.Post
 dec-enum-known-r1 t c = search needs
 
--- src/lib.rt:1052:9
+-- src/lib.rt:1029:9
 dec-enum-told : (t : ℕ) → dec-lts.Need-enum-told (
   group-reads.Asked,
   group-reads.Learnt,
@@ -3258,7 +3586,7 @@ dec-enum-told : (t : ℕ) → dec-lts.Need-enum-told (
 ) (dec-at t) dec.Post
 dec-enum-told t c = search needs
 
--- src/lib.rt:1052:9
+-- src/lib.rt:1029:9
 dec-returns : (t : ℕ) → dec-lts.Need-returns (
   group-reads.Asked,
   group-reads.Learnt,
@@ -3272,7 +3600,7 @@ dec-returns : (t : ℕ) → dec-lts.Need-returns (
 unfolding GetDec.dec Helpers.semicolon
 dec-returns t c = record { is = then-stop (group-not (c .before .before .group .ensures) (c .enum-told .given .1)) (c .enum-told .given .1) }
 
--- src/lib.rt:1054:9
+-- src/lib.rt:1031:9
 dec-qs-requires : (t : ℕ) → dec-lts.Need-qs-requires (
   group-reads.Asked,
   group-reads.Learnt,
@@ -3285,7 +3613,7 @@ dec-qs-requires : (t : ℕ) → dec-lts.Need-qs-requires (
 ) (dec-at t) dec.Post
 dec-qs-requires t c κs = omega (arith, c .before .before .before .before .before .before .before .before .before .before .before .before .pre .0, c .before .before .before .before .before .before .before .before .before .before .before .before .pre .1)
 
--- src/lib.rt:1055:22
+-- src/lib.rt:1032:22
 dec-enum-known-r2 : (t : ℕ) → dec-lts.Need-enum-known-r2 (
   group-reads.Asked,
   group-reads.Learnt,
@@ -3298,7 +3626,7 @@ dec-enum-known-r2 : (t : ℕ) → dec-lts.Need-enum-known-r2 (
 ) (dec-at t) dec.Post
 dec-enum-known-r2 t c = search needs
 
--- src/lib.rt:1056:9
+-- src/lib.rt:1033:9
 dec-enum-told-2 : (t : ℕ) → dec-lts.Need-enum-told-2 (
   group-reads.Asked,
   group-reads.Learnt,
@@ -3311,7 +3639,7 @@ dec-enum-told-2 : (t : ℕ) → dec-lts.Need-enum-told-2 (
 ) (dec-at t) dec.Post
 dec-enum-told-2 t c = search needs
 
--- src/lib.rt:1056:9
+-- src/lib.rt:1033:9
 dec-same-length : (t : ℕ) → dec-lts.Need-same-length (
   group-reads.Asked,
   group-reads.Learnt,
@@ -3324,7 +3652,7 @@ dec-same-length : (t : ℕ) → dec-lts.Need-same-length (
 ) (dec-at t) dec.Post
 dec-same-length t c = c .before .before .before .before .qs .kept .1 .1 .1 .1 .1 .0
 
--- src/lib.rt:1056:9
+-- src/lib.rt:1033:9
 dec-returns-2 : (t : ℕ) → dec-lts.Need-returns-2 (
   group-reads.Asked,
   group-reads.Learnt,
@@ -3338,7 +3666,7 @@ dec-returns-2 : (t : ℕ) → dec-lts.Need-returns-2 (
 unfolding GetDec.dec Helpers.semicolon
 dec-returns-2 t c = record { is = by-same (first-same (group-is (c .before .before .before .before .before .before .before .before .before .before .group .ensures) (c .before .before .before .before .before .before .before .before .r1 .given .1))) (regroup (then-stop (c .before .before .before .before .qs .ensures .is) (c .enum-told2 .given .1))) }
 
--- src/lib.rt:1058:9
+-- src/lib.rt:1035:9
 dec-sharing-tails-requires : (t : ℕ) → dec-lts.Need-sharing-tails-requires (
   group-reads.Asked,
   group-reads.Learnt,
@@ -3351,7 +3679,7 @@ dec-sharing-tails-requires : (t : ℕ) → dec-lts.Need-sharing-tails-requires (
 ) (dec-at t) dec.Post
 dec-sharing-tails-requires t c κs = search needs
 
--- src/lib.rt:1059:22
+-- src/lib.rt:1036:22
 dec-enum-known-r3 : (t : ℕ) → dec-lts.Need-enum-known-r3 (
   group-reads.Asked,
   group-reads.Learnt,
@@ -3364,7 +3692,7 @@ dec-enum-known-r3 : (t : ℕ) → dec-lts.Need-enum-known-r3 (
 ) (dec-at t) dec.Post
 dec-enum-known-r3 t c = search needs
 
--- src/lib.rt:1060:9
+-- src/lib.rt:1037:9
 dec-enum-told-3 : (t : ℕ) → dec-lts.Need-enum-told-3 (
   group-reads.Asked,
   group-reads.Learnt,
@@ -3377,7 +3705,7 @@ dec-enum-told-3 : (t : ℕ) → dec-lts.Need-enum-told-3 (
 ) (dec-at t) dec.Post
 dec-enum-told-3 t c = search needs
 
--- src/lib.rt:1060:9
+-- src/lib.rt:1037:9
 dec-same-length-2 : (t : ℕ) → dec-lts.Need-same-length-2 (
   group-reads.Asked,
   group-reads.Learnt,
@@ -3390,7 +3718,7 @@ dec-same-length-2 : (t : ℕ) → dec-lts.Need-same-length-2 (
 ) (dec-at t) dec.Post
 dec-same-length-2 t c = c .before .before .before .before .sharing-tails .kept .1 .1 .1 .1 .0 ∙ c .before .before .before .before .before .before .before .before .before .before .before .qs .kept .1 .1 .1 .1 .1 .0
 
--- src/lib.rt:1060:9
+-- src/lib.rt:1037:9
 dec-returns-3 : (t : ℕ) → dec-lts.Need-returns-3 (
   group-reads.Asked,
   group-reads.Learnt,
@@ -3404,7 +3732,7 @@ dec-returns-3 : (t : ℕ) → dec-lts.Need-returns-3 (
 unfolding GetDec.dec Helpers.semicolon
 dec-returns-3 t c = record { is = by-same (first-same (group-is (c .before .before .before .before .before .before .before .before .before .before .before .before .before .before .before .before .before .group .ensures) (c .before .before .before .before .before .before .before .before .before .before .before .before .before .before .before .r1 .given .1))) (regroup (then-done (c .before .before .before .before .before .before .before .before .before .before .before .qs .ensures .is) (c .before .before .before .before .before .before .before .r2 .given .1) (then-stop (plain (c .before .before .before .before .sharing-tails .ensures)) (c .enum-told3 .given .1)))) }
 
--- src/lib.rt:1062:5
+-- src/lib.rt:1039:5
 dec-word-if-requires : (t : ℕ) → dec-lts.Need-word-if-requires (
   group-reads.Asked,
   group-reads.Learnt,
@@ -3417,7 +3745,7 @@ dec-word-if-requires : (t : ℕ) → dec-lts.Need-word-if-requires (
 ) (dec-at t) dec.Post
 dec-word-if-requires t c κs = search needs
 
--- src/lib.rt:1036:1
+-- src/lib.rt:1013:1
 dec-same-length-3 : (t : ℕ) → dec-lts.Need-same-length-3 (
   group-reads.Asked,
   group-reads.Learnt,
@@ -3430,7 +3758,7 @@ dec-same-length-3 : (t : ℕ) → dec-lts.Need-same-length-3 (
 ) (dec-at t) dec.Post
 dec-same-length-3 t c = c .before .before .word-if .kept .1 .1 .1 .1 .0 ∙ c .before .before .before .before .before .before .before .before .before .sharing-tails .kept .1 .1 .1 .1 .0 ∙ c .before .before .before .before .before .before .before .before .before .before .before .before .before .before .before .before .qs .kept .1 .1 .1 .1 .1 .0
 
--- src/lib.rt:1036:1
+-- src/lib.rt:1013:1
 dec-returns-4 : (t : ℕ) → dec-lts.Need-returns-4 (
   group-reads.Asked,
   group-reads.Learnt,
@@ -3444,7 +3772,7 @@ dec-returns-4 : (t : ℕ) → dec-lts.Need-returns-4 (
 unfolding GetDec.dec Helpers.semicolon
 dec-returns-4 t c = record { is = by-same (first-same (group-is (c .before .before .before .before .before .before .before .before .before .before .before .before .before .before .before .before .before .before .before .before .before .before .group .ensures) (c .before .before .before .before .before .before .before .before .before .before .before .before .before .before .before .before .before .before .before .before .r1 .given .1))) (regroup (then-done (c .before .before .before .before .before .before .before .before .before .before .before .before .before .before .before .before .qs .ensures .is) (c .before .before .before .before .before .before .before .before .before .before .before .before .r2 .given .1) (then-done (plain (c .before .before .before .before .before .before .before .before .before .sharing-tails .ensures)) (c .before .before .before .before .before .r3 .given .1) (plain (c .before .before .word-if .ensures))))) }
 
--- src/lib.rt:798:9
+-- src/lib.rt:816:9
 dp-indent-deeper-requires : (t : ℕ) → dp-lts.Need-indent-deeper-requires (
   indent-deeper-reads.Asked,
   indent-deeper-reads.Learnt,
@@ -3455,7 +3783,7 @@ dp-indent-deeper-requires : (t : ℕ) → dp-lts.Need-indent-deeper-requires (
 ) (dp-at t) dp.Post
 dp-indent-deeper-requires t c κs = omega (arith, c .before .before .before .before .before .before .before .pre .1)
 
--- src/lib.rt:799:9
+-- src/lib.rt:817:9
 dp-indented-requires : (t : ℕ) → dp-lts.Need-indented-requires (
   indent-deeper-reads.Asked,
   indent-deeper-reads.Learnt,
@@ -3466,7 +3794,7 @@ dp-indented-requires : (t : ℕ) → dp-lts.Need-indented-requires (
 ) (dp-at t) dp.Post
 dp-indented-requires t c κs = omega (arith, c .before .before .before .before .before .before .before .before .before .before .pre .1)
 
--- src/lib.rt:800:5
+-- src/lib.rt:818:5
 dp-exp-requires : (t : ℕ) → dp-lts.Need-exp-requires (
   indent-deeper-reads.Asked,
   indent-deeper-reads.Learnt,
@@ -3477,7 +3805,7 @@ dp-exp-requires : (t : ℕ) → dp-lts.Need-exp-requires (
 ) (dp-at t) dp.Post
 dp-exp-requires t c κs = omega (arith, c .before .before .before .before .before .before .before .before .before .before .before .before .before .pre .0, c .before .before .before .before .before .before .before .before .before .before .before .before .before .pre .1, deep-depth (c .before .before .indented .ensures), deep-left (c .before .before .indented .ensures))
 
--- src/lib.rt:784:1
+-- src/lib.rt:802:1
 dp-same-length : (t : ℕ) → dp-lts.Need-same-length (
   indent-deeper-reads.Asked,
   indent-deeper-reads.Learnt,
@@ -3488,7 +3816,7 @@ dp-same-length : (t : ℕ) → dp-lts.Need-same-length (
 ) (dp-at t) dp.Post
 dp-same-length t c = c .before .before .exp .kept .1 .1 .1 .1 .1 .0 ∙ c .before .before .before .before .before .before .before .before .indent-deeper .kept .0
 
--- src/lib.rt:784:1
+-- src/lib.rt:802:1
 dp-returns : (t : ℕ) → dp-lts.Need-returns (
   indent-deeper-reads.Asked,
   indent-deeper-reads.Learnt,
@@ -3497,7 +3825,7 @@ dp-returns : (t : ℕ) → dp-lts.Need-returns (
   exp-below t,
   exp.Post,
 ) (dp-at t) dp.Post
-unfolding Helpers.indented
+unfolding Exp.indented-levels Helpers.indent-deeper Helpers.deepen
 dp-returns t c = record { is = then-both (c .before .before .before .before .before .before .before .before .indent-deeper .ensures) (along (c .before .before .before .before .before .indented .ensures) (c .before .before .exp .ensures)) }
 
 abbrev ds-Inv-loop : ds-lts.InvT-loop
@@ -3507,7 +3835,7 @@ ds-Inv-loop text rec kinds starts lens out₀ left₀ cfg n s₀ i₀ out left s
 abbrev ds-μ-loop : ds-lts.MeasureT-loop
 ds-μ-loop text rec kinds starts lens out₀ left₀ cfg n s₀ i₀ out left s i = n - i
 
--- src/lib.rt:1014:27
+-- src/lib.rt:991:27
 ds-list-requires : (t : ℕ) → ds-lts.Need-list-requires (
   list-reads.Asked,
   list-reads.Learnt,
@@ -3522,7 +3850,7 @@ ds-list-requires : (t : ℕ) → ds-lts.Need-list-requires (
 ) (ds-at t) ds.Post ds-Inv-loop ds-μ-loop
 ds-list-requires t c κs = search needs
 
--- src/lib.rt:1014:18
+-- src/lib.rt:991:18
 ds-enum-known-n : (t : ℕ) → ds-lts.Need-enum-known-n (
   list-reads.Asked,
   list-reads.Learnt,
@@ -3537,7 +3865,7 @@ ds-enum-known-n : (t : ℕ) → ds-lts.Need-enum-known-n (
 ) (ds-at t) ds.Post ds-Inv-loop ds-μ-loop
 ds-enum-known-n t c = search needs
 
--- src/lib.rt:1015:9
+-- src/lib.rt:992:9
 ds-enum-told : (t : ℕ) → ds-lts.Need-enum-told (
   list-reads.Asked,
   list-reads.Learnt,
@@ -3552,7 +3880,7 @@ ds-enum-told : (t : ℕ) → ds-lts.Need-enum-told (
 ) (ds-at t) ds.Post ds-Inv-loop ds-μ-loop
 ds-enum-told t c = search needs
 
--- src/lib.rt:1015:9
+-- src/lib.rt:992:9
 ds-stop-requires : (t : ℕ) → ds-lts.Need-stop-requires (
   list-reads.Asked,
   list-reads.Learnt,
@@ -3567,7 +3895,7 @@ ds-stop-requires : (t : ℕ) → ds-lts.Need-stop-requires (
 ) (ds-at t) ds.Post ds-Inv-loop ds-μ-loop
 ds-stop-requires t c κs = search needs
 
--- src/lib.rt:1015:9
+-- src/lib.rt:992:9
 ds-returns : (t : ℕ) → ds-lts.Need-returns (
   list-reads.Asked,
   list-reads.Learnt,
@@ -3583,7 +3911,7 @@ ds-returns : (t : ℕ) → ds-lts.Need-returns (
 unfolding GetDec.get-dec Helpers.sep-with-lines
 ds-returns t c = record { is = list-not (c .stop .ensures) (c .before .before .before .list .ensures) (c .before .enum-told .given .1) }
 
--- src/lib.rt:1019:5
+-- src/lib.rt:996:5
 ds-loop-holds : (t : ℕ) → ds-lts.Need-loop-holds (
   list-reads.Asked,
   list-reads.Learnt,
@@ -3598,7 +3926,7 @@ ds-loop-holds : (t : ℕ) → ds-lts.Need-loop-holds (
 ) (ds-at t) ds.Post ds-Inv-loop ds-μ-loop
 ds-loop-holds t c = (omega arith, λ r o m h. h, refl)
 
--- src/lib.rt:1020:13
+-- src/lib.rt:997:13
 ds-new-line-requires : (t : ℕ) → ds-lts.Need-new-line-requires (
   list-reads.Asked,
   list-reads.Learnt,
@@ -3613,7 +3941,7 @@ ds-new-line-requires : (t : ℕ) → ds-lts.Need-new-line-requires (
 ) (ds-at t) ds.Post ds-Inv-loop ds-μ-loop
 ds-new-line-requires t c κs = search needs
 
--- src/lib.rt:1021:13
+-- src/lib.rt:998:13
 ds-group-requires : (t : ℕ) → ds-lts.Need-group-requires (
   list-reads.Asked,
   list-reads.Learnt,
@@ -3628,7 +3956,7 @@ ds-group-requires : (t : ℕ) → ds-lts.Need-group-requires (
 ) (ds-at t) ds.Post ds-Inv-loop ds-μ-loop
 ds-group-requires t c κs = search needs
 
--- src/lib.rt:1022:26
+-- src/lib.rt:999:26
 ds-enum-known-r2 : (t : ℕ) → ds-lts.Need-enum-known-r2 (
   list-reads.Asked,
   list-reads.Learnt,
@@ -3643,7 +3971,7 @@ ds-enum-known-r2 : (t : ℕ) → ds-lts.Need-enum-known-r2 (
 ) (ds-at t) ds.Post ds-Inv-loop ds-μ-loop
 ds-enum-known-r2 t c = search needs
 
--- src/lib.rt:1023:13
+-- src/lib.rt:1000:13
 ds-enum-told-2 : (t : ℕ) → ds-lts.Need-enum-told-2 (
   list-reads.Asked,
   list-reads.Learnt,
@@ -3658,7 +3986,7 @@ ds-enum-told-2 : (t : ℕ) → ds-lts.Need-enum-told-2 (
 ) (ds-at t) ds.Post ds-Inv-loop ds-μ-loop
 ds-enum-told-2 t c = search needs
 
--- src/lib.rt:1023:13
+-- src/lib.rt:1000:13
 ds-same-length : (t : ℕ) → ds-lts.Need-same-length (
   list-reads.Asked,
   list-reads.Learnt,
@@ -3673,7 +4001,7 @@ ds-same-length : (t : ℕ) → ds-lts.Need-same-length (
 ) (ds-at t) ds.Post ds-Inv-loop ds-μ-loop
 ds-same-length t c = c .before .before .before .before .before .new-line .kept .1 .0 ∙ c .before .before .before .before .before .before .before .before .loop .inv .2
 
--- src/lib.rt:1023:13
+-- src/lib.rt:1000:13
 ds-returns-2 : (t : ℕ) → ds-lts.Need-returns-2 (
   list-reads.Asked,
   list-reads.Learnt,
@@ -3689,7 +4017,7 @@ ds-returns-2 : (t : ℕ) → ds-lts.Need-returns-2 (
 unfolding GetDec.get-dec Helpers.sep-with-lines
 ds-returns-2 t c = record { is = by-same (list-is (c .before .before .before .before .before .before .before .before .before .before .before .before .list .ensures) (c .before .before .before .before .before .before .before .before .before .before .n .given .1)) (by-same (items-all _ _ _) (c .before .before .before .before .before .before .before .before .loop .inv .1 _ _ _ (from-more _ _ (c .before .before .before .before .before .before .before .loop-test .taken) (then-sure (c .before .before .before .before .before .new-line .ensures) (then-stop (group-not (c .before .before .group .ensures) (c .enum-told2 .given .1)) (c .enum-told2 .given .1)))))) }
 
--- src/lib.rt:1025:13
+-- src/lib.rt:1002:13
 ds-dec-requires : (t : ℕ) → ds-lts.Need-dec-requires (
   list-reads.Asked,
   list-reads.Learnt,
@@ -3704,7 +4032,7 @@ ds-dec-requires : (t : ℕ) → ds-lts.Need-dec-requires (
 ) (ds-at t) ds.Post ds-Inv-loop ds-μ-loop
 ds-dec-requires t c κs = omega (arith, c .before .before .before .before .before .before .before .before .before .before .before .before .before .before .before .before .before .before .before .before .before .before .pre .0, c .before .before .before .before .before .before .before .before .before .before .before .before .before .before .before .before .before .before .before .before .before .before .pre .1)
 
--- src/lib.rt:1026:26
+-- src/lib.rt:1003:26
 ds-enum-known-r3 : (t : ℕ) → ds-lts.Need-enum-known-r3 (
   list-reads.Asked,
   list-reads.Learnt,
@@ -3719,7 +4047,7 @@ ds-enum-known-r3 : (t : ℕ) → ds-lts.Need-enum-known-r3 (
 ) (ds-at t) ds.Post ds-Inv-loop ds-μ-loop
 ds-enum-known-r3 t c = search needs
 
--- src/lib.rt:1027:13
+-- src/lib.rt:1004:13
 ds-enum-told-3 : (t : ℕ) → ds-lts.Need-enum-told-3 (
   list-reads.Asked,
   list-reads.Learnt,
@@ -3734,7 +4062,7 @@ ds-enum-told-3 : (t : ℕ) → ds-lts.Need-enum-told-3 (
 ) (ds-at t) ds.Post ds-Inv-loop ds-μ-loop
 ds-enum-told-3 t c = search needs
 
--- src/lib.rt:1027:13
+-- src/lib.rt:1004:13
 ds-same-length-2 : (t : ℕ) → ds-lts.Need-same-length-2 (
   list-reads.Asked,
   list-reads.Learnt,
@@ -3749,7 +4077,7 @@ ds-same-length-2 : (t : ℕ) → ds-lts.Need-same-length-2 (
 ) (ds-at t) ds.Post ds-Inv-loop ds-μ-loop
 ds-same-length-2 t c = c .before .before .before .before .dec .kept .1 .1 .1 .1 .1 .0 ∙ c .before .before .before .before .before .before .before .before .before .before .before .before .before .new-line .kept .1 .0 ∙ c .before .before .before .before .before .before .before .before .before .before .before .before .before .before .before .before .loop .inv .2
 
--- src/lib.rt:1027:13
+-- src/lib.rt:1004:13
 ds-returns-3 : (t : ℕ) → ds-lts.Need-returns-3 (
   list-reads.Asked,
   list-reads.Learnt,
@@ -3765,7 +4093,7 @@ ds-returns-3 : (t : ℕ) → ds-lts.Need-returns-3 (
 unfolding GetDec.get-dec Helpers.sep-with-lines
 ds-returns-3 t c = record { is = by-same (list-is (c .before .before .before .before .before .before .before .before .before .before .before .before .before .before .before .before .before .before .before .before .list .ensures) (c .before .before .before .before .before .before .before .before .before .before .before .before .before .before .before .before .before .before .n .given .1)) (by-same (items-all _ _ _) (c .before .before .before .before .before .before .before .before .before .before .before .before .before .before .before .before .loop .inv .1 _ _ _ (from-more _ _ (c .before .before .before .before .before .before .before .before .before .before .before .before .before .before .before .loop-test .taken) (then-sure (c .before .before .before .before .before .before .before .before .before .before .before .before .before .new-line .ensures) (by-same (first-same (group-is (c .before .before .before .before .before .before .before .before .before .before .group .ensures) (c .before .before .before .before .before .before .before .before .r2 .given .1))) (then-stop (c .before .before .before .before .dec .ensures .is) (c .enum-told3 .given .1))))))) }
 
--- src/lib.rt:1030:9
+-- src/lib.rt:1007:9
 ds-add-i : (t : ℕ) → ds-lts.Need-add-i (
   list-reads.Asked,
   list-reads.Learnt,
@@ -3780,7 +4108,7 @@ ds-add-i : (t : ℕ) → ds-lts.Need-add-i (
 ) (ds-at t) ds.Post ds-Inv-loop ds-μ-loop
 ds-add-i t c = omega (arith, c .before .before .before .before .before .before .before .before .before .before .before .before .before .before .before .before .loop-test .taken, c .before .before .before .before .before .before .before .before .before .before .before .before .before .before .before .before .before .before .known-told)
 
--- src/lib.rt:1019:5
+-- src/lib.rt:996:5
 ds-loop-less : (t : ℕ) → ds-lts.Need-loop-less (
   list-reads.Asked,
   list-reads.Learnt,
@@ -3795,7 +4123,7 @@ ds-loop-less : (t : ℕ) → ds-lts.Need-loop-less (
 ) (ds-at t) ds.Post ds-Inv-loop ds-μ-loop
 ds-loop-less t c = omega arith
 
--- src/lib.rt:1019:5
+-- src/lib.rt:996:5
 ds-loop-again : (t : ℕ) → ds-lts.Need-loop-again (
   list-reads.Asked,
   list-reads.Learnt,
@@ -3811,7 +4139,7 @@ ds-loop-again : (t : ℕ) → ds-lts.Need-loop-again (
 unfolding GetDec.get-dec Helpers.sep-with-lines
 ds-loop-again t c = (omega (arith, c .before .before .before .before .before .before .before .before .before .before .before .before .before .before .before .before .before .loop .inv .0), λ r o m h. c .before .before .before .before .before .before .before .before .before .before .before .before .before .before .before .before .before .loop .inv .1 r o m (from-more _ _ (c .before .before .before .before .before .before .before .before .before .before .before .before .before .before .before .before .loop-test .taken) (then-sure (c .before .before .before .before .before .before .before .before .before .before .before .before .before .before .new-line .ensures) (by-same (first-same (group-is (c .before .before .before .before .before .before .before .before .before .before .before .group .ensures) (c .before .before .before .before .before .before .before .before .before .r2 .given .1))) (then-done (c .before .before .before .before .before .dec .ensures .is) (c .before .r3 .given .1) h)))), c .before .before .before .before .before .dec .kept .1 .1 .1 .1 .1 .0 ∙ c .before .before .before .before .before .before .before .before .before .before .before .before .before .before .new-line .kept .1 .0 ∙ c .before .before .before .before .before .before .before .before .before .before .before .before .before .before .before .before .before .loop .inv .2)
 
--- src/lib.rt:1000:1
+-- src/lib.rt:977:1
 ds-same-length-3 : (t : ℕ) → ds-lts.Need-same-length-3 (
   list-reads.Asked,
   list-reads.Learnt,
@@ -3826,7 +4154,7 @@ ds-same-length-3 : (t : ℕ) → ds-lts.Need-same-length-3 (
 ) (ds-at t) ds.Post ds-Inv-loop ds-μ-loop
 ds-same-length-3 t c = c .before .loop .inv .2
 
--- src/lib.rt:1000:1
+-- src/lib.rt:977:1
 ds-returns-4 : (t : ℕ) → ds-lts.Need-returns-4 (
   list-reads.Asked,
   list-reads.Learnt,
@@ -3842,7 +4170,7 @@ ds-returns-4 : (t : ℕ) → ds-lts.Need-returns-4 (
 unfolding GetDec.get-dec Helpers.sep-with-lines
 ds-returns-4 t c = record { is = by-same (list-is (c .before .before .before .before .before .list .ensures) (c .before .before .before .n .given .1)) (by-same (items-all _ _ _) (c .before .loop .inv .1 _ _ _ (from-none _ _ (c .loop-test .left)))) }
 
--- src/lib.rt:558:9
+-- src/lib.rt:570:9
 du-exp-requires : (t : ℕ) → du-lts.Need-exp-requires (
   exp-below t,
   exp.Post,
@@ -3851,7 +4179,7 @@ du-exp-requires : (t : ℕ) → du-lts.Need-exp-requires (
 ) (du-at t) du.Post
 du-exp-requires t c κs = omega (arith, c .before .before .before .before .before .before .before .before .pre .0, c .before .before .before .before .before .before .before .before .pre .1)
 
--- src/lib.rt:559:22
+-- src/lib.rt:571:22
 du-enum-known-r1 : (t : ℕ) → du-lts.Need-enum-known-r1 (
   exp-below t,
   exp.Post,
@@ -3860,7 +4188,7 @@ du-enum-known-r1 : (t : ℕ) → du-lts.Need-enum-known-r1 (
 ) (du-at t) du.Post
 du-enum-known-r1 t c = search needs
 
--- src/lib.rt:560:9
+-- src/lib.rt:572:9
 du-enum-told : (t : ℕ) → du-lts.Need-enum-told (
   exp-below t,
   exp.Post,
@@ -3869,7 +4197,7 @@ du-enum-told : (t : ℕ) → du-lts.Need-enum-told (
 ) (du-at t) du.Post
 du-enum-told t c = search needs
 
--- src/lib.rt:560:9
+-- src/lib.rt:572:9
 du-same-length : (t : ℕ) → du-lts.Need-same-length (
   exp-below t,
   exp.Post,
@@ -3878,7 +4206,7 @@ du-same-length : (t : ℕ) → du-lts.Need-same-length (
 ) (du-at t) du.Post
 du-same-length t c = c .before .before .before .before .exp .kept .1 .1 .1 .1 .1 .0
 
--- src/lib.rt:560:9
+-- src/lib.rt:572:9
 du-returns : (t : ℕ) → du-lts.Need-returns (
   exp-below t,
   exp.Post,
@@ -3887,7 +4215,7 @@ du-returns : (t : ℕ) → du-lts.Need-returns (
 ) (du-at t) du.Post
 du-returns t c = record { is = then-stop (c .before .before .before .before .exp .ensures .is) (c .enum-told .given .1) }
 
--- src/lib.rt:562:9
+-- src/lib.rt:574:9
 du-word-requires : (t : ℕ) → du-lts.Need-word-requires (
   exp-below t,
   exp.Post,
@@ -3896,7 +4224,7 @@ du-word-requires : (t : ℕ) → du-lts.Need-word-requires (
 ) (du-at t) du.Post
 du-word-requires t c κs = search needs
 
--- src/lib.rt:563:5
+-- src/lib.rt:575:5
 du-exp-requires-2 : (t : ℕ) → du-lts.Need-exp-requires-2 (
   exp-below t,
   exp.Post,
@@ -3905,7 +4233,7 @@ du-exp-requires-2 : (t : ℕ) → du-lts.Need-exp-requires-2 (
 ) (du-at t) du.Post
 du-exp-requires-2 t c κs = omega (arith, c .before .before .before .before .before .before .before .before .before .before .before .before .before .before .before .before .before .before .before .before .pre .0, c .before .before .before .before .before .before .before .before .before .before .before .before .before .before .before .before .before .before .before .before .pre .1)
 
--- src/lib.rt:543:1
+-- src/lib.rt:555:1
 du-same-length-2 : (t : ℕ) → du-lts.Need-same-length-2 (
   exp-below t,
   exp.Post,
@@ -3914,7 +4242,7 @@ du-same-length-2 : (t : ℕ) → du-lts.Need-same-length-2 (
 ) (du-at t) du.Post
 du-same-length-2 t c = c .before .before .exp2 .kept .1 .1 .1 .1 .1 .0 ∙ c .before .before .before .before .before .before .before .word .kept .1 .0 ∙ c .before .before .before .before .before .before .before .before .before .before .before .before .before .before .exp .kept .1 .1 .1 .1 .1 .0
 
--- src/lib.rt:543:1
+-- src/lib.rt:555:1
 du-returns-2 : (t : ℕ) → du-lts.Need-returns-2 (
   exp-below t,
   exp.Post,
@@ -3923,7 +4251,7 @@ du-returns-2 : (t : ℕ) → du-lts.Need-returns-2 (
 ) (du-at t) du.Post
 du-returns-2 t c = record { is = then-done (c .before .before .before .before .before .before .before .before .before .before .before .before .before .before .exp .ensures .is) (c .before .before .before .before .before .before .before .before .before .before .r1 .given .1) (then-sure (c .before .before .before .before .before .before .before .word .ensures) (c .before .before .exp2 .ensures .is)) }
 
--- src/lib.rt:889:9
+-- src/lib.rt:910:9
 exp-stop-requires : (t : ℕ) → exp-lts.Need-stop-requires (
   stop-reads.Asked,
   stop-reads.Learnt,
@@ -3972,7 +4300,7 @@ exp-stop-requires : (t : ℕ) → exp-lts.Need-stop-requires (
 ) (exp-at t) exp.Post
 exp-stop-requires t c κs = search needs
 
--- src/lib.rt:889:9
+-- src/lib.rt:910:9
 exp-returns : (t : ℕ) → exp-lts.Need-returns (
   stop-reads.Asked,
   stop-reads.Learnt,
@@ -4019,10 +4347,10 @@ exp-returns : (t : ℕ) → exp-lts.Need-returns (
   fe-below t,
   fe.Post,
 ) (exp-at t) exp.Post
-unfolding Exp.exps Exp.HoleExp Exp.WildcardExp Exp.OpAndalsoExp Exp.OpOrelseExp Exp.SConExp Exp.PathExp Exp.TupleExp Exp.ListExp Exp.AndalsoExp Exp.OrelseExp Exp.HandleExp Exp.RaiseExp
+unfolding Exp.exps Exp.exp
 exp-returns t c = record { is = exp-zero _ _ (c .before .if1 .taken) (c .stop .ensures) }
 
--- src/lib.rt:891:26
+-- src/lib.rt:912:26
 exp-form-requires : (t : ℕ) → exp-lts.Need-form-requires (
   stop-reads.Asked,
   stop-reads.Learnt,
@@ -4071,7 +4399,7 @@ exp-form-requires : (t : ℕ) → exp-lts.Need-form-requires (
 ) (exp-at t) exp.Post
 exp-form-requires t c κs = search needs
 
--- src/lib.rt:891:18
+-- src/lib.rt:912:18
 exp-enum-known-k : (t : ℕ) → exp-lts.Need-enum-known-k (
   stop-reads.Asked,
   stop-reads.Learnt,
@@ -4120,7 +4448,7 @@ exp-enum-known-k : (t : ℕ) → exp-lts.Need-enum-known-k (
 ) (exp-at t) exp.Post
 exp-enum-known-k t c = search needs
 
--- src/lib.rt:892:9
+-- src/lib.rt:913:9
 exp-enum-told : (t : ℕ) → exp-lts.Need-enum-told (
   stop-reads.Asked,
   stop-reads.Learnt,
@@ -4169,7 +4497,7 @@ exp-enum-told : (t : ℕ) → exp-lts.Need-enum-told (
 ) (exp-at t) exp.Post
 exp-enum-told t c = search needs
 
--- src/lib.rt:892:9
+-- src/lib.rt:913:9
 exp-stop-requires-2 : (t : ℕ) → exp-lts.Need-stop-requires-2 (
   stop-reads.Asked,
   stop-reads.Learnt,
@@ -4218,7 +4546,7 @@ exp-stop-requires-2 : (t : ℕ) → exp-lts.Need-stop-requires-2 (
 ) (exp-at t) exp.Post
 exp-stop-requires-2 t c κs = search needs
 
--- src/lib.rt:892:9
+-- src/lib.rt:913:9
 exp-returns-2 : (t : ℕ) → exp-lts.Need-returns-2 (
   stop-reads.Asked,
   stop-reads.Learnt,
@@ -4265,10 +4593,10 @@ exp-returns-2 : (t : ℕ) → exp-lts.Need-returns-2 (
   fe-below t,
   fe.Post,
 ) (exp-at t) exp.Post
-unfolding Exp.exps Exp.HoleExp Exp.WildcardExp Exp.OpAndalsoExp Exp.OpOrelseExp Exp.SConExp Exp.PathExp Exp.TupleExp Exp.ListExp Exp.AndalsoExp Exp.OrelseExp Exp.HandleExp Exp.RaiseExp
+unfolding Exp.exps Exp.exp
 exp-returns-2 t c = record { is = exp-form _ _ (c .before .before .before .before .if1 .left) (form-not (c .stop2 .ensures) (c .before .before .before .form .ensures) (c .before .enum-told .given .1)) }
 
--- src/lib.rt:898:15
+-- src/lib.rt:919:15
 exp-sub-t17 : (t : ℕ) → exp-lts.Need-sub-t17 (
   stop-reads.Asked,
   stop-reads.Learnt,
@@ -4317,7 +4645,7 @@ exp-sub-t17 : (t : ℕ) → exp-lts.Need-sub-t17 (
 ) (exp-at t) exp.Post
 exp-sub-t17 t c = search needs
 
--- src/lib.rt:901:27
+-- src/lib.rt:922:27
 exp-word-requires : (t : ℕ) → exp-lts.Need-word-requires (
   stop-reads.Asked,
   stop-reads.Learnt,
@@ -4366,7 +4694,7 @@ exp-word-requires : (t : ℕ) → exp-lts.Need-word-requires (
 ) (exp-at t) exp.Post
 exp-word-requires t c κs = search needs
 
--- src/lib.rt:902:27
+-- src/lib.rt:923:27
 exp-word-requires-2 : (t : ℕ) → exp-lts.Need-word-requires-2 (
   stop-reads.Asked,
   stop-reads.Learnt,
@@ -4415,7 +4743,7 @@ exp-word-requires-2 : (t : ℕ) → exp-lts.Need-word-requires-2 (
 ) (exp-at t) exp.Post
 exp-word-requires-2 t c κs = search needs
 
--- src/lib.rt:903:27
+-- src/lib.rt:924:27
 exp-word-requires-3 : (t : ℕ) → exp-lts.Need-word-requires-3 (
   stop-reads.Asked,
   stop-reads.Learnt,
@@ -4464,7 +4792,7 @@ exp-word-requires-3 : (t : ℕ) → exp-lts.Need-word-requires-3 (
 ) (exp-at t) exp.Post
 exp-word-requires-3 t c κs = search needs
 
--- src/lib.rt:904:27
+-- src/lib.rt:925:27
 exp-word-requires-4 : (t : ℕ) → exp-lts.Need-word-requires-4 (
   stop-reads.Asked,
   stop-reads.Learnt,
@@ -4513,7 +4841,7 @@ exp-word-requires-4 : (t : ℕ) → exp-lts.Need-word-requires-4 (
 ) (exp-at t) exp.Post
 exp-word-requires-4 t c κs = search needs
 
--- src/lib.rt:905:14
+-- src/lib.rt:926:14
 exp-text-of-requires : (t : ℕ) → exp-lts.Need-text-of-requires (
   stop-reads.Asked,
   stop-reads.Learnt,
@@ -4562,7 +4890,7 @@ exp-text-of-requires : (t : ℕ) → exp-lts.Need-text-of-requires (
 ) (exp-at t) exp.Post
 exp-text-of-requires t c κs = search needs
 
--- src/lib.rt:906:14
+-- src/lib.rt:927:14
 exp-op-path-requires : (t : ℕ) → exp-lts.Need-op-path-requires (
   stop-reads.Asked,
   stop-reads.Learnt,
@@ -4611,7 +4939,7 @@ exp-op-path-requires : (t : ℕ) → exp-lts.Need-op-path-requires (
 ) (exp-at t) exp.Post
 exp-op-path-requires t c κs = search needs
 
--- src/lib.rt:907:14
+-- src/lib.rt:928:14
 exp-rc-requires : (t : ℕ) → exp-lts.Need-rc-requires (
   stop-reads.Asked,
   stop-reads.Learnt,
@@ -4660,7 +4988,7 @@ exp-rc-requires : (t : ℕ) → exp-lts.Need-rc-requires (
 ) (exp-at t) exp.Post
 exp-rc-requires t c κs = omega (arith, c .before .before .before .before .before .before .before .before .before .before .before .before .before .before .pre .0, c .before .before .before .before .before .before .before .before .before .before .before .before .before .before .pre .1, c .before .before .before .before .before .before .before .if1 .left)
 
--- src/lib.rt:908:14
+-- src/lib.rt:929:14
 exp-selector-exp-requires : (t : ℕ) → exp-lts.Need-selector-exp-requires (
   stop-reads.Asked,
   stop-reads.Learnt,
@@ -4709,7 +5037,7 @@ exp-selector-exp-requires : (t : ℕ) → exp-lts.Need-selector-exp-requires (
 ) (exp-at t) exp.Post
 exp-selector-exp-requires t c κs = search needs
 
--- src/lib.rt:909:14
+-- src/lib.rt:930:14
 exp-pa-requires : (t : ℕ) → exp-lts.Need-pa-requires (
   stop-reads.Asked,
   stop-reads.Learnt,
@@ -4758,7 +5086,7 @@ exp-pa-requires : (t : ℕ) → exp-lts.Need-pa-requires (
 ) (exp-at t) exp.Post
 exp-pa-requires t c κs = omega (arith, c .before .before .before .before .before .before .before .before .before .before .before .before .before .before .pre .0, c .before .before .before .before .before .before .before .before .before .before .before .before .before .before .pre .1, c .before .before .before .before .before .before .before .if1 .left)
 
--- src/lib.rt:910:14
+-- src/lib.rt:931:14
 exp-br-requires : (t : ℕ) → exp-lts.Need-br-requires (
   stop-reads.Asked,
   stop-reads.Learnt,
@@ -4807,7 +5135,7 @@ exp-br-requires : (t : ℕ) → exp-lts.Need-br-requires (
 ) (exp-at t) exp.Post
 exp-br-requires t c κs = omega (arith, c .before .before .before .before .before .before .before .before .before .before .before .before .before .before .pre .0, c .before .before .before .before .before .before .before .before .before .before .before .before .before .before .pre .1, c .before .before .before .before .before .before .before .if1 .left)
 
--- src/lib.rt:923:15
+-- src/lib.rt:944:15
 exp-br-requires-2 : (t : ℕ) → exp-lts.Need-br-requires-2 (
   stop-reads.Asked,
   stop-reads.Learnt,
@@ -4856,7 +5184,7 @@ exp-br-requires-2 : (t : ℕ) → exp-lts.Need-br-requires-2 (
 ) (exp-at t) exp.Post
 exp-br-requires-2 t c κs = omega (arith, c .before .before .before .before .before .before .before .before .before .before .before .before .before .before .pre .0, c .before .before .before .before .before .before .before .before .before .before .before .before .before .before .pre .1, c .before .before .before .before .before .before .before .if1 .left)
 
--- src/lib.rt:936:15
+-- src/lib.rt:957:15
 exp-ve-requires : (t : ℕ) → exp-lts.Need-ve-requires (
   stop-reads.Asked,
   stop-reads.Learnt,
@@ -4905,7 +5233,7 @@ exp-ve-requires : (t : ℕ) → exp-lts.Need-ve-requires (
 ) (exp-at t) exp.Post
 exp-ve-requires t c κs = omega (arith, c .before .before .before .before .before .before .before .before .before .before .before .before .before .before .pre .0, c .before .before .before .before .before .before .before .before .before .before .before .before .before .before .pre .1, c .before .before .before .before .before .before .before .if1 .left)
 
--- src/lib.rt:937:15
+-- src/lib.rt:958:15
 exp-seq-requires : (t : ℕ) → exp-lts.Need-seq-requires (
   stop-reads.Asked,
   stop-reads.Learnt,
@@ -4954,7 +5282,7 @@ exp-seq-requires : (t : ℕ) → exp-lts.Need-seq-requires (
 ) (exp-at t) exp.Post
 exp-seq-requires t c κs = omega (arith, c .before .before .before .before .before .before .before .before .before .before .before .before .before .before .pre .0, c .before .before .before .before .before .before .before .before .before .before .before .before .before .before .pre .1, c .before .before .before .before .before .before .before .if1 .left)
 
--- src/lib.rt:938:15
+-- src/lib.rt:959:15
 exp-lx-requires : (t : ℕ) → exp-lts.Need-lx-requires (
   stop-reads.Asked,
   stop-reads.Learnt,
@@ -5003,7 +5331,7 @@ exp-lx-requires : (t : ℕ) → exp-lts.Need-lx-requires (
 ) (exp-at t) exp.Post
 exp-lx-requires t c κs = omega (arith, c .before .before .before .before .before .before .before .before .before .before .before .before .before .before .pre .0, c .before .before .before .before .before .before .before .before .before .before .before .before .before .before .pre .1, c .before .before .before .before .before .before .before .if1 .left)
 
--- src/lib.rt:939:15
+-- src/lib.rt:960:15
 exp-app-requires : (t : ℕ) → exp-lts.Need-app-requires (
   stop-reads.Asked,
   stop-reads.Learnt,
@@ -5052,7 +5380,7 @@ exp-app-requires : (t : ℕ) → exp-lts.Need-app-requires (
 ) (exp-at t) exp.Post
 exp-app-requires t c κs = omega (arith, c .before .before .before .before .before .before .before .before .before .before .before .before .before .before .pre .0, c .before .before .before .before .before .before .before .before .before .before .before .before .before .before .pre .1, c .before .before .before .before .before .before .before .if1 .left)
 
--- src/lib.rt:940:15
+-- src/lib.rt:961:15
 exp-fx-requires : (t : ℕ) → exp-lts.Need-fx-requires (
   stop-reads.Asked,
   stop-reads.Learnt,
@@ -5101,7 +5429,7 @@ exp-fx-requires : (t : ℕ) → exp-lts.Need-fx-requires (
 ) (exp-at t) exp.Post
 exp-fx-requires t c κs = omega (arith, c .before .before .before .before .before .before .before .before .before .before .before .before .before .before .pre .0, c .before .before .before .before .before .before .before .before .before .before .before .before .before .before .pre .1, c .before .before .before .before .before .before .before .if1 .left)
 
--- src/lib.rt:941:15
+-- src/lib.rt:962:15
 exp-ty-requires : (t : ℕ) → exp-lts.Need-ty-requires (
   stop-reads.Asked,
   stop-reads.Learnt,
@@ -5150,7 +5478,7 @@ exp-ty-requires : (t : ℕ) → exp-lts.Need-ty-requires (
 ) (exp-at t) exp.Post
 exp-ty-requires t c κs = omega (arith, c .before .before .before .before .before .before .before .before .before .before .before .before .before .before .pre .0, c .before .before .before .before .before .before .before .before .before .before .before .before .before .before .pre .1, c .before .before .before .before .before .before .before .if1 .left)
 
--- src/lib.rt:942:15
+-- src/lib.rt:963:15
 exp-du-requires : (t : ℕ) → exp-lts.Need-du-requires (
   stop-reads.Asked,
   stop-reads.Learnt,
@@ -5199,7 +5527,7 @@ exp-du-requires : (t : ℕ) → exp-lts.Need-du-requires (
 ) (exp-at t) exp.Post
 exp-du-requires t c κs = omega (arith, c .before .before .before .before .before .before .before .before .before .before .before .before .before .before .pre .0, c .before .before .before .before .before .before .before .before .before .before .before .before .before .before .pre .1, c .before .before .before .before .before .before .before .if1 .left)
 
--- src/lib.rt:954:15
+-- src/lib.rt:964:15
 exp-du-requires-2 : (t : ℕ) → exp-lts.Need-du-requires-2 (
   stop-reads.Asked,
   stop-reads.Learnt,
@@ -5248,7 +5576,7 @@ exp-du-requires-2 : (t : ℕ) → exp-lts.Need-du-requires-2 (
 ) (exp-at t) exp.Post
 exp-du-requires-2 t c κs = omega (arith, c .before .before .before .before .before .before .before .before .before .before .before .before .before .before .pre .0, c .before .before .before .before .before .before .before .before .before .before .before .before .before .before .pre .1, c .before .before .before .before .before .before .before .if1 .left)
 
--- src/lib.rt:966:15
+-- src/lib.rt:965:15
 exp-ha-requires : (t : ℕ) → exp-lts.Need-ha-requires (
   stop-reads.Asked,
   stop-reads.Learnt,
@@ -5297,7 +5625,7 @@ exp-ha-requires : (t : ℕ) → exp-lts.Need-ha-requires (
 ) (exp-at t) exp.Post
 exp-ha-requires t c κs = omega (arith, c .before .before .before .before .before .before .before .before .before .before .before .before .before .before .pre .0, c .before .before .before .before .before .before .before .before .before .before .before .before .before .before .pre .1, c .before .before .before .before .before .before .before .if1 .left)
 
--- src/lib.rt:978:15
+-- src/lib.rt:966:15
 exp-pr-requires : (t : ℕ) → exp-lts.Need-pr-requires (
   stop-reads.Asked,
   stop-reads.Learnt,
@@ -5346,7 +5674,7 @@ exp-pr-requires : (t : ℕ) → exp-lts.Need-pr-requires (
 ) (exp-at t) exp.Post
 exp-pr-requires t c κs = omega (arith, c .before .before .before .before .before .before .before .before .before .before .before .before .before .before .pre .0, c .before .before .before .before .before .before .before .before .before .before .before .before .before .before .pre .1, c .before .before .before .before .before .before .before .if1 .left)
 
--- src/lib.rt:990:15
+-- src/lib.rt:967:15
 exp-ie-requires : (t : ℕ) → exp-lts.Need-ie-requires (
   stop-reads.Asked,
   stop-reads.Learnt,
@@ -5395,7 +5723,7 @@ exp-ie-requires : (t : ℕ) → exp-lts.Need-ie-requires (
 ) (exp-at t) exp.Post
 exp-ie-requires t c κs = omega (arith, c .before .before .before .before .before .before .before .before .before .before .before .before .before .before .pre .0, c .before .before .before .before .before .before .before .before .before .before .before .before .before .before .pre .1, c .before .before .before .before .before .before .before .if1 .left)
 
--- src/lib.rt:991:15
+-- src/lib.rt:968:15
 exp-wh-requires : (t : ℕ) → exp-lts.Need-wh-requires (
   stop-reads.Asked,
   stop-reads.Learnt,
@@ -5444,7 +5772,7 @@ exp-wh-requires : (t : ℕ) → exp-lts.Need-wh-requires (
 ) (exp-at t) exp.Post
 exp-wh-requires t c κs = omega (arith, c .before .before .before .before .before .before .before .before .before .before .before .before .before .before .pre .0, c .before .before .before .before .before .before .before .before .before .before .before .before .before .before .pre .1, c .before .before .before .before .before .before .before .if1 .left)
 
--- src/lib.rt:992:15
+-- src/lib.rt:969:15
 exp-ca-requires : (t : ℕ) → exp-lts.Need-ca-requires (
   stop-reads.Asked,
   stop-reads.Learnt,
@@ -5493,7 +5821,7 @@ exp-ca-requires : (t : ℕ) → exp-lts.Need-ca-requires (
 ) (exp-at t) exp.Post
 exp-ca-requires t c κs = omega (arith, c .before .before .before .before .before .before .before .before .before .before .before .before .before .before .pre .0, c .before .before .before .before .before .before .before .before .before .before .before .before .before .before .pre .1, c .before .before .before .before .before .before .before .if1 .left)
 
--- src/lib.rt:993:15
+-- src/lib.rt:970:15
 exp-fe-requires : (t : ℕ) → exp-lts.Need-fe-requires (
   stop-reads.Asked,
   stop-reads.Learnt,
@@ -5542,7 +5870,7 @@ exp-fe-requires : (t : ℕ) → exp-lts.Need-fe-requires (
 ) (exp-at t) exp.Post
 exp-fe-requires t c κs = omega (arith, c .before .before .before .before .before .before .before .before .before .before .before .before .before .before .pre .0, c .before .before .before .before .before .before .before .before .before .before .before .before .before .before .pre .1, c .before .before .before .before .before .before .before .if1 .left)
 
--- src/lib.rt:994:14
+-- src/lib.rt:971:14
 exp-stop-requires-3 : (t : ℕ) → exp-lts.Need-stop-requires-3 (
   stop-reads.Asked,
   stop-reads.Learnt,
@@ -5591,7 +5919,7 @@ exp-stop-requires-3 : (t : ℕ) → exp-lts.Need-stop-requires-3 (
 ) (exp-at t) exp.Post
 exp-stop-requires-3 t c κs = search needs
 
--- src/lib.rt:873:1
+-- src/lib.rt:894:1
 exp-same-length : (t : ℕ) → exp-lts.Need-same-length (
   stop-reads.Asked,
   stop-reads.Learnt,
@@ -5640,7 +5968,7 @@ exp-same-length : (t : ℕ) → exp-lts.Need-same-length (
 ) (exp-at t) exp.Post
 exp-same-length t c = c .before .before .word .kept .1 .0
 
--- src/lib.rt:873:1
+-- src/lib.rt:894:1
 exp-returns-3 : (t : ℕ) → exp-lts.Need-returns-3 (
   stop-reads.Asked,
   stop-reads.Learnt,
@@ -5687,10 +6015,10 @@ exp-returns-3 : (t : ℕ) → exp-lts.Need-returns-3 (
   fe-below t,
   fe.Post,
 ) (exp-at t) exp.Post
-unfolding Exp.exps Exp.HoleExp Exp.WildcardExp Exp.OpAndalsoExp Exp.OpOrelseExp Exp.SConExp Exp.PathExp Exp.TupleExp Exp.ListExp Exp.AndalsoExp Exp.OrelseExp Exp.HandleExp Exp.RaiseExp
+unfolding Exp.exps Exp.exp
 exp-returns-3 t c = record { is = exp-form _ _ (c .before .before .before .before .before .before .before .before .before .if1 .left) (form-key (c .before .before .before .before .before .before .before .before .form .ensures) (c .before .before .before .before .before .before .k .given .1) (c .before .before .before .before .match2 .keys1) (last-sure (c .before .before .word .ensures))) }
 
--- src/lib.rt:873:1
+-- src/lib.rt:894:1
 exp-same-length-2 : (t : ℕ) → exp-lts.Need-same-length-2 (
   stop-reads.Asked,
   stop-reads.Learnt,
@@ -5739,7 +6067,7 @@ exp-same-length-2 : (t : ℕ) → exp-lts.Need-same-length-2 (
 ) (exp-at t) exp.Post
 exp-same-length-2 t c = c .before .before .word2 .kept .1 .0
 
--- src/lib.rt:873:1
+-- src/lib.rt:894:1
 exp-returns-4 : (t : ℕ) → exp-lts.Need-returns-4 (
   stop-reads.Asked,
   stop-reads.Learnt,
@@ -5786,10 +6114,10 @@ exp-returns-4 : (t : ℕ) → exp-lts.Need-returns-4 (
   fe-below t,
   fe.Post,
 ) (exp-at t) exp.Post
-unfolding Exp.exps Exp.HoleExp Exp.WildcardExp Exp.OpAndalsoExp Exp.OpOrelseExp Exp.SConExp Exp.PathExp Exp.TupleExp Exp.ListExp Exp.AndalsoExp Exp.OrelseExp Exp.HandleExp Exp.RaiseExp
+unfolding Exp.exps Exp.exp
 exp-returns-4 t c = record { is = exp-form _ _ (c .before .before .before .before .before .before .before .before .before .if1 .left) (form-key (c .before .before .before .before .before .before .before .before .form .ensures) (c .before .before .before .before .before .before .k .given .1) (c .before .before .before .before .match2 .keys2) (last-sure (c .before .before .word2 .ensures))) }
 
--- src/lib.rt:873:1
+-- src/lib.rt:894:1
 exp-same-length-3 : (t : ℕ) → exp-lts.Need-same-length-3 (
   stop-reads.Asked,
   stop-reads.Learnt,
@@ -5838,7 +6166,7 @@ exp-same-length-3 : (t : ℕ) → exp-lts.Need-same-length-3 (
 ) (exp-at t) exp.Post
 exp-same-length-3 t c = c .before .before .word3 .kept .1 .0
 
--- src/lib.rt:873:1
+-- src/lib.rt:894:1
 exp-returns-5 : (t : ℕ) → exp-lts.Need-returns-5 (
   stop-reads.Asked,
   stop-reads.Learnt,
@@ -5885,10 +6213,10 @@ exp-returns-5 : (t : ℕ) → exp-lts.Need-returns-5 (
   fe-below t,
   fe.Post,
 ) (exp-at t) exp.Post
-unfolding Exp.exps Exp.HoleExp Exp.WildcardExp Exp.OpAndalsoExp Exp.OpOrelseExp Exp.SConExp Exp.PathExp Exp.TupleExp Exp.ListExp Exp.AndalsoExp Exp.OrelseExp Exp.HandleExp Exp.RaiseExp
+unfolding Exp.exps Exp.exp
 exp-returns-5 t c = record { is = exp-form _ _ (c .before .before .before .before .before .before .before .before .before .if1 .left) (form-key (c .before .before .before .before .before .before .before .before .form .ensures) (c .before .before .before .before .before .before .k .given .1) (c .before .before .before .before .match2 .keys3) (last-sure (c .before .before .word3 .ensures))) }
 
--- src/lib.rt:873:1
+-- src/lib.rt:894:1
 exp-same-length-4 : (t : ℕ) → exp-lts.Need-same-length-4 (
   stop-reads.Asked,
   stop-reads.Learnt,
@@ -5937,7 +6265,7 @@ exp-same-length-4 : (t : ℕ) → exp-lts.Need-same-length-4 (
 ) (exp-at t) exp.Post
 exp-same-length-4 t c = c .before .before .word4 .kept .1 .0
 
--- src/lib.rt:873:1
+-- src/lib.rt:894:1
 exp-returns-6 : (t : ℕ) → exp-lts.Need-returns-6 (
   stop-reads.Asked,
   stop-reads.Learnt,
@@ -5984,10 +6312,10 @@ exp-returns-6 : (t : ℕ) → exp-lts.Need-returns-6 (
   fe-below t,
   fe.Post,
 ) (exp-at t) exp.Post
-unfolding Exp.exps Exp.HoleExp Exp.WildcardExp Exp.OpAndalsoExp Exp.OpOrelseExp Exp.SConExp Exp.PathExp Exp.TupleExp Exp.ListExp Exp.AndalsoExp Exp.OrelseExp Exp.HandleExp Exp.RaiseExp
+unfolding Exp.exps Exp.exp
 exp-returns-6 t c = record { is = exp-form _ _ (c .before .before .before .before .before .before .before .before .before .if1 .left) (form-key (c .before .before .before .before .before .before .before .before .form .ensures) (c .before .before .before .before .before .before .k .given .1) (c .before .before .before .before .match2 .keys4) (last-sure (c .before .before .word4 .ensures))) }
 
--- src/lib.rt:873:1
+-- src/lib.rt:894:1
 exp-same-length-5 : (t : ℕ) → exp-lts.Need-same-length-5 (
   stop-reads.Asked,
   stop-reads.Learnt,
@@ -6036,7 +6364,7 @@ exp-same-length-5 : (t : ℕ) → exp-lts.Need-same-length-5 (
 ) (exp-at t) exp.Post
 exp-same-length-5 t c = c .before .before .text-of .kept .1 .1 .1 .1 .0
 
--- src/lib.rt:873:1
+-- src/lib.rt:894:1
 exp-returns-7 : (t : ℕ) → exp-lts.Need-returns-7 (
   stop-reads.Asked,
   stop-reads.Learnt,
@@ -6083,10 +6411,10 @@ exp-returns-7 : (t : ℕ) → exp-lts.Need-returns-7 (
   fe-below t,
   fe.Post,
 ) (exp-at t) exp.Post
-unfolding Exp.exps Exp.HoleExp Exp.WildcardExp Exp.OpAndalsoExp Exp.OpOrelseExp Exp.SConExp Exp.PathExp Exp.TupleExp Exp.ListExp Exp.AndalsoExp Exp.OrelseExp Exp.HandleExp Exp.RaiseExp
+unfolding Exp.exps Exp.exp
 exp-returns-7 t c = record { is = exp-form _ _ (c .before .before .before .before .before .before .before .before .before .if1 .left) (form-key (c .before .before .before .before .before .before .before .before .form .ensures) (c .before .before .before .before .before .before .k .given .1) (c .before .before .before .before .match2 .keys5) (plain (c .before .before .text-of .ensures))) }
 
--- src/lib.rt:873:1
+-- src/lib.rt:894:1
 exp-same-length-6 : (t : ℕ) → exp-lts.Need-same-length-6 (
   stop-reads.Asked,
   stop-reads.Learnt,
@@ -6135,7 +6463,7 @@ exp-same-length-6 : (t : ℕ) → exp-lts.Need-same-length-6 (
 ) (exp-at t) exp.Post
 exp-same-length-6 t c = c .before .before .op-path .kept .1 .1 .1 .1 .0
 
--- src/lib.rt:873:1
+-- src/lib.rt:894:1
 exp-returns-8 : (t : ℕ) → exp-lts.Need-returns-8 (
   stop-reads.Asked,
   stop-reads.Learnt,
@@ -6182,10 +6510,10 @@ exp-returns-8 : (t : ℕ) → exp-lts.Need-returns-8 (
   fe-below t,
   fe.Post,
 ) (exp-at t) exp.Post
-unfolding Exp.exps Exp.HoleExp Exp.WildcardExp Exp.OpAndalsoExp Exp.OpOrelseExp Exp.SConExp Exp.PathExp Exp.TupleExp Exp.ListExp Exp.AndalsoExp Exp.OrelseExp Exp.HandleExp Exp.RaiseExp
+unfolding Exp.exps Exp.exp
 exp-returns-8 t c = record { is = exp-form _ _ (c .before .before .before .before .before .before .before .before .before .if1 .left) (form-key (c .before .before .before .before .before .before .before .before .form .ensures) (c .before .before .before .before .before .before .k .given .1) (c .before .before .before .before .match2 .keys6) (plain (c .before .before .op-path .ensures))) }
 
--- src/lib.rt:873:1
+-- src/lib.rt:894:1
 exp-same-length-7 : (t : ℕ) → exp-lts.Need-same-length-7 (
   stop-reads.Asked,
   stop-reads.Learnt,
@@ -6234,7 +6562,7 @@ exp-same-length-7 : (t : ℕ) → exp-lts.Need-same-length-7 (
 ) (exp-at t) exp.Post
 exp-same-length-7 t c = c .before .before .rc .kept .1 .1 .1 .1 .1 .0
 
--- src/lib.rt:873:1
+-- src/lib.rt:894:1
 exp-returns-9 : (t : ℕ) → exp-lts.Need-returns-9 (
   stop-reads.Asked,
   stop-reads.Learnt,
@@ -6281,10 +6609,10 @@ exp-returns-9 : (t : ℕ) → exp-lts.Need-returns-9 (
   fe-below t,
   fe.Post,
 ) (exp-at t) exp.Post
-unfolding Exp.exps Exp.HoleExp Exp.WildcardExp Exp.OpAndalsoExp Exp.OpOrelseExp Exp.SConExp Exp.PathExp Exp.TupleExp Exp.ListExp Exp.AndalsoExp Exp.OrelseExp Exp.HandleExp Exp.RaiseExp
+unfolding Exp.exps Exp.exp
 exp-returns-9 t c = record { is = exp-form _ _ (c .before .before .before .before .before .before .before .before .before .before .if1 .left) (form-key (c .before .before .before .before .before .before .before .before .before .form .ensures) (c .before .before .before .before .before .before .before .k .given .1) (c .before .before .before .before .before .match2 .keys7) (c .before .before .rc .ensures .is)) }
 
--- src/lib.rt:873:1
+-- src/lib.rt:894:1
 exp-same-length-8 : (t : ℕ) → exp-lts.Need-same-length-8 (
   stop-reads.Asked,
   stop-reads.Learnt,
@@ -6333,7 +6661,7 @@ exp-same-length-8 : (t : ℕ) → exp-lts.Need-same-length-8 (
 ) (exp-at t) exp.Post
 exp-same-length-8 t c = c .before .before .selector-exp .kept .1 .1 .1 .1 .0
 
--- src/lib.rt:873:1
+-- src/lib.rt:894:1
 exp-returns-10 : (t : ℕ) → exp-lts.Need-returns-10 (
   stop-reads.Asked,
   stop-reads.Learnt,
@@ -6380,10 +6708,10 @@ exp-returns-10 : (t : ℕ) → exp-lts.Need-returns-10 (
   fe-below t,
   fe.Post,
 ) (exp-at t) exp.Post
-unfolding Exp.exps Exp.HoleExp Exp.WildcardExp Exp.OpAndalsoExp Exp.OpOrelseExp Exp.SConExp Exp.PathExp Exp.TupleExp Exp.ListExp Exp.AndalsoExp Exp.OrelseExp Exp.HandleExp Exp.RaiseExp
+unfolding Exp.exps Exp.exp
 exp-returns-10 t c = record { is = exp-form _ _ (c .before .before .before .before .before .before .before .before .before .if1 .left) (form-key (c .before .before .before .before .before .before .before .before .form .ensures) (c .before .before .before .before .before .before .k .given .1) (c .before .before .before .before .match2 .keys8) (plain (c .before .before .selector-exp .ensures))) }
 
--- src/lib.rt:873:1
+-- src/lib.rt:894:1
 exp-same-length-9 : (t : ℕ) → exp-lts.Need-same-length-9 (
   stop-reads.Asked,
   stop-reads.Learnt,
@@ -6432,7 +6760,7 @@ exp-same-length-9 : (t : ℕ) → exp-lts.Need-same-length-9 (
 ) (exp-at t) exp.Post
 exp-same-length-9 t c = c .before .before .pa .kept .1 .1 .1 .1 .1 .0
 
--- src/lib.rt:873:1
+-- src/lib.rt:894:1
 exp-returns-11 : (t : ℕ) → exp-lts.Need-returns-11 (
   stop-reads.Asked,
   stop-reads.Learnt,
@@ -6479,10 +6807,10 @@ exp-returns-11 : (t : ℕ) → exp-lts.Need-returns-11 (
   fe-below t,
   fe.Post,
 ) (exp-at t) exp.Post
-unfolding Exp.exps Exp.HoleExp Exp.WildcardExp Exp.OpAndalsoExp Exp.OpOrelseExp Exp.SConExp Exp.PathExp Exp.TupleExp Exp.ListExp Exp.AndalsoExp Exp.OrelseExp Exp.HandleExp Exp.RaiseExp
+unfolding Exp.exps Exp.exp
 exp-returns-11 t c = record { is = exp-form _ _ (c .before .before .before .before .before .before .before .before .before .before .if1 .left) (form-key (c .before .before .before .before .before .before .before .before .before .form .ensures) (c .before .before .before .before .before .before .before .k .given .1) (c .before .before .before .before .before .match2 .keys9) (c .before .before .pa .ensures .is)) }
 
--- src/lib.rt:873:1
+-- src/lib.rt:894:1
 exp-same-length-10 : (t : ℕ) → exp-lts.Need-same-length-10 (
   stop-reads.Asked,
   stop-reads.Learnt,
@@ -6531,7 +6859,7 @@ exp-same-length-10 : (t : ℕ) → exp-lts.Need-same-length-10 (
 ) (exp-at t) exp.Post
 exp-same-length-10 t c = c .before .before .br .kept .1 .1 .1 .1 .1 .0
 
--- src/lib.rt:873:1
+-- src/lib.rt:894:1
 exp-returns-12 : (t : ℕ) → exp-lts.Need-returns-12 (
   stop-reads.Asked,
   stop-reads.Learnt,
@@ -6578,10 +6906,10 @@ exp-returns-12 : (t : ℕ) → exp-lts.Need-returns-12 (
   fe-below t,
   fe.Post,
 ) (exp-at t) exp.Post
-unfolding Exp.exps Exp.HoleExp Exp.WildcardExp Exp.OpAndalsoExp Exp.OpOrelseExp Exp.SConExp Exp.PathExp Exp.TupleExp Exp.ListExp Exp.AndalsoExp Exp.OrelseExp Exp.HandleExp Exp.RaiseExp
+unfolding Exp.exps Exp.exp
 exp-returns-12 t c = record { is = exp-form _ _ (c .before .before .before .before .before .before .before .before .before .before .if1 .left) (form-key (c .before .before .before .before .before .before .before .before .before .form .ensures) (c .before .before .before .before .before .before .before .k .given .1) (c .before .before .before .before .before .match2 .keys10) (c .before .before .br .ensures .is)) }
 
--- src/lib.rt:873:1
+-- src/lib.rt:894:1
 exp-same-length-11 : (t : ℕ) → exp-lts.Need-same-length-11 (
   stop-reads.Asked,
   stop-reads.Learnt,
@@ -6630,7 +6958,7 @@ exp-same-length-11 : (t : ℕ) → exp-lts.Need-same-length-11 (
 ) (exp-at t) exp.Post
 exp-same-length-11 t c = c .before .before .br2 .kept .1 .1 .1 .1 .1 .0
 
--- src/lib.rt:873:1
+-- src/lib.rt:894:1
 exp-returns-13 : (t : ℕ) → exp-lts.Need-returns-13 (
   stop-reads.Asked,
   stop-reads.Learnt,
@@ -6677,10 +7005,10 @@ exp-returns-13 : (t : ℕ) → exp-lts.Need-returns-13 (
   fe-below t,
   fe.Post,
 ) (exp-at t) exp.Post
-unfolding Exp.exps Exp.HoleExp Exp.WildcardExp Exp.OpAndalsoExp Exp.OpOrelseExp Exp.SConExp Exp.PathExp Exp.TupleExp Exp.ListExp Exp.AndalsoExp Exp.OrelseExp Exp.HandleExp Exp.RaiseExp
+unfolding Exp.exps Exp.exp
 exp-returns-13 t c = record { is = exp-form _ _ (c .before .before .before .before .before .before .before .before .before .before .if1 .left) (form-key (c .before .before .before .before .before .before .before .before .before .form .ensures) (c .before .before .before .before .before .before .before .k .given .1) (c .before .before .before .before .before .match2 .keys11) (c .before .before .br2 .ensures .is)) }
 
--- src/lib.rt:873:1
+-- src/lib.rt:894:1
 exp-same-length-12 : (t : ℕ) → exp-lts.Need-same-length-12 (
   stop-reads.Asked,
   stop-reads.Learnt,
@@ -6729,7 +7057,7 @@ exp-same-length-12 : (t : ℕ) → exp-lts.Need-same-length-12 (
 ) (exp-at t) exp.Post
 exp-same-length-12 t c = c .before .before .ve .kept .1 .1 .1 .1 .1 .0
 
--- src/lib.rt:873:1
+-- src/lib.rt:894:1
 exp-returns-14 : (t : ℕ) → exp-lts.Need-returns-14 (
   stop-reads.Asked,
   stop-reads.Learnt,
@@ -6776,10 +7104,10 @@ exp-returns-14 : (t : ℕ) → exp-lts.Need-returns-14 (
   fe-below t,
   fe.Post,
 ) (exp-at t) exp.Post
-unfolding Exp.exps Exp.HoleExp Exp.WildcardExp Exp.OpAndalsoExp Exp.OpOrelseExp Exp.SConExp Exp.PathExp Exp.TupleExp Exp.ListExp Exp.AndalsoExp Exp.OrelseExp Exp.HandleExp Exp.RaiseExp
+unfolding Exp.exps Exp.exp
 exp-returns-14 t c = record { is = exp-form _ _ (c .before .before .before .before .before .before .before .before .before .before .if1 .left) (form-key (c .before .before .before .before .before .before .before .before .before .form .ensures) (c .before .before .before .before .before .before .before .k .given .1) (c .before .before .before .before .before .match2 .keys12) (c .before .before .ve .ensures .is)) }
 
--- src/lib.rt:873:1
+-- src/lib.rt:894:1
 exp-same-length-13 : (t : ℕ) → exp-lts.Need-same-length-13 (
   stop-reads.Asked,
   stop-reads.Learnt,
@@ -6828,7 +7156,7 @@ exp-same-length-13 : (t : ℕ) → exp-lts.Need-same-length-13 (
 ) (exp-at t) exp.Post
 exp-same-length-13 t c = c .before .before .seq .kept .1 .1 .1 .1 .1 .0
 
--- src/lib.rt:873:1
+-- src/lib.rt:894:1
 exp-returns-15 : (t : ℕ) → exp-lts.Need-returns-15 (
   stop-reads.Asked,
   stop-reads.Learnt,
@@ -6875,10 +7203,10 @@ exp-returns-15 : (t : ℕ) → exp-lts.Need-returns-15 (
   fe-below t,
   fe.Post,
 ) (exp-at t) exp.Post
-unfolding Exp.exps Exp.HoleExp Exp.WildcardExp Exp.OpAndalsoExp Exp.OpOrelseExp Exp.SConExp Exp.PathExp Exp.TupleExp Exp.ListExp Exp.AndalsoExp Exp.OrelseExp Exp.HandleExp Exp.RaiseExp
+unfolding Exp.exps Exp.exp
 exp-returns-15 t c = record { is = exp-form _ _ (c .before .before .before .before .before .before .before .before .before .before .if1 .left) (form-key (c .before .before .before .before .before .before .before .before .before .form .ensures) (c .before .before .before .before .before .before .before .k .given .1) (c .before .before .before .before .before .match2 .keys13) (c .before .before .seq .ensures .is)) }
 
--- src/lib.rt:873:1
+-- src/lib.rt:894:1
 exp-same-length-14 : (t : ℕ) → exp-lts.Need-same-length-14 (
   stop-reads.Asked,
   stop-reads.Learnt,
@@ -6927,7 +7255,7 @@ exp-same-length-14 : (t : ℕ) → exp-lts.Need-same-length-14 (
 ) (exp-at t) exp.Post
 exp-same-length-14 t c = c .before .before .lx .kept .1 .1 .1 .1 .1 .0
 
--- src/lib.rt:873:1
+-- src/lib.rt:894:1
 exp-returns-16 : (t : ℕ) → exp-lts.Need-returns-16 (
   stop-reads.Asked,
   stop-reads.Learnt,
@@ -6974,10 +7302,10 @@ exp-returns-16 : (t : ℕ) → exp-lts.Need-returns-16 (
   fe-below t,
   fe.Post,
 ) (exp-at t) exp.Post
-unfolding Exp.exps Exp.HoleExp Exp.WildcardExp Exp.OpAndalsoExp Exp.OpOrelseExp Exp.SConExp Exp.PathExp Exp.TupleExp Exp.ListExp Exp.AndalsoExp Exp.OrelseExp Exp.HandleExp Exp.RaiseExp
+unfolding Exp.exps Exp.exp
 exp-returns-16 t c = record { is = exp-form _ _ (c .before .before .before .before .before .before .before .before .before .before .if1 .left) (form-key (c .before .before .before .before .before .before .before .before .before .form .ensures) (c .before .before .before .before .before .before .before .k .given .1) (c .before .before .before .before .before .match2 .keys14) (c .before .before .lx .ensures .is)) }
 
--- src/lib.rt:873:1
+-- src/lib.rt:894:1
 exp-same-length-15 : (t : ℕ) → exp-lts.Need-same-length-15 (
   stop-reads.Asked,
   stop-reads.Learnt,
@@ -7026,7 +7354,7 @@ exp-same-length-15 : (t : ℕ) → exp-lts.Need-same-length-15 (
 ) (exp-at t) exp.Post
 exp-same-length-15 t c = c .before .before .app .kept .1 .1 .1 .1 .1 .0
 
--- src/lib.rt:873:1
+-- src/lib.rt:894:1
 exp-returns-17 : (t : ℕ) → exp-lts.Need-returns-17 (
   stop-reads.Asked,
   stop-reads.Learnt,
@@ -7073,10 +7401,10 @@ exp-returns-17 : (t : ℕ) → exp-lts.Need-returns-17 (
   fe-below t,
   fe.Post,
 ) (exp-at t) exp.Post
-unfolding Exp.exps Exp.HoleExp Exp.WildcardExp Exp.OpAndalsoExp Exp.OpOrelseExp Exp.SConExp Exp.PathExp Exp.TupleExp Exp.ListExp Exp.AndalsoExp Exp.OrelseExp Exp.HandleExp Exp.RaiseExp
+unfolding Exp.exps Exp.exp
 exp-returns-17 t c = record { is = exp-form _ _ (c .before .before .before .before .before .before .before .before .before .before .if1 .left) (form-key (c .before .before .before .before .before .before .before .before .before .form .ensures) (c .before .before .before .before .before .before .before .k .given .1) (c .before .before .before .before .before .match2 .keys15) (c .before .before .app .ensures .is)) }
 
--- src/lib.rt:873:1
+-- src/lib.rt:894:1
 exp-same-length-16 : (t : ℕ) → exp-lts.Need-same-length-16 (
   stop-reads.Asked,
   stop-reads.Learnt,
@@ -7125,7 +7453,7 @@ exp-same-length-16 : (t : ℕ) → exp-lts.Need-same-length-16 (
 ) (exp-at t) exp.Post
 exp-same-length-16 t c = c .before .before .fx .kept .1 .1 .1 .1 .1 .0
 
--- src/lib.rt:873:1
+-- src/lib.rt:894:1
 exp-returns-18 : (t : ℕ) → exp-lts.Need-returns-18 (
   stop-reads.Asked,
   stop-reads.Learnt,
@@ -7172,10 +7500,10 @@ exp-returns-18 : (t : ℕ) → exp-lts.Need-returns-18 (
   fe-below t,
   fe.Post,
 ) (exp-at t) exp.Post
-unfolding Exp.exps Exp.HoleExp Exp.WildcardExp Exp.OpAndalsoExp Exp.OpOrelseExp Exp.SConExp Exp.PathExp Exp.TupleExp Exp.ListExp Exp.AndalsoExp Exp.OrelseExp Exp.HandleExp Exp.RaiseExp
+unfolding Exp.exps Exp.exp
 exp-returns-18 t c = record { is = exp-form _ _ (c .before .before .before .before .before .before .before .before .before .before .if1 .left) (form-key (c .before .before .before .before .before .before .before .before .before .form .ensures) (c .before .before .before .before .before .before .before .k .given .1) (c .before .before .before .before .before .match2 .keys16) (c .before .before .fx .ensures .is)) }
 
--- src/lib.rt:873:1
+-- src/lib.rt:894:1
 exp-same-length-17 : (t : ℕ) → exp-lts.Need-same-length-17 (
   stop-reads.Asked,
   stop-reads.Learnt,
@@ -7224,7 +7552,7 @@ exp-same-length-17 : (t : ℕ) → exp-lts.Need-same-length-17 (
 ) (exp-at t) exp.Post
 exp-same-length-17 t c = c .before .before .ty .kept .1 .1 .1 .1 .1 .0
 
--- src/lib.rt:873:1
+-- src/lib.rt:894:1
 exp-returns-19 : (t : ℕ) → exp-lts.Need-returns-19 (
   stop-reads.Asked,
   stop-reads.Learnt,
@@ -7271,10 +7599,10 @@ exp-returns-19 : (t : ℕ) → exp-lts.Need-returns-19 (
   fe-below t,
   fe.Post,
 ) (exp-at t) exp.Post
-unfolding Exp.exps Exp.HoleExp Exp.WildcardExp Exp.OpAndalsoExp Exp.OpOrelseExp Exp.SConExp Exp.PathExp Exp.TupleExp Exp.ListExp Exp.AndalsoExp Exp.OrelseExp Exp.HandleExp Exp.RaiseExp
+unfolding Exp.exps Exp.exp
 exp-returns-19 t c = record { is = exp-form _ _ (c .before .before .before .before .before .before .before .before .before .before .if1 .left) (form-key (c .before .before .before .before .before .before .before .before .before .form .ensures) (c .before .before .before .before .before .before .before .k .given .1) (c .before .before .before .before .before .match2 .keys17) (c .before .before .ty .ensures .is)) }
 
--- src/lib.rt:873:1
+-- src/lib.rt:894:1
 exp-same-length-18 : (t : ℕ) → exp-lts.Need-same-length-18 (
   stop-reads.Asked,
   stop-reads.Learnt,
@@ -7323,7 +7651,7 @@ exp-same-length-18 : (t : ℕ) → exp-lts.Need-same-length-18 (
 ) (exp-at t) exp.Post
 exp-same-length-18 t c = c .before .before .du .kept .1 .1 .1 .1 .1 .0
 
--- src/lib.rt:873:1
+-- src/lib.rt:894:1
 exp-returns-20 : (t : ℕ) → exp-lts.Need-returns-20 (
   stop-reads.Asked,
   stop-reads.Learnt,
@@ -7370,10 +7698,10 @@ exp-returns-20 : (t : ℕ) → exp-lts.Need-returns-20 (
   fe-below t,
   fe.Post,
 ) (exp-at t) exp.Post
-unfolding Exp.exps Exp.HoleExp Exp.WildcardExp Exp.OpAndalsoExp Exp.OpOrelseExp Exp.SConExp Exp.PathExp Exp.TupleExp Exp.ListExp Exp.AndalsoExp Exp.OrelseExp Exp.HandleExp Exp.RaiseExp
+unfolding Exp.exps Exp.exp
 exp-returns-20 t c = record { is = exp-form _ _ (c .before .before .before .before .before .before .before .before .before .before .if1 .left) (form-key (c .before .before .before .before .before .before .before .before .before .form .ensures) (c .before .before .before .before .before .before .before .k .given .1) (c .before .before .before .before .before .match2 .keys18) (c .before .before .du .ensures .is)) }
 
--- src/lib.rt:873:1
+-- src/lib.rt:894:1
 exp-same-length-19 : (t : ℕ) → exp-lts.Need-same-length-19 (
   stop-reads.Asked,
   stop-reads.Learnt,
@@ -7422,7 +7750,7 @@ exp-same-length-19 : (t : ℕ) → exp-lts.Need-same-length-19 (
 ) (exp-at t) exp.Post
 exp-same-length-19 t c = c .before .before .du2 .kept .1 .1 .1 .1 .1 .0
 
--- src/lib.rt:873:1
+-- src/lib.rt:894:1
 exp-returns-21 : (t : ℕ) → exp-lts.Need-returns-21 (
   stop-reads.Asked,
   stop-reads.Learnt,
@@ -7469,10 +7797,10 @@ exp-returns-21 : (t : ℕ) → exp-lts.Need-returns-21 (
   fe-below t,
   fe.Post,
 ) (exp-at t) exp.Post
-unfolding Exp.exps Exp.HoleExp Exp.WildcardExp Exp.OpAndalsoExp Exp.OpOrelseExp Exp.SConExp Exp.PathExp Exp.TupleExp Exp.ListExp Exp.AndalsoExp Exp.OrelseExp Exp.HandleExp Exp.RaiseExp
+unfolding Exp.exps Exp.exp
 exp-returns-21 t c = record { is = exp-form _ _ (c .before .before .before .before .before .before .before .before .before .before .if1 .left) (form-key (c .before .before .before .before .before .before .before .before .before .form .ensures) (c .before .before .before .before .before .before .before .k .given .1) (c .before .before .before .before .before .match2 .keys19) (c .before .before .du2 .ensures .is)) }
 
--- src/lib.rt:873:1
+-- src/lib.rt:894:1
 exp-same-length-20 : (t : ℕ) → exp-lts.Need-same-length-20 (
   stop-reads.Asked,
   stop-reads.Learnt,
@@ -7521,7 +7849,7 @@ exp-same-length-20 : (t : ℕ) → exp-lts.Need-same-length-20 (
 ) (exp-at t) exp.Post
 exp-same-length-20 t c = c .before .before .ha .kept .1 .1 .1 .1 .1 .0
 
--- src/lib.rt:873:1
+-- src/lib.rt:894:1
 exp-returns-22 : (t : ℕ) → exp-lts.Need-returns-22 (
   stop-reads.Asked,
   stop-reads.Learnt,
@@ -7568,10 +7896,10 @@ exp-returns-22 : (t : ℕ) → exp-lts.Need-returns-22 (
   fe-below t,
   fe.Post,
 ) (exp-at t) exp.Post
-unfolding Exp.exps Exp.HoleExp Exp.WildcardExp Exp.OpAndalsoExp Exp.OpOrelseExp Exp.SConExp Exp.PathExp Exp.TupleExp Exp.ListExp Exp.AndalsoExp Exp.OrelseExp Exp.HandleExp Exp.RaiseExp
+unfolding Exp.exps Exp.exp
 exp-returns-22 t c = record { is = exp-form _ _ (c .before .before .before .before .before .before .before .before .before .before .if1 .left) (form-key (c .before .before .before .before .before .before .before .before .before .form .ensures) (c .before .before .before .before .before .before .before .k .given .1) (c .before .before .before .before .before .match2 .keys20) (c .before .before .ha .ensures .is)) }
 
--- src/lib.rt:873:1
+-- src/lib.rt:894:1
 exp-same-length-21 : (t : ℕ) → exp-lts.Need-same-length-21 (
   stop-reads.Asked,
   stop-reads.Learnt,
@@ -7620,7 +7948,7 @@ exp-same-length-21 : (t : ℕ) → exp-lts.Need-same-length-21 (
 ) (exp-at t) exp.Post
 exp-same-length-21 t c = c .before .before .pr .kept .1 .1 .1 .1 .1 .0
 
--- src/lib.rt:873:1
+-- src/lib.rt:894:1
 exp-returns-23 : (t : ℕ) → exp-lts.Need-returns-23 (
   stop-reads.Asked,
   stop-reads.Learnt,
@@ -7667,10 +7995,10 @@ exp-returns-23 : (t : ℕ) → exp-lts.Need-returns-23 (
   fe-below t,
   fe.Post,
 ) (exp-at t) exp.Post
-unfolding Exp.exps Exp.HoleExp Exp.WildcardExp Exp.OpAndalsoExp Exp.OpOrelseExp Exp.SConExp Exp.PathExp Exp.TupleExp Exp.ListExp Exp.AndalsoExp Exp.OrelseExp Exp.HandleExp Exp.RaiseExp
+unfolding Exp.exps Exp.exp
 exp-returns-23 t c = record { is = exp-form _ _ (c .before .before .before .before .before .before .before .before .before .before .if1 .left) (form-key (c .before .before .before .before .before .before .before .before .before .form .ensures) (c .before .before .before .before .before .before .before .k .given .1) (c .before .before .before .before .before .match2 .keys21) (c .before .before .pr .ensures .is)) }
 
--- src/lib.rt:873:1
+-- src/lib.rt:894:1
 exp-same-length-22 : (t : ℕ) → exp-lts.Need-same-length-22 (
   stop-reads.Asked,
   stop-reads.Learnt,
@@ -7719,7 +8047,7 @@ exp-same-length-22 : (t : ℕ) → exp-lts.Need-same-length-22 (
 ) (exp-at t) exp.Post
 exp-same-length-22 t c = c .before .before .ie .kept .1 .1 .1 .1 .1 .0
 
--- src/lib.rt:873:1
+-- src/lib.rt:894:1
 exp-returns-24 : (t : ℕ) → exp-lts.Need-returns-24 (
   stop-reads.Asked,
   stop-reads.Learnt,
@@ -7766,10 +8094,10 @@ exp-returns-24 : (t : ℕ) → exp-lts.Need-returns-24 (
   fe-below t,
   fe.Post,
 ) (exp-at t) exp.Post
-unfolding Exp.exps Exp.HoleExp Exp.WildcardExp Exp.OpAndalsoExp Exp.OpOrelseExp Exp.SConExp Exp.PathExp Exp.TupleExp Exp.ListExp Exp.AndalsoExp Exp.OrelseExp Exp.HandleExp Exp.RaiseExp
+unfolding Exp.exps Exp.exp
 exp-returns-24 t c = record { is = exp-form _ _ (c .before .before .before .before .before .before .before .before .before .before .if1 .left) (form-key (c .before .before .before .before .before .before .before .before .before .form .ensures) (c .before .before .before .before .before .before .before .k .given .1) (c .before .before .before .before .before .match2 .keys22) (c .before .before .ie .ensures .is)) }
 
--- src/lib.rt:873:1
+-- src/lib.rt:894:1
 exp-same-length-23 : (t : ℕ) → exp-lts.Need-same-length-23 (
   stop-reads.Asked,
   stop-reads.Learnt,
@@ -7818,7 +8146,7 @@ exp-same-length-23 : (t : ℕ) → exp-lts.Need-same-length-23 (
 ) (exp-at t) exp.Post
 exp-same-length-23 t c = c .before .before .wh .kept .1 .1 .1 .1 .1 .0
 
--- src/lib.rt:873:1
+-- src/lib.rt:894:1
 exp-returns-25 : (t : ℕ) → exp-lts.Need-returns-25 (
   stop-reads.Asked,
   stop-reads.Learnt,
@@ -7865,10 +8193,10 @@ exp-returns-25 : (t : ℕ) → exp-lts.Need-returns-25 (
   fe-below t,
   fe.Post,
 ) (exp-at t) exp.Post
-unfolding Exp.exps Exp.HoleExp Exp.WildcardExp Exp.OpAndalsoExp Exp.OpOrelseExp Exp.SConExp Exp.PathExp Exp.TupleExp Exp.ListExp Exp.AndalsoExp Exp.OrelseExp Exp.HandleExp Exp.RaiseExp
+unfolding Exp.exps Exp.exp
 exp-returns-25 t c = record { is = exp-form _ _ (c .before .before .before .before .before .before .before .before .before .before .if1 .left) (form-key (c .before .before .before .before .before .before .before .before .before .form .ensures) (c .before .before .before .before .before .before .before .k .given .1) (c .before .before .before .before .before .match2 .keys23) (c .before .before .wh .ensures .is)) }
 
--- src/lib.rt:873:1
+-- src/lib.rt:894:1
 exp-same-length-24 : (t : ℕ) → exp-lts.Need-same-length-24 (
   stop-reads.Asked,
   stop-reads.Learnt,
@@ -7917,7 +8245,7 @@ exp-same-length-24 : (t : ℕ) → exp-lts.Need-same-length-24 (
 ) (exp-at t) exp.Post
 exp-same-length-24 t c = c .before .before .ca .kept .1 .1 .1 .1 .1 .0
 
--- src/lib.rt:873:1
+-- src/lib.rt:894:1
 exp-returns-26 : (t : ℕ) → exp-lts.Need-returns-26 (
   stop-reads.Asked,
   stop-reads.Learnt,
@@ -7964,10 +8292,10 @@ exp-returns-26 : (t : ℕ) → exp-lts.Need-returns-26 (
   fe-below t,
   fe.Post,
 ) (exp-at t) exp.Post
-unfolding Exp.exps Exp.HoleExp Exp.WildcardExp Exp.OpAndalsoExp Exp.OpOrelseExp Exp.SConExp Exp.PathExp Exp.TupleExp Exp.ListExp Exp.AndalsoExp Exp.OrelseExp Exp.HandleExp Exp.RaiseExp
+unfolding Exp.exps Exp.exp
 exp-returns-26 t c = record { is = exp-form _ _ (c .before .before .before .before .before .before .before .before .before .before .if1 .left) (form-key (c .before .before .before .before .before .before .before .before .before .form .ensures) (c .before .before .before .before .before .before .before .k .given .1) (c .before .before .before .before .before .match2 .keys24) (c .before .before .ca .ensures .is)) }
 
--- src/lib.rt:873:1
+-- src/lib.rt:894:1
 exp-same-length-25 : (t : ℕ) → exp-lts.Need-same-length-25 (
   stop-reads.Asked,
   stop-reads.Learnt,
@@ -8016,7 +8344,7 @@ exp-same-length-25 : (t : ℕ) → exp-lts.Need-same-length-25 (
 ) (exp-at t) exp.Post
 exp-same-length-25 t c = c .before .before .fe .kept .1 .1 .1 .1 .1 .0
 
--- src/lib.rt:873:1
+-- src/lib.rt:894:1
 exp-returns-27 : (t : ℕ) → exp-lts.Need-returns-27 (
   stop-reads.Asked,
   stop-reads.Learnt,
@@ -8063,10 +8391,10 @@ exp-returns-27 : (t : ℕ) → exp-lts.Need-returns-27 (
   fe-below t,
   fe.Post,
 ) (exp-at t) exp.Post
-unfolding Exp.exps Exp.HoleExp Exp.WildcardExp Exp.OpAndalsoExp Exp.OpOrelseExp Exp.SConExp Exp.PathExp Exp.TupleExp Exp.ListExp Exp.AndalsoExp Exp.OrelseExp Exp.HandleExp Exp.RaiseExp
+unfolding Exp.exps Exp.exp
 exp-returns-27 t c = record { is = exp-form _ _ (c .before .before .before .before .before .before .before .before .before .before .if1 .left) (form-key (c .before .before .before .before .before .before .before .before .before .form .ensures) (c .before .before .before .before .before .before .before .k .given .1) (c .before .before .before .before .before .match2 .keys25) (c .before .before .fe .ensures .is)) }
 
--- src/lib.rt:873:1
+-- src/lib.rt:894:1
 exp-returns-28 : (t : ℕ) → exp-lts.Need-returns-28 (
   stop-reads.Asked,
   stop-reads.Learnt,
@@ -8113,10 +8441,10 @@ exp-returns-28 : (t : ℕ) → exp-lts.Need-returns-28 (
   fe-below t,
   fe.Post,
 ) (exp-at t) exp.Post
-unfolding Exp.exps Exp.HoleExp Exp.WildcardExp Exp.OpAndalsoExp Exp.OpOrelseExp Exp.SConExp Exp.PathExp Exp.TupleExp Exp.ListExp Exp.AndalsoExp Exp.OrelseExp Exp.HandleExp Exp.RaiseExp
+unfolding Exp.exps Exp.exp
 exp-returns-28 t c = record { is = exp-form _ _ (c .before .before .before .before .before .before .if1 .left) (by-same (form-is (c .before .before .before .before .before .form .ensures) (c .before .before .before .k .given .1)) (beyond (Exp.exps (walks (c .before .before .before .before .before .before .before .before .before .before .before .before .before .args .cfg .left - 1)) (cfgOf (c .before .before .before .before .before .before .before .before .before .before .before .before .before .args .cfg))) (c .before .before .before .k .given .0 .0) 25 refl (past (past (past (past (past (past (past (past (past (past (past (past (past (past (past (past (past (past (past (past (past (past (past (past (past zero-le (c .before .match2 .rest .0 .0 .0 .0 .0 .0 .0 .0 .0 .0 .0 .0 .0 .0 .0 .0 .0 .0 .0 .0 .0 .0 .0 .0 .1)) (c .before .match2 .rest .0 .0 .0 .0 .0 .0 .0 .0 .0 .0 .0 .0 .0 .0 .0 .0 .0 .0 .0 .0 .0 .0 .0 .1)) (c .before .match2 .rest .0 .0 .0 .0 .0 .0 .0 .0 .0 .0 .0 .0 .0 .0 .0 .0 .0 .0 .0 .0 .0 .0 .1)) (c .before .match2 .rest .0 .0 .0 .0 .0 .0 .0 .0 .0 .0 .0 .0 .0 .0 .0 .0 .0 .0 .0 .0 .0 .1)) (c .before .match2 .rest .0 .0 .0 .0 .0 .0 .0 .0 .0 .0 .0 .0 .0 .0 .0 .0 .0 .0 .0 .0 .1)) (c .before .match2 .rest .0 .0 .0 .0 .0 .0 .0 .0 .0 .0 .0 .0 .0 .0 .0 .0 .0 .0 .0 .1)) (c .before .match2 .rest .0 .0 .0 .0 .0 .0 .0 .0 .0 .0 .0 .0 .0 .0 .0 .0 .0 .0 .1)) (c .before .match2 .rest .0 .0 .0 .0 .0 .0 .0 .0 .0 .0 .0 .0 .0 .0 .0 .0 .0 .1)) (c .before .match2 .rest .0 .0 .0 .0 .0 .0 .0 .0 .0 .0 .0 .0 .0 .0 .0 .0 .1)) (c .before .match2 .rest .0 .0 .0 .0 .0 .0 .0 .0 .0 .0 .0 .0 .0 .0 .0 .1)) (c .before .match2 .rest .0 .0 .0 .0 .0 .0 .0 .0 .0 .0 .0 .0 .0 .0 .1)) (c .before .match2 .rest .0 .0 .0 .0 .0 .0 .0 .0 .0 .0 .0 .0 .0 .1)) (c .before .match2 .rest .0 .0 .0 .0 .0 .0 .0 .0 .0 .0 .0 .0 .1)) (c .before .match2 .rest .0 .0 .0 .0 .0 .0 .0 .0 .0 .0 .0 .1)) (c .before .match2 .rest .0 .0 .0 .0 .0 .0 .0 .0 .0 .0 .1)) (c .before .match2 .rest .0 .0 .0 .0 .0 .0 .0 .0 .0 .1)) (c .before .match2 .rest .0 .0 .0 .0 .0 .0 .0 .0 .1)) (c .before .match2 .rest .0 .0 .0 .0 .0 .0 .0 .1)) (c .before .match2 .rest .0 .0 .0 .0 .0 .0 .1)) (c .before .match2 .rest .0 .0 .0 .0 .0 .1)) (c .before .match2 .rest .0 .0 .0 .0 .1)) (c .before .match2 .rest .0 .0 .0 .1)) (c .before .match2 .rest .0 .0 .1)) (c .before .match2 .rest .0 .1)) (c .before .match2 .rest .1)) (c .stop3 .ensures))) }
 
--- src/lib.rt:1846:14
+-- src/lib.rt:1822:14
 fa-nm-requires : (t : ℕ) → fa-lts.Need-nm-requires (
   nm-below t,
   nm.Post,
@@ -8127,7 +8455,7 @@ fa-nm-requires : (t : ℕ) → fa-lts.Need-nm-requires (
 ) (fa-at t) fa.Post
 fa-nm-requires t c κs = omega (arith, c .before .before .before .before .before .before .before .before .before .pre .0, c .before .before .before .before .before .before .before .before .before .pre .1)
 
--- src/lib.rt:1858:14
+-- src/lib.rt:1834:14
 fa-da-requires : (t : ℕ) → fa-lts.Need-da-requires (
   nm-below t,
   nm.Post,
@@ -8138,7 +8466,7 @@ fa-da-requires : (t : ℕ) → fa-lts.Need-da-requires (
 ) (fa-at t) fa.Post
 fa-da-requires t c κs = omega (arith, c .before .before .before .before .before .before .before .before .before .pre .0, c .before .before .before .before .before .before .before .before .before .pre .1)
 
--- src/lib.rt:1859:14
+-- src/lib.rt:1835:14
 fa-stop-requires : (t : ℕ) → fa-lts.Need-stop-requires (
   nm-below t,
   nm.Post,
@@ -8149,7 +8477,7 @@ fa-stop-requires : (t : ℕ) → fa-lts.Need-stop-requires (
 ) (fa-at t) fa.Post
 fa-stop-requires t c κs = search needs
 
--- src/lib.rt:1830:1
+-- src/lib.rt:1806:1
 fa-same-length : (t : ℕ) → fa-lts.Need-same-length (
   nm-below t,
   nm.Post,
@@ -8160,7 +8488,7 @@ fa-same-length : (t : ℕ) → fa-lts.Need-same-length (
 ) (fa-at t) fa.Post
 fa-same-length t c = c .before .before .nm .kept .1 .1 .1 .1 .1 .0
 
--- src/lib.rt:1830:1
+-- src/lib.rt:1806:1
 fa-returns : (t : ℕ) → fa-lts.Need-returns (
   nm-below t,
   nm.Post,
@@ -8172,7 +8500,7 @@ fa-returns : (t : ℕ) → fa-lts.Need-returns (
 unfolding DecOne.functor-arg
 fa-returns t c = record { is = at-key (λ i. DecOne.functor-arg (walks (c .before .before .before .before .before .before .before .before .before .before .before .before .args .cfg .left)) (cfgOf (c .before .before .before .before .before .before .before .before .before .before .before .before .args .cfg)) i) (c .before .before .before .before .before .match .keys1) (c .before .before .nm .ensures .is) }
 
--- src/lib.rt:1830:1
+-- src/lib.rt:1806:1
 fa-same-length-2 : (t : ℕ) → fa-lts.Need-same-length-2 (
   nm-below t,
   nm.Post,
@@ -8183,7 +8511,7 @@ fa-same-length-2 : (t : ℕ) → fa-lts.Need-same-length-2 (
 ) (fa-at t) fa.Post
 fa-same-length-2 t c = c .before .before .da .kept .1 .1 .1 .1 .1 .0
 
--- src/lib.rt:1830:1
+-- src/lib.rt:1806:1
 fa-returns-2 : (t : ℕ) → fa-lts.Need-returns-2 (
   nm-below t,
   nm.Post,
@@ -8195,7 +8523,7 @@ fa-returns-2 : (t : ℕ) → fa-lts.Need-returns-2 (
 unfolding DecOne.functor-arg
 fa-returns-2 t c = record { is = at-key (λ i. DecOne.functor-arg (walks (c .before .before .before .before .before .before .before .before .before .before .before .before .args .cfg .left)) (cfgOf (c .before .before .before .before .before .before .before .before .before .before .before .before .args .cfg)) i) (c .before .before .before .before .before .match .keys2) (c .before .before .da .ensures .is) }
 
--- src/lib.rt:1830:1
+-- src/lib.rt:1806:1
 fa-returns-3 : (t : ℕ) → fa-lts.Need-returns-3 (
   nm-below t,
   nm.Post,
@@ -8205,7 +8533,7 @@ fa-returns-3 : (t : ℕ) → fa-lts.Need-returns-3 (
   stop-reads.Learnt,
 ) (fa-at t) fa.Post
 unfolding DecOne.functor-arg
-fa-returns-3 t c = record { is = beyond ((Layout._⨾_ Helpers.text (Layout._⨾_ (Layout.word " : ") (walks (c .before .before .before .before .before .before .before .before .args .cfg .left) .get-sig-exp (cfgOf (c .before .before .before .before .before .before .before .before .args .cfg))))) ∷ GetDec.dec-arg (walks (c .before .before .before .before .before .before .before .before .args .cfg .left)) (cfgOf (c .before .before .before .before .before .before .before .before .args .cfg)) ∷ []) (c .before .before .before .before .before .before .before .before .args .which) 2 refl (past (past zero-le (c .before .match .rest .0 .1)) (c .before .match .rest .1)) (c .stop .ensures) }
+fa-returns-3 t c = record { is = beyond ((Layout._⨾_ Layout.text (Layout._⨾_ (Layout.word " : ") (walks (c .before .before .before .before .before .before .before .before .args .cfg .left) .get-sig-exp (cfgOf (c .before .before .before .before .before .before .before .before .args .cfg))))) ∷ GetDec.dec-arg (walks (c .before .before .before .before .before .before .before .before .args .cfg .left)) (cfgOf (c .before .before .before .before .before .before .before .before .args .cfg)) ∷ []) (c .before .before .before .before .before .before .before .before .args .which) 2 refl (past (past zero-le (c .before .match .rest .0 .1)) (c .before .match .rest .1)) (c .stop .ensures) }
 
 abbrev fb-Inv-loop : fb-lts.InvT-loop
 fb-Inv-loop text rec kinds starts lens out₀ left₀ cfg n s₀ i₀ out left s i =
@@ -8214,12 +8542,12 @@ fb-Inv-loop text rec kinds starts lens out₀ left₀ cfg n s₀ i₀ out left s
 abbrev fb-μ-loop : fb-lts.MeasureT-loop
 fb-μ-loop text rec kinds starts lens out₀ left₀ cfg n s₀ i₀ out left s i = n - i
 
--- src/lib.rt:1336:9
+-- src/lib.rt:1312:9
 fb-group-requires : (t : ℕ) → fb-lts.Need-group-requires (
   group-reads.Asked,
   group-reads.Learnt,
-  forms-reads.Asked,
-  forms-reads.Learnt,
+  deepen-reads.Asked,
+  deepen-reads.Learnt,
   list-reads.Asked,
   list-reads.Learnt,
   stop-reads.Asked,
@@ -8231,12 +8559,12 @@ fb-group-requires : (t : ℕ) → fb-lts.Need-group-requires (
 ) (fb-at t) fb.Post fb-Inv-loop fb-μ-loop
 fb-group-requires t c κs = search needs
 
--- src/lib.rt:1337:22
+-- src/lib.rt:1313:22
 fb-enum-known-r1 : (t : ℕ) → fb-lts.Need-enum-known-r1 (
   group-reads.Asked,
   group-reads.Learnt,
-  forms-reads.Asked,
-  forms-reads.Learnt,
+  deepen-reads.Asked,
+  deepen-reads.Learnt,
   list-reads.Asked,
   list-reads.Learnt,
   stop-reads.Asked,
@@ -8248,12 +8576,12 @@ fb-enum-known-r1 : (t : ℕ) → fb-lts.Need-enum-known-r1 (
 ) (fb-at t) fb.Post fb-Inv-loop fb-μ-loop
 fb-enum-known-r1 t c = search needs
 
--- src/lib.rt:1338:9
+-- src/lib.rt:1314:9
 fb-enum-told : (t : ℕ) → fb-lts.Need-enum-told (
   group-reads.Asked,
   group-reads.Learnt,
-  forms-reads.Asked,
-  forms-reads.Learnt,
+  deepen-reads.Asked,
+  deepen-reads.Learnt,
   list-reads.Asked,
   list-reads.Learnt,
   stop-reads.Asked,
@@ -8265,12 +8593,12 @@ fb-enum-told : (t : ℕ) → fb-lts.Need-enum-told (
 ) (fb-at t) fb.Post fb-Inv-loop fb-μ-loop
 fb-enum-told t c = search needs
 
--- src/lib.rt:1338:9
+-- src/lib.rt:1314:9
 fb-returns : (t : ℕ) → fb-lts.Need-returns (
   group-reads.Asked,
   group-reads.Learnt,
-  forms-reads.Asked,
-  forms-reads.Learnt,
+  deepen-reads.Asked,
+  deepen-reads.Learnt,
   list-reads.Asked,
   list-reads.Learnt,
   stop-reads.Asked,
@@ -8280,15 +8608,15 @@ fb-returns : (t : ℕ) → fb-lts.Need-returns (
   fc-below t,
   fc.Post,
 ) (fb-at t) fb.Post fb-Inv-loop fb-μ-loop
-unfolding DecOne.fun-bind Helpers.indented Helpers.sep-with-lines
+unfolding DecOne.fun-bind Helpers.indent-deeper Helpers.deepen Helpers.sep-with-lines
 fb-returns t c = record { is = group-not (c .before .before .group .ensures) (c .enum-told .given .1) }
 
--- src/lib.rt:1340:9
-fb-forms-requires : (t : ℕ) → fb-lts.Need-forms-requires (
+-- src/lib.rt:1316:9
+fb-deepen-requires : (t : ℕ) → fb-lts.Need-deepen-requires (
   group-reads.Asked,
   group-reads.Learnt,
-  forms-reads.Asked,
-  forms-reads.Learnt,
+  deepen-reads.Asked,
+  deepen-reads.Learnt,
   list-reads.Asked,
   list-reads.Learnt,
   stop-reads.Asked,
@@ -8298,14 +8626,14 @@ fb-forms-requires : (t : ℕ) → fb-lts.Need-forms-requires (
   fc-below t,
   fc.Post,
 ) (fb-at t) fb.Post fb-Inv-loop fb-μ-loop
-fb-forms-requires t c κs = omega (arith, c .before .before .before .before .before .before .before .before .before .before .pre .1)
+fb-deepen-requires t c κs = omega (arith, c .before .before .before .before .before .before .before .before .before .before .pre .1)
 
--- src/lib.rt:1341:27
+-- src/lib.rt:1317:27
 fb-list-requires : (t : ℕ) → fb-lts.Need-list-requires (
   group-reads.Asked,
   group-reads.Learnt,
-  forms-reads.Asked,
-  forms-reads.Learnt,
+  deepen-reads.Asked,
+  deepen-reads.Learnt,
   list-reads.Asked,
   list-reads.Learnt,
   stop-reads.Asked,
@@ -8317,12 +8645,12 @@ fb-list-requires : (t : ℕ) → fb-lts.Need-list-requires (
 ) (fb-at t) fb.Post fb-Inv-loop fb-μ-loop
 fb-list-requires t c κs = search needs
 
--- src/lib.rt:1341:18
+-- src/lib.rt:1317:18
 fb-enum-known-n : (t : ℕ) → fb-lts.Need-enum-known-n (
   group-reads.Asked,
   group-reads.Learnt,
-  forms-reads.Asked,
-  forms-reads.Learnt,
+  deepen-reads.Asked,
+  deepen-reads.Learnt,
   list-reads.Asked,
   list-reads.Learnt,
   stop-reads.Asked,
@@ -8334,12 +8662,12 @@ fb-enum-known-n : (t : ℕ) → fb-lts.Need-enum-known-n (
 ) (fb-at t) fb.Post fb-Inv-loop fb-μ-loop
 fb-enum-known-n t c = search needs
 
--- src/lib.rt:1342:9
+-- src/lib.rt:1318:9
 fb-enum-told-2 : (t : ℕ) → fb-lts.Need-enum-told-2 (
   group-reads.Asked,
   group-reads.Learnt,
-  forms-reads.Asked,
-  forms-reads.Learnt,
+  deepen-reads.Asked,
+  deepen-reads.Learnt,
   list-reads.Asked,
   list-reads.Learnt,
   stop-reads.Asked,
@@ -8351,12 +8679,12 @@ fb-enum-told-2 : (t : ℕ) → fb-lts.Need-enum-told-2 (
 ) (fb-at t) fb.Post fb-Inv-loop fb-μ-loop
 fb-enum-told-2 t c = search needs
 
--- src/lib.rt:1342:9
+-- src/lib.rt:1318:9
 fb-stop-requires : (t : ℕ) → fb-lts.Need-stop-requires (
   group-reads.Asked,
   group-reads.Learnt,
-  forms-reads.Asked,
-  forms-reads.Learnt,
+  deepen-reads.Asked,
+  deepen-reads.Learnt,
   list-reads.Asked,
   list-reads.Learnt,
   stop-reads.Asked,
@@ -8368,12 +8696,12 @@ fb-stop-requires : (t : ℕ) → fb-lts.Need-stop-requires (
 ) (fb-at t) fb.Post fb-Inv-loop fb-μ-loop
 fb-stop-requires t c κs = search needs
 
--- src/lib.rt:1342:9
+-- src/lib.rt:1318:9
 fb-returns-2 : (t : ℕ) → fb-lts.Need-returns-2 (
   group-reads.Asked,
   group-reads.Learnt,
-  forms-reads.Asked,
-  forms-reads.Learnt,
+  deepen-reads.Asked,
+  deepen-reads.Learnt,
   list-reads.Asked,
   list-reads.Learnt,
   stop-reads.Asked,
@@ -8383,15 +8711,15 @@ fb-returns-2 : (t : ℕ) → fb-lts.Need-returns-2 (
   fc-below t,
   fc.Post,
 ) (fb-at t) fb.Post fb-Inv-loop fb-μ-loop
-unfolding DecOne.fun-bind Helpers.indented Helpers.sep-with-lines
-fb-returns-2 t c = record { is = by-same (group-is (c .before .before .before .before .before .before .before .before .group .ensures) (c .before .before .before .before .before .before .r1 .given .1)) (then-sure (sure-formed (c .before .before .before .before .forms .ensures)) (list-not (c .stop .ensures) (c .before .before .before .list .ensures) (c .before .enum-told2 .given .1))) }
+unfolding DecOne.fun-bind Helpers.indent-deeper Helpers.deepen Helpers.sep-with-lines
+fb-returns-2 t c = record { is = by-same (group-is (c .before .before .before .before .before .before .before .before .group .ensures) (c .before .before .before .before .before .before .r1 .given .1)) (then-sure (sure-formed (c .before .before .before .before .deepen .ensures)) (list-not (c .stop .ensures) (c .before .before .before .list .ensures) (c .before .enum-told2 .given .1))) }
 
--- src/lib.rt:1346:5
+-- src/lib.rt:1322:5
 fb-loop-holds : (t : ℕ) → fb-lts.Need-loop-holds (
   group-reads.Asked,
   group-reads.Learnt,
-  forms-reads.Asked,
-  forms-reads.Learnt,
+  deepen-reads.Asked,
+  deepen-reads.Learnt,
   list-reads.Asked,
   list-reads.Learnt,
   stop-reads.Asked,
@@ -8403,12 +8731,12 @@ fb-loop-holds : (t : ℕ) → fb-lts.Need-loop-holds (
 ) (fb-at t) fb.Post fb-Inv-loop fb-μ-loop
 fb-loop-holds t c = (omega arith, λ r o m h. h, refl)
 
--- src/lib.rt:1347:13
+-- src/lib.rt:1323:13
 fb-new-line-in-requires : (t : ℕ) → fb-lts.Need-new-line-in-requires (
   group-reads.Asked,
   group-reads.Learnt,
-  forms-reads.Asked,
-  forms-reads.Learnt,
+  deepen-reads.Asked,
+  deepen-reads.Learnt,
   list-reads.Asked,
   list-reads.Learnt,
   stop-reads.Asked,
@@ -8420,12 +8748,12 @@ fb-new-line-in-requires : (t : ℕ) → fb-lts.Need-new-line-in-requires (
 ) (fb-at t) fb.Post fb-Inv-loop fb-μ-loop
 fb-new-line-in-requires t c κs = omega (arith, c .before .before .before .before .before .before .before .before .before .before .before .before .before .before .before .before .before .before .pre .1)
 
--- src/lib.rt:1348:13
+-- src/lib.rt:1324:13
 fb-fc-requires : (t : ℕ) → fb-lts.Need-fc-requires (
   group-reads.Asked,
   group-reads.Learnt,
-  forms-reads.Asked,
-  forms-reads.Learnt,
+  deepen-reads.Asked,
+  deepen-reads.Learnt,
   list-reads.Asked,
   list-reads.Learnt,
   stop-reads.Asked,
@@ -8437,12 +8765,12 @@ fb-fc-requires : (t : ℕ) → fb-lts.Need-fc-requires (
 ) (fb-at t) fb.Post fb-Inv-loop fb-μ-loop
 fb-fc-requires t c κs = omega (arith, c .before .before .before .before .before .before .before .before .before .before .before .before .before .before .before .before .before .before .before .before .before .before .before .pre .0, c .before .before .before .before .before .before .before .before .before .before .before .before .before .before .before .before .before .before .before .before .before .before .before .pre .1)
 
--- src/lib.rt:1349:26
+-- src/lib.rt:1325:26
 fb-enum-known-r5 : (t : ℕ) → fb-lts.Need-enum-known-r5 (
   group-reads.Asked,
   group-reads.Learnt,
-  forms-reads.Asked,
-  forms-reads.Learnt,
+  deepen-reads.Asked,
+  deepen-reads.Learnt,
   list-reads.Asked,
   list-reads.Learnt,
   stop-reads.Asked,
@@ -8454,12 +8782,12 @@ fb-enum-known-r5 : (t : ℕ) → fb-lts.Need-enum-known-r5 (
 ) (fb-at t) fb.Post fb-Inv-loop fb-μ-loop
 fb-enum-known-r5 t c = search needs
 
--- src/lib.rt:1350:13
+-- src/lib.rt:1326:13
 fb-enum-told-3 : (t : ℕ) → fb-lts.Need-enum-told-3 (
   group-reads.Asked,
   group-reads.Learnt,
-  forms-reads.Asked,
-  forms-reads.Learnt,
+  deepen-reads.Asked,
+  deepen-reads.Learnt,
   list-reads.Asked,
   list-reads.Learnt,
   stop-reads.Asked,
@@ -8471,12 +8799,12 @@ fb-enum-told-3 : (t : ℕ) → fb-lts.Need-enum-told-3 (
 ) (fb-at t) fb.Post fb-Inv-loop fb-μ-loop
 fb-enum-told-3 t c = search needs
 
--- src/lib.rt:1350:13
+-- src/lib.rt:1326:13
 fb-same-length : (t : ℕ) → fb-lts.Need-same-length (
   group-reads.Asked,
   group-reads.Learnt,
-  forms-reads.Asked,
-  forms-reads.Learnt,
+  deepen-reads.Asked,
+  deepen-reads.Learnt,
   list-reads.Asked,
   list-reads.Learnt,
   stop-reads.Asked,
@@ -8488,12 +8816,12 @@ fb-same-length : (t : ℕ) → fb-lts.Need-same-length (
 ) (fb-at t) fb.Post fb-Inv-loop fb-μ-loop
 fb-same-length t c = c .before .before .before .before .fc .kept .1 .1 .1 .1 .1 .0 ∙ c .before .before .before .before .before .before .before .before .before .new-line-in .kept .1 .0 ∙ c .before .before .before .before .before .before .before .before .before .before .before .before .loop .inv .2
 
--- src/lib.rt:1350:13
+-- src/lib.rt:1326:13
 fb-returns-3 : (t : ℕ) → fb-lts.Need-returns-3 (
   group-reads.Asked,
   group-reads.Learnt,
-  forms-reads.Asked,
-  forms-reads.Learnt,
+  deepen-reads.Asked,
+  deepen-reads.Learnt,
   list-reads.Asked,
   list-reads.Learnt,
   stop-reads.Asked,
@@ -8503,15 +8831,15 @@ fb-returns-3 : (t : ℕ) → fb-lts.Need-returns-3 (
   fc-below t,
   fc.Post,
 ) (fb-at t) fb.Post fb-Inv-loop fb-μ-loop
-unfolding DecOne.fun-bind Helpers.indented Helpers.sep-with-lines
-fb-returns-3 t c = record { is = by-same (group-is (c .before .before .before .before .before .before .before .before .before .before .before .before .before .before .before .before .before .before .before .before .before .group .ensures) (c .before .before .before .before .before .before .before .before .before .before .before .before .before .before .before .before .before .before .before .r1 .given .1)) (then-sure (sure-formed (c .before .before .before .before .before .before .before .before .before .before .before .before .before .before .before .before .before .forms .ensures)) (by-same (list-is (c .before .before .before .before .before .before .before .before .before .before .before .before .before .before .before .before .list .ensures) (c .before .before .before .before .before .before .before .before .before .before .before .before .before .before .n .given .1)) (by-same (items-all _ _ _) (c .before .before .before .before .before .before .before .before .before .before .before .before .loop .inv .1 _ _ _ (from-more _ _ (c .before .before .before .before .before .before .before .before .before .before .before .loop-test .taken) (then-sure (c .before .before .before .before .before .before .before .before .before .new-line-in .ensures) (then-stop (c .before .before .before .before .fc .ensures .is) (c .enum-told3 .given .1)))))))) }
+unfolding DecOne.fun-bind Helpers.indent-deeper Helpers.deepen Helpers.sep-with-lines
+fb-returns-3 t c = record { is = by-same (group-is (c .before .before .before .before .before .before .before .before .before .before .before .before .before .before .before .before .before .before .before .before .before .group .ensures) (c .before .before .before .before .before .before .before .before .before .before .before .before .before .before .before .before .before .before .before .r1 .given .1)) (then-sure (sure-formed (c .before .before .before .before .before .before .before .before .before .before .before .before .before .before .before .before .before .deepen .ensures)) (by-same (list-is (c .before .before .before .before .before .before .before .before .before .before .before .before .before .before .before .before .list .ensures) (c .before .before .before .before .before .before .before .before .before .before .before .before .before .before .n .given .1)) (by-same (items-all _ _ _) (c .before .before .before .before .before .before .before .before .before .before .before .before .loop .inv .1 _ _ _ (from-more _ _ (c .before .before .before .before .before .before .before .before .before .before .before .loop-test .taken) (then-sure (c .before .before .before .before .before .before .before .before .before .new-line-in .ensures) (then-stop (c .before .before .before .before .fc .ensures .is) (c .enum-told3 .given .1)))))))) }
 
--- src/lib.rt:1353:9
+-- src/lib.rt:1329:9
 fb-add-i : (t : ℕ) → fb-lts.Need-add-i (
   group-reads.Asked,
   group-reads.Learnt,
-  forms-reads.Asked,
-  forms-reads.Learnt,
+  deepen-reads.Asked,
+  deepen-reads.Learnt,
   list-reads.Asked,
   list-reads.Learnt,
   stop-reads.Asked,
@@ -8523,12 +8851,12 @@ fb-add-i : (t : ℕ) → fb-lts.Need-add-i (
 ) (fb-at t) fb.Post fb-Inv-loop fb-μ-loop
 fb-add-i t c = omega (arith, c .before .before .before .before .before .before .before .before .before .before .before .before .loop-test .taken, c .before .before .before .before .before .before .before .before .before .before .before .before .before .before .known-told2)
 
--- src/lib.rt:1346:5
+-- src/lib.rt:1322:5
 fb-loop-less : (t : ℕ) → fb-lts.Need-loop-less (
   group-reads.Asked,
   group-reads.Learnt,
-  forms-reads.Asked,
-  forms-reads.Learnt,
+  deepen-reads.Asked,
+  deepen-reads.Learnt,
   list-reads.Asked,
   list-reads.Learnt,
   stop-reads.Asked,
@@ -8540,12 +8868,12 @@ fb-loop-less : (t : ℕ) → fb-lts.Need-loop-less (
 ) (fb-at t) fb.Post fb-Inv-loop fb-μ-loop
 fb-loop-less t c = omega arith
 
--- src/lib.rt:1346:5
+-- src/lib.rt:1322:5
 fb-loop-again : (t : ℕ) → fb-lts.Need-loop-again (
   group-reads.Asked,
   group-reads.Learnt,
-  forms-reads.Asked,
-  forms-reads.Learnt,
+  deepen-reads.Asked,
+  deepen-reads.Learnt,
   list-reads.Asked,
   list-reads.Learnt,
   stop-reads.Asked,
@@ -8555,15 +8883,15 @@ fb-loop-again : (t : ℕ) → fb-lts.Need-loop-again (
   fc-below t,
   fc.Post,
 ) (fb-at t) fb.Post fb-Inv-loop fb-μ-loop
-unfolding DecOne.fun-bind Helpers.indented Helpers.sep-with-lines
+unfolding DecOne.fun-bind Helpers.indent-deeper Helpers.deepen Helpers.sep-with-lines
 fb-loop-again t c = (omega (arith, c .before .before .before .before .before .before .before .before .before .before .before .before .before .loop .inv .0), λ r o m h. c .before .before .before .before .before .before .before .before .before .before .before .before .before .loop .inv .1 r o m (from-more _ _ (c .before .before .before .before .before .before .before .before .before .before .before .before .loop-test .taken) (then-sure (c .before .before .before .before .before .before .before .before .before .before .new-line-in .ensures) (then-done (c .before .before .before .before .before .fc .ensures .is) (c .before .r5 .given .1) h))), c .before .before .before .before .before .fc .kept .1 .1 .1 .1 .1 .0 ∙ c .before .before .before .before .before .before .before .before .before .before .new-line-in .kept .1 .0 ∙ c .before .before .before .before .before .before .before .before .before .before .before .before .before .loop .inv .2)
 
--- src/lib.rt:1322:1
+-- src/lib.rt:1298:1
 fb-same-length-2 : (t : ℕ) → fb-lts.Need-same-length-2 (
   group-reads.Asked,
   group-reads.Learnt,
-  forms-reads.Asked,
-  forms-reads.Learnt,
+  deepen-reads.Asked,
+  deepen-reads.Learnt,
   list-reads.Asked,
   list-reads.Learnt,
   stop-reads.Asked,
@@ -8575,12 +8903,12 @@ fb-same-length-2 : (t : ℕ) → fb-lts.Need-same-length-2 (
 ) (fb-at t) fb.Post fb-Inv-loop fb-μ-loop
 fb-same-length-2 t c = c .before .loop .inv .2
 
--- src/lib.rt:1322:1
+-- src/lib.rt:1298:1
 fb-returns-4 : (t : ℕ) → fb-lts.Need-returns-4 (
   group-reads.Asked,
   group-reads.Learnt,
-  forms-reads.Asked,
-  forms-reads.Learnt,
+  deepen-reads.Asked,
+  deepen-reads.Learnt,
   list-reads.Asked,
   list-reads.Learnt,
   stop-reads.Asked,
@@ -8590,10 +8918,10 @@ fb-returns-4 : (t : ℕ) → fb-lts.Need-returns-4 (
   fc-below t,
   fc.Post,
 ) (fb-at t) fb.Post fb-Inv-loop fb-μ-loop
-unfolding DecOne.fun-bind Helpers.indented Helpers.sep-with-lines
-fb-returns-4 t c = record { is = by-same (group-is (c .before .before .before .before .before .before .before .before .before .before .group .ensures) (c .before .before .before .before .before .before .before .before .r1 .given .1)) (then-sure (sure-formed (c .before .before .before .before .before .before .forms .ensures)) (by-same (list-is (c .before .before .before .before .before .list .ensures) (c .before .before .before .n .given .1)) (by-same (items-all _ _ _) (c .before .loop .inv .1 _ _ _ (from-none _ _ (c .loop-test .left)))))) }
+unfolding DecOne.fun-bind Helpers.indent-deeper Helpers.deepen Helpers.sep-with-lines
+fb-returns-4 t c = record { is = by-same (group-is (c .before .before .before .before .before .before .before .before .before .before .group .ensures) (c .before .before .before .before .before .before .before .before .r1 .given .1)) (then-sure (sure-formed (c .before .before .before .before .before .before .deepen .ensures)) (by-same (list-is (c .before .before .before .before .before .list .ensures) (c .before .before .before .n .given .1)) (by-same (items-all _ _ _) (c .before .loop .inv .1 _ _ _ (from-none _ _ (c .loop-test .left)))))) }
 
--- src/lib.rt:1373:9
+-- src/lib.rt:1349:9
 fc-group-requires : (t : ℕ) → fc-lts.Need-group-requires (
   group-reads.Asked,
   group-reads.Learnt,
@@ -8608,7 +8936,7 @@ fc-group-requires : (t : ℕ) → fc-lts.Need-group-requires (
 ) (fc-at t) fc.Post
 fc-group-requires t c κs = search needs
 
--- src/lib.rt:1374:22
+-- src/lib.rt:1350:22
 fc-enum-known-r1 : (t : ℕ) → fc-lts.Need-enum-known-r1 (
   group-reads.Asked,
   group-reads.Learnt,
@@ -8623,7 +8951,7 @@ fc-enum-known-r1 : (t : ℕ) → fc-lts.Need-enum-known-r1 (
 ) (fc-at t) fc.Post
 fc-enum-known-r1 t c = search needs
 
--- src/lib.rt:1375:9
+-- src/lib.rt:1351:9
 fc-enum-told : (t : ℕ) → fc-lts.Need-enum-told (
   group-reads.Asked,
   group-reads.Learnt,
@@ -8638,7 +8966,7 @@ fc-enum-told : (t : ℕ) → fc-lts.Need-enum-told (
 ) (fc-at t) fc.Post
 fc-enum-told t c = search needs
 
--- src/lib.rt:1375:9
+-- src/lib.rt:1351:9
 fc-returns : (t : ℕ) → fc-lts.Need-returns (
   group-reads.Asked,
   group-reads.Learnt,
@@ -8654,7 +8982,7 @@ fc-returns : (t : ℕ) → fc-lts.Need-returns (
 unfolding DecOne.fun-bind-case
 fc-returns t c = record { is = group-not (c .before .before .group .ensures) (c .enum-told .given .1) }
 
--- src/lib.rt:1377:9
+-- src/lib.rt:1353:9
 fc-case-head-requires : (t : ℕ) → fc-lts.Need-case-head-requires (
   group-reads.Asked,
   group-reads.Learnt,
@@ -8669,7 +8997,7 @@ fc-case-head-requires : (t : ℕ) → fc-lts.Need-case-head-requires (
 ) (fc-at t) fc.Post
 fc-case-head-requires t c κs = search needs
 
--- src/lib.rt:1378:22
+-- src/lib.rt:1354:22
 fc-enum-known-r2 : (t : ℕ) → fc-lts.Need-enum-known-r2 (
   group-reads.Asked,
   group-reads.Learnt,
@@ -8684,7 +9012,7 @@ fc-enum-known-r2 : (t : ℕ) → fc-lts.Need-enum-known-r2 (
 ) (fc-at t) fc.Post
 fc-enum-known-r2 t c = search needs
 
--- src/lib.rt:1379:9
+-- src/lib.rt:1355:9
 fc-enum-told-2 : (t : ℕ) → fc-lts.Need-enum-told-2 (
   group-reads.Asked,
   group-reads.Learnt,
@@ -8699,7 +9027,7 @@ fc-enum-told-2 : (t : ℕ) → fc-lts.Need-enum-told-2 (
 ) (fc-at t) fc.Post
 fc-enum-told-2 t c = search needs
 
--- src/lib.rt:1379:9
+-- src/lib.rt:1355:9
 fc-same-length : (t : ℕ) → fc-lts.Need-same-length (
   group-reads.Asked,
   group-reads.Learnt,
@@ -8714,7 +9042,7 @@ fc-same-length : (t : ℕ) → fc-lts.Need-same-length (
 ) (fc-at t) fc.Post
 fc-same-length t c = c .before .before .before .before .case-head .kept .1 .1 .1 .1 .0
 
--- src/lib.rt:1379:9
+-- src/lib.rt:1355:9
 fc-returns-2 : (t : ℕ) → fc-lts.Need-returns-2 (
   group-reads.Asked,
   group-reads.Learnt,
@@ -8730,7 +9058,7 @@ fc-returns-2 : (t : ℕ) → fc-lts.Need-returns-2 (
 unfolding DecOne.fun-bind-case
 fc-returns-2 t c = record { is = by-same (group-is (c .before .before .before .before .before .before .before .before .before .group .ensures) (c .before .before .before .before .before .before .before .r1 .given .1)) (then-stop (plain (c .before .before .before .before .case-head .ensures)) (c .enum-told2 .given .1)) }
 
--- src/lib.rt:1381:9
+-- src/lib.rt:1357:9
 fc-case-pats-requires : (t : ℕ) → fc-lts.Need-case-pats-requires (
   group-reads.Asked,
   group-reads.Learnt,
@@ -8745,7 +9073,7 @@ fc-case-pats-requires : (t : ℕ) → fc-lts.Need-case-pats-requires (
 ) (fc-at t) fc.Post
 fc-case-pats-requires t c κs = search needs
 
--- src/lib.rt:1382:22
+-- src/lib.rt:1358:22
 fc-enum-known-r3 : (t : ℕ) → fc-lts.Need-enum-known-r3 (
   group-reads.Asked,
   group-reads.Learnt,
@@ -8760,7 +9088,7 @@ fc-enum-known-r3 : (t : ℕ) → fc-lts.Need-enum-known-r3 (
 ) (fc-at t) fc.Post
 fc-enum-known-r3 t c = search needs
 
--- src/lib.rt:1383:9
+-- src/lib.rt:1359:9
 fc-enum-told-3 : (t : ℕ) → fc-lts.Need-enum-told-3 (
   group-reads.Asked,
   group-reads.Learnt,
@@ -8775,7 +9103,7 @@ fc-enum-told-3 : (t : ℕ) → fc-lts.Need-enum-told-3 (
 ) (fc-at t) fc.Post
 fc-enum-told-3 t c = search needs
 
--- src/lib.rt:1383:9
+-- src/lib.rt:1359:9
 fc-same-length-2 : (t : ℕ) → fc-lts.Need-same-length-2 (
   group-reads.Asked,
   group-reads.Learnt,
@@ -8790,7 +9118,7 @@ fc-same-length-2 : (t : ℕ) → fc-lts.Need-same-length-2 (
 ) (fc-at t) fc.Post
 fc-same-length-2 t c = c .before .before .before .before .case-pats .kept .1 .1 .1 .1 .0 ∙ c .before .before .before .before .before .before .before .before .before .before .before .case-head .kept .1 .1 .1 .1 .0
 
--- src/lib.rt:1383:9
+-- src/lib.rt:1359:9
 fc-returns-3 : (t : ℕ) → fc-lts.Need-returns-3 (
   group-reads.Asked,
   group-reads.Learnt,
@@ -8806,7 +9134,7 @@ fc-returns-3 : (t : ℕ) → fc-lts.Need-returns-3 (
 unfolding DecOne.fun-bind-case
 fc-returns-3 t c = record { is = by-same (group-is (c .before .before .before .before .before .before .before .before .before .before .before .before .before .before .before .before .group .ensures) (c .before .before .before .before .before .before .before .before .before .before .before .before .before .before .r1 .given .1)) (then-done (plain (c .before .before .before .before .before .before .before .before .before .before .before .case-head .ensures)) (c .before .before .before .before .before .before .before .r2 .given .1) (then-stop (plain (c .before .before .before .before .case-pats .ensures)) (c .enum-told3 .given .1))) }
 
--- src/lib.rt:1385:9
+-- src/lib.rt:1361:9
 fc-ty-annotation-requires : (t : ℕ) → fc-lts.Need-ty-annotation-requires (
   group-reads.Asked,
   group-reads.Learnt,
@@ -8821,7 +9149,7 @@ fc-ty-annotation-requires : (t : ℕ) → fc-lts.Need-ty-annotation-requires (
 ) (fc-at t) fc.Post
 fc-ty-annotation-requires t c κs = search needs
 
--- src/lib.rt:1386:22
+-- src/lib.rt:1362:22
 fc-enum-known-r4 : (t : ℕ) → fc-lts.Need-enum-known-r4 (
   group-reads.Asked,
   group-reads.Learnt,
@@ -8836,7 +9164,7 @@ fc-enum-known-r4 : (t : ℕ) → fc-lts.Need-enum-known-r4 (
 ) (fc-at t) fc.Post
 fc-enum-known-r4 t c = search needs
 
--- src/lib.rt:1387:9
+-- src/lib.rt:1363:9
 fc-enum-told-4 : (t : ℕ) → fc-lts.Need-enum-told-4 (
   group-reads.Asked,
   group-reads.Learnt,
@@ -8851,7 +9179,7 @@ fc-enum-told-4 : (t : ℕ) → fc-lts.Need-enum-told-4 (
 ) (fc-at t) fc.Post
 fc-enum-told-4 t c = search needs
 
--- src/lib.rt:1387:9
+-- src/lib.rt:1363:9
 fc-same-length-3 : (t : ℕ) → fc-lts.Need-same-length-3 (
   group-reads.Asked,
   group-reads.Learnt,
@@ -8866,7 +9194,7 @@ fc-same-length-3 : (t : ℕ) → fc-lts.Need-same-length-3 (
 ) (fc-at t) fc.Post
 fc-same-length-3 t c = c .before .before .before .before .ty-annotation .kept .1 .1 .1 .1 .0 ∙ c .before .before .before .before .before .before .before .before .before .before .before .case-pats .kept .1 .1 .1 .1 .0 ∙ c .before .before .before .before .before .before .before .before .before .before .before .before .before .before .before .before .before .before .case-head .kept .1 .1 .1 .1 .0
 
--- src/lib.rt:1387:9
+-- src/lib.rt:1363:9
 fc-returns-4 : (t : ℕ) → fc-lts.Need-returns-4 (
   group-reads.Asked,
   group-reads.Learnt,
@@ -8882,7 +9210,7 @@ fc-returns-4 : (t : ℕ) → fc-lts.Need-returns-4 (
 unfolding DecOne.fun-bind-case
 fc-returns-4 t c = record { is = by-same (group-is (c .before .before .before .before .before .before .before .before .before .before .before .before .before .before .before .before .before .before .before .before .before .before .before .group .ensures) (c .before .before .before .before .before .before .before .before .before .before .before .before .before .before .before .before .before .before .before .before .before .r1 .given .1)) (then-done (plain (c .before .before .before .before .before .before .before .before .before .before .before .before .before .before .before .before .before .before .case-head .ensures)) (c .before .before .before .before .before .before .before .before .before .before .before .before .before .before .r2 .given .1) (then-done (plain (c .before .before .before .before .before .before .before .before .before .before .before .case-pats .ensures)) (c .before .before .before .before .before .before .before .r3 .given .1) (then-stop (plain (c .before .before .before .before .ty-annotation .ensures)) (c .enum-told4 .given .1)))) }
 
--- src/lib.rt:1389:5
+-- src/lib.rt:1365:5
 fc-qb-requires : (t : ℕ) → fc-lts.Need-qb-requires (
   group-reads.Asked,
   group-reads.Learnt,
@@ -8897,7 +9225,7 @@ fc-qb-requires : (t : ℕ) → fc-lts.Need-qb-requires (
 ) (fc-at t) fc.Post
 fc-qb-requires t c κs = omega (arith, c .before .before .before .before .before .before .before .before .before .before .before .before .before .before .before .before .before .before .before .before .before .before .before .before .before .before .before .before .before .before .before .before .before .pre .0, c .before .before .before .before .before .before .before .before .before .before .before .before .before .before .before .before .before .before .before .before .before .before .before .before .before .before .before .before .before .before .before .before .before .pre .1)
 
--- src/lib.rt:1359:1
+-- src/lib.rt:1335:1
 fc-same-length-4 : (t : ℕ) → fc-lts.Need-same-length-4 (
   group-reads.Asked,
   group-reads.Learnt,
@@ -8912,7 +9240,7 @@ fc-same-length-4 : (t : ℕ) → fc-lts.Need-same-length-4 (
 ) (fc-at t) fc.Post
 fc-same-length-4 t c = c .before .before .qb .kept .1 .1 .1 .1 .1 .0 ∙ c .before .before .before .before .before .before .before .before .before .before .ty-annotation .kept .1 .1 .1 .1 .0 ∙ c .before .before .before .before .before .before .before .before .before .before .before .before .before .before .before .before .before .case-pats .kept .1 .1 .1 .1 .0 ∙ c .before .before .before .before .before .before .before .before .before .before .before .before .before .before .before .before .before .before .before .before .before .before .before .before .case-head .kept .1 .1 .1 .1 .0
 
--- src/lib.rt:1359:1
+-- src/lib.rt:1335:1
 fc-returns-5 : (t : ℕ) → fc-lts.Need-returns-5 (
   group-reads.Asked,
   group-reads.Learnt,
@@ -8935,7 +9263,7 @@ fd-Inv-loop text rec kinds starts lens out₀ left₀ cfg n s₀ i₀ out left s
 abbrev fd-μ-loop : fd-lts.MeasureT-loop
 fd-μ-loop text rec kinds starts lens out₀ left₀ cfg n s₀ i₀ out left s i = n - i
 
--- src/lib.rt:1299:9
+-- src/lib.rt:1275:9
 fd-word-requires : (t : ℕ) → fd-lts.Need-word-requires (
   word-reads.Asked,
   word-reads.Learnt,
@@ -8952,7 +9280,7 @@ fd-word-requires : (t : ℕ) → fd-lts.Need-word-requires (
 ) (fd-at t) fd.Post fd-Inv-loop fd-μ-loop
 fd-word-requires t c κs = search needs
 
--- src/lib.rt:1300:9
+-- src/lib.rt:1276:9
 fd-ty-var-seq-requires : (t : ℕ) → fd-lts.Need-ty-var-seq-requires (
   word-reads.Asked,
   word-reads.Learnt,
@@ -8969,7 +9297,7 @@ fd-ty-var-seq-requires : (t : ℕ) → fd-lts.Need-ty-var-seq-requires (
 ) (fd-at t) fd.Post fd-Inv-loop fd-μ-loop
 fd-ty-var-seq-requires t c κs = search needs
 
--- src/lib.rt:1301:22
+-- src/lib.rt:1277:22
 fd-enum-known-r2 : (t : ℕ) → fd-lts.Need-enum-known-r2 (
   word-reads.Asked,
   word-reads.Learnt,
@@ -8986,7 +9314,7 @@ fd-enum-known-r2 : (t : ℕ) → fd-lts.Need-enum-known-r2 (
 ) (fd-at t) fd.Post fd-Inv-loop fd-μ-loop
 fd-enum-known-r2 t c = search needs
 
--- src/lib.rt:1302:9
+-- src/lib.rt:1278:9
 fd-enum-told : (t : ℕ) → fd-lts.Need-enum-told (
   word-reads.Asked,
   word-reads.Learnt,
@@ -9003,7 +9331,7 @@ fd-enum-told : (t : ℕ) → fd-lts.Need-enum-told (
 ) (fd-at t) fd.Post fd-Inv-loop fd-μ-loop
 fd-enum-told t c = search needs
 
--- src/lib.rt:1302:9
+-- src/lib.rt:1278:9
 fd-same-length : (t : ℕ) → fd-lts.Need-same-length (
   word-reads.Asked,
   word-reads.Learnt,
@@ -9020,7 +9348,7 @@ fd-same-length : (t : ℕ) → fd-lts.Need-same-length (
 ) (fd-at t) fd.Post fd-Inv-loop fd-μ-loop
 fd-same-length t c = c .before .before .before .before .ty-var-seq .kept .1 .1 .1 .1 .0 ∙ c .before .before .before .before .before .before .before .before .word .kept .1 .0
 
--- src/lib.rt:1302:9
+-- src/lib.rt:1278:9
 fd-returns : (t : ℕ) → fd-lts.Need-returns (
   word-reads.Asked,
   word-reads.Learnt,
@@ -9035,10 +9363,10 @@ fd-returns : (t : ℕ) → fd-lts.Need-returns (
   fb-below t,
   fb.Post,
 ) (fd-at t) fd.Post fd-Inv-loop fd-μ-loop
-unfolding DecOne.FunDec Helpers.sep-with-lines
+unfolding DecOne.dec-one Helpers.sep-with-lines
 fd-returns t c = record { is = then-sure (c .before .before .before .before .before .before .before .before .word .ensures) (then-stop (plain (c .before .before .before .before .ty-var-seq .ensures)) (c .enum-told .given .1)) }
 
--- src/lib.rt:1304:27
+-- src/lib.rt:1280:27
 fd-list-requires : (t : ℕ) → fd-lts.Need-list-requires (
   word-reads.Asked,
   word-reads.Learnt,
@@ -9055,7 +9383,7 @@ fd-list-requires : (t : ℕ) → fd-lts.Need-list-requires (
 ) (fd-at t) fd.Post fd-Inv-loop fd-μ-loop
 fd-list-requires t c κs = search needs
 
--- src/lib.rt:1304:18
+-- src/lib.rt:1280:18
 fd-enum-known-n : (t : ℕ) → fd-lts.Need-enum-known-n (
   word-reads.Asked,
   word-reads.Learnt,
@@ -9072,7 +9400,7 @@ fd-enum-known-n : (t : ℕ) → fd-lts.Need-enum-known-n (
 ) (fd-at t) fd.Post fd-Inv-loop fd-μ-loop
 fd-enum-known-n t c = search needs
 
--- src/lib.rt:1305:9
+-- src/lib.rt:1281:9
 fd-enum-told-2 : (t : ℕ) → fd-lts.Need-enum-told-2 (
   word-reads.Asked,
   word-reads.Learnt,
@@ -9089,7 +9417,7 @@ fd-enum-told-2 : (t : ℕ) → fd-lts.Need-enum-told-2 (
 ) (fd-at t) fd.Post fd-Inv-loop fd-μ-loop
 fd-enum-told-2 t c = search needs
 
--- src/lib.rt:1305:9
+-- src/lib.rt:1281:9
 fd-stop-requires : (t : ℕ) → fd-lts.Need-stop-requires (
   word-reads.Asked,
   word-reads.Learnt,
@@ -9106,7 +9434,7 @@ fd-stop-requires : (t : ℕ) → fd-lts.Need-stop-requires (
 ) (fd-at t) fd.Post fd-Inv-loop fd-μ-loop
 fd-stop-requires t c κs = search needs
 
--- src/lib.rt:1305:9
+-- src/lib.rt:1281:9
 fd-same-length-2 : (t : ℕ) → fd-lts.Need-same-length-2 (
   word-reads.Asked,
   word-reads.Learnt,
@@ -9123,7 +9451,7 @@ fd-same-length-2 : (t : ℕ) → fd-lts.Need-same-length-2 (
 ) (fd-at t) fd.Post fd-Inv-loop fd-μ-loop
 fd-same-length-2 t c = c .before .before .before .before .before .before .before .before .before .ty-var-seq .kept .1 .1 .1 .1 .0 ∙ c .before .before .before .before .before .before .before .before .before .before .before .before .before .word .kept .1 .0
 
--- src/lib.rt:1305:9
+-- src/lib.rt:1281:9
 fd-returns-2 : (t : ℕ) → fd-lts.Need-returns-2 (
   word-reads.Asked,
   word-reads.Learnt,
@@ -9138,10 +9466,10 @@ fd-returns-2 : (t : ℕ) → fd-lts.Need-returns-2 (
   fb-below t,
   fb.Post,
 ) (fd-at t) fd.Post fd-Inv-loop fd-μ-loop
-unfolding DecOne.FunDec Helpers.sep-with-lines
+unfolding DecOne.dec-one Helpers.sep-with-lines
 fd-returns-2 t c = record { is = then-sure (c .before .before .before .before .before .before .before .before .before .before .before .before .before .word .ensures) (then-done (plain (c .before .before .before .before .before .before .before .before .before .ty-var-seq .ensures)) (c .before .before .before .before .before .r2 .given .1) (list-not (c .stop .ensures) (c .before .before .before .list .ensures) (c .before .enum-told2 .given .1))) }
 
--- src/lib.rt:1309:5
+-- src/lib.rt:1285:5
 fd-loop-holds : (t : ℕ) → fd-lts.Need-loop-holds (
   word-reads.Asked,
   word-reads.Learnt,
@@ -9158,7 +9486,7 @@ fd-loop-holds : (t : ℕ) → fd-lts.Need-loop-holds (
 ) (fd-at t) fd.Post fd-Inv-loop fd-μ-loop
 fd-loop-holds t c = (omega arith, λ r o m h. h, refl)
 
--- src/lib.rt:1310:13
+-- src/lib.rt:1286:13
 fd-new-line-requires : (t : ℕ) → fd-lts.Need-new-line-requires (
   word-reads.Asked,
   word-reads.Learnt,
@@ -9175,7 +9503,7 @@ fd-new-line-requires : (t : ℕ) → fd-lts.Need-new-line-requires (
 ) (fd-at t) fd.Post fd-Inv-loop fd-μ-loop
 fd-new-line-requires t c κs = search needs
 
--- src/lib.rt:1311:13
+-- src/lib.rt:1287:13
 fd-fb-requires : (t : ℕ) → fd-lts.Need-fb-requires (
   word-reads.Asked,
   word-reads.Learnt,
@@ -9192,7 +9520,7 @@ fd-fb-requires : (t : ℕ) → fd-lts.Need-fb-requires (
 ) (fd-at t) fd.Post fd-Inv-loop fd-μ-loop
 fd-fb-requires t c κs = omega (arith, c .before .before .before .before .before .before .before .before .before .before .before .before .before .before .before .before .before .before .before .before .before .before .before .before .before .before .before .before .before .pre .0, c .before .before .before .before .before .before .before .before .before .before .before .before .before .before .before .before .before .before .before .before .before .before .before .before .before .before .before .before .before .pre .1)
 
--- src/lib.rt:1312:26
+-- src/lib.rt:1288:26
 fd-enum-known-r5 : (t : ℕ) → fd-lts.Need-enum-known-r5 (
   word-reads.Asked,
   word-reads.Learnt,
@@ -9209,7 +9537,7 @@ fd-enum-known-r5 : (t : ℕ) → fd-lts.Need-enum-known-r5 (
 ) (fd-at t) fd.Post fd-Inv-loop fd-μ-loop
 fd-enum-known-r5 t c = search needs
 
--- src/lib.rt:1313:13
+-- src/lib.rt:1289:13
 fd-enum-told-3 : (t : ℕ) → fd-lts.Need-enum-told-3 (
   word-reads.Asked,
   word-reads.Learnt,
@@ -9226,7 +9554,7 @@ fd-enum-told-3 : (t : ℕ) → fd-lts.Need-enum-told-3 (
 ) (fd-at t) fd.Post fd-Inv-loop fd-μ-loop
 fd-enum-told-3 t c = search needs
 
--- src/lib.rt:1313:13
+-- src/lib.rt:1289:13
 fd-same-length-3 : (t : ℕ) → fd-lts.Need-same-length-3 (
   word-reads.Asked,
   word-reads.Learnt,
@@ -9243,7 +9571,7 @@ fd-same-length-3 : (t : ℕ) → fd-lts.Need-same-length-3 (
 ) (fd-at t) fd.Post fd-Inv-loop fd-μ-loop
 fd-same-length-3 t c = c .before .before .before .before .fb .kept .1 .1 .1 .1 .1 .0 ∙ c .before .before .before .before .before .before .before .before .before .new-line .kept .1 .0 ∙ c .before .before .before .before .before .before .before .before .before .before .before .before .loop .inv .2 ∙ c .before .before .before .before .before .before .before .before .before .before .before .before .before .before .before .before .before .before .before .before .before .before .ty-var-seq .kept .1 .1 .1 .1 .0 ∙ c .before .before .before .before .before .before .before .before .before .before .before .before .before .before .before .before .before .before .before .before .before .before .before .before .before .before .word .kept .1 .0
 
--- src/lib.rt:1313:13
+-- src/lib.rt:1289:13
 fd-returns-3 : (t : ℕ) → fd-lts.Need-returns-3 (
   word-reads.Asked,
   word-reads.Learnt,
@@ -9258,10 +9586,10 @@ fd-returns-3 : (t : ℕ) → fd-lts.Need-returns-3 (
   fb-below t,
   fb.Post,
 ) (fd-at t) fd.Post fd-Inv-loop fd-μ-loop
-unfolding DecOne.FunDec Helpers.sep-with-lines
+unfolding DecOne.dec-one Helpers.sep-with-lines
 fd-returns-3 t c = record { is = then-sure (c .before .before .before .before .before .before .before .before .before .before .before .before .before .before .before .before .before .before .before .before .before .before .before .before .before .before .word .ensures) (then-done (plain (c .before .before .before .before .before .before .before .before .before .before .before .before .before .before .before .before .before .before .before .before .before .before .ty-var-seq .ensures)) (c .before .before .before .before .before .before .before .before .before .before .before .before .before .before .before .before .before .before .r2 .given .1) (by-same (list-is (c .before .before .before .before .before .before .before .before .before .before .before .before .before .before .before .before .list .ensures) (c .before .before .before .before .before .before .before .before .before .before .before .before .before .before .n .given .1)) (by-same (items-all _ _ _) (c .before .before .before .before .before .before .before .before .before .before .before .before .loop .inv .1 _ _ _ (from-more _ _ (c .before .before .before .before .before .before .before .before .before .before .before .loop-test .taken) (then-sure (c .before .before .before .before .before .before .before .before .before .new-line .ensures) (then-stop (c .before .before .before .before .fb .ensures .is) (c .enum-told3 .given .1)))))))) }
 
--- src/lib.rt:1316:9
+-- src/lib.rt:1292:9
 fd-add-i : (t : ℕ) → fd-lts.Need-add-i (
   word-reads.Asked,
   word-reads.Learnt,
@@ -9278,7 +9606,7 @@ fd-add-i : (t : ℕ) → fd-lts.Need-add-i (
 ) (fd-at t) fd.Post fd-Inv-loop fd-μ-loop
 fd-add-i t c = omega (arith, c .before .before .before .before .before .before .before .before .before .before .before .before .loop-test .taken, c .before .before .before .before .before .before .before .before .before .before .before .before .before .before .known-told2)
 
--- src/lib.rt:1309:5
+-- src/lib.rt:1285:5
 fd-loop-less : (t : ℕ) → fd-lts.Need-loop-less (
   word-reads.Asked,
   word-reads.Learnt,
@@ -9295,7 +9623,7 @@ fd-loop-less : (t : ℕ) → fd-lts.Need-loop-less (
 ) (fd-at t) fd.Post fd-Inv-loop fd-μ-loop
 fd-loop-less t c = omega arith
 
--- src/lib.rt:1309:5
+-- src/lib.rt:1285:5
 fd-loop-again : (t : ℕ) → fd-lts.Need-loop-again (
   word-reads.Asked,
   word-reads.Learnt,
@@ -9310,10 +9638,10 @@ fd-loop-again : (t : ℕ) → fd-lts.Need-loop-again (
   fb-below t,
   fb.Post,
 ) (fd-at t) fd.Post fd-Inv-loop fd-μ-loop
-unfolding DecOne.FunDec Helpers.sep-with-lines
+unfolding DecOne.dec-one Helpers.sep-with-lines
 fd-loop-again t c = (omega (arith, c .before .before .before .before .before .before .before .before .before .before .before .before .before .loop .inv .0), λ r o m h. c .before .before .before .before .before .before .before .before .before .before .before .before .before .loop .inv .1 r o m (from-more _ _ (c .before .before .before .before .before .before .before .before .before .before .before .before .loop-test .taken) (then-sure (c .before .before .before .before .before .before .before .before .before .before .new-line .ensures) (then-done (c .before .before .before .before .before .fb .ensures .is) (c .before .r5 .given .1) h))), c .before .before .before .before .before .fb .kept .1 .1 .1 .1 .1 .0 ∙ c .before .before .before .before .before .before .before .before .before .before .new-line .kept .1 .0 ∙ c .before .before .before .before .before .before .before .before .before .before .before .before .before .loop .inv .2)
 
--- src/lib.rt:1285:1
+-- src/lib.rt:1261:1
 fd-same-length-4 : (t : ℕ) → fd-lts.Need-same-length-4 (
   word-reads.Asked,
   word-reads.Learnt,
@@ -9330,7 +9658,7 @@ fd-same-length-4 : (t : ℕ) → fd-lts.Need-same-length-4 (
 ) (fd-at t) fd.Post fd-Inv-loop fd-μ-loop
 fd-same-length-4 t c = c .before .loop .inv .2 ∙ c .before .before .before .before .before .before .before .before .before .before .before .ty-var-seq .kept .1 .1 .1 .1 .0 ∙ c .before .before .before .before .before .before .before .before .before .before .before .before .before .before .before .word .kept .1 .0
 
--- src/lib.rt:1285:1
+-- src/lib.rt:1261:1
 fd-returns-4 : (t : ℕ) → fd-lts.Need-returns-4 (
   word-reads.Asked,
   word-reads.Learnt,
@@ -9345,7 +9673,7 @@ fd-returns-4 : (t : ℕ) → fd-lts.Need-returns-4 (
   fb-below t,
   fb.Post,
 ) (fd-at t) fd.Post fd-Inv-loop fd-μ-loop
-unfolding DecOne.FunDec Helpers.sep-with-lines
+unfolding DecOne.dec-one Helpers.sep-with-lines
 fd-returns-4 t c = record { is = then-sure (c .before .before .before .before .before .before .before .before .before .before .before .before .before .before .before .word .ensures) (then-done (plain (c .before .before .before .before .before .before .before .before .before .before .before .ty-var-seq .ensures)) (c .before .before .before .before .before .before .before .r2 .given .1) (by-same (list-is (c .before .before .before .before .before .list .ensures) (c .before .before .before .n .given .1)) (by-same (items-all _ _ _) (c .before .loop .inv .1 _ _ _ (from-none _ _ (c .loop-test .left)))))) }
 
 abbrev fe-Inv-loop : fe-lts.InvT-loop
@@ -9355,7 +9683,7 @@ fe-Inv-loop text rec kinds starts lens out₀ left₀ cfg n s₀ i₀ out left s
 abbrev fe-μ-loop : fe-lts.MeasureT-loop
 fe-μ-loop text rec kinds starts lens out₀ left₀ cfg n s₀ i₀ out left s i = n - i
 
--- src/lib.rt:850:9
+-- src/lib.rt:871:9
 fe-word-requires : (t : ℕ) → fe-lts.Need-word-requires (
   word-reads.Asked,
   word-reads.Learnt,
@@ -9372,7 +9700,7 @@ fe-word-requires : (t : ℕ) → fe-lts.Need-word-requires (
 ) (fe-at t) fe.Post fe-Inv-loop fe-μ-loop
 fe-word-requires t c κs = search needs
 
--- src/lib.rt:851:9
+-- src/lib.rt:872:9
 fe-group-requires : (t : ℕ) → fe-lts.Need-group-requires (
   word-reads.Asked,
   word-reads.Learnt,
@@ -9389,7 +9717,7 @@ fe-group-requires : (t : ℕ) → fe-lts.Need-group-requires (
 ) (fe-at t) fe.Post fe-Inv-loop fe-μ-loop
 fe-group-requires t c κs = search needs
 
--- src/lib.rt:852:22
+-- src/lib.rt:873:22
 fe-enum-known-r2 : (t : ℕ) → fe-lts.Need-enum-known-r2 (
   word-reads.Asked,
   word-reads.Learnt,
@@ -9406,7 +9734,7 @@ fe-enum-known-r2 : (t : ℕ) → fe-lts.Need-enum-known-r2 (
 ) (fe-at t) fe.Post fe-Inv-loop fe-μ-loop
 fe-enum-known-r2 t c = search needs
 
--- src/lib.rt:853:9
+-- src/lib.rt:874:9
 fe-enum-told : (t : ℕ) → fe-lts.Need-enum-told (
   word-reads.Asked,
   word-reads.Learnt,
@@ -9423,7 +9751,7 @@ fe-enum-told : (t : ℕ) → fe-lts.Need-enum-told (
 ) (fe-at t) fe.Post fe-Inv-loop fe-μ-loop
 fe-enum-told t c = search needs
 
--- src/lib.rt:853:9
+-- src/lib.rt:874:9
 fe-same-length : (t : ℕ) → fe-lts.Need-same-length (
   word-reads.Asked,
   word-reads.Learnt,
@@ -9440,7 +9768,7 @@ fe-same-length : (t : ℕ) → fe-lts.Need-same-length (
 ) (fe-at t) fe.Post fe-Inv-loop fe-μ-loop
 fe-same-length t c = c .before .before .before .before .before .word .kept .1 .0
 
--- src/lib.rt:853:9
+-- src/lib.rt:874:9
 fe-returns : (t : ℕ) → fe-lts.Need-returns (
   word-reads.Asked,
   word-reads.Learnt,
@@ -9455,10 +9783,10 @@ fe-returns : (t : ℕ) → fe-lts.Need-returns (
   arm-below t,
   arm.Post,
 ) (fe-at t) fe.Post fe-Inv-loop fe-μ-loop
-unfolding Exp.FnExp Exp.fn-arms Helpers.sep
+unfolding Exp.exp Exp.fn-arms Helpers.sep
 fe-returns t c = record { is = then-sure (c .before .before .before .before .before .word .ensures) (group-not (c .before .before .group .ensures) (c .enum-told .given .1)) }
 
--- src/lib.rt:855:27
+-- src/lib.rt:876:27
 fe-list-requires : (t : ℕ) → fe-lts.Need-list-requires (
   word-reads.Asked,
   word-reads.Learnt,
@@ -9475,7 +9803,7 @@ fe-list-requires : (t : ℕ) → fe-lts.Need-list-requires (
 ) (fe-at t) fe.Post fe-Inv-loop fe-μ-loop
 fe-list-requires t c κs = search needs
 
--- src/lib.rt:855:18
+-- src/lib.rt:876:18
 fe-enum-known-n : (t : ℕ) → fe-lts.Need-enum-known-n (
   word-reads.Asked,
   word-reads.Learnt,
@@ -9492,7 +9820,7 @@ fe-enum-known-n : (t : ℕ) → fe-lts.Need-enum-known-n (
 ) (fe-at t) fe.Post fe-Inv-loop fe-μ-loop
 fe-enum-known-n t c = search needs
 
--- src/lib.rt:856:9
+-- src/lib.rt:877:9
 fe-enum-told-2 : (t : ℕ) → fe-lts.Need-enum-told-2 (
   word-reads.Asked,
   word-reads.Learnt,
@@ -9509,7 +9837,7 @@ fe-enum-told-2 : (t : ℕ) → fe-lts.Need-enum-told-2 (
 ) (fe-at t) fe.Post fe-Inv-loop fe-μ-loop
 fe-enum-told-2 t c = search needs
 
--- src/lib.rt:856:9
+-- src/lib.rt:877:9
 fe-stop-requires : (t : ℕ) → fe-lts.Need-stop-requires (
   word-reads.Asked,
   word-reads.Learnt,
@@ -9526,7 +9854,7 @@ fe-stop-requires : (t : ℕ) → fe-lts.Need-stop-requires (
 ) (fe-at t) fe.Post fe-Inv-loop fe-μ-loop
 fe-stop-requires t c κs = search needs
 
--- src/lib.rt:856:9
+-- src/lib.rt:877:9
 fe-same-length-2 : (t : ℕ) → fe-lts.Need-same-length-2 (
   word-reads.Asked,
   word-reads.Learnt,
@@ -9543,7 +9871,7 @@ fe-same-length-2 : (t : ℕ) → fe-lts.Need-same-length-2 (
 ) (fe-at t) fe.Post fe-Inv-loop fe-μ-loop
 fe-same-length-2 t c = c .before .before .before .before .before .before .before .before .before .before .word .kept .1 .0
 
--- src/lib.rt:856:9
+-- src/lib.rt:877:9
 fe-returns-2 : (t : ℕ) → fe-lts.Need-returns-2 (
   word-reads.Asked,
   word-reads.Learnt,
@@ -9558,10 +9886,10 @@ fe-returns-2 : (t : ℕ) → fe-lts.Need-returns-2 (
   arm-below t,
   arm.Post,
 ) (fe-at t) fe.Post fe-Inv-loop fe-μ-loop
-unfolding Exp.FnExp Exp.fn-arms Helpers.sep
+unfolding Exp.exp Exp.fn-arms Helpers.sep
 fe-returns-2 t c = record { is = then-sure (c .before .before .before .before .before .before .before .before .before .before .word .ensures) (by-same (group-is (c .before .before .before .before .before .before .before .group .ensures) (c .before .before .before .before .before .r2 .given .1)) (list-not (c .stop .ensures) (c .before .before .before .list .ensures) (c .before .enum-told2 .given .1))) }
 
--- src/lib.rt:860:5
+-- src/lib.rt:881:5
 fe-loop-holds : (t : ℕ) → fe-lts.Need-loop-holds (
   word-reads.Asked,
   word-reads.Learnt,
@@ -9578,7 +9906,7 @@ fe-loop-holds : (t : ℕ) → fe-lts.Need-loop-holds (
 ) (fe-at t) fe.Post fe-Inv-loop fe-μ-loop
 fe-loop-holds t c = (omega arith, λ r o m h. h, refl)
 
--- src/lib.rt:861:13
+-- src/lib.rt:882:13
 fe-between-requires : (t : ℕ) → fe-lts.Need-between-requires (
   word-reads.Asked,
   word-reads.Learnt,
@@ -9595,7 +9923,7 @@ fe-between-requires : (t : ℕ) → fe-lts.Need-between-requires (
 ) (fe-at t) fe.Post fe-Inv-loop fe-μ-loop
 fe-between-requires t c κs = search needs
 
--- src/lib.rt:862:13
+-- src/lib.rt:883:13
 fe-arm-requires : (t : ℕ) → fe-lts.Need-arm-requires (
   word-reads.Asked,
   word-reads.Learnt,
@@ -9612,7 +9940,7 @@ fe-arm-requires : (t : ℕ) → fe-lts.Need-arm-requires (
 ) (fe-at t) fe.Post fe-Inv-loop fe-μ-loop
 fe-arm-requires t c κs = omega (arith, c .before .before .before .before .before .before .before .before .before .before .before .before .before .before .before .before .before .before .before .before .before .before .before .before .before .before .pre .0, c .before .before .before .before .before .before .before .before .before .before .before .before .before .before .before .before .before .before .before .before .before .before .before .before .before .before .pre .1)
 
--- src/lib.rt:863:26
+-- src/lib.rt:884:26
 fe-enum-known-r5 : (t : ℕ) → fe-lts.Need-enum-known-r5 (
   word-reads.Asked,
   word-reads.Learnt,
@@ -9629,7 +9957,7 @@ fe-enum-known-r5 : (t : ℕ) → fe-lts.Need-enum-known-r5 (
 ) (fe-at t) fe.Post fe-Inv-loop fe-μ-loop
 fe-enum-known-r5 t c = search needs
 
--- src/lib.rt:864:13
+-- src/lib.rt:885:13
 fe-enum-told-3 : (t : ℕ) → fe-lts.Need-enum-told-3 (
   word-reads.Asked,
   word-reads.Learnt,
@@ -9646,7 +9974,7 @@ fe-enum-told-3 : (t : ℕ) → fe-lts.Need-enum-told-3 (
 ) (fe-at t) fe.Post fe-Inv-loop fe-μ-loop
 fe-enum-told-3 t c = search needs
 
--- src/lib.rt:864:13
+-- src/lib.rt:885:13
 fe-same-length-3 : (t : ℕ) → fe-lts.Need-same-length-3 (
   word-reads.Asked,
   word-reads.Learnt,
@@ -9663,7 +9991,7 @@ fe-same-length-3 : (t : ℕ) → fe-lts.Need-same-length-3 (
 ) (fe-at t) fe.Post fe-Inv-loop fe-μ-loop
 fe-same-length-3 t c = c .before .before .before .before .arm .kept .1 .1 .1 .1 .1 .0 ∙ c .before .before .before .before .before .before .before .before .before .between .kept .1 .0 ∙ c .before .before .before .before .before .before .before .before .before .before .before .before .loop .inv .2 ∙ c .before .before .before .before .before .before .before .before .before .before .before .before .before .before .before .before .before .before .before .before .before .before .before .word .kept .1 .0
 
--- src/lib.rt:864:13
+-- src/lib.rt:885:13
 fe-returns-3 : (t : ℕ) → fe-lts.Need-returns-3 (
   word-reads.Asked,
   word-reads.Learnt,
@@ -9678,10 +10006,10 @@ fe-returns-3 : (t : ℕ) → fe-lts.Need-returns-3 (
   arm-below t,
   arm.Post,
 ) (fe-at t) fe.Post fe-Inv-loop fe-μ-loop
-unfolding Exp.FnExp Exp.fn-arms Helpers.sep
+unfolding Exp.exp Exp.fn-arms Helpers.sep
 fe-returns-3 t c = record { is = then-sure (c .before .before .before .before .before .before .before .before .before .before .before .before .before .before .before .before .before .before .before .before .before .before .before .word .ensures) (by-same (group-is (c .before .before .before .before .before .before .before .before .before .before .before .before .before .before .before .before .before .before .before .before .group .ensures) (c .before .before .before .before .before .before .before .before .before .before .before .before .before .before .before .before .before .before .r2 .given .1)) (by-same (list-is (c .before .before .before .before .before .before .before .before .before .before .before .before .before .before .before .before .list .ensures) (c .before .before .before .before .before .before .before .before .before .before .before .before .before .before .n .given .1)) (by-same (items-all _ _ _) (c .before .before .before .before .before .before .before .before .before .before .before .before .loop .inv .1 _ _ _ (from-more _ _ (c .before .before .before .before .before .before .before .before .before .before .before .loop-test .taken) (then-sure (c .before .before .before .before .before .before .before .before .before .between .ensures) (then-stop (c .before .before .before .before .arm .ensures .is) (c .enum-told3 .given .1)))))))) }
 
--- src/lib.rt:867:9
+-- src/lib.rt:888:9
 fe-add-i : (t : ℕ) → fe-lts.Need-add-i (
   word-reads.Asked,
   word-reads.Learnt,
@@ -9698,7 +10026,7 @@ fe-add-i : (t : ℕ) → fe-lts.Need-add-i (
 ) (fe-at t) fe.Post fe-Inv-loop fe-μ-loop
 fe-add-i t c = omega (arith, c .before .before .before .before .before .before .before .before .before .before .before .before .loop-test .taken, c .before .before .before .before .before .before .before .before .before .before .before .before .before .before .known-told2)
 
--- src/lib.rt:860:5
+-- src/lib.rt:881:5
 fe-loop-less : (t : ℕ) → fe-lts.Need-loop-less (
   word-reads.Asked,
   word-reads.Learnt,
@@ -9715,7 +10043,7 @@ fe-loop-less : (t : ℕ) → fe-lts.Need-loop-less (
 ) (fe-at t) fe.Post fe-Inv-loop fe-μ-loop
 fe-loop-less t c = omega arith
 
--- src/lib.rt:860:5
+-- src/lib.rt:881:5
 fe-loop-again : (t : ℕ) → fe-lts.Need-loop-again (
   word-reads.Asked,
   word-reads.Learnt,
@@ -9730,10 +10058,10 @@ fe-loop-again : (t : ℕ) → fe-lts.Need-loop-again (
   arm-below t,
   arm.Post,
 ) (fe-at t) fe.Post fe-Inv-loop fe-μ-loop
-unfolding Exp.FnExp Exp.fn-arms Helpers.sep
+unfolding Exp.exp Exp.fn-arms Helpers.sep
 fe-loop-again t c = (omega (arith, c .before .before .before .before .before .before .before .before .before .before .before .before .before .loop .inv .0), λ r o m h. c .before .before .before .before .before .before .before .before .before .before .before .before .before .loop .inv .1 r o m (from-more _ _ (c .before .before .before .before .before .before .before .before .before .before .before .before .loop-test .taken) (then-sure (c .before .before .before .before .before .before .before .before .before .before .between .ensures) (then-done (c .before .before .before .before .before .arm .ensures .is) (c .before .r5 .given .1) h))), c .before .before .before .before .before .arm .kept .1 .1 .1 .1 .1 .0 ∙ c .before .before .before .before .before .before .before .before .before .before .between .kept .1 .0 ∙ c .before .before .before .before .before .before .before .before .before .before .before .before .before .loop .inv .2)
 
--- src/lib.rt:836:1
+-- src/lib.rt:857:1
 fe-same-length-4 : (t : ℕ) → fe-lts.Need-same-length-4 (
   word-reads.Asked,
   word-reads.Learnt,
@@ -9750,7 +10078,7 @@ fe-same-length-4 : (t : ℕ) → fe-lts.Need-same-length-4 (
 ) (fe-at t) fe.Post fe-Inv-loop fe-μ-loop
 fe-same-length-4 t c = c .before .loop .inv .2 ∙ c .before .before .before .before .before .before .before .before .before .before .before .before .word .kept .1 .0
 
--- src/lib.rt:836:1
+-- src/lib.rt:857:1
 fe-returns-4 : (t : ℕ) → fe-lts.Need-returns-4 (
   word-reads.Asked,
   word-reads.Learnt,
@@ -9765,7 +10093,7 @@ fe-returns-4 : (t : ℕ) → fe-lts.Need-returns-4 (
   arm-below t,
   arm.Post,
 ) (fe-at t) fe.Post fe-Inv-loop fe-μ-loop
-unfolding Exp.FnExp Exp.fn-arms Helpers.sep
+unfolding Exp.exp Exp.fn-arms Helpers.sep
 fe-returns-4 t c = record { is = then-sure (c .before .before .before .before .before .before .before .before .before .before .before .before .word .ensures) (by-same (group-is (c .before .before .before .before .before .before .before .before .before .group .ensures) (c .before .before .before .before .before .before .before .r2 .given .1)) (by-same (list-is (c .before .before .before .before .before .list .ensures) (c .before .before .before .n .given .1)) (by-same (items-all _ _ _) (c .before .loop .inv .1 _ _ _ (from-none _ _ (c .loop-test .left)))))) }
 
 abbrev fs-Inv-loop : fs-lts.InvT-loop
@@ -9775,7 +10103,7 @@ fs-Inv-loop text rec kinds starts lens out₀ left₀ cfg n s₀ i₀ out left s
 abbrev fs-μ-loop : fs-lts.MeasureT-loop
 fs-μ-loop text rec kinds starts lens out₀ left₀ cfg n s₀ i₀ out left s i = n - i
 
--- src/lib.rt:1810:27
+-- src/lib.rt:1786:27
 fs-list-requires : (t : ℕ) → fs-lts.Need-list-requires (
   list-reads.Asked,
   list-reads.Learnt,
@@ -9788,7 +10116,7 @@ fs-list-requires : (t : ℕ) → fs-lts.Need-list-requires (
 ) (fs-at t) fs.Post fs-Inv-loop fs-μ-loop
 fs-list-requires t c κs = search needs
 
--- src/lib.rt:1810:18
+-- src/lib.rt:1786:18
 fs-enum-known-n : (t : ℕ) → fs-lts.Need-enum-known-n (
   list-reads.Asked,
   list-reads.Learnt,
@@ -9801,7 +10129,7 @@ fs-enum-known-n : (t : ℕ) → fs-lts.Need-enum-known-n (
 ) (fs-at t) fs.Post fs-Inv-loop fs-μ-loop
 fs-enum-known-n t c = search needs
 
--- src/lib.rt:1811:9
+-- src/lib.rt:1787:9
 fs-enum-told : (t : ℕ) → fs-lts.Need-enum-told (
   list-reads.Asked,
   list-reads.Learnt,
@@ -9814,7 +10142,7 @@ fs-enum-told : (t : ℕ) → fs-lts.Need-enum-told (
 ) (fs-at t) fs.Post fs-Inv-loop fs-μ-loop
 fs-enum-told t c = search needs
 
--- src/lib.rt:1811:9
+-- src/lib.rt:1787:9
 fs-stop-requires : (t : ℕ) → fs-lts.Need-stop-requires (
   list-reads.Asked,
   list-reads.Learnt,
@@ -9827,7 +10155,7 @@ fs-stop-requires : (t : ℕ) → fs-lts.Need-stop-requires (
 ) (fs-at t) fs.Post fs-Inv-loop fs-μ-loop
 fs-stop-requires t c κs = search needs
 
--- src/lib.rt:1811:9
+-- src/lib.rt:1787:9
 fs-returns : (t : ℕ) → fs-lts.Need-returns (
   list-reads.Asked,
   list-reads.Learnt,
@@ -9841,7 +10169,7 @@ fs-returns : (t : ℕ) → fs-lts.Need-returns (
 unfolding DecOne.functor-args Helpers.for-each
 fs-returns t c = record { is = list-not (c .stop .ensures) (c .before .before .before .list .ensures) (c .before .enum-told .given .1) }
 
--- src/lib.rt:1815:5
+-- src/lib.rt:1791:5
 fs-loop-holds : (t : ℕ) → fs-lts.Need-loop-holds (
   list-reads.Asked,
   list-reads.Learnt,
@@ -9854,7 +10182,7 @@ fs-loop-holds : (t : ℕ) → fs-lts.Need-loop-holds (
 ) (fs-at t) fs.Post fs-Inv-loop fs-μ-loop
 fs-loop-holds t c = (omega arith, λ r o m h. h, refl)
 
--- src/lib.rt:1816:31
+-- src/lib.rt:1792:31
 fs-choice-requires : (t : ℕ) → fs-lts.Need-choice-requires (
   list-reads.Asked,
   list-reads.Learnt,
@@ -9867,7 +10195,7 @@ fs-choice-requires : (t : ℕ) → fs-lts.Need-choice-requires (
 ) (fs-at t) fs.Post fs-Inv-loop fs-μ-loop
 fs-choice-requires t c κs = search needs
 
--- src/lib.rt:1816:22
+-- src/lib.rt:1792:22
 fs-enum-known-k : (t : ℕ) → fs-lts.Need-enum-known-k (
   list-reads.Asked,
   list-reads.Learnt,
@@ -9880,7 +10208,7 @@ fs-enum-known-k : (t : ℕ) → fs-lts.Need-enum-known-k (
 ) (fs-at t) fs.Post fs-Inv-loop fs-μ-loop
 fs-enum-known-k t c = search needs
 
--- src/lib.rt:1817:13
+-- src/lib.rt:1793:13
 fs-enum-told-2 : (t : ℕ) → fs-lts.Need-enum-told-2 (
   list-reads.Asked,
   list-reads.Learnt,
@@ -9893,7 +10221,7 @@ fs-enum-told-2 : (t : ℕ) → fs-lts.Need-enum-told-2 (
 ) (fs-at t) fs.Post fs-Inv-loop fs-μ-loop
 fs-enum-told-2 t c = search needs
 
--- src/lib.rt:1817:13
+-- src/lib.rt:1793:13
 fs-stop-requires-2 : (t : ℕ) → fs-lts.Need-stop-requires-2 (
   list-reads.Asked,
   list-reads.Learnt,
@@ -9906,7 +10234,7 @@ fs-stop-requires-2 : (t : ℕ) → fs-lts.Need-stop-requires-2 (
 ) (fs-at t) fs.Post fs-Inv-loop fs-μ-loop
 fs-stop-requires-2 t c κs = search needs
 
--- src/lib.rt:1817:13
+-- src/lib.rt:1793:13
 fs-same-length : (t : ℕ) → fs-lts.Need-same-length (
   list-reads.Asked,
   list-reads.Learnt,
@@ -9919,7 +10247,7 @@ fs-same-length : (t : ℕ) → fs-lts.Need-same-length (
 ) (fs-at t) fs.Post fs-Inv-loop fs-μ-loop
 fs-same-length t c = c .before .before .before .before .before .loop .inv .2
 
--- src/lib.rt:1817:13
+-- src/lib.rt:1793:13
 fs-returns-2 : (t : ℕ) → fs-lts.Need-returns-2 (
   list-reads.Asked,
   list-reads.Learnt,
@@ -9933,7 +10261,7 @@ fs-returns-2 : (t : ℕ) → fs-lts.Need-returns-2 (
 unfolding DecOne.functor-args Helpers.for-each
 fs-returns-2 t c = record { is = by-same (list-is (c .before .before .before .before .before .before .before .before .before .list .ensures) (c .before .before .before .before .before .before .before .n .given .1)) (by-same (times-all _ _) (c .before .before .before .before .before .loop .inv .1 _ _ _ (times-more _ (c .before .before .before .before .loop-test .taken) (then-stop (choice-not (c .stop2 .ensures) (c .before .before .before .choice .ensures) (c .before .enum-told2 .given .1)) (c .stop2 .ensures))))) }
 
--- src/lib.rt:1819:13
+-- src/lib.rt:1795:13
 fs-fa-requires : (t : ℕ) → fs-lts.Need-fa-requires (
   list-reads.Asked,
   list-reads.Learnt,
@@ -9946,7 +10274,7 @@ fs-fa-requires : (t : ℕ) → fs-lts.Need-fa-requires (
 ) (fs-at t) fs.Post fs-Inv-loop fs-μ-loop
 fs-fa-requires t c κs = omega (arith, c .before .before .before .before .before .before .before .before .before .before .before .before .before .before .before .before .before .before .pre .0, c .before .before .before .before .before .before .before .before .before .before .before .before .before .before .before .before .before .before .pre .1)
 
--- src/lib.rt:1820:26
+-- src/lib.rt:1796:26
 fs-enum-known-r2 : (t : ℕ) → fs-lts.Need-enum-known-r2 (
   list-reads.Asked,
   list-reads.Learnt,
@@ -9959,7 +10287,7 @@ fs-enum-known-r2 : (t : ℕ) → fs-lts.Need-enum-known-r2 (
 ) (fs-at t) fs.Post fs-Inv-loop fs-μ-loop
 fs-enum-known-r2 t c = search needs
 
--- src/lib.rt:1821:13
+-- src/lib.rt:1797:13
 fs-enum-told-3 : (t : ℕ) → fs-lts.Need-enum-told-3 (
   list-reads.Asked,
   list-reads.Learnt,
@@ -9972,7 +10300,7 @@ fs-enum-told-3 : (t : ℕ) → fs-lts.Need-enum-told-3 (
 ) (fs-at t) fs.Post fs-Inv-loop fs-μ-loop
 fs-enum-told-3 t c = search needs
 
--- src/lib.rt:1821:13
+-- src/lib.rt:1797:13
 fs-same-length-2 : (t : ℕ) → fs-lts.Need-same-length-2 (
   list-reads.Asked,
   list-reads.Learnt,
@@ -9985,7 +10313,7 @@ fs-same-length-2 : (t : ℕ) → fs-lts.Need-same-length-2 (
 ) (fs-at t) fs.Post fs-Inv-loop fs-μ-loop
 fs-same-length-2 t c = c .before .before .before .before .fa .kept .1 .1 .1 .1 .1 .0 ∙ c .before .before .before .before .before .before .before .before .before .before .before .before .loop .inv .2
 
--- src/lib.rt:1821:13
+-- src/lib.rt:1797:13
 fs-returns-3 : (t : ℕ) → fs-lts.Need-returns-3 (
   list-reads.Asked,
   list-reads.Learnt,
@@ -9999,7 +10327,7 @@ fs-returns-3 : (t : ℕ) → fs-lts.Need-returns-3 (
 unfolding DecOne.functor-args Helpers.for-each
 fs-returns-3 t c = record { is = by-same (list-is (c .before .before .before .before .before .before .before .before .before .before .before .before .before .before .before .before .list .ensures) (c .before .before .before .before .before .before .before .before .before .before .before .before .before .before .n .given .1)) (by-same (times-all _ _) (c .before .before .before .before .before .before .before .before .before .before .before .before .loop .inv .1 _ _ _ (times-more _ (c .before .before .before .before .before .before .before .before .before .before .before .loop-test .taken) (by-same (first-same (choice-is (c .before .before .before .before .before .before .before .before .before .before .choice .ensures) (c .before .before .before .before .before .before .before .before .k .given .1))) (then-stop (c .before .before .before .before .fa .ensures .is) (c .enum-told3 .given .1)))))) }
 
--- src/lib.rt:1824:9
+-- src/lib.rt:1800:9
 fs-add-i : (t : ℕ) → fs-lts.Need-add-i (
   list-reads.Asked,
   list-reads.Learnt,
@@ -10012,7 +10340,7 @@ fs-add-i : (t : ℕ) → fs-lts.Need-add-i (
 ) (fs-at t) fs.Post fs-Inv-loop fs-μ-loop
 fs-add-i t c = omega (arith, c .before .before .before .before .before .before .before .before .before .before .before .before .loop-test .taken, c .before .before .before .before .before .before .before .before .before .before .before .before .before .before .known-told)
 
--- src/lib.rt:1815:5
+-- src/lib.rt:1791:5
 fs-loop-less : (t : ℕ) → fs-lts.Need-loop-less (
   list-reads.Asked,
   list-reads.Learnt,
@@ -10025,7 +10353,7 @@ fs-loop-less : (t : ℕ) → fs-lts.Need-loop-less (
 ) (fs-at t) fs.Post fs-Inv-loop fs-μ-loop
 fs-loop-less t c = omega arith
 
--- src/lib.rt:1815:5
+-- src/lib.rt:1791:5
 fs-loop-again : (t : ℕ) → fs-lts.Need-loop-again (
   list-reads.Asked,
   list-reads.Learnt,
@@ -10039,7 +10367,7 @@ fs-loop-again : (t : ℕ) → fs-lts.Need-loop-again (
 unfolding DecOne.functor-args Helpers.for-each
 fs-loop-again t c = (omega (arith, c .before .before .before .before .before .before .before .before .before .before .before .before .before .loop .inv .0), λ r o m h. c .before .before .before .before .before .before .before .before .before .before .before .before .before .loop .inv .1 r o m (times-more _ (c .before .before .before .before .before .before .before .before .before .before .before .before .loop-test .taken) (by-same (first-same (choice-is (c .before .before .before .before .before .before .before .before .before .before .before .choice .ensures) (c .before .before .before .before .before .before .before .before .before .k .given .1))) (then-done (c .before .before .before .before .before .fa .ensures .is) (c .before .r2 .given .1) h))), c .before .before .before .before .before .fa .kept .1 .1 .1 .1 .1 .0 ∙ c .before .before .before .before .before .before .before .before .before .before .before .before .before .loop .inv .2)
 
--- src/lib.rt:1796:1
+-- src/lib.rt:1772:1
 fs-same-length-3 : (t : ℕ) → fs-lts.Need-same-length-3 (
   list-reads.Asked,
   list-reads.Learnt,
@@ -10052,7 +10380,7 @@ fs-same-length-3 : (t : ℕ) → fs-lts.Need-same-length-3 (
 ) (fs-at t) fs.Post fs-Inv-loop fs-μ-loop
 fs-same-length-3 t c = c .before .loop .inv .2
 
--- src/lib.rt:1796:1
+-- src/lib.rt:1772:1
 fs-returns-4 : (t : ℕ) → fs-lts.Need-returns-4 (
   list-reads.Asked,
   list-reads.Learnt,
@@ -10066,7 +10394,7 @@ fs-returns-4 : (t : ℕ) → fs-lts.Need-returns-4 (
 unfolding DecOne.functor-args Helpers.for-each
 fs-returns-4 t c = record { is = by-same (list-is (c .before .before .before .before .before .list .ensures) (c .before .before .before .n .given .1)) (by-same (times-all _ _) (c .before .loop .inv .1 _ _ _ (times-none _ (c .loop-test .left)))) }
 
--- src/lib.rt:508:27
+-- src/lib.rt:520:27
 fx-token-no-requires : (t : ℕ) → fx-lts.Need-token-no-requires (
   token-no-reads.Asked,
   token-no-reads.Learnt,
@@ -10079,7 +10407,7 @@ fx-token-no-requires : (t : ℕ) → fx-lts.Need-token-no-requires (
 ) (fx-at t) fx.Post
 fx-token-no-requires t c κs = search needs
 
--- src/lib.rt:508:18
+-- src/lib.rt:520:18
 fx-enum-known-k : (t : ℕ) → fx-lts.Need-enum-known-k (
   token-no-reads.Asked,
   token-no-reads.Learnt,
@@ -10092,7 +10420,7 @@ fx-enum-known-k : (t : ℕ) → fx-lts.Need-enum-known-k (
 ) (fx-at t) fx.Post
 fx-enum-known-k t c = search needs
 
--- src/lib.rt:509:9
+-- src/lib.rt:521:9
 fx-enum-told : (t : ℕ) → fx-lts.Need-enum-told (
   token-no-reads.Asked,
   token-no-reads.Learnt,
@@ -10105,7 +10433,7 @@ fx-enum-told : (t : ℕ) → fx-lts.Need-enum-told (
 ) (fx-at t) fx.Post
 fx-enum-told t c = search needs
 
--- src/lib.rt:509:9
+-- src/lib.rt:521:9
 fx-stop-requires : (t : ℕ) → fx-lts.Need-stop-requires (
   token-no-reads.Asked,
   token-no-reads.Learnt,
@@ -10118,7 +10446,7 @@ fx-stop-requires : (t : ℕ) → fx-lts.Need-stop-requires (
 ) (fx-at t) fx.Post
 fx-stop-requires t c κs = search needs
 
--- src/lib.rt:509:9
+-- src/lib.rt:521:9
 fx-returns : (t : ℕ) → fx-lts.Need-returns (
   token-no-reads.Asked,
   token-no-reads.Learnt,
@@ -10129,10 +10457,10 @@ fx-returns : (t : ℕ) → fx-lts.Need-returns (
   infix-operator-reads.Asked,
   infix-operator-reads.Learnt,
 ) (fx-at t) fx.Post
-unfolding Exp.InfixExp
-fx-returns t c = record { is = token-not (c .stop .ensures) (c .before .before .before .token-no .ensures) (c .before .enum-told .given .1) }
+unfolding Exp.exp
+fx-returns t c = record { is = then-stop (operator-not (c .stop .ensures) (c .before .before .before .token-no .ensures) (c .before .enum-told .given .1)) (c .stop .ensures) }
 
--- src/lib.rt:511:9
+-- src/lib.rt:523:9
 fx-exp-requires : (t : ℕ) → fx-lts.Need-exp-requires (
   token-no-reads.Asked,
   token-no-reads.Learnt,
@@ -10145,7 +10473,7 @@ fx-exp-requires : (t : ℕ) → fx-lts.Need-exp-requires (
 ) (fx-at t) fx.Post
 fx-exp-requires t c κs = omega (arith, c .before .before .before .before .before .before .before .before .before .before .before .before .pre .0, c .before .before .before .before .before .before .before .before .before .before .before .before .pre .1)
 
--- src/lib.rt:512:22
+-- src/lib.rt:524:22
 fx-enum-known-r2 : (t : ℕ) → fx-lts.Need-enum-known-r2 (
   token-no-reads.Asked,
   token-no-reads.Learnt,
@@ -10158,7 +10486,7 @@ fx-enum-known-r2 : (t : ℕ) → fx-lts.Need-enum-known-r2 (
 ) (fx-at t) fx.Post
 fx-enum-known-r2 t c = search needs
 
--- src/lib.rt:513:9
+-- src/lib.rt:525:9
 fx-enum-told-2 : (t : ℕ) → fx-lts.Need-enum-told-2 (
   token-no-reads.Asked,
   token-no-reads.Learnt,
@@ -10171,7 +10499,7 @@ fx-enum-told-2 : (t : ℕ) → fx-lts.Need-enum-told-2 (
 ) (fx-at t) fx.Post
 fx-enum-told-2 t c = search needs
 
--- src/lib.rt:513:9
+-- src/lib.rt:525:9
 fx-same-length : (t : ℕ) → fx-lts.Need-same-length (
   token-no-reads.Asked,
   token-no-reads.Learnt,
@@ -10184,7 +10512,7 @@ fx-same-length : (t : ℕ) → fx-lts.Need-same-length (
 ) (fx-at t) fx.Post
 fx-same-length t c = c .before .before .before .before .exp .kept .1 .1 .1 .1 .1 .0
 
--- src/lib.rt:513:9
+-- src/lib.rt:525:9
 fx-returns-2 : (t : ℕ) → fx-lts.Need-returns-2 (
   token-no-reads.Asked,
   token-no-reads.Learnt,
@@ -10195,10 +10523,10 @@ fx-returns-2 : (t : ℕ) → fx-lts.Need-returns-2 (
   infix-operator-reads.Asked,
   infix-operator-reads.Learnt,
 ) (fx-at t) fx.Post
-unfolding Exp.InfixExp
-fx-returns-2 t c = record { is = by-same (token-is (c .before .before .before .before .before .before .before .before .before .before .token-no .ensures) (c .before .before .before .before .before .before .before .before .k .given .1)) (then-stop (c .before .before .before .before .exp .ensures .is) (c .enum-told2 .given .1)) }
+unfolding Exp.exp
+fx-returns-2 t c = record { is = then-stop (operator-stop (c .before .before .before .before .before .before .before .before .before .before .token-no .ensures) (c .before .before .before .before .before .before .before .before .k .given .1) (c .before .before .before .before .exp .ensures .is) (c .enum-told2 .given .1)) (c .enum-told2 .given .1) }
 
--- src/lib.rt:515:9
+-- src/lib.rt:527:9
 fx-infix-operator-requires : (t : ℕ) → fx-lts.Need-infix-operator-requires (
   token-no-reads.Asked,
   token-no-reads.Learnt,
@@ -10211,7 +10539,7 @@ fx-infix-operator-requires : (t : ℕ) → fx-lts.Need-infix-operator-requires (
 ) (fx-at t) fx.Post
 fx-infix-operator-requires t c κs = omega (arith, c .before .before .before .before .before .before .before .before .before .before .before .before .before .before .before .before .before .before .before .pre .1)
 
--- src/lib.rt:516:5
+-- src/lib.rt:528:5
 fx-exp-requires-2 : (t : ℕ) → fx-lts.Need-exp-requires-2 (
   token-no-reads.Asked,
   token-no-reads.Learnt,
@@ -10224,7 +10552,7 @@ fx-exp-requires-2 : (t : ℕ) → fx-lts.Need-exp-requires-2 (
 ) (fx-at t) fx.Post
 fx-exp-requires-2 t c κs = omega (arith, c .before .before .before .before .before .before .before .before .before .before .before .before .before .before .before .before .before .before .before .before .before .before .before .before .pre .0, c .before .before .before .before .before .before .before .before .before .before .before .before .before .before .before .before .before .before .before .before .before .before .before .before .pre .1)
 
--- src/lib.rt:494:1
+-- src/lib.rt:506:1
 fx-same-length-2 : (t : ℕ) → fx-lts.Need-same-length-2 (
   token-no-reads.Asked,
   token-no-reads.Learnt,
@@ -10237,7 +10565,7 @@ fx-same-length-2 : (t : ℕ) → fx-lts.Need-same-length-2 (
 ) (fx-at t) fx.Post
 fx-same-length-2 t c = c .before .before .exp2 .kept .1 .1 .1 .1 .1 .0 ∙ c .before .before .before .before .before .before .before .infix-operator .kept .1 .1 .1 .1 .0 ∙ c .before .before .before .before .before .before .before .before .before .before .before .before .before .before .exp .kept .1 .1 .1 .1 .1 .0
 
--- src/lib.rt:494:1
+-- src/lib.rt:506:1
 fx-returns-3 : (t : ℕ) → fx-lts.Need-returns-3 (
   token-no-reads.Asked,
   token-no-reads.Learnt,
@@ -10248,8 +10576,8 @@ fx-returns-3 : (t : ℕ) → fx-lts.Need-returns-3 (
   infix-operator-reads.Asked,
   infix-operator-reads.Learnt,
 ) (fx-at t) fx.Post
-unfolding Exp.InfixExp
-fx-returns-3 t c = record { is = by-same (token-is (c .before .before .before .before .before .before .before .before .before .before .before .before .before .before .before .before .before .before .before .before .token-no .ensures) (c .before .before .before .before .before .before .before .before .before .before .before .before .before .before .before .before .before .before .k .given .1)) (then-done (c .before .before .before .before .before .before .before .before .before .before .before .before .before .before .exp .ensures .is) (c .before .before .before .before .before .before .before .before .before .before .r2 .given .1) (then-done (plain (c .before .before .before .before .before .before .before .infix-operator .ensures)) refl (c .before .before .exp2 .ensures .is))) }
+unfolding Exp.exp
+fx-returns-3 t c = record { is = then-done (operator-done (c .before .before .before .before .before .before .before .before .before .before .before .before .before .before .before .before .before .before .before .before .token-no .ensures) (c .before .before .before .before .before .before .before .before .before .before .before .before .before .before .before .before .before .before .k .given .1) (c .before .before .before .before .before .before .before .before .before .before .before .before .before .before .exp .ensures .is) (c .before .before .before .before .before .before .before .before .before .before .r2 .given .1) (c .before .before .before .before .before .before .before .infix-operator .ensures .is _ _)) refl (c .before .before .exp2 .ensures .is) }
 
 abbrev gd-Inv-loop : gd-lts.InvT-loop
 gd-Inv-loop text rec kinds starts lens out₀ left₀ cfg n s₀ i₀ out left s i =
@@ -10258,7 +10586,7 @@ gd-Inv-loop text rec kinds starts lens out₀ left₀ cfg n s₀ i₀ out left s
 abbrev gd-μ-loop : gd-lts.MeasureT-loop
 gd-μ-loop text rec kinds starts lens out₀ left₀ cfg n s₀ i₀ out left s i = n - i
 
--- src/lib.rt:1668:9
+-- src/lib.rt:1644:9
 gd-word-requires : (t : ℕ) → gd-lts.Need-word-requires (
   word-reads.Asked,
   word-reads.Learnt,
@@ -10275,7 +10603,7 @@ gd-word-requires : (t : ℕ) → gd-lts.Need-word-requires (
 ) (gd-at t) gd.Post gd-Inv-loop gd-μ-loop
 gd-word-requires t c κs = search needs
 
--- src/lib.rt:1669:27
+-- src/lib.rt:1645:27
 gd-list-requires : (t : ℕ) → gd-lts.Need-list-requires (
   word-reads.Asked,
   word-reads.Learnt,
@@ -10292,7 +10620,7 @@ gd-list-requires : (t : ℕ) → gd-lts.Need-list-requires (
 ) (gd-at t) gd.Post gd-Inv-loop gd-μ-loop
 gd-list-requires t c κs = search needs
 
--- src/lib.rt:1669:18
+-- src/lib.rt:1645:18
 gd-enum-known-n : (t : ℕ) → gd-lts.Need-enum-known-n (
   word-reads.Asked,
   word-reads.Learnt,
@@ -10309,7 +10637,7 @@ gd-enum-known-n : (t : ℕ) → gd-lts.Need-enum-known-n (
 ) (gd-at t) gd.Post gd-Inv-loop gd-μ-loop
 gd-enum-known-n t c = search needs
 
--- src/lib.rt:1670:9
+-- src/lib.rt:1646:9
 gd-enum-told : (t : ℕ) → gd-lts.Need-enum-told (
   word-reads.Asked,
   word-reads.Learnt,
@@ -10326,7 +10654,7 @@ gd-enum-told : (t : ℕ) → gd-lts.Need-enum-told (
 ) (gd-at t) gd.Post gd-Inv-loop gd-μ-loop
 gd-enum-told t c = search needs
 
--- src/lib.rt:1670:9
+-- src/lib.rt:1646:9
 gd-stop-requires : (t : ℕ) → gd-lts.Need-stop-requires (
   word-reads.Asked,
   word-reads.Learnt,
@@ -10343,7 +10671,7 @@ gd-stop-requires : (t : ℕ) → gd-lts.Need-stop-requires (
 ) (gd-at t) gd.Post gd-Inv-loop gd-μ-loop
 gd-stop-requires t c κs = search needs
 
--- src/lib.rt:1670:9
+-- src/lib.rt:1646:9
 gd-same-length : (t : ℕ) → gd-lts.Need-same-length (
   word-reads.Asked,
   word-reads.Learnt,
@@ -10360,7 +10688,7 @@ gd-same-length : (t : ℕ) → gd-lts.Need-same-length (
 ) (gd-at t) gd.Post gd-Inv-loop gd-μ-loop
 gd-same-length t c = c .before .before .before .before .before .before .word .kept .1 .0
 
--- src/lib.rt:1670:9
+-- src/lib.rt:1646:9
 gd-returns : (t : ℕ) → gd-lts.Need-returns (
   word-reads.Asked,
   word-reads.Learnt,
@@ -10375,10 +10703,10 @@ gd-returns : (t : ℕ) → gd-lts.Need-returns (
   nm-below t,
   nm.Post,
 ) (gd-at t) gd.Post gd-Inv-loop gd-μ-loop
-unfolding DecOne.SignatureDec DecOne.sig-bind Helpers.sep-with-lines
+unfolding DecOne.dec-one DecOne.sig-bind Helpers.sep-with-lines
 gd-returns t c = record { is = then-sure (c .before .before .before .before .before .before .word .ensures) (list-not (c .stop .ensures) (c .before .before .before .list .ensures) (c .before .enum-told .given .1)) }
 
--- src/lib.rt:1674:5
+-- src/lib.rt:1650:5
 gd-loop-holds : (t : ℕ) → gd-lts.Need-loop-holds (
   word-reads.Asked,
   word-reads.Learnt,
@@ -10395,7 +10723,7 @@ gd-loop-holds : (t : ℕ) → gd-lts.Need-loop-holds (
 ) (gd-at t) gd.Post gd-Inv-loop gd-μ-loop
 gd-loop-holds t c = (omega arith, λ r o m h. h, refl)
 
--- src/lib.rt:1675:13
+-- src/lib.rt:1651:13
 gd-new-line-requires : (t : ℕ) → gd-lts.Need-new-line-requires (
   word-reads.Asked,
   word-reads.Learnt,
@@ -10412,7 +10740,7 @@ gd-new-line-requires : (t : ℕ) → gd-lts.Need-new-line-requires (
 ) (gd-at t) gd.Post gd-Inv-loop gd-μ-loop
 gd-new-line-requires t c κs = search needs
 
--- src/lib.rt:1676:13
+-- src/lib.rt:1652:13
 gd-group-requires : (t : ℕ) → gd-lts.Need-group-requires (
   word-reads.Asked,
   word-reads.Learnt,
@@ -10429,7 +10757,7 @@ gd-group-requires : (t : ℕ) → gd-lts.Need-group-requires (
 ) (gd-at t) gd.Post gd-Inv-loop gd-μ-loop
 gd-group-requires t c κs = search needs
 
--- src/lib.rt:1677:26
+-- src/lib.rt:1653:26
 gd-enum-known-r4 : (t : ℕ) → gd-lts.Need-enum-known-r4 (
   word-reads.Asked,
   word-reads.Learnt,
@@ -10446,7 +10774,7 @@ gd-enum-known-r4 : (t : ℕ) → gd-lts.Need-enum-known-r4 (
 ) (gd-at t) gd.Post gd-Inv-loop gd-μ-loop
 gd-enum-known-r4 t c = search needs
 
--- src/lib.rt:1678:13
+-- src/lib.rt:1654:13
 gd-enum-told-2 : (t : ℕ) → gd-lts.Need-enum-told-2 (
   word-reads.Asked,
   word-reads.Learnt,
@@ -10463,7 +10791,7 @@ gd-enum-told-2 : (t : ℕ) → gd-lts.Need-enum-told-2 (
 ) (gd-at t) gd.Post gd-Inv-loop gd-μ-loop
 gd-enum-told-2 t c = search needs
 
--- src/lib.rt:1678:13
+-- src/lib.rt:1654:13
 gd-same-length-2 : (t : ℕ) → gd-lts.Need-same-length-2 (
   word-reads.Asked,
   word-reads.Learnt,
@@ -10480,7 +10808,7 @@ gd-same-length-2 : (t : ℕ) → gd-lts.Need-same-length-2 (
 ) (gd-at t) gd.Post gd-Inv-loop gd-μ-loop
 gd-same-length-2 t c = c .before .before .before .before .before .new-line .kept .1 .0 ∙ c .before .before .before .before .before .before .before .before .loop .inv .2 ∙ c .before .before .before .before .before .before .before .before .before .before .before .before .before .before .before .word .kept .1 .0
 
--- src/lib.rt:1678:13
+-- src/lib.rt:1654:13
 gd-returns-2 : (t : ℕ) → gd-lts.Need-returns-2 (
   word-reads.Asked,
   word-reads.Learnt,
@@ -10495,10 +10823,10 @@ gd-returns-2 : (t : ℕ) → gd-lts.Need-returns-2 (
   nm-below t,
   nm.Post,
 ) (gd-at t) gd.Post gd-Inv-loop gd-μ-loop
-unfolding DecOne.SignatureDec DecOne.sig-bind Helpers.sep-with-lines
+unfolding DecOne.dec-one DecOne.sig-bind Helpers.sep-with-lines
 gd-returns-2 t c = record { is = then-sure (c .before .before .before .before .before .before .before .before .before .before .before .before .before .before .before .word .ensures) (by-same (list-is (c .before .before .before .before .before .before .before .before .before .before .before .before .list .ensures) (c .before .before .before .before .before .before .before .before .before .before .n .given .1)) (by-same (items-all _ _ _) (c .before .before .before .before .before .before .before .before .loop .inv .1 _ _ _ (from-more _ _ (c .before .before .before .before .before .before .before .loop-test .taken) (then-sure (c .before .before .before .before .before .new-line .ensures) (then-stop (group-not (c .before .before .group .ensures) (c .enum-told2 .given .1)) (c .enum-told2 .given .1))))))) }
 
--- src/lib.rt:1680:13
+-- src/lib.rt:1656:13
 gd-nm-requires : (t : ℕ) → gd-lts.Need-nm-requires (
   word-reads.Asked,
   word-reads.Learnt,
@@ -10515,7 +10843,7 @@ gd-nm-requires : (t : ℕ) → gd-lts.Need-nm-requires (
 ) (gd-at t) gd.Post gd-Inv-loop gd-μ-loop
 gd-nm-requires t c κs = omega (arith, c .before .before .before .before .before .before .before .before .before .before .before .before .before .before .before .before .before .before .before .before .before .before .before .before .before .before .pre .0, c .before .before .before .before .before .before .before .before .before .before .before .before .before .before .before .before .before .before .before .before .before .before .before .before .before .before .pre .1)
 
--- src/lib.rt:1692:26
+-- src/lib.rt:1668:26
 gd-enum-known-r5 : (t : ℕ) → gd-lts.Need-enum-known-r5 (
   word-reads.Asked,
   word-reads.Learnt,
@@ -10532,7 +10860,7 @@ gd-enum-known-r5 : (t : ℕ) → gd-lts.Need-enum-known-r5 (
 ) (gd-at t) gd.Post gd-Inv-loop gd-μ-loop
 gd-enum-known-r5 t c = search needs
 
--- src/lib.rt:1693:13
+-- src/lib.rt:1669:13
 gd-enum-told-3 : (t : ℕ) → gd-lts.Need-enum-told-3 (
   word-reads.Asked,
   word-reads.Learnt,
@@ -10549,7 +10877,7 @@ gd-enum-told-3 : (t : ℕ) → gd-lts.Need-enum-told-3 (
 ) (gd-at t) gd.Post gd-Inv-loop gd-μ-loop
 gd-enum-told-3 t c = search needs
 
--- src/lib.rt:1693:13
+-- src/lib.rt:1669:13
 gd-same-length-3 : (t : ℕ) → gd-lts.Need-same-length-3 (
   word-reads.Asked,
   word-reads.Learnt,
@@ -10566,7 +10894,7 @@ gd-same-length-3 : (t : ℕ) → gd-lts.Need-same-length-3 (
 ) (gd-at t) gd.Post gd-Inv-loop gd-μ-loop
 gd-same-length-3 t c = c .before .before .before .before .nm .kept .1 .1 .1 .1 .1 .0 ∙ c .before .before .before .before .before .before .before .before .before .before .before .before .before .new-line .kept .1 .0 ∙ c .before .before .before .before .before .before .before .before .before .before .before .before .before .before .before .before .loop .inv .2 ∙ c .before .before .before .before .before .before .before .before .before .before .before .before .before .before .before .before .before .before .before .before .before .before .before .word .kept .1 .0
 
--- src/lib.rt:1693:13
+-- src/lib.rt:1669:13
 gd-returns-3 : (t : ℕ) → gd-lts.Need-returns-3 (
   word-reads.Asked,
   word-reads.Learnt,
@@ -10581,10 +10909,10 @@ gd-returns-3 : (t : ℕ) → gd-lts.Need-returns-3 (
   nm-below t,
   nm.Post,
 ) (gd-at t) gd.Post gd-Inv-loop gd-μ-loop
-unfolding DecOne.SignatureDec DecOne.sig-bind Helpers.sep-with-lines
+unfolding DecOne.dec-one DecOne.sig-bind Helpers.sep-with-lines
 gd-returns-3 t c = record { is = then-sure (c .before .before .before .before .before .before .before .before .before .before .before .before .before .before .before .before .before .before .before .before .before .before .before .word .ensures) (by-same (list-is (c .before .before .before .before .before .before .before .before .before .before .before .before .before .before .before .before .before .before .before .before .list .ensures) (c .before .before .before .before .before .before .before .before .before .before .before .before .before .before .before .before .before .before .n .given .1)) (by-same (items-all _ _ _) (c .before .before .before .before .before .before .before .before .before .before .before .before .before .before .before .before .loop .inv .1 _ _ _ (from-more _ _ (c .before .before .before .before .before .before .before .before .before .before .before .before .before .before .before .loop-test .taken) (then-sure (c .before .before .before .before .before .before .before .before .before .before .before .before .before .new-line .ensures) (by-same (first-same (group-is (c .before .before .before .before .before .before .before .before .before .before .group .ensures) (c .before .before .before .before .before .before .before .before .r4 .given .1))) (then-stop (c .before .before .before .before .nm .ensures .is) (c .enum-told3 .given .1)))))))) }
 
--- src/lib.rt:1696:9
+-- src/lib.rt:1672:9
 gd-add-i : (t : ℕ) → gd-lts.Need-add-i (
   word-reads.Asked,
   word-reads.Learnt,
@@ -10601,7 +10929,7 @@ gd-add-i : (t : ℕ) → gd-lts.Need-add-i (
 ) (gd-at t) gd.Post gd-Inv-loop gd-μ-loop
 gd-add-i t c = omega (arith, c .before .before .before .before .before .before .before .before .before .before .before .before .before .before .before .before .loop-test .taken, c .before .before .before .before .before .before .before .before .before .before .before .before .before .before .before .before .before .before .known-told)
 
--- src/lib.rt:1674:5
+-- src/lib.rt:1650:5
 gd-loop-less : (t : ℕ) → gd-lts.Need-loop-less (
   word-reads.Asked,
   word-reads.Learnt,
@@ -10618,7 +10946,7 @@ gd-loop-less : (t : ℕ) → gd-lts.Need-loop-less (
 ) (gd-at t) gd.Post gd-Inv-loop gd-μ-loop
 gd-loop-less t c = omega arith
 
--- src/lib.rt:1674:5
+-- src/lib.rt:1650:5
 gd-loop-again : (t : ℕ) → gd-lts.Need-loop-again (
   word-reads.Asked,
   word-reads.Learnt,
@@ -10633,10 +10961,10 @@ gd-loop-again : (t : ℕ) → gd-lts.Need-loop-again (
   nm-below t,
   nm.Post,
 ) (gd-at t) gd.Post gd-Inv-loop gd-μ-loop
-unfolding DecOne.SignatureDec DecOne.sig-bind Helpers.sep-with-lines
+unfolding DecOne.dec-one DecOne.sig-bind Helpers.sep-with-lines
 gd-loop-again t c = (omega (arith, c .before .before .before .before .before .before .before .before .before .before .before .before .before .before .before .before .before .loop .inv .0), λ r o m h. c .before .before .before .before .before .before .before .before .before .before .before .before .before .before .before .before .before .loop .inv .1 r o m (from-more _ _ (c .before .before .before .before .before .before .before .before .before .before .before .before .before .before .before .before .loop-test .taken) (then-sure (c .before .before .before .before .before .before .before .before .before .before .before .before .before .before .new-line .ensures) (by-same (first-same (group-is (c .before .before .before .before .before .before .before .before .before .before .before .group .ensures) (c .before .before .before .before .before .before .before .before .before .r4 .given .1))) (then-done (c .before .before .before .before .before .nm .ensures .is) (c .before .r5 .given .1) h)))), c .before .before .before .before .before .nm .kept .1 .1 .1 .1 .1 .0 ∙ c .before .before .before .before .before .before .before .before .before .before .before .before .before .before .new-line .kept .1 .0 ∙ c .before .before .before .before .before .before .before .before .before .before .before .before .before .before .before .before .before .loop .inv .2)
 
--- src/lib.rt:1654:1
+-- src/lib.rt:1630:1
 gd-same-length-4 : (t : ℕ) → gd-lts.Need-same-length-4 (
   word-reads.Asked,
   word-reads.Learnt,
@@ -10653,7 +10981,7 @@ gd-same-length-4 : (t : ℕ) → gd-lts.Need-same-length-4 (
 ) (gd-at t) gd.Post gd-Inv-loop gd-μ-loop
 gd-same-length-4 t c = c .before .loop .inv .2 ∙ c .before .before .before .before .before .before .before .before .word .kept .1 .0
 
--- src/lib.rt:1654:1
+-- src/lib.rt:1630:1
 gd-returns-4 : (t : ℕ) → gd-lts.Need-returns-4 (
   word-reads.Asked,
   word-reads.Learnt,
@@ -10668,10 +10996,10 @@ gd-returns-4 : (t : ℕ) → gd-lts.Need-returns-4 (
   nm-below t,
   nm.Post,
 ) (gd-at t) gd.Post gd-Inv-loop gd-μ-loop
-unfolding DecOne.SignatureDec DecOne.sig-bind Helpers.sep-with-lines
+unfolding DecOne.dec-one DecOne.sig-bind Helpers.sep-with-lines
 gd-returns-4 t c = record { is = then-sure (c .before .before .before .before .before .before .before .before .word .ensures) (by-same (list-is (c .before .before .before .before .before .list .ensures) (c .before .before .before .n .given .1)) (by-same (items-all _ _ _) (c .before .loop .inv .1 _ _ _ (from-none _ _ (c .loop-test .left))))) }
 
--- src/lib.rt:612:9
+-- src/lib.rt:624:9
 ha-exp-requires : (t : ℕ) → ha-lts.Need-exp-requires (
   exp-below t,
   exp.Post,
@@ -10682,7 +11010,7 @@ ha-exp-requires : (t : ℕ) → ha-lts.Need-exp-requires (
 ) (ha-at t) ha.Post
 ha-exp-requires t c κs = omega (arith, c .before .before .before .before .before .before .before .before .pre .0, c .before .before .before .before .before .before .before .before .pre .1)
 
--- src/lib.rt:613:22
+-- src/lib.rt:625:22
 ha-enum-known-r1 : (t : ℕ) → ha-lts.Need-enum-known-r1 (
   exp-below t,
   exp.Post,
@@ -10693,7 +11021,7 @@ ha-enum-known-r1 : (t : ℕ) → ha-lts.Need-enum-known-r1 (
 ) (ha-at t) ha.Post
 ha-enum-known-r1 t c = search needs
 
--- src/lib.rt:614:9
+-- src/lib.rt:626:9
 ha-enum-told : (t : ℕ) → ha-lts.Need-enum-told (
   exp-below t,
   exp.Post,
@@ -10704,7 +11032,7 @@ ha-enum-told : (t : ℕ) → ha-lts.Need-enum-told (
 ) (ha-at t) ha.Post
 ha-enum-told t c = search needs
 
--- src/lib.rt:614:9
+-- src/lib.rt:626:9
 ha-same-length : (t : ℕ) → ha-lts.Need-same-length (
   exp-below t,
   exp.Post,
@@ -10715,7 +11043,7 @@ ha-same-length : (t : ℕ) → ha-lts.Need-same-length (
 ) (ha-at t) ha.Post
 ha-same-length t c = c .before .before .before .before .exp .kept .1 .1 .1 .1 .1 .0
 
--- src/lib.rt:614:9
+-- src/lib.rt:626:9
 ha-returns : (t : ℕ) → ha-lts.Need-returns (
   exp-below t,
   exp.Post,
@@ -10726,7 +11054,7 @@ ha-returns : (t : ℕ) → ha-lts.Need-returns (
 ) (ha-at t) ha.Post
 ha-returns t c = record { is = then-stop (c .before .before .before .before .exp .ensures .is) (c .enum-told .given .1) }
 
--- src/lib.rt:616:9
+-- src/lib.rt:628:9
 ha-word-requires : (t : ℕ) → ha-lts.Need-word-requires (
   exp-below t,
   exp.Post,
@@ -10737,7 +11065,7 @@ ha-word-requires : (t : ℕ) → ha-lts.Need-word-requires (
 ) (ha-at t) ha.Post
 ha-word-requires t c κs = search needs
 
--- src/lib.rt:617:5
+-- src/lib.rt:629:5
 ha-ma-requires : (t : ℕ) → ha-lts.Need-ma-requires (
   exp-below t,
   exp.Post,
@@ -10748,7 +11076,7 @@ ha-ma-requires : (t : ℕ) → ha-lts.Need-ma-requires (
 ) (ha-at t) ha.Post
 ha-ma-requires t c κs = omega (arith, c .before .before .before .before .before .before .before .before .before .before .before .before .before .before .before .before .before .before .before .before .pre .0, c .before .before .before .before .before .before .before .before .before .before .before .before .before .before .before .before .before .before .before .before .pre .1)
 
--- src/lib.rt:597:1
+-- src/lib.rt:609:1
 ha-same-length-2 : (t : ℕ) → ha-lts.Need-same-length-2 (
   exp-below t,
   exp.Post,
@@ -10759,7 +11087,7 @@ ha-same-length-2 : (t : ℕ) → ha-lts.Need-same-length-2 (
 ) (ha-at t) ha.Post
 ha-same-length-2 t c = c .before .before .ma .kept .1 .1 .1 .1 .1 .0 ∙ c .before .before .before .before .before .before .before .word .kept .1 .0 ∙ c .before .before .before .before .before .before .before .before .before .before .before .before .before .before .exp .kept .1 .1 .1 .1 .1 .0
 
--- src/lib.rt:597:1
+-- src/lib.rt:609:1
 ha-returns-2 : (t : ℕ) → ha-lts.Need-returns-2 (
   exp-below t,
   exp.Post,
@@ -10777,7 +11105,7 @@ ic-Inv-loop text rec kinds starts lens out₀ left₀ cfg n s₀ i₀ out left s
 abbrev ic-μ-loop : ic-lts.MeasureT-loop
 ic-μ-loop text rec kinds starts lens out₀ left₀ cfg n s₀ i₀ out left s i = n - i
 
--- src/lib.rt:1878:9
+-- src/lib.rt:1854:9
 ic-word-requires : (t : ℕ) → ic-lts.Need-word-requires (
   word-reads.Asked,
   word-reads.Learnt,
@@ -10792,7 +11120,7 @@ ic-word-requires : (t : ℕ) → ic-lts.Need-word-requires (
 ) (ic-at t) ic.Post ic-Inv-loop ic-μ-loop
 ic-word-requires t c κs = search needs
 
--- src/lib.rt:1879:27
+-- src/lib.rt:1855:27
 ic-list-requires : (t : ℕ) → ic-lts.Need-list-requires (
   word-reads.Asked,
   word-reads.Learnt,
@@ -10807,7 +11135,7 @@ ic-list-requires : (t : ℕ) → ic-lts.Need-list-requires (
 ) (ic-at t) ic.Post ic-Inv-loop ic-μ-loop
 ic-list-requires t c κs = search needs
 
--- src/lib.rt:1879:18
+-- src/lib.rt:1855:18
 ic-enum-known-n : (t : ℕ) → ic-lts.Need-enum-known-n (
   word-reads.Asked,
   word-reads.Learnt,
@@ -10822,7 +11150,7 @@ ic-enum-known-n : (t : ℕ) → ic-lts.Need-enum-known-n (
 ) (ic-at t) ic.Post ic-Inv-loop ic-μ-loop
 ic-enum-known-n t c = search needs
 
--- src/lib.rt:1880:9
+-- src/lib.rt:1856:9
 ic-enum-told : (t : ℕ) → ic-lts.Need-enum-told (
   word-reads.Asked,
   word-reads.Learnt,
@@ -10837,7 +11165,7 @@ ic-enum-told : (t : ℕ) → ic-lts.Need-enum-told (
 ) (ic-at t) ic.Post ic-Inv-loop ic-μ-loop
 ic-enum-told t c = search needs
 
--- src/lib.rt:1880:9
+-- src/lib.rt:1856:9
 ic-stop-requires : (t : ℕ) → ic-lts.Need-stop-requires (
   word-reads.Asked,
   word-reads.Learnt,
@@ -10852,7 +11180,7 @@ ic-stop-requires : (t : ℕ) → ic-lts.Need-stop-requires (
 ) (ic-at t) ic.Post ic-Inv-loop ic-μ-loop
 ic-stop-requires t c κs = search needs
 
--- src/lib.rt:1880:9
+-- src/lib.rt:1856:9
 ic-same-length : (t : ℕ) → ic-lts.Need-same-length (
   word-reads.Asked,
   word-reads.Learnt,
@@ -10867,7 +11195,7 @@ ic-same-length : (t : ℕ) → ic-lts.Need-same-length (
 ) (ic-at t) ic.Post ic-Inv-loop ic-μ-loop
 ic-same-length t c = c .before .before .before .before .before .before .word .kept .1 .0
 
--- src/lib.rt:1880:9
+-- src/lib.rt:1856:9
 ic-returns : (t : ℕ) → ic-lts.Need-returns (
   word-reads.Asked,
   word-reads.Learnt,
@@ -10880,10 +11208,10 @@ ic-returns : (t : ℕ) → ic-lts.Need-returns (
   sig-below t,
   sig.Post,
 ) (ic-at t) ic.Post ic-Inv-loop ic-μ-loop
-unfolding DecOne.IncludeDec Helpers.sep
+unfolding DecOne.dec-one Helpers.sep
 ic-returns t c = record { is = then-sure (c .before .before .before .before .before .before .word .ensures) (list-not (c .stop .ensures) (c .before .before .before .list .ensures) (c .before .enum-told .given .1)) }
 
--- src/lib.rt:1884:5
+-- src/lib.rt:1860:5
 ic-loop-holds : (t : ℕ) → ic-lts.Need-loop-holds (
   word-reads.Asked,
   word-reads.Learnt,
@@ -10898,7 +11226,7 @@ ic-loop-holds : (t : ℕ) → ic-lts.Need-loop-holds (
 ) (ic-at t) ic.Post ic-Inv-loop ic-μ-loop
 ic-loop-holds t c = (omega arith, λ r o m h. h, refl)
 
--- src/lib.rt:1885:13
+-- src/lib.rt:1861:13
 ic-between-requires : (t : ℕ) → ic-lts.Need-between-requires (
   word-reads.Asked,
   word-reads.Learnt,
@@ -10913,7 +11241,7 @@ ic-between-requires : (t : ℕ) → ic-lts.Need-between-requires (
 ) (ic-at t) ic.Post ic-Inv-loop ic-μ-loop
 ic-between-requires t c κs = search needs
 
--- src/lib.rt:1886:13
+-- src/lib.rt:1862:13
 ic-sig-requires : (t : ℕ) → ic-lts.Need-sig-requires (
   word-reads.Asked,
   word-reads.Learnt,
@@ -10928,7 +11256,7 @@ ic-sig-requires : (t : ℕ) → ic-lts.Need-sig-requires (
 ) (ic-at t) ic.Post ic-Inv-loop ic-μ-loop
 ic-sig-requires t c κs = omega (arith, c .before .before .before .before .before .before .before .before .before .before .before .before .before .before .before .before .before .before .before .before .before .before .pre .0, c .before .before .before .before .before .before .before .before .before .before .before .before .before .before .before .before .before .before .before .before .before .before .pre .1)
 
--- src/lib.rt:1887:26
+-- src/lib.rt:1863:26
 ic-enum-known-r4 : (t : ℕ) → ic-lts.Need-enum-known-r4 (
   word-reads.Asked,
   word-reads.Learnt,
@@ -10943,7 +11271,7 @@ ic-enum-known-r4 : (t : ℕ) → ic-lts.Need-enum-known-r4 (
 ) (ic-at t) ic.Post ic-Inv-loop ic-μ-loop
 ic-enum-known-r4 t c = search needs
 
--- src/lib.rt:1888:13
+-- src/lib.rt:1864:13
 ic-enum-told-2 : (t : ℕ) → ic-lts.Need-enum-told-2 (
   word-reads.Asked,
   word-reads.Learnt,
@@ -10958,7 +11286,7 @@ ic-enum-told-2 : (t : ℕ) → ic-lts.Need-enum-told-2 (
 ) (ic-at t) ic.Post ic-Inv-loop ic-μ-loop
 ic-enum-told-2 t c = search needs
 
--- src/lib.rt:1888:13
+-- src/lib.rt:1864:13
 ic-same-length-2 : (t : ℕ) → ic-lts.Need-same-length-2 (
   word-reads.Asked,
   word-reads.Learnt,
@@ -10973,7 +11301,7 @@ ic-same-length-2 : (t : ℕ) → ic-lts.Need-same-length-2 (
 ) (ic-at t) ic.Post ic-Inv-loop ic-μ-loop
 ic-same-length-2 t c = c .before .before .before .before .sig .kept .1 .1 .1 .1 .1 .0 ∙ c .before .before .before .before .before .before .before .before .before .between .kept .1 .0 ∙ c .before .before .before .before .before .before .before .before .before .before .before .before .loop .inv .2 ∙ c .before .before .before .before .before .before .before .before .before .before .before .before .before .before .before .before .before .before .before .word .kept .1 .0
 
--- src/lib.rt:1888:13
+-- src/lib.rt:1864:13
 ic-returns-2 : (t : ℕ) → ic-lts.Need-returns-2 (
   word-reads.Asked,
   word-reads.Learnt,
@@ -10986,10 +11314,10 @@ ic-returns-2 : (t : ℕ) → ic-lts.Need-returns-2 (
   sig-below t,
   sig.Post,
 ) (ic-at t) ic.Post ic-Inv-loop ic-μ-loop
-unfolding DecOne.IncludeDec Helpers.sep
+unfolding DecOne.dec-one Helpers.sep
 ic-returns-2 t c = record { is = then-sure (c .before .before .before .before .before .before .before .before .before .before .before .before .before .before .before .before .before .before .before .word .ensures) (by-same (list-is (c .before .before .before .before .before .before .before .before .before .before .before .before .before .before .before .before .list .ensures) (c .before .before .before .before .before .before .before .before .before .before .before .before .before .before .n .given .1)) (by-same (items-all _ _ _) (c .before .before .before .before .before .before .before .before .before .before .before .before .loop .inv .1 _ _ _ (from-more _ _ (c .before .before .before .before .before .before .before .before .before .before .before .loop-test .taken) (then-sure (c .before .before .before .before .before .before .before .before .before .between .ensures) (then-stop (c .before .before .before .before .sig .ensures .is) (c .enum-told2 .given .1))))))) }
 
--- src/lib.rt:1891:9
+-- src/lib.rt:1867:9
 ic-add-i : (t : ℕ) → ic-lts.Need-add-i (
   word-reads.Asked,
   word-reads.Learnt,
@@ -11004,7 +11332,7 @@ ic-add-i : (t : ℕ) → ic-lts.Need-add-i (
 ) (ic-at t) ic.Post ic-Inv-loop ic-μ-loop
 ic-add-i t c = omega (arith, c .before .before .before .before .before .before .before .before .before .before .before .before .loop-test .taken, c .before .before .before .before .before .before .before .before .before .before .before .before .before .before .known-told)
 
--- src/lib.rt:1884:5
+-- src/lib.rt:1860:5
 ic-loop-less : (t : ℕ) → ic-lts.Need-loop-less (
   word-reads.Asked,
   word-reads.Learnt,
@@ -11019,7 +11347,7 @@ ic-loop-less : (t : ℕ) → ic-lts.Need-loop-less (
 ) (ic-at t) ic.Post ic-Inv-loop ic-μ-loop
 ic-loop-less t c = omega arith
 
--- src/lib.rt:1884:5
+-- src/lib.rt:1860:5
 ic-loop-again : (t : ℕ) → ic-lts.Need-loop-again (
   word-reads.Asked,
   word-reads.Learnt,
@@ -11032,10 +11360,10 @@ ic-loop-again : (t : ℕ) → ic-lts.Need-loop-again (
   sig-below t,
   sig.Post,
 ) (ic-at t) ic.Post ic-Inv-loop ic-μ-loop
-unfolding DecOne.IncludeDec Helpers.sep
+unfolding DecOne.dec-one Helpers.sep
 ic-loop-again t c = (omega (arith, c .before .before .before .before .before .before .before .before .before .before .before .before .before .loop .inv .0), λ r o m h. c .before .before .before .before .before .before .before .before .before .before .before .before .before .loop .inv .1 r o m (from-more _ _ (c .before .before .before .before .before .before .before .before .before .before .before .before .loop-test .taken) (then-sure (c .before .before .before .before .before .before .before .before .before .before .between .ensures) (then-done (c .before .before .before .before .before .sig .ensures .is) (c .before .r4 .given .1) h))), c .before .before .before .before .before .sig .kept .1 .1 .1 .1 .1 .0 ∙ c .before .before .before .before .before .before .before .before .before .before .between .kept .1 .0 ∙ c .before .before .before .before .before .before .before .before .before .before .before .before .before .loop .inv .2)
 
--- src/lib.rt:1864:1
+-- src/lib.rt:1840:1
 ic-same-length-3 : (t : ℕ) → ic-lts.Need-same-length-3 (
   word-reads.Asked,
   word-reads.Learnt,
@@ -11050,7 +11378,7 @@ ic-same-length-3 : (t : ℕ) → ic-lts.Need-same-length-3 (
 ) (ic-at t) ic.Post ic-Inv-loop ic-μ-loop
 ic-same-length-3 t c = c .before .loop .inv .2 ∙ c .before .before .before .before .before .before .before .before .word .kept .1 .0
 
--- src/lib.rt:1864:1
+-- src/lib.rt:1840:1
 ic-returns-3 : (t : ℕ) → ic-lts.Need-returns-3 (
   word-reads.Asked,
   word-reads.Learnt,
@@ -11063,10 +11391,10 @@ ic-returns-3 : (t : ℕ) → ic-lts.Need-returns-3 (
   sig-below t,
   sig.Post,
 ) (ic-at t) ic.Post ic-Inv-loop ic-μ-loop
-unfolding DecOne.IncludeDec Helpers.sep
+unfolding DecOne.dec-one Helpers.sep
 ic-returns-3 t c = record { is = then-sure (c .before .before .before .before .before .before .before .before .word .ensures) (by-same (list-is (c .before .before .before .before .before .list .ensures) (c .before .before .before .n .given .1)) (by-same (items-all _ _ _) (c .before .loop .inv .1 _ _ _ (from-none _ _ (c .loop-test .left))))) }
 
--- src/lib.rt:685:9
+-- src/lib.rt:697:9
 ie-word-requires : (t : ℕ) → ie-lts.Need-word-requires (
   word-reads.Asked,
   word-reads.Learnt,
@@ -11078,6 +11406,10 @@ ie-word-requires : (t : ℕ) → ie-lts.Need-word-requires (
   indented-reads.Learnt,
   line-reads.Asked,
   line-reads.Learnt,
+  expression-reads.Asked,
+  expression-reads.Learnt,
+  stop-reads.Asked,
+  stop-reads.Learnt,
   is-if-exp-reads.Asked,
   is-if-exp-reads.Learnt,
   line-in-reads.Asked,
@@ -11085,7 +11417,7 @@ ie-word-requires : (t : ℕ) → ie-lts.Need-word-requires (
 ) (ie-at t) ie.Post
 ie-word-requires t c κs = search needs
 
--- src/lib.rt:686:9
+-- src/lib.rt:698:9
 ie-exp-requires : (t : ℕ) → ie-lts.Need-exp-requires (
   word-reads.Asked,
   word-reads.Learnt,
@@ -11097,6 +11429,10 @@ ie-exp-requires : (t : ℕ) → ie-lts.Need-exp-requires (
   indented-reads.Learnt,
   line-reads.Asked,
   line-reads.Learnt,
+  expression-reads.Asked,
+  expression-reads.Learnt,
+  stop-reads.Asked,
+  stop-reads.Learnt,
   is-if-exp-reads.Asked,
   is-if-exp-reads.Learnt,
   line-in-reads.Asked,
@@ -11104,7 +11440,7 @@ ie-exp-requires : (t : ℕ) → ie-lts.Need-exp-requires (
 ) (ie-at t) ie.Post
 ie-exp-requires t c κs = omega (arith, c .before .before .before .before .before .before .before .before .before .before .before .before .pre .0, c .before .before .before .before .before .before .before .before .before .before .before .before .pre .1)
 
--- src/lib.rt:687:22
+-- src/lib.rt:699:22
 ie-enum-known-r2 : (t : ℕ) → ie-lts.Need-enum-known-r2 (
   word-reads.Asked,
   word-reads.Learnt,
@@ -11116,6 +11452,10 @@ ie-enum-known-r2 : (t : ℕ) → ie-lts.Need-enum-known-r2 (
   indented-reads.Learnt,
   line-reads.Asked,
   line-reads.Learnt,
+  expression-reads.Asked,
+  expression-reads.Learnt,
+  stop-reads.Asked,
+  stop-reads.Learnt,
   is-if-exp-reads.Asked,
   is-if-exp-reads.Learnt,
   line-in-reads.Asked,
@@ -11123,7 +11463,7 @@ ie-enum-known-r2 : (t : ℕ) → ie-lts.Need-enum-known-r2 (
 ) (ie-at t) ie.Post
 ie-enum-known-r2 t c = search needs
 
--- src/lib.rt:688:9
+-- src/lib.rt:700:9
 ie-enum-told : (t : ℕ) → ie-lts.Need-enum-told (
   word-reads.Asked,
   word-reads.Learnt,
@@ -11135,6 +11475,10 @@ ie-enum-told : (t : ℕ) → ie-lts.Need-enum-told (
   indented-reads.Learnt,
   line-reads.Asked,
   line-reads.Learnt,
+  expression-reads.Asked,
+  expression-reads.Learnt,
+  stop-reads.Asked,
+  stop-reads.Learnt,
   is-if-exp-reads.Asked,
   is-if-exp-reads.Learnt,
   line-in-reads.Asked,
@@ -11142,7 +11486,7 @@ ie-enum-told : (t : ℕ) → ie-lts.Need-enum-told (
 ) (ie-at t) ie.Post
 ie-enum-told t c = search needs
 
--- src/lib.rt:688:9
+-- src/lib.rt:700:9
 ie-same-length : (t : ℕ) → ie-lts.Need-same-length (
   word-reads.Asked,
   word-reads.Learnt,
@@ -11154,6 +11498,10 @@ ie-same-length : (t : ℕ) → ie-lts.Need-same-length (
   indented-reads.Learnt,
   line-reads.Asked,
   line-reads.Learnt,
+  expression-reads.Asked,
+  expression-reads.Learnt,
+  stop-reads.Asked,
+  stop-reads.Learnt,
   is-if-exp-reads.Asked,
   is-if-exp-reads.Learnt,
   line-in-reads.Asked,
@@ -11161,7 +11509,7 @@ ie-same-length : (t : ℕ) → ie-lts.Need-same-length (
 ) (ie-at t) ie.Post
 ie-same-length t c = c .before .before .before .before .exp .kept .1 .1 .1 .1 .1 .0 ∙ c .before .before .before .before .before .before .before .before .before .word .kept .1 .0
 
--- src/lib.rt:688:9
+-- src/lib.rt:700:9
 ie-returns : (t : ℕ) → ie-lts.Need-returns (
   word-reads.Asked,
   word-reads.Learnt,
@@ -11173,15 +11521,19 @@ ie-returns : (t : ℕ) → ie-lts.Need-returns (
   indented-reads.Learnt,
   line-reads.Asked,
   line-reads.Learnt,
+  expression-reads.Asked,
+  expression-reads.Learnt,
+  stop-reads.Asked,
+  stop-reads.Learnt,
   is-if-exp-reads.Asked,
   is-if-exp-reads.Learnt,
   line-in-reads.Asked,
   line-in-reads.Learnt,
 ) (ie-at t) ie.Post
-unfolding Exp.IfExp Exp.if-no Helpers.indented
+unfolding Exp.exp Exp.if-no Helpers.indent-deeper Helpers.deepen
 ie-returns t c = record { is = then-sure (c .before .before .before .before .before .before .before .before .before .word .ensures) (then-stop (c .before .before .before .before .exp .ensures .is) (c .enum-told .given .1)) }
 
--- src/lib.rt:690:9
+-- src/lib.rt:702:9
 ie-word-requires-2 : (t : ℕ) → ie-lts.Need-word-requires-2 (
   word-reads.Asked,
   word-reads.Learnt,
@@ -11193,6 +11545,10 @@ ie-word-requires-2 : (t : ℕ) → ie-lts.Need-word-requires-2 (
   indented-reads.Learnt,
   line-reads.Asked,
   line-reads.Learnt,
+  expression-reads.Asked,
+  expression-reads.Learnt,
+  stop-reads.Asked,
+  stop-reads.Learnt,
   is-if-exp-reads.Asked,
   is-if-exp-reads.Learnt,
   line-in-reads.Asked,
@@ -11200,7 +11556,7 @@ ie-word-requires-2 : (t : ℕ) → ie-lts.Need-word-requires-2 (
 ) (ie-at t) ie.Post
 ie-word-requires-2 t c κs = search needs
 
--- src/lib.rt:691:9
+-- src/lib.rt:703:9
 ie-indent-deeper-requires : (t : ℕ) → ie-lts.Need-indent-deeper-requires (
   word-reads.Asked,
   word-reads.Learnt,
@@ -11212,6 +11568,10 @@ ie-indent-deeper-requires : (t : ℕ) → ie-lts.Need-indent-deeper-requires (
   indented-reads.Learnt,
   line-reads.Asked,
   line-reads.Learnt,
+  expression-reads.Asked,
+  expression-reads.Learnt,
+  stop-reads.Asked,
+  stop-reads.Learnt,
   is-if-exp-reads.Asked,
   is-if-exp-reads.Learnt,
   line-in-reads.Asked,
@@ -11219,7 +11579,7 @@ ie-indent-deeper-requires : (t : ℕ) → ie-lts.Need-indent-deeper-requires (
 ) (ie-at t) ie.Post
 ie-indent-deeper-requires t c κs = omega (arith, c .before .before .before .before .before .before .before .before .before .before .before .before .before .before .before .before .before .before .before .before .before .before .before .pre .1)
 
--- src/lib.rt:692:9
+-- src/lib.rt:704:9
 ie-indented-requires : (t : ℕ) → ie-lts.Need-indented-requires (
   word-reads.Asked,
   word-reads.Learnt,
@@ -11231,6 +11591,10 @@ ie-indented-requires : (t : ℕ) → ie-lts.Need-indented-requires (
   indented-reads.Learnt,
   line-reads.Asked,
   line-reads.Learnt,
+  expression-reads.Asked,
+  expression-reads.Learnt,
+  stop-reads.Asked,
+  stop-reads.Learnt,
   is-if-exp-reads.Asked,
   is-if-exp-reads.Learnt,
   line-in-reads.Asked,
@@ -11238,7 +11602,7 @@ ie-indented-requires : (t : ℕ) → ie-lts.Need-indented-requires (
 ) (ie-at t) ie.Post
 ie-indented-requires t c κs = omega (arith, c .before .before .before .before .before .before .before .before .before .before .before .before .before .before .before .before .before .before .before .before .before .before .before .before .before .before .pre .1)
 
--- src/lib.rt:693:9
+-- src/lib.rt:705:9
 ie-exp-requires-2 : (t : ℕ) → ie-lts.Need-exp-requires-2 (
   word-reads.Asked,
   word-reads.Learnt,
@@ -11250,6 +11614,10 @@ ie-exp-requires-2 : (t : ℕ) → ie-lts.Need-exp-requires-2 (
   indented-reads.Learnt,
   line-reads.Asked,
   line-reads.Learnt,
+  expression-reads.Asked,
+  expression-reads.Learnt,
+  stop-reads.Asked,
+  stop-reads.Learnt,
   is-if-exp-reads.Asked,
   is-if-exp-reads.Learnt,
   line-in-reads.Asked,
@@ -11257,7 +11625,7 @@ ie-exp-requires-2 : (t : ℕ) → ie-lts.Need-exp-requires-2 (
 ) (ie-at t) ie.Post
 ie-exp-requires-2 t c κs = omega (arith, c .before .before .before .before .before .before .before .before .before .before .before .before .before .before .before .before .before .before .before .before .before .before .before .before .before .before .before .before .before .pre .0, c .before .before .before .before .before .before .before .before .before .before .before .before .before .before .before .before .before .before .before .before .before .before .before .before .before .before .before .before .before .pre .1, deep-depth (c .before .before .indented .ensures), deep-left (c .before .before .indented .ensures))
 
--- src/lib.rt:694:22
+-- src/lib.rt:706:22
 ie-enum-known-r5 : (t : ℕ) → ie-lts.Need-enum-known-r5 (
   word-reads.Asked,
   word-reads.Learnt,
@@ -11269,6 +11637,10 @@ ie-enum-known-r5 : (t : ℕ) → ie-lts.Need-enum-known-r5 (
   indented-reads.Learnt,
   line-reads.Asked,
   line-reads.Learnt,
+  expression-reads.Asked,
+  expression-reads.Learnt,
+  stop-reads.Asked,
+  stop-reads.Learnt,
   is-if-exp-reads.Asked,
   is-if-exp-reads.Learnt,
   line-in-reads.Asked,
@@ -11276,7 +11648,7 @@ ie-enum-known-r5 : (t : ℕ) → ie-lts.Need-enum-known-r5 (
 ) (ie-at t) ie.Post
 ie-enum-known-r5 t c = search needs
 
--- src/lib.rt:695:9
+-- src/lib.rt:707:9
 ie-enum-told-2 : (t : ℕ) → ie-lts.Need-enum-told-2 (
   word-reads.Asked,
   word-reads.Learnt,
@@ -11288,6 +11660,10 @@ ie-enum-told-2 : (t : ℕ) → ie-lts.Need-enum-told-2 (
   indented-reads.Learnt,
   line-reads.Asked,
   line-reads.Learnt,
+  expression-reads.Asked,
+  expression-reads.Learnt,
+  stop-reads.Asked,
+  stop-reads.Learnt,
   is-if-exp-reads.Asked,
   is-if-exp-reads.Learnt,
   line-in-reads.Asked,
@@ -11295,7 +11671,7 @@ ie-enum-told-2 : (t : ℕ) → ie-lts.Need-enum-told-2 (
 ) (ie-at t) ie.Post
 ie-enum-told-2 t c = search needs
 
--- src/lib.rt:695:9
+-- src/lib.rt:707:9
 ie-same-length-2 : (t : ℕ) → ie-lts.Need-same-length-2 (
   word-reads.Asked,
   word-reads.Learnt,
@@ -11307,6 +11683,10 @@ ie-same-length-2 : (t : ℕ) → ie-lts.Need-same-length-2 (
   indented-reads.Learnt,
   line-reads.Asked,
   line-reads.Learnt,
+  expression-reads.Asked,
+  expression-reads.Learnt,
+  stop-reads.Asked,
+  stop-reads.Learnt,
   is-if-exp-reads.Asked,
   is-if-exp-reads.Learnt,
   line-in-reads.Asked,
@@ -11314,7 +11694,7 @@ ie-same-length-2 : (t : ℕ) → ie-lts.Need-same-length-2 (
 ) (ie-at t) ie.Post
 ie-same-length-2 t c = c .before .before .before .before .exp2 .kept .1 .1 .1 .1 .1 .0 ∙ c .before .before .before .before .before .before .before .before .before .before .indent-deeper .kept .0 ∙ c .before .before .before .before .before .before .before .before .before .before .before .before .before .before .word2 .kept .1 .0 ∙ c .before .before .before .before .before .before .before .before .before .before .before .before .before .before .before .before .before .before .before .before .before .exp .kept .1 .1 .1 .1 .1 .0 ∙ c .before .before .before .before .before .before .before .before .before .before .before .before .before .before .before .before .before .before .before .before .before .before .before .before .before .before .word .kept .1 .0
 
--- src/lib.rt:695:9
+-- src/lib.rt:707:9
 ie-returns-2 : (t : ℕ) → ie-lts.Need-returns-2 (
   word-reads.Asked,
   word-reads.Learnt,
@@ -11326,15 +11706,19 @@ ie-returns-2 : (t : ℕ) → ie-lts.Need-returns-2 (
   indented-reads.Learnt,
   line-reads.Asked,
   line-reads.Learnt,
+  expression-reads.Asked,
+  expression-reads.Learnt,
+  stop-reads.Asked,
+  stop-reads.Learnt,
   is-if-exp-reads.Asked,
   is-if-exp-reads.Learnt,
   line-in-reads.Asked,
   line-in-reads.Learnt,
 ) (ie-at t) ie.Post
-unfolding Exp.IfExp Exp.if-no Helpers.indented
+unfolding Exp.exp Exp.if-no Helpers.indent-deeper Helpers.deepen
 ie-returns-2 t c = record { is = then-sure (c .before .before .before .before .before .before .before .before .before .before .before .before .before .before .before .before .before .before .before .before .before .before .before .before .before .before .word .ensures) (then-done (c .before .before .before .before .before .before .before .before .before .before .before .before .before .before .before .before .before .before .before .before .before .exp .ensures .is) (c .before .before .before .before .before .before .before .before .before .before .before .before .before .before .before .before .before .r2 .given .1) (then-sure (c .before .before .before .before .before .before .before .before .before .before .before .before .before .before .word2 .ensures) (then-both (c .before .before .before .before .before .before .before .before .before .before .indent-deeper .ensures) (then-stop (along (c .before .before .before .before .before .before .before .indented .ensures) (c .before .before .before .before .exp2 .ensures)) (c .enum-told2 .given .1))))) }
 
--- src/lib.rt:697:9
+-- src/lib.rt:709:9
 ie-line-requires : (t : ℕ) → ie-lts.Need-line-requires (
   word-reads.Asked,
   word-reads.Learnt,
@@ -11346,6 +11730,10 @@ ie-line-requires : (t : ℕ) → ie-lts.Need-line-requires (
   indented-reads.Learnt,
   line-reads.Asked,
   line-reads.Learnt,
+  expression-reads.Asked,
+  expression-reads.Learnt,
+  stop-reads.Asked,
+  stop-reads.Learnt,
   is-if-exp-reads.Asked,
   is-if-exp-reads.Learnt,
   line-in-reads.Asked,
@@ -11353,7 +11741,7 @@ ie-line-requires : (t : ℕ) → ie-lts.Need-line-requires (
 ) (ie-at t) ie.Post
 ie-line-requires t c κs = search needs
 
--- src/lib.rt:698:9
+-- src/lib.rt:710:9
 ie-word-requires-3 : (t : ℕ) → ie-lts.Need-word-requires-3 (
   word-reads.Asked,
   word-reads.Learnt,
@@ -11365,6 +11753,10 @@ ie-word-requires-3 : (t : ℕ) → ie-lts.Need-word-requires-3 (
   indented-reads.Learnt,
   line-reads.Asked,
   line-reads.Learnt,
+  expression-reads.Asked,
+  expression-reads.Learnt,
+  stop-reads.Asked,
+  stop-reads.Learnt,
   is-if-exp-reads.Asked,
   is-if-exp-reads.Learnt,
   line-in-reads.Asked,
@@ -11372,8 +11764,8 @@ ie-word-requires-3 : (t : ℕ) → ie-lts.Need-word-requires-3 (
 ) (ie-at t) ie.Post
 ie-word-requires-3 t c κs = search needs
 
--- src/lib.rt:700:8
-ie-is-if-exp-requires : (t : ℕ) → ie-lts.Need-is-if-exp-requires (
+-- src/lib.rt:711:28
+ie-expression-requires : (t : ℕ) → ie-lts.Need-expression-requires (
   word-reads.Asked,
   word-reads.Learnt,
   exp-below t,
@@ -11384,15 +11776,19 @@ ie-is-if-exp-requires : (t : ℕ) → ie-lts.Need-is-if-exp-requires (
   indented-reads.Learnt,
   line-reads.Asked,
   line-reads.Learnt,
+  expression-reads.Asked,
+  expression-reads.Learnt,
+  stop-reads.Asked,
+  stop-reads.Learnt,
   is-if-exp-reads.Asked,
   is-if-exp-reads.Learnt,
   line-in-reads.Asked,
   line-in-reads.Learnt,
 ) (ie-at t) ie.Post
-ie-is-if-exp-requires t c κs = search needs
+ie-expression-requires t c κs = search needs
 
--- src/lib.rt:701:13
-ie-word-requires-4 : (t : ℕ) → ie-lts.Need-word-requires-4 (
+-- src/lib.rt:711:18
+ie-enum-known--k : (t : ℕ) → ie-lts.Need-enum-known--k (
   word-reads.Asked,
   word-reads.Learnt,
   exp-below t,
@@ -11403,15 +11799,19 @@ ie-word-requires-4 : (t : ℕ) → ie-lts.Need-word-requires-4 (
   indented-reads.Learnt,
   line-reads.Asked,
   line-reads.Learnt,
+  expression-reads.Asked,
+  expression-reads.Learnt,
+  stop-reads.Asked,
+  stop-reads.Learnt,
   is-if-exp-reads.Asked,
   is-if-exp-reads.Learnt,
   line-in-reads.Asked,
   line-in-reads.Learnt,
 ) (ie-at t) ie.Post
-ie-word-requires-4 t c κs = search needs
+ie-enum-known--k t c = search needs
 
--- src/lib.rt:702:9
-ie-exp-requires-3 : (t : ℕ) → ie-lts.Need-exp-requires-3 (
+-- src/lib.rt:712:9
+ie-enum-told-3 : (t : ℕ) → ie-lts.Need-enum-told-3 (
   word-reads.Asked,
   word-reads.Learnt,
   exp-below t,
@@ -11422,14 +11822,41 @@ ie-exp-requires-3 : (t : ℕ) → ie-lts.Need-exp-requires-3 (
   indented-reads.Learnt,
   line-reads.Asked,
   line-reads.Learnt,
+  expression-reads.Asked,
+  expression-reads.Learnt,
+  stop-reads.Asked,
+  stop-reads.Learnt,
   is-if-exp-reads.Asked,
   is-if-exp-reads.Learnt,
   line-in-reads.Asked,
   line-in-reads.Learnt,
 ) (ie-at t) ie.Post
-ie-exp-requires-3 t c κs = omega (arith, c .before .before .before .before .before .before .before .before .before .before .before .before .before .before .before .before .before .before .before .before .before .before .before .before .before .before .before .before .before .before .before .before .before .before .before .before .before .before .before .before .before .before .before .before .before .before .before .before .before .before .before .pre .0, c .before .before .before .before .before .before .before .before .before .before .before .before .before .before .before .before .before .before .before .before .before .before .before .before .before .before .before .before .before .before .before .before .before .before .before .before .before .before .before .before .before .before .before .before .before .before .before .before .before .before .before .pre .1, deep-depth (c .before .before .before .before .before .before .before .before .before .before .before .before .before .before .before .before .before .before .before .before .before .before .before .before .indented .ensures), deep-left (c .before .before .before .before .before .before .before .before .before .before .before .before .before .before .before .before .before .before .before .before .before .before .before .before .indented .ensures))
+ie-enum-told-3 t c = search needs
 
--- src/lib.rt:702:9
+-- src/lib.rt:712:9
+ie-stop-requires : (t : ℕ) → ie-lts.Need-stop-requires (
+  word-reads.Asked,
+  word-reads.Learnt,
+  exp-below t,
+  exp.Post,
+  indent-deeper-reads.Asked,
+  indent-deeper-reads.Learnt,
+  indented-reads.Asked,
+  indented-reads.Learnt,
+  line-reads.Asked,
+  line-reads.Learnt,
+  expression-reads.Asked,
+  expression-reads.Learnt,
+  stop-reads.Asked,
+  stop-reads.Learnt,
+  is-if-exp-reads.Asked,
+  is-if-exp-reads.Learnt,
+  line-in-reads.Asked,
+  line-in-reads.Learnt,
+) (ie-at t) ie.Post
+ie-stop-requires t c κs = search needs
+
+-- src/lib.rt:712:9
 ie-same-length-3 : (t : ℕ) → ie-lts.Need-same-length-3 (
   word-reads.Asked,
   word-reads.Learnt,
@@ -11441,14 +11868,18 @@ ie-same-length-3 : (t : ℕ) → ie-lts.Need-same-length-3 (
   indented-reads.Learnt,
   line-reads.Asked,
   line-reads.Learnt,
+  expression-reads.Asked,
+  expression-reads.Learnt,
+  stop-reads.Asked,
+  stop-reads.Learnt,
   is-if-exp-reads.Asked,
   is-if-exp-reads.Learnt,
   line-in-reads.Asked,
   line-in-reads.Learnt,
 ) (ie-at t) ie.Post
-ie-same-length-3 t c = c .before .before .exp3 .kept .1 .1 .1 .1 .1 .0 ∙ c .before .before .before .before .before .before .before .word4 .kept .1 .0 ∙ c .before .before .before .before .before .before .before .before .before .before .before .before .before .word3 .kept .1 .0 ∙ c .before .before .before .before .before .before .before .before .before .before .before .before .before .before .before .before .before .line .kept .1 .0 ∙ c .before .before .before .before .before .before .before .before .before .before .before .before .before .before .before .before .before .before .before .before .before .before .before .before .exp2 .kept .1 .1 .1 .1 .1 .0 ∙ c .before .before .before .before .before .before .before .before .before .before .before .before .before .before .before .before .before .before .before .before .before .before .before .before .before .before .before .before .before .before .indent-deeper .kept .0 ∙ c .before .before .before .before .before .before .before .before .before .before .before .before .before .before .before .before .before .before .before .before .before .before .before .before .before .before .before .before .before .before .before .before .before .before .word2 .kept .1 .0 ∙ c .before .before .before .before .before .before .before .before .before .before .before .before .before .before .before .before .before .before .before .before .before .before .before .before .before .before .before .before .before .before .before .before .before .before .before .before .before .before .before .before .before .exp .kept .1 .1 .1 .1 .1 .0 ∙ c .before .before .before .before .before .before .before .before .before .before .before .before .before .before .before .before .before .before .before .before .before .before .before .before .before .before .before .before .before .before .before .before .before .before .before .before .before .before .before .before .before .before .before .before .before .before .word .kept .1 .0
+ie-same-length-3 t c = c .before .before .before .before .before .before .word3 .kept .1 .0 ∙ c .before .before .before .before .before .before .before .before .before .before .line .kept .1 .0 ∙ c .before .before .before .before .before .before .before .before .before .before .before .before .before .before .before .before .before .exp2 .kept .1 .1 .1 .1 .1 .0 ∙ c .before .before .before .before .before .before .before .before .before .before .before .before .before .before .before .before .before .before .before .before .before .before .before .indent-deeper .kept .0 ∙ c .before .before .before .before .before .before .before .before .before .before .before .before .before .before .before .before .before .before .before .before .before .before .before .before .before .before .before .word2 .kept .1 .0 ∙ c .before .before .before .before .before .before .before .before .before .before .before .before .before .before .before .before .before .before .before .before .before .before .before .before .before .before .before .before .before .before .before .before .before .before .exp .kept .1 .1 .1 .1 .1 .0 ∙ c .before .before .before .before .before .before .before .before .before .before .before .before .before .before .before .before .before .before .before .before .before .before .before .before .before .before .before .before .before .before .before .before .before .before .before .before .before .before .before .word .kept .1 .0
 
--- src/lib.rt:702:9
+-- src/lib.rt:712:9
 ie-returns-3 : (t : ℕ) → ie-lts.Need-returns-3 (
   word-reads.Asked,
   word-reads.Learnt,
@@ -11460,16 +11891,20 @@ ie-returns-3 : (t : ℕ) → ie-lts.Need-returns-3 (
   indented-reads.Learnt,
   line-reads.Asked,
   line-reads.Learnt,
+  expression-reads.Asked,
+  expression-reads.Learnt,
+  stop-reads.Asked,
+  stop-reads.Learnt,
   is-if-exp-reads.Asked,
   is-if-exp-reads.Learnt,
   line-in-reads.Asked,
   line-in-reads.Learnt,
 ) (ie-at t) ie.Post
-unfolding Exp.IfExp Exp.if-no Helpers.indented
-ie-returns-3 t c = record { is = then-sure (c .before .before .before .before .before .before .before .before .before .before .before .before .before .before .before .before .before .before .before .before .before .before .before .before .before .before .before .before .before .before .before .before .before .before .before .before .before .before .before .before .before .before .before .before .before .before .word .ensures) (then-done (c .before .before .before .before .before .before .before .before .before .before .before .before .before .before .before .before .before .before .before .before .before .before .before .before .before .before .before .before .before .before .before .before .before .before .before .before .before .before .before .before .before .exp .ensures .is) (c .before .before .before .before .before .before .before .before .before .before .before .before .before .before .before .before .before .before .before .before .before .before .before .before .before .before .before .before .before .before .before .before .before .before .before .before .before .r2 .given .1) (then-sure (c .before .before .before .before .before .before .before .before .before .before .before .before .before .before .before .before .before .before .before .before .before .before .before .before .before .before .before .before .before .before .before .before .before .before .word2 .ensures) (then-both (c .before .before .before .before .before .before .before .before .before .before .before .before .before .before .before .before .before .before .before .before .before .before .before .before .before .before .before .before .before .before .indent-deeper .ensures) (then-done (along (c .before .before .before .before .before .before .before .before .before .before .before .before .before .before .before .before .before .before .before .before .before .before .before .before .before .before .before .indented .ensures) (c .before .before .before .before .before .before .before .before .before .before .before .before .before .before .before .before .before .before .before .before .before .before .before .before .exp2 .ensures)) (c .before .before .before .before .before .before .before .before .before .before .before .before .before .before .before .before .before .before .before .before .r5 .given .1) (then-both (c .before .before .before .before .before .before .before .before .before .before .before .before .before .before .before .before .before .line .ensures) (then-sure (c .before .before .before .before .before .before .before .before .before .before .before .before .before .word3 .ensures) (by-same (look-is (c .before .before .before .before .before .before .before .before .before .before .is-if-exp .ensures) (c .before .before .before .before .before .before .before .before .before .if1 .taken)) (then-sure (c .before .before .before .before .before .before .before .word4 .ensures) (c .before .before .exp3 .ensures .is))))))))) }
+unfolding Exp.exp Exp.if-no Helpers.indent-deeper Helpers.deepen
+ie-returns-3 t c = record { is = then-sure (c .before .before .before .before .before .before .before .before .before .before .before .before .before .before .before .before .before .before .before .before .before .before .before .before .before .before .before .before .before .before .before .before .before .before .before .before .before .before .before .word .ensures) (then-done (c .before .before .before .before .before .before .before .before .before .before .before .before .before .before .before .before .before .before .before .before .before .before .before .before .before .before .before .before .before .before .before .before .before .before .exp .ensures .is) (c .before .before .before .before .before .before .before .before .before .before .before .before .before .before .before .before .before .before .before .before .before .before .before .before .before .before .before .before .before .before .r2 .given .1) (then-sure (c .before .before .before .before .before .before .before .before .before .before .before .before .before .before .before .before .before .before .before .before .before .before .before .before .before .before .before .word2 .ensures) (then-both (c .before .before .before .before .before .before .before .before .before .before .before .before .before .before .before .before .before .before .before .before .before .before .before .indent-deeper .ensures) (then-done (along (c .before .before .before .before .before .before .before .before .before .before .before .before .before .before .before .before .before .before .before .before .indented .ensures) (c .before .before .before .before .before .before .before .before .before .before .before .before .before .before .before .before .before .exp2 .ensures)) (c .before .before .before .before .before .before .before .before .before .before .before .before .before .r5 .given .1) (then-both (c .before .before .before .before .before .before .before .before .before .before .line .ensures) (then-sure (c .before .before .before .before .before .before .word3 .ensures) (look-not (c .stop .ensures) (c .before .before .before .expression .ensures) (c .before .enum-told3 .given .1)))))))) }
 
--- src/lib.rt:704:9
-ie-line-in-requires : (t : ℕ) → ie-lts.Need-line-in-requires (
+-- src/lib.rt:715:8
+ie-is-if-exp-requires : (t : ℕ) → ie-lts.Need-is-if-exp-requires (
   word-reads.Asked,
   word-reads.Learnt,
   exp-below t,
@@ -11480,15 +11915,19 @@ ie-line-in-requires : (t : ℕ) → ie-lts.Need-line-in-requires (
   indented-reads.Learnt,
   line-reads.Asked,
   line-reads.Learnt,
+  expression-reads.Asked,
+  expression-reads.Learnt,
+  stop-reads.Asked,
+  stop-reads.Learnt,
   is-if-exp-reads.Asked,
   is-if-exp-reads.Learnt,
   line-in-reads.Asked,
   line-in-reads.Learnt,
 ) (ie-at t) ie.Post
-ie-line-in-requires t c κs = omega (arith, c .before .before .before .before .before .before .before .before .before .before .before .before .before .before .before .before .before .before .before .before .before .before .before .before .before .before .before .before .before .before .before .before .before .before .before .before .before .before .before .before .before .before .before .before .before .before .pre .1)
+ie-is-if-exp-requires t c κs = search needs
 
--- src/lib.rt:705:5
-ie-exp-requires-4 : (t : ℕ) → ie-lts.Need-exp-requires-4 (
+-- src/lib.rt:716:13
+ie-word-requires-4 : (t : ℕ) → ie-lts.Need-word-requires-4 (
   word-reads.Asked,
   word-reads.Learnt,
   exp-below t,
@@ -11499,14 +11938,41 @@ ie-exp-requires-4 : (t : ℕ) → ie-lts.Need-exp-requires-4 (
   indented-reads.Learnt,
   line-reads.Asked,
   line-reads.Learnt,
+  expression-reads.Asked,
+  expression-reads.Learnt,
+  stop-reads.Asked,
+  stop-reads.Learnt,
   is-if-exp-reads.Asked,
   is-if-exp-reads.Learnt,
   line-in-reads.Asked,
   line-in-reads.Learnt,
 ) (ie-at t) ie.Post
-ie-exp-requires-4 t c κs = omega (arith, c .before .before .before .before .before .before .before .before .before .before .before .before .before .before .before .before .before .before .before .before .before .before .before .before .before .before .before .before .before .before .before .before .before .before .before .before .before .before .before .before .before .before .before .before .before .before .before .before .before .before .before .pre .0, c .before .before .before .before .before .before .before .before .before .before .before .before .before .before .before .before .before .before .before .before .before .before .before .before .before .before .before .before .before .before .before .before .before .before .before .before .before .before .before .before .before .before .before .before .before .before .before .before .before .before .before .pre .1, deep-depth (c .before .before .before .before .before .before .before .before .before .before .before .before .before .before .before .before .before .before .before .before .before .before .before .before .indented .ensures), deep-left (c .before .before .before .before .before .before .before .before .before .before .before .before .before .before .before .before .before .before .before .before .before .before .before .before .indented .ensures))
+ie-word-requires-4 t c κs = search needs
 
--- src/lib.rt:671:1
+-- src/lib.rt:717:9
+ie-exp-requires-3 : (t : ℕ) → ie-lts.Need-exp-requires-3 (
+  word-reads.Asked,
+  word-reads.Learnt,
+  exp-below t,
+  exp.Post,
+  indent-deeper-reads.Asked,
+  indent-deeper-reads.Learnt,
+  indented-reads.Asked,
+  indented-reads.Learnt,
+  line-reads.Asked,
+  line-reads.Learnt,
+  expression-reads.Asked,
+  expression-reads.Learnt,
+  stop-reads.Asked,
+  stop-reads.Learnt,
+  is-if-exp-reads.Asked,
+  is-if-exp-reads.Learnt,
+  line-in-reads.Asked,
+  line-in-reads.Learnt,
+) (ie-at t) ie.Post
+ie-exp-requires-3 t c κs = omega (arith, c .before .before .before .before .before .before .before .before .before .before .before .before .before .before .before .before .before .before .before .before .before .before .before .before .before .before .before .before .before .before .before .before .before .before .before .before .before .before .before .before .before .before .before .before .before .before .before .before .before .before .before .before .before .before .before .pre .0, c .before .before .before .before .before .before .before .before .before .before .before .before .before .before .before .before .before .before .before .before .before .before .before .before .before .before .before .before .before .before .before .before .before .before .before .before .before .before .before .before .before .before .before .before .before .before .before .before .before .before .before .before .before .before .before .pre .1, deep-depth (c .before .before .before .before .before .before .before .before .before .before .before .before .before .before .before .before .before .before .before .before .before .before .before .before .before .before .before .before .indented .ensures), deep-left (c .before .before .before .before .before .before .before .before .before .before .before .before .before .before .before .before .before .before .before .before .before .before .before .before .before .before .before .before .indented .ensures))
+
+-- src/lib.rt:717:9
 ie-same-length-4 : (t : ℕ) → ie-lts.Need-same-length-4 (
   word-reads.Asked,
   word-reads.Learnt,
@@ -11518,14 +11984,18 @@ ie-same-length-4 : (t : ℕ) → ie-lts.Need-same-length-4 (
   indented-reads.Learnt,
   line-reads.Asked,
   line-reads.Learnt,
+  expression-reads.Asked,
+  expression-reads.Learnt,
+  stop-reads.Asked,
+  stop-reads.Learnt,
   is-if-exp-reads.Asked,
   is-if-exp-reads.Learnt,
   line-in-reads.Asked,
   line-in-reads.Learnt,
 ) (ie-at t) ie.Post
-ie-same-length-4 t c = c .before .before .exp4 .kept .1 .1 .1 .1 .1 .0 ∙ c .before .before .before .before .before .before .before .line-in .kept .1 .0 ∙ c .before .before .before .before .before .before .before .before .before .before .before .before .before .word3 .kept .1 .0 ∙ c .before .before .before .before .before .before .before .before .before .before .before .before .before .before .before .before .before .line .kept .1 .0 ∙ c .before .before .before .before .before .before .before .before .before .before .before .before .before .before .before .before .before .before .before .before .before .before .before .before .exp2 .kept .1 .1 .1 .1 .1 .0 ∙ c .before .before .before .before .before .before .before .before .before .before .before .before .before .before .before .before .before .before .before .before .before .before .before .before .before .before .before .before .before .before .indent-deeper .kept .0 ∙ c .before .before .before .before .before .before .before .before .before .before .before .before .before .before .before .before .before .before .before .before .before .before .before .before .before .before .before .before .before .before .before .before .before .before .word2 .kept .1 .0 ∙ c .before .before .before .before .before .before .before .before .before .before .before .before .before .before .before .before .before .before .before .before .before .before .before .before .before .before .before .before .before .before .before .before .before .before .before .before .before .before .before .before .before .exp .kept .1 .1 .1 .1 .1 .0 ∙ c .before .before .before .before .before .before .before .before .before .before .before .before .before .before .before .before .before .before .before .before .before .before .before .before .before .before .before .before .before .before .before .before .before .before .before .before .before .before .before .before .before .before .before .before .before .before .word .kept .1 .0
+ie-same-length-4 t c = c .before .before .exp3 .kept .1 .1 .1 .1 .1 .0 ∙ c .before .before .before .before .before .before .before .word4 .kept .1 .0 ∙ c .before .before .before .before .before .before .before .before .before .before .before .before .before .before .before .before .before .word3 .kept .1 .0 ∙ c .before .before .before .before .before .before .before .before .before .before .before .before .before .before .before .before .before .before .before .before .before .line .kept .1 .0 ∙ c .before .before .before .before .before .before .before .before .before .before .before .before .before .before .before .before .before .before .before .before .before .before .before .before .before .before .before .before .exp2 .kept .1 .1 .1 .1 .1 .0 ∙ c .before .before .before .before .before .before .before .before .before .before .before .before .before .before .before .before .before .before .before .before .before .before .before .before .before .before .before .before .before .before .before .before .before .before .indent-deeper .kept .0 ∙ c .before .before .before .before .before .before .before .before .before .before .before .before .before .before .before .before .before .before .before .before .before .before .before .before .before .before .before .before .before .before .before .before .before .before .before .before .before .before .word2 .kept .1 .0 ∙ c .before .before .before .before .before .before .before .before .before .before .before .before .before .before .before .before .before .before .before .before .before .before .before .before .before .before .before .before .before .before .before .before .before .before .before .before .before .before .before .before .before .before .before .before .before .exp .kept .1 .1 .1 .1 .1 .0 ∙ c .before .before .before .before .before .before .before .before .before .before .before .before .before .before .before .before .before .before .before .before .before .before .before .before .before .before .before .before .before .before .before .before .before .before .before .before .before .before .before .before .before .before .before .before .before .before .before .before .before .before .word .kept .1 .0
 
--- src/lib.rt:671:1
+-- src/lib.rt:717:9
 ie-returns-4 : (t : ℕ) → ie-lts.Need-returns-4 (
   word-reads.Asked,
   word-reads.Learnt,
@@ -11537,15 +12007,112 @@ ie-returns-4 : (t : ℕ) → ie-lts.Need-returns-4 (
   indented-reads.Learnt,
   line-reads.Asked,
   line-reads.Learnt,
+  expression-reads.Asked,
+  expression-reads.Learnt,
+  stop-reads.Asked,
+  stop-reads.Learnt,
   is-if-exp-reads.Asked,
   is-if-exp-reads.Learnt,
   line-in-reads.Asked,
   line-in-reads.Learnt,
 ) (ie-at t) ie.Post
-unfolding Exp.IfExp Exp.if-no Helpers.indented
-ie-returns-4 t c = record { is = then-sure (c .before .before .before .before .before .before .before .before .before .before .before .before .before .before .before .before .before .before .before .before .before .before .before .before .before .before .before .before .before .before .before .before .before .before .before .before .before .before .before .before .before .before .before .before .before .before .word .ensures) (then-done (c .before .before .before .before .before .before .before .before .before .before .before .before .before .before .before .before .before .before .before .before .before .before .before .before .before .before .before .before .before .before .before .before .before .before .before .before .before .before .before .before .before .exp .ensures .is) (c .before .before .before .before .before .before .before .before .before .before .before .before .before .before .before .before .before .before .before .before .before .before .before .before .before .before .before .before .before .before .before .before .before .before .before .before .before .r2 .given .1) (then-sure (c .before .before .before .before .before .before .before .before .before .before .before .before .before .before .before .before .before .before .before .before .before .before .before .before .before .before .before .before .before .before .before .before .before .before .word2 .ensures) (then-both (c .before .before .before .before .before .before .before .before .before .before .before .before .before .before .before .before .before .before .before .before .before .before .before .before .before .before .before .before .before .before .indent-deeper .ensures) (then-done (along (c .before .before .before .before .before .before .before .before .before .before .before .before .before .before .before .before .before .before .before .before .before .before .before .before .before .before .before .indented .ensures) (c .before .before .before .before .before .before .before .before .before .before .before .before .before .before .before .before .before .before .before .before .before .before .before .before .exp2 .ensures)) (c .before .before .before .before .before .before .before .before .before .before .before .before .before .before .before .before .before .before .before .before .r5 .given .1) (then-both (c .before .before .before .before .before .before .before .before .before .before .before .before .before .before .before .before .before .line .ensures) (then-sure (c .before .before .before .before .before .before .before .before .before .before .before .before .before .word3 .ensures) (by-same (look-is (c .before .before .before .before .before .before .before .before .before .before .is-if-exp .ensures) (c .before .before .before .before .before .before .before .before .before .if1 .left)) (then-both (c .before .before .before .before .before .before .before .line-in .ensures) (along (c .before .before .before .before .before .before .before .before .before .before .before .before .before .before .before .before .before .before .before .before .before .before .before .before .before .before .before .indented .ensures) (c .before .before .exp4 .ensures)))))))))) }
+unfolding Exp.exp Exp.if-no Helpers.indent-deeper Helpers.deepen
+ie-returns-4 t c = record { is = then-sure (c .before .before .before .before .before .before .before .before .before .before .before .before .before .before .before .before .before .before .before .before .before .before .before .before .before .before .before .before .before .before .before .before .before .before .before .before .before .before .before .before .before .before .before .before .before .before .before .before .before .before .word .ensures) (then-done (c .before .before .before .before .before .before .before .before .before .before .before .before .before .before .before .before .before .before .before .before .before .before .before .before .before .before .before .before .before .before .before .before .before .before .before .before .before .before .before .before .before .before .before .before .before .exp .ensures .is) (c .before .before .before .before .before .before .before .before .before .before .before .before .before .before .before .before .before .before .before .before .before .before .before .before .before .before .before .before .before .before .before .before .before .before .before .before .before .before .before .before .before .r2 .given .1) (then-sure (c .before .before .before .before .before .before .before .before .before .before .before .before .before .before .before .before .before .before .before .before .before .before .before .before .before .before .before .before .before .before .before .before .before .before .before .before .before .before .word2 .ensures) (then-both (c .before .before .before .before .before .before .before .before .before .before .before .before .before .before .before .before .before .before .before .before .before .before .before .before .before .before .before .before .before .before .before .before .before .before .indent-deeper .ensures) (then-done (along (c .before .before .before .before .before .before .before .before .before .before .before .before .before .before .before .before .before .before .before .before .before .before .before .before .before .before .before .before .before .before .before .indented .ensures) (c .before .before .before .before .before .before .before .before .before .before .before .before .before .before .before .before .before .before .before .before .before .before .before .before .before .before .before .before .exp2 .ensures)) (c .before .before .before .before .before .before .before .before .before .before .before .before .before .before .before .before .before .before .before .before .before .before .before .before .r5 .given .1) (then-both (c .before .before .before .before .before .before .before .before .before .before .before .before .before .before .before .before .before .before .before .before .before .line .ensures) (then-sure (c .before .before .before .before .before .before .before .before .before .before .before .before .before .before .before .before .before .word3 .ensures) (by-same (look-yes (c .before .before .before .before .before .before .before .before .before .before .before .before .before .before .expression .ensures) (c .before .before .before .before .before .before .before .before .before .before .before .before .-k .given .1) (c .before .before .before .before .before .before .before .before .before .before .is-if-exp .ensures) (c .before .before .before .before .before .before .before .before .before .if1 .taken)) (then-sure (c .before .before .before .before .before .before .before .word4 .ensures) (c .before .before .exp3 .ensures .is))))))))) }
 
--- src/lib.rt:320:9
+-- src/lib.rt:719:9
+ie-line-in-requires : (t : ℕ) → ie-lts.Need-line-in-requires (
+  word-reads.Asked,
+  word-reads.Learnt,
+  exp-below t,
+  exp.Post,
+  indent-deeper-reads.Asked,
+  indent-deeper-reads.Learnt,
+  indented-reads.Asked,
+  indented-reads.Learnt,
+  line-reads.Asked,
+  line-reads.Learnt,
+  expression-reads.Asked,
+  expression-reads.Learnt,
+  stop-reads.Asked,
+  stop-reads.Learnt,
+  is-if-exp-reads.Asked,
+  is-if-exp-reads.Learnt,
+  line-in-reads.Asked,
+  line-in-reads.Learnt,
+) (ie-at t) ie.Post
+ie-line-in-requires t c κs = omega (arith, c .before .before .before .before .before .before .before .before .before .before .before .before .before .before .before .before .before .before .before .before .before .before .before .before .before .before .before .before .before .before .before .before .before .before .before .before .before .before .before .before .before .before .before .before .before .before .before .before .before .before .pre .1)
+
+-- src/lib.rt:720:5
+ie-exp-requires-4 : (t : ℕ) → ie-lts.Need-exp-requires-4 (
+  word-reads.Asked,
+  word-reads.Learnt,
+  exp-below t,
+  exp.Post,
+  indent-deeper-reads.Asked,
+  indent-deeper-reads.Learnt,
+  indented-reads.Asked,
+  indented-reads.Learnt,
+  line-reads.Asked,
+  line-reads.Learnt,
+  expression-reads.Asked,
+  expression-reads.Learnt,
+  stop-reads.Asked,
+  stop-reads.Learnt,
+  is-if-exp-reads.Asked,
+  is-if-exp-reads.Learnt,
+  line-in-reads.Asked,
+  line-in-reads.Learnt,
+) (ie-at t) ie.Post
+ie-exp-requires-4 t c κs = omega (arith, c .before .before .before .before .before .before .before .before .before .before .before .before .before .before .before .before .before .before .before .before .before .before .before .before .before .before .before .before .before .before .before .before .before .before .before .before .before .before .before .before .before .before .before .before .before .before .before .before .before .before .before .before .before .before .before .pre .0, c .before .before .before .before .before .before .before .before .before .before .before .before .before .before .before .before .before .before .before .before .before .before .before .before .before .before .before .before .before .before .before .before .before .before .before .before .before .before .before .before .before .before .before .before .before .before .before .before .before .before .before .before .before .before .before .pre .1, deep-depth (c .before .before .before .before .before .before .before .before .before .before .before .before .before .before .before .before .before .before .before .before .before .before .before .before .before .before .before .before .indented .ensures), deep-left (c .before .before .before .before .before .before .before .before .before .before .before .before .before .before .before .before .before .before .before .before .before .before .before .before .before .before .before .before .indented .ensures))
+
+-- src/lib.rt:683:1
+ie-same-length-5 : (t : ℕ) → ie-lts.Need-same-length-5 (
+  word-reads.Asked,
+  word-reads.Learnt,
+  exp-below t,
+  exp.Post,
+  indent-deeper-reads.Asked,
+  indent-deeper-reads.Learnt,
+  indented-reads.Asked,
+  indented-reads.Learnt,
+  line-reads.Asked,
+  line-reads.Learnt,
+  expression-reads.Asked,
+  expression-reads.Learnt,
+  stop-reads.Asked,
+  stop-reads.Learnt,
+  is-if-exp-reads.Asked,
+  is-if-exp-reads.Learnt,
+  line-in-reads.Asked,
+  line-in-reads.Learnt,
+) (ie-at t) ie.Post
+ie-same-length-5 t c = c .before .before .exp4 .kept .1 .1 .1 .1 .1 .0 ∙ c .before .before .before .before .before .before .before .line-in .kept .1 .0 ∙ c .before .before .before .before .before .before .before .before .before .before .before .before .before .before .before .before .before .word3 .kept .1 .0 ∙ c .before .before .before .before .before .before .before .before .before .before .before .before .before .before .before .before .before .before .before .before .before .line .kept .1 .0 ∙ c .before .before .before .before .before .before .before .before .before .before .before .before .before .before .before .before .before .before .before .before .before .before .before .before .before .before .before .before .exp2 .kept .1 .1 .1 .1 .1 .0 ∙ c .before .before .before .before .before .before .before .before .before .before .before .before .before .before .before .before .before .before .before .before .before .before .before .before .before .before .before .before .before .before .before .before .before .before .indent-deeper .kept .0 ∙ c .before .before .before .before .before .before .before .before .before .before .before .before .before .before .before .before .before .before .before .before .before .before .before .before .before .before .before .before .before .before .before .before .before .before .before .before .before .before .word2 .kept .1 .0 ∙ c .before .before .before .before .before .before .before .before .before .before .before .before .before .before .before .before .before .before .before .before .before .before .before .before .before .before .before .before .before .before .before .before .before .before .before .before .before .before .before .before .before .before .before .before .before .exp .kept .1 .1 .1 .1 .1 .0 ∙ c .before .before .before .before .before .before .before .before .before .before .before .before .before .before .before .before .before .before .before .before .before .before .before .before .before .before .before .before .before .before .before .before .before .before .before .before .before .before .before .before .before .before .before .before .before .before .before .before .before .before .word .kept .1 .0
+
+-- src/lib.rt:683:1
+ie-returns-5 : (t : ℕ) → ie-lts.Need-returns-5 (
+  word-reads.Asked,
+  word-reads.Learnt,
+  exp-below t,
+  exp.Post,
+  indent-deeper-reads.Asked,
+  indent-deeper-reads.Learnt,
+  indented-reads.Asked,
+  indented-reads.Learnt,
+  line-reads.Asked,
+  line-reads.Learnt,
+  expression-reads.Asked,
+  expression-reads.Learnt,
+  stop-reads.Asked,
+  stop-reads.Learnt,
+  is-if-exp-reads.Asked,
+  is-if-exp-reads.Learnt,
+  line-in-reads.Asked,
+  line-in-reads.Learnt,
+) (ie-at t) ie.Post
+unfolding Exp.exp Exp.if-no Helpers.indent-deeper Helpers.deepen
+ie-returns-5 t c = record { is = then-sure (c .before .before .before .before .before .before .before .before .before .before .before .before .before .before .before .before .before .before .before .before .before .before .before .before .before .before .before .before .before .before .before .before .before .before .before .before .before .before .before .before .before .before .before .before .before .before .before .before .before .before .word .ensures) (then-done (c .before .before .before .before .before .before .before .before .before .before .before .before .before .before .before .before .before .before .before .before .before .before .before .before .before .before .before .before .before .before .before .before .before .before .before .before .before .before .before .before .before .before .before .before .before .exp .ensures .is) (c .before .before .before .before .before .before .before .before .before .before .before .before .before .before .before .before .before .before .before .before .before .before .before .before .before .before .before .before .before .before .before .before .before .before .before .before .before .before .before .before .before .r2 .given .1) (then-sure (c .before .before .before .before .before .before .before .before .before .before .before .before .before .before .before .before .before .before .before .before .before .before .before .before .before .before .before .before .before .before .before .before .before .before .before .before .before .before .word2 .ensures) (then-both (c .before .before .before .before .before .before .before .before .before .before .before .before .before .before .before .before .before .before .before .before .before .before .before .before .before .before .before .before .before .before .before .before .before .before .indent-deeper .ensures) (then-done (along (c .before .before .before .before .before .before .before .before .before .before .before .before .before .before .before .before .before .before .before .before .before .before .before .before .before .before .before .before .before .before .before .indented .ensures) (c .before .before .before .before .before .before .before .before .before .before .before .before .before .before .before .before .before .before .before .before .before .before .before .before .before .before .before .before .exp2 .ensures)) (c .before .before .before .before .before .before .before .before .before .before .before .before .before .before .before .before .before .before .before .before .before .before .before .before .r5 .given .1) (then-both (c .before .before .before .before .before .before .before .before .before .before .before .before .before .before .before .before .before .before .before .before .before .line .ensures) (then-sure (c .before .before .before .before .before .before .before .before .before .before .before .before .before .before .before .before .before .word3 .ensures) (by-same (look-no (c .before .before .before .before .before .before .before .before .before .before .before .before .before .before .expression .ensures) (c .before .before .before .before .before .before .before .before .before .before .before .before .-k .given .1) (c .before .before .before .before .before .before .before .before .before .before .is-if-exp .ensures) (c .before .before .before .before .before .before .before .before .before .if1 .left)) (then-both (c .before .before .before .before .before .before .before .line-in .ensures) (along (c .before .before .before .before .before .before .before .before .before .before .before .before .before .before .before .before .before .before .before .before .before .before .before .before .before .before .before .before .before .before .before .indented .ensures) (c .before .before .exp4 .ensures)))))))))) }
+
+-- src/lib.rt:330:9
 it-group-requires : (t : ℕ) → it-lts.Need-group-requires (
   group-reads.Asked,
   group-reads.Learnt,
@@ -11556,7 +12123,7 @@ it-group-requires : (t : ℕ) → it-lts.Need-group-requires (
 ) (it-at t) it.Post
 it-group-requires t c κs = search needs
 
--- src/lib.rt:321:22
+-- src/lib.rt:331:22
 it-enum-known-r1 : (t : ℕ) → it-lts.Need-enum-known-r1 (
   group-reads.Asked,
   group-reads.Learnt,
@@ -11567,7 +12134,7 @@ it-enum-known-r1 : (t : ℕ) → it-lts.Need-enum-known-r1 (
 ) (it-at t) it.Post
 it-enum-known-r1 t c = search needs
 
--- src/lib.rt:322:9
+-- src/lib.rt:332:9
 it-enum-told : (t : ℕ) → it-lts.Need-enum-told (
   group-reads.Asked,
   group-reads.Learnt,
@@ -11578,7 +12145,7 @@ it-enum-told : (t : ℕ) → it-lts.Need-enum-told (
 ) (it-at t) it.Post
 it-enum-told t c = search needs
 
--- src/lib.rt:322:9
+-- src/lib.rt:332:9
 it-returns : (t : ℕ) → it-lts.Need-returns (
   group-reads.Asked,
   group-reads.Learnt,
@@ -11590,7 +12157,7 @@ it-returns : (t : ℕ) → it-lts.Need-returns (
 unfolding Exp.exp-semi-item
 it-returns t c = record { is = group-not (c .before .before .group .ensures) (c .enum-told .given .1) }
 
--- src/lib.rt:324:9
+-- src/lib.rt:334:9
 it-exp-requires : (t : ℕ) → it-lts.Need-exp-requires (
   group-reads.Asked,
   group-reads.Learnt,
@@ -11601,7 +12168,7 @@ it-exp-requires : (t : ℕ) → it-lts.Need-exp-requires (
 ) (it-at t) it.Post
 it-exp-requires t c κs = omega (arith, c .before .before .before .before .before .before .before .before .before .before .before .before .pre .0, c .before .before .before .before .before .before .before .before .before .before .before .before .pre .1)
 
--- src/lib.rt:325:22
+-- src/lib.rt:335:22
 it-enum-known-r2 : (t : ℕ) → it-lts.Need-enum-known-r2 (
   group-reads.Asked,
   group-reads.Learnt,
@@ -11612,7 +12179,7 @@ it-enum-known-r2 : (t : ℕ) → it-lts.Need-enum-known-r2 (
 ) (it-at t) it.Post
 it-enum-known-r2 t c = search needs
 
--- src/lib.rt:326:9
+-- src/lib.rt:336:9
 it-enum-told-2 : (t : ℕ) → it-lts.Need-enum-told-2 (
   group-reads.Asked,
   group-reads.Learnt,
@@ -11623,7 +12190,7 @@ it-enum-told-2 : (t : ℕ) → it-lts.Need-enum-told-2 (
 ) (it-at t) it.Post
 it-enum-told-2 t c = search needs
 
--- src/lib.rt:326:9
+-- src/lib.rt:336:9
 it-same-length : (t : ℕ) → it-lts.Need-same-length (
   group-reads.Asked,
   group-reads.Learnt,
@@ -11634,7 +12201,7 @@ it-same-length : (t : ℕ) → it-lts.Need-same-length (
 ) (it-at t) it.Post
 it-same-length t c = c .before .before .before .before .exp .kept .1 .1 .1 .1 .1 .0
 
--- src/lib.rt:326:9
+-- src/lib.rt:336:9
 it-returns-2 : (t : ℕ) → it-lts.Need-returns-2 (
   group-reads.Asked,
   group-reads.Learnt,
@@ -11646,7 +12213,7 @@ it-returns-2 : (t : ℕ) → it-lts.Need-returns-2 (
 unfolding Exp.exp-semi-item
 it-returns-2 t c = record { is = by-same (group-is (c .before .before .before .before .before .before .before .before .before .before .group .ensures) (c .before .before .before .before .before .before .before .before .r1 .given .1)) (then-stop (c .before .before .before .before .exp .ensures .is) (c .enum-told2 .given .1)) }
 
--- src/lib.rt:328:5
+-- src/lib.rt:338:5
 it-item-semi-requires : (t : ℕ) → it-lts.Need-item-semi-requires (
   group-reads.Asked,
   group-reads.Learnt,
@@ -11657,7 +12224,7 @@ it-item-semi-requires : (t : ℕ) → it-lts.Need-item-semi-requires (
 ) (it-at t) it.Post
 it-item-semi-requires t c κs = search needs
 
--- src/lib.rt:305:1
+-- src/lib.rt:315:1
 it-same-length-2 : (t : ℕ) → it-lts.Need-same-length-2 (
   group-reads.Asked,
   group-reads.Learnt,
@@ -11668,7 +12235,7 @@ it-same-length-2 : (t : ℕ) → it-lts.Need-same-length-2 (
 ) (it-at t) it.Post
 it-same-length-2 t c = c .before .before .item-semi .kept .1 .1 .1 .1 .0 ∙ c .before .before .before .before .before .before .before .before .before .exp .kept .1 .1 .1 .1 .1 .0
 
--- src/lib.rt:305:1
+-- src/lib.rt:315:1
 it-returns-3 : (t : ℕ) → it-lts.Need-returns-3 (
   group-reads.Asked,
   group-reads.Learnt,
@@ -11680,7 +12247,7 @@ it-returns-3 : (t : ℕ) → it-lts.Need-returns-3 (
 unfolding Exp.exp-semi-item
 it-returns-3 t c = record { is = by-same (group-is (c .before .before .before .before .before .before .before .before .before .before .before .before .before .before .before .group .ensures) (c .before .before .before .before .before .before .before .before .before .before .before .before .before .r1 .given .1)) (then-done (c .before .before .before .before .before .before .before .before .before .exp .ensures .is) (c .before .before .before .before .before .r2 .given .1) (plain (c .before .before .item-semi .ensures))) }
 
--- src/lib.rt:1572:29
+-- src/lib.rt:1548:29
 ld-absent-requires : (t : ℕ) → ld-lts.Need-absent-requires (
   absent-reads.Asked,
   absent-reads.Learnt,
@@ -11691,7 +12258,7 @@ ld-absent-requires : (t : ℕ) → ld-lts.Need-absent-requires (
 ) (ld-at t) ld.Post
 ld-absent-requires t c κs = search needs
 
--- src/lib.rt:1572:23
+-- src/lib.rt:1548:23
 ld-enum-known-s0 : (t : ℕ) → ld-lts.Need-enum-known-s0 (
   absent-reads.Asked,
   absent-reads.Learnt,
@@ -11702,7 +12269,7 @@ ld-enum-known-s0 : (t : ℕ) → ld-lts.Need-enum-known-s0 (
 ) (ld-at t) ld.Post
 ld-enum-known-s0 t c = search needs
 
--- src/lib.rt:1573:9
+-- src/lib.rt:1549:9
 ld-returns : (t : ℕ) → ld-lts.Need-returns (
   absent-reads.Asked,
   absent-reads.Learnt,
@@ -11724,7 +12291,7 @@ ld-enum-told : (t : ℕ) → ld-lts.Need-enum-told (
 ) (ld-at t) ld.Post
 ld-enum-told t c = search needs
 
--- src/lib.rt:1575:9
+-- src/lib.rt:1551:9
 ld-group-requires : (t : ℕ) → ld-lts.Need-group-requires (
   absent-reads.Asked,
   absent-reads.Learnt,
@@ -11735,7 +12302,7 @@ ld-group-requires : (t : ℕ) → ld-lts.Need-group-requires (
 ) (ld-at t) ld.Post
 ld-group-requires t c κs = search needs
 
--- src/lib.rt:1576:22
+-- src/lib.rt:1552:22
 ld-enum-known-r1 : (t : ℕ) → ld-lts.Need-enum-known-r1 (
   absent-reads.Asked,
   absent-reads.Learnt,
@@ -11746,7 +12313,7 @@ ld-enum-known-r1 : (t : ℕ) → ld-lts.Need-enum-known-r1 (
 ) (ld-at t) ld.Post
 ld-enum-known-r1 t c = search needs
 
--- src/lib.rt:1577:9
+-- src/lib.rt:1553:9
 ld-enum-told-2 : (t : ℕ) → ld-lts.Need-enum-told-2 (
   absent-reads.Asked,
   absent-reads.Learnt,
@@ -11757,7 +12324,7 @@ ld-enum-told-2 : (t : ℕ) → ld-lts.Need-enum-told-2 (
 ) (ld-at t) ld.Post
 ld-enum-told-2 t c = search needs
 
--- src/lib.rt:1577:9
+-- src/lib.rt:1553:9
 ld-returns-2 : (t : ℕ) → ld-lts.Need-returns-2 (
   absent-reads.Asked,
   absent-reads.Learnt,
@@ -11769,7 +12336,7 @@ ld-returns-2 : (t : ℕ) → ld-lts.Need-returns-2 (
 unfolding DecOne.local-decs
 ld-returns-2 t c = record { is = by-same (maybe-there (c .before .before .before .before .before .absent .ensures) (c .before .before .before .enum-told .given .1)) (group-not (c .before .before .group .ensures) (c .enum-told2 .given .1)) }
 
--- src/lib.rt:1579:5
+-- src/lib.rt:1555:5
 ld-ds-requires : (t : ℕ) → ld-lts.Need-ds-requires (
   absent-reads.Asked,
   absent-reads.Learnt,
@@ -11780,7 +12347,7 @@ ld-ds-requires : (t : ℕ) → ld-lts.Need-ds-requires (
 ) (ld-at t) ld.Post
 ld-ds-requires t c κs = omega (arith, c .before .before .before .before .before .before .before .before .before .before .before .before .before .before .before .pre .0, c .before .before .before .before .before .before .before .before .before .before .before .before .before .before .before .pre .1)
 
--- src/lib.rt:1558:1
+-- src/lib.rt:1534:1
 ld-same-length : (t : ℕ) → ld-lts.Need-same-length (
   absent-reads.Asked,
   absent-reads.Learnt,
@@ -11791,7 +12358,7 @@ ld-same-length : (t : ℕ) → ld-lts.Need-same-length (
 ) (ld-at t) ld.Post
 ld-same-length t c = c .before .before .ds .kept .1 .1 .1 .1 .1 .0
 
--- src/lib.rt:1558:1
+-- src/lib.rt:1534:1
 ld-returns-3 : (t : ℕ) → ld-lts.Need-returns-3 (
   absent-reads.Asked,
   absent-reads.Learnt,
@@ -11803,7 +12370,7 @@ ld-returns-3 : (t : ℕ) → ld-lts.Need-returns-3 (
 unfolding DecOne.local-decs
 ld-returns-3 t c = record { is = by-same (maybe-there (c .before .before .before .before .before .before .before .before .before .before .before .absent .ensures) (c .before .before .before .before .before .before .before .before .before .enum-told .given .1)) (by-same (group-is (c .before .before .before .before .before .before .before .before .group .ensures) (c .before .before .before .before .before .before .r1 .given .1)) (c .before .before .ds .ensures .is)) }
 
--- src/lib.rt:1538:9
+-- src/lib.rt:1514:9
 lo-word-requires : (t : ℕ) → lo-lts.Need-word-requires (
   word-reads.Asked,
   word-reads.Learnt,
@@ -11820,7 +12387,7 @@ lo-word-requires : (t : ℕ) → lo-lts.Need-word-requires (
 ) (lo-at t) lo.Post
 lo-word-requires t c κs = search needs
 
--- src/lib.rt:1539:9
+-- src/lib.rt:1515:9
 lo-word-requires-2 : (t : ℕ) → lo-lts.Need-word-requires-2 (
   word-reads.Asked,
   word-reads.Learnt,
@@ -11837,7 +12404,7 @@ lo-word-requires-2 : (t : ℕ) → lo-lts.Need-word-requires-2 (
 ) (lo-at t) lo.Post
 lo-word-requires-2 t c κs = search needs
 
--- src/lib.rt:1540:9
+-- src/lib.rt:1516:9
 lo-indent-deeper-requires : (t : ℕ) → lo-lts.Need-indent-deeper-requires (
   word-reads.Asked,
   word-reads.Learnt,
@@ -11854,7 +12421,7 @@ lo-indent-deeper-requires : (t : ℕ) → lo-lts.Need-indent-deeper-requires (
 ) (lo-at t) lo.Post
 lo-indent-deeper-requires t c κs = omega (arith, c .before .before .before .before .before .before .before .before .before .before .before .before .before .before .before .pre .1)
 
--- src/lib.rt:1541:9
+-- src/lib.rt:1517:9
 lo-indented-requires : (t : ℕ) → lo-lts.Need-indented-requires (
   word-reads.Asked,
   word-reads.Learnt,
@@ -11871,7 +12438,7 @@ lo-indented-requires : (t : ℕ) → lo-lts.Need-indented-requires (
 ) (lo-at t) lo.Post
 lo-indented-requires t c κs = omega (arith, c .before .before .before .before .before .before .before .before .before .before .before .before .before .before .before .before .before .before .pre .1)
 
--- src/lib.rt:1542:9
+-- src/lib.rt:1518:9
 lo-ld-requires : (t : ℕ) → lo-lts.Need-ld-requires (
   word-reads.Asked,
   word-reads.Learnt,
@@ -11888,7 +12455,7 @@ lo-ld-requires : (t : ℕ) → lo-lts.Need-ld-requires (
 ) (lo-at t) lo.Post
 lo-ld-requires t c κs = omega (arith, c .before .before .before .before .before .before .before .before .before .before .before .before .before .before .before .before .before .before .before .before .before .pre .0, c .before .before .before .before .before .before .before .before .before .before .before .before .before .before .before .before .before .before .before .before .before .pre .1, deep-depth (c .before .before .indented .ensures), deep-left (c .before .before .indented .ensures))
 
--- src/lib.rt:1543:22
+-- src/lib.rt:1519:22
 lo-enum-known-r4 : (t : ℕ) → lo-lts.Need-enum-known-r4 (
   word-reads.Asked,
   word-reads.Learnt,
@@ -11905,7 +12472,7 @@ lo-enum-known-r4 : (t : ℕ) → lo-lts.Need-enum-known-r4 (
 ) (lo-at t) lo.Post
 lo-enum-known-r4 t c = search needs
 
--- src/lib.rt:1544:9
+-- src/lib.rt:1520:9
 lo-enum-told : (t : ℕ) → lo-lts.Need-enum-told (
   word-reads.Asked,
   word-reads.Learnt,
@@ -11922,7 +12489,7 @@ lo-enum-told : (t : ℕ) → lo-lts.Need-enum-told (
 ) (lo-at t) lo.Post
 lo-enum-told t c = search needs
 
--- src/lib.rt:1544:9
+-- src/lib.rt:1520:9
 lo-same-length : (t : ℕ) → lo-lts.Need-same-length (
   word-reads.Asked,
   word-reads.Learnt,
@@ -11939,7 +12506,7 @@ lo-same-length : (t : ℕ) → lo-lts.Need-same-length (
 ) (lo-at t) lo.Post
 lo-same-length t c = c .before .before .before .before .ld .kept .1 .1 .1 .1 .1 .0 ∙ c .before .before .before .before .before .before .before .before .before .before .indent-deeper .kept .0 ∙ c .before .before .before .before .before .before .before .before .before .before .before .before .before .before .word2 .kept .1 .0 ∙ c .before .before .before .before .before .before .before .before .before .before .before .before .before .before .before .before .before .before .word .kept .1 .0
 
--- src/lib.rt:1544:9
+-- src/lib.rt:1520:9
 lo-returns : (t : ℕ) → lo-lts.Need-returns (
   word-reads.Asked,
   word-reads.Learnt,
@@ -11954,10 +12521,10 @@ lo-returns : (t : ℕ) → lo-lts.Need-returns (
   indent-in-reads.Asked,
   indent-in-reads.Learnt,
 ) (lo-at t) lo.Post
-unfolding DecOne.LocalDec Helpers.in-end Helpers.indented
+unfolding DecOne.dec-one Helpers.in-end Helpers.indent-deeper Helpers.deepen
 lo-returns t c = record { is = then-sure (c .before .before .before .before .before .before .before .before .before .before .before .before .before .before .before .before .before .before .word .ensures) (then-sure (c .before .before .before .before .before .before .before .before .before .before .before .before .before .before .word2 .ensures) (then-both (c .before .before .before .before .before .before .before .before .before .before .indent-deeper .ensures) (then-stop (along (c .before .before .before .before .before .before .before .indented .ensures) (c .before .before .before .before .ld .ensures)) (c .enum-told .given .1)))) }
 
--- src/lib.rt:1546:9
+-- src/lib.rt:1522:9
 lo-line-requires : (t : ℕ) → lo-lts.Need-line-requires (
   word-reads.Asked,
   word-reads.Learnt,
@@ -11974,7 +12541,7 @@ lo-line-requires : (t : ℕ) → lo-lts.Need-line-requires (
 ) (lo-at t) lo.Post
 lo-line-requires t c κs = search needs
 
--- src/lib.rt:1547:9
+-- src/lib.rt:1523:9
 lo-word-requires-3 : (t : ℕ) → lo-lts.Need-word-requires-3 (
   word-reads.Asked,
   word-reads.Learnt,
@@ -11991,7 +12558,7 @@ lo-word-requires-3 : (t : ℕ) → lo-lts.Need-word-requires-3 (
 ) (lo-at t) lo.Post
 lo-word-requires-3 t c κs = search needs
 
--- src/lib.rt:1548:9
+-- src/lib.rt:1524:9
 lo-indent-in-requires : (t : ℕ) → lo-lts.Need-indent-in-requires (
   word-reads.Asked,
   word-reads.Learnt,
@@ -12008,7 +12575,7 @@ lo-indent-in-requires : (t : ℕ) → lo-lts.Need-indent-in-requires (
 ) (lo-at t) lo.Post
 lo-indent-in-requires t c κs = omega (arith, c .before .before .before .before .before .before .before .before .before .before .before .before .before .before .before .before .before .before .before .before .before .before .before .before .before .before .before .before .before .before .before .before .before .before .before .before .pre .1)
 
--- src/lib.rt:1549:9
+-- src/lib.rt:1525:9
 lo-ld-requires-2 : (t : ℕ) → lo-lts.Need-ld-requires-2 (
   word-reads.Asked,
   word-reads.Learnt,
@@ -12025,7 +12592,7 @@ lo-ld-requires-2 : (t : ℕ) → lo-lts.Need-ld-requires-2 (
 ) (lo-at t) lo.Post
 lo-ld-requires-2 t c κs = omega (arith, c .before .before .before .before .before .before .before .before .before .before .before .before .before .before .before .before .before .before .before .before .before .before .before .before .before .before .before .before .before .before .before .before .before .before .before .before .before .before .before .before .before .pre .0, c .before .before .before .before .before .before .before .before .before .before .before .before .before .before .before .before .before .before .before .before .before .before .before .before .before .before .before .before .before .before .before .before .before .before .before .before .before .before .before .before .before .pre .1, deep-depth (c .before .before .before .before .before .before .before .before .before .before .before .before .before .before .before .before .before .before .before .before .before .before .indented .ensures), deep-left (c .before .before .before .before .before .before .before .before .before .before .before .before .before .before .before .before .before .before .before .before .before .before .indented .ensures))
 
--- src/lib.rt:1550:22
+-- src/lib.rt:1526:22
 lo-enum-known-r8 : (t : ℕ) → lo-lts.Need-enum-known-r8 (
   word-reads.Asked,
   word-reads.Learnt,
@@ -12042,7 +12609,7 @@ lo-enum-known-r8 : (t : ℕ) → lo-lts.Need-enum-known-r8 (
 ) (lo-at t) lo.Post
 lo-enum-known-r8 t c = search needs
 
--- src/lib.rt:1551:9
+-- src/lib.rt:1527:9
 lo-enum-told-2 : (t : ℕ) → lo-lts.Need-enum-told-2 (
   word-reads.Asked,
   word-reads.Learnt,
@@ -12059,7 +12626,7 @@ lo-enum-told-2 : (t : ℕ) → lo-lts.Need-enum-told-2 (
 ) (lo-at t) lo.Post
 lo-enum-told-2 t c = search needs
 
--- src/lib.rt:1551:9
+-- src/lib.rt:1527:9
 lo-same-length-2 : (t : ℕ) → lo-lts.Need-same-length-2 (
   word-reads.Asked,
   word-reads.Learnt,
@@ -12076,7 +12643,7 @@ lo-same-length-2 : (t : ℕ) → lo-lts.Need-same-length-2 (
 ) (lo-at t) lo.Post
 lo-same-length-2 t c = c .before .before .before .before .ld2 .kept .1 .1 .1 .1 .1 .0 ∙ c .before .before .before .before .before .before .before .before .before .indent-in .kept .0 ∙ c .before .before .before .before .before .before .before .before .before .before .before .before .before .word3 .kept .1 .0 ∙ c .before .before .before .before .before .before .before .before .before .before .before .before .before .before .before .before .before .line .kept .1 .0 ∙ c .before .before .before .before .before .before .before .before .before .before .before .before .before .before .before .before .before .before .before .before .before .before .before .before .ld .kept .1 .1 .1 .1 .1 .0 ∙ c .before .before .before .before .before .before .before .before .before .before .before .before .before .before .before .before .before .before .before .before .before .before .before .before .before .before .before .before .before .before .indent-deeper .kept .0 ∙ c .before .before .before .before .before .before .before .before .before .before .before .before .before .before .before .before .before .before .before .before .before .before .before .before .before .before .before .before .before .before .before .before .before .before .word2 .kept .1 .0 ∙ c .before .before .before .before .before .before .before .before .before .before .before .before .before .before .before .before .before .before .before .before .before .before .before .before .before .before .before .before .before .before .before .before .before .before .before .before .before .before .word .kept .1 .0
 
--- src/lib.rt:1551:9
+-- src/lib.rt:1527:9
 lo-returns-2 : (t : ℕ) → lo-lts.Need-returns-2 (
   word-reads.Asked,
   word-reads.Learnt,
@@ -12091,10 +12658,10 @@ lo-returns-2 : (t : ℕ) → lo-lts.Need-returns-2 (
   indent-in-reads.Asked,
   indent-in-reads.Learnt,
 ) (lo-at t) lo.Post
-unfolding DecOne.LocalDec Helpers.in-end Helpers.indented
+unfolding DecOne.dec-one Helpers.in-end Helpers.indent-deeper Helpers.deepen
 lo-returns-2 t c = record { is = then-sure (c .before .before .before .before .before .before .before .before .before .before .before .before .before .before .before .before .before .before .before .before .before .before .before .before .before .before .before .before .before .before .before .before .before .before .before .before .before .before .word .ensures) (then-sure (c .before .before .before .before .before .before .before .before .before .before .before .before .before .before .before .before .before .before .before .before .before .before .before .before .before .before .before .before .before .before .before .before .before .before .word2 .ensures) (then-both (c .before .before .before .before .before .before .before .before .before .before .before .before .before .before .before .before .before .before .before .before .before .before .before .before .before .before .before .before .before .before .indent-deeper .ensures) (then-done (along (c .before .before .before .before .before .before .before .before .before .before .before .before .before .before .before .before .before .before .before .before .before .before .before .before .before .before .before .indented .ensures) (c .before .before .before .before .before .before .before .before .before .before .before .before .before .before .before .before .before .before .before .before .before .before .before .before .ld .ensures)) (c .before .before .before .before .before .before .before .before .before .before .before .before .before .before .before .before .before .before .before .before .r4 .given .1) (then-both (c .before .before .before .before .before .before .before .before .before .before .before .before .before .before .before .before .before .line .ensures) (then-sure (c .before .before .before .before .before .before .before .before .before .before .before .before .before .word3 .ensures) (then-sure (c .before .before .before .before .before .before .before .before .before .indent-in .ensures) (then-stop (along (c .before .before .before .before .before .before .before .before .before .before .before .before .before .before .before .before .before .before .before .before .before .before .before .before .before .before .before .indented .ensures) (c .before .before .before .before .ld2 .ensures)) (c .enum-told2 .given .1)))))))) }
 
--- src/lib.rt:1553:9
+-- src/lib.rt:1529:9
 lo-line-requires-2 : (t : ℕ) → lo-lts.Need-line-requires-2 (
   word-reads.Asked,
   word-reads.Learnt,
@@ -12111,7 +12678,7 @@ lo-line-requires-2 : (t : ℕ) → lo-lts.Need-line-requires-2 (
 ) (lo-at t) lo.Post
 lo-line-requires-2 t c κs = search needs
 
--- src/lib.rt:1554:18
+-- src/lib.rt:1530:18
 lo-word-requires-4 : (t : ℕ) → lo-lts.Need-word-requires-4 (
   word-reads.Asked,
   word-reads.Learnt,
@@ -12128,7 +12695,7 @@ lo-word-requires-4 : (t : ℕ) → lo-lts.Need-word-requires-4 (
 ) (lo-at t) lo.Post
 lo-word-requires-4 t c κs = search needs
 
--- src/lib.rt:1524:1
+-- src/lib.rt:1500:1
 lo-same-length-3 : (t : ℕ) → lo-lts.Need-same-length-3 (
   word-reads.Asked,
   word-reads.Learnt,
@@ -12145,7 +12712,7 @@ lo-same-length-3 : (t : ℕ) → lo-lts.Need-same-length-3 (
 ) (lo-at t) lo.Post
 lo-same-length-3 t c = c .before .before .word4 .kept .1 .0 ∙ c .before .before .before .before .before .before .line2 .kept .1 .0 ∙ c .before .before .before .before .before .before .before .before .before .before .before .before .before .ld2 .kept .1 .1 .1 .1 .1 .0 ∙ c .before .before .before .before .before .before .before .before .before .before .before .before .before .before .before .before .before .before .indent-in .kept .0 ∙ c .before .before .before .before .before .before .before .before .before .before .before .before .before .before .before .before .before .before .before .before .before .before .word3 .kept .1 .0 ∙ c .before .before .before .before .before .before .before .before .before .before .before .before .before .before .before .before .before .before .before .before .before .before .before .before .before .before .line .kept .1 .0 ∙ c .before .before .before .before .before .before .before .before .before .before .before .before .before .before .before .before .before .before .before .before .before .before .before .before .before .before .before .before .before .before .before .before .before .ld .kept .1 .1 .1 .1 .1 .0 ∙ c .before .before .before .before .before .before .before .before .before .before .before .before .before .before .before .before .before .before .before .before .before .before .before .before .before .before .before .before .before .before .before .before .before .before .before .before .before .before .before .indent-deeper .kept .0 ∙ c .before .before .before .before .before .before .before .before .before .before .before .before .before .before .before .before .before .before .before .before .before .before .before .before .before .before .before .before .before .before .before .before .before .before .before .before .before .before .before .before .before .before .before .word2 .kept .1 .0 ∙ c .before .before .before .before .before .before .before .before .before .before .before .before .before .before .before .before .before .before .before .before .before .before .before .before .before .before .before .before .before .before .before .before .before .before .before .before .before .before .before .before .before .before .before .before .before .before .before .word .kept .1 .0
 
--- src/lib.rt:1524:1
+-- src/lib.rt:1500:1
 lo-returns-3 : (t : ℕ) → lo-lts.Need-returns-3 (
   word-reads.Asked,
   word-reads.Learnt,
@@ -12160,10 +12727,10 @@ lo-returns-3 : (t : ℕ) → lo-lts.Need-returns-3 (
   indent-in-reads.Asked,
   indent-in-reads.Learnt,
 ) (lo-at t) lo.Post
-unfolding DecOne.LocalDec Helpers.in-end Helpers.indented
+unfolding DecOne.dec-one Helpers.in-end Helpers.indent-deeper Helpers.deepen
 lo-returns-3 t c = record { is = then-sure (c .before .before .before .before .before .before .before .before .before .before .before .before .before .before .before .before .before .before .before .before .before .before .before .before .before .before .before .before .before .before .before .before .before .before .before .before .before .before .before .before .before .before .before .before .before .before .before .word .ensures) (then-sure (c .before .before .before .before .before .before .before .before .before .before .before .before .before .before .before .before .before .before .before .before .before .before .before .before .before .before .before .before .before .before .before .before .before .before .before .before .before .before .before .before .before .before .before .word2 .ensures) (then-both (c .before .before .before .before .before .before .before .before .before .before .before .before .before .before .before .before .before .before .before .before .before .before .before .before .before .before .before .before .before .before .before .before .before .before .before .before .before .before .before .indent-deeper .ensures) (then-done (along (c .before .before .before .before .before .before .before .before .before .before .before .before .before .before .before .before .before .before .before .before .before .before .before .before .before .before .before .before .before .before .before .before .before .before .before .before .indented .ensures) (c .before .before .before .before .before .before .before .before .before .before .before .before .before .before .before .before .before .before .before .before .before .before .before .before .before .before .before .before .before .before .before .before .before .ld .ensures)) (c .before .before .before .before .before .before .before .before .before .before .before .before .before .before .before .before .before .before .before .before .before .before .before .before .before .before .before .before .before .r4 .given .1) (then-both (c .before .before .before .before .before .before .before .before .before .before .before .before .before .before .before .before .before .before .before .before .before .before .before .before .before .before .line .ensures) (then-sure (c .before .before .before .before .before .before .before .before .before .before .before .before .before .before .before .before .before .before .before .before .before .before .word3 .ensures) (then-sure (c .before .before .before .before .before .before .before .before .before .before .before .before .before .before .before .before .before .before .indent-in .ensures) (then-done (along (c .before .before .before .before .before .before .before .before .before .before .before .before .before .before .before .before .before .before .before .before .before .before .before .before .before .before .before .before .before .before .before .before .before .before .before .before .indented .ensures) (c .before .before .before .before .before .before .before .before .before .before .before .before .before .ld2 .ensures)) (c .before .before .before .before .before .before .before .before .before .r8 .given .1) (then-both (c .before .before .before .before .before .before .line2 .ensures) (last-sure (c .before .before .word4 .ensures)))))))))) }
 
--- src/lib.rt:446:9
+-- src/lib.rt:456:9
 lx-word-requires : (t : ℕ) → lx-lts.Need-word-requires (
   word-reads.Asked,
   word-reads.Learnt,
@@ -12182,7 +12749,7 @@ lx-word-requires : (t : ℕ) → lx-lts.Need-word-requires (
 ) (lx-at t) lx.Post
 lx-word-requires t c κs = search needs
 
--- src/lib.rt:447:9
+-- src/lib.rt:457:9
 lx-word-requires-2 : (t : ℕ) → lx-lts.Need-word-requires-2 (
   word-reads.Asked,
   word-reads.Learnt,
@@ -12201,7 +12768,7 @@ lx-word-requires-2 : (t : ℕ) → lx-lts.Need-word-requires-2 (
 ) (lx-at t) lx.Post
 lx-word-requires-2 t c κs = search needs
 
--- src/lib.rt:448:9
+-- src/lib.rt:458:9
 lx-indent-deeper-requires : (t : ℕ) → lx-lts.Need-indent-deeper-requires (
   word-reads.Asked,
   word-reads.Learnt,
@@ -12220,7 +12787,7 @@ lx-indent-deeper-requires : (t : ℕ) → lx-lts.Need-indent-deeper-requires (
 ) (lx-at t) lx.Post
 lx-indent-deeper-requires t c κs = omega (arith, c .before .before .before .before .before .before .before .before .before .before .before .before .before .before .before .pre .1)
 
--- src/lib.rt:449:9
+-- src/lib.rt:459:9
 lx-indented-requires : (t : ℕ) → lx-lts.Need-indented-requires (
   word-reads.Asked,
   word-reads.Learnt,
@@ -12239,7 +12806,7 @@ lx-indented-requires : (t : ℕ) → lx-lts.Need-indented-requires (
 ) (lx-at t) lx.Post
 lx-indented-requires t c κs = omega (arith, c .before .before .before .before .before .before .before .before .before .before .before .before .before .before .before .before .before .before .pre .1)
 
--- src/lib.rt:450:9
+-- src/lib.rt:460:9
 lx-ds-requires : (t : ℕ) → lx-lts.Need-ds-requires (
   word-reads.Asked,
   word-reads.Learnt,
@@ -12258,7 +12825,7 @@ lx-ds-requires : (t : ℕ) → lx-lts.Need-ds-requires (
 ) (lx-at t) lx.Post
 lx-ds-requires t c κs = omega (arith, c .before .before .before .before .before .before .before .before .before .before .before .before .before .before .before .before .before .before .before .before .before .pre .0, c .before .before .before .before .before .before .before .before .before .before .before .before .before .before .before .before .before .before .before .before .before .pre .1, deep-depth (c .before .before .indented .ensures), deep-left (c .before .before .indented .ensures))
 
--- src/lib.rt:451:22
+-- src/lib.rt:461:22
 lx-enum-known-r4 : (t : ℕ) → lx-lts.Need-enum-known-r4 (
   word-reads.Asked,
   word-reads.Learnt,
@@ -12277,7 +12844,7 @@ lx-enum-known-r4 : (t : ℕ) → lx-lts.Need-enum-known-r4 (
 ) (lx-at t) lx.Post
 lx-enum-known-r4 t c = search needs
 
--- src/lib.rt:452:9
+-- src/lib.rt:462:9
 lx-enum-told : (t : ℕ) → lx-lts.Need-enum-told (
   word-reads.Asked,
   word-reads.Learnt,
@@ -12296,7 +12863,7 @@ lx-enum-told : (t : ℕ) → lx-lts.Need-enum-told (
 ) (lx-at t) lx.Post
 lx-enum-told t c = search needs
 
--- src/lib.rt:452:9
+-- src/lib.rt:462:9
 lx-same-length : (t : ℕ) → lx-lts.Need-same-length (
   word-reads.Asked,
   word-reads.Learnt,
@@ -12315,7 +12882,7 @@ lx-same-length : (t : ℕ) → lx-lts.Need-same-length (
 ) (lx-at t) lx.Post
 lx-same-length t c = c .before .before .before .before .ds .kept .1 .1 .1 .1 .1 .0 ∙ c .before .before .before .before .before .before .before .before .before .before .indent-deeper .kept .0 ∙ c .before .before .before .before .before .before .before .before .before .before .before .before .before .before .word2 .kept .1 .0 ∙ c .before .before .before .before .before .before .before .before .before .before .before .before .before .before .before .before .before .before .word .kept .1 .0
 
--- src/lib.rt:452:9
+-- src/lib.rt:462:9
 lx-returns : (t : ℕ) → lx-lts.Need-returns (
   word-reads.Asked,
   word-reads.Learnt,
@@ -12332,10 +12899,10 @@ lx-returns : (t : ℕ) → lx-lts.Need-returns (
   sm-below t,
   sm.Post,
 ) (lx-at t) lx.Post
-unfolding Exp.LetExp Helpers.in-end Helpers.indented
+unfolding Exp.exp Helpers.in-end Helpers.indent-deeper Helpers.deepen
 lx-returns t c = record { is = then-sure (c .before .before .before .before .before .before .before .before .before .before .before .before .before .before .before .before .before .before .word .ensures) (then-sure (c .before .before .before .before .before .before .before .before .before .before .before .before .before .before .word2 .ensures) (then-both (c .before .before .before .before .before .before .before .before .before .before .indent-deeper .ensures) (then-stop (along (c .before .before .before .before .before .before .before .indented .ensures) (c .before .before .before .before .ds .ensures)) (c .enum-told .given .1)))) }
 
--- src/lib.rt:454:9
+-- src/lib.rt:464:9
 lx-line-requires : (t : ℕ) → lx-lts.Need-line-requires (
   word-reads.Asked,
   word-reads.Learnt,
@@ -12354,7 +12921,7 @@ lx-line-requires : (t : ℕ) → lx-lts.Need-line-requires (
 ) (lx-at t) lx.Post
 lx-line-requires t c κs = search needs
 
--- src/lib.rt:455:9
+-- src/lib.rt:465:9
 lx-word-requires-3 : (t : ℕ) → lx-lts.Need-word-requires-3 (
   word-reads.Asked,
   word-reads.Learnt,
@@ -12373,7 +12940,7 @@ lx-word-requires-3 : (t : ℕ) → lx-lts.Need-word-requires-3 (
 ) (lx-at t) lx.Post
 lx-word-requires-3 t c κs = search needs
 
--- src/lib.rt:456:9
+-- src/lib.rt:466:9
 lx-indent-in-requires : (t : ℕ) → lx-lts.Need-indent-in-requires (
   word-reads.Asked,
   word-reads.Learnt,
@@ -12392,7 +12959,7 @@ lx-indent-in-requires : (t : ℕ) → lx-lts.Need-indent-in-requires (
 ) (lx-at t) lx.Post
 lx-indent-in-requires t c κs = omega (arith, c .before .before .before .before .before .before .before .before .before .before .before .before .before .before .before .before .before .before .before .before .before .before .before .before .before .before .before .before .before .before .before .before .before .before .before .before .pre .1)
 
--- src/lib.rt:457:9
+-- src/lib.rt:467:9
 lx-sm-requires : (t : ℕ) → lx-lts.Need-sm-requires (
   word-reads.Asked,
   word-reads.Learnt,
@@ -12411,7 +12978,7 @@ lx-sm-requires : (t : ℕ) → lx-lts.Need-sm-requires (
 ) (lx-at t) lx.Post
 lx-sm-requires t c κs = omega (arith, c .before .before .before .before .before .before .before .before .before .before .before .before .before .before .before .before .before .before .before .before .before .before .before .before .before .before .before .before .before .before .before .before .before .before .before .before .before .before .before .before .before .pre .0, c .before .before .before .before .before .before .before .before .before .before .before .before .before .before .before .before .before .before .before .before .before .before .before .before .before .before .before .before .before .before .before .before .before .before .before .before .before .before .before .before .before .pre .1, deep-depth (c .before .before .before .before .before .before .before .before .before .before .before .before .before .before .before .before .before .before .before .before .before .before .indented .ensures), deep-left (c .before .before .before .before .before .before .before .before .before .before .before .before .before .before .before .before .before .before .before .before .before .before .indented .ensures))
 
--- src/lib.rt:458:22
+-- src/lib.rt:468:22
 lx-enum-known-r8 : (t : ℕ) → lx-lts.Need-enum-known-r8 (
   word-reads.Asked,
   word-reads.Learnt,
@@ -12430,7 +12997,7 @@ lx-enum-known-r8 : (t : ℕ) → lx-lts.Need-enum-known-r8 (
 ) (lx-at t) lx.Post
 lx-enum-known-r8 t c = search needs
 
--- src/lib.rt:459:9
+-- src/lib.rt:469:9
 lx-enum-told-2 : (t : ℕ) → lx-lts.Need-enum-told-2 (
   word-reads.Asked,
   word-reads.Learnt,
@@ -12449,7 +13016,7 @@ lx-enum-told-2 : (t : ℕ) → lx-lts.Need-enum-told-2 (
 ) (lx-at t) lx.Post
 lx-enum-told-2 t c = search needs
 
--- src/lib.rt:459:9
+-- src/lib.rt:469:9
 lx-same-length-2 : (t : ℕ) → lx-lts.Need-same-length-2 (
   word-reads.Asked,
   word-reads.Learnt,
@@ -12468,7 +13035,7 @@ lx-same-length-2 : (t : ℕ) → lx-lts.Need-same-length-2 (
 ) (lx-at t) lx.Post
 lx-same-length-2 t c = c .before .before .before .before .sm .kept .1 .1 .1 .1 .1 .0 ∙ c .before .before .before .before .before .before .before .before .before .indent-in .kept .0 ∙ c .before .before .before .before .before .before .before .before .before .before .before .before .before .word3 .kept .1 .0 ∙ c .before .before .before .before .before .before .before .before .before .before .before .before .before .before .before .before .before .line .kept .1 .0 ∙ c .before .before .before .before .before .before .before .before .before .before .before .before .before .before .before .before .before .before .before .before .before .before .before .before .ds .kept .1 .1 .1 .1 .1 .0 ∙ c .before .before .before .before .before .before .before .before .before .before .before .before .before .before .before .before .before .before .before .before .before .before .before .before .before .before .before .before .before .before .indent-deeper .kept .0 ∙ c .before .before .before .before .before .before .before .before .before .before .before .before .before .before .before .before .before .before .before .before .before .before .before .before .before .before .before .before .before .before .before .before .before .before .word2 .kept .1 .0 ∙ c .before .before .before .before .before .before .before .before .before .before .before .before .before .before .before .before .before .before .before .before .before .before .before .before .before .before .before .before .before .before .before .before .before .before .before .before .before .before .word .kept .1 .0
 
--- src/lib.rt:459:9
+-- src/lib.rt:469:9
 lx-returns-2 : (t : ℕ) → lx-lts.Need-returns-2 (
   word-reads.Asked,
   word-reads.Learnt,
@@ -12485,10 +13052,10 @@ lx-returns-2 : (t : ℕ) → lx-lts.Need-returns-2 (
   sm-below t,
   sm.Post,
 ) (lx-at t) lx.Post
-unfolding Exp.LetExp Helpers.in-end Helpers.indented
+unfolding Exp.exp Helpers.in-end Helpers.indent-deeper Helpers.deepen
 lx-returns-2 t c = record { is = then-sure (c .before .before .before .before .before .before .before .before .before .before .before .before .before .before .before .before .before .before .before .before .before .before .before .before .before .before .before .before .before .before .before .before .before .before .before .before .before .before .word .ensures) (then-sure (c .before .before .before .before .before .before .before .before .before .before .before .before .before .before .before .before .before .before .before .before .before .before .before .before .before .before .before .before .before .before .before .before .before .before .word2 .ensures) (then-both (c .before .before .before .before .before .before .before .before .before .before .before .before .before .before .before .before .before .before .before .before .before .before .before .before .before .before .before .before .before .before .indent-deeper .ensures) (then-done (along (c .before .before .before .before .before .before .before .before .before .before .before .before .before .before .before .before .before .before .before .before .before .before .before .before .before .before .before .indented .ensures) (c .before .before .before .before .before .before .before .before .before .before .before .before .before .before .before .before .before .before .before .before .before .before .before .before .ds .ensures)) (c .before .before .before .before .before .before .before .before .before .before .before .before .before .before .before .before .before .before .before .before .r4 .given .1) (then-both (c .before .before .before .before .before .before .before .before .before .before .before .before .before .before .before .before .before .line .ensures) (then-sure (c .before .before .before .before .before .before .before .before .before .before .before .before .before .word3 .ensures) (then-sure (c .before .before .before .before .before .before .before .before .before .indent-in .ensures) (then-stop (along (c .before .before .before .before .before .before .before .before .before .before .before .before .before .before .before .before .before .before .before .before .before .before .before .before .before .before .before .indented .ensures) (c .before .before .before .before .sm .ensures)) (c .enum-told2 .given .1)))))))) }
 
--- src/lib.rt:461:9
+-- src/lib.rt:471:9
 lx-line-requires-2 : (t : ℕ) → lx-lts.Need-line-requires-2 (
   word-reads.Asked,
   word-reads.Learnt,
@@ -12507,7 +13074,7 @@ lx-line-requires-2 : (t : ℕ) → lx-lts.Need-line-requires-2 (
 ) (lx-at t) lx.Post
 lx-line-requires-2 t c κs = search needs
 
--- src/lib.rt:462:18
+-- src/lib.rt:472:18
 lx-word-requires-4 : (t : ℕ) → lx-lts.Need-word-requires-4 (
   word-reads.Asked,
   word-reads.Learnt,
@@ -12526,7 +13093,7 @@ lx-word-requires-4 : (t : ℕ) → lx-lts.Need-word-requires-4 (
 ) (lx-at t) lx.Post
 lx-word-requires-4 t c κs = search needs
 
--- src/lib.rt:432:1
+-- src/lib.rt:442:1
 lx-same-length-3 : (t : ℕ) → lx-lts.Need-same-length-3 (
   word-reads.Asked,
   word-reads.Learnt,
@@ -12545,7 +13112,7 @@ lx-same-length-3 : (t : ℕ) → lx-lts.Need-same-length-3 (
 ) (lx-at t) lx.Post
 lx-same-length-3 t c = c .before .before .word4 .kept .1 .0 ∙ c .before .before .before .before .before .before .line2 .kept .1 .0 ∙ c .before .before .before .before .before .before .before .before .before .before .before .before .before .sm .kept .1 .1 .1 .1 .1 .0 ∙ c .before .before .before .before .before .before .before .before .before .before .before .before .before .before .before .before .before .before .indent-in .kept .0 ∙ c .before .before .before .before .before .before .before .before .before .before .before .before .before .before .before .before .before .before .before .before .before .before .word3 .kept .1 .0 ∙ c .before .before .before .before .before .before .before .before .before .before .before .before .before .before .before .before .before .before .before .before .before .before .before .before .before .before .line .kept .1 .0 ∙ c .before .before .before .before .before .before .before .before .before .before .before .before .before .before .before .before .before .before .before .before .before .before .before .before .before .before .before .before .before .before .before .before .before .ds .kept .1 .1 .1 .1 .1 .0 ∙ c .before .before .before .before .before .before .before .before .before .before .before .before .before .before .before .before .before .before .before .before .before .before .before .before .before .before .before .before .before .before .before .before .before .before .before .before .before .before .before .indent-deeper .kept .0 ∙ c .before .before .before .before .before .before .before .before .before .before .before .before .before .before .before .before .before .before .before .before .before .before .before .before .before .before .before .before .before .before .before .before .before .before .before .before .before .before .before .before .before .before .before .word2 .kept .1 .0 ∙ c .before .before .before .before .before .before .before .before .before .before .before .before .before .before .before .before .before .before .before .before .before .before .before .before .before .before .before .before .before .before .before .before .before .before .before .before .before .before .before .before .before .before .before .before .before .before .before .word .kept .1 .0
 
--- src/lib.rt:432:1
+-- src/lib.rt:442:1
 lx-returns-3 : (t : ℕ) → lx-lts.Need-returns-3 (
   word-reads.Asked,
   word-reads.Learnt,
@@ -12562,7 +13129,7 @@ lx-returns-3 : (t : ℕ) → lx-lts.Need-returns-3 (
   sm-below t,
   sm.Post,
 ) (lx-at t) lx.Post
-unfolding Exp.LetExp Helpers.in-end Helpers.indented
+unfolding Exp.exp Helpers.in-end Helpers.indent-deeper Helpers.deepen
 lx-returns-3 t c = record { is = then-sure (c .before .before .before .before .before .before .before .before .before .before .before .before .before .before .before .before .before .before .before .before .before .before .before .before .before .before .before .before .before .before .before .before .before .before .before .before .before .before .before .before .before .before .before .before .before .before .before .word .ensures) (then-sure (c .before .before .before .before .before .before .before .before .before .before .before .before .before .before .before .before .before .before .before .before .before .before .before .before .before .before .before .before .before .before .before .before .before .before .before .before .before .before .before .before .before .before .before .word2 .ensures) (then-both (c .before .before .before .before .before .before .before .before .before .before .before .before .before .before .before .before .before .before .before .before .before .before .before .before .before .before .before .before .before .before .before .before .before .before .before .before .before .before .before .indent-deeper .ensures) (then-done (along (c .before .before .before .before .before .before .before .before .before .before .before .before .before .before .before .before .before .before .before .before .before .before .before .before .before .before .before .before .before .before .before .before .before .before .before .before .indented .ensures) (c .before .before .before .before .before .before .before .before .before .before .before .before .before .before .before .before .before .before .before .before .before .before .before .before .before .before .before .before .before .before .before .before .before .ds .ensures)) (c .before .before .before .before .before .before .before .before .before .before .before .before .before .before .before .before .before .before .before .before .before .before .before .before .before .before .before .before .before .r4 .given .1) (then-both (c .before .before .before .before .before .before .before .before .before .before .before .before .before .before .before .before .before .before .before .before .before .before .before .before .before .before .line .ensures) (then-sure (c .before .before .before .before .before .before .before .before .before .before .before .before .before .before .before .before .before .before .before .before .before .before .word3 .ensures) (then-sure (c .before .before .before .before .before .before .before .before .before .before .before .before .before .before .before .before .before .before .indent-in .ensures) (then-done (along (c .before .before .before .before .before .before .before .before .before .before .before .before .before .before .before .before .before .before .before .before .before .before .before .before .before .before .before .before .before .before .before .before .before .before .before .before .indented .ensures) (c .before .before .before .before .before .before .before .before .before .before .before .before .before .sm .ensures)) (c .before .before .before .before .before .before .before .before .before .r8 .given .1) (then-both (c .before .before .before .before .before .before .line2 .ensures) (last-sure (c .before .before .word4 .ensures)))))))))) }
 
 abbrev ma-Inv-loop : ma-lts.InvT-loop
@@ -12572,7 +13139,7 @@ ma-Inv-loop text rec kinds starts lens out₀ left₀ cfg n s₀ i₀ out left s
 abbrev ma-μ-loop : ma-lts.MeasureT-loop
 ma-μ-loop text rec kinds starts lens out₀ left₀ cfg n s₀ i₀ out left s i = n - i
 
--- src/lib.rt:723:29
+-- src/lib.rt:738:29
 ma-absent-requires : (t : ℕ) → ma-lts.Need-absent-requires (
   absent-reads.Asked,
   absent-reads.Learnt,
@@ -12591,7 +13158,7 @@ ma-absent-requires : (t : ℕ) → ma-lts.Need-absent-requires (
 ) (ma-at t) ma.Post ma-Inv-loop ma-μ-loop
 ma-absent-requires t c κs = search needs
 
--- src/lib.rt:723:23
+-- src/lib.rt:738:23
 ma-enum-known-s0 : (t : ℕ) → ma-lts.Need-enum-known-s0 (
   absent-reads.Asked,
   absent-reads.Learnt,
@@ -12610,7 +13177,7 @@ ma-enum-known-s0 : (t : ℕ) → ma-lts.Need-enum-known-s0 (
 ) (ma-at t) ma.Post ma-Inv-loop ma-μ-loop
 ma-enum-known-s0 t c = search needs
 
--- src/lib.rt:724:9
+-- src/lib.rt:739:9
 ma-returns : (t : ℕ) → ma-lts.Need-returns (
   absent-reads.Asked,
   absent-reads.Learnt,
@@ -12648,7 +13215,7 @@ ma-enum-told : (t : ℕ) → ma-lts.Need-enum-told (
 ) (ma-at t) ma.Post ma-Inv-loop ma-μ-loop
 ma-enum-told t c = search needs
 
--- src/lib.rt:726:9
+-- src/lib.rt:741:9
 ma-group-requires : (t : ℕ) → ma-lts.Need-group-requires (
   absent-reads.Asked,
   absent-reads.Learnt,
@@ -12667,7 +13234,7 @@ ma-group-requires : (t : ℕ) → ma-lts.Need-group-requires (
 ) (ma-at t) ma.Post ma-Inv-loop ma-μ-loop
 ma-group-requires t c κs = search needs
 
--- src/lib.rt:727:22
+-- src/lib.rt:742:22
 ma-enum-known-r1 : (t : ℕ) → ma-lts.Need-enum-known-r1 (
   absent-reads.Asked,
   absent-reads.Learnt,
@@ -12686,7 +13253,7 @@ ma-enum-known-r1 : (t : ℕ) → ma-lts.Need-enum-known-r1 (
 ) (ma-at t) ma.Post ma-Inv-loop ma-μ-loop
 ma-enum-known-r1 t c = search needs
 
--- src/lib.rt:728:9
+-- src/lib.rt:743:9
 ma-enum-told-2 : (t : ℕ) → ma-lts.Need-enum-told-2 (
   absent-reads.Asked,
   absent-reads.Learnt,
@@ -12705,7 +13272,7 @@ ma-enum-told-2 : (t : ℕ) → ma-lts.Need-enum-told-2 (
 ) (ma-at t) ma.Post ma-Inv-loop ma-μ-loop
 ma-enum-told-2 t c = search needs
 
--- src/lib.rt:728:9
+-- src/lib.rt:743:9
 ma-returns-2 : (t : ℕ) → ma-lts.Need-returns-2 (
   absent-reads.Asked,
   absent-reads.Learnt,
@@ -12725,7 +13292,7 @@ ma-returns-2 : (t : ℕ) → ma-lts.Need-returns-2 (
 unfolding Exp.get-matcher-across-lines Exp.arms-on-lines Helpers.sep-with-lines
 ma-returns-2 t c = record { is = by-same (maybe-there (c .before .before .before .before .before .absent .ensures) (c .before .before .before .enum-told .given .1)) (group-not (c .before .before .group .ensures) (c .enum-told2 .given .1)) }
 
--- src/lib.rt:730:9
+-- src/lib.rt:745:9
 ma-indent-deeper-requires : (t : ℕ) → ma-lts.Need-indent-deeper-requires (
   absent-reads.Asked,
   absent-reads.Learnt,
@@ -12744,7 +13311,7 @@ ma-indent-deeper-requires : (t : ℕ) → ma-lts.Need-indent-deeper-requires (
 ) (ma-at t) ma.Post ma-Inv-loop ma-μ-loop
 ma-indent-deeper-requires t c κs = omega (arith, c .before .before .before .before .before .before .before .before .before .before .before .before .before .before .pre .1)
 
--- src/lib.rt:731:27
+-- src/lib.rt:746:27
 ma-list-requires : (t : ℕ) → ma-lts.Need-list-requires (
   absent-reads.Asked,
   absent-reads.Learnt,
@@ -12763,7 +13330,7 @@ ma-list-requires : (t : ℕ) → ma-lts.Need-list-requires (
 ) (ma-at t) ma.Post ma-Inv-loop ma-μ-loop
 ma-list-requires t c κs = search needs
 
--- src/lib.rt:731:18
+-- src/lib.rt:746:18
 ma-enum-known-n : (t : ℕ) → ma-lts.Need-enum-known-n (
   absent-reads.Asked,
   absent-reads.Learnt,
@@ -12782,7 +13349,7 @@ ma-enum-known-n : (t : ℕ) → ma-lts.Need-enum-known-n (
 ) (ma-at t) ma.Post ma-Inv-loop ma-μ-loop
 ma-enum-known-n t c = search needs
 
--- src/lib.rt:732:9
+-- src/lib.rt:747:9
 ma-enum-told-3 : (t : ℕ) → ma-lts.Need-enum-told-3 (
   absent-reads.Asked,
   absent-reads.Learnt,
@@ -12801,7 +13368,7 @@ ma-enum-told-3 : (t : ℕ) → ma-lts.Need-enum-told-3 (
 ) (ma-at t) ma.Post ma-Inv-loop ma-μ-loop
 ma-enum-told-3 t c = search needs
 
--- src/lib.rt:732:9
+-- src/lib.rt:747:9
 ma-stop-requires : (t : ℕ) → ma-lts.Need-stop-requires (
   absent-reads.Asked,
   absent-reads.Learnt,
@@ -12820,7 +13387,7 @@ ma-stop-requires : (t : ℕ) → ma-lts.Need-stop-requires (
 ) (ma-at t) ma.Post ma-Inv-loop ma-μ-loop
 ma-stop-requires t c κs = search needs
 
--- src/lib.rt:732:9
+-- src/lib.rt:747:9
 ma-same-length : (t : ℕ) → ma-lts.Need-same-length (
   absent-reads.Asked,
   absent-reads.Learnt,
@@ -12839,7 +13406,7 @@ ma-same-length : (t : ℕ) → ma-lts.Need-same-length (
 ) (ma-at t) ma.Post ma-Inv-loop ma-μ-loop
 ma-same-length t c = c .before .before .before .before .before .before .indent-deeper .kept .0
 
--- src/lib.rt:732:9
+-- src/lib.rt:747:9
 ma-returns-3 : (t : ℕ) → ma-lts.Need-returns-3 (
   absent-reads.Asked,
   absent-reads.Learnt,
@@ -12859,7 +13426,7 @@ ma-returns-3 : (t : ℕ) → ma-lts.Need-returns-3 (
 unfolding Exp.get-matcher-across-lines Exp.arms-on-lines Helpers.sep-with-lines
 ma-returns-3 t c = record { is = by-same (maybe-there (c .before .before .before .before .before .before .before .before .before .before .before .before .before .before .absent .ensures) (c .before .before .before .before .before .before .before .before .before .before .before .before .enum-told .given .1)) (by-same (group-is (c .before .before .before .before .before .before .before .before .before .before .before .group .ensures) (c .before .before .before .before .before .before .before .before .before .r1 .given .1)) (then-sure (c .before .before .before .before .before .before .indent-deeper .ensures) (list-not (c .stop .ensures) (c .before .before .before .list .ensures) (c .before .enum-told3 .given .1)))) }
 
--- src/lib.rt:736:5
+-- src/lib.rt:751:5
 ma-loop-holds : (t : ℕ) → ma-lts.Need-loop-holds (
   absent-reads.Asked,
   absent-reads.Learnt,
@@ -12878,7 +13445,7 @@ ma-loop-holds : (t : ℕ) → ma-lts.Need-loop-holds (
 ) (ma-at t) ma.Post ma-Inv-loop ma-μ-loop
 ma-loop-holds t c = (omega arith, λ r o m h. h, refl)
 
--- src/lib.rt:737:13
+-- src/lib.rt:752:13
 ma-new-line-requires : (t : ℕ) → ma-lts.Need-new-line-requires (
   absent-reads.Asked,
   absent-reads.Learnt,
@@ -12897,7 +13464,7 @@ ma-new-line-requires : (t : ℕ) → ma-lts.Need-new-line-requires (
 ) (ma-at t) ma.Post ma-Inv-loop ma-μ-loop
 ma-new-line-requires t c κs = search needs
 
--- src/lib.rt:738:13
+-- src/lib.rt:753:13
 ma-arm-requires : (t : ℕ) → ma-lts.Need-arm-requires (
   absent-reads.Asked,
   absent-reads.Learnt,
@@ -12916,7 +13483,7 @@ ma-arm-requires : (t : ℕ) → ma-lts.Need-arm-requires (
 ) (ma-at t) ma.Post ma-Inv-loop ma-μ-loop
 ma-arm-requires t c κs = omega (arith, c .before .before .before .before .before .before .before .before .before .before .before .before .before .before .before .before .before .before .before .before .before .before .before .before .before .before .before .before .before .pre .0, c .before .before .before .before .before .before .before .before .before .before .before .before .before .before .before .before .before .before .before .before .before .before .before .before .before .before .before .before .before .pre .1)
 
--- src/lib.rt:739:26
+-- src/lib.rt:754:26
 ma-enum-known-r5 : (t : ℕ) → ma-lts.Need-enum-known-r5 (
   absent-reads.Asked,
   absent-reads.Learnt,
@@ -12935,7 +13502,7 @@ ma-enum-known-r5 : (t : ℕ) → ma-lts.Need-enum-known-r5 (
 ) (ma-at t) ma.Post ma-Inv-loop ma-μ-loop
 ma-enum-known-r5 t c = search needs
 
--- src/lib.rt:740:13
+-- src/lib.rt:755:13
 ma-enum-told-4 : (t : ℕ) → ma-lts.Need-enum-told-4 (
   absent-reads.Asked,
   absent-reads.Learnt,
@@ -12954,7 +13521,7 @@ ma-enum-told-4 : (t : ℕ) → ma-lts.Need-enum-told-4 (
 ) (ma-at t) ma.Post ma-Inv-loop ma-μ-loop
 ma-enum-told-4 t c = search needs
 
--- src/lib.rt:740:13
+-- src/lib.rt:755:13
 ma-same-length-2 : (t : ℕ) → ma-lts.Need-same-length-2 (
   absent-reads.Asked,
   absent-reads.Learnt,
@@ -12973,7 +13540,7 @@ ma-same-length-2 : (t : ℕ) → ma-lts.Need-same-length-2 (
 ) (ma-at t) ma.Post ma-Inv-loop ma-μ-loop
 ma-same-length-2 t c = c .before .before .before .before .arm .kept .1 .1 .1 .1 .1 .0 ∙ c .before .before .before .before .before .before .before .before .before .new-line .kept .1 .0 ∙ c .before .before .before .before .before .before .before .before .before .before .before .before .loop .inv .2 ∙ c .before .before .before .before .before .before .before .before .before .before .before .before .before .before .before .before .before .before .before .indent-deeper .kept .0
 
--- src/lib.rt:740:13
+-- src/lib.rt:755:13
 ma-returns-4 : (t : ℕ) → ma-lts.Need-returns-4 (
   absent-reads.Asked,
   absent-reads.Learnt,
@@ -12993,7 +13560,7 @@ ma-returns-4 : (t : ℕ) → ma-lts.Need-returns-4 (
 unfolding Exp.get-matcher-across-lines Exp.arms-on-lines Helpers.sep-with-lines
 ma-returns-4 t c = record { is = by-same (maybe-there (c .before .before .before .before .before .before .before .before .before .before .before .before .before .before .before .before .before .before .before .before .before .before .before .before .before .before .before .absent .ensures) (c .before .before .before .before .before .before .before .before .before .before .before .before .before .before .before .before .before .before .before .before .before .before .before .before .before .enum-told .given .1)) (by-same (group-is (c .before .before .before .before .before .before .before .before .before .before .before .before .before .before .before .before .before .before .before .before .before .before .before .before .group .ensures) (c .before .before .before .before .before .before .before .before .before .before .before .before .before .before .before .before .before .before .before .before .before .before .r1 .given .1)) (then-sure (c .before .before .before .before .before .before .before .before .before .before .before .before .before .before .before .before .before .before .before .indent-deeper .ensures) (by-same (list-is (c .before .before .before .before .before .before .before .before .before .before .before .before .before .before .before .before .list .ensures) (c .before .before .before .before .before .before .before .before .before .before .before .before .before .before .n .given .1)) (by-same (items-all _ _ _) (c .before .before .before .before .before .before .before .before .before .before .before .before .loop .inv .1 _ _ _ (from-more _ _ (c .before .before .before .before .before .before .before .before .before .before .before .loop-test .taken) (then-sure (c .before .before .before .before .before .before .before .before .before .new-line .ensures) (then-stop (c .before .before .before .before .arm .ensures .is) (c .enum-told4 .given .1))))))))) }
 
--- src/lib.rt:743:9
+-- src/lib.rt:758:9
 ma-add-i : (t : ℕ) → ma-lts.Need-add-i (
   absent-reads.Asked,
   absent-reads.Learnt,
@@ -13012,7 +13579,7 @@ ma-add-i : (t : ℕ) → ma-lts.Need-add-i (
 ) (ma-at t) ma.Post ma-Inv-loop ma-μ-loop
 ma-add-i t c = omega (arith, c .before .before .before .before .before .before .before .before .before .before .before .before .loop-test .taken, c .before .before .before .before .before .before .before .before .before .before .before .before .before .before .known-told3)
 
--- src/lib.rt:736:5
+-- src/lib.rt:751:5
 ma-loop-less : (t : ℕ) → ma-lts.Need-loop-less (
   absent-reads.Asked,
   absent-reads.Learnt,
@@ -13031,7 +13598,7 @@ ma-loop-less : (t : ℕ) → ma-lts.Need-loop-less (
 ) (ma-at t) ma.Post ma-Inv-loop ma-μ-loop
 ma-loop-less t c = omega arith
 
--- src/lib.rt:736:5
+-- src/lib.rt:751:5
 ma-loop-again : (t : ℕ) → ma-lts.Need-loop-again (
   absent-reads.Asked,
   absent-reads.Learnt,
@@ -13051,7 +13618,7 @@ ma-loop-again : (t : ℕ) → ma-lts.Need-loop-again (
 unfolding Exp.get-matcher-across-lines Exp.arms-on-lines Helpers.sep-with-lines
 ma-loop-again t c = (omega (arith, c .before .before .before .before .before .before .before .before .before .before .before .before .before .loop .inv .0), λ r o m h. c .before .before .before .before .before .before .before .before .before .before .before .before .before .loop .inv .1 r o m (from-more _ _ (c .before .before .before .before .before .before .before .before .before .before .before .before .loop-test .taken) (then-sure (c .before .before .before .before .before .before .before .before .before .before .new-line .ensures) (then-done (c .before .before .before .before .before .arm .ensures .is) (c .before .r5 .given .1) h))), c .before .before .before .before .before .arm .kept .1 .1 .1 .1 .1 .0 ∙ c .before .before .before .before .before .before .before .before .before .before .new-line .kept .1 .0 ∙ c .before .before .before .before .before .before .before .before .before .before .before .before .before .loop .inv .2)
 
--- src/lib.rt:709:1
+-- src/lib.rt:724:1
 ma-same-length-3 : (t : ℕ) → ma-lts.Need-same-length-3 (
   absent-reads.Asked,
   absent-reads.Learnt,
@@ -13070,7 +13637,7 @@ ma-same-length-3 : (t : ℕ) → ma-lts.Need-same-length-3 (
 ) (ma-at t) ma.Post ma-Inv-loop ma-μ-loop
 ma-same-length-3 t c = c .before .loop .inv .2 ∙ c .before .before .before .before .before .before .before .before .indent-deeper .kept .0
 
--- src/lib.rt:709:1
+-- src/lib.rt:724:1
 ma-returns-5 : (t : ℕ) → ma-lts.Need-returns-5 (
   absent-reads.Asked,
   absent-reads.Learnt,
@@ -13097,7 +13664,7 @@ mo-Inv-loop text rec kinds starts lens out₀ left₀ cfg allow n s₀ i₀ out 
 abbrev mo-μ-loop : mo-lts.MeasureT-loop
 mo-μ-loop text rec kinds starts lens out₀ left₀ cfg allow n s₀ i₀ out left s i = n - i
 
--- src/lib.rt:350:5
+-- src/lib.rt:360:5
 mo-loop-holds : (t : ℕ) → mo-lts.Need-loop-holds (
   last-semi-reads.Asked,
   last-semi-reads.Learnt,
@@ -13110,7 +13677,7 @@ mo-loop-holds : (t : ℕ) → mo-lts.Need-loop-holds (
 ) (mo-at t) mo.Post mo-Inv-loop mo-μ-loop
 mo-loop-holds t c = (omega arith, λ r o m h. h, refl)
 
--- src/lib.rt:351:13
+-- src/lib.rt:361:13
 mo-last-semi-requires : (t : ℕ) → mo-lts.Need-last-semi-requires (
   last-semi-reads.Asked,
   last-semi-reads.Learnt,
@@ -13123,7 +13690,7 @@ mo-last-semi-requires : (t : ℕ) → mo-lts.Need-last-semi-requires (
 ) (mo-at t) mo.Post mo-Inv-loop mo-μ-loop
 mo-last-semi-requires t c κs = search needs
 
--- src/lib.rt:352:13
+-- src/lib.rt:362:13
 mo-word-requires : (t : ℕ) → mo-lts.Need-word-requires (
   last-semi-reads.Asked,
   last-semi-reads.Learnt,
@@ -13136,7 +13703,7 @@ mo-word-requires : (t : ℕ) → mo-lts.Need-word-requires (
 ) (mo-at t) mo.Post mo-Inv-loop mo-μ-loop
 mo-word-requires t c κs = search needs
 
--- src/lib.rt:353:13
+-- src/lib.rt:363:13
 mo-indent-requires : (t : ℕ) → mo-lts.Need-indent-requires (
   last-semi-reads.Asked,
   last-semi-reads.Learnt,
@@ -13149,7 +13716,7 @@ mo-indent-requires : (t : ℕ) → mo-lts.Need-indent-requires (
 ) (mo-at t) mo.Post mo-Inv-loop mo-μ-loop
 mo-indent-requires t c κs = search needs
 
--- src/lib.rt:354:13
+-- src/lib.rt:364:13
 mo-it-requires : (t : ℕ) → mo-lts.Need-it-requires (
   last-semi-reads.Asked,
   last-semi-reads.Learnt,
@@ -13162,7 +13729,7 @@ mo-it-requires : (t : ℕ) → mo-lts.Need-it-requires (
 ) (mo-at t) mo.Post mo-Inv-loop mo-μ-loop
 mo-it-requires t c κs = omega (arith, c .before .before .before .before .before .before .before .before .before .before .before .before .before .before .before .before .before .before .before .pre .0, c .before .before .before .before .before .before .before .before .before .before .before .before .before .before .before .before .before .before .before .pre .1)
 
--- src/lib.rt:355:26
+-- src/lib.rt:365:26
 mo-enum-known-r3 : (t : ℕ) → mo-lts.Need-enum-known-r3 (
   last-semi-reads.Asked,
   last-semi-reads.Learnt,
@@ -13175,7 +13742,7 @@ mo-enum-known-r3 : (t : ℕ) → mo-lts.Need-enum-known-r3 (
 ) (mo-at t) mo.Post mo-Inv-loop mo-μ-loop
 mo-enum-known-r3 t c = search needs
 
--- src/lib.rt:356:13
+-- src/lib.rt:366:13
 mo-enum-told : (t : ℕ) → mo-lts.Need-enum-told (
   last-semi-reads.Asked,
   last-semi-reads.Learnt,
@@ -13188,7 +13755,7 @@ mo-enum-told : (t : ℕ) → mo-lts.Need-enum-told (
 ) (mo-at t) mo.Post mo-Inv-loop mo-μ-loop
 mo-enum-told t c = search needs
 
--- src/lib.rt:356:13
+-- src/lib.rt:366:13
 mo-same-length : (t : ℕ) → mo-lts.Need-same-length (
   last-semi-reads.Asked,
   last-semi-reads.Learnt,
@@ -13201,7 +13768,7 @@ mo-same-length : (t : ℕ) → mo-lts.Need-same-length (
 ) (mo-at t) mo.Post mo-Inv-loop mo-μ-loop
 mo-same-length t c = c .before .before .before .before .it .kept .1 .1 .1 .1 .1 .0 ∙ c .before .before .before .before .before .before .before .before .before .indent .kept .0 ∙ c .before .before .before .before .before .before .before .before .before .before .before .before .before .word .kept .1 .0 ∙ c .before .before .before .before .before .before .before .before .before .before .before .before .before .before .before .before .before .loop .inv .2
 
--- src/lib.rt:356:13
+-- src/lib.rt:366:13
 mo-returns : (t : ℕ) → mo-lts.Need-returns (
   last-semi-reads.Asked,
   last-semi-reads.Learnt,
@@ -13214,7 +13781,7 @@ mo-returns : (t : ℕ) → mo-lts.Need-returns (
 ) (mo-at t) mo.Post mo-Inv-loop mo-μ-loop
 mo-returns t c = record { is = by-same (semi-all _ _ _ _) (c .before .before .before .before .before .before .before .before .before .before .before .before .before .before .before .before .before .loop .inv .1 _ _ _ (semi-more _ _ _ (c .before .before .before .before .before .before .before .before .before .before .before .before .before .before .before .before .loop-test .taken) (c .before .before .before .before .before .before .before .before .before .before .before .before .before .before .before .last-semi .ensures) (then-sure (c .before .before .before .before .before .before .before .before .before .before .before .before .before .word .ensures) (then-sure (c .before .before .before .before .before .before .before .before .before .indent .ensures) (then-stop (c .before .before .before .before .it .ensures .is) (c .enum-told .given .1)))))) }
 
--- src/lib.rt:359:9
+-- src/lib.rt:369:9
 mo-add-i : (t : ℕ) → mo-lts.Need-add-i (
   last-semi-reads.Asked,
   last-semi-reads.Learnt,
@@ -13227,7 +13794,7 @@ mo-add-i : (t : ℕ) → mo-lts.Need-add-i (
 ) (mo-at t) mo.Post mo-Inv-loop mo-μ-loop
 mo-add-i t c = omega (arith, c .before .before .before .before .before .before .before .before .before .before .before .before .before .before .before .before .before .loop-test .taken, c .before .before .before .before .before .before .before .before .before .before .before .before .before .before .before .before .before .before .before .before .before .before .before .before .before .fits)
 
--- src/lib.rt:350:5
+-- src/lib.rt:360:5
 mo-loop-less : (t : ℕ) → mo-lts.Need-loop-less (
   last-semi-reads.Asked,
   last-semi-reads.Learnt,
@@ -13240,7 +13807,7 @@ mo-loop-less : (t : ℕ) → mo-lts.Need-loop-less (
 ) (mo-at t) mo.Post mo-Inv-loop mo-μ-loop
 mo-loop-less t c = omega arith
 
--- src/lib.rt:350:5
+-- src/lib.rt:360:5
 mo-loop-again : (t : ℕ) → mo-lts.Need-loop-again (
   last-semi-reads.Asked,
   last-semi-reads.Learnt,
@@ -13253,7 +13820,7 @@ mo-loop-again : (t : ℕ) → mo-lts.Need-loop-again (
 ) (mo-at t) mo.Post mo-Inv-loop mo-μ-loop
 mo-loop-again t c = (omega (arith, c .before .before .before .before .before .before .before .before .before .before .before .before .before .before .before .before .before .before .loop .inv .0), λ r o m h. c .before .before .before .before .before .before .before .before .before .before .before .before .before .before .before .before .before .before .loop .inv .1 r o m (semi-more _ _ _ (c .before .before .before .before .before .before .before .before .before .before .before .before .before .before .before .before .before .loop-test .taken) (c .before .before .before .before .before .before .before .before .before .before .before .before .before .before .before .before .last-semi .ensures) (then-sure (c .before .before .before .before .before .before .before .before .before .before .before .before .before .before .word .ensures) (then-sure (c .before .before .before .before .before .before .before .before .before .before .indent .ensures) (then-done (c .before .before .before .before .before .it .ensures .is) (c .before .r3 .given .1) h)))), c .before .before .before .before .before .it .kept .1 .1 .1 .1 .1 .0 ∙ c .before .before .before .before .before .before .before .before .before .before .indent .kept .0 ∙ c .before .before .before .before .before .before .before .before .before .before .before .before .before .before .word .kept .1 .0 ∙ c .before .before .before .before .before .before .before .before .before .before .before .before .before .before .before .before .before .before .loop .inv .2)
 
--- src/lib.rt:332:1
+-- src/lib.rt:342:1
 mo-same-length-2 : (t : ℕ) → mo-lts.Need-same-length-2 (
   last-semi-reads.Asked,
   last-semi-reads.Learnt,
@@ -13266,7 +13833,7 @@ mo-same-length-2 : (t : ℕ) → mo-lts.Need-same-length-2 (
 ) (mo-at t) mo.Post mo-Inv-loop mo-μ-loop
 mo-same-length-2 t c = c .before .loop .inv .2
 
--- src/lib.rt:332:1
+-- src/lib.rt:342:1
 mo-returns-2 : (t : ℕ) → mo-lts.Need-returns-2 (
   last-semi-reads.Asked,
   last-semi-reads.Learnt,
@@ -13279,7 +13846,7 @@ mo-returns-2 : (t : ℕ) → mo-lts.Need-returns-2 (
 ) (mo-at t) mo.Post mo-Inv-loop mo-μ-loop
 mo-returns-2 t c = record { is = by-same (semi-all _ _ _ _) (c .before .loop .inv .1 _ _ _ (semi-none _ _ _ (c .loop-test .left))) }
 
--- src/lib.rt:1717:9
+-- src/lib.rt:1693:9
 nm-text-of-requires : (t : ℕ) → nm-lts.Need-text-of-requires (
   text-of-reads.Asked,
   text-of-reads.Learnt,
@@ -13290,7 +13857,7 @@ nm-text-of-requires : (t : ℕ) → nm-lts.Need-text-of-requires (
 ) (nm-at t) nm.Post
 nm-text-of-requires t c κs = search needs
 
--- src/lib.rt:1718:22
+-- src/lib.rt:1694:22
 nm-enum-known-r1 : (t : ℕ) → nm-lts.Need-enum-known-r1 (
   text-of-reads.Asked,
   text-of-reads.Learnt,
@@ -13301,7 +13868,7 @@ nm-enum-known-r1 : (t : ℕ) → nm-lts.Need-enum-known-r1 (
 ) (nm-at t) nm.Post
 nm-enum-known-r1 t c = search needs
 
--- src/lib.rt:1719:9
+-- src/lib.rt:1695:9
 nm-enum-told : (t : ℕ) → nm-lts.Need-enum-told (
   text-of-reads.Asked,
   text-of-reads.Learnt,
@@ -13312,7 +13879,7 @@ nm-enum-told : (t : ℕ) → nm-lts.Need-enum-told (
 ) (nm-at t) nm.Post
 nm-enum-told t c = search needs
 
--- src/lib.rt:1719:9
+-- src/lib.rt:1695:9
 nm-same-length : (t : ℕ) → nm-lts.Need-same-length (
   text-of-reads.Asked,
   text-of-reads.Learnt,
@@ -13323,7 +13890,7 @@ nm-same-length : (t : ℕ) → nm-lts.Need-same-length (
 ) (nm-at t) nm.Post
 nm-same-length t c = c .before .before .before .before .text-of .kept .1 .1 .1 .1 .0
 
--- src/lib.rt:1719:9
+-- src/lib.rt:1695:9
 nm-returns : (t : ℕ) → nm-lts.Need-returns (
   text-of-reads.Asked,
   text-of-reads.Learnt,
@@ -13334,7 +13901,7 @@ nm-returns : (t : ℕ) → nm-lts.Need-returns (
 ) (nm-at t) nm.Post
 nm-returns t c = record { is = then-stop (plain (c .before .before .before .before .text-of .ensures)) (c .enum-told .given .1) }
 
--- src/lib.rt:1721:9
+-- src/lib.rt:1697:9
 nm-word-requires : (t : ℕ) → nm-lts.Need-word-requires (
   text-of-reads.Asked,
   text-of-reads.Learnt,
@@ -13345,7 +13912,7 @@ nm-word-requires : (t : ℕ) → nm-lts.Need-word-requires (
 ) (nm-at t) nm.Post
 nm-word-requires t c κs = search needs
 
--- src/lib.rt:1722:5
+-- src/lib.rt:1698:5
 nm-sig-requires : (t : ℕ) → nm-lts.Need-sig-requires (
   text-of-reads.Asked,
   text-of-reads.Learnt,
@@ -13356,7 +13923,7 @@ nm-sig-requires : (t : ℕ) → nm-lts.Need-sig-requires (
 ) (nm-at t) nm.Post
 nm-sig-requires t c κs = omega (arith, c .before .before .before .before .before .before .before .before .before .before .before .before .before .before .before .before .before .before .before .pre .0, c .before .before .before .before .before .before .before .before .before .before .before .before .before .before .before .before .before .before .before .pre .1)
 
--- src/lib.rt:1702:1
+-- src/lib.rt:1678:1
 nm-same-length-2 : (t : ℕ) → nm-lts.Need-same-length-2 (
   text-of-reads.Asked,
   text-of-reads.Learnt,
@@ -13367,7 +13934,7 @@ nm-same-length-2 : (t : ℕ) → nm-lts.Need-same-length-2 (
 ) (nm-at t) nm.Post
 nm-same-length-2 t c = c .before .before .sig .kept .1 .1 .1 .1 .1 .0 ∙ c .before .before .before .before .before .before .before .word .kept .1 .0 ∙ c .before .before .before .before .before .before .before .before .before .before .before .before .before .before .text-of .kept .1 .1 .1 .1 .0
 
--- src/lib.rt:1702:1
+-- src/lib.rt:1678:1
 nm-returns-2 : (t : ℕ) → nm-lts.Need-returns-2 (
   text-of-reads.Asked,
   text-of-reads.Learnt,
@@ -13378,7 +13945,7 @@ nm-returns-2 : (t : ℕ) → nm-lts.Need-returns-2 (
 ) (nm-at t) nm.Post
 nm-returns-2 t c = record { is = then-done (plain (c .before .before .before .before .before .before .before .before .before .before .before .before .before .before .text-of .ensures)) (c .before .before .before .before .before .before .before .before .before .before .r1 .given .1) (then-sure (c .before .before .before .before .before .before .before .word .ensures) (c .before .before .sig .ensures .is)) }
 
--- src/lib.rt:1186:27
+-- src/lib.rt:1162:27
 nu-word-requires : (t : ℕ) → nu-lts.Need-word-requires (
   word-reads.Asked,
   word-reads.Learnt,
@@ -13421,7 +13988,7 @@ nu-word-requires : (t : ℕ) → nu-lts.Need-word-requires (
 ) (nu-at t) nu.Post
 nu-word-requires t c κs = search needs
 
--- src/lib.rt:1187:14
+-- src/lib.rt:1163:14
 nu-vd-requires : (t : ℕ) → nu-lts.Need-vd-requires (
   word-reads.Asked,
   word-reads.Learnt,
@@ -13464,7 +14031,7 @@ nu-vd-requires : (t : ℕ) → nu-lts.Need-vd-requires (
 ) (nu-at t) nu.Post
 nu-vd-requires t c κs = omega (arith, c .before .before .before .before .before .before .before .before .before .pre .0, c .before .before .before .before .before .before .before .before .before .pre .1)
 
--- src/lib.rt:1188:14
+-- src/lib.rt:1164:14
 nu-fd-requires : (t : ℕ) → nu-lts.Need-fd-requires (
   word-reads.Asked,
   word-reads.Learnt,
@@ -13507,7 +14074,7 @@ nu-fd-requires : (t : ℕ) → nu-lts.Need-fd-requires (
 ) (nu-at t) nu.Post
 nu-fd-requires t c κs = omega (arith, c .before .before .before .before .before .before .before .before .before .pre .0, c .before .before .before .before .before .before .before .before .before .pre .1)
 
--- src/lib.rt:1189:14
+-- src/lib.rt:1165:14
 nu-ty-dec-requires : (t : ℕ) → nu-lts.Need-ty-dec-requires (
   word-reads.Asked,
   word-reads.Learnt,
@@ -13550,7 +14117,7 @@ nu-ty-dec-requires : (t : ℕ) → nu-lts.Need-ty-dec-requires (
 ) (nu-at t) nu.Post
 nu-ty-dec-requires t c κs = search needs
 
--- src/lib.rt:1190:14
+-- src/lib.rt:1166:14
 nu-dat-dec-requires : (t : ℕ) → nu-lts.Need-dat-dec-requires (
   word-reads.Asked,
   word-reads.Learnt,
@@ -13593,7 +14160,7 @@ nu-dat-dec-requires : (t : ℕ) → nu-lts.Need-dat-dec-requires (
 ) (nu-at t) nu.Post
 nu-dat-dec-requires t c κs = omega (arith, c .before .before .before .before .before .before .before .before .pre .1)
 
--- src/lib.rt:1191:14
+-- src/lib.rt:1167:14
 nu-dat-copy-dec-requires : (t : ℕ) → nu-lts.Need-dat-copy-dec-requires (
   word-reads.Asked,
   word-reads.Learnt,
@@ -13636,7 +14203,7 @@ nu-dat-copy-dec-requires : (t : ℕ) → nu-lts.Need-dat-copy-dec-requires (
 ) (nu-at t) nu.Post
 nu-dat-copy-dec-requires t c κs = search needs
 
--- src/lib.rt:1192:14
+-- src/lib.rt:1168:14
 nu-ab-requires : (t : ℕ) → nu-lts.Need-ab-requires (
   word-reads.Asked,
   word-reads.Learnt,
@@ -13679,7 +14246,7 @@ nu-ab-requires : (t : ℕ) → nu-lts.Need-ab-requires (
 ) (nu-at t) nu.Post
 nu-ab-requires t c κs = omega (arith, c .before .before .before .before .before .before .before .before .before .pre .0, c .before .before .before .before .before .before .before .before .before .pre .1)
 
--- src/lib.rt:1193:14
+-- src/lib.rt:1169:14
 nu-xd-requires : (t : ℕ) → nu-lts.Need-xd-requires (
   word-reads.Asked,
   word-reads.Learnt,
@@ -13722,7 +14289,7 @@ nu-xd-requires : (t : ℕ) → nu-lts.Need-xd-requires (
 ) (nu-at t) nu.Post
 nu-xd-requires t c κs = omega (arith, c .before .before .before .before .before .before .before .before .before .pre .0, c .before .before .before .before .before .before .before .before .before .pre .1)
 
--- src/lib.rt:1194:14
+-- src/lib.rt:1170:14
 nu-open-dec-requires : (t : ℕ) → nu-lts.Need-open-dec-requires (
   word-reads.Asked,
   word-reads.Learnt,
@@ -13765,7 +14332,7 @@ nu-open-dec-requires : (t : ℕ) → nu-lts.Need-open-dec-requires (
 ) (nu-at t) nu.Post
 nu-open-dec-requires t c κs = search needs
 
--- src/lib.rt:1195:14
+-- src/lib.rt:1171:14
 nu-infix-dec-requires : (t : ℕ) → nu-lts.Need-infix-dec-requires (
   word-reads.Asked,
   word-reads.Learnt,
@@ -13808,7 +14375,7 @@ nu-infix-dec-requires : (t : ℕ) → nu-lts.Need-infix-dec-requires (
 ) (nu-at t) nu.Post
 nu-infix-dec-requires t c κs = search needs
 
--- src/lib.rt:1196:15
+-- src/lib.rt:1172:15
 nu-infix-dec-requires-2 : (t : ℕ) → nu-lts.Need-infix-dec-requires-2 (
   word-reads.Asked,
   word-reads.Learnt,
@@ -13851,7 +14418,7 @@ nu-infix-dec-requires-2 : (t : ℕ) → nu-lts.Need-infix-dec-requires-2 (
 ) (nu-at t) nu.Post
 nu-infix-dec-requires-2 t c κs = search needs
 
--- src/lib.rt:1197:15
+-- src/lib.rt:1173:15
 nu-nonfix-dec-requires : (t : ℕ) → nu-lts.Need-nonfix-dec-requires (
   word-reads.Asked,
   word-reads.Learnt,
@@ -13894,7 +14461,7 @@ nu-nonfix-dec-requires : (t : ℕ) → nu-lts.Need-nonfix-dec-requires (
 ) (nu-at t) nu.Post
 nu-nonfix-dec-requires t c κs = search needs
 
--- src/lib.rt:1198:15
+-- src/lib.rt:1174:15
 nu-pr-requires : (t : ℕ) → nu-lts.Need-pr-requires (
   word-reads.Asked,
   word-reads.Learnt,
@@ -13937,7 +14504,7 @@ nu-pr-requires : (t : ℕ) → nu-lts.Need-pr-requires (
 ) (nu-at t) nu.Post
 nu-pr-requires t c κs = omega (arith, c .before .before .before .before .before .before .before .before .before .pre .0, c .before .before .before .before .before .before .before .before .before .pre .1)
 
--- src/lib.rt:1210:15
+-- src/lib.rt:1186:15
 nu-lo-requires : (t : ℕ) → nu-lts.Need-lo-requires (
   word-reads.Asked,
   word-reads.Learnt,
@@ -13980,7 +14547,7 @@ nu-lo-requires : (t : ℕ) → nu-lts.Need-lo-requires (
 ) (nu-at t) nu.Post
 nu-lo-requires t c κs = omega (arith, c .before .before .before .before .before .before .before .before .before .pre .0, c .before .before .before .before .before .before .before .before .before .pre .1)
 
--- src/lib.rt:1211:15
+-- src/lib.rt:1187:15
 nu-sd-requires : (t : ℕ) → nu-lts.Need-sd-requires (
   word-reads.Asked,
   word-reads.Learnt,
@@ -14023,7 +14590,7 @@ nu-sd-requires : (t : ℕ) → nu-lts.Need-sd-requires (
 ) (nu-at t) nu.Post
 nu-sd-requires t c κs = omega (arith, c .before .before .before .before .before .before .before .before .before .pre .0, c .before .before .before .before .before .before .before .before .before .pre .1)
 
--- src/lib.rt:1212:15
+-- src/lib.rt:1188:15
 nu-gd-requires : (t : ℕ) → nu-lts.Need-gd-requires (
   word-reads.Asked,
   word-reads.Learnt,
@@ -14066,7 +14633,7 @@ nu-gd-requires : (t : ℕ) → nu-lts.Need-gd-requires (
 ) (nu-at t) nu.Post
 nu-gd-requires t c κs = omega (arith, c .before .before .before .before .before .before .before .before .before .pre .0, c .before .before .before .before .before .before .before .before .before .pre .1)
 
--- src/lib.rt:1213:15
+-- src/lib.rt:1189:15
 nu-cd-requires : (t : ℕ) → nu-lts.Need-cd-requires (
   word-reads.Asked,
   word-reads.Learnt,
@@ -14109,7 +14676,7 @@ nu-cd-requires : (t : ℕ) → nu-lts.Need-cd-requires (
 ) (nu-at t) nu.Post
 nu-cd-requires t c κs = omega (arith, c .before .before .before .before .before .before .before .before .before .pre .0, c .before .before .before .before .before .before .before .before .before .pre .1)
 
--- src/lib.rt:1214:15
+-- src/lib.rt:1190:15
 nu-exp-requires : (t : ℕ) → nu-lts.Need-exp-requires (
   word-reads.Asked,
   word-reads.Learnt,
@@ -14152,7 +14719,7 @@ nu-exp-requires : (t : ℕ) → nu-lts.Need-exp-requires (
 ) (nu-at t) nu.Post
 nu-exp-requires t c κs = omega (arith, c .before .before .before .before .before .before .before .before .before .pre .0, c .before .before .before .before .before .before .before .before .before .pre .1)
 
--- src/lib.rt:1215:15
+-- src/lib.rt:1191:15
 nu-ic-requires : (t : ℕ) → nu-lts.Need-ic-requires (
   word-reads.Asked,
   word-reads.Learnt,
@@ -14195,7 +14762,7 @@ nu-ic-requires : (t : ℕ) → nu-lts.Need-ic-requires (
 ) (nu-at t) nu.Post
 nu-ic-requires t c κs = omega (arith, c .before .before .before .before .before .before .before .before .before .pre .0, c .before .before .before .before .before .before .before .before .before .pre .1)
 
--- src/lib.rt:1217:14
+-- src/lib.rt:1193:14
 nu-stop-requires : (t : ℕ) → nu-lts.Need-stop-requires (
   word-reads.Asked,
   word-reads.Learnt,
@@ -14238,7 +14805,7 @@ nu-stop-requires : (t : ℕ) → nu-lts.Need-stop-requires (
 ) (nu-at t) nu.Post
 nu-stop-requires t c κs = search needs
 
--- src/lib.rt:1169:1
+-- src/lib.rt:1146:1
 nu-same-length : (t : ℕ) → nu-lts.Need-same-length (
   word-reads.Asked,
   word-reads.Learnt,
@@ -14281,7 +14848,7 @@ nu-same-length : (t : ℕ) → nu-lts.Need-same-length (
 ) (nu-at t) nu.Post
 nu-same-length t c = c .before .before .word .kept .1 .0
 
--- src/lib.rt:1169:1
+-- src/lib.rt:1146:1
 nu-returns : (t : ℕ) → nu-lts.Need-returns (
   word-reads.Asked,
   word-reads.Learnt,
@@ -14322,10 +14889,10 @@ nu-returns : (t : ℕ) → nu-lts.Need-returns (
   stop-reads.Asked,
   stop-reads.Learnt,
 ) (nu-at t) nu.Post
-unfolding DecOne.decs DecOne.HoleDec DecOne.InfixDec DecOne.InfixrDec DecOne.DoDec DecOne.ExpDec DecOne.EsImportDec
-nu-returns t c = record { is = at-key (λ i. getD (DecOne.decs (walks (c .before .before .before .before .before .before .before .before .before .before .before .args .cfg .left)) (cfgOf (c .before .before .before .before .before .before .before .before .before .before .before .args .cfg)) (c .before .before .before .before .before .before .before .before .before .before .before .args .place)) i Layout.halt) (c .before .before .before .before .match .keys1) (last-sure (c .before .before .word .ensures)) }
+unfolding DecOne.decs DecOne.dec-one
+nu-returns t c = record { is = at-key (λ i. getD (DecOne.decs (walks (c .before .before .before .before .before .before .before .before .before .before .before .args .cfg .left)) (cfgOf (c .before .before .before .before .before .before .before .before .before .before .before .args .cfg))) i Layout.halt) (c .before .before .before .before .match .keys1) (last-sure (c .before .before .word .ensures)) }
 
--- src/lib.rt:1169:1
+-- src/lib.rt:1146:1
 nu-same-length-2 : (t : ℕ) → nu-lts.Need-same-length-2 (
   word-reads.Asked,
   word-reads.Learnt,
@@ -14368,7 +14935,7 @@ nu-same-length-2 : (t : ℕ) → nu-lts.Need-same-length-2 (
 ) (nu-at t) nu.Post
 nu-same-length-2 t c = c .before .before .vd .kept .1 .1 .1 .1 .1 .0
 
--- src/lib.rt:1169:1
+-- src/lib.rt:1146:1
 nu-returns-2 : (t : ℕ) → nu-lts.Need-returns-2 (
   word-reads.Asked,
   word-reads.Learnt,
@@ -14409,10 +14976,10 @@ nu-returns-2 : (t : ℕ) → nu-lts.Need-returns-2 (
   stop-reads.Asked,
   stop-reads.Learnt,
 ) (nu-at t) nu.Post
-unfolding DecOne.decs DecOne.HoleDec DecOne.InfixDec DecOne.InfixrDec DecOne.DoDec DecOne.ExpDec DecOne.EsImportDec
-nu-returns-2 t c = record { is = at-key (λ i. getD (DecOne.decs (walks (c .before .before .before .before .before .before .before .before .before .before .before .before .args .cfg .left)) (cfgOf (c .before .before .before .before .before .before .before .before .before .before .before .before .args .cfg)) (c .before .before .before .before .before .before .before .before .before .before .before .before .args .place)) i Layout.halt) (c .before .before .before .before .before .match .keys2) (c .before .before .vd .ensures .is) }
+unfolding DecOne.decs DecOne.dec-one
+nu-returns-2 t c = record { is = at-key (λ i. getD (DecOne.decs (walks (c .before .before .before .before .before .before .before .before .before .before .before .before .args .cfg .left)) (cfgOf (c .before .before .before .before .before .before .before .before .before .before .before .before .args .cfg))) i Layout.halt) (c .before .before .before .before .before .match .keys2) (c .before .before .vd .ensures .is) }
 
--- src/lib.rt:1169:1
+-- src/lib.rt:1146:1
 nu-same-length-3 : (t : ℕ) → nu-lts.Need-same-length-3 (
   word-reads.Asked,
   word-reads.Learnt,
@@ -14455,7 +15022,7 @@ nu-same-length-3 : (t : ℕ) → nu-lts.Need-same-length-3 (
 ) (nu-at t) nu.Post
 nu-same-length-3 t c = c .before .before .fd .kept .1 .1 .1 .1 .1 .0
 
--- src/lib.rt:1169:1
+-- src/lib.rt:1146:1
 nu-returns-3 : (t : ℕ) → nu-lts.Need-returns-3 (
   word-reads.Asked,
   word-reads.Learnt,
@@ -14496,10 +15063,10 @@ nu-returns-3 : (t : ℕ) → nu-lts.Need-returns-3 (
   stop-reads.Asked,
   stop-reads.Learnt,
 ) (nu-at t) nu.Post
-unfolding DecOne.decs DecOne.HoleDec DecOne.InfixDec DecOne.InfixrDec DecOne.DoDec DecOne.ExpDec DecOne.EsImportDec
-nu-returns-3 t c = record { is = at-key (λ i. getD (DecOne.decs (walks (c .before .before .before .before .before .before .before .before .before .before .before .before .args .cfg .left)) (cfgOf (c .before .before .before .before .before .before .before .before .before .before .before .before .args .cfg)) (c .before .before .before .before .before .before .before .before .before .before .before .before .args .place)) i Layout.halt) (c .before .before .before .before .before .match .keys3) (c .before .before .fd .ensures .is) }
+unfolding DecOne.decs DecOne.dec-one
+nu-returns-3 t c = record { is = at-key (λ i. getD (DecOne.decs (walks (c .before .before .before .before .before .before .before .before .before .before .before .before .args .cfg .left)) (cfgOf (c .before .before .before .before .before .before .before .before .before .before .before .before .args .cfg))) i Layout.halt) (c .before .before .before .before .before .match .keys3) (c .before .before .fd .ensures .is) }
 
--- src/lib.rt:1169:1
+-- src/lib.rt:1146:1
 nu-same-length-4 : (t : ℕ) → nu-lts.Need-same-length-4 (
   word-reads.Asked,
   word-reads.Learnt,
@@ -14542,7 +15109,7 @@ nu-same-length-4 : (t : ℕ) → nu-lts.Need-same-length-4 (
 ) (nu-at t) nu.Post
 nu-same-length-4 t c = c .before .before .ty-dec .kept .1 .1 .1 .1 .0
 
--- src/lib.rt:1169:1
+-- src/lib.rt:1146:1
 nu-returns-4 : (t : ℕ) → nu-lts.Need-returns-4 (
   word-reads.Asked,
   word-reads.Learnt,
@@ -14583,10 +15150,10 @@ nu-returns-4 : (t : ℕ) → nu-lts.Need-returns-4 (
   stop-reads.Asked,
   stop-reads.Learnt,
 ) (nu-at t) nu.Post
-unfolding DecOne.decs DecOne.HoleDec DecOne.InfixDec DecOne.InfixrDec DecOne.DoDec DecOne.ExpDec DecOne.EsImportDec
-nu-returns-4 t c = record { is = at-key (λ i. getD (DecOne.decs (walks (c .before .before .before .before .before .before .before .before .before .before .before .args .cfg .left)) (cfgOf (c .before .before .before .before .before .before .before .before .before .before .before .args .cfg)) (c .before .before .before .before .before .before .before .before .before .before .before .args .place)) i Layout.halt) (c .before .before .before .before .match .keys4) (plain (c .before .before .ty-dec .ensures)) }
+unfolding DecOne.decs DecOne.dec-one
+nu-returns-4 t c = record { is = at-key (λ i. getD (DecOne.decs (walks (c .before .before .before .before .before .before .before .before .before .before .before .args .cfg .left)) (cfgOf (c .before .before .before .before .before .before .before .before .before .before .before .args .cfg))) i Layout.halt) (c .before .before .before .before .match .keys4) (plain (c .before .before .ty-dec .ensures)) }
 
--- src/lib.rt:1169:1
+-- src/lib.rt:1146:1
 nu-same-length-5 : (t : ℕ) → nu-lts.Need-same-length-5 (
   word-reads.Asked,
   word-reads.Learnt,
@@ -14629,7 +15196,7 @@ nu-same-length-5 : (t : ℕ) → nu-lts.Need-same-length-5 (
 ) (nu-at t) nu.Post
 nu-same-length-5 t c = c .before .before .dat-dec .kept .1 .1 .1 .1 .0
 
--- src/lib.rt:1169:1
+-- src/lib.rt:1146:1
 nu-returns-5 : (t : ℕ) → nu-lts.Need-returns-5 (
   word-reads.Asked,
   word-reads.Learnt,
@@ -14670,10 +15237,10 @@ nu-returns-5 : (t : ℕ) → nu-lts.Need-returns-5 (
   stop-reads.Asked,
   stop-reads.Learnt,
 ) (nu-at t) nu.Post
-unfolding DecOne.decs DecOne.HoleDec DecOne.InfixDec DecOne.InfixrDec DecOne.DoDec DecOne.ExpDec DecOne.EsImportDec
-nu-returns-5 t c = record { is = at-key (λ i. getD (DecOne.decs (walks (c .before .before .before .before .before .before .before .before .before .before .before .args .cfg .left)) (cfgOf (c .before .before .before .before .before .before .before .before .before .before .before .args .cfg)) (c .before .before .before .before .before .before .before .before .before .before .before .args .place)) i Layout.halt) (c .before .before .before .before .match .keys5) (plain (c .before .before .dat-dec .ensures)) }
+unfolding DecOne.decs DecOne.dec-one
+nu-returns-5 t c = record { is = at-key (λ i. getD (DecOne.decs (walks (c .before .before .before .before .before .before .before .before .before .before .before .args .cfg .left)) (cfgOf (c .before .before .before .before .before .before .before .before .before .before .before .args .cfg))) i Layout.halt) (c .before .before .before .before .match .keys5) (plain (c .before .before .dat-dec .ensures)) }
 
--- src/lib.rt:1169:1
+-- src/lib.rt:1146:1
 nu-same-length-6 : (t : ℕ) → nu-lts.Need-same-length-6 (
   word-reads.Asked,
   word-reads.Learnt,
@@ -14716,7 +15283,7 @@ nu-same-length-6 : (t : ℕ) → nu-lts.Need-same-length-6 (
 ) (nu-at t) nu.Post
 nu-same-length-6 t c = c .before .before .dat-copy-dec .kept .1 .1 .1 .1 .0
 
--- src/lib.rt:1169:1
+-- src/lib.rt:1146:1
 nu-returns-6 : (t : ℕ) → nu-lts.Need-returns-6 (
   word-reads.Asked,
   word-reads.Learnt,
@@ -14757,10 +15324,10 @@ nu-returns-6 : (t : ℕ) → nu-lts.Need-returns-6 (
   stop-reads.Asked,
   stop-reads.Learnt,
 ) (nu-at t) nu.Post
-unfolding DecOne.decs DecOne.HoleDec DecOne.InfixDec DecOne.InfixrDec DecOne.DoDec DecOne.ExpDec DecOne.EsImportDec
-nu-returns-6 t c = record { is = at-key (λ i. getD (DecOne.decs (walks (c .before .before .before .before .before .before .before .before .before .before .before .args .cfg .left)) (cfgOf (c .before .before .before .before .before .before .before .before .before .before .before .args .cfg)) (c .before .before .before .before .before .before .before .before .before .before .before .args .place)) i Layout.halt) (c .before .before .before .before .match .keys6) (plain (c .before .before .dat-copy-dec .ensures)) }
+unfolding DecOne.decs DecOne.dec-one
+nu-returns-6 t c = record { is = at-key (λ i. getD (DecOne.decs (walks (c .before .before .before .before .before .before .before .before .before .before .before .args .cfg .left)) (cfgOf (c .before .before .before .before .before .before .before .before .before .before .before .args .cfg))) i Layout.halt) (c .before .before .before .before .match .keys6) (plain (c .before .before .dat-copy-dec .ensures)) }
 
--- src/lib.rt:1169:1
+-- src/lib.rt:1146:1
 nu-same-length-7 : (t : ℕ) → nu-lts.Need-same-length-7 (
   word-reads.Asked,
   word-reads.Learnt,
@@ -14803,7 +15370,7 @@ nu-same-length-7 : (t : ℕ) → nu-lts.Need-same-length-7 (
 ) (nu-at t) nu.Post
 nu-same-length-7 t c = c .before .before .ab .kept .1 .1 .1 .1 .1 .0
 
--- src/lib.rt:1169:1
+-- src/lib.rt:1146:1
 nu-returns-7 : (t : ℕ) → nu-lts.Need-returns-7 (
   word-reads.Asked,
   word-reads.Learnt,
@@ -14844,10 +15411,10 @@ nu-returns-7 : (t : ℕ) → nu-lts.Need-returns-7 (
   stop-reads.Asked,
   stop-reads.Learnt,
 ) (nu-at t) nu.Post
-unfolding DecOne.decs DecOne.HoleDec DecOne.InfixDec DecOne.InfixrDec DecOne.DoDec DecOne.ExpDec DecOne.EsImportDec
-nu-returns-7 t c = record { is = at-key (λ i. getD (DecOne.decs (walks (c .before .before .before .before .before .before .before .before .before .before .before .before .args .cfg .left)) (cfgOf (c .before .before .before .before .before .before .before .before .before .before .before .before .args .cfg)) (c .before .before .before .before .before .before .before .before .before .before .before .before .args .place)) i Layout.halt) (c .before .before .before .before .before .match .keys7) (c .before .before .ab .ensures .is) }
+unfolding DecOne.decs DecOne.dec-one
+nu-returns-7 t c = record { is = at-key (λ i. getD (DecOne.decs (walks (c .before .before .before .before .before .before .before .before .before .before .before .before .args .cfg .left)) (cfgOf (c .before .before .before .before .before .before .before .before .before .before .before .before .args .cfg))) i Layout.halt) (c .before .before .before .before .before .match .keys7) (c .before .before .ab .ensures .is) }
 
--- src/lib.rt:1169:1
+-- src/lib.rt:1146:1
 nu-same-length-8 : (t : ℕ) → nu-lts.Need-same-length-8 (
   word-reads.Asked,
   word-reads.Learnt,
@@ -14890,7 +15457,7 @@ nu-same-length-8 : (t : ℕ) → nu-lts.Need-same-length-8 (
 ) (nu-at t) nu.Post
 nu-same-length-8 t c = c .before .before .xd .kept .1 .1 .1 .1 .1 .0
 
--- src/lib.rt:1169:1
+-- src/lib.rt:1146:1
 nu-returns-8 : (t : ℕ) → nu-lts.Need-returns-8 (
   word-reads.Asked,
   word-reads.Learnt,
@@ -14931,10 +15498,10 @@ nu-returns-8 : (t : ℕ) → nu-lts.Need-returns-8 (
   stop-reads.Asked,
   stop-reads.Learnt,
 ) (nu-at t) nu.Post
-unfolding DecOne.decs DecOne.HoleDec DecOne.InfixDec DecOne.InfixrDec DecOne.DoDec DecOne.ExpDec DecOne.EsImportDec
-nu-returns-8 t c = record { is = at-key (λ i. getD (DecOne.decs (walks (c .before .before .before .before .before .before .before .before .before .before .before .before .args .cfg .left)) (cfgOf (c .before .before .before .before .before .before .before .before .before .before .before .before .args .cfg)) (c .before .before .before .before .before .before .before .before .before .before .before .before .args .place)) i Layout.halt) (c .before .before .before .before .before .match .keys8) (c .before .before .xd .ensures .is) }
+unfolding DecOne.decs DecOne.dec-one
+nu-returns-8 t c = record { is = at-key (λ i. getD (DecOne.decs (walks (c .before .before .before .before .before .before .before .before .before .before .before .before .args .cfg .left)) (cfgOf (c .before .before .before .before .before .before .before .before .before .before .before .before .args .cfg))) i Layout.halt) (c .before .before .before .before .before .match .keys8) (c .before .before .xd .ensures .is) }
 
--- src/lib.rt:1169:1
+-- src/lib.rt:1146:1
 nu-same-length-9 : (t : ℕ) → nu-lts.Need-same-length-9 (
   word-reads.Asked,
   word-reads.Learnt,
@@ -14977,7 +15544,7 @@ nu-same-length-9 : (t : ℕ) → nu-lts.Need-same-length-9 (
 ) (nu-at t) nu.Post
 nu-same-length-9 t c = c .before .before .open-dec .kept .1 .1 .1 .1 .0
 
--- src/lib.rt:1169:1
+-- src/lib.rt:1146:1
 nu-returns-9 : (t : ℕ) → nu-lts.Need-returns-9 (
   word-reads.Asked,
   word-reads.Learnt,
@@ -15018,10 +15585,10 @@ nu-returns-9 : (t : ℕ) → nu-lts.Need-returns-9 (
   stop-reads.Asked,
   stop-reads.Learnt,
 ) (nu-at t) nu.Post
-unfolding DecOne.decs DecOne.HoleDec DecOne.InfixDec DecOne.InfixrDec DecOne.DoDec DecOne.ExpDec DecOne.EsImportDec
-nu-returns-9 t c = record { is = at-key (λ i. getD (DecOne.decs (walks (c .before .before .before .before .before .before .before .before .before .before .before .args .cfg .left)) (cfgOf (c .before .before .before .before .before .before .before .before .before .before .before .args .cfg)) (c .before .before .before .before .before .before .before .before .before .before .before .args .place)) i Layout.halt) (c .before .before .before .before .match .keys9) (plain (c .before .before .open-dec .ensures)) }
+unfolding DecOne.decs DecOne.dec-one
+nu-returns-9 t c = record { is = at-key (λ i. getD (DecOne.decs (walks (c .before .before .before .before .before .before .before .before .before .before .before .args .cfg .left)) (cfgOf (c .before .before .before .before .before .before .before .before .before .before .before .args .cfg))) i Layout.halt) (c .before .before .before .before .match .keys9) (plain (c .before .before .open-dec .ensures)) }
 
--- src/lib.rt:1169:1
+-- src/lib.rt:1146:1
 nu-same-length-10 : (t : ℕ) → nu-lts.Need-same-length-10 (
   word-reads.Asked,
   word-reads.Learnt,
@@ -15064,7 +15631,7 @@ nu-same-length-10 : (t : ℕ) → nu-lts.Need-same-length-10 (
 ) (nu-at t) nu.Post
 nu-same-length-10 t c = c .before .before .infix-dec .kept .1 .1 .1 .1 .0
 
--- src/lib.rt:1169:1
+-- src/lib.rt:1146:1
 nu-returns-10 : (t : ℕ) → nu-lts.Need-returns-10 (
   word-reads.Asked,
   word-reads.Learnt,
@@ -15105,10 +15672,10 @@ nu-returns-10 : (t : ℕ) → nu-lts.Need-returns-10 (
   stop-reads.Asked,
   stop-reads.Learnt,
 ) (nu-at t) nu.Post
-unfolding DecOne.decs DecOne.HoleDec DecOne.InfixDec DecOne.InfixrDec DecOne.DoDec DecOne.ExpDec DecOne.EsImportDec
-nu-returns-10 t c = record { is = at-key (λ i. getD (DecOne.decs (walks (c .before .before .before .before .before .before .before .before .before .before .before .args .cfg .left)) (cfgOf (c .before .before .before .before .before .before .before .before .before .before .before .args .cfg)) (c .before .before .before .before .before .before .before .before .before .before .before .args .place)) i Layout.halt) (c .before .before .before .before .match .keys10) (plain (c .before .before .infix-dec .ensures)) }
+unfolding DecOne.decs DecOne.dec-one
+nu-returns-10 t c = record { is = at-key (λ i. getD (DecOne.decs (walks (c .before .before .before .before .before .before .before .before .before .before .before .args .cfg .left)) (cfgOf (c .before .before .before .before .before .before .before .before .before .before .before .args .cfg))) i Layout.halt) (c .before .before .before .before .match .keys10) (plain (c .before .before .infix-dec .ensures)) }
 
--- src/lib.rt:1169:1
+-- src/lib.rt:1146:1
 nu-same-length-11 : (t : ℕ) → nu-lts.Need-same-length-11 (
   word-reads.Asked,
   word-reads.Learnt,
@@ -15151,7 +15718,7 @@ nu-same-length-11 : (t : ℕ) → nu-lts.Need-same-length-11 (
 ) (nu-at t) nu.Post
 nu-same-length-11 t c = c .before .before .infix-dec2 .kept .1 .1 .1 .1 .0
 
--- src/lib.rt:1169:1
+-- src/lib.rt:1146:1
 nu-returns-11 : (t : ℕ) → nu-lts.Need-returns-11 (
   word-reads.Asked,
   word-reads.Learnt,
@@ -15192,10 +15759,10 @@ nu-returns-11 : (t : ℕ) → nu-lts.Need-returns-11 (
   stop-reads.Asked,
   stop-reads.Learnt,
 ) (nu-at t) nu.Post
-unfolding DecOne.decs DecOne.HoleDec DecOne.InfixDec DecOne.InfixrDec DecOne.DoDec DecOne.ExpDec DecOne.EsImportDec
-nu-returns-11 t c = record { is = at-key (λ i. getD (DecOne.decs (walks (c .before .before .before .before .before .before .before .before .before .before .before .args .cfg .left)) (cfgOf (c .before .before .before .before .before .before .before .before .before .before .before .args .cfg)) (c .before .before .before .before .before .before .before .before .before .before .before .args .place)) i Layout.halt) (c .before .before .before .before .match .keys11) (plain (c .before .before .infix-dec2 .ensures)) }
+unfolding DecOne.decs DecOne.dec-one
+nu-returns-11 t c = record { is = at-key (λ i. getD (DecOne.decs (walks (c .before .before .before .before .before .before .before .before .before .before .before .args .cfg .left)) (cfgOf (c .before .before .before .before .before .before .before .before .before .before .before .args .cfg))) i Layout.halt) (c .before .before .before .before .match .keys11) (plain (c .before .before .infix-dec2 .ensures)) }
 
--- src/lib.rt:1169:1
+-- src/lib.rt:1146:1
 nu-same-length-12 : (t : ℕ) → nu-lts.Need-same-length-12 (
   word-reads.Asked,
   word-reads.Learnt,
@@ -15238,7 +15805,7 @@ nu-same-length-12 : (t : ℕ) → nu-lts.Need-same-length-12 (
 ) (nu-at t) nu.Post
 nu-same-length-12 t c = c .before .before .nonfix-dec .kept .1 .1 .1 .1 .0
 
--- src/lib.rt:1169:1
+-- src/lib.rt:1146:1
 nu-returns-12 : (t : ℕ) → nu-lts.Need-returns-12 (
   word-reads.Asked,
   word-reads.Learnt,
@@ -15279,10 +15846,10 @@ nu-returns-12 : (t : ℕ) → nu-lts.Need-returns-12 (
   stop-reads.Asked,
   stop-reads.Learnt,
 ) (nu-at t) nu.Post
-unfolding DecOne.decs DecOne.HoleDec DecOne.InfixDec DecOne.InfixrDec DecOne.DoDec DecOne.ExpDec DecOne.EsImportDec
-nu-returns-12 t c = record { is = at-key (λ i. getD (DecOne.decs (walks (c .before .before .before .before .before .before .before .before .before .before .before .args .cfg .left)) (cfgOf (c .before .before .before .before .before .before .before .before .before .before .before .args .cfg)) (c .before .before .before .before .before .before .before .before .before .before .before .args .place)) i Layout.halt) (c .before .before .before .before .match .keys12) (plain (c .before .before .nonfix-dec .ensures)) }
+unfolding DecOne.decs DecOne.dec-one
+nu-returns-12 t c = record { is = at-key (λ i. getD (DecOne.decs (walks (c .before .before .before .before .before .before .before .before .before .before .before .args .cfg .left)) (cfgOf (c .before .before .before .before .before .before .before .before .before .before .before .args .cfg))) i Layout.halt) (c .before .before .before .before .match .keys12) (plain (c .before .before .nonfix-dec .ensures)) }
 
--- src/lib.rt:1169:1
+-- src/lib.rt:1146:1
 nu-same-length-13 : (t : ℕ) → nu-lts.Need-same-length-13 (
   word-reads.Asked,
   word-reads.Learnt,
@@ -15325,7 +15892,7 @@ nu-same-length-13 : (t : ℕ) → nu-lts.Need-same-length-13 (
 ) (nu-at t) nu.Post
 nu-same-length-13 t c = c .before .before .pr .kept .1 .1 .1 .1 .1 .0
 
--- src/lib.rt:1169:1
+-- src/lib.rt:1146:1
 nu-returns-13 : (t : ℕ) → nu-lts.Need-returns-13 (
   word-reads.Asked,
   word-reads.Learnt,
@@ -15366,10 +15933,10 @@ nu-returns-13 : (t : ℕ) → nu-lts.Need-returns-13 (
   stop-reads.Asked,
   stop-reads.Learnt,
 ) (nu-at t) nu.Post
-unfolding DecOne.decs DecOne.HoleDec DecOne.InfixDec DecOne.InfixrDec DecOne.DoDec DecOne.ExpDec DecOne.EsImportDec
-nu-returns-13 t c = record { is = at-key (λ i. getD (DecOne.decs (walks (c .before .before .before .before .before .before .before .before .before .before .before .before .args .cfg .left)) (cfgOf (c .before .before .before .before .before .before .before .before .before .before .before .before .args .cfg)) (c .before .before .before .before .before .before .before .before .before .before .before .before .args .place)) i Layout.halt) (c .before .before .before .before .before .match .keys13) (c .before .before .pr .ensures .is) }
+unfolding DecOne.decs DecOne.dec-one
+nu-returns-13 t c = record { is = at-key (λ i. getD (DecOne.decs (walks (c .before .before .before .before .before .before .before .before .before .before .before .before .args .cfg .left)) (cfgOf (c .before .before .before .before .before .before .before .before .before .before .before .before .args .cfg))) i Layout.halt) (c .before .before .before .before .before .match .keys13) (c .before .before .pr .ensures .is) }
 
--- src/lib.rt:1169:1
+-- src/lib.rt:1146:1
 nu-same-length-14 : (t : ℕ) → nu-lts.Need-same-length-14 (
   word-reads.Asked,
   word-reads.Learnt,
@@ -15412,7 +15979,7 @@ nu-same-length-14 : (t : ℕ) → nu-lts.Need-same-length-14 (
 ) (nu-at t) nu.Post
 nu-same-length-14 t c = c .before .before .lo .kept .1 .1 .1 .1 .1 .0
 
--- src/lib.rt:1169:1
+-- src/lib.rt:1146:1
 nu-returns-14 : (t : ℕ) → nu-lts.Need-returns-14 (
   word-reads.Asked,
   word-reads.Learnt,
@@ -15453,10 +16020,10 @@ nu-returns-14 : (t : ℕ) → nu-lts.Need-returns-14 (
   stop-reads.Asked,
   stop-reads.Learnt,
 ) (nu-at t) nu.Post
-unfolding DecOne.decs DecOne.HoleDec DecOne.InfixDec DecOne.InfixrDec DecOne.DoDec DecOne.ExpDec DecOne.EsImportDec
-nu-returns-14 t c = record { is = at-key (λ i. getD (DecOne.decs (walks (c .before .before .before .before .before .before .before .before .before .before .before .before .args .cfg .left)) (cfgOf (c .before .before .before .before .before .before .before .before .before .before .before .before .args .cfg)) (c .before .before .before .before .before .before .before .before .before .before .before .before .args .place)) i Layout.halt) (c .before .before .before .before .before .match .keys14) (c .before .before .lo .ensures .is) }
+unfolding DecOne.decs DecOne.dec-one
+nu-returns-14 t c = record { is = at-key (λ i. getD (DecOne.decs (walks (c .before .before .before .before .before .before .before .before .before .before .before .before .args .cfg .left)) (cfgOf (c .before .before .before .before .before .before .before .before .before .before .before .before .args .cfg))) i Layout.halt) (c .before .before .before .before .before .match .keys14) (c .before .before .lo .ensures .is) }
 
--- src/lib.rt:1169:1
+-- src/lib.rt:1146:1
 nu-same-length-15 : (t : ℕ) → nu-lts.Need-same-length-15 (
   word-reads.Asked,
   word-reads.Learnt,
@@ -15499,7 +16066,7 @@ nu-same-length-15 : (t : ℕ) → nu-lts.Need-same-length-15 (
 ) (nu-at t) nu.Post
 nu-same-length-15 t c = c .before .before .sd .kept .1 .1 .1 .1 .1 .0
 
--- src/lib.rt:1169:1
+-- src/lib.rt:1146:1
 nu-returns-15 : (t : ℕ) → nu-lts.Need-returns-15 (
   word-reads.Asked,
   word-reads.Learnt,
@@ -15540,10 +16107,10 @@ nu-returns-15 : (t : ℕ) → nu-lts.Need-returns-15 (
   stop-reads.Asked,
   stop-reads.Learnt,
 ) (nu-at t) nu.Post
-unfolding DecOne.decs DecOne.HoleDec DecOne.InfixDec DecOne.InfixrDec DecOne.DoDec DecOne.ExpDec DecOne.EsImportDec
-nu-returns-15 t c = record { is = at-key (λ i. getD (DecOne.decs (walks (c .before .before .before .before .before .before .before .before .before .before .before .before .args .cfg .left)) (cfgOf (c .before .before .before .before .before .before .before .before .before .before .before .before .args .cfg)) (c .before .before .before .before .before .before .before .before .before .before .before .before .args .place)) i Layout.halt) (c .before .before .before .before .before .match .keys15) (c .before .before .sd .ensures .is) }
+unfolding DecOne.decs DecOne.dec-one
+nu-returns-15 t c = record { is = at-key (λ i. getD (DecOne.decs (walks (c .before .before .before .before .before .before .before .before .before .before .before .before .args .cfg .left)) (cfgOf (c .before .before .before .before .before .before .before .before .before .before .before .before .args .cfg))) i Layout.halt) (c .before .before .before .before .before .match .keys15) (c .before .before .sd .ensures .is) }
 
--- src/lib.rt:1169:1
+-- src/lib.rt:1146:1
 nu-same-length-16 : (t : ℕ) → nu-lts.Need-same-length-16 (
   word-reads.Asked,
   word-reads.Learnt,
@@ -15586,7 +16153,7 @@ nu-same-length-16 : (t : ℕ) → nu-lts.Need-same-length-16 (
 ) (nu-at t) nu.Post
 nu-same-length-16 t c = c .before .before .gd .kept .1 .1 .1 .1 .1 .0
 
--- src/lib.rt:1169:1
+-- src/lib.rt:1146:1
 nu-returns-16 : (t : ℕ) → nu-lts.Need-returns-16 (
   word-reads.Asked,
   word-reads.Learnt,
@@ -15627,10 +16194,10 @@ nu-returns-16 : (t : ℕ) → nu-lts.Need-returns-16 (
   stop-reads.Asked,
   stop-reads.Learnt,
 ) (nu-at t) nu.Post
-unfolding DecOne.decs DecOne.HoleDec DecOne.InfixDec DecOne.InfixrDec DecOne.DoDec DecOne.ExpDec DecOne.EsImportDec
-nu-returns-16 t c = record { is = at-key (λ i. getD (DecOne.decs (walks (c .before .before .before .before .before .before .before .before .before .before .before .before .args .cfg .left)) (cfgOf (c .before .before .before .before .before .before .before .before .before .before .before .before .args .cfg)) (c .before .before .before .before .before .before .before .before .before .before .before .before .args .place)) i Layout.halt) (c .before .before .before .before .before .match .keys16) (c .before .before .gd .ensures .is) }
+unfolding DecOne.decs DecOne.dec-one
+nu-returns-16 t c = record { is = at-key (λ i. getD (DecOne.decs (walks (c .before .before .before .before .before .before .before .before .before .before .before .before .args .cfg .left)) (cfgOf (c .before .before .before .before .before .before .before .before .before .before .before .before .args .cfg))) i Layout.halt) (c .before .before .before .before .before .match .keys16) (c .before .before .gd .ensures .is) }
 
--- src/lib.rt:1169:1
+-- src/lib.rt:1146:1
 nu-same-length-17 : (t : ℕ) → nu-lts.Need-same-length-17 (
   word-reads.Asked,
   word-reads.Learnt,
@@ -15673,7 +16240,7 @@ nu-same-length-17 : (t : ℕ) → nu-lts.Need-same-length-17 (
 ) (nu-at t) nu.Post
 nu-same-length-17 t c = c .before .before .cd .kept .1 .1 .1 .1 .1 .0
 
--- src/lib.rt:1169:1
+-- src/lib.rt:1146:1
 nu-returns-17 : (t : ℕ) → nu-lts.Need-returns-17 (
   word-reads.Asked,
   word-reads.Learnt,
@@ -15714,10 +16281,10 @@ nu-returns-17 : (t : ℕ) → nu-lts.Need-returns-17 (
   stop-reads.Asked,
   stop-reads.Learnt,
 ) (nu-at t) nu.Post
-unfolding DecOne.decs DecOne.HoleDec DecOne.InfixDec DecOne.InfixrDec DecOne.DoDec DecOne.ExpDec DecOne.EsImportDec
-nu-returns-17 t c = record { is = at-key (λ i. getD (DecOne.decs (walks (c .before .before .before .before .before .before .before .before .before .before .before .before .args .cfg .left)) (cfgOf (c .before .before .before .before .before .before .before .before .before .before .before .before .args .cfg)) (c .before .before .before .before .before .before .before .before .before .before .before .before .args .place)) i Layout.halt) (c .before .before .before .before .before .match .keys17) (c .before .before .cd .ensures .is) }
+unfolding DecOne.decs DecOne.dec-one
+nu-returns-17 t c = record { is = at-key (λ i. getD (DecOne.decs (walks (c .before .before .before .before .before .before .before .before .before .before .before .before .args .cfg .left)) (cfgOf (c .before .before .before .before .before .before .before .before .before .before .before .before .args .cfg))) i Layout.halt) (c .before .before .before .before .before .match .keys17) (c .before .before .cd .ensures .is) }
 
--- src/lib.rt:1169:1
+-- src/lib.rt:1146:1
 nu-same-length-18 : (t : ℕ) → nu-lts.Need-same-length-18 (
   word-reads.Asked,
   word-reads.Learnt,
@@ -15760,7 +16327,7 @@ nu-same-length-18 : (t : ℕ) → nu-lts.Need-same-length-18 (
 ) (nu-at t) nu.Post
 nu-same-length-18 t c = c .before .before .exp .kept .1 .1 .1 .1 .1 .0
 
--- src/lib.rt:1169:1
+-- src/lib.rt:1146:1
 nu-returns-18 : (t : ℕ) → nu-lts.Need-returns-18 (
   word-reads.Asked,
   word-reads.Learnt,
@@ -15801,10 +16368,10 @@ nu-returns-18 : (t : ℕ) → nu-lts.Need-returns-18 (
   stop-reads.Asked,
   stop-reads.Learnt,
 ) (nu-at t) nu.Post
-unfolding DecOne.decs DecOne.HoleDec DecOne.InfixDec DecOne.InfixrDec DecOne.DoDec DecOne.ExpDec DecOne.EsImportDec
-nu-returns-18 t c = record { is = at-key (λ i. getD (DecOne.decs (walks (c .before .before .before .before .before .before .before .before .before .before .before .before .args .cfg .left)) (cfgOf (c .before .before .before .before .before .before .before .before .before .before .before .before .args .cfg)) (c .before .before .before .before .before .before .before .before .before .before .before .before .args .place)) i Layout.halt) (c .before .before .before .before .before .match .keys18) (c .before .before .exp .ensures .is) }
+unfolding DecOne.decs DecOne.dec-one
+nu-returns-18 t c = record { is = at-key (λ i. getD (DecOne.decs (walks (c .before .before .before .before .before .before .before .before .before .before .before .before .args .cfg .left)) (cfgOf (c .before .before .before .before .before .before .before .before .before .before .before .before .args .cfg))) i Layout.halt) (c .before .before .before .before .before .match .keys18) (c .before .before .exp .ensures .is) }
 
--- src/lib.rt:1169:1
+-- src/lib.rt:1146:1
 nu-same-length-19 : (t : ℕ) → nu-lts.Need-same-length-19 (
   word-reads.Asked,
   word-reads.Learnt,
@@ -15847,7 +16414,7 @@ nu-same-length-19 : (t : ℕ) → nu-lts.Need-same-length-19 (
 ) (nu-at t) nu.Post
 nu-same-length-19 t c = c .before .before .ic .kept .1 .1 .1 .1 .1 .0
 
--- src/lib.rt:1169:1
+-- src/lib.rt:1146:1
 nu-returns-19 : (t : ℕ) → nu-lts.Need-returns-19 (
   word-reads.Asked,
   word-reads.Learnt,
@@ -15888,10 +16455,10 @@ nu-returns-19 : (t : ℕ) → nu-lts.Need-returns-19 (
   stop-reads.Asked,
   stop-reads.Learnt,
 ) (nu-at t) nu.Post
-unfolding DecOne.decs DecOne.HoleDec DecOne.InfixDec DecOne.InfixrDec DecOne.DoDec DecOne.ExpDec DecOne.EsImportDec
-nu-returns-19 t c = record { is = at-key (λ i. getD (DecOne.decs (walks (c .before .before .before .before .before .before .before .before .before .before .before .before .args .cfg .left)) (cfgOf (c .before .before .before .before .before .before .before .before .before .before .before .before .args .cfg)) (c .before .before .before .before .before .before .before .before .before .before .before .before .args .place)) i Layout.halt) (c .before .before .before .before .before .match .keys19) (c .before .before .ic .ensures .is) }
+unfolding DecOne.decs DecOne.dec-one
+nu-returns-19 t c = record { is = at-key (λ i. getD (DecOne.decs (walks (c .before .before .before .before .before .before .before .before .before .before .before .before .args .cfg .left)) (cfgOf (c .before .before .before .before .before .before .before .before .before .before .before .before .args .cfg))) i Layout.halt) (c .before .before .before .before .before .match .keys19) (c .before .before .ic .ensures .is) }
 
--- src/lib.rt:1169:1
+-- src/lib.rt:1146:1
 nu-returns-20 : (t : ℕ) → nu-lts.Need-returns-20 (
   word-reads.Asked,
   word-reads.Learnt,
@@ -15932,10 +16499,10 @@ nu-returns-20 : (t : ℕ) → nu-lts.Need-returns-20 (
   stop-reads.Asked,
   stop-reads.Learnt,
 ) (nu-at t) nu.Post
-unfolding DecOne.decs DecOne.HoleDec DecOne.InfixDec DecOne.InfixrDec DecOne.DoDec DecOne.ExpDec DecOne.EsImportDec
-nu-returns-20 t c = record { is = at-key (λ i. getD (DecOne.decs (walks (c .before .before .before .before .before .before .before .args .cfg .left)) (cfgOf (c .before .before .before .before .before .before .before .args .cfg)) (c .before .before .before .before .before .before .before .args .place)) i Layout.halt) (c .match .keys20) last-import }
+unfolding DecOne.decs DecOne.dec-one
+nu-returns-20 t c = record { is = at-key (λ i. getD (DecOne.decs (walks (c .before .before .before .before .before .before .before .args .cfg .left)) (cfgOf (c .before .before .before .before .before .before .before .args .cfg))) i Layout.halt) (c .match .keys20) last-import }
 
--- src/lib.rt:1169:1
+-- src/lib.rt:1146:1
 nu-returns-21 : (t : ℕ) → nu-lts.Need-returns-21 (
   word-reads.Asked,
   word-reads.Learnt,
@@ -15976,10 +16543,10 @@ nu-returns-21 : (t : ℕ) → nu-lts.Need-returns-21 (
   stop-reads.Asked,
   stop-reads.Learnt,
 ) (nu-at t) nu.Post
-unfolding DecOne.decs DecOne.HoleDec DecOne.InfixDec DecOne.InfixrDec DecOne.DoDec DecOne.ExpDec DecOne.EsImportDec
-nu-returns-21 t c = record { is = beyond (DecOne.decs (walks (c .before .before .before .before .before .before .before .before .args .cfg .left)) (cfgOf (c .before .before .before .before .before .before .before .before .args .cfg)) (c .before .before .before .before .before .before .before .before .args .place)) (c .before .before .before .before .before .before .before .before .args .which) 20 refl (past (past (past (past (past (past (past (past (past (past (past (past (past (past (past (past (past (past (past (past zero-le (c .before .match .rest .0 .0 .0 .0 .0 .0 .0 .0 .0 .0 .0 .0 .0 .0 .0 .0 .0 .0 .0 .1)) (c .before .match .rest .0 .0 .0 .0 .0 .0 .0 .0 .0 .0 .0 .0 .0 .0 .0 .0 .0 .0 .1)) (c .before .match .rest .0 .0 .0 .0 .0 .0 .0 .0 .0 .0 .0 .0 .0 .0 .0 .0 .0 .1)) (c .before .match .rest .0 .0 .0 .0 .0 .0 .0 .0 .0 .0 .0 .0 .0 .0 .0 .0 .1)) (c .before .match .rest .0 .0 .0 .0 .0 .0 .0 .0 .0 .0 .0 .0 .0 .0 .0 .1)) (c .before .match .rest .0 .0 .0 .0 .0 .0 .0 .0 .0 .0 .0 .0 .0 .0 .1)) (c .before .match .rest .0 .0 .0 .0 .0 .0 .0 .0 .0 .0 .0 .0 .0 .1)) (c .before .match .rest .0 .0 .0 .0 .0 .0 .0 .0 .0 .0 .0 .0 .1)) (c .before .match .rest .0 .0 .0 .0 .0 .0 .0 .0 .0 .0 .0 .1)) (c .before .match .rest .0 .0 .0 .0 .0 .0 .0 .0 .0 .0 .1)) (c .before .match .rest .0 .0 .0 .0 .0 .0 .0 .0 .0 .1)) (c .before .match .rest .0 .0 .0 .0 .0 .0 .0 .0 .1)) (c .before .match .rest .0 .0 .0 .0 .0 .0 .0 .1)) (c .before .match .rest .0 .0 .0 .0 .0 .0 .1)) (c .before .match .rest .0 .0 .0 .0 .0 .1)) (c .before .match .rest .0 .0 .0 .0 .1)) (c .before .match .rest .0 .0 .0 .1)) (c .before .match .rest .0 .0 .1)) (c .before .match .rest .0 .1)) (c .before .match .rest .1)) (c .stop .ensures) }
+unfolding DecOne.decs DecOne.dec-one
+nu-returns-21 t c = record { is = beyond (DecOne.decs (walks (c .before .before .before .before .before .before .before .before .args .cfg .left)) (cfgOf (c .before .before .before .before .before .before .before .before .args .cfg))) (c .before .before .before .before .before .before .before .before .args .which) 20 refl (past (past (past (past (past (past (past (past (past (past (past (past (past (past (past (past (past (past (past (past zero-le (c .before .match .rest .0 .0 .0 .0 .0 .0 .0 .0 .0 .0 .0 .0 .0 .0 .0 .0 .0 .0 .0 .1)) (c .before .match .rest .0 .0 .0 .0 .0 .0 .0 .0 .0 .0 .0 .0 .0 .0 .0 .0 .0 .0 .1)) (c .before .match .rest .0 .0 .0 .0 .0 .0 .0 .0 .0 .0 .0 .0 .0 .0 .0 .0 .0 .1)) (c .before .match .rest .0 .0 .0 .0 .0 .0 .0 .0 .0 .0 .0 .0 .0 .0 .0 .0 .1)) (c .before .match .rest .0 .0 .0 .0 .0 .0 .0 .0 .0 .0 .0 .0 .0 .0 .0 .1)) (c .before .match .rest .0 .0 .0 .0 .0 .0 .0 .0 .0 .0 .0 .0 .0 .0 .1)) (c .before .match .rest .0 .0 .0 .0 .0 .0 .0 .0 .0 .0 .0 .0 .0 .1)) (c .before .match .rest .0 .0 .0 .0 .0 .0 .0 .0 .0 .0 .0 .0 .1)) (c .before .match .rest .0 .0 .0 .0 .0 .0 .0 .0 .0 .0 .0 .1)) (c .before .match .rest .0 .0 .0 .0 .0 .0 .0 .0 .0 .0 .1)) (c .before .match .rest .0 .0 .0 .0 .0 .0 .0 .0 .0 .1)) (c .before .match .rest .0 .0 .0 .0 .0 .0 .0 .0 .1)) (c .before .match .rest .0 .0 .0 .0 .0 .0 .0 .1)) (c .before .match .rest .0 .0 .0 .0 .0 .0 .1)) (c .before .match .rest .0 .0 .0 .0 .0 .1)) (c .before .match .rest .0 .0 .0 .0 .1)) (c .before .match .rest .0 .0 .0 .1)) (c .before .match .rest .0 .0 .1)) (c .before .match .rest .0 .1)) (c .before .match .rest .1)) (c .stop .ensures) }
 
--- src/lib.rt:1146:9
+-- src/lib.rt:1123:9
 one-stop-requires : (t : ℕ) → one-lts.Need-stop-requires (
   stop-reads.Asked,
   stop-reads.Learnt,
@@ -15994,7 +16561,7 @@ one-stop-requires : (t : ℕ) → one-lts.Need-stop-requires (
 ) (one-at t) one.Post
 one-stop-requires t c κs = search needs
 
--- src/lib.rt:1146:9
+-- src/lib.rt:1123:9
 one-returns : (t : ℕ) → one-lts.Need-returns (
   stop-reads.Asked,
   stop-reads.Learnt,
@@ -16007,10 +16574,9 @@ one-returns : (t : ℕ) → one-lts.Need-returns (
   nu-below t,
   nu.Post,
 ) (one-at t) one.Post
-unfolding DecOne.one-dec
 one-returns t c = record { is = dec-zero _ _ (c .before .if1 .taken) (c .stop .ensures) }
 
--- src/lib.rt:1153:9
+-- src/lib.rt:1130:9
 one-declared-requires : (t : ℕ) → one-lts.Need-declared-requires (
   stop-reads.Asked,
   stop-reads.Learnt,
@@ -16025,7 +16591,7 @@ one-declared-requires : (t : ℕ) → one-lts.Need-declared-requires (
 ) (one-at t) one.Post
 one-declared-requires t c κs = search needs
 
--- src/lib.rt:1150:17
+-- src/lib.rt:1127:17
 one-enum-known-k : (t : ℕ) → one-lts.Need-enum-known-k (
   stop-reads.Asked,
   stop-reads.Learnt,
@@ -16040,7 +16606,7 @@ one-enum-known-k : (t : ℕ) → one-lts.Need-enum-known-k (
 ) (one-at t) one.Post
 one-enum-known-k t c = search needs
 
--- src/lib.rt:1155:9
+-- src/lib.rt:1132:9
 one-enum-told : (t : ℕ) → one-lts.Need-enum-told (
   stop-reads.Asked,
   stop-reads.Learnt,
@@ -16055,7 +16621,7 @@ one-enum-told : (t : ℕ) → one-lts.Need-enum-told (
 ) (one-at t) one.Post
 one-enum-told t c = search needs
 
--- src/lib.rt:1155:9
+-- src/lib.rt:1132:9
 one-stop-requires-2 : (t : ℕ) → one-lts.Need-stop-requires-2 (
   stop-reads.Asked,
   stop-reads.Learnt,
@@ -16070,7 +16636,7 @@ one-stop-requires-2 : (t : ℕ) → one-lts.Need-stop-requires-2 (
 ) (one-at t) one.Post
 one-stop-requires-2 t c κs = search needs
 
--- src/lib.rt:1155:9
+-- src/lib.rt:1132:9
 one-returns-2 : (t : ℕ) → one-lts.Need-returns-2 (
   stop-reads.Asked,
   stop-reads.Learnt,
@@ -16083,10 +16649,9 @@ one-returns-2 : (t : ℕ) → one-lts.Need-returns-2 (
   nu-below t,
   nu.Post,
 ) (one-at t) one.Post
-unfolding DecOne.one-dec
 one-returns-2 t c = record { is = dec-form _ _ (c .before .before .before .before .if1 .left) (declaration-not (c .stop2 .ensures) (c .before .before .before .declared .ensures) (c .before .enum-told .given .1)) }
 
--- src/lib.rt:1157:9
+-- src/lib.rt:1134:9
 one-moved-requires : (t : ℕ) → one-lts.Need-moved-requires (
   stop-reads.Asked,
   stop-reads.Learnt,
@@ -16101,7 +16666,7 @@ one-moved-requires : (t : ℕ) → one-lts.Need-moved-requires (
 ) (one-at t) one.Post
 one-moved-requires t c κs = search needs
 
--- src/lib.rt:1158:9
+-- src/lib.rt:1135:9
 one-comment-above-requires : (t : ℕ) → one-lts.Need-comment-above-requires (
   stop-reads.Asked,
   stop-reads.Learnt,
@@ -16116,7 +16681,7 @@ one-comment-above-requires : (t : ℕ) → one-lts.Need-comment-above-requires (
 ) (one-at t) one.Post
 one-comment-above-requires t c κs = search needs
 
--- src/lib.rt:1163:15
+-- src/lib.rt:1140:15
 one-sub-t24 : (t : ℕ) → one-lts.Need-sub-t24 (
   stop-reads.Asked,
   stop-reads.Learnt,
@@ -16131,7 +16696,7 @@ one-sub-t24 : (t : ℕ) → one-lts.Need-sub-t24 (
 ) (one-at t) one.Post
 one-sub-t24 t c = search needs
 
--- src/lib.rt:1165:5
+-- src/lib.rt:1142:5
 one-nu-requires : (t : ℕ) → one-lts.Need-nu-requires (
   stop-reads.Asked,
   stop-reads.Learnt,
@@ -16146,7 +16711,7 @@ one-nu-requires : (t : ℕ) → one-lts.Need-nu-requires (
 ) (one-at t) one.Post
 one-nu-requires t c κs = omega (arith, c .before .before .before .before .before .before .before .before .before .before .before .before .before .before .before .before .before .before .before .pre .0, c .before .before .before .before .before .before .before .before .before .before .before .before .before .before .before .before .before .before .before .pre .1, c .before .before .before .before .before .before .before .before .before .before .before .before .if1 .left)
 
--- src/lib.rt:1130:1
+-- src/lib.rt:1107:1
 one-same-length : (t : ℕ) → one-lts.Need-same-length (
   stop-reads.Asked,
   stop-reads.Learnt,
@@ -16161,7 +16726,7 @@ one-same-length : (t : ℕ) → one-lts.Need-same-length (
 ) (one-at t) one.Post
 one-same-length t c = c .before .before .nu .kept .1 .1 .1 .1 .1 .0 ∙ c .before .before .before .before .before .before .before .comment-above .kept .1 .1 .1 .1 .0
 
--- src/lib.rt:1130:1
+-- src/lib.rt:1107:1
 one-returns-3 : (t : ℕ) → one-lts.Need-returns-3 (
   stop-reads.Asked,
   stop-reads.Learnt,
@@ -16174,10 +16739,9 @@ one-returns-3 : (t : ℕ) → one-lts.Need-returns-3 (
   nu-below t,
   nu.Post,
 ) (one-at t) one.Post
-unfolding DecOne.one-dec
-one-returns-3 t c = record { is = dec-form _ _ (c .before .before .before .before .before .before .before .before .before .before .before .before .before .before .before .if1 .left) (by-same (declaration-is (c .before .before .before .before .before .before .before .before .before .before .before .before .before .before .declared .ensures) (c .before .before .before .before .before .before .before .before .before .before .before .before .k .given .1) (c .before .before .before .before .before .before .before .before .before .before .moved .ensures)) (then-done (c .before .before .before .before .before .before .before .comment-above .ensures _) refl (c .before .before .nu .ensures .is))) }
+one-returns-3 t c = record { is = dec-form _ _ (c .before .before .before .before .before .before .before .before .before .before .before .before .before .before .before .if1 .left) (declaration-is (c .before .before .before .before .before .before .before .before .before .before .before .before .before .before .declared .ensures) (c .before .before .before .before .before .before .before .before .before .before .before .before .k .given .1) (c .before .before .before .before .before .before .before .before .before .before .moved .ensures) (c .before .before .before .before .before .before .before .comment-above .ensures .is _) (c .before .before .nu .ensures .is)) }
 
--- src/lib.rt:208:9
+-- src/lib.rt:218:9
 pa-word-requires : (t : ℕ) → pa-lts.Need-word-requires (
   word-reads.Asked,
   word-reads.Learnt,
@@ -16186,7 +16750,7 @@ pa-word-requires : (t : ℕ) → pa-lts.Need-word-requires (
 ) (pa-at t) pa.Post
 pa-word-requires t c κs = search needs
 
--- src/lib.rt:209:9
+-- src/lib.rt:219:9
 pa-exp-requires : (t : ℕ) → pa-lts.Need-exp-requires (
   word-reads.Asked,
   word-reads.Learnt,
@@ -16195,7 +16759,7 @@ pa-exp-requires : (t : ℕ) → pa-lts.Need-exp-requires (
 ) (pa-at t) pa.Post
 pa-exp-requires t c κs = omega (arith, c .before .before .before .before .before .before .before .before .before .before .before .before .pre .0, c .before .before .before .before .before .before .before .before .before .before .before .before .pre .1)
 
--- src/lib.rt:210:22
+-- src/lib.rt:220:22
 pa-enum-known-r2 : (t : ℕ) → pa-lts.Need-enum-known-r2 (
   word-reads.Asked,
   word-reads.Learnt,
@@ -16204,7 +16768,7 @@ pa-enum-known-r2 : (t : ℕ) → pa-lts.Need-enum-known-r2 (
 ) (pa-at t) pa.Post
 pa-enum-known-r2 t c = search needs
 
--- src/lib.rt:211:9
+-- src/lib.rt:221:9
 pa-enum-told : (t : ℕ) → pa-lts.Need-enum-told (
   word-reads.Asked,
   word-reads.Learnt,
@@ -16213,7 +16777,7 @@ pa-enum-told : (t : ℕ) → pa-lts.Need-enum-told (
 ) (pa-at t) pa.Post
 pa-enum-told t c = search needs
 
--- src/lib.rt:211:9
+-- src/lib.rt:221:9
 pa-same-length : (t : ℕ) → pa-lts.Need-same-length (
   word-reads.Asked,
   word-reads.Learnt,
@@ -16222,17 +16786,17 @@ pa-same-length : (t : ℕ) → pa-lts.Need-same-length (
 ) (pa-at t) pa.Post
 pa-same-length t c = c .before .before .before .before .exp .kept .1 .1 .1 .1 .1 .0 ∙ c .before .before .before .before .before .before .before .before .before .word .kept .1 .0
 
--- src/lib.rt:211:9
+-- src/lib.rt:221:9
 pa-returns : (t : ℕ) → pa-lts.Need-returns (
   word-reads.Asked,
   word-reads.Learnt,
   exp-below t,
   exp.Post,
 ) (pa-at t) pa.Post
-unfolding Exp.ParenExp
+unfolding Exp.exp
 pa-returns t c = record { is = then-sure (c .before .before .before .before .before .before .before .before .before .word .ensures) (then-stop (c .before .before .before .before .exp .ensures .is) (c .enum-told .given .1)) }
 
--- src/lib.rt:213:18
+-- src/lib.rt:223:18
 pa-word-requires-2 : (t : ℕ) → pa-lts.Need-word-requires-2 (
   word-reads.Asked,
   word-reads.Learnt,
@@ -16241,7 +16805,7 @@ pa-word-requires-2 : (t : ℕ) → pa-lts.Need-word-requires-2 (
 ) (pa-at t) pa.Post
 pa-word-requires-2 t c κs = search needs
 
--- src/lib.rt:194:1
+-- src/lib.rt:204:1
 pa-same-length-2 : (t : ℕ) → pa-lts.Need-same-length-2 (
   word-reads.Asked,
   word-reads.Learnt,
@@ -16250,17 +16814,17 @@ pa-same-length-2 : (t : ℕ) → pa-lts.Need-same-length-2 (
 ) (pa-at t) pa.Post
 pa-same-length-2 t c = c .before .before .word2 .kept .1 .0 ∙ c .before .before .before .before .before .before .before .before .before .exp .kept .1 .1 .1 .1 .1 .0 ∙ c .before .before .before .before .before .before .before .before .before .before .before .before .before .before .word .kept .1 .0
 
--- src/lib.rt:194:1
+-- src/lib.rt:204:1
 pa-returns-2 : (t : ℕ) → pa-lts.Need-returns-2 (
   word-reads.Asked,
   word-reads.Learnt,
   exp-below t,
   exp.Post,
 ) (pa-at t) pa.Post
-unfolding Exp.ParenExp
+unfolding Exp.exp
 pa-returns-2 t c = record { is = then-sure (c .before .before .before .before .before .before .before .before .before .before .before .before .before .before .word .ensures) (then-done (c .before .before .before .before .before .before .before .before .before .exp .ensures .is) (c .before .before .before .before .before .r2 .given .1) (last-sure (c .before .before .word2 .ensures))) }
 
--- src/lib.rt:666:9
+-- src/lib.rt:678:9
 pr-word-requires : (t : ℕ) → pr-lts.Need-word-requires (
   word-reads.Asked,
   word-reads.Learnt,
@@ -16269,7 +16833,7 @@ pr-word-requires : (t : ℕ) → pr-lts.Need-word-requires (
 ) (pr-at t) pr.Post
 pr-word-requires t c κs = search needs
 
--- src/lib.rt:667:5
+-- src/lib.rt:679:5
 pr-exp-requires : (t : ℕ) → pr-lts.Need-exp-requires (
   word-reads.Asked,
   word-reads.Learnt,
@@ -16278,7 +16842,7 @@ pr-exp-requires : (t : ℕ) → pr-lts.Need-exp-requires (
 ) (pr-at t) pr.Post
 pr-exp-requires t c κs = omega (arith, c .before .before .before .before .before .before .before .before .before .before .before .before .pre .0, c .before .before .before .before .before .before .before .before .before .before .before .before .pre .1)
 
--- src/lib.rt:651:1
+-- src/lib.rt:663:1
 pr-same-length : (t : ℕ) → pr-lts.Need-same-length (
   word-reads.Asked,
   word-reads.Learnt,
@@ -16287,7 +16851,7 @@ pr-same-length : (t : ℕ) → pr-lts.Need-same-length (
 ) (pr-at t) pr.Post
 pr-same-length t c = c .before .before .exp .kept .1 .1 .1 .1 .1 .0 ∙ c .before .before .before .before .before .before .before .word .kept .1 .0
 
--- src/lib.rt:651:1
+-- src/lib.rt:663:1
 pr-returns : (t : ℕ) → pr-lts.Need-returns (
   word-reads.Asked,
   word-reads.Learnt,
@@ -16296,7 +16860,7 @@ pr-returns : (t : ℕ) → pr-lts.Need-returns (
 ) (pr-at t) pr.Post
 pr-returns t c = record { is = then-sure (c .before .before .before .before .before .before .before .word .ensures) (c .before .before .exp .ensures .is) }
 
--- src/lib.rt:818:29
+-- src/lib.rt:836:29
 qb-absent-requires : (t : ℕ) → qb-lts.Need-absent-requires (
   absent-reads.Asked,
   absent-reads.Learnt,
@@ -16304,6 +16868,10 @@ qb-absent-requires : (t : ℕ) → qb-lts.Need-absent-requires (
   group-reads.Learnt,
   word-reads.Asked,
   word-reads.Learnt,
+  expression-reads.Asked,
+  expression-reads.Learnt,
+  stop-reads.Asked,
+  stop-reads.Learnt,
   body-exp-needs-newline-reads.Asked,
   body-exp-needs-newline-reads.Learnt,
   dp-below t,
@@ -16313,7 +16881,7 @@ qb-absent-requires : (t : ℕ) → qb-lts.Need-absent-requires (
 ) (qb-at t) qb.Post
 qb-absent-requires t c κs = search needs
 
--- src/lib.rt:818:23
+-- src/lib.rt:836:23
 qb-enum-known-s0 : (t : ℕ) → qb-lts.Need-enum-known-s0 (
   absent-reads.Asked,
   absent-reads.Learnt,
@@ -16321,6 +16889,10 @@ qb-enum-known-s0 : (t : ℕ) → qb-lts.Need-enum-known-s0 (
   group-reads.Learnt,
   word-reads.Asked,
   word-reads.Learnt,
+  expression-reads.Asked,
+  expression-reads.Learnt,
+  stop-reads.Asked,
+  stop-reads.Learnt,
   body-exp-needs-newline-reads.Asked,
   body-exp-needs-newline-reads.Learnt,
   dp-below t,
@@ -16330,7 +16902,7 @@ qb-enum-known-s0 : (t : ℕ) → qb-lts.Need-enum-known-s0 (
 ) (qb-at t) qb.Post
 qb-enum-known-s0 t c = search needs
 
--- src/lib.rt:819:9
+-- src/lib.rt:837:9
 qb-returns : (t : ℕ) → qb-lts.Need-returns (
   absent-reads.Asked,
   absent-reads.Learnt,
@@ -16338,6 +16910,10 @@ qb-returns : (t : ℕ) → qb-lts.Need-returns (
   group-reads.Learnt,
   word-reads.Asked,
   word-reads.Learnt,
+  expression-reads.Asked,
+  expression-reads.Learnt,
+  stop-reads.Asked,
+  stop-reads.Learnt,
   body-exp-needs-newline-reads.Asked,
   body-exp-needs-newline-reads.Learnt,
   dp-below t,
@@ -16355,6 +16931,10 @@ qb-enum-told : (t : ℕ) → qb-lts.Need-enum-told (
   group-reads.Learnt,
   word-reads.Asked,
   word-reads.Learnt,
+  expression-reads.Asked,
+  expression-reads.Learnt,
+  stop-reads.Asked,
+  stop-reads.Learnt,
   body-exp-needs-newline-reads.Asked,
   body-exp-needs-newline-reads.Learnt,
   dp-below t,
@@ -16364,7 +16944,7 @@ qb-enum-told : (t : ℕ) → qb-lts.Need-enum-told (
 ) (qb-at t) qb.Post
 qb-enum-told t c = search needs
 
--- src/lib.rt:821:9
+-- src/lib.rt:839:9
 qb-group-requires : (t : ℕ) → qb-lts.Need-group-requires (
   absent-reads.Asked,
   absent-reads.Learnt,
@@ -16372,6 +16952,10 @@ qb-group-requires : (t : ℕ) → qb-lts.Need-group-requires (
   group-reads.Learnt,
   word-reads.Asked,
   word-reads.Learnt,
+  expression-reads.Asked,
+  expression-reads.Learnt,
+  stop-reads.Asked,
+  stop-reads.Learnt,
   body-exp-needs-newline-reads.Asked,
   body-exp-needs-newline-reads.Learnt,
   dp-below t,
@@ -16381,7 +16965,7 @@ qb-group-requires : (t : ℕ) → qb-lts.Need-group-requires (
 ) (qb-at t) qb.Post
 qb-group-requires t c κs = search needs
 
--- src/lib.rt:822:22
+-- src/lib.rt:840:22
 qb-enum-known-r1 : (t : ℕ) → qb-lts.Need-enum-known-r1 (
   absent-reads.Asked,
   absent-reads.Learnt,
@@ -16389,6 +16973,10 @@ qb-enum-known-r1 : (t : ℕ) → qb-lts.Need-enum-known-r1 (
   group-reads.Learnt,
   word-reads.Asked,
   word-reads.Learnt,
+  expression-reads.Asked,
+  expression-reads.Learnt,
+  stop-reads.Asked,
+  stop-reads.Learnt,
   body-exp-needs-newline-reads.Asked,
   body-exp-needs-newline-reads.Learnt,
   dp-below t,
@@ -16398,7 +16986,7 @@ qb-enum-known-r1 : (t : ℕ) → qb-lts.Need-enum-known-r1 (
 ) (qb-at t) qb.Post
 qb-enum-known-r1 t c = search needs
 
--- src/lib.rt:823:9
+-- src/lib.rt:841:9
 qb-enum-told-2 : (t : ℕ) → qb-lts.Need-enum-told-2 (
   absent-reads.Asked,
   absent-reads.Learnt,
@@ -16406,6 +16994,10 @@ qb-enum-told-2 : (t : ℕ) → qb-lts.Need-enum-told-2 (
   group-reads.Learnt,
   word-reads.Asked,
   word-reads.Learnt,
+  expression-reads.Asked,
+  expression-reads.Learnt,
+  stop-reads.Asked,
+  stop-reads.Learnt,
   body-exp-needs-newline-reads.Asked,
   body-exp-needs-newline-reads.Learnt,
   dp-below t,
@@ -16415,7 +17007,7 @@ qb-enum-told-2 : (t : ℕ) → qb-lts.Need-enum-told-2 (
 ) (qb-at t) qb.Post
 qb-enum-told-2 t c = search needs
 
--- src/lib.rt:823:9
+-- src/lib.rt:841:9
 qb-returns-2 : (t : ℕ) → qb-lts.Need-returns-2 (
   absent-reads.Asked,
   absent-reads.Learnt,
@@ -16423,6 +17015,10 @@ qb-returns-2 : (t : ℕ) → qb-lts.Need-returns-2 (
   group-reads.Learnt,
   word-reads.Asked,
   word-reads.Learnt,
+  expression-reads.Asked,
+  expression-reads.Learnt,
+  stop-reads.Asked,
+  stop-reads.Learnt,
   body-exp-needs-newline-reads.Asked,
   body-exp-needs-newline-reads.Learnt,
   dp-below t,
@@ -16433,7 +17029,7 @@ qb-returns-2 : (t : ℕ) → qb-lts.Need-returns-2 (
 unfolding Exp.eq-body Exp.get-body-exp Exp.get-body-exp-level Exp.indented-levels
 qb-returns-2 t c = record { is = by-same (maybe-there (c .before .before .before .before .before .absent .ensures) (c .before .before .before .enum-told .given .1)) (group-not (c .before .before .group .ensures) (c .enum-told2 .given .1)) }
 
--- src/lib.rt:825:9
+-- src/lib.rt:843:9
 qb-word-requires : (t : ℕ) → qb-lts.Need-word-requires (
   absent-reads.Asked,
   absent-reads.Learnt,
@@ -16441,6 +17037,10 @@ qb-word-requires : (t : ℕ) → qb-lts.Need-word-requires (
   group-reads.Learnt,
   word-reads.Asked,
   word-reads.Learnt,
+  expression-reads.Asked,
+  expression-reads.Learnt,
+  stop-reads.Asked,
+  stop-reads.Learnt,
   body-exp-needs-newline-reads.Asked,
   body-exp-needs-newline-reads.Learnt,
   dp-below t,
@@ -16450,7 +17050,134 @@ qb-word-requires : (t : ℕ) → qb-lts.Need-word-requires (
 ) (qb-at t) qb.Post
 qb-word-requires t c κs = search needs
 
--- src/lib.rt:827:8
+-- src/lib.rt:844:28
+qb-expression-requires : (t : ℕ) → qb-lts.Need-expression-requires (
+  absent-reads.Asked,
+  absent-reads.Learnt,
+  group-reads.Asked,
+  group-reads.Learnt,
+  word-reads.Asked,
+  word-reads.Learnt,
+  expression-reads.Asked,
+  expression-reads.Learnt,
+  stop-reads.Asked,
+  stop-reads.Learnt,
+  body-exp-needs-newline-reads.Asked,
+  body-exp-needs-newline-reads.Learnt,
+  dp-below t,
+  dp.Post,
+  exp-below t,
+  exp.Post,
+) (qb-at t) qb.Post
+qb-expression-requires t c κs = search needs
+
+-- src/lib.rt:844:18
+qb-enum-known--k : (t : ℕ) → qb-lts.Need-enum-known--k (
+  absent-reads.Asked,
+  absent-reads.Learnt,
+  group-reads.Asked,
+  group-reads.Learnt,
+  word-reads.Asked,
+  word-reads.Learnt,
+  expression-reads.Asked,
+  expression-reads.Learnt,
+  stop-reads.Asked,
+  stop-reads.Learnt,
+  body-exp-needs-newline-reads.Asked,
+  body-exp-needs-newline-reads.Learnt,
+  dp-below t,
+  dp.Post,
+  exp-below t,
+  exp.Post,
+) (qb-at t) qb.Post
+qb-enum-known--k t c = search needs
+
+-- src/lib.rt:845:9
+qb-enum-told-3 : (t : ℕ) → qb-lts.Need-enum-told-3 (
+  absent-reads.Asked,
+  absent-reads.Learnt,
+  group-reads.Asked,
+  group-reads.Learnt,
+  word-reads.Asked,
+  word-reads.Learnt,
+  expression-reads.Asked,
+  expression-reads.Learnt,
+  stop-reads.Asked,
+  stop-reads.Learnt,
+  body-exp-needs-newline-reads.Asked,
+  body-exp-needs-newline-reads.Learnt,
+  dp-below t,
+  dp.Post,
+  exp-below t,
+  exp.Post,
+) (qb-at t) qb.Post
+qb-enum-told-3 t c = search needs
+
+-- src/lib.rt:845:9
+qb-stop-requires : (t : ℕ) → qb-lts.Need-stop-requires (
+  absent-reads.Asked,
+  absent-reads.Learnt,
+  group-reads.Asked,
+  group-reads.Learnt,
+  word-reads.Asked,
+  word-reads.Learnt,
+  expression-reads.Asked,
+  expression-reads.Learnt,
+  stop-reads.Asked,
+  stop-reads.Learnt,
+  body-exp-needs-newline-reads.Asked,
+  body-exp-needs-newline-reads.Learnt,
+  dp-below t,
+  dp.Post,
+  exp-below t,
+  exp.Post,
+) (qb-at t) qb.Post
+qb-stop-requires t c κs = search needs
+
+-- src/lib.rt:845:9
+qb-same-length : (t : ℕ) → qb-lts.Need-same-length (
+  absent-reads.Asked,
+  absent-reads.Learnt,
+  group-reads.Asked,
+  group-reads.Learnt,
+  word-reads.Asked,
+  word-reads.Learnt,
+  expression-reads.Asked,
+  expression-reads.Learnt,
+  stop-reads.Asked,
+  stop-reads.Learnt,
+  body-exp-needs-newline-reads.Asked,
+  body-exp-needs-newline-reads.Learnt,
+  dp-below t,
+  dp.Post,
+  exp-below t,
+  exp.Post,
+) (qb-at t) qb.Post
+qb-same-length t c = c .before .before .before .before .before .before .word .kept .1 .0
+
+-- src/lib.rt:845:9
+qb-returns-3 : (t : ℕ) → qb-lts.Need-returns-3 (
+  absent-reads.Asked,
+  absent-reads.Learnt,
+  group-reads.Asked,
+  group-reads.Learnt,
+  word-reads.Asked,
+  word-reads.Learnt,
+  expression-reads.Asked,
+  expression-reads.Learnt,
+  stop-reads.Asked,
+  stop-reads.Learnt,
+  body-exp-needs-newline-reads.Asked,
+  body-exp-needs-newline-reads.Learnt,
+  dp-below t,
+  dp.Post,
+  exp-below t,
+  exp.Post,
+) (qb-at t) qb.Post
+unfolding Exp.eq-body Exp.get-body-exp Exp.get-body-exp-level Exp.indented-levels
+qb-returns-3 t c = record { is = by-same (maybe-there (c .before .before .before .before .before .before .before .before .before .before .before .before .before .before .absent .ensures) (c .before .before .before .before .before .before .before .before .before .before .before .before .enum-told .given .1)) (by-same (group-is (c .before .before .before .before .before .before .before .before .before .before .before .group .ensures) (c .before .before .before .before .before .before .before .before .before .r1 .given .1)) (then-sure (c .before .before .before .before .before .before .word .ensures) (look-not (c .stop .ensures) (c .before .before .before .expression .ensures) (c .before .enum-told3 .given .1)))) }
+
+-- src/lib.rt:848:8
 qb-body-exp-needs-newline-requires : (t : ℕ) → qb-lts.Need-body-exp-needs-newline-requires (
   absent-reads.Asked,
   absent-reads.Learnt,
@@ -16458,6 +17185,10 @@ qb-body-exp-needs-newline-requires : (t : ℕ) → qb-lts.Need-body-exp-needs-ne
   group-reads.Learnt,
   word-reads.Asked,
   word-reads.Learnt,
+  expression-reads.Asked,
+  expression-reads.Learnt,
+  stop-reads.Asked,
+  stop-reads.Learnt,
   body-exp-needs-newline-reads.Asked,
   body-exp-needs-newline-reads.Learnt,
   dp-below t,
@@ -16467,7 +17198,7 @@ qb-body-exp-needs-newline-requires : (t : ℕ) → qb-lts.Need-body-exp-needs-ne
 ) (qb-at t) qb.Post
 qb-body-exp-needs-newline-requires t c κs = search needs
 
--- src/lib.rt:828:13
+-- src/lib.rt:849:13
 qb-word-requires-2 : (t : ℕ) → qb-lts.Need-word-requires-2 (
   absent-reads.Asked,
   absent-reads.Learnt,
@@ -16475,6 +17206,10 @@ qb-word-requires-2 : (t : ℕ) → qb-lts.Need-word-requires-2 (
   group-reads.Learnt,
   word-reads.Asked,
   word-reads.Learnt,
+  expression-reads.Asked,
+  expression-reads.Learnt,
+  stop-reads.Asked,
+  stop-reads.Learnt,
   body-exp-needs-newline-reads.Asked,
   body-exp-needs-newline-reads.Learnt,
   dp-below t,
@@ -16484,7 +17219,7 @@ qb-word-requires-2 : (t : ℕ) → qb-lts.Need-word-requires-2 (
 ) (qb-at t) qb.Post
 qb-word-requires-2 t c κs = search needs
 
--- src/lib.rt:829:9
+-- src/lib.rt:850:9
 qb-dp-requires : (t : ℕ) → qb-lts.Need-dp-requires (
   absent-reads.Asked,
   absent-reads.Learnt,
@@ -16492,6 +17227,10 @@ qb-dp-requires : (t : ℕ) → qb-lts.Need-dp-requires (
   group-reads.Learnt,
   word-reads.Asked,
   word-reads.Learnt,
+  expression-reads.Asked,
+  expression-reads.Learnt,
+  stop-reads.Asked,
+  stop-reads.Learnt,
   body-exp-needs-newline-reads.Asked,
   body-exp-needs-newline-reads.Learnt,
   dp-below t,
@@ -16499,16 +17238,20 @@ qb-dp-requires : (t : ℕ) → qb-lts.Need-dp-requires (
   exp-below t,
   exp.Post,
 ) (qb-at t) qb.Post
-qb-dp-requires t c κs = omega (arith, c .before .before .before .before .before .before .before .before .before .before .before .before .before .before .before .before .before .before .before .before .before .before .before .before .before .pre .0, c .before .before .before .before .before .before .before .before .before .before .before .before .before .before .before .before .before .before .before .before .before .before .before .before .before .pre .1)
+qb-dp-requires t c κs = omega (arith, c .before .before .before .before .before .before .before .before .before .before .before .before .before .before .before .before .before .before .before .before .before .before .before .before .before .before .before .before .before .pre .0, c .before .before .before .before .before .before .before .before .before .before .before .before .before .before .before .before .before .before .before .before .before .before .before .before .before .before .before .before .before .pre .1)
 
--- src/lib.rt:829:9
-qb-same-length : (t : ℕ) → qb-lts.Need-same-length (
+-- src/lib.rt:850:9
+qb-same-length-2 : (t : ℕ) → qb-lts.Need-same-length-2 (
   absent-reads.Asked,
   absent-reads.Learnt,
   group-reads.Asked,
   group-reads.Learnt,
   word-reads.Asked,
   word-reads.Learnt,
+  expression-reads.Asked,
+  expression-reads.Learnt,
+  stop-reads.Asked,
+  stop-reads.Learnt,
   body-exp-needs-newline-reads.Asked,
   body-exp-needs-newline-reads.Learnt,
   dp-below t,
@@ -16516,16 +17259,20 @@ qb-same-length : (t : ℕ) → qb-lts.Need-same-length (
   exp-below t,
   exp.Post,
 ) (qb-at t) qb.Post
-qb-same-length t c = c .before .before .dp .kept .1 .1 .1 .1 .1 .0 ∙ c .before .before .before .before .before .before .before .word2 .kept .1 .0 ∙ c .before .before .before .before .before .before .before .before .before .before .before .before .before .word .kept .1 .0
+qb-same-length-2 t c = c .before .before .dp .kept .1 .1 .1 .1 .1 .0 ∙ c .before .before .before .before .before .before .before .word2 .kept .1 .0 ∙ c .before .before .before .before .before .before .before .before .before .before .before .before .before .before .before .before .before .word .kept .1 .0
 
--- src/lib.rt:829:9
-qb-returns-3 : (t : ℕ) → qb-lts.Need-returns-3 (
+-- src/lib.rt:850:9
+qb-returns-4 : (t : ℕ) → qb-lts.Need-returns-4 (
   absent-reads.Asked,
   absent-reads.Learnt,
   group-reads.Asked,
   group-reads.Learnt,
   word-reads.Asked,
   word-reads.Learnt,
+  expression-reads.Asked,
+  expression-reads.Learnt,
+  stop-reads.Asked,
+  stop-reads.Learnt,
   body-exp-needs-newline-reads.Asked,
   body-exp-needs-newline-reads.Learnt,
   dp-below t,
@@ -16534,9 +17281,9 @@ qb-returns-3 : (t : ℕ) → qb-lts.Need-returns-3 (
   exp.Post,
 ) (qb-at t) qb.Post
 unfolding Exp.eq-body Exp.get-body-exp Exp.get-body-exp-level Exp.indented-levels
-qb-returns-3 t c = record { is = by-same (maybe-there (c .before .before .before .before .before .before .before .before .before .before .before .before .before .before .before .before .before .before .before .before .before .absent .ensures) (c .before .before .before .before .before .before .before .before .before .before .before .before .before .before .before .before .before .before .before .enum-told .given .1)) (by-same (group-is (c .before .before .before .before .before .before .before .before .before .before .before .before .before .before .before .before .before .before .group .ensures) (c .before .before .before .before .before .before .before .before .before .before .before .before .before .before .before .before .r1 .given .1)) (then-sure (c .before .before .before .before .before .before .before .before .before .before .before .before .before .word .ensures) (by-same (look-is (c .before .before .before .before .before .before .before .before .before .before .body-exp-needs-newline .ensures) (c .before .before .before .before .before .before .before .before .before .if1 .taken)) (then-sure (c .before .before .before .before .before .before .before .word2 .ensures) (c .before .before .dp .ensures .is))))) }
+qb-returns-4 t c = record { is = by-same (maybe-there (c .before .before .before .before .before .before .before .before .before .before .before .before .before .before .before .before .before .before .before .before .before .before .before .before .before .absent .ensures) (c .before .before .before .before .before .before .before .before .before .before .before .before .before .before .before .before .before .before .before .before .before .before .before .enum-told .given .1)) (by-same (group-is (c .before .before .before .before .before .before .before .before .before .before .before .before .before .before .before .before .before .before .before .before .before .before .group .ensures) (c .before .before .before .before .before .before .before .before .before .before .before .before .before .before .before .before .before .before .before .before .r1 .given .1)) (then-sure (c .before .before .before .before .before .before .before .before .before .before .before .before .before .before .before .before .before .word .ensures) (by-same (look-yes (c .before .before .before .before .before .before .before .before .before .before .before .before .before .before .expression .ensures) (c .before .before .before .before .before .before .before .before .before .before .before .before .-k .given .1) (c .before .before .before .before .before .before .before .before .before .before .body-exp-needs-newline .ensures) (c .before .before .before .before .before .before .before .before .before .if1 .taken)) (then-sure (c .before .before .before .before .before .before .before .word2 .ensures) (c .before .before .dp .ensures .is))))) }
 
--- src/lib.rt:831:9
+-- src/lib.rt:852:9
 qb-word-requires-3 : (t : ℕ) → qb-lts.Need-word-requires-3 (
   absent-reads.Asked,
   absent-reads.Learnt,
@@ -16544,6 +17291,10 @@ qb-word-requires-3 : (t : ℕ) → qb-lts.Need-word-requires-3 (
   group-reads.Learnt,
   word-reads.Asked,
   word-reads.Learnt,
+  expression-reads.Asked,
+  expression-reads.Learnt,
+  stop-reads.Asked,
+  stop-reads.Learnt,
   body-exp-needs-newline-reads.Asked,
   body-exp-needs-newline-reads.Learnt,
   dp-below t,
@@ -16553,7 +17304,7 @@ qb-word-requires-3 : (t : ℕ) → qb-lts.Need-word-requires-3 (
 ) (qb-at t) qb.Post
 qb-word-requires-3 t c κs = search needs
 
--- src/lib.rt:832:5
+-- src/lib.rt:853:5
 qb-exp-requires : (t : ℕ) → qb-lts.Need-exp-requires (
   absent-reads.Asked,
   absent-reads.Learnt,
@@ -16561,6 +17312,10 @@ qb-exp-requires : (t : ℕ) → qb-lts.Need-exp-requires (
   group-reads.Learnt,
   word-reads.Asked,
   word-reads.Learnt,
+  expression-reads.Asked,
+  expression-reads.Learnt,
+  stop-reads.Asked,
+  stop-reads.Learnt,
   body-exp-needs-newline-reads.Asked,
   body-exp-needs-newline-reads.Learnt,
   dp-below t,
@@ -16568,16 +17323,20 @@ qb-exp-requires : (t : ℕ) → qb-lts.Need-exp-requires (
   exp-below t,
   exp.Post,
 ) (qb-at t) qb.Post
-qb-exp-requires t c κs = omega (arith, c .before .before .before .before .before .before .before .before .before .before .before .before .before .before .before .before .before .before .before .before .before .before .before .before .before .pre .0, c .before .before .before .before .before .before .before .before .before .before .before .before .before .before .before .before .before .before .before .before .before .before .before .before .before .pre .1)
+qb-exp-requires t c κs = omega (arith, c .before .before .before .before .before .before .before .before .before .before .before .before .before .before .before .before .before .before .before .before .before .before .before .before .before .before .before .before .before .pre .0, c .before .before .before .before .before .before .before .before .before .before .before .before .before .before .before .before .before .before .before .before .before .before .before .before .before .before .before .before .before .pre .1)
 
--- src/lib.rt:804:1
-qb-same-length-2 : (t : ℕ) → qb-lts.Need-same-length-2 (
+-- src/lib.rt:822:1
+qb-same-length-3 : (t : ℕ) → qb-lts.Need-same-length-3 (
   absent-reads.Asked,
   absent-reads.Learnt,
   group-reads.Asked,
   group-reads.Learnt,
   word-reads.Asked,
   word-reads.Learnt,
+  expression-reads.Asked,
+  expression-reads.Learnt,
+  stop-reads.Asked,
+  stop-reads.Learnt,
   body-exp-needs-newline-reads.Asked,
   body-exp-needs-newline-reads.Learnt,
   dp-below t,
@@ -16585,16 +17344,20 @@ qb-same-length-2 : (t : ℕ) → qb-lts.Need-same-length-2 (
   exp-below t,
   exp.Post,
 ) (qb-at t) qb.Post
-qb-same-length-2 t c = c .before .before .exp .kept .1 .1 .1 .1 .1 .0 ∙ c .before .before .before .before .before .before .before .word3 .kept .1 .0 ∙ c .before .before .before .before .before .before .before .before .before .before .before .before .before .word .kept .1 .0
+qb-same-length-3 t c = c .before .before .exp .kept .1 .1 .1 .1 .1 .0 ∙ c .before .before .before .before .before .before .before .word3 .kept .1 .0 ∙ c .before .before .before .before .before .before .before .before .before .before .before .before .before .before .before .before .before .word .kept .1 .0
 
--- src/lib.rt:804:1
-qb-returns-4 : (t : ℕ) → qb-lts.Need-returns-4 (
+-- src/lib.rt:822:1
+qb-returns-5 : (t : ℕ) → qb-lts.Need-returns-5 (
   absent-reads.Asked,
   absent-reads.Learnt,
   group-reads.Asked,
   group-reads.Learnt,
   word-reads.Asked,
   word-reads.Learnt,
+  expression-reads.Asked,
+  expression-reads.Learnt,
+  stop-reads.Asked,
+  stop-reads.Learnt,
   body-exp-needs-newline-reads.Asked,
   body-exp-needs-newline-reads.Learnt,
   dp-below t,
@@ -16603,7 +17366,7 @@ qb-returns-4 : (t : ℕ) → qb-lts.Need-returns-4 (
   exp.Post,
 ) (qb-at t) qb.Post
 unfolding Exp.eq-body Exp.get-body-exp Exp.get-body-exp-level Exp.indented-levels
-qb-returns-4 t c = record { is = by-same (maybe-there (c .before .before .before .before .before .before .before .before .before .before .before .before .before .before .before .before .before .before .before .before .before .absent .ensures) (c .before .before .before .before .before .before .before .before .before .before .before .before .before .before .before .before .before .before .before .enum-told .given .1)) (by-same (group-is (c .before .before .before .before .before .before .before .before .before .before .before .before .before .before .before .before .before .before .group .ensures) (c .before .before .before .before .before .before .before .before .before .before .before .before .before .before .before .before .r1 .given .1)) (then-sure (c .before .before .before .before .before .before .before .before .before .before .before .before .before .word .ensures) (by-same (look-is (c .before .before .before .before .before .before .before .before .before .before .body-exp-needs-newline .ensures) (c .before .before .before .before .before .before .before .before .before .if1 .left)) (then-sure (c .before .before .before .before .before .before .before .word3 .ensures) (c .before .before .exp .ensures .is))))) }
+qb-returns-5 t c = record { is = by-same (maybe-there (c .before .before .before .before .before .before .before .before .before .before .before .before .before .before .before .before .before .before .before .before .before .before .before .before .before .absent .ensures) (c .before .before .before .before .before .before .before .before .before .before .before .before .before .before .before .before .before .before .before .before .before .before .before .enum-told .given .1)) (by-same (group-is (c .before .before .before .before .before .before .before .before .before .before .before .before .before .before .before .before .before .before .before .before .before .before .group .ensures) (c .before .before .before .before .before .before .before .before .before .before .before .before .before .before .before .before .before .before .before .before .r1 .given .1)) (then-sure (c .before .before .before .before .before .before .before .before .before .before .before .before .before .before .before .before .before .word .ensures) (by-same (look-no (c .before .before .before .before .before .before .before .before .before .before .before .before .before .before .expression .ensures) (c .before .before .before .before .before .before .before .before .before .before .before .before .-k .given .1) (c .before .before .before .before .before .before .before .before .before .before .body-exp-needs-newline .ensures) (c .before .before .before .before .before .before .before .before .before .if1 .left)) (then-sure (c .before .before .before .before .before .before .before .word3 .ensures) (c .before .before .exp .ensures .is))))) }
 
 abbrev qs-Inv-loop : qs-lts.InvT-loop
 qs-Inv-loop text rec kinds starts lens out₀ left₀ cfg n s₀ i₀ out left s i =
@@ -16612,7 +17375,7 @@ qs-Inv-loop text rec kinds starts lens out₀ left₀ cfg n s₀ i₀ out left s
 abbrev qs-μ-loop : qs-lts.MeasureT-loop
 qs-μ-loop text rec kinds starts lens out₀ left₀ cfg n s₀ i₀ out left s i = n - i
 
--- src/lib.rt:1080:27
+-- src/lib.rt:1057:27
 qs-list-requires : (t : ℕ) → qs-lts.Need-list-requires (
   list-reads.Asked,
   list-reads.Learnt,
@@ -16625,7 +17388,7 @@ qs-list-requires : (t : ℕ) → qs-lts.Need-list-requires (
 ) (qs-at t) qs.Post qs-Inv-loop qs-μ-loop
 qs-list-requires t c κs = search needs
 
--- src/lib.rt:1080:18
+-- src/lib.rt:1057:18
 qs-enum-known-n : (t : ℕ) → qs-lts.Need-enum-known-n (
   list-reads.Asked,
   list-reads.Learnt,
@@ -16638,7 +17401,7 @@ qs-enum-known-n : (t : ℕ) → qs-lts.Need-enum-known-n (
 ) (qs-at t) qs.Post qs-Inv-loop qs-μ-loop
 qs-enum-known-n t c = search needs
 
--- src/lib.rt:1081:9
+-- src/lib.rt:1058:9
 qs-enum-told : (t : ℕ) → qs-lts.Need-enum-told (
   list-reads.Asked,
   list-reads.Learnt,
@@ -16651,7 +17414,7 @@ qs-enum-told : (t : ℕ) → qs-lts.Need-enum-told (
 ) (qs-at t) qs.Post qs-Inv-loop qs-μ-loop
 qs-enum-told t c = search needs
 
--- src/lib.rt:1081:9
+-- src/lib.rt:1058:9
 qs-stop-requires : (t : ℕ) → qs-lts.Need-stop-requires (
   list-reads.Asked,
   list-reads.Learnt,
@@ -16664,7 +17427,7 @@ qs-stop-requires : (t : ℕ) → qs-lts.Need-stop-requires (
 ) (qs-at t) qs.Post qs-Inv-loop qs-μ-loop
 qs-stop-requires t c κs = search needs
 
--- src/lib.rt:1081:9
+-- src/lib.rt:1058:9
 qs-returns : (t : ℕ) → qs-lts.Need-returns (
   list-reads.Asked,
   list-reads.Learnt,
@@ -16678,7 +17441,7 @@ qs-returns : (t : ℕ) → qs-lts.Need-returns (
 unfolding GetDec.dec-in-seqs Helpers.sep-with-lines
 qs-returns t c = record { is = list-not (c .stop .ensures) (c .before .before .before .list .ensures) (c .before .enum-told .given .1) }
 
--- src/lib.rt:1085:5
+-- src/lib.rt:1062:5
 qs-loop-holds : (t : ℕ) → qs-lts.Need-loop-holds (
   list-reads.Asked,
   list-reads.Learnt,
@@ -16691,7 +17454,7 @@ qs-loop-holds : (t : ℕ) → qs-lts.Need-loop-holds (
 ) (qs-at t) qs.Post qs-Inv-loop qs-μ-loop
 qs-loop-holds t c = (omega arith, λ r o m h. h, refl)
 
--- src/lib.rt:1086:13
+-- src/lib.rt:1063:13
 qs-new-line-requires : (t : ℕ) → qs-lts.Need-new-line-requires (
   list-reads.Asked,
   list-reads.Learnt,
@@ -16704,7 +17467,7 @@ qs-new-line-requires : (t : ℕ) → qs-lts.Need-new-line-requires (
 ) (qs-at t) qs.Post qs-Inv-loop qs-μ-loop
 qs-new-line-requires t c κs = search needs
 
--- src/lib.rt:1087:13
+-- src/lib.rt:1064:13
 qs-sq-requires : (t : ℕ) → qs-lts.Need-sq-requires (
   list-reads.Asked,
   list-reads.Learnt,
@@ -16717,7 +17480,7 @@ qs-sq-requires : (t : ℕ) → qs-lts.Need-sq-requires (
 ) (qs-at t) qs.Post qs-Inv-loop qs-μ-loop
 qs-sq-requires t c κs = omega (arith, c .before .before .before .before .before .before .before .before .before .before .before .before .before .before .before .before .before .before .pre .0, c .before .before .before .before .before .before .before .before .before .before .before .before .before .before .before .before .before .before .pre .1)
 
--- src/lib.rt:1088:26
+-- src/lib.rt:1065:26
 qs-enum-known-r2 : (t : ℕ) → qs-lts.Need-enum-known-r2 (
   list-reads.Asked,
   list-reads.Learnt,
@@ -16730,7 +17493,7 @@ qs-enum-known-r2 : (t : ℕ) → qs-lts.Need-enum-known-r2 (
 ) (qs-at t) qs.Post qs-Inv-loop qs-μ-loop
 qs-enum-known-r2 t c = search needs
 
--- src/lib.rt:1089:13
+-- src/lib.rt:1066:13
 qs-enum-told-2 : (t : ℕ) → qs-lts.Need-enum-told-2 (
   list-reads.Asked,
   list-reads.Learnt,
@@ -16743,7 +17506,7 @@ qs-enum-told-2 : (t : ℕ) → qs-lts.Need-enum-told-2 (
 ) (qs-at t) qs.Post qs-Inv-loop qs-μ-loop
 qs-enum-told-2 t c = search needs
 
--- src/lib.rt:1089:13
+-- src/lib.rt:1066:13
 qs-same-length : (t : ℕ) → qs-lts.Need-same-length (
   list-reads.Asked,
   list-reads.Learnt,
@@ -16756,7 +17519,7 @@ qs-same-length : (t : ℕ) → qs-lts.Need-same-length (
 ) (qs-at t) qs.Post qs-Inv-loop qs-μ-loop
 qs-same-length t c = c .before .before .before .before .sq .kept .1 .1 .1 .1 .1 .0 ∙ c .before .before .before .before .before .before .before .before .before .new-line .kept .1 .0 ∙ c .before .before .before .before .before .before .before .before .before .before .before .before .loop .inv .2
 
--- src/lib.rt:1089:13
+-- src/lib.rt:1066:13
 qs-returns-2 : (t : ℕ) → qs-lts.Need-returns-2 (
   list-reads.Asked,
   list-reads.Learnt,
@@ -16770,7 +17533,7 @@ qs-returns-2 : (t : ℕ) → qs-lts.Need-returns-2 (
 unfolding GetDec.dec-in-seqs Helpers.sep-with-lines
 qs-returns-2 t c = record { is = by-same (list-is (c .before .before .before .before .before .before .before .before .before .before .before .before .before .before .before .before .list .ensures) (c .before .before .before .before .before .before .before .before .before .before .before .before .before .before .n .given .1)) (by-same (items-all _ _ _) (c .before .before .before .before .before .before .before .before .before .before .before .before .loop .inv .1 _ _ _ (from-more _ _ (c .before .before .before .before .before .before .before .before .before .before .before .loop-test .taken) (then-sure (c .before .before .before .before .before .before .before .before .before .new-line .ensures) (then-stop (c .before .before .before .before .sq .ensures .is) (c .enum-told2 .given .1)))))) }
 
--- src/lib.rt:1092:9
+-- src/lib.rt:1069:9
 qs-add-i : (t : ℕ) → qs-lts.Need-add-i (
   list-reads.Asked,
   list-reads.Learnt,
@@ -16783,7 +17546,7 @@ qs-add-i : (t : ℕ) → qs-lts.Need-add-i (
 ) (qs-at t) qs.Post qs-Inv-loop qs-μ-loop
 qs-add-i t c = omega (arith, c .before .before .before .before .before .before .before .before .before .before .before .before .loop-test .taken, c .before .before .before .before .before .before .before .before .before .before .before .before .before .before .known-told)
 
--- src/lib.rt:1085:5
+-- src/lib.rt:1062:5
 qs-loop-less : (t : ℕ) → qs-lts.Need-loop-less (
   list-reads.Asked,
   list-reads.Learnt,
@@ -16796,7 +17559,7 @@ qs-loop-less : (t : ℕ) → qs-lts.Need-loop-less (
 ) (qs-at t) qs.Post qs-Inv-loop qs-μ-loop
 qs-loop-less t c = omega arith
 
--- src/lib.rt:1085:5
+-- src/lib.rt:1062:5
 qs-loop-again : (t : ℕ) → qs-lts.Need-loop-again (
   list-reads.Asked,
   list-reads.Learnt,
@@ -16810,7 +17573,7 @@ qs-loop-again : (t : ℕ) → qs-lts.Need-loop-again (
 unfolding GetDec.dec-in-seqs Helpers.sep-with-lines
 qs-loop-again t c = (omega (arith, c .before .before .before .before .before .before .before .before .before .before .before .before .before .loop .inv .0), λ r o m h. c .before .before .before .before .before .before .before .before .before .before .before .before .before .loop .inv .1 r o m (from-more _ _ (c .before .before .before .before .before .before .before .before .before .before .before .before .loop-test .taken) (then-sure (c .before .before .before .before .before .before .before .before .before .before .new-line .ensures) (then-done (c .before .before .before .before .before .sq .ensures .is) (c .before .r2 .given .1) h))), c .before .before .before .before .before .sq .kept .1 .1 .1 .1 .1 .0 ∙ c .before .before .before .before .before .before .before .before .before .before .new-line .kept .1 .0 ∙ c .before .before .before .before .before .before .before .before .before .before .before .before .before .loop .inv .2)
 
--- src/lib.rt:1066:1
+-- src/lib.rt:1043:1
 qs-same-length-2 : (t : ℕ) → qs-lts.Need-same-length-2 (
   list-reads.Asked,
   list-reads.Learnt,
@@ -16823,7 +17586,7 @@ qs-same-length-2 : (t : ℕ) → qs-lts.Need-same-length-2 (
 ) (qs-at t) qs.Post qs-Inv-loop qs-μ-loop
 qs-same-length-2 t c = c .before .loop .inv .2
 
--- src/lib.rt:1066:1
+-- src/lib.rt:1043:1
 qs-returns-3 : (t : ℕ) → qs-lts.Need-returns-3 (
   list-reads.Asked,
   list-reads.Learnt,
@@ -16837,7 +17600,7 @@ qs-returns-3 : (t : ℕ) → qs-lts.Need-returns-3 (
 unfolding GetDec.dec-in-seqs Helpers.sep-with-lines
 qs-returns-3 t c = record { is = by-same (list-is (c .before .before .before .before .before .list .ensures) (c .before .before .before .n .given .1)) (by-same (items-all _ _ _) (c .before .loop .inv .1 _ _ _ (from-none _ _ (c .loop-test .left)))) }
 
--- src/lib.rt:185:9
+-- src/lib.rt:195:9
 rc-word-requires : (t : ℕ) → rc-lts.Need-word-requires (
   word-reads.Asked,
   word-reads.Learnt,
@@ -16846,7 +17609,7 @@ rc-word-requires : (t : ℕ) → rc-lts.Need-word-requires (
 ) (rc-at t) rc.Post
 rc-word-requires t c κs = search needs
 
--- src/lib.rt:186:9
+-- src/lib.rt:196:9
 rc-rs-requires : (t : ℕ) → rc-lts.Need-rs-requires (
   word-reads.Asked,
   word-reads.Learnt,
@@ -16855,7 +17618,7 @@ rc-rs-requires : (t : ℕ) → rc-lts.Need-rs-requires (
 ) (rc-at t) rc.Post
 rc-rs-requires t c κs = omega (arith, c .before .before .before .before .before .before .before .before .before .before .before .before .pre .0, c .before .before .before .before .before .before .before .before .before .before .before .before .pre .1)
 
--- src/lib.rt:187:22
+-- src/lib.rt:197:22
 rc-enum-known-r2 : (t : ℕ) → rc-lts.Need-enum-known-r2 (
   word-reads.Asked,
   word-reads.Learnt,
@@ -16864,7 +17627,7 @@ rc-enum-known-r2 : (t : ℕ) → rc-lts.Need-enum-known-r2 (
 ) (rc-at t) rc.Post
 rc-enum-known-r2 t c = search needs
 
--- src/lib.rt:188:9
+-- src/lib.rt:198:9
 rc-enum-told : (t : ℕ) → rc-lts.Need-enum-told (
   word-reads.Asked,
   word-reads.Learnt,
@@ -16873,7 +17636,7 @@ rc-enum-told : (t : ℕ) → rc-lts.Need-enum-told (
 ) (rc-at t) rc.Post
 rc-enum-told t c = search needs
 
--- src/lib.rt:188:9
+-- src/lib.rt:198:9
 rc-same-length : (t : ℕ) → rc-lts.Need-same-length (
   word-reads.Asked,
   word-reads.Learnt,
@@ -16882,17 +17645,17 @@ rc-same-length : (t : ℕ) → rc-lts.Need-same-length (
 ) (rc-at t) rc.Post
 rc-same-length t c = c .before .before .before .before .rs .kept .1 .1 .1 .1 .1 .0 ∙ c .before .before .before .before .before .before .before .before .before .word .kept .1 .0
 
--- src/lib.rt:188:9
+-- src/lib.rt:198:9
 rc-returns : (t : ℕ) → rc-lts.Need-returns (
   word-reads.Asked,
   word-reads.Learnt,
   rs-below t,
   rs.Post,
 ) (rc-at t) rc.Post
-unfolding Exp.RecordExp
+unfolding Exp.exp
 rc-returns t c = record { is = then-sure (c .before .before .before .before .before .before .before .before .before .word .ensures) (then-stop (c .before .before .before .before .rs .ensures .is) (c .enum-told .given .1)) }
 
--- src/lib.rt:190:18
+-- src/lib.rt:200:18
 rc-word-requires-2 : (t : ℕ) → rc-lts.Need-word-requires-2 (
   word-reads.Asked,
   word-reads.Learnt,
@@ -16901,7 +17664,7 @@ rc-word-requires-2 : (t : ℕ) → rc-lts.Need-word-requires-2 (
 ) (rc-at t) rc.Post
 rc-word-requires-2 t c κs = search needs
 
--- src/lib.rt:171:1
+-- src/lib.rt:181:1
 rc-same-length-2 : (t : ℕ) → rc-lts.Need-same-length-2 (
   word-reads.Asked,
   word-reads.Learnt,
@@ -16910,17 +17673,17 @@ rc-same-length-2 : (t : ℕ) → rc-lts.Need-same-length-2 (
 ) (rc-at t) rc.Post
 rc-same-length-2 t c = c .before .before .word2 .kept .1 .0 ∙ c .before .before .before .before .before .before .before .before .before .rs .kept .1 .1 .1 .1 .1 .0 ∙ c .before .before .before .before .before .before .before .before .before .before .before .before .before .before .word .kept .1 .0
 
--- src/lib.rt:171:1
+-- src/lib.rt:181:1
 rc-returns-2 : (t : ℕ) → rc-lts.Need-returns-2 (
   word-reads.Asked,
   word-reads.Learnt,
   rs-below t,
   rs.Post,
 ) (rc-at t) rc.Post
-unfolding Exp.RecordExp
+unfolding Exp.exp
 rc-returns-2 t c = record { is = then-sure (c .before .before .before .before .before .before .before .before .before .before .before .before .before .before .word .ensures) (then-done (c .before .before .before .before .before .before .before .before .before .rs .ensures .is) (c .before .before .before .before .before .r2 .given .1) (last-sure (c .before .before .word2 .ensures))) }
 
--- src/lib.rt:119:9
+-- src/lib.rt:129:9
 ro-group-requires : (t : ℕ) → ro-lts.Need-group-requires (
   group-reads.Asked,
   group-reads.Learnt,
@@ -16935,7 +17698,7 @@ ro-group-requires : (t : ℕ) → ro-lts.Need-group-requires (
 ) (ro-at t) ro.Post
 ro-group-requires t c κs = search needs
 
--- src/lib.rt:120:22
+-- src/lib.rt:130:22
 ro-enum-known-r1 : (t : ℕ) → ro-lts.Need-enum-known-r1 (
   group-reads.Asked,
   group-reads.Learnt,
@@ -16950,7 +17713,7 @@ ro-enum-known-r1 : (t : ℕ) → ro-lts.Need-enum-known-r1 (
 ) (ro-at t) ro.Post
 ro-enum-known-r1 t c = search needs
 
--- src/lib.rt:121:9
+-- src/lib.rt:131:9
 ro-enum-told : (t : ℕ) → ro-lts.Need-enum-told (
   group-reads.Asked,
   group-reads.Learnt,
@@ -16965,7 +17728,7 @@ ro-enum-told : (t : ℕ) → ro-lts.Need-enum-told (
 ) (ro-at t) ro.Post
 ro-enum-told t c = search needs
 
--- src/lib.rt:121:9
+-- src/lib.rt:131:9
 ro-returns : (t : ℕ) → ro-lts.Need-returns (
   group-reads.Asked,
   group-reads.Learnt,
@@ -16981,7 +17744,7 @@ ro-returns : (t : ℕ) → ro-lts.Need-returns (
 unfolding Exp.exp-row Exp.eq-exp
 ro-returns t c = record { is = group-not (c .before .before .group .ensures) (c .enum-told .given .1) }
 
--- src/lib.rt:123:9
+-- src/lib.rt:133:9
 ro-text-of-requires : (t : ℕ) → ro-lts.Need-text-of-requires (
   group-reads.Asked,
   group-reads.Learnt,
@@ -16996,7 +17759,7 @@ ro-text-of-requires : (t : ℕ) → ro-lts.Need-text-of-requires (
 ) (ro-at t) ro.Post
 ro-text-of-requires t c κs = search needs
 
--- src/lib.rt:124:22
+-- src/lib.rt:134:22
 ro-enum-known-r2 : (t : ℕ) → ro-lts.Need-enum-known-r2 (
   group-reads.Asked,
   group-reads.Learnt,
@@ -17011,7 +17774,7 @@ ro-enum-known-r2 : (t : ℕ) → ro-lts.Need-enum-known-r2 (
 ) (ro-at t) ro.Post
 ro-enum-known-r2 t c = search needs
 
--- src/lib.rt:125:9
+-- src/lib.rt:135:9
 ro-enum-told-2 : (t : ℕ) → ro-lts.Need-enum-told-2 (
   group-reads.Asked,
   group-reads.Learnt,
@@ -17026,7 +17789,7 @@ ro-enum-told-2 : (t : ℕ) → ro-lts.Need-enum-told-2 (
 ) (ro-at t) ro.Post
 ro-enum-told-2 t c = search needs
 
--- src/lib.rt:125:9
+-- src/lib.rt:135:9
 ro-same-length : (t : ℕ) → ro-lts.Need-same-length (
   group-reads.Asked,
   group-reads.Learnt,
@@ -17041,7 +17804,7 @@ ro-same-length : (t : ℕ) → ro-lts.Need-same-length (
 ) (ro-at t) ro.Post
 ro-same-length t c = c .before .before .before .before .text-of .kept .1 .1 .1 .1 .0
 
--- src/lib.rt:125:9
+-- src/lib.rt:135:9
 ro-returns-2 : (t : ℕ) → ro-lts.Need-returns-2 (
   group-reads.Asked,
   group-reads.Learnt,
@@ -17057,7 +17820,7 @@ ro-returns-2 : (t : ℕ) → ro-lts.Need-returns-2 (
 unfolding Exp.exp-row Exp.eq-exp
 ro-returns-2 t c = record { is = by-same (group-is (c .before .before .before .before .before .before .before .before .before .group .ensures) (c .before .before .before .before .before .before .before .r1 .given .1)) (then-stop (plain (c .before .before .before .before .text-of .ensures)) (c .enum-told2 .given .1)) }
 
--- src/lib.rt:127:29
+-- src/lib.rt:137:29
 ro-absent-requires : (t : ℕ) → ro-lts.Need-absent-requires (
   group-reads.Asked,
   group-reads.Learnt,
@@ -17072,7 +17835,7 @@ ro-absent-requires : (t : ℕ) → ro-lts.Need-absent-requires (
 ) (ro-at t) ro.Post
 ro-absent-requires t c κs = search needs
 
--- src/lib.rt:127:23
+-- src/lib.rt:137:23
 ro-enum-known-s3 : (t : ℕ) → ro-lts.Need-enum-known-s3 (
   group-reads.Asked,
   group-reads.Learnt,
@@ -17087,7 +17850,7 @@ ro-enum-known-s3 : (t : ℕ) → ro-lts.Need-enum-known-s3 (
 ) (ro-at t) ro.Post
 ro-enum-known-s3 t c = search needs
 
--- src/lib.rt:128:9
+-- src/lib.rt:138:9
 ro-same-length-2 : (t : ℕ) → ro-lts.Need-same-length-2 (
   group-reads.Asked,
   group-reads.Learnt,
@@ -17102,7 +17865,7 @@ ro-same-length-2 : (t : ℕ) → ro-lts.Need-same-length-2 (
 ) (ro-at t) ro.Post
 ro-same-length-2 t c = c .before .before .before .before .before .before .before .before .before .text-of .kept .1 .1 .1 .1 .0
 
--- src/lib.rt:128:9
+-- src/lib.rt:138:9
 ro-returns-3 : (t : ℕ) → ro-lts.Need-returns-3 (
   group-reads.Asked,
   group-reads.Learnt,
@@ -17132,7 +17895,7 @@ ro-enum-told-3 : (t : ℕ) → ro-lts.Need-enum-told-3 (
 ) (ro-at t) ro.Post
 ro-enum-told-3 t c = search needs
 
--- src/lib.rt:130:9
+-- src/lib.rt:140:9
 ro-group-requires-2 : (t : ℕ) → ro-lts.Need-group-requires-2 (
   group-reads.Asked,
   group-reads.Learnt,
@@ -17147,7 +17910,7 @@ ro-group-requires-2 : (t : ℕ) → ro-lts.Need-group-requires-2 (
 ) (ro-at t) ro.Post
 ro-group-requires-2 t c κs = search needs
 
--- src/lib.rt:131:22
+-- src/lib.rt:141:22
 ro-enum-known-r4 : (t : ℕ) → ro-lts.Need-enum-known-r4 (
   group-reads.Asked,
   group-reads.Learnt,
@@ -17162,7 +17925,7 @@ ro-enum-known-r4 : (t : ℕ) → ro-lts.Need-enum-known-r4 (
 ) (ro-at t) ro.Post
 ro-enum-known-r4 t c = search needs
 
--- src/lib.rt:132:9
+-- src/lib.rt:142:9
 ro-enum-told-4 : (t : ℕ) → ro-lts.Need-enum-told-4 (
   group-reads.Asked,
   group-reads.Learnt,
@@ -17177,7 +17940,7 @@ ro-enum-told-4 : (t : ℕ) → ro-lts.Need-enum-told-4 (
 ) (ro-at t) ro.Post
 ro-enum-told-4 t c = search needs
 
--- src/lib.rt:132:9
+-- src/lib.rt:142:9
 ro-same-length-3 : (t : ℕ) → ro-lts.Need-same-length-3 (
   group-reads.Asked,
   group-reads.Learnt,
@@ -17192,7 +17955,7 @@ ro-same-length-3 : (t : ℕ) → ro-lts.Need-same-length-3 (
 ) (ro-at t) ro.Post
 ro-same-length-3 t c = c .before .before .before .before .before .before .before .before .before .before .before .text-of .kept .1 .1 .1 .1 .0
 
--- src/lib.rt:132:9
+-- src/lib.rt:142:9
 ro-returns-4 : (t : ℕ) → ro-lts.Need-returns-4 (
   group-reads.Asked,
   group-reads.Learnt,
@@ -17208,7 +17971,7 @@ ro-returns-4 : (t : ℕ) → ro-lts.Need-returns-4 (
 unfolding Exp.exp-row Exp.eq-exp
 ro-returns-4 t c = record { is = by-same (group-is (c .before .before .before .before .before .before .before .before .before .before .before .before .before .before .before .before .group .ensures) (c .before .before .before .before .before .before .before .before .before .before .before .before .before .before .r1 .given .1)) (then-done (plain (c .before .before .before .before .before .before .before .before .before .before .before .text-of .ensures)) (c .before .before .before .before .before .before .before .r2 .given .1) (by-same (maybe-there (c .before .before .before .before .before .absent .ensures) (c .before .before .before .enum-told3 .given .1)) (group-not (c .before .before .group2 .ensures) (c .enum-told4 .given .1)))) }
 
--- src/lib.rt:134:9
+-- src/lib.rt:144:9
 ro-word-requires : (t : ℕ) → ro-lts.Need-word-requires (
   group-reads.Asked,
   group-reads.Learnt,
@@ -17223,7 +17986,7 @@ ro-word-requires : (t : ℕ) → ro-lts.Need-word-requires (
 ) (ro-at t) ro.Post
 ro-word-requires t c κs = search needs
 
--- src/lib.rt:135:5
+-- src/lib.rt:145:5
 ro-exp-requires : (t : ℕ) → ro-lts.Need-exp-requires (
   group-reads.Asked,
   group-reads.Learnt,
@@ -17238,7 +18001,7 @@ ro-exp-requires : (t : ℕ) → ro-lts.Need-exp-requires (
 ) (ro-at t) ro.Post
 ro-exp-requires t c κs = omega (arith, c .before .before .before .before .before .before .before .before .before .before .before .before .before .before .before .before .before .before .before .before .before .before .before .before .before .before .before .before .before .before .pre .0, c .before .before .before .before .before .before .before .before .before .before .before .before .before .before .before .before .before .before .before .before .before .before .before .before .before .before .before .before .before .before .pre .1)
 
--- src/lib.rt:105:1
+-- src/lib.rt:115:1
 ro-same-length-4 : (t : ℕ) → ro-lts.Need-same-length-4 (
   group-reads.Asked,
   group-reads.Learnt,
@@ -17253,7 +18016,7 @@ ro-same-length-4 : (t : ℕ) → ro-lts.Need-same-length-4 (
 ) (ro-at t) ro.Post
 ro-same-length-4 t c = c .before .before .exp .kept .1 .1 .1 .1 .1 .0 ∙ c .before .before .before .before .before .before .before .word .kept .1 .0 ∙ c .before .before .before .before .before .before .before .before .before .before .before .before .before .before .before .before .before .before .before .before .before .text-of .kept .1 .1 .1 .1 .0
 
--- src/lib.rt:105:1
+-- src/lib.rt:115:1
 ro-returns-5 : (t : ℕ) → ro-lts.Need-returns-5 (
   group-reads.Asked,
   group-reads.Learnt,
@@ -17276,7 +18039,7 @@ rs-Inv-loop text rec kinds starts lens out₀ left₀ cfg n s₀ i₀ out left s
 abbrev rs-μ-loop : rs-lts.MeasureT-loop
 rs-μ-loop text rec kinds starts lens out₀ left₀ cfg n s₀ i₀ out left s i = n - i
 
--- src/lib.rt:153:27
+-- src/lib.rt:163:27
 rs-list-requires : (t : ℕ) → rs-lts.Need-list-requires (
   list-reads.Asked,
   list-reads.Learnt,
@@ -17289,7 +18052,7 @@ rs-list-requires : (t : ℕ) → rs-lts.Need-list-requires (
 ) (rs-at t) rs.Post rs-Inv-loop rs-μ-loop
 rs-list-requires t c κs = search needs
 
--- src/lib.rt:153:18
+-- src/lib.rt:163:18
 rs-enum-known-n : (t : ℕ) → rs-lts.Need-enum-known-n (
   list-reads.Asked,
   list-reads.Learnt,
@@ -17302,7 +18065,7 @@ rs-enum-known-n : (t : ℕ) → rs-lts.Need-enum-known-n (
 ) (rs-at t) rs.Post rs-Inv-loop rs-μ-loop
 rs-enum-known-n t c = search needs
 
--- src/lib.rt:154:9
+-- src/lib.rt:164:9
 rs-enum-told : (t : ℕ) → rs-lts.Need-enum-told (
   list-reads.Asked,
   list-reads.Learnt,
@@ -17315,7 +18078,7 @@ rs-enum-told : (t : ℕ) → rs-lts.Need-enum-told (
 ) (rs-at t) rs.Post rs-Inv-loop rs-μ-loop
 rs-enum-told t c = search needs
 
--- src/lib.rt:154:9
+-- src/lib.rt:164:9
 rs-stop-requires : (t : ℕ) → rs-lts.Need-stop-requires (
   list-reads.Asked,
   list-reads.Learnt,
@@ -17328,7 +18091,7 @@ rs-stop-requires : (t : ℕ) → rs-lts.Need-stop-requires (
 ) (rs-at t) rs.Post rs-Inv-loop rs-μ-loop
 rs-stop-requires t c κs = search needs
 
--- src/lib.rt:154:9
+-- src/lib.rt:164:9
 rs-returns : (t : ℕ) → rs-lts.Need-returns (
   list-reads.Asked,
   list-reads.Learnt,
@@ -17342,7 +18105,7 @@ rs-returns : (t : ℕ) → rs-lts.Need-returns (
 unfolding Exp.exp-rows Helpers.sep
 rs-returns t c = record { is = list-not (c .stop .ensures) (c .before .before .before .list .ensures) (c .before .enum-told .given .1) }
 
--- src/lib.rt:158:5
+-- src/lib.rt:168:5
 rs-loop-holds : (t : ℕ) → rs-lts.Need-loop-holds (
   list-reads.Asked,
   list-reads.Learnt,
@@ -17355,7 +18118,7 @@ rs-loop-holds : (t : ℕ) → rs-lts.Need-loop-holds (
 ) (rs-at t) rs.Post rs-Inv-loop rs-μ-loop
 rs-loop-holds t c = (omega arith, λ r o m h. h, refl)
 
--- src/lib.rt:159:13
+-- src/lib.rt:169:13
 rs-between-requires : (t : ℕ) → rs-lts.Need-between-requires (
   list-reads.Asked,
   list-reads.Learnt,
@@ -17368,7 +18131,7 @@ rs-between-requires : (t : ℕ) → rs-lts.Need-between-requires (
 ) (rs-at t) rs.Post rs-Inv-loop rs-μ-loop
 rs-between-requires t c κs = search needs
 
--- src/lib.rt:160:13
+-- src/lib.rt:170:13
 rs-ro-requires : (t : ℕ) → rs-lts.Need-ro-requires (
   list-reads.Asked,
   list-reads.Learnt,
@@ -17381,7 +18144,7 @@ rs-ro-requires : (t : ℕ) → rs-lts.Need-ro-requires (
 ) (rs-at t) rs.Post rs-Inv-loop rs-μ-loop
 rs-ro-requires t c κs = omega (arith, c .before .before .before .before .before .before .before .before .before .before .before .before .before .before .before .before .before .before .pre .0, c .before .before .before .before .before .before .before .before .before .before .before .before .before .before .before .before .before .before .pre .1)
 
--- src/lib.rt:161:26
+-- src/lib.rt:171:26
 rs-enum-known-r2 : (t : ℕ) → rs-lts.Need-enum-known-r2 (
   list-reads.Asked,
   list-reads.Learnt,
@@ -17394,7 +18157,7 @@ rs-enum-known-r2 : (t : ℕ) → rs-lts.Need-enum-known-r2 (
 ) (rs-at t) rs.Post rs-Inv-loop rs-μ-loop
 rs-enum-known-r2 t c = search needs
 
--- src/lib.rt:162:13
+-- src/lib.rt:172:13
 rs-enum-told-2 : (t : ℕ) → rs-lts.Need-enum-told-2 (
   list-reads.Asked,
   list-reads.Learnt,
@@ -17407,7 +18170,7 @@ rs-enum-told-2 : (t : ℕ) → rs-lts.Need-enum-told-2 (
 ) (rs-at t) rs.Post rs-Inv-loop rs-μ-loop
 rs-enum-told-2 t c = search needs
 
--- src/lib.rt:162:13
+-- src/lib.rt:172:13
 rs-same-length : (t : ℕ) → rs-lts.Need-same-length (
   list-reads.Asked,
   list-reads.Learnt,
@@ -17420,7 +18183,7 @@ rs-same-length : (t : ℕ) → rs-lts.Need-same-length (
 ) (rs-at t) rs.Post rs-Inv-loop rs-μ-loop
 rs-same-length t c = c .before .before .before .before .ro .kept .1 .1 .1 .1 .1 .0 ∙ c .before .before .before .before .before .before .before .before .before .between .kept .1 .0 ∙ c .before .before .before .before .before .before .before .before .before .before .before .before .loop .inv .2
 
--- src/lib.rt:162:13
+-- src/lib.rt:172:13
 rs-returns-2 : (t : ℕ) → rs-lts.Need-returns-2 (
   list-reads.Asked,
   list-reads.Learnt,
@@ -17434,7 +18197,7 @@ rs-returns-2 : (t : ℕ) → rs-lts.Need-returns-2 (
 unfolding Exp.exp-rows Helpers.sep
 rs-returns-2 t c = record { is = by-same (list-is (c .before .before .before .before .before .before .before .before .before .before .before .before .before .before .before .before .list .ensures) (c .before .before .before .before .before .before .before .before .before .before .before .before .before .before .n .given .1)) (by-same (items-all _ _ _) (c .before .before .before .before .before .before .before .before .before .before .before .before .loop .inv .1 _ _ _ (from-more _ _ (c .before .before .before .before .before .before .before .before .before .before .before .loop-test .taken) (then-sure (c .before .before .before .before .before .before .before .before .before .between .ensures) (then-stop (c .before .before .before .before .ro .ensures .is) (c .enum-told2 .given .1)))))) }
 
--- src/lib.rt:165:9
+-- src/lib.rt:175:9
 rs-add-i : (t : ℕ) → rs-lts.Need-add-i (
   list-reads.Asked,
   list-reads.Learnt,
@@ -17447,7 +18210,7 @@ rs-add-i : (t : ℕ) → rs-lts.Need-add-i (
 ) (rs-at t) rs.Post rs-Inv-loop rs-μ-loop
 rs-add-i t c = omega (arith, c .before .before .before .before .before .before .before .before .before .before .before .before .loop-test .taken, c .before .before .before .before .before .before .before .before .before .before .before .before .before .before .known-told)
 
--- src/lib.rt:158:5
+-- src/lib.rt:168:5
 rs-loop-less : (t : ℕ) → rs-lts.Need-loop-less (
   list-reads.Asked,
   list-reads.Learnt,
@@ -17460,7 +18223,7 @@ rs-loop-less : (t : ℕ) → rs-lts.Need-loop-less (
 ) (rs-at t) rs.Post rs-Inv-loop rs-μ-loop
 rs-loop-less t c = omega arith
 
--- src/lib.rt:158:5
+-- src/lib.rt:168:5
 rs-loop-again : (t : ℕ) → rs-lts.Need-loop-again (
   list-reads.Asked,
   list-reads.Learnt,
@@ -17474,7 +18237,7 @@ rs-loop-again : (t : ℕ) → rs-lts.Need-loop-again (
 unfolding Exp.exp-rows Helpers.sep
 rs-loop-again t c = (omega (arith, c .before .before .before .before .before .before .before .before .before .before .before .before .before .loop .inv .0), λ r o m h. c .before .before .before .before .before .before .before .before .before .before .before .before .before .loop .inv .1 r o m (from-more _ _ (c .before .before .before .before .before .before .before .before .before .before .before .before .loop-test .taken) (then-sure (c .before .before .before .before .before .before .before .before .before .before .between .ensures) (then-done (c .before .before .before .before .before .ro .ensures .is) (c .before .r2 .given .1) h))), c .before .before .before .before .before .ro .kept .1 .1 .1 .1 .1 .0 ∙ c .before .before .before .before .before .before .before .before .before .before .between .kept .1 .0 ∙ c .before .before .before .before .before .before .before .before .before .before .before .before .before .loop .inv .2)
 
--- src/lib.rt:139:1
+-- src/lib.rt:149:1
 rs-same-length-2 : (t : ℕ) → rs-lts.Need-same-length-2 (
   list-reads.Asked,
   list-reads.Learnt,
@@ -17487,7 +18250,7 @@ rs-same-length-2 : (t : ℕ) → rs-lts.Need-same-length-2 (
 ) (rs-at t) rs.Post rs-Inv-loop rs-μ-loop
 rs-same-length-2 t c = c .before .loop .inv .2
 
--- src/lib.rt:139:1
+-- src/lib.rt:149:1
 rs-returns-3 : (t : ℕ) → rs-lts.Need-returns-3 (
   list-reads.Asked,
   list-reads.Learnt,
@@ -17501,7 +18264,7 @@ rs-returns-3 : (t : ℕ) → rs-lts.Need-returns-3 (
 unfolding Exp.exp-rows Helpers.sep
 rs-returns-3 t c = record { is = by-same (list-is (c .before .before .before .before .before .list .ensures) (c .before .before .before .n .given .1)) (by-same (items-all _ _ _) (c .before .loop .inv .1 _ _ _ (from-none _ _ (c .loop-test .left)))) }
 
--- src/lib.rt:2121:14
+-- src/lib.rt:2097:14
 sa-str-requires : (t : ℕ) → sa-lts.Need-str-requires (
   str-below t,
   str.Post,
@@ -17512,7 +18275,7 @@ sa-str-requires : (t : ℕ) → sa-lts.Need-str-requires (
 ) (sa-at t) sa.Post
 sa-str-requires t c κs = omega (arith, c .before .before .before .before .before .before .before .before .before .pre .0, c .before .before .before .before .before .before .before .before .before .pre .1)
 
--- src/lib.rt:2122:14
+-- src/lib.rt:2098:14
 sa-da-requires : (t : ℕ) → sa-lts.Need-da-requires (
   str-below t,
   str.Post,
@@ -17523,7 +18286,7 @@ sa-da-requires : (t : ℕ) → sa-lts.Need-da-requires (
 ) (sa-at t) sa.Post
 sa-da-requires t c κs = omega (arith, c .before .before .before .before .before .before .before .before .before .pre .0, c .before .before .before .before .before .before .before .before .before .pre .1)
 
--- src/lib.rt:2123:14
+-- src/lib.rt:2099:14
 sa-stop-requires : (t : ℕ) → sa-lts.Need-stop-requires (
   str-below t,
   str.Post,
@@ -17534,7 +18297,7 @@ sa-stop-requires : (t : ℕ) → sa-lts.Need-stop-requires (
 ) (sa-at t) sa.Post
 sa-stop-requires t c κs = search needs
 
--- src/lib.rt:2105:1
+-- src/lib.rt:2081:1
 sa-same-length : (t : ℕ) → sa-lts.Need-same-length (
   str-below t,
   str.Post,
@@ -17545,7 +18308,7 @@ sa-same-length : (t : ℕ) → sa-lts.Need-same-length (
 ) (sa-at t) sa.Post
 sa-same-length t c = c .before .before .str .kept .1 .1 .1 .1 .1 .0
 
--- src/lib.rt:2105:1
+-- src/lib.rt:2081:1
 sa-returns : (t : ℕ) → sa-lts.Need-returns (
   str-below t,
   str.Post,
@@ -17557,7 +18320,7 @@ sa-returns : (t : ℕ) → sa-lts.Need-returns (
 unfolding StrExp.app-arg
 sa-returns t c = record { is = at-key (λ i. StrExp.app-arg (walks (c .before .before .before .before .before .before .before .before .before .before .before .before .args .cfg .left)) (cfgOf (c .before .before .before .before .before .before .before .before .before .before .before .before .args .cfg)) i) (c .before .before .before .before .before .match .keys1) (c .before .before .str .ensures .is) }
 
--- src/lib.rt:2105:1
+-- src/lib.rt:2081:1
 sa-same-length-2 : (t : ℕ) → sa-lts.Need-same-length-2 (
   str-below t,
   str.Post,
@@ -17568,7 +18331,7 @@ sa-same-length-2 : (t : ℕ) → sa-lts.Need-same-length-2 (
 ) (sa-at t) sa.Post
 sa-same-length-2 t c = c .before .before .da .kept .1 .1 .1 .1 .1 .0
 
--- src/lib.rt:2105:1
+-- src/lib.rt:2081:1
 sa-returns-2 : (t : ℕ) → sa-lts.Need-returns-2 (
   str-below t,
   str.Post,
@@ -17580,7 +18343,7 @@ sa-returns-2 : (t : ℕ) → sa-lts.Need-returns-2 (
 unfolding StrExp.app-arg
 sa-returns-2 t c = record { is = at-key (λ i. StrExp.app-arg (walks (c .before .before .before .before .before .before .before .before .before .before .before .before .args .cfg .left)) (cfgOf (c .before .before .before .before .before .before .before .before .before .before .before .before .args .cfg)) i) (c .before .before .before .before .before .match .keys2) (c .before .before .da .ensures .is) }
 
--- src/lib.rt:2105:1
+-- src/lib.rt:2081:1
 sa-returns-3 : (t : ℕ) → sa-lts.Need-returns-3 (
   str-below t,
   str.Post,
@@ -17592,7 +18355,7 @@ sa-returns-3 : (t : ℕ) → sa-lts.Need-returns-3 (
 unfolding StrExp.app-arg
 sa-returns-3 t c = record { is = beyond ((walks (c .before .before .before .before .before .before .before .before .args .cfg .left) .get-str-exp (cfgOf (c .before .before .before .before .before .before .before .before .args .cfg))) ∷ GetDec.dec-arg (walks (c .before .before .before .before .before .before .before .before .args .cfg .left)) (cfgOf (c .before .before .before .before .before .before .before .before .args .cfg)) ∷ []) (c .before .before .before .before .before .before .before .before .args .which) 2 refl (past (past zero-le (c .before .match .rest .0 .1)) (c .before .match .rest .1)) (c .stop .ensures) }
 
--- src/lib.rt:1630:9
+-- src/lib.rt:1606:9
 sb-group-requires : (t : ℕ) → sb-lts.Need-group-requires (
   group-reads.Asked,
   group-reads.Learnt,
@@ -17609,7 +18372,7 @@ sb-group-requires : (t : ℕ) → sb-lts.Need-group-requires (
 ) (sb-at t) sb.Post
 sb-group-requires t c κs = search needs
 
--- src/lib.rt:1631:22
+-- src/lib.rt:1607:22
 sb-enum-known-r1 : (t : ℕ) → sb-lts.Need-enum-known-r1 (
   group-reads.Asked,
   group-reads.Learnt,
@@ -17626,7 +18389,7 @@ sb-enum-known-r1 : (t : ℕ) → sb-lts.Need-enum-known-r1 (
 ) (sb-at t) sb.Post
 sb-enum-known-r1 t c = search needs
 
--- src/lib.rt:1632:9
+-- src/lib.rt:1608:9
 sb-enum-told : (t : ℕ) → sb-lts.Need-enum-told (
   group-reads.Asked,
   group-reads.Learnt,
@@ -17643,7 +18406,7 @@ sb-enum-told : (t : ℕ) → sb-lts.Need-enum-told (
 ) (sb-at t) sb.Post
 sb-enum-told t c = search needs
 
--- src/lib.rt:1632:9
+-- src/lib.rt:1608:9
 sb-returns : (t : ℕ) → sb-lts.Need-returns (
   group-reads.Asked,
   group-reads.Learnt,
@@ -17661,7 +18424,7 @@ sb-returns : (t : ℕ) → sb-lts.Need-returns (
 unfolding DecOne.str-bind
 sb-returns t c = record { is = group-not (c .before .before .group .ensures) (c .enum-told .given .1) }
 
--- src/lib.rt:1634:9
+-- src/lib.rt:1610:9
 sb-text-of-requires : (t : ℕ) → sb-lts.Need-text-of-requires (
   group-reads.Asked,
   group-reads.Learnt,
@@ -17678,7 +18441,7 @@ sb-text-of-requires : (t : ℕ) → sb-lts.Need-text-of-requires (
 ) (sb-at t) sb.Post
 sb-text-of-requires t c κs = search needs
 
--- src/lib.rt:1635:22
+-- src/lib.rt:1611:22
 sb-enum-known-r2 : (t : ℕ) → sb-lts.Need-enum-known-r2 (
   group-reads.Asked,
   group-reads.Learnt,
@@ -17695,7 +18458,7 @@ sb-enum-known-r2 : (t : ℕ) → sb-lts.Need-enum-known-r2 (
 ) (sb-at t) sb.Post
 sb-enum-known-r2 t c = search needs
 
--- src/lib.rt:1636:9
+-- src/lib.rt:1612:9
 sb-enum-told-2 : (t : ℕ) → sb-lts.Need-enum-told-2 (
   group-reads.Asked,
   group-reads.Learnt,
@@ -17712,7 +18475,7 @@ sb-enum-told-2 : (t : ℕ) → sb-lts.Need-enum-told-2 (
 ) (sb-at t) sb.Post
 sb-enum-told-2 t c = search needs
 
--- src/lib.rt:1636:9
+-- src/lib.rt:1612:9
 sb-same-length : (t : ℕ) → sb-lts.Need-same-length (
   group-reads.Asked,
   group-reads.Learnt,
@@ -17729,7 +18492,7 @@ sb-same-length : (t : ℕ) → sb-lts.Need-same-length (
 ) (sb-at t) sb.Post
 sb-same-length t c = c .before .before .before .before .text-of .kept .1 .1 .1 .1 .0
 
--- src/lib.rt:1636:9
+-- src/lib.rt:1612:9
 sb-returns-2 : (t : ℕ) → sb-lts.Need-returns-2 (
   group-reads.Asked,
   group-reads.Learnt,
@@ -17747,7 +18510,7 @@ sb-returns-2 : (t : ℕ) → sb-lts.Need-returns-2 (
 unfolding DecOne.str-bind
 sb-returns-2 t c = record { is = by-same (group-is (c .before .before .before .before .before .before .before .before .before .group .ensures) (c .before .before .before .before .before .before .before .r1 .given .1)) (then-stop (plain (c .before .before .before .before .text-of .ensures)) (c .enum-told2 .given .1)) }
 
--- src/lib.rt:1638:9
+-- src/lib.rt:1614:9
 sb-ac-requires : (t : ℕ) → sb-lts.Need-ac-requires (
   group-reads.Asked,
   group-reads.Learnt,
@@ -17764,7 +18527,7 @@ sb-ac-requires : (t : ℕ) → sb-lts.Need-ac-requires (
 ) (sb-at t) sb.Post
 sb-ac-requires t c κs = omega (arith, c .before .before .before .before .before .before .before .before .before .before .before .before .before .before .before .before .before .before .before .pre .0, c .before .before .before .before .before .before .before .before .before .before .before .before .before .before .before .before .before .before .before .pre .1)
 
--- src/lib.rt:1639:22
+-- src/lib.rt:1615:22
 sb-enum-known-r3 : (t : ℕ) → sb-lts.Need-enum-known-r3 (
   group-reads.Asked,
   group-reads.Learnt,
@@ -17781,7 +18544,7 @@ sb-enum-known-r3 : (t : ℕ) → sb-lts.Need-enum-known-r3 (
 ) (sb-at t) sb.Post
 sb-enum-known-r3 t c = search needs
 
--- src/lib.rt:1640:9
+-- src/lib.rt:1616:9
 sb-enum-told-3 : (t : ℕ) → sb-lts.Need-enum-told-3 (
   group-reads.Asked,
   group-reads.Learnt,
@@ -17798,7 +18561,7 @@ sb-enum-told-3 : (t : ℕ) → sb-lts.Need-enum-told-3 (
 ) (sb-at t) sb.Post
 sb-enum-told-3 t c = search needs
 
--- src/lib.rt:1640:9
+-- src/lib.rt:1616:9
 sb-same-length-2 : (t : ℕ) → sb-lts.Need-same-length-2 (
   group-reads.Asked,
   group-reads.Learnt,
@@ -17815,7 +18578,7 @@ sb-same-length-2 : (t : ℕ) → sb-lts.Need-same-length-2 (
 ) (sb-at t) sb.Post
 sb-same-length-2 t c = c .before .before .before .before .ac .kept .1 .1 .1 .1 .1 .0 ∙ c .before .before .before .before .before .before .before .before .before .before .before .before .text-of .kept .1 .1 .1 .1 .0
 
--- src/lib.rt:1640:9
+-- src/lib.rt:1616:9
 sb-returns-3 : (t : ℕ) → sb-lts.Need-returns-3 (
   group-reads.Asked,
   group-reads.Learnt,
@@ -17833,7 +18596,7 @@ sb-returns-3 : (t : ℕ) → sb-lts.Need-returns-3 (
 unfolding DecOne.str-bind
 sb-returns-3 t c = record { is = by-same (group-is (c .before .before .before .before .before .before .before .before .before .before .before .before .before .before .before .before .before .group .ensures) (c .before .before .before .before .before .before .before .before .before .before .before .before .before .before .before .r1 .given .1)) (then-done (plain (c .before .before .before .before .before .before .before .before .before .before .before .before .text-of .ensures)) (c .before .before .before .before .before .before .before .before .r2 .given .1) (then-stop (c .before .before .before .before .ac .ensures .is) (c .enum-told3 .given .1))) }
 
--- src/lib.rt:1642:29
+-- src/lib.rt:1618:29
 sb-absent-requires : (t : ℕ) → sb-lts.Need-absent-requires (
   group-reads.Asked,
   group-reads.Learnt,
@@ -17850,7 +18613,7 @@ sb-absent-requires : (t : ℕ) → sb-lts.Need-absent-requires (
 ) (sb-at t) sb.Post
 sb-absent-requires t c κs = search needs
 
--- src/lib.rt:1642:23
+-- src/lib.rt:1618:23
 sb-enum-known-s4 : (t : ℕ) → sb-lts.Need-enum-known-s4 (
   group-reads.Asked,
   group-reads.Learnt,
@@ -17867,7 +18630,7 @@ sb-enum-known-s4 : (t : ℕ) → sb-lts.Need-enum-known-s4 (
 ) (sb-at t) sb.Post
 sb-enum-known-s4 t c = search needs
 
--- src/lib.rt:1643:9
+-- src/lib.rt:1619:9
 sb-same-length-3 : (t : ℕ) → sb-lts.Need-same-length-3 (
   group-reads.Asked,
   group-reads.Learnt,
@@ -17884,7 +18647,7 @@ sb-same-length-3 : (t : ℕ) → sb-lts.Need-same-length-3 (
 ) (sb-at t) sb.Post
 sb-same-length-3 t c = c .before .before .before .before .before .before .before .before .before .ac .kept .1 .1 .1 .1 .1 .0 ∙ c .before .before .before .before .before .before .before .before .before .before .before .before .before .before .before .before .before .text-of .kept .1 .1 .1 .1 .0
 
--- src/lib.rt:1643:9
+-- src/lib.rt:1619:9
 sb-returns-4 : (t : ℕ) → sb-lts.Need-returns-4 (
   group-reads.Asked,
   group-reads.Learnt,
@@ -17918,7 +18681,7 @@ sb-enum-told-4 : (t : ℕ) → sb-lts.Need-enum-told-4 (
 ) (sb-at t) sb.Post
 sb-enum-told-4 t c = search needs
 
--- src/lib.rt:1645:9
+-- src/lib.rt:1621:9
 sb-group-requires-2 : (t : ℕ) → sb-lts.Need-group-requires-2 (
   group-reads.Asked,
   group-reads.Learnt,
@@ -17935,7 +18698,7 @@ sb-group-requires-2 : (t : ℕ) → sb-lts.Need-group-requires-2 (
 ) (sb-at t) sb.Post
 sb-group-requires-2 t c κs = search needs
 
--- src/lib.rt:1646:22
+-- src/lib.rt:1622:22
 sb-enum-known-r5 : (t : ℕ) → sb-lts.Need-enum-known-r5 (
   group-reads.Asked,
   group-reads.Learnt,
@@ -17952,7 +18715,7 @@ sb-enum-known-r5 : (t : ℕ) → sb-lts.Need-enum-known-r5 (
 ) (sb-at t) sb.Post
 sb-enum-known-r5 t c = search needs
 
--- src/lib.rt:1647:9
+-- src/lib.rt:1623:9
 sb-enum-told-5 : (t : ℕ) → sb-lts.Need-enum-told-5 (
   group-reads.Asked,
   group-reads.Learnt,
@@ -17969,7 +18732,7 @@ sb-enum-told-5 : (t : ℕ) → sb-lts.Need-enum-told-5 (
 ) (sb-at t) sb.Post
 sb-enum-told-5 t c = search needs
 
--- src/lib.rt:1647:9
+-- src/lib.rt:1623:9
 sb-same-length-4 : (t : ℕ) → sb-lts.Need-same-length-4 (
   group-reads.Asked,
   group-reads.Learnt,
@@ -17986,7 +18749,7 @@ sb-same-length-4 : (t : ℕ) → sb-lts.Need-same-length-4 (
 ) (sb-at t) sb.Post
 sb-same-length-4 t c = c .before .before .before .before .before .before .before .before .before .before .before .ac .kept .1 .1 .1 .1 .1 .0 ∙ c .before .before .before .before .before .before .before .before .before .before .before .before .before .before .before .before .before .before .before .text-of .kept .1 .1 .1 .1 .0
 
--- src/lib.rt:1647:9
+-- src/lib.rt:1623:9
 sb-returns-5 : (t : ℕ) → sb-lts.Need-returns-5 (
   group-reads.Asked,
   group-reads.Learnt,
@@ -18004,7 +18767,7 @@ sb-returns-5 : (t : ℕ) → sb-lts.Need-returns-5 (
 unfolding DecOne.str-bind
 sb-returns-5 t c = record { is = by-same (group-is (c .before .before .before .before .before .before .before .before .before .before .before .before .before .before .before .before .before .before .before .before .before .before .before .before .group .ensures) (c .before .before .before .before .before .before .before .before .before .before .before .before .before .before .before .before .before .before .before .before .before .before .r1 .given .1)) (then-done (plain (c .before .before .before .before .before .before .before .before .before .before .before .before .before .before .before .before .before .before .before .text-of .ensures)) (c .before .before .before .before .before .before .before .before .before .before .before .before .before .before .before .r2 .given .1) (then-done (c .before .before .before .before .before .before .before .before .before .before .before .ac .ensures .is) (c .before .before .before .before .before .before .before .r3 .given .1) (by-same (maybe-there (c .before .before .before .before .before .absent .ensures) (c .before .before .before .enum-told4 .given .1)) (group-not (c .before .before .group2 .ensures) (c .enum-told5 .given .1))))) }
 
--- src/lib.rt:1649:9
+-- src/lib.rt:1625:9
 sb-word-requires : (t : ℕ) → sb-lts.Need-word-requires (
   group-reads.Asked,
   group-reads.Learnt,
@@ -18021,7 +18784,7 @@ sb-word-requires : (t : ℕ) → sb-lts.Need-word-requires (
 ) (sb-at t) sb.Post
 sb-word-requires t c κs = search needs
 
--- src/lib.rt:1650:5
+-- src/lib.rt:1626:5
 sb-str-requires : (t : ℕ) → sb-lts.Need-str-requires (
   group-reads.Asked,
   group-reads.Learnt,
@@ -18038,7 +18801,7 @@ sb-str-requires : (t : ℕ) → sb-lts.Need-str-requires (
 ) (sb-at t) sb.Post
 sb-str-requires t c κs = omega (arith, c .before .before .before .before .before .before .before .before .before .before .before .before .before .before .before .before .before .before .before .before .before .before .before .before .before .before .before .before .before .before .before .before .before .before .before .before .before .before .pre .0, c .before .before .before .before .before .before .before .before .before .before .before .before .before .before .before .before .before .before .before .before .before .before .before .before .before .before .before .before .before .before .before .before .before .before .before .before .before .before .pre .1)
 
--- src/lib.rt:1616:1
+-- src/lib.rt:1592:1
 sb-same-length-5 : (t : ℕ) → sb-lts.Need-same-length-5 (
   group-reads.Asked,
   group-reads.Learnt,
@@ -18055,7 +18818,7 @@ sb-same-length-5 : (t : ℕ) → sb-lts.Need-same-length-5 (
 ) (sb-at t) sb.Post
 sb-same-length-5 t c = c .before .before .str .kept .1 .1 .1 .1 .1 .0 ∙ c .before .before .before .before .before .before .before .word .kept .1 .0 ∙ c .before .before .before .before .before .before .before .before .before .before .before .before .before .before .before .before .before .before .before .before .before .ac .kept .1 .1 .1 .1 .1 .0 ∙ c .before .before .before .before .before .before .before .before .before .before .before .before .before .before .before .before .before .before .before .before .before .before .before .before .before .before .before .before .before .text-of .kept .1 .1 .1 .1 .0
 
--- src/lib.rt:1616:1
+-- src/lib.rt:1592:1
 sb-returns-6 : (t : ℕ) → sb-lts.Need-returns-6 (
   group-reads.Asked,
   group-reads.Learnt,
@@ -18080,7 +18843,7 @@ sd-Inv-loop text rec kinds starts lens out₀ left₀ cfg n s₀ i₀ out left s
 abbrev sd-μ-loop : sd-lts.MeasureT-loop
 sd-μ-loop text rec kinds starts lens out₀ left₀ cfg n s₀ i₀ out left s i = n - i
 
--- src/lib.rt:1597:9
+-- src/lib.rt:1573:9
 sd-word-requires : (t : ℕ) → sd-lts.Need-word-requires (
   word-reads.Asked,
   word-reads.Learnt,
@@ -18095,7 +18858,7 @@ sd-word-requires : (t : ℕ) → sd-lts.Need-word-requires (
 ) (sd-at t) sd.Post sd-Inv-loop sd-μ-loop
 sd-word-requires t c κs = search needs
 
--- src/lib.rt:1598:27
+-- src/lib.rt:1574:27
 sd-list-requires : (t : ℕ) → sd-lts.Need-list-requires (
   word-reads.Asked,
   word-reads.Learnt,
@@ -18110,7 +18873,7 @@ sd-list-requires : (t : ℕ) → sd-lts.Need-list-requires (
 ) (sd-at t) sd.Post sd-Inv-loop sd-μ-loop
 sd-list-requires t c κs = search needs
 
--- src/lib.rt:1598:18
+-- src/lib.rt:1574:18
 sd-enum-known-n : (t : ℕ) → sd-lts.Need-enum-known-n (
   word-reads.Asked,
   word-reads.Learnt,
@@ -18125,7 +18888,7 @@ sd-enum-known-n : (t : ℕ) → sd-lts.Need-enum-known-n (
 ) (sd-at t) sd.Post sd-Inv-loop sd-μ-loop
 sd-enum-known-n t c = search needs
 
--- src/lib.rt:1599:9
+-- src/lib.rt:1575:9
 sd-enum-told : (t : ℕ) → sd-lts.Need-enum-told (
   word-reads.Asked,
   word-reads.Learnt,
@@ -18140,7 +18903,7 @@ sd-enum-told : (t : ℕ) → sd-lts.Need-enum-told (
 ) (sd-at t) sd.Post sd-Inv-loop sd-μ-loop
 sd-enum-told t c = search needs
 
--- src/lib.rt:1599:9
+-- src/lib.rt:1575:9
 sd-stop-requires : (t : ℕ) → sd-lts.Need-stop-requires (
   word-reads.Asked,
   word-reads.Learnt,
@@ -18155,7 +18918,7 @@ sd-stop-requires : (t : ℕ) → sd-lts.Need-stop-requires (
 ) (sd-at t) sd.Post sd-Inv-loop sd-μ-loop
 sd-stop-requires t c κs = search needs
 
--- src/lib.rt:1599:9
+-- src/lib.rt:1575:9
 sd-same-length : (t : ℕ) → sd-lts.Need-same-length (
   word-reads.Asked,
   word-reads.Learnt,
@@ -18170,7 +18933,7 @@ sd-same-length : (t : ℕ) → sd-lts.Need-same-length (
 ) (sd-at t) sd.Post sd-Inv-loop sd-μ-loop
 sd-same-length t c = c .before .before .before .before .before .before .word .kept .1 .0
 
--- src/lib.rt:1599:9
+-- src/lib.rt:1575:9
 sd-returns : (t : ℕ) → sd-lts.Need-returns (
   word-reads.Asked,
   word-reads.Learnt,
@@ -18183,10 +18946,10 @@ sd-returns : (t : ℕ) → sd-lts.Need-returns (
   sb-below t,
   sb.Post,
 ) (sd-at t) sd.Post sd-Inv-loop sd-μ-loop
-unfolding DecOne.StructureDec Helpers.sep-with-lines
+unfolding DecOne.dec-one Helpers.sep-with-lines
 sd-returns t c = record { is = then-sure (c .before .before .before .before .before .before .word .ensures) (list-not (c .stop .ensures) (c .before .before .before .list .ensures) (c .before .enum-told .given .1)) }
 
--- src/lib.rt:1603:5
+-- src/lib.rt:1579:5
 sd-loop-holds : (t : ℕ) → sd-lts.Need-loop-holds (
   word-reads.Asked,
   word-reads.Learnt,
@@ -18201,7 +18964,7 @@ sd-loop-holds : (t : ℕ) → sd-lts.Need-loop-holds (
 ) (sd-at t) sd.Post sd-Inv-loop sd-μ-loop
 sd-loop-holds t c = (omega arith, λ r o m h. h, refl)
 
--- src/lib.rt:1604:13
+-- src/lib.rt:1580:13
 sd-new-line-requires : (t : ℕ) → sd-lts.Need-new-line-requires (
   word-reads.Asked,
   word-reads.Learnt,
@@ -18216,7 +18979,7 @@ sd-new-line-requires : (t : ℕ) → sd-lts.Need-new-line-requires (
 ) (sd-at t) sd.Post sd-Inv-loop sd-μ-loop
 sd-new-line-requires t c κs = search needs
 
--- src/lib.rt:1605:13
+-- src/lib.rt:1581:13
 sd-sb-requires : (t : ℕ) → sd-lts.Need-sb-requires (
   word-reads.Asked,
   word-reads.Learnt,
@@ -18231,7 +18994,7 @@ sd-sb-requires : (t : ℕ) → sd-lts.Need-sb-requires (
 ) (sd-at t) sd.Post sd-Inv-loop sd-μ-loop
 sd-sb-requires t c κs = omega (arith, c .before .before .before .before .before .before .before .before .before .before .before .before .before .before .before .before .before .before .before .before .before .before .pre .0, c .before .before .before .before .before .before .before .before .before .before .before .before .before .before .before .before .before .before .before .before .before .before .pre .1)
 
--- src/lib.rt:1606:26
+-- src/lib.rt:1582:26
 sd-enum-known-r4 : (t : ℕ) → sd-lts.Need-enum-known-r4 (
   word-reads.Asked,
   word-reads.Learnt,
@@ -18246,7 +19009,7 @@ sd-enum-known-r4 : (t : ℕ) → sd-lts.Need-enum-known-r4 (
 ) (sd-at t) sd.Post sd-Inv-loop sd-μ-loop
 sd-enum-known-r4 t c = search needs
 
--- src/lib.rt:1607:13
+-- src/lib.rt:1583:13
 sd-enum-told-2 : (t : ℕ) → sd-lts.Need-enum-told-2 (
   word-reads.Asked,
   word-reads.Learnt,
@@ -18261,7 +19024,7 @@ sd-enum-told-2 : (t : ℕ) → sd-lts.Need-enum-told-2 (
 ) (sd-at t) sd.Post sd-Inv-loop sd-μ-loop
 sd-enum-told-2 t c = search needs
 
--- src/lib.rt:1607:13
+-- src/lib.rt:1583:13
 sd-same-length-2 : (t : ℕ) → sd-lts.Need-same-length-2 (
   word-reads.Asked,
   word-reads.Learnt,
@@ -18276,7 +19039,7 @@ sd-same-length-2 : (t : ℕ) → sd-lts.Need-same-length-2 (
 ) (sd-at t) sd.Post sd-Inv-loop sd-μ-loop
 sd-same-length-2 t c = c .before .before .before .before .sb .kept .1 .1 .1 .1 .1 .0 ∙ c .before .before .before .before .before .before .before .before .before .new-line .kept .1 .0 ∙ c .before .before .before .before .before .before .before .before .before .before .before .before .loop .inv .2 ∙ c .before .before .before .before .before .before .before .before .before .before .before .before .before .before .before .before .before .before .before .word .kept .1 .0
 
--- src/lib.rt:1607:13
+-- src/lib.rt:1583:13
 sd-returns-2 : (t : ℕ) → sd-lts.Need-returns-2 (
   word-reads.Asked,
   word-reads.Learnt,
@@ -18289,10 +19052,10 @@ sd-returns-2 : (t : ℕ) → sd-lts.Need-returns-2 (
   sb-below t,
   sb.Post,
 ) (sd-at t) sd.Post sd-Inv-loop sd-μ-loop
-unfolding DecOne.StructureDec Helpers.sep-with-lines
+unfolding DecOne.dec-one Helpers.sep-with-lines
 sd-returns-2 t c = record { is = then-sure (c .before .before .before .before .before .before .before .before .before .before .before .before .before .before .before .before .before .before .before .word .ensures) (by-same (list-is (c .before .before .before .before .before .before .before .before .before .before .before .before .before .before .before .before .list .ensures) (c .before .before .before .before .before .before .before .before .before .before .before .before .before .before .n .given .1)) (by-same (items-all _ _ _) (c .before .before .before .before .before .before .before .before .before .before .before .before .loop .inv .1 _ _ _ (from-more _ _ (c .before .before .before .before .before .before .before .before .before .before .before .loop-test .taken) (then-sure (c .before .before .before .before .before .before .before .before .before .new-line .ensures) (then-stop (c .before .before .before .before .sb .ensures .is) (c .enum-told2 .given .1))))))) }
 
--- src/lib.rt:1610:9
+-- src/lib.rt:1586:9
 sd-add-i : (t : ℕ) → sd-lts.Need-add-i (
   word-reads.Asked,
   word-reads.Learnt,
@@ -18307,7 +19070,7 @@ sd-add-i : (t : ℕ) → sd-lts.Need-add-i (
 ) (sd-at t) sd.Post sd-Inv-loop sd-μ-loop
 sd-add-i t c = omega (arith, c .before .before .before .before .before .before .before .before .before .before .before .before .loop-test .taken, c .before .before .before .before .before .before .before .before .before .before .before .before .before .before .known-told)
 
--- src/lib.rt:1603:5
+-- src/lib.rt:1579:5
 sd-loop-less : (t : ℕ) → sd-lts.Need-loop-less (
   word-reads.Asked,
   word-reads.Learnt,
@@ -18322,7 +19085,7 @@ sd-loop-less : (t : ℕ) → sd-lts.Need-loop-less (
 ) (sd-at t) sd.Post sd-Inv-loop sd-μ-loop
 sd-loop-less t c = omega arith
 
--- src/lib.rt:1603:5
+-- src/lib.rt:1579:5
 sd-loop-again : (t : ℕ) → sd-lts.Need-loop-again (
   word-reads.Asked,
   word-reads.Learnt,
@@ -18335,10 +19098,10 @@ sd-loop-again : (t : ℕ) → sd-lts.Need-loop-again (
   sb-below t,
   sb.Post,
 ) (sd-at t) sd.Post sd-Inv-loop sd-μ-loop
-unfolding DecOne.StructureDec Helpers.sep-with-lines
+unfolding DecOne.dec-one Helpers.sep-with-lines
 sd-loop-again t c = (omega (arith, c .before .before .before .before .before .before .before .before .before .before .before .before .before .loop .inv .0), λ r o m h. c .before .before .before .before .before .before .before .before .before .before .before .before .before .loop .inv .1 r o m (from-more _ _ (c .before .before .before .before .before .before .before .before .before .before .before .before .loop-test .taken) (then-sure (c .before .before .before .before .before .before .before .before .before .before .new-line .ensures) (then-done (c .before .before .before .before .before .sb .ensures .is) (c .before .r4 .given .1) h))), c .before .before .before .before .before .sb .kept .1 .1 .1 .1 .1 .0 ∙ c .before .before .before .before .before .before .before .before .before .before .new-line .kept .1 .0 ∙ c .before .before .before .before .before .before .before .before .before .before .before .before .before .loop .inv .2)
 
--- src/lib.rt:1583:1
+-- src/lib.rt:1559:1
 sd-same-length-3 : (t : ℕ) → sd-lts.Need-same-length-3 (
   word-reads.Asked,
   word-reads.Learnt,
@@ -18353,7 +19116,7 @@ sd-same-length-3 : (t : ℕ) → sd-lts.Need-same-length-3 (
 ) (sd-at t) sd.Post sd-Inv-loop sd-μ-loop
 sd-same-length-3 t c = c .before .loop .inv .2 ∙ c .before .before .before .before .before .before .before .before .word .kept .1 .0
 
--- src/lib.rt:1583:1
+-- src/lib.rt:1559:1
 sd-returns-3 : (t : ℕ) → sd-lts.Need-returns-3 (
   word-reads.Asked,
   word-reads.Learnt,
@@ -18366,10 +19129,10 @@ sd-returns-3 : (t : ℕ) → sd-lts.Need-returns-3 (
   sb-below t,
   sb.Post,
 ) (sd-at t) sd.Post sd-Inv-loop sd-μ-loop
-unfolding DecOne.StructureDec Helpers.sep-with-lines
+unfolding DecOne.dec-one Helpers.sep-with-lines
 sd-returns-3 t c = record { is = then-sure (c .before .before .before .before .before .before .before .before .word .ensures) (by-same (list-is (c .before .before .before .before .before .list .ensures) (c .before .before .before .n .given .1)) (by-same (items-all _ _ _) (c .before .loop .inv .1 _ _ _ (from-none _ _ (c .loop-test .left))))) }
 
--- src/lib.rt:420:9
+-- src/lib.rt:430:9
 seq-word-requires : (t : ℕ) → seq-lts.Need-word-requires (
   word-reads.Asked,
   word-reads.Learnt,
@@ -18384,7 +19147,7 @@ seq-word-requires : (t : ℕ) → seq-lts.Need-word-requires (
 ) (seq-at t) seq.Post
 seq-word-requires t c κs = search needs
 
--- src/lib.rt:421:9
+-- src/lib.rt:431:9
 seq-indent-deeper-requires : (t : ℕ) → seq-lts.Need-indent-deeper-requires (
   word-reads.Asked,
   word-reads.Learnt,
@@ -18399,7 +19162,7 @@ seq-indent-deeper-requires : (t : ℕ) → seq-lts.Need-indent-deeper-requires (
 ) (seq-at t) seq.Post
 seq-indent-deeper-requires t c κs = omega (arith, c .before .before .before .before .before .before .before .before .before .before .before .pre .1)
 
--- src/lib.rt:422:9
+-- src/lib.rt:432:9
 seq-indented-requires : (t : ℕ) → seq-lts.Need-indented-requires (
   word-reads.Asked,
   word-reads.Learnt,
@@ -18414,7 +19177,7 @@ seq-indented-requires : (t : ℕ) → seq-lts.Need-indented-requires (
 ) (seq-at t) seq.Post
 seq-indented-requires t c κs = omega (arith, c .before .before .before .before .before .before .before .before .before .before .before .before .before .before .pre .1)
 
--- src/lib.rt:423:9
+-- src/lib.rt:433:9
 seq-sm-requires : (t : ℕ) → seq-lts.Need-sm-requires (
   word-reads.Asked,
   word-reads.Learnt,
@@ -18429,7 +19192,7 @@ seq-sm-requires : (t : ℕ) → seq-lts.Need-sm-requires (
 ) (seq-at t) seq.Post
 seq-sm-requires t c κs = omega (arith, c .before .before .before .before .before .before .before .before .before .before .before .before .before .before .before .before .before .pre .0, c .before .before .before .before .before .before .before .before .before .before .before .before .before .before .before .before .before .pre .1, deep-depth (c .before .before .indented .ensures), deep-left (c .before .before .indented .ensures))
 
--- src/lib.rt:424:22
+-- src/lib.rt:434:22
 seq-enum-known-r3 : (t : ℕ) → seq-lts.Need-enum-known-r3 (
   word-reads.Asked,
   word-reads.Learnt,
@@ -18444,7 +19207,7 @@ seq-enum-known-r3 : (t : ℕ) → seq-lts.Need-enum-known-r3 (
 ) (seq-at t) seq.Post
 seq-enum-known-r3 t c = search needs
 
--- src/lib.rt:425:9
+-- src/lib.rt:435:9
 seq-enum-told : (t : ℕ) → seq-lts.Need-enum-told (
   word-reads.Asked,
   word-reads.Learnt,
@@ -18459,7 +19222,7 @@ seq-enum-told : (t : ℕ) → seq-lts.Need-enum-told (
 ) (seq-at t) seq.Post
 seq-enum-told t c = search needs
 
--- src/lib.rt:425:9
+-- src/lib.rt:435:9
 seq-same-length : (t : ℕ) → seq-lts.Need-same-length (
   word-reads.Asked,
   word-reads.Learnt,
@@ -18474,7 +19237,7 @@ seq-same-length : (t : ℕ) → seq-lts.Need-same-length (
 ) (seq-at t) seq.Post
 seq-same-length t c = c .before .before .before .before .sm .kept .1 .1 .1 .1 .1 .0 ∙ c .before .before .before .before .before .before .before .before .before .before .indent-deeper .kept .0 ∙ c .before .before .before .before .before .before .before .before .before .before .before .before .before .before .word .kept .1 .0
 
--- src/lib.rt:425:9
+-- src/lib.rt:435:9
 seq-returns : (t : ℕ) → seq-lts.Need-returns (
   word-reads.Asked,
   word-reads.Learnt,
@@ -18487,10 +19250,10 @@ seq-returns : (t : ℕ) → seq-lts.Need-returns (
   line-reads.Asked,
   line-reads.Learnt,
 ) (seq-at t) seq.Post
-unfolding Exp.SeqExp Helpers.indented
+unfolding Exp.exp Helpers.indent-deeper Helpers.deepen
 seq-returns t c = record { is = then-sure (c .before .before .before .before .before .before .before .before .before .before .before .before .before .before .word .ensures) (then-both (c .before .before .before .before .before .before .before .before .before .before .indent-deeper .ensures) (then-stop (along (c .before .before .before .before .before .before .before .indented .ensures) (c .before .before .before .before .sm .ensures)) (c .enum-told .given .1))) }
 
--- src/lib.rt:427:9
+-- src/lib.rt:437:9
 seq-line-requires : (t : ℕ) → seq-lts.Need-line-requires (
   word-reads.Asked,
   word-reads.Learnt,
@@ -18505,7 +19268,7 @@ seq-line-requires : (t : ℕ) → seq-lts.Need-line-requires (
 ) (seq-at t) seq.Post
 seq-line-requires t c κs = search needs
 
--- src/lib.rt:428:18
+-- src/lib.rt:438:18
 seq-word-requires-2 : (t : ℕ) → seq-lts.Need-word-requires-2 (
   word-reads.Asked,
   word-reads.Learnt,
@@ -18520,7 +19283,7 @@ seq-word-requires-2 : (t : ℕ) → seq-lts.Need-word-requires-2 (
 ) (seq-at t) seq.Post
 seq-word-requires-2 t c κs = search needs
 
--- src/lib.rt:406:1
+-- src/lib.rt:416:1
 seq-same-length-2 : (t : ℕ) → seq-lts.Need-same-length-2 (
   word-reads.Asked,
   word-reads.Learnt,
@@ -18535,7 +19298,7 @@ seq-same-length-2 : (t : ℕ) → seq-lts.Need-same-length-2 (
 ) (seq-at t) seq.Post
 seq-same-length-2 t c = c .before .before .word2 .kept .1 .0 ∙ c .before .before .before .before .before .before .line .kept .1 .0 ∙ c .before .before .before .before .before .before .before .before .before .before .before .before .before .sm .kept .1 .1 .1 .1 .1 .0 ∙ c .before .before .before .before .before .before .before .before .before .before .before .before .before .before .before .before .before .before .before .indent-deeper .kept .0 ∙ c .before .before .before .before .before .before .before .before .before .before .before .before .before .before .before .before .before .before .before .before .before .before .before .word .kept .1 .0
 
--- src/lib.rt:406:1
+-- src/lib.rt:416:1
 seq-returns-2 : (t : ℕ) → seq-lts.Need-returns-2 (
   word-reads.Asked,
   word-reads.Learnt,
@@ -18548,10 +19311,10 @@ seq-returns-2 : (t : ℕ) → seq-lts.Need-returns-2 (
   line-reads.Asked,
   line-reads.Learnt,
 ) (seq-at t) seq.Post
-unfolding Exp.SeqExp Helpers.indented
+unfolding Exp.exp Helpers.indent-deeper Helpers.deepen
 seq-returns-2 t c = record { is = then-sure (c .before .before .before .before .before .before .before .before .before .before .before .before .before .before .before .before .before .before .before .before .before .before .before .word .ensures) (then-both (c .before .before .before .before .before .before .before .before .before .before .before .before .before .before .before .before .before .before .before .indent-deeper .ensures) (then-done (along (c .before .before .before .before .before .before .before .before .before .before .before .before .before .before .before .before .indented .ensures) (c .before .before .before .before .before .before .before .before .before .before .before .before .before .sm .ensures)) (c .before .before .before .before .before .before .before .before .before .r3 .given .1) (then-both (c .before .before .before .before .before .before .line .ensures) (last-sure (c .before .before .word2 .ensures))))) }
 
--- src/lib.rt:2214:9
+-- src/lib.rt:2190:9
 sg-word-requires : (t : ℕ) → sg-lts.Need-word-requires (
   word-reads.Asked,
   word-reads.Learnt,
@@ -18566,7 +19329,7 @@ sg-word-requires : (t : ℕ) → sg-lts.Need-word-requires (
 ) (sg-at t) sg.Post
 sg-word-requires t c κs = search needs
 
--- src/lib.rt:2215:9
+-- src/lib.rt:2191:9
 sg-indent-deeper-requires : (t : ℕ) → sg-lts.Need-indent-deeper-requires (
   word-reads.Asked,
   word-reads.Learnt,
@@ -18581,7 +19344,7 @@ sg-indent-deeper-requires : (t : ℕ) → sg-lts.Need-indent-deeper-requires (
 ) (sg-at t) sg.Post
 sg-indent-deeper-requires t c κs = omega (arith, c .before .before .before .before .before .before .before .before .before .before .before .pre .1)
 
--- src/lib.rt:2216:9
+-- src/lib.rt:2192:9
 sg-indented-requires : (t : ℕ) → sg-lts.Need-indented-requires (
   word-reads.Asked,
   word-reads.Learnt,
@@ -18596,7 +19359,7 @@ sg-indented-requires : (t : ℕ) → sg-lts.Need-indented-requires (
 ) (sg-at t) sg.Post
 sg-indented-requires t c κs = omega (arith, c .before .before .before .before .before .before .before .before .before .before .before .before .before .before .pre .1)
 
--- src/lib.rt:2217:9
+-- src/lib.rt:2193:9
 sg-ds-requires : (t : ℕ) → sg-lts.Need-ds-requires (
   word-reads.Asked,
   word-reads.Learnt,
@@ -18611,7 +19374,7 @@ sg-ds-requires : (t : ℕ) → sg-lts.Need-ds-requires (
 ) (sg-at t) sg.Post
 sg-ds-requires t c κs = omega (arith, c .before .before .before .before .before .before .before .before .before .before .before .before .before .before .before .before .before .pre .0, c .before .before .before .before .before .before .before .before .before .before .before .before .before .before .before .before .before .pre .1, deep-depth (c .before .before .indented .ensures), deep-left (c .before .before .indented .ensures))
 
--- src/lib.rt:2218:22
+-- src/lib.rt:2194:22
 sg-enum-known-r3 : (t : ℕ) → sg-lts.Need-enum-known-r3 (
   word-reads.Asked,
   word-reads.Learnt,
@@ -18626,7 +19389,7 @@ sg-enum-known-r3 : (t : ℕ) → sg-lts.Need-enum-known-r3 (
 ) (sg-at t) sg.Post
 sg-enum-known-r3 t c = search needs
 
--- src/lib.rt:2219:9
+-- src/lib.rt:2195:9
 sg-enum-told : (t : ℕ) → sg-lts.Need-enum-told (
   word-reads.Asked,
   word-reads.Learnt,
@@ -18641,7 +19404,7 @@ sg-enum-told : (t : ℕ) → sg-lts.Need-enum-told (
 ) (sg-at t) sg.Post
 sg-enum-told t c = search needs
 
--- src/lib.rt:2219:9
+-- src/lib.rt:2195:9
 sg-same-length : (t : ℕ) → sg-lts.Need-same-length (
   word-reads.Asked,
   word-reads.Learnt,
@@ -18656,7 +19419,7 @@ sg-same-length : (t : ℕ) → sg-lts.Need-same-length (
 ) (sg-at t) sg.Post
 sg-same-length t c = c .before .before .before .before .ds .kept .1 .1 .1 .1 .1 .0 ∙ c .before .before .before .before .before .before .before .before .before .before .indent-deeper .kept .0 ∙ c .before .before .before .before .before .before .before .before .before .before .before .before .before .before .word .kept .1 .0
 
--- src/lib.rt:2219:9
+-- src/lib.rt:2195:9
 sg-returns : (t : ℕ) → sg-lts.Need-returns (
   word-reads.Asked,
   word-reads.Learnt,
@@ -18669,10 +19432,10 @@ sg-returns : (t : ℕ) → sg-lts.Need-returns (
   line-reads.Asked,
   line-reads.Learnt,
 ) (sg-at t) sg.Post
-unfolding SigExp.SigSigExp Helpers.indented
+unfolding SigExp.sig-exp Helpers.indent-deeper Helpers.deepen
 sg-returns t c = record { is = then-sure (c .before .before .before .before .before .before .before .before .before .before .before .before .before .before .word .ensures) (then-both (c .before .before .before .before .before .before .before .before .before .before .indent-deeper .ensures) (then-stop (along (c .before .before .before .before .before .before .before .indented .ensures) (c .before .before .before .before .ds .ensures)) (c .enum-told .given .1))) }
 
--- src/lib.rt:2221:9
+-- src/lib.rt:2197:9
 sg-line-requires : (t : ℕ) → sg-lts.Need-line-requires (
   word-reads.Asked,
   word-reads.Learnt,
@@ -18687,7 +19450,7 @@ sg-line-requires : (t : ℕ) → sg-lts.Need-line-requires (
 ) (sg-at t) sg.Post
 sg-line-requires t c κs = search needs
 
--- src/lib.rt:2222:18
+-- src/lib.rt:2198:18
 sg-word-requires-2 : (t : ℕ) → sg-lts.Need-word-requires-2 (
   word-reads.Asked,
   word-reads.Learnt,
@@ -18702,7 +19465,7 @@ sg-word-requires-2 : (t : ℕ) → sg-lts.Need-word-requires-2 (
 ) (sg-at t) sg.Post
 sg-word-requires-2 t c κs = search needs
 
--- src/lib.rt:2200:1
+-- src/lib.rt:2176:1
 sg-same-length-2 : (t : ℕ) → sg-lts.Need-same-length-2 (
   word-reads.Asked,
   word-reads.Learnt,
@@ -18717,7 +19480,7 @@ sg-same-length-2 : (t : ℕ) → sg-lts.Need-same-length-2 (
 ) (sg-at t) sg.Post
 sg-same-length-2 t c = c .before .before .word2 .kept .1 .0 ∙ c .before .before .before .before .before .before .line .kept .1 .0 ∙ c .before .before .before .before .before .before .before .before .before .before .before .before .before .ds .kept .1 .1 .1 .1 .1 .0 ∙ c .before .before .before .before .before .before .before .before .before .before .before .before .before .before .before .before .before .before .before .indent-deeper .kept .0 ∙ c .before .before .before .before .before .before .before .before .before .before .before .before .before .before .before .before .before .before .before .before .before .before .before .word .kept .1 .0
 
--- src/lib.rt:2200:1
+-- src/lib.rt:2176:1
 sg-returns-2 : (t : ℕ) → sg-lts.Need-returns-2 (
   word-reads.Asked,
   word-reads.Learnt,
@@ -18730,10 +19493,10 @@ sg-returns-2 : (t : ℕ) → sg-lts.Need-returns-2 (
   line-reads.Asked,
   line-reads.Learnt,
 ) (sg-at t) sg.Post
-unfolding SigExp.SigSigExp Helpers.indented
+unfolding SigExp.sig-exp Helpers.indent-deeper Helpers.deepen
 sg-returns-2 t c = record { is = then-sure (c .before .before .before .before .before .before .before .before .before .before .before .before .before .before .before .before .before .before .before .before .before .before .before .word .ensures) (then-both (c .before .before .before .before .before .before .before .before .before .before .before .before .before .before .before .before .before .before .before .indent-deeper .ensures) (then-done (along (c .before .before .before .before .before .before .before .before .before .before .before .before .before .before .before .before .indented .ensures) (c .before .before .before .before .before .before .before .before .before .before .before .before .before .ds .ensures)) (c .before .before .before .before .before .before .before .before .before .r3 .given .1) (then-both (c .before .before .before .before .before .before .line .ensures) (last-sure (c .before .before .word2 .ensures))))) }
 
--- src/lib.rt:2179:9
+-- src/lib.rt:2155:9
 sig-stop-requires : (t : ℕ) → sig-lts.Need-stop-requires (
   stop-reads.Asked,
   stop-reads.Learnt,
@@ -18750,7 +19513,7 @@ sig-stop-requires : (t : ℕ) → sig-lts.Need-stop-requires (
 ) (sig-at t) sig.Post
 sig-stop-requires t c κs = search needs
 
--- src/lib.rt:2179:9
+-- src/lib.rt:2155:9
 sig-returns : (t : ℕ) → sig-lts.Need-returns (
   stop-reads.Asked,
   stop-reads.Learnt,
@@ -18765,10 +19528,10 @@ sig-returns : (t : ℕ) → sig-lts.Need-returns (
   wr-below t,
   wr.Post,
 ) (sig-at t) sig.Post
-unfolding SigExp.sig-exps SigExp.NameSigExp
+unfolding SigExp.sig-exps SigExp.sig-exp
 sig-returns t c = record { is = sig-zero _ _ (c .before .if1 .taken) (c .stop .ensures) }
 
--- src/lib.rt:2181:26
+-- src/lib.rt:2157:26
 sig-form-requires : (t : ℕ) → sig-lts.Need-form-requires (
   stop-reads.Asked,
   stop-reads.Learnt,
@@ -18785,7 +19548,7 @@ sig-form-requires : (t : ℕ) → sig-lts.Need-form-requires (
 ) (sig-at t) sig.Post
 sig-form-requires t c κs = search needs
 
--- src/lib.rt:2181:18
+-- src/lib.rt:2157:18
 sig-enum-known-k : (t : ℕ) → sig-lts.Need-enum-known-k (
   stop-reads.Asked,
   stop-reads.Learnt,
@@ -18802,7 +19565,7 @@ sig-enum-known-k : (t : ℕ) → sig-lts.Need-enum-known-k (
 ) (sig-at t) sig.Post
 sig-enum-known-k t c = search needs
 
--- src/lib.rt:2182:9
+-- src/lib.rt:2158:9
 sig-enum-told : (t : ℕ) → sig-lts.Need-enum-told (
   stop-reads.Asked,
   stop-reads.Learnt,
@@ -18819,7 +19582,7 @@ sig-enum-told : (t : ℕ) → sig-lts.Need-enum-told (
 ) (sig-at t) sig.Post
 sig-enum-told t c = search needs
 
--- src/lib.rt:2182:9
+-- src/lib.rt:2158:9
 sig-stop-requires-2 : (t : ℕ) → sig-lts.Need-stop-requires-2 (
   stop-reads.Asked,
   stop-reads.Learnt,
@@ -18836,7 +19599,7 @@ sig-stop-requires-2 : (t : ℕ) → sig-lts.Need-stop-requires-2 (
 ) (sig-at t) sig.Post
 sig-stop-requires-2 t c κs = search needs
 
--- src/lib.rt:2182:9
+-- src/lib.rt:2158:9
 sig-returns-2 : (t : ℕ) → sig-lts.Need-returns-2 (
   stop-reads.Asked,
   stop-reads.Learnt,
@@ -18851,10 +19614,10 @@ sig-returns-2 : (t : ℕ) → sig-lts.Need-returns-2 (
   wr-below t,
   wr.Post,
 ) (sig-at t) sig.Post
-unfolding SigExp.sig-exps SigExp.NameSigExp
+unfolding SigExp.sig-exps SigExp.sig-exp
 sig-returns-2 t c = record { is = sig-form _ _ (c .before .before .before .before .if1 .left) (form-not (c .stop2 .ensures) (c .before .before .before .form .ensures) (c .before .enum-told .given .1)) }
 
--- src/lib.rt:2188:15
+-- src/lib.rt:2164:15
 sig-sub-t17 : (t : ℕ) → sig-lts.Need-sub-t17 (
   stop-reads.Asked,
   stop-reads.Learnt,
@@ -18871,7 +19634,7 @@ sig-sub-t17 : (t : ℕ) → sig-lts.Need-sub-t17 (
 ) (sig-at t) sig.Post
 sig-sub-t17 t c = search needs
 
--- src/lib.rt:2191:14
+-- src/lib.rt:2167:14
 sig-sg-requires : (t : ℕ) → sig-lts.Need-sg-requires (
   stop-reads.Asked,
   stop-reads.Learnt,
@@ -18888,7 +19651,7 @@ sig-sg-requires : (t : ℕ) → sig-lts.Need-sg-requires (
 ) (sig-at t) sig.Post
 sig-sg-requires t c κs = omega (arith, c .before .before .before .before .before .before .before .before .before .before .before .before .before .before .pre .0, c .before .before .before .before .before .before .before .before .before .before .before .before .before .before .pre .1, c .before .before .before .before .before .before .before .if1 .left)
 
--- src/lib.rt:2192:14
+-- src/lib.rt:2168:14
 sig-text-of-requires : (t : ℕ) → sig-lts.Need-text-of-requires (
   stop-reads.Asked,
   stop-reads.Learnt,
@@ -18905,7 +19668,7 @@ sig-text-of-requires : (t : ℕ) → sig-lts.Need-text-of-requires (
 ) (sig-at t) sig.Post
 sig-text-of-requires t c κs = search needs
 
--- src/lib.rt:2193:14
+-- src/lib.rt:2169:14
 sig-wt-requires : (t : ℕ) → sig-lts.Need-wt-requires (
   stop-reads.Asked,
   stop-reads.Learnt,
@@ -18922,7 +19685,7 @@ sig-wt-requires : (t : ℕ) → sig-lts.Need-wt-requires (
 ) (sig-at t) sig.Post
 sig-wt-requires t c κs = omega (arith, c .before .before .before .before .before .before .before .before .before .before .before .before .before .before .pre .0, c .before .before .before .before .before .before .before .before .before .before .before .before .before .before .pre .1, c .before .before .before .before .before .before .before .if1 .left)
 
--- src/lib.rt:2194:14
+-- src/lib.rt:2170:14
 sig-wr-requires : (t : ℕ) → sig-lts.Need-wr-requires (
   stop-reads.Asked,
   stop-reads.Learnt,
@@ -18939,7 +19702,7 @@ sig-wr-requires : (t : ℕ) → sig-lts.Need-wr-requires (
 ) (sig-at t) sig.Post
 sig-wr-requires t c κs = omega (arith, c .before .before .before .before .before .before .before .before .before .before .before .before .before .before .pre .0, c .before .before .before .before .before .before .before .before .before .before .before .before .before .before .pre .1, c .before .before .before .before .before .before .before .if1 .left)
 
--- src/lib.rt:2195:14
+-- src/lib.rt:2171:14
 sig-stop-requires-3 : (t : ℕ) → sig-lts.Need-stop-requires-3 (
   stop-reads.Asked,
   stop-reads.Learnt,
@@ -18956,7 +19719,7 @@ sig-stop-requires-3 : (t : ℕ) → sig-lts.Need-stop-requires-3 (
 ) (sig-at t) sig.Post
 sig-stop-requires-3 t c κs = search needs
 
--- src/lib.rt:2163:1
+-- src/lib.rt:2139:1
 sig-same-length : (t : ℕ) → sig-lts.Need-same-length (
   stop-reads.Asked,
   stop-reads.Learnt,
@@ -18973,7 +19736,7 @@ sig-same-length : (t : ℕ) → sig-lts.Need-same-length (
 ) (sig-at t) sig.Post
 sig-same-length t c = c .before .before .sg .kept .1 .1 .1 .1 .1 .0
 
--- src/lib.rt:2163:1
+-- src/lib.rt:2139:1
 sig-returns-3 : (t : ℕ) → sig-lts.Need-returns-3 (
   stop-reads.Asked,
   stop-reads.Learnt,
@@ -18988,10 +19751,10 @@ sig-returns-3 : (t : ℕ) → sig-lts.Need-returns-3 (
   wr-below t,
   wr.Post,
 ) (sig-at t) sig.Post
-unfolding SigExp.sig-exps SigExp.NameSigExp
+unfolding SigExp.sig-exps SigExp.sig-exp
 sig-returns-3 t c = record { is = sig-form _ _ (c .before .before .before .before .before .before .before .before .before .before .if1 .left) (form-key (c .before .before .before .before .before .before .before .before .before .form .ensures) (c .before .before .before .before .before .before .before .k .given .1) (c .before .before .before .before .before .match2 .keys1) (c .before .before .sg .ensures .is)) }
 
--- src/lib.rt:2163:1
+-- src/lib.rt:2139:1
 sig-same-length-2 : (t : ℕ) → sig-lts.Need-same-length-2 (
   stop-reads.Asked,
   stop-reads.Learnt,
@@ -19008,7 +19771,7 @@ sig-same-length-2 : (t : ℕ) → sig-lts.Need-same-length-2 (
 ) (sig-at t) sig.Post
 sig-same-length-2 t c = c .before .before .text-of .kept .1 .1 .1 .1 .0
 
--- src/lib.rt:2163:1
+-- src/lib.rt:2139:1
 sig-returns-4 : (t : ℕ) → sig-lts.Need-returns-4 (
   stop-reads.Asked,
   stop-reads.Learnt,
@@ -19023,10 +19786,10 @@ sig-returns-4 : (t : ℕ) → sig-lts.Need-returns-4 (
   wr-below t,
   wr.Post,
 ) (sig-at t) sig.Post
-unfolding SigExp.sig-exps SigExp.NameSigExp
+unfolding SigExp.sig-exps SigExp.sig-exp
 sig-returns-4 t c = record { is = sig-form _ _ (c .before .before .before .before .before .before .before .before .before .if1 .left) (form-key (c .before .before .before .before .before .before .before .before .form .ensures) (c .before .before .before .before .before .before .k .given .1) (c .before .before .before .before .match2 .keys2) (plain (c .before .before .text-of .ensures))) }
 
--- src/lib.rt:2163:1
+-- src/lib.rt:2139:1
 sig-same-length-3 : (t : ℕ) → sig-lts.Need-same-length-3 (
   stop-reads.Asked,
   stop-reads.Learnt,
@@ -19043,7 +19806,7 @@ sig-same-length-3 : (t : ℕ) → sig-lts.Need-same-length-3 (
 ) (sig-at t) sig.Post
 sig-same-length-3 t c = c .before .before .wt .kept .1 .1 .1 .1 .1 .0
 
--- src/lib.rt:2163:1
+-- src/lib.rt:2139:1
 sig-returns-5 : (t : ℕ) → sig-lts.Need-returns-5 (
   stop-reads.Asked,
   stop-reads.Learnt,
@@ -19058,10 +19821,10 @@ sig-returns-5 : (t : ℕ) → sig-lts.Need-returns-5 (
   wr-below t,
   wr.Post,
 ) (sig-at t) sig.Post
-unfolding SigExp.sig-exps SigExp.NameSigExp
+unfolding SigExp.sig-exps SigExp.sig-exp
 sig-returns-5 t c = record { is = sig-form _ _ (c .before .before .before .before .before .before .before .before .before .before .if1 .left) (form-key (c .before .before .before .before .before .before .before .before .before .form .ensures) (c .before .before .before .before .before .before .before .k .given .1) (c .before .before .before .before .before .match2 .keys3) (c .before .before .wt .ensures .is)) }
 
--- src/lib.rt:2163:1
+-- src/lib.rt:2139:1
 sig-same-length-4 : (t : ℕ) → sig-lts.Need-same-length-4 (
   stop-reads.Asked,
   stop-reads.Learnt,
@@ -19078,7 +19841,7 @@ sig-same-length-4 : (t : ℕ) → sig-lts.Need-same-length-4 (
 ) (sig-at t) sig.Post
 sig-same-length-4 t c = c .before .before .wr .kept .1 .1 .1 .1 .1 .0
 
--- src/lib.rt:2163:1
+-- src/lib.rt:2139:1
 sig-returns-6 : (t : ℕ) → sig-lts.Need-returns-6 (
   stop-reads.Asked,
   stop-reads.Learnt,
@@ -19093,10 +19856,10 @@ sig-returns-6 : (t : ℕ) → sig-lts.Need-returns-6 (
   wr-below t,
   wr.Post,
 ) (sig-at t) sig.Post
-unfolding SigExp.sig-exps SigExp.NameSigExp
+unfolding SigExp.sig-exps SigExp.sig-exp
 sig-returns-6 t c = record { is = sig-form _ _ (c .before .before .before .before .before .before .before .before .before .before .if1 .left) (form-key (c .before .before .before .before .before .before .before .before .before .form .ensures) (c .before .before .before .before .before .before .before .k .given .1) (c .before .before .before .before .before .match2 .keys4) (c .before .before .wr .ensures .is)) }
 
--- src/lib.rt:2163:1
+-- src/lib.rt:2139:1
 sig-returns-7 : (t : ℕ) → sig-lts.Need-returns-7 (
   stop-reads.Asked,
   stop-reads.Learnt,
@@ -19111,10 +19874,10 @@ sig-returns-7 : (t : ℕ) → sig-lts.Need-returns-7 (
   wr-below t,
   wr.Post,
 ) (sig-at t) sig.Post
-unfolding SigExp.sig-exps SigExp.NameSigExp
+unfolding SigExp.sig-exps SigExp.sig-exp
 sig-returns-7 t c = record { is = sig-form _ _ (c .before .before .before .before .before .before .if1 .left) (by-same (form-is (c .before .before .before .before .before .form .ensures) (c .before .before .before .k .given .1)) (beyond (SigExp.sig-exps (walks (c .before .before .before .before .before .before .before .before .before .before .before .before .before .args .cfg .left - 1)) (cfgOf (c .before .before .before .before .before .before .before .before .before .before .before .before .before .args .cfg))) (c .before .before .before .k .given .0 .0) 4 refl (past (past (past (past zero-le (c .before .match2 .rest .0 .0 .0 .1)) (c .before .match2 .rest .0 .0 .1)) (c .before .match2 .rest .0 .1)) (c .before .match2 .rest .1)) (c .stop3 .ensures))) }
 
--- src/lib.rt:2142:9
+-- src/lib.rt:2118:9
 sl-word-requires : (t : ℕ) → sl-lts.Need-word-requires (
   word-reads.Asked,
   word-reads.Learnt,
@@ -19133,7 +19896,7 @@ sl-word-requires : (t : ℕ) → sl-lts.Need-word-requires (
 ) (sl-at t) sl.Post
 sl-word-requires t c κs = search needs
 
--- src/lib.rt:2143:9
+-- src/lib.rt:2119:9
 sl-word-requires-2 : (t : ℕ) → sl-lts.Need-word-requires-2 (
   word-reads.Asked,
   word-reads.Learnt,
@@ -19152,7 +19915,7 @@ sl-word-requires-2 : (t : ℕ) → sl-lts.Need-word-requires-2 (
 ) (sl-at t) sl.Post
 sl-word-requires-2 t c κs = search needs
 
--- src/lib.rt:2144:9
+-- src/lib.rt:2120:9
 sl-indent-deeper-requires : (t : ℕ) → sl-lts.Need-indent-deeper-requires (
   word-reads.Asked,
   word-reads.Learnt,
@@ -19171,7 +19934,7 @@ sl-indent-deeper-requires : (t : ℕ) → sl-lts.Need-indent-deeper-requires (
 ) (sl-at t) sl.Post
 sl-indent-deeper-requires t c κs = omega (arith, c .before .before .before .before .before .before .before .before .before .before .before .before .before .before .before .pre .1)
 
--- src/lib.rt:2145:9
+-- src/lib.rt:2121:9
 sl-indented-requires : (t : ℕ) → sl-lts.Need-indented-requires (
   word-reads.Asked,
   word-reads.Learnt,
@@ -19190,7 +19953,7 @@ sl-indented-requires : (t : ℕ) → sl-lts.Need-indented-requires (
 ) (sl-at t) sl.Post
 sl-indented-requires t c κs = omega (arith, c .before .before .before .before .before .before .before .before .before .before .before .before .before .before .before .before .before .before .pre .1)
 
--- src/lib.rt:2146:9
+-- src/lib.rt:2122:9
 sl-ds-requires : (t : ℕ) → sl-lts.Need-ds-requires (
   word-reads.Asked,
   word-reads.Learnt,
@@ -19209,7 +19972,7 @@ sl-ds-requires : (t : ℕ) → sl-lts.Need-ds-requires (
 ) (sl-at t) sl.Post
 sl-ds-requires t c κs = omega (arith, c .before .before .before .before .before .before .before .before .before .before .before .before .before .before .before .before .before .before .before .before .before .pre .0, c .before .before .before .before .before .before .before .before .before .before .before .before .before .before .before .before .before .before .before .before .before .pre .1, deep-depth (c .before .before .indented .ensures), deep-left (c .before .before .indented .ensures))
 
--- src/lib.rt:2147:22
+-- src/lib.rt:2123:22
 sl-enum-known-r4 : (t : ℕ) → sl-lts.Need-enum-known-r4 (
   word-reads.Asked,
   word-reads.Learnt,
@@ -19228,7 +19991,7 @@ sl-enum-known-r4 : (t : ℕ) → sl-lts.Need-enum-known-r4 (
 ) (sl-at t) sl.Post
 sl-enum-known-r4 t c = search needs
 
--- src/lib.rt:2148:9
+-- src/lib.rt:2124:9
 sl-enum-told : (t : ℕ) → sl-lts.Need-enum-told (
   word-reads.Asked,
   word-reads.Learnt,
@@ -19247,7 +20010,7 @@ sl-enum-told : (t : ℕ) → sl-lts.Need-enum-told (
 ) (sl-at t) sl.Post
 sl-enum-told t c = search needs
 
--- src/lib.rt:2148:9
+-- src/lib.rt:2124:9
 sl-same-length : (t : ℕ) → sl-lts.Need-same-length (
   word-reads.Asked,
   word-reads.Learnt,
@@ -19266,7 +20029,7 @@ sl-same-length : (t : ℕ) → sl-lts.Need-same-length (
 ) (sl-at t) sl.Post
 sl-same-length t c = c .before .before .before .before .ds .kept .1 .1 .1 .1 .1 .0 ∙ c .before .before .before .before .before .before .before .before .before .before .indent-deeper .kept .0 ∙ c .before .before .before .before .before .before .before .before .before .before .before .before .before .before .word2 .kept .1 .0 ∙ c .before .before .before .before .before .before .before .before .before .before .before .before .before .before .before .before .before .before .word .kept .1 .0
 
--- src/lib.rt:2148:9
+-- src/lib.rt:2124:9
 sl-returns : (t : ℕ) → sl-lts.Need-returns (
   word-reads.Asked,
   word-reads.Learnt,
@@ -19283,10 +20046,10 @@ sl-returns : (t : ℕ) → sl-lts.Need-returns (
   str-below t,
   str.Post,
 ) (sl-at t) sl.Post
-unfolding StrExp.LetStrExp Helpers.in-end Helpers.indented
+unfolding StrExp.str-exp Helpers.in-end Helpers.indent-deeper Helpers.deepen
 sl-returns t c = record { is = then-sure (c .before .before .before .before .before .before .before .before .before .before .before .before .before .before .before .before .before .before .word .ensures) (then-sure (c .before .before .before .before .before .before .before .before .before .before .before .before .before .before .word2 .ensures) (then-both (c .before .before .before .before .before .before .before .before .before .before .indent-deeper .ensures) (then-stop (along (c .before .before .before .before .before .before .before .indented .ensures) (c .before .before .before .before .ds .ensures)) (c .enum-told .given .1)))) }
 
--- src/lib.rt:2150:9
+-- src/lib.rt:2126:9
 sl-line-requires : (t : ℕ) → sl-lts.Need-line-requires (
   word-reads.Asked,
   word-reads.Learnt,
@@ -19305,7 +20068,7 @@ sl-line-requires : (t : ℕ) → sl-lts.Need-line-requires (
 ) (sl-at t) sl.Post
 sl-line-requires t c κs = search needs
 
--- src/lib.rt:2151:9
+-- src/lib.rt:2127:9
 sl-word-requires-3 : (t : ℕ) → sl-lts.Need-word-requires-3 (
   word-reads.Asked,
   word-reads.Learnt,
@@ -19324,7 +20087,7 @@ sl-word-requires-3 : (t : ℕ) → sl-lts.Need-word-requires-3 (
 ) (sl-at t) sl.Post
 sl-word-requires-3 t c κs = search needs
 
--- src/lib.rt:2152:9
+-- src/lib.rt:2128:9
 sl-indent-in-requires : (t : ℕ) → sl-lts.Need-indent-in-requires (
   word-reads.Asked,
   word-reads.Learnt,
@@ -19343,7 +20106,7 @@ sl-indent-in-requires : (t : ℕ) → sl-lts.Need-indent-in-requires (
 ) (sl-at t) sl.Post
 sl-indent-in-requires t c κs = omega (arith, c .before .before .before .before .before .before .before .before .before .before .before .before .before .before .before .before .before .before .before .before .before .before .before .before .before .before .before .before .before .before .before .before .before .before .before .before .pre .1)
 
--- src/lib.rt:2153:9
+-- src/lib.rt:2129:9
 sl-str-requires : (t : ℕ) → sl-lts.Need-str-requires (
   word-reads.Asked,
   word-reads.Learnt,
@@ -19362,7 +20125,7 @@ sl-str-requires : (t : ℕ) → sl-lts.Need-str-requires (
 ) (sl-at t) sl.Post
 sl-str-requires t c κs = omega (arith, c .before .before .before .before .before .before .before .before .before .before .before .before .before .before .before .before .before .before .before .before .before .before .before .before .before .before .before .before .before .before .before .before .before .before .before .before .before .before .before .before .before .pre .0, c .before .before .before .before .before .before .before .before .before .before .before .before .before .before .before .before .before .before .before .before .before .before .before .before .before .before .before .before .before .before .before .before .before .before .before .before .before .before .before .before .before .pre .1, deep-depth (c .before .before .before .before .before .before .before .before .before .before .before .before .before .before .before .before .before .before .before .before .before .before .indented .ensures), deep-left (c .before .before .before .before .before .before .before .before .before .before .before .before .before .before .before .before .before .before .before .before .before .before .indented .ensures))
 
--- src/lib.rt:2154:22
+-- src/lib.rt:2130:22
 sl-enum-known-r8 : (t : ℕ) → sl-lts.Need-enum-known-r8 (
   word-reads.Asked,
   word-reads.Learnt,
@@ -19381,7 +20144,7 @@ sl-enum-known-r8 : (t : ℕ) → sl-lts.Need-enum-known-r8 (
 ) (sl-at t) sl.Post
 sl-enum-known-r8 t c = search needs
 
--- src/lib.rt:2155:9
+-- src/lib.rt:2131:9
 sl-enum-told-2 : (t : ℕ) → sl-lts.Need-enum-told-2 (
   word-reads.Asked,
   word-reads.Learnt,
@@ -19400,7 +20163,7 @@ sl-enum-told-2 : (t : ℕ) → sl-lts.Need-enum-told-2 (
 ) (sl-at t) sl.Post
 sl-enum-told-2 t c = search needs
 
--- src/lib.rt:2155:9
+-- src/lib.rt:2131:9
 sl-same-length-2 : (t : ℕ) → sl-lts.Need-same-length-2 (
   word-reads.Asked,
   word-reads.Learnt,
@@ -19419,7 +20182,7 @@ sl-same-length-2 : (t : ℕ) → sl-lts.Need-same-length-2 (
 ) (sl-at t) sl.Post
 sl-same-length-2 t c = c .before .before .before .before .str .kept .1 .1 .1 .1 .1 .0 ∙ c .before .before .before .before .before .before .before .before .before .indent-in .kept .0 ∙ c .before .before .before .before .before .before .before .before .before .before .before .before .before .word3 .kept .1 .0 ∙ c .before .before .before .before .before .before .before .before .before .before .before .before .before .before .before .before .before .line .kept .1 .0 ∙ c .before .before .before .before .before .before .before .before .before .before .before .before .before .before .before .before .before .before .before .before .before .before .before .before .ds .kept .1 .1 .1 .1 .1 .0 ∙ c .before .before .before .before .before .before .before .before .before .before .before .before .before .before .before .before .before .before .before .before .before .before .before .before .before .before .before .before .before .before .indent-deeper .kept .0 ∙ c .before .before .before .before .before .before .before .before .before .before .before .before .before .before .before .before .before .before .before .before .before .before .before .before .before .before .before .before .before .before .before .before .before .before .word2 .kept .1 .0 ∙ c .before .before .before .before .before .before .before .before .before .before .before .before .before .before .before .before .before .before .before .before .before .before .before .before .before .before .before .before .before .before .before .before .before .before .before .before .before .before .word .kept .1 .0
 
--- src/lib.rt:2155:9
+-- src/lib.rt:2131:9
 sl-returns-2 : (t : ℕ) → sl-lts.Need-returns-2 (
   word-reads.Asked,
   word-reads.Learnt,
@@ -19436,10 +20199,10 @@ sl-returns-2 : (t : ℕ) → sl-lts.Need-returns-2 (
   str-below t,
   str.Post,
 ) (sl-at t) sl.Post
-unfolding StrExp.LetStrExp Helpers.in-end Helpers.indented
+unfolding StrExp.str-exp Helpers.in-end Helpers.indent-deeper Helpers.deepen
 sl-returns-2 t c = record { is = then-sure (c .before .before .before .before .before .before .before .before .before .before .before .before .before .before .before .before .before .before .before .before .before .before .before .before .before .before .before .before .before .before .before .before .before .before .before .before .before .before .word .ensures) (then-sure (c .before .before .before .before .before .before .before .before .before .before .before .before .before .before .before .before .before .before .before .before .before .before .before .before .before .before .before .before .before .before .before .before .before .before .word2 .ensures) (then-both (c .before .before .before .before .before .before .before .before .before .before .before .before .before .before .before .before .before .before .before .before .before .before .before .before .before .before .before .before .before .before .indent-deeper .ensures) (then-done (along (c .before .before .before .before .before .before .before .before .before .before .before .before .before .before .before .before .before .before .before .before .before .before .before .before .before .before .before .indented .ensures) (c .before .before .before .before .before .before .before .before .before .before .before .before .before .before .before .before .before .before .before .before .before .before .before .before .ds .ensures)) (c .before .before .before .before .before .before .before .before .before .before .before .before .before .before .before .before .before .before .before .before .r4 .given .1) (then-both (c .before .before .before .before .before .before .before .before .before .before .before .before .before .before .before .before .before .line .ensures) (then-sure (c .before .before .before .before .before .before .before .before .before .before .before .before .before .word3 .ensures) (then-sure (c .before .before .before .before .before .before .before .before .before .indent-in .ensures) (then-stop (along (c .before .before .before .before .before .before .before .before .before .before .before .before .before .before .before .before .before .before .before .before .before .before .before .before .before .before .before .indented .ensures) (c .before .before .before .before .str .ensures)) (c .enum-told2 .given .1)))))))) }
 
--- src/lib.rt:2157:9
+-- src/lib.rt:2133:9
 sl-line-requires-2 : (t : ℕ) → sl-lts.Need-line-requires-2 (
   word-reads.Asked,
   word-reads.Learnt,
@@ -19458,7 +20221,7 @@ sl-line-requires-2 : (t : ℕ) → sl-lts.Need-line-requires-2 (
 ) (sl-at t) sl.Post
 sl-line-requires-2 t c κs = search needs
 
--- src/lib.rt:2158:18
+-- src/lib.rt:2134:18
 sl-word-requires-4 : (t : ℕ) → sl-lts.Need-word-requires-4 (
   word-reads.Asked,
   word-reads.Learnt,
@@ -19477,7 +20240,7 @@ sl-word-requires-4 : (t : ℕ) → sl-lts.Need-word-requires-4 (
 ) (sl-at t) sl.Post
 sl-word-requires-4 t c κs = search needs
 
--- src/lib.rt:2128:1
+-- src/lib.rt:2104:1
 sl-same-length-3 : (t : ℕ) → sl-lts.Need-same-length-3 (
   word-reads.Asked,
   word-reads.Learnt,
@@ -19496,7 +20259,7 @@ sl-same-length-3 : (t : ℕ) → sl-lts.Need-same-length-3 (
 ) (sl-at t) sl.Post
 sl-same-length-3 t c = c .before .before .word4 .kept .1 .0 ∙ c .before .before .before .before .before .before .line2 .kept .1 .0 ∙ c .before .before .before .before .before .before .before .before .before .before .before .before .before .str .kept .1 .1 .1 .1 .1 .0 ∙ c .before .before .before .before .before .before .before .before .before .before .before .before .before .before .before .before .before .before .indent-in .kept .0 ∙ c .before .before .before .before .before .before .before .before .before .before .before .before .before .before .before .before .before .before .before .before .before .before .word3 .kept .1 .0 ∙ c .before .before .before .before .before .before .before .before .before .before .before .before .before .before .before .before .before .before .before .before .before .before .before .before .before .before .line .kept .1 .0 ∙ c .before .before .before .before .before .before .before .before .before .before .before .before .before .before .before .before .before .before .before .before .before .before .before .before .before .before .before .before .before .before .before .before .before .ds .kept .1 .1 .1 .1 .1 .0 ∙ c .before .before .before .before .before .before .before .before .before .before .before .before .before .before .before .before .before .before .before .before .before .before .before .before .before .before .before .before .before .before .before .before .before .before .before .before .before .before .before .indent-deeper .kept .0 ∙ c .before .before .before .before .before .before .before .before .before .before .before .before .before .before .before .before .before .before .before .before .before .before .before .before .before .before .before .before .before .before .before .before .before .before .before .before .before .before .before .before .before .before .before .word2 .kept .1 .0 ∙ c .before .before .before .before .before .before .before .before .before .before .before .before .before .before .before .before .before .before .before .before .before .before .before .before .before .before .before .before .before .before .before .before .before .before .before .before .before .before .before .before .before .before .before .before .before .before .before .word .kept .1 .0
 
--- src/lib.rt:2128:1
+-- src/lib.rt:2104:1
 sl-returns-3 : (t : ℕ) → sl-lts.Need-returns-3 (
   word-reads.Asked,
   word-reads.Learnt,
@@ -19513,10 +20276,10 @@ sl-returns-3 : (t : ℕ) → sl-lts.Need-returns-3 (
   str-below t,
   str.Post,
 ) (sl-at t) sl.Post
-unfolding StrExp.LetStrExp Helpers.in-end Helpers.indented
+unfolding StrExp.str-exp Helpers.in-end Helpers.indent-deeper Helpers.deepen
 sl-returns-3 t c = record { is = then-sure (c .before .before .before .before .before .before .before .before .before .before .before .before .before .before .before .before .before .before .before .before .before .before .before .before .before .before .before .before .before .before .before .before .before .before .before .before .before .before .before .before .before .before .before .before .before .before .before .word .ensures) (then-sure (c .before .before .before .before .before .before .before .before .before .before .before .before .before .before .before .before .before .before .before .before .before .before .before .before .before .before .before .before .before .before .before .before .before .before .before .before .before .before .before .before .before .before .before .word2 .ensures) (then-both (c .before .before .before .before .before .before .before .before .before .before .before .before .before .before .before .before .before .before .before .before .before .before .before .before .before .before .before .before .before .before .before .before .before .before .before .before .before .before .before .indent-deeper .ensures) (then-done (along (c .before .before .before .before .before .before .before .before .before .before .before .before .before .before .before .before .before .before .before .before .before .before .before .before .before .before .before .before .before .before .before .before .before .before .before .before .indented .ensures) (c .before .before .before .before .before .before .before .before .before .before .before .before .before .before .before .before .before .before .before .before .before .before .before .before .before .before .before .before .before .before .before .before .before .ds .ensures)) (c .before .before .before .before .before .before .before .before .before .before .before .before .before .before .before .before .before .before .before .before .before .before .before .before .before .before .before .before .before .r4 .given .1) (then-both (c .before .before .before .before .before .before .before .before .before .before .before .before .before .before .before .before .before .before .before .before .before .before .before .before .before .before .line .ensures) (then-sure (c .before .before .before .before .before .before .before .before .before .before .before .before .before .before .before .before .before .before .before .before .before .before .word3 .ensures) (then-sure (c .before .before .before .before .before .before .before .before .before .before .before .before .before .before .before .before .before .before .indent-in .ensures) (then-done (along (c .before .before .before .before .before .before .before .before .before .before .before .before .before .before .before .before .before .before .before .before .before .before .before .before .before .before .before .before .before .before .before .before .before .before .before .before .indented .ensures) (c .before .before .before .before .before .before .before .before .before .before .before .before .before .str .ensures)) (c .before .before .before .before .before .before .before .before .before .r8 .given .1) (then-both (c .before .before .before .before .before .before .line2 .ensures) (last-sure (c .before .before .word4 .ensures)))))))))) }
 
--- src/lib.rt:380:27
+-- src/lib.rt:390:27
 sm-list-requires : (t : ℕ) → sm-lts.Need-list-requires (
   list-reads.Asked,
   list-reads.Learnt,
@@ -19529,7 +20292,7 @@ sm-list-requires : (t : ℕ) → sm-lts.Need-list-requires (
 ) (sm-at t) sm.Post
 sm-list-requires t c κs = search needs
 
--- src/lib.rt:380:18
+-- src/lib.rt:390:18
 sm-enum-known-n : (t : ℕ) → sm-lts.Need-enum-known-n (
   list-reads.Asked,
   list-reads.Learnt,
@@ -19542,7 +20305,7 @@ sm-enum-known-n : (t : ℕ) → sm-lts.Need-enum-known-n (
 ) (sm-at t) sm.Post
 sm-enum-known-n t c = search needs
 
--- src/lib.rt:381:9
+-- src/lib.rt:391:9
 sm-enum-told : (t : ℕ) → sm-lts.Need-enum-told (
   list-reads.Asked,
   list-reads.Learnt,
@@ -19555,7 +20318,7 @@ sm-enum-told : (t : ℕ) → sm-lts.Need-enum-told (
 ) (sm-at t) sm.Post
 sm-enum-told t c = search needs
 
--- src/lib.rt:381:9
+-- src/lib.rt:391:9
 sm-stop-requires : (t : ℕ) → sm-lts.Need-stop-requires (
   list-reads.Asked,
   list-reads.Learnt,
@@ -19568,7 +20331,7 @@ sm-stop-requires : (t : ℕ) → sm-lts.Need-stop-requires (
 ) (sm-at t) sm.Post
 sm-stop-requires t c κs = search needs
 
--- src/lib.rt:381:9
+-- src/lib.rt:391:9
 sm-returns : (t : ℕ) → sm-lts.Need-returns (
   list-reads.Asked,
   list-reads.Learnt,
@@ -19582,7 +20345,7 @@ sm-returns : (t : ℕ) → sm-lts.Need-returns (
 unfolding Exp.exp-semi-seq
 sm-returns t c = record { is = list-not (c .stop .ensures) (c .before .before .before .list .ensures) (c .before .enum-told .given .1) }
 
--- src/lib.rt:384:9
+-- src/lib.rt:394:9
 sm-returns-2 : (t : ℕ) → sm-lts.Need-returns-2 (
   list-reads.Asked,
   list-reads.Learnt,
@@ -19596,7 +20359,7 @@ sm-returns-2 : (t : ℕ) → sm-lts.Need-returns-2 (
 unfolding Exp.exp-semi-seq
 sm-returns-2 t c = record { is = by-same (list-is (c .before .before .before .before .list .ensures) (c .before .before .n .given .1)) (semi-zero _ _ _ (c .if1 .taken)) }
 
--- src/lib.rt:386:9
+-- src/lib.rt:396:9
 sm-it-requires : (t : ℕ) → sm-lts.Need-it-requires (
   list-reads.Asked,
   list-reads.Learnt,
@@ -19609,7 +20372,7 @@ sm-it-requires : (t : ℕ) → sm-lts.Need-it-requires (
 ) (sm-at t) sm.Post
 sm-it-requires t c κs = omega (arith, c .before .before .before .before .before .before .before .before .before .before .before .before .before .pre .0, c .before .before .before .before .before .before .before .before .before .before .before .before .before .pre .1)
 
--- src/lib.rt:387:22
+-- src/lib.rt:397:22
 sm-enum-known-r2 : (t : ℕ) → sm-lts.Need-enum-known-r2 (
   list-reads.Asked,
   list-reads.Learnt,
@@ -19622,7 +20385,7 @@ sm-enum-known-r2 : (t : ℕ) → sm-lts.Need-enum-known-r2 (
 ) (sm-at t) sm.Post
 sm-enum-known-r2 t c = search needs
 
--- src/lib.rt:388:9
+-- src/lib.rt:398:9
 sm-enum-told-2 : (t : ℕ) → sm-lts.Need-enum-told-2 (
   list-reads.Asked,
   list-reads.Learnt,
@@ -19635,7 +20398,7 @@ sm-enum-told-2 : (t : ℕ) → sm-lts.Need-enum-told-2 (
 ) (sm-at t) sm.Post
 sm-enum-told-2 t c = search needs
 
--- src/lib.rt:388:9
+-- src/lib.rt:398:9
 sm-same-length : (t : ℕ) → sm-lts.Need-same-length (
   list-reads.Asked,
   list-reads.Learnt,
@@ -19648,7 +20411,7 @@ sm-same-length : (t : ℕ) → sm-lts.Need-same-length (
 ) (sm-at t) sm.Post
 sm-same-length t c = c .before .before .before .before .it .kept .1 .1 .1 .1 .1 .0
 
--- src/lib.rt:388:9
+-- src/lib.rt:398:9
 sm-returns-3 : (t : ℕ) → sm-lts.Need-returns-3 (
   list-reads.Asked,
   list-reads.Learnt,
@@ -19662,7 +20425,7 @@ sm-returns-3 : (t : ℕ) → sm-lts.Need-returns-3 (
 unfolding Exp.exp-semi-seq
 sm-returns-3 t c = record { is = by-same (list-is (c .before .before .before .before .before .before .before .before .before .before .before .list .ensures) (c .before .before .before .before .before .before .before .before .before .n .given .1)) (semi-first _ _ _ (c .before .before .before .before .before .before .before .if1 .left) (then-stop (c .before .before .before .before .it .ensures .is) (c .enum-told2 .given .1))) }
 
--- src/lib.rt:401:9
+-- src/lib.rt:411:9
 sm-sub-mo : (t : ℕ) → sm-lts.Need-sub-mo (
   list-reads.Asked,
   list-reads.Learnt,
@@ -19675,7 +20438,7 @@ sm-sub-mo : (t : ℕ) → sm-lts.Need-sub-mo (
 ) (sm-at t) sm.Post
 sm-sub-mo t c = search needs
 
--- src/lib.rt:390:5
+-- src/lib.rt:400:5
 sm-mo-requires : (t : ℕ) → sm-lts.Need-mo-requires (
   list-reads.Asked,
   list-reads.Learnt,
@@ -19688,7 +20451,7 @@ sm-mo-requires : (t : ℕ) → sm-lts.Need-mo-requires (
 ) (sm-at t) sm.Post
 sm-mo-requires t c κs = omega (arith, c .before .before .before .before .before .before .before .before .before .before .before .before .before .before .before .before .before .before .before .before .before .pre .0, c .before .before .before .before .before .before .before .before .before .before .before .before .before .before .before .before .before .before .before .before .before .pre .1)
 
--- src/lib.rt:365:1
+-- src/lib.rt:375:1
 sm-same-length-2 : (t : ℕ) → sm-lts.Need-same-length-2 (
   list-reads.Asked,
   list-reads.Learnt,
@@ -19701,7 +20464,7 @@ sm-same-length-2 : (t : ℕ) → sm-lts.Need-same-length-2 (
 ) (sm-at t) sm.Post
 sm-same-length-2 t c = c .before .before .mo .kept .1 .1 .1 .1 .1 .0 ∙ c .before .before .before .before .before .before .before .before .before .before .it .kept .1 .1 .1 .1 .1 .0
 
--- src/lib.rt:365:1
+-- src/lib.rt:375:1
 sm-returns-4 : (t : ℕ) → sm-lts.Need-returns-4 (
   list-reads.Asked,
   list-reads.Learnt,
@@ -19722,7 +20485,7 @@ sp-Inv-loop text rec kinds starts lens out₀ left₀ cfg n s₀ needs₀ i₀ o
 abbrev sp-μ-loop : sp-lts.MeasureT-loop
 sp-μ-loop text rec kinds starts lens out₀ left₀ cfg n s₀ needs₀ i₀ out left s needs i = n - i
 
--- src/lib.rt:2078:9
+-- src/lib.rt:2054:9
 sp-text-of-requires : (t : ℕ) → sp-lts.Need-text-of-requires (
   text-of-reads.Asked,
   text-of-reads.Learnt,
@@ -19743,7 +20506,7 @@ sp-text-of-requires : (t : ℕ) → sp-lts.Need-text-of-requires (
 ) (sp-at t) sp.Post sp-Inv-loop sp-μ-loop
 sp-text-of-requires t c κs = search needs
 
--- src/lib.rt:2079:22
+-- src/lib.rt:2055:22
 sp-enum-known-r1 : (t : ℕ) → sp-lts.Need-enum-known-r1 (
   text-of-reads.Asked,
   text-of-reads.Learnt,
@@ -19764,7 +20527,7 @@ sp-enum-known-r1 : (t : ℕ) → sp-lts.Need-enum-known-r1 (
 ) (sp-at t) sp.Post sp-Inv-loop sp-μ-loop
 sp-enum-known-r1 t c = search needs
 
--- src/lib.rt:2080:9
+-- src/lib.rt:2056:9
 sp-enum-told : (t : ℕ) → sp-lts.Need-enum-told (
   text-of-reads.Asked,
   text-of-reads.Learnt,
@@ -19785,7 +20548,7 @@ sp-enum-told : (t : ℕ) → sp-lts.Need-enum-told (
 ) (sp-at t) sp.Post sp-Inv-loop sp-μ-loop
 sp-enum-told t c = search needs
 
--- src/lib.rt:2080:9
+-- src/lib.rt:2056:9
 sp-same-length : (t : ℕ) → sp-lts.Need-same-length (
   text-of-reads.Asked,
   text-of-reads.Learnt,
@@ -19806,7 +20569,7 @@ sp-same-length : (t : ℕ) → sp-lts.Need-same-length (
 ) (sp-at t) sp.Post sp-Inv-loop sp-μ-loop
 sp-same-length t c = c .before .before .before .before .text-of .kept .1 .1 .1 .1 .0
 
--- src/lib.rt:2080:9
+-- src/lib.rt:2056:9
 sp-returns : (t : ℕ) → sp-lts.Need-returns (
   text-of-reads.Asked,
   text-of-reads.Learnt,
@@ -19825,10 +20588,10 @@ sp-returns : (t : ℕ) → sp-lts.Need-returns (
   app-end-reads.Asked,
   app-end-reads.Learnt,
 ) (sp-at t) sp.Post sp-Inv-loop sp-μ-loop
-unfolding StrExp.AppStrExp
+unfolding StrExp.str-exp
 sp-returns t c = record { is = then-stop (plain (c .before .before .before .before .text-of .ensures)) (c .enum-told .given .1) }
 
--- src/lib.rt:2082:9
+-- src/lib.rt:2058:9
 sp-word-requires : (t : ℕ) → sp-lts.Need-word-requires (
   text-of-reads.Asked,
   text-of-reads.Learnt,
@@ -19849,7 +20612,7 @@ sp-word-requires : (t : ℕ) → sp-lts.Need-word-requires (
 ) (sp-at t) sp.Post sp-Inv-loop sp-μ-loop
 sp-word-requires t c κs = search needs
 
--- src/lib.rt:2083:27
+-- src/lib.rt:2059:27
 sp-list-requires : (t : ℕ) → sp-lts.Need-list-requires (
   text-of-reads.Asked,
   text-of-reads.Learnt,
@@ -19870,7 +20633,7 @@ sp-list-requires : (t : ℕ) → sp-lts.Need-list-requires (
 ) (sp-at t) sp.Post sp-Inv-loop sp-μ-loop
 sp-list-requires t c κs = search needs
 
--- src/lib.rt:2083:18
+-- src/lib.rt:2059:18
 sp-enum-known-n : (t : ℕ) → sp-lts.Need-enum-known-n (
   text-of-reads.Asked,
   text-of-reads.Learnt,
@@ -19891,7 +20654,7 @@ sp-enum-known-n : (t : ℕ) → sp-lts.Need-enum-known-n (
 ) (sp-at t) sp.Post sp-Inv-loop sp-μ-loop
 sp-enum-known-n t c = search needs
 
--- src/lib.rt:2084:9
+-- src/lib.rt:2060:9
 sp-enum-told-2 : (t : ℕ) → sp-lts.Need-enum-told-2 (
   text-of-reads.Asked,
   text-of-reads.Learnt,
@@ -19912,7 +20675,7 @@ sp-enum-told-2 : (t : ℕ) → sp-lts.Need-enum-told-2 (
 ) (sp-at t) sp.Post sp-Inv-loop sp-μ-loop
 sp-enum-told-2 t c = search needs
 
--- src/lib.rt:2084:9
+-- src/lib.rt:2060:9
 sp-stop-requires : (t : ℕ) → sp-lts.Need-stop-requires (
   text-of-reads.Asked,
   text-of-reads.Learnt,
@@ -19933,7 +20696,7 @@ sp-stop-requires : (t : ℕ) → sp-lts.Need-stop-requires (
 ) (sp-at t) sp.Post sp-Inv-loop sp-μ-loop
 sp-stop-requires t c κs = search needs
 
--- src/lib.rt:2084:9
+-- src/lib.rt:2060:9
 sp-same-length-2 : (t : ℕ) → sp-lts.Need-same-length-2 (
   text-of-reads.Asked,
   text-of-reads.Learnt,
@@ -19954,7 +20717,7 @@ sp-same-length-2 : (t : ℕ) → sp-lts.Need-same-length-2 (
 ) (sp-at t) sp.Post sp-Inv-loop sp-μ-loop
 sp-same-length-2 t c = c .before .before .before .before .before .before .word .kept .1 .0 ∙ c .before .before .before .before .before .before .before .before .before .before .before .before .before .text-of .kept .1 .1 .1 .1 .0
 
--- src/lib.rt:2084:9
+-- src/lib.rt:2060:9
 sp-returns-2 : (t : ℕ) → sp-lts.Need-returns-2 (
   text-of-reads.Asked,
   text-of-reads.Learnt,
@@ -19973,10 +20736,10 @@ sp-returns-2 : (t : ℕ) → sp-lts.Need-returns-2 (
   app-end-reads.Asked,
   app-end-reads.Learnt,
 ) (sp-at t) sp.Post sp-Inv-loop sp-μ-loop
-unfolding StrExp.AppStrExp
+unfolding StrExp.str-exp
 sp-returns-2 t c = record { is = then-done (plain (c .before .before .before .before .before .before .before .before .before .before .before .before .before .text-of .ensures)) (c .before .before .before .before .before .before .before .before .before .r1 .given .1) (then-sure (c .before .before .before .before .before .before .word .ensures) (list-not (c .stop .ensures) (c .before .before .before .list .ensures) (c .before .enum-told2 .given .1))) }
 
--- src/lib.rt:2089:5
+-- src/lib.rt:2065:5
 sp-loop-holds : (t : ℕ) → sp-lts.Need-loop-holds (
   text-of-reads.Asked,
   text-of-reads.Learnt,
@@ -19997,7 +20760,7 @@ sp-loop-holds : (t : ℕ) → sp-lts.Need-loop-holds (
 ) (sp-at t) sp.Post sp-Inv-loop sp-μ-loop
 sp-loop-holds t c = (omega arith, λ r o m h. h, refl)
 
--- src/lib.rt:2090:31
+-- src/lib.rt:2066:31
 sp-choice-requires : (t : ℕ) → sp-lts.Need-choice-requires (
   text-of-reads.Asked,
   text-of-reads.Learnt,
@@ -20018,7 +20781,7 @@ sp-choice-requires : (t : ℕ) → sp-lts.Need-choice-requires (
 ) (sp-at t) sp.Post sp-Inv-loop sp-μ-loop
 sp-choice-requires t c κs = search needs
 
--- src/lib.rt:2090:22
+-- src/lib.rt:2066:22
 sp-enum-known-k : (t : ℕ) → sp-lts.Need-enum-known-k (
   text-of-reads.Asked,
   text-of-reads.Learnt,
@@ -20039,7 +20802,7 @@ sp-enum-known-k : (t : ℕ) → sp-lts.Need-enum-known-k (
 ) (sp-at t) sp.Post sp-Inv-loop sp-μ-loop
 sp-enum-known-k t c = search needs
 
--- src/lib.rt:2091:13
+-- src/lib.rt:2067:13
 sp-enum-told-3 : (t : ℕ) → sp-lts.Need-enum-told-3 (
   text-of-reads.Asked,
   text-of-reads.Learnt,
@@ -20060,7 +20823,7 @@ sp-enum-told-3 : (t : ℕ) → sp-lts.Need-enum-told-3 (
 ) (sp-at t) sp.Post sp-Inv-loop sp-μ-loop
 sp-enum-told-3 t c = search needs
 
--- src/lib.rt:2091:13
+-- src/lib.rt:2067:13
 sp-stop-requires-2 : (t : ℕ) → sp-lts.Need-stop-requires-2 (
   text-of-reads.Asked,
   text-of-reads.Learnt,
@@ -20081,7 +20844,7 @@ sp-stop-requires-2 : (t : ℕ) → sp-lts.Need-stop-requires-2 (
 ) (sp-at t) sp.Post sp-Inv-loop sp-μ-loop
 sp-stop-requires-2 t c κs = search needs
 
--- src/lib.rt:2091:13
+-- src/lib.rt:2067:13
 sp-same-length-3 : (t : ℕ) → sp-lts.Need-same-length-3 (
   text-of-reads.Asked,
   text-of-reads.Learnt,
@@ -20102,7 +20865,7 @@ sp-same-length-3 : (t : ℕ) → sp-lts.Need-same-length-3 (
 ) (sp-at t) sp.Post sp-Inv-loop sp-μ-loop
 sp-same-length-3 t c = c .before .before .before .before .before .loop .inv .2 ∙ c .before .before .before .before .before .before .before .before .before .before .before .before .word .kept .1 .0 ∙ c .before .before .before .before .before .before .before .before .before .before .before .before .before .before .before .before .before .before .before .text-of .kept .1 .1 .1 .1 .0
 
--- src/lib.rt:2091:13
+-- src/lib.rt:2067:13
 sp-returns-3 : (t : ℕ) → sp-lts.Need-returns-3 (
   text-of-reads.Asked,
   text-of-reads.Learnt,
@@ -20121,10 +20884,10 @@ sp-returns-3 : (t : ℕ) → sp-lts.Need-returns-3 (
   app-end-reads.Asked,
   app-end-reads.Learnt,
 ) (sp-at t) sp.Post sp-Inv-loop sp-μ-loop
-unfolding StrExp.AppStrExp
+unfolding StrExp.str-exp
 sp-returns-3 t c = record { is = then-done (plain (c .before .before .before .before .before .before .before .before .before .before .before .before .before .before .before .before .before .before .before .text-of .ensures)) (c .before .before .before .before .before .before .before .before .before .before .before .before .before .before .before .r1 .given .1) (then-sure (c .before .before .before .before .before .before .before .before .before .before .before .before .word .ensures) (by-same (list-is (c .before .before .before .before .before .before .before .before .before .list .ensures) (c .before .before .before .before .before .before .before .n .given .1)) (by-same (args-all _ _ _) (c .before .before .before .before .before .loop .inv .1 _ _ _ (args-more _ _ _ (c .before .before .before .before .loop-test .taken) (choice-not (c .stop2 .ensures) (c .before .before .before .choice .ensures) (c .before .enum-told3 .given .1))))))) }
 
--- src/lib.rt:2093:13
+-- src/lib.rt:2069:13
 sp-sa-requires : (t : ℕ) → sp-lts.Need-sa-requires (
   text-of-reads.Asked,
   text-of-reads.Learnt,
@@ -20145,7 +20908,7 @@ sp-sa-requires : (t : ℕ) → sp-lts.Need-sa-requires (
 ) (sp-at t) sp.Post sp-Inv-loop sp-μ-loop
 sp-sa-requires t c κs = omega (arith, c .before .before .before .before .before .before .before .before .before .before .before .before .before .before .before .before .before .before .before .before .before .before .before .before .before .before .before .before .before .pre .0, c .before .before .before .before .before .before .before .before .before .before .before .before .before .before .before .before .before .before .before .before .before .before .before .before .before .before .before .before .before .pre .1)
 
--- src/lib.rt:2094:26
+-- src/lib.rt:2070:26
 sp-enum-known-r5 : (t : ℕ) → sp-lts.Need-enum-known-r5 (
   text-of-reads.Asked,
   text-of-reads.Learnt,
@@ -20166,7 +20929,7 @@ sp-enum-known-r5 : (t : ℕ) → sp-lts.Need-enum-known-r5 (
 ) (sp-at t) sp.Post sp-Inv-loop sp-μ-loop
 sp-enum-known-r5 t c = search needs
 
--- src/lib.rt:2095:13
+-- src/lib.rt:2071:13
 sp-enum-told-4 : (t : ℕ) → sp-lts.Need-enum-told-4 (
   text-of-reads.Asked,
   text-of-reads.Learnt,
@@ -20187,7 +20950,7 @@ sp-enum-told-4 : (t : ℕ) → sp-lts.Need-enum-told-4 (
 ) (sp-at t) sp.Post sp-Inv-loop sp-μ-loop
 sp-enum-told-4 t c = search needs
 
--- src/lib.rt:2095:13
+-- src/lib.rt:2071:13
 sp-same-length-4 : (t : ℕ) → sp-lts.Need-same-length-4 (
   text-of-reads.Asked,
   text-of-reads.Learnt,
@@ -20208,7 +20971,7 @@ sp-same-length-4 : (t : ℕ) → sp-lts.Need-same-length-4 (
 ) (sp-at t) sp.Post sp-Inv-loop sp-μ-loop
 sp-same-length-4 t c = c .before .before .before .before .sa .kept .1 .1 .1 .1 .1 .0 ∙ c .before .before .before .before .before .before .before .before .before .before .before .before .loop .inv .2 ∙ c .before .before .before .before .before .before .before .before .before .before .before .before .before .before .before .before .before .before .before .word .kept .1 .0 ∙ c .before .before .before .before .before .before .before .before .before .before .before .before .before .before .before .before .before .before .before .before .before .before .before .before .before .before .text-of .kept .1 .1 .1 .1 .0
 
--- src/lib.rt:2095:13
+-- src/lib.rt:2071:13
 sp-returns-4 : (t : ℕ) → sp-lts.Need-returns-4 (
   text-of-reads.Asked,
   text-of-reads.Learnt,
@@ -20227,10 +20990,10 @@ sp-returns-4 : (t : ℕ) → sp-lts.Need-returns-4 (
   app-end-reads.Asked,
   app-end-reads.Learnt,
 ) (sp-at t) sp.Post sp-Inv-loop sp-μ-loop
-unfolding StrExp.AppStrExp
+unfolding StrExp.str-exp
 sp-returns-4 t c = record { is = then-done (plain (c .before .before .before .before .before .before .before .before .before .before .before .before .before .before .before .before .before .before .before .before .before .before .before .before .before .before .text-of .ensures)) (c .before .before .before .before .before .before .before .before .before .before .before .before .before .before .before .before .before .before .before .before .before .before .r1 .given .1) (then-sure (c .before .before .before .before .before .before .before .before .before .before .before .before .before .before .before .before .before .before .before .word .ensures) (by-same (list-is (c .before .before .before .before .before .before .before .before .before .before .before .before .before .before .before .before .list .ensures) (c .before .before .before .before .before .before .before .before .before .before .before .before .before .before .n .given .1)) (by-same (args-all _ _ _) (c .before .before .before .before .before .before .before .before .before .before .before .before .loop .inv .1 _ _ _ (args-more _ _ _ (c .before .before .before .before .before .before .before .before .before .before .before .loop-test .taken) (by-same (choice-is (c .before .before .before .before .before .before .before .before .before .before .choice .ensures) (c .before .before .before .before .before .before .before .before .k .given .1)) (then-stop (c .before .before .before .before .sa .ensures .is) (c .enum-told4 .given .1)))))))) }
 
--- src/lib.rt:2097:9
+-- src/lib.rt:2073:9
 sp-later-needs-requires : (t : ℕ) → sp-lts.Need-later-needs-requires (
   text-of-reads.Asked,
   text-of-reads.Learnt,
@@ -20251,7 +21014,7 @@ sp-later-needs-requires : (t : ℕ) → sp-lts.Need-later-needs-requires (
 ) (sp-at t) sp.Post sp-Inv-loop sp-μ-loop
 sp-later-needs-requires t c κs = search needs
 
--- src/lib.rt:2099:9
+-- src/lib.rt:2075:9
 sp-add-i : (t : ℕ) → sp-lts.Need-add-i (
   text-of-reads.Asked,
   text-of-reads.Learnt,
@@ -20272,7 +21035,7 @@ sp-add-i : (t : ℕ) → sp-lts.Need-add-i (
 ) (sp-at t) sp.Post sp-Inv-loop sp-μ-loop
 sp-add-i t c = omega (arith, c .before .before .before .before .before .before .before .before .before .before .before .before .before .loop-test .taken, c .before .before .before .before .before .before .before .before .before .before .before .before .before .before .before .known-told2)
 
--- src/lib.rt:2089:5
+-- src/lib.rt:2065:5
 sp-loop-less : (t : ℕ) → sp-lts.Need-loop-less (
   text-of-reads.Asked,
   text-of-reads.Learnt,
@@ -20293,7 +21056,7 @@ sp-loop-less : (t : ℕ) → sp-lts.Need-loop-less (
 ) (sp-at t) sp.Post sp-Inv-loop sp-μ-loop
 sp-loop-less t c = omega arith
 
--- src/lib.rt:2089:5
+-- src/lib.rt:2065:5
 sp-loop-again : (t : ℕ) → sp-lts.Need-loop-again (
   text-of-reads.Asked,
   text-of-reads.Learnt,
@@ -20312,10 +21075,10 @@ sp-loop-again : (t : ℕ) → sp-lts.Need-loop-again (
   app-end-reads.Asked,
   app-end-reads.Learnt,
 ) (sp-at t) sp.Post sp-Inv-loop sp-μ-loop
-unfolding StrExp.AppStrExp
+unfolding StrExp.str-exp
 sp-loop-again t c = (omega (arith, c .before .before .before .before .before .before .before .before .before .before .before .before .before .before .loop .inv .0), λ r o m h. c .before .before .before .before .before .before .before .before .before .before .before .before .before .before .loop .inv .1 r o m (args-more _ _ _ (c .before .before .before .before .before .before .before .before .before .before .before .before .before .loop-test .taken) (by-same (choice-is (c .before .before .before .before .before .before .before .before .before .before .before .before .choice .ensures) (c .before .before .before .before .before .before .before .before .before .before .k .given .1)) (then-done (c .before .before .before .before .before .before .sa .ensures .is) (c .before .before .r5 .given .1) ((args-needs _ _ _ (c .later-needs .ensures) h))))), c .before .before .before .before .before .before .sa .kept .1 .1 .1 .1 .1 .0 ∙ c .before .before .before .before .before .before .before .before .before .before .before .before .before .before .loop .inv .2)
 
--- src/lib.rt:2101:18
+-- src/lib.rt:2077:18
 sp-app-end-requires : (t : ℕ) → sp-lts.Need-app-end-requires (
   text-of-reads.Asked,
   text-of-reads.Learnt,
@@ -20336,7 +21099,7 @@ sp-app-end-requires : (t : ℕ) → sp-lts.Need-app-end-requires (
 ) (sp-at t) sp.Post sp-Inv-loop sp-μ-loop
 sp-app-end-requires t c κs = search needs
 
--- src/lib.rt:2064:1
+-- src/lib.rt:2040:1
 sp-same-length-5 : (t : ℕ) → sp-lts.Need-same-length-5 (
   text-of-reads.Asked,
   text-of-reads.Learnt,
@@ -20357,7 +21120,7 @@ sp-same-length-5 : (t : ℕ) → sp-lts.Need-same-length-5 (
 ) (sp-at t) sp.Post sp-Inv-loop sp-μ-loop
 sp-same-length-5 t c = c .before .before .app-end .kept .1 .0 ∙ c .before .before .before .before .before .loop .inv .2 ∙ c .before .before .before .before .before .before .before .before .before .before .before .before .word .kept .1 .0 ∙ c .before .before .before .before .before .before .before .before .before .before .before .before .before .before .before .before .before .before .before .text-of .kept .1 .1 .1 .1 .0
 
--- src/lib.rt:2064:1
+-- src/lib.rt:2040:1
 sp-returns-5 : (t : ℕ) → sp-lts.Need-returns-5 (
   text-of-reads.Asked,
   text-of-reads.Learnt,
@@ -20376,10 +21139,10 @@ sp-returns-5 : (t : ℕ) → sp-lts.Need-returns-5 (
   app-end-reads.Asked,
   app-end-reads.Learnt,
 ) (sp-at t) sp.Post sp-Inv-loop sp-μ-loop
-unfolding StrExp.AppStrExp
+unfolding StrExp.str-exp
 sp-returns-5 t c = record { is = then-done (plain (c .before .before .before .before .before .before .before .before .before .before .before .before .before .before .before .before .before .before .before .text-of .ensures)) (c .before .before .before .before .before .before .before .before .before .before .before .before .before .before .before .r1 .given .1) (then-sure (c .before .before .before .before .before .before .before .before .before .before .before .before .word .ensures) (by-same (list-is (c .before .before .before .before .before .before .before .before .before .list .ensures) (c .before .before .before .before .before .before .before .n .given .1)) (by-same (args-all _ _ _) (c .before .before .before .before .before .loop .inv .1 _ _ _ (args-none _ _ _ (c .before .before .before .before .loop-test .left) (last-sure (c .before .before .app-end .ensures))))))) }
 
--- src/lib.rt:1112:9
+-- src/lib.rt:1089:9
 sq-group-requires : (t : ℕ) → sq-lts.Need-group-requires (
   group-reads.Asked,
   group-reads.Learnt,
@@ -20390,7 +21153,7 @@ sq-group-requires : (t : ℕ) → sq-lts.Need-group-requires (
 ) (sq-at t) sq.Post
 sq-group-requires t c κs = search needs
 
--- src/lib.rt:1113:22
+-- src/lib.rt:1090:22
 sq-enum-known-r1 : (t : ℕ) → sq-lts.Need-enum-known-r1 (
   group-reads.Asked,
   group-reads.Learnt,
@@ -20401,7 +21164,7 @@ sq-enum-known-r1 : (t : ℕ) → sq-lts.Need-enum-known-r1 (
 ) (sq-at t) sq.Post
 sq-enum-known-r1 t c = search needs
 
--- src/lib.rt:1114:9
+-- src/lib.rt:1091:9
 sq-enum-told : (t : ℕ) → sq-lts.Need-enum-told (
   group-reads.Asked,
   group-reads.Learnt,
@@ -20412,7 +21175,7 @@ sq-enum-told : (t : ℕ) → sq-lts.Need-enum-told (
 ) (sq-at t) sq.Post
 sq-enum-told t c = search needs
 
--- src/lib.rt:1114:9
+-- src/lib.rt:1091:9
 sq-returns : (t : ℕ) → sq-lts.Need-returns (
   group-reads.Asked,
   group-reads.Learnt,
@@ -20424,7 +21187,7 @@ sq-returns : (t : ℕ) → sq-lts.Need-returns (
 unfolding GetDec.dec-in-seq Helpers.with-extra-blank Helpers.semicolon
 sq-returns t c = record { is = group-not (c .before .before .group .ensures) (c .enum-told .given .1) }
 
--- src/lib.rt:1122:9
+-- src/lib.rt:1099:9
 sq-one-requires : (t : ℕ) → sq-lts.Need-one-requires (
   group-reads.Asked,
   group-reads.Learnt,
@@ -20435,7 +21198,7 @@ sq-one-requires : (t : ℕ) → sq-lts.Need-one-requires (
 ) (sq-at t) sq.Post
 sq-one-requires t c κs = omega (arith, c .before .before .before .before .before .before .before .before .before .before .before .before .pre .0, c .before .before .before .before .before .before .before .before .before .before .before .before .pre .1)
 
--- src/lib.rt:1123:22
+-- src/lib.rt:1100:22
 sq-enum-known-r2 : (t : ℕ) → sq-lts.Need-enum-known-r2 (
   group-reads.Asked,
   group-reads.Learnt,
@@ -20446,7 +21209,7 @@ sq-enum-known-r2 : (t : ℕ) → sq-lts.Need-enum-known-r2 (
 ) (sq-at t) sq.Post
 sq-enum-known-r2 t c = search needs
 
--- src/lib.rt:1124:9
+-- src/lib.rt:1101:9
 sq-enum-told-2 : (t : ℕ) → sq-lts.Need-enum-told-2 (
   group-reads.Asked,
   group-reads.Learnt,
@@ -20457,7 +21220,7 @@ sq-enum-told-2 : (t : ℕ) → sq-lts.Need-enum-told-2 (
 ) (sq-at t) sq.Post
 sq-enum-told-2 t c = search needs
 
--- src/lib.rt:1124:9
+-- src/lib.rt:1101:9
 sq-same-length : (t : ℕ) → sq-lts.Need-same-length (
   group-reads.Asked,
   group-reads.Learnt,
@@ -20468,7 +21231,7 @@ sq-same-length : (t : ℕ) → sq-lts.Need-same-length (
 ) (sq-at t) sq.Post
 sq-same-length t c = c .before .before .before .before .one .kept .1 .1 .1 .1 .1 .0
 
--- src/lib.rt:1124:9
+-- src/lib.rt:1101:9
 sq-returns-2 : (t : ℕ) → sq-lts.Need-returns-2 (
   group-reads.Asked,
   group-reads.Learnt,
@@ -20480,7 +21243,7 @@ sq-returns-2 : (t : ℕ) → sq-lts.Need-returns-2 (
 unfolding GetDec.dec-in-seq Helpers.with-extra-blank Helpers.semicolon
 sq-returns-2 t c = record { is = by-same (group-is (c .before .before .before .before .before .before .before .before .before .before .group .ensures) (c .before .before .before .before .before .before .before .before .r1 .given .1)) (then-stop (c .before .before .before .before .one .ensures .is) (c .enum-told2 .given .1)) }
 
--- src/lib.rt:1126:5
+-- src/lib.rt:1103:5
 sq-word-if-requires : (t : ℕ) → sq-lts.Need-word-if-requires (
   group-reads.Asked,
   group-reads.Learnt,
@@ -20491,7 +21254,7 @@ sq-word-if-requires : (t : ℕ) → sq-lts.Need-word-if-requires (
 ) (sq-at t) sq.Post
 sq-word-if-requires t c κs = search needs
 
--- src/lib.rt:1098:1
+-- src/lib.rt:1075:1
 sq-same-length-2 : (t : ℕ) → sq-lts.Need-same-length-2 (
   group-reads.Asked,
   group-reads.Learnt,
@@ -20502,7 +21265,7 @@ sq-same-length-2 : (t : ℕ) → sq-lts.Need-same-length-2 (
 ) (sq-at t) sq.Post
 sq-same-length-2 t c = c .before .before .word-if .kept .1 .1 .1 .1 .0 ∙ c .before .before .before .before .before .before .before .before .before .one .kept .1 .1 .1 .1 .1 .0
 
--- src/lib.rt:1098:1
+-- src/lib.rt:1075:1
 sq-returns-3 : (t : ℕ) → sq-lts.Need-returns-3 (
   group-reads.Asked,
   group-reads.Learnt,
@@ -20514,7 +21277,7 @@ sq-returns-3 : (t : ℕ) → sq-lts.Need-returns-3 (
 unfolding GetDec.dec-in-seq Helpers.with-extra-blank Helpers.semicolon
 sq-returns-3 t c = record { is = by-same (group-is (c .before .before .before .before .before .before .before .before .before .before .before .before .before .before .before .group .ensures) (c .before .before .before .before .before .before .before .before .before .before .before .before .before .r1 .given .1)) (then-done (c .before .before .before .before .before .before .before .before .before .one .ensures .is) (c .before .before .before .before .before .r2 .given .1) (plain (c .before .before .word-if .ensures))) }
 
--- src/lib.rt:1975:9
+-- src/lib.rt:1951:9
 ss-word-requires : (t : ℕ) → ss-lts.Need-word-requires (
   word-reads.Asked,
   word-reads.Learnt,
@@ -20529,7 +21292,7 @@ ss-word-requires : (t : ℕ) → ss-lts.Need-word-requires (
 ) (ss-at t) ss.Post
 ss-word-requires t c κs = search needs
 
--- src/lib.rt:1976:9
+-- src/lib.rt:1952:9
 ss-indent-deeper-requires : (t : ℕ) → ss-lts.Need-indent-deeper-requires (
   word-reads.Asked,
   word-reads.Learnt,
@@ -20544,7 +21307,7 @@ ss-indent-deeper-requires : (t : ℕ) → ss-lts.Need-indent-deeper-requires (
 ) (ss-at t) ss.Post
 ss-indent-deeper-requires t c κs = omega (arith, c .before .before .before .before .before .before .before .before .before .before .before .pre .1)
 
--- src/lib.rt:1983:9
+-- src/lib.rt:1959:9
 ss-indented-requires : (t : ℕ) → ss-lts.Need-indented-requires (
   word-reads.Asked,
   word-reads.Learnt,
@@ -20559,7 +21322,7 @@ ss-indented-requires : (t : ℕ) → ss-lts.Need-indented-requires (
 ) (ss-at t) ss.Post
 ss-indented-requires t c κs = omega (arith, c .before .before .before .before .before .before .before .before .before .before .before .before .before .before .pre .1)
 
--- src/lib.rt:1984:9
+-- src/lib.rt:1960:9
 ss-ds-requires : (t : ℕ) → ss-lts.Need-ds-requires (
   word-reads.Asked,
   word-reads.Learnt,
@@ -20574,7 +21337,7 @@ ss-ds-requires : (t : ℕ) → ss-lts.Need-ds-requires (
 ) (ss-at t) ss.Post
 ss-ds-requires t c κs = omega (arith, c .before .before .before .before .before .before .before .before .before .before .before .before .before .before .before .before .before .pre .0, c .before .before .before .before .before .before .before .before .before .before .before .before .before .before .before .before .before .pre .1, deep-depth (c .before .before .indented .ensures), deep-left (c .before .before .indented .ensures))
 
--- src/lib.rt:1985:22
+-- src/lib.rt:1961:22
 ss-enum-known-r3 : (t : ℕ) → ss-lts.Need-enum-known-r3 (
   word-reads.Asked,
   word-reads.Learnt,
@@ -20589,7 +21352,7 @@ ss-enum-known-r3 : (t : ℕ) → ss-lts.Need-enum-known-r3 (
 ) (ss-at t) ss.Post
 ss-enum-known-r3 t c = search needs
 
--- src/lib.rt:1986:9
+-- src/lib.rt:1962:9
 ss-enum-told : (t : ℕ) → ss-lts.Need-enum-told (
   word-reads.Asked,
   word-reads.Learnt,
@@ -20604,7 +21367,7 @@ ss-enum-told : (t : ℕ) → ss-lts.Need-enum-told (
 ) (ss-at t) ss.Post
 ss-enum-told t c = search needs
 
--- src/lib.rt:1986:9
+-- src/lib.rt:1962:9
 ss-same-length : (t : ℕ) → ss-lts.Need-same-length (
   word-reads.Asked,
   word-reads.Learnt,
@@ -20619,7 +21382,7 @@ ss-same-length : (t : ℕ) → ss-lts.Need-same-length (
 ) (ss-at t) ss.Post
 ss-same-length t c = c .before .before .before .before .ds .kept .1 .1 .1 .1 .1 .0 ∙ c .before .before .before .before .before .before .before .before .before .before .indent-deeper .kept .0 ∙ c .before .before .before .before .before .before .before .before .before .before .before .before .before .before .word .kept .1 .0
 
--- src/lib.rt:1986:9
+-- src/lib.rt:1962:9
 ss-returns : (t : ℕ) → ss-lts.Need-returns (
   word-reads.Asked,
   word-reads.Learnt,
@@ -20632,10 +21395,10 @@ ss-returns : (t : ℕ) → ss-lts.Need-returns (
   line-reads.Asked,
   line-reads.Learnt,
 ) (ss-at t) ss.Post
-unfolding StrExp.StructStrExp Helpers.with-extra-blank Helpers.indented
+unfolding StrExp.str-exp Helpers.with-extra-blank Helpers.indent-deeper Helpers.deepen
 ss-returns t c = record { is = then-sure (c .before .before .before .before .before .before .before .before .before .before .before .before .before .before .word .ensures) (then-both (c .before .before .before .before .before .before .before .before .before .before .indent-deeper .ensures) (then-stop (along (c .before .before .before .before .before .before .before .indented .ensures) (c .before .before .before .before .ds .ensures)) (c .enum-told .given .1))) }
 
--- src/lib.rt:1988:9
+-- src/lib.rt:1964:9
 ss-line-requires : (t : ℕ) → ss-lts.Need-line-requires (
   word-reads.Asked,
   word-reads.Learnt,
@@ -20650,7 +21413,7 @@ ss-line-requires : (t : ℕ) → ss-lts.Need-line-requires (
 ) (ss-at t) ss.Post
 ss-line-requires t c κs = search needs
 
--- src/lib.rt:1989:18
+-- src/lib.rt:1965:18
 ss-word-requires-2 : (t : ℕ) → ss-lts.Need-word-requires-2 (
   word-reads.Asked,
   word-reads.Learnt,
@@ -20665,7 +21428,7 @@ ss-word-requires-2 : (t : ℕ) → ss-lts.Need-word-requires-2 (
 ) (ss-at t) ss.Post
 ss-word-requires-2 t c κs = search needs
 
--- src/lib.rt:1961:1
+-- src/lib.rt:1937:1
 ss-same-length-2 : (t : ℕ) → ss-lts.Need-same-length-2 (
   word-reads.Asked,
   word-reads.Learnt,
@@ -20680,7 +21443,7 @@ ss-same-length-2 : (t : ℕ) → ss-lts.Need-same-length-2 (
 ) (ss-at t) ss.Post
 ss-same-length-2 t c = c .before .before .word2 .kept .1 .0 ∙ c .before .before .before .before .before .before .line .kept .1 .0 ∙ c .before .before .before .before .before .before .before .before .before .before .before .before .before .ds .kept .1 .1 .1 .1 .1 .0 ∙ c .before .before .before .before .before .before .before .before .before .before .before .before .before .before .before .before .before .before .before .indent-deeper .kept .0 ∙ c .before .before .before .before .before .before .before .before .before .before .before .before .before .before .before .before .before .before .before .before .before .before .before .word .kept .1 .0
 
--- src/lib.rt:1961:1
+-- src/lib.rt:1937:1
 ss-returns-2 : (t : ℕ) → ss-lts.Need-returns-2 (
   word-reads.Asked,
   word-reads.Learnt,
@@ -20693,10 +21456,10 @@ ss-returns-2 : (t : ℕ) → ss-lts.Need-returns-2 (
   line-reads.Asked,
   line-reads.Learnt,
 ) (ss-at t) ss.Post
-unfolding StrExp.StructStrExp Helpers.with-extra-blank Helpers.indented
+unfolding StrExp.str-exp Helpers.with-extra-blank Helpers.indent-deeper Helpers.deepen
 ss-returns-2 t c = record { is = then-sure (c .before .before .before .before .before .before .before .before .before .before .before .before .before .before .before .before .before .before .before .before .before .before .before .word .ensures) (then-both (c .before .before .before .before .before .before .before .before .before .before .before .before .before .before .before .before .before .before .before .indent-deeper .ensures) (then-done (along (c .before .before .before .before .before .before .before .before .before .before .before .before .before .before .before .before .indented .ensures) (c .before .before .before .before .before .before .before .before .before .before .before .before .before .ds .ensures)) (c .before .before .before .before .before .before .before .before .before .r3 .given .1) (then-both (c .before .before .before .before .before .before .line .ensures) (last-sure (c .before .before .word2 .ensures))))) }
 
--- src/lib.rt:1939:9
+-- src/lib.rt:1915:9
 str-stop-requires : (t : ℕ) → str-lts.Need-stop-requires (
   stop-reads.Asked,
   stop-reads.Learnt,
@@ -20715,7 +21478,7 @@ str-stop-requires : (t : ℕ) → str-lts.Need-stop-requires (
 ) (str-at t) str.Post
 str-stop-requires t c κs = search needs
 
--- src/lib.rt:1939:9
+-- src/lib.rt:1915:9
 str-returns : (t : ℕ) → str-lts.Need-returns (
   stop-reads.Asked,
   stop-reads.Learnt,
@@ -20732,10 +21495,10 @@ str-returns : (t : ℕ) → str-lts.Need-returns (
   sl-below t,
   sl.Post,
 ) (str-at t) str.Post
-unfolding StrExp.str-exps StrExp.PathStrExp
+unfolding StrExp.str-exps StrExp.str-exp
 str-returns t c = record { is = str-zero _ _ (c .before .if1 .taken) (c .stop .ensures) }
 
--- src/lib.rt:1941:26
+-- src/lib.rt:1917:26
 str-form-requires : (t : ℕ) → str-lts.Need-form-requires (
   stop-reads.Asked,
   stop-reads.Learnt,
@@ -20754,7 +21517,7 @@ str-form-requires : (t : ℕ) → str-lts.Need-form-requires (
 ) (str-at t) str.Post
 str-form-requires t c κs = search needs
 
--- src/lib.rt:1941:18
+-- src/lib.rt:1917:18
 str-enum-known-k : (t : ℕ) → str-lts.Need-enum-known-k (
   stop-reads.Asked,
   stop-reads.Learnt,
@@ -20773,7 +21536,7 @@ str-enum-known-k : (t : ℕ) → str-lts.Need-enum-known-k (
 ) (str-at t) str.Post
 str-enum-known-k t c = search needs
 
--- src/lib.rt:1942:9
+-- src/lib.rt:1918:9
 str-enum-told : (t : ℕ) → str-lts.Need-enum-told (
   stop-reads.Asked,
   stop-reads.Learnt,
@@ -20792,7 +21555,7 @@ str-enum-told : (t : ℕ) → str-lts.Need-enum-told (
 ) (str-at t) str.Post
 str-enum-told t c = search needs
 
--- src/lib.rt:1942:9
+-- src/lib.rt:1918:9
 str-stop-requires-2 : (t : ℕ) → str-lts.Need-stop-requires-2 (
   stop-reads.Asked,
   stop-reads.Learnt,
@@ -20811,7 +21574,7 @@ str-stop-requires-2 : (t : ℕ) → str-lts.Need-stop-requires-2 (
 ) (str-at t) str.Post
 str-stop-requires-2 t c κs = search needs
 
--- src/lib.rt:1942:9
+-- src/lib.rt:1918:9
 str-returns-2 : (t : ℕ) → str-lts.Need-returns-2 (
   stop-reads.Asked,
   stop-reads.Learnt,
@@ -20828,10 +21591,10 @@ str-returns-2 : (t : ℕ) → str-lts.Need-returns-2 (
   sl-below t,
   sl.Post,
 ) (str-at t) str.Post
-unfolding StrExp.str-exps StrExp.PathStrExp
+unfolding StrExp.str-exps StrExp.str-exp
 str-returns-2 t c = record { is = str-form _ _ (c .before .before .before .before .if1 .left) (form-not (c .stop2 .ensures) (c .before .before .before .form .ensures) (c .before .enum-told .given .1)) }
 
--- src/lib.rt:1948:15
+-- src/lib.rt:1924:15
 str-sub-t17 : (t : ℕ) → str-lts.Need-sub-t17 (
   stop-reads.Asked,
   stop-reads.Learnt,
@@ -20850,7 +21613,7 @@ str-sub-t17 : (t : ℕ) → str-lts.Need-sub-t17 (
 ) (str-at t) str.Post
 str-sub-t17 t c = search needs
 
--- src/lib.rt:1951:14
+-- src/lib.rt:1927:14
 str-ss-requires : (t : ℕ) → str-lts.Need-ss-requires (
   stop-reads.Asked,
   stop-reads.Learnt,
@@ -20869,7 +21632,7 @@ str-ss-requires : (t : ℕ) → str-lts.Need-ss-requires (
 ) (str-at t) str.Post
 str-ss-requires t c κs = omega (arith, c .before .before .before .before .before .before .before .before .before .before .before .before .before .before .pre .0, c .before .before .before .before .before .before .before .before .before .before .before .before .before .before .pre .1, c .before .before .before .before .before .before .before .if1 .left)
 
--- src/lib.rt:1952:14
+-- src/lib.rt:1928:14
 str-path-requires : (t : ℕ) → str-lts.Need-path-requires (
   stop-reads.Asked,
   stop-reads.Learnt,
@@ -20888,7 +21651,7 @@ str-path-requires : (t : ℕ) → str-lts.Need-path-requires (
 ) (str-at t) str.Post
 str-path-requires t c κs = search needs
 
--- src/lib.rt:1953:14
+-- src/lib.rt:1929:14
 str-an-requires : (t : ℕ) → str-lts.Need-an-requires (
   stop-reads.Asked,
   stop-reads.Learnt,
@@ -20907,7 +21670,7 @@ str-an-requires : (t : ℕ) → str-lts.Need-an-requires (
 ) (str-at t) str.Post
 str-an-requires t c κs = omega (arith, c .before .before .before .before .before .before .before .before .before .before .before .before .before .before .pre .0, c .before .before .before .before .before .before .before .before .before .before .before .before .before .before .pre .1, c .before .before .before .before .before .before .before .if1 .left)
 
--- src/lib.rt:1954:14
+-- src/lib.rt:1930:14
 str-sp-requires : (t : ℕ) → str-lts.Need-sp-requires (
   stop-reads.Asked,
   stop-reads.Learnt,
@@ -20926,7 +21689,7 @@ str-sp-requires : (t : ℕ) → str-lts.Need-sp-requires (
 ) (str-at t) str.Post
 str-sp-requires t c κs = omega (arith, c .before .before .before .before .before .before .before .before .before .before .before .before .before .before .pre .0, c .before .before .before .before .before .before .before .before .before .before .before .before .before .before .pre .1, c .before .before .before .before .before .before .before .if1 .left)
 
--- src/lib.rt:1955:14
+-- src/lib.rt:1931:14
 str-sl-requires : (t : ℕ) → str-lts.Need-sl-requires (
   stop-reads.Asked,
   stop-reads.Learnt,
@@ -20945,7 +21708,7 @@ str-sl-requires : (t : ℕ) → str-lts.Need-sl-requires (
 ) (str-at t) str.Post
 str-sl-requires t c κs = omega (arith, c .before .before .before .before .before .before .before .before .before .before .before .before .before .before .pre .0, c .before .before .before .before .before .before .before .before .before .before .before .before .before .before .pre .1, c .before .before .before .before .before .before .before .if1 .left)
 
--- src/lib.rt:1956:14
+-- src/lib.rt:1932:14
 str-stop-requires-3 : (t : ℕ) → str-lts.Need-stop-requires-3 (
   stop-reads.Asked,
   stop-reads.Learnt,
@@ -20964,7 +21727,7 @@ str-stop-requires-3 : (t : ℕ) → str-lts.Need-stop-requires-3 (
 ) (str-at t) str.Post
 str-stop-requires-3 t c κs = search needs
 
--- src/lib.rt:1923:1
+-- src/lib.rt:1899:1
 str-same-length : (t : ℕ) → str-lts.Need-same-length (
   stop-reads.Asked,
   stop-reads.Learnt,
@@ -20983,7 +21746,7 @@ str-same-length : (t : ℕ) → str-lts.Need-same-length (
 ) (str-at t) str.Post
 str-same-length t c = c .before .before .ss .kept .1 .1 .1 .1 .1 .0
 
--- src/lib.rt:1923:1
+-- src/lib.rt:1899:1
 str-returns-3 : (t : ℕ) → str-lts.Need-returns-3 (
   stop-reads.Asked,
   stop-reads.Learnt,
@@ -21000,10 +21763,10 @@ str-returns-3 : (t : ℕ) → str-lts.Need-returns-3 (
   sl-below t,
   sl.Post,
 ) (str-at t) str.Post
-unfolding StrExp.str-exps StrExp.PathStrExp
+unfolding StrExp.str-exps StrExp.str-exp
 str-returns-3 t c = record { is = str-form _ _ (c .before .before .before .before .before .before .before .before .before .before .if1 .left) (form-key (c .before .before .before .before .before .before .before .before .before .form .ensures) (c .before .before .before .before .before .before .before .k .given .1) (c .before .before .before .before .before .match2 .keys1) (c .before .before .ss .ensures .is)) }
 
--- src/lib.rt:1923:1
+-- src/lib.rt:1899:1
 str-same-length-2 : (t : ℕ) → str-lts.Need-same-length-2 (
   stop-reads.Asked,
   stop-reads.Learnt,
@@ -21022,7 +21785,7 @@ str-same-length-2 : (t : ℕ) → str-lts.Need-same-length-2 (
 ) (str-at t) str.Post
 str-same-length-2 t c = c .before .before .path .kept .1 .1 .1 .1 .0
 
--- src/lib.rt:1923:1
+-- src/lib.rt:1899:1
 str-returns-4 : (t : ℕ) → str-lts.Need-returns-4 (
   stop-reads.Asked,
   stop-reads.Learnt,
@@ -21039,10 +21802,10 @@ str-returns-4 : (t : ℕ) → str-lts.Need-returns-4 (
   sl-below t,
   sl.Post,
 ) (str-at t) str.Post
-unfolding StrExp.str-exps StrExp.PathStrExp
+unfolding StrExp.str-exps StrExp.str-exp
 str-returns-4 t c = record { is = str-form _ _ (c .before .before .before .before .before .before .before .before .before .if1 .left) (form-key (c .before .before .before .before .before .before .before .before .form .ensures) (c .before .before .before .before .before .before .k .given .1) (c .before .before .before .before .match2 .keys2) (plain (c .before .before .path .ensures))) }
 
--- src/lib.rt:1923:1
+-- src/lib.rt:1899:1
 str-same-length-3 : (t : ℕ) → str-lts.Need-same-length-3 (
   stop-reads.Asked,
   stop-reads.Learnt,
@@ -21061,7 +21824,7 @@ str-same-length-3 : (t : ℕ) → str-lts.Need-same-length-3 (
 ) (str-at t) str.Post
 str-same-length-3 t c = c .before .before .an .kept .1 .1 .1 .1 .1 .0
 
--- src/lib.rt:1923:1
+-- src/lib.rt:1899:1
 str-returns-5 : (t : ℕ) → str-lts.Need-returns-5 (
   stop-reads.Asked,
   stop-reads.Learnt,
@@ -21078,10 +21841,10 @@ str-returns-5 : (t : ℕ) → str-lts.Need-returns-5 (
   sl-below t,
   sl.Post,
 ) (str-at t) str.Post
-unfolding StrExp.str-exps StrExp.PathStrExp
+unfolding StrExp.str-exps StrExp.str-exp
 str-returns-5 t c = record { is = str-form _ _ (c .before .before .before .before .before .before .before .before .before .before .if1 .left) (form-key (c .before .before .before .before .before .before .before .before .before .form .ensures) (c .before .before .before .before .before .before .before .k .given .1) (c .before .before .before .before .before .match2 .keys3) (c .before .before .an .ensures .is)) }
 
--- src/lib.rt:1923:1
+-- src/lib.rt:1899:1
 str-same-length-4 : (t : ℕ) → str-lts.Need-same-length-4 (
   stop-reads.Asked,
   stop-reads.Learnt,
@@ -21100,7 +21863,7 @@ str-same-length-4 : (t : ℕ) → str-lts.Need-same-length-4 (
 ) (str-at t) str.Post
 str-same-length-4 t c = c .before .before .sp .kept .1 .1 .1 .1 .1 .0
 
--- src/lib.rt:1923:1
+-- src/lib.rt:1899:1
 str-returns-6 : (t : ℕ) → str-lts.Need-returns-6 (
   stop-reads.Asked,
   stop-reads.Learnt,
@@ -21117,10 +21880,10 @@ str-returns-6 : (t : ℕ) → str-lts.Need-returns-6 (
   sl-below t,
   sl.Post,
 ) (str-at t) str.Post
-unfolding StrExp.str-exps StrExp.PathStrExp
+unfolding StrExp.str-exps StrExp.str-exp
 str-returns-6 t c = record { is = str-form _ _ (c .before .before .before .before .before .before .before .before .before .before .if1 .left) (form-key (c .before .before .before .before .before .before .before .before .before .form .ensures) (c .before .before .before .before .before .before .before .k .given .1) (c .before .before .before .before .before .match2 .keys4) (c .before .before .sp .ensures .is)) }
 
--- src/lib.rt:1923:1
+-- src/lib.rt:1899:1
 str-same-length-5 : (t : ℕ) → str-lts.Need-same-length-5 (
   stop-reads.Asked,
   stop-reads.Learnt,
@@ -21139,7 +21902,7 @@ str-same-length-5 : (t : ℕ) → str-lts.Need-same-length-5 (
 ) (str-at t) str.Post
 str-same-length-5 t c = c .before .before .sl .kept .1 .1 .1 .1 .1 .0
 
--- src/lib.rt:1923:1
+-- src/lib.rt:1899:1
 str-returns-7 : (t : ℕ) → str-lts.Need-returns-7 (
   stop-reads.Asked,
   stop-reads.Learnt,
@@ -21156,10 +21919,10 @@ str-returns-7 : (t : ℕ) → str-lts.Need-returns-7 (
   sl-below t,
   sl.Post,
 ) (str-at t) str.Post
-unfolding StrExp.str-exps StrExp.PathStrExp
+unfolding StrExp.str-exps StrExp.str-exp
 str-returns-7 t c = record { is = str-form _ _ (c .before .before .before .before .before .before .before .before .before .before .if1 .left) (form-key (c .before .before .before .before .before .before .before .before .before .form .ensures) (c .before .before .before .before .before .before .before .k .given .1) (c .before .before .before .before .before .match2 .keys5) (c .before .before .sl .ensures .is)) }
 
--- src/lib.rt:1923:1
+-- src/lib.rt:1899:1
 str-returns-8 : (t : ℕ) → str-lts.Need-returns-8 (
   stop-reads.Asked,
   stop-reads.Learnt,
@@ -21176,10 +21939,10 @@ str-returns-8 : (t : ℕ) → str-lts.Need-returns-8 (
   sl-below t,
   sl.Post,
 ) (str-at t) str.Post
-unfolding StrExp.str-exps StrExp.PathStrExp
+unfolding StrExp.str-exps StrExp.str-exp
 str-returns-8 t c = record { is = str-form _ _ (c .before .before .before .before .before .before .if1 .left) (by-same (form-is (c .before .before .before .before .before .form .ensures) (c .before .before .before .k .given .1)) (beyond (StrExp.str-exps (walks (c .before .before .before .before .before .before .before .before .before .before .before .before .before .args .cfg .left - 1)) (cfgOf (c .before .before .before .before .before .before .before .before .before .before .before .before .before .args .cfg))) (c .before .before .before .k .given .0 .0) 5 refl (past (past (past (past (past zero-le (c .before .match2 .rest .0 .0 .0 .0 .1)) (c .before .match2 .rest .0 .0 .0 .1)) (c .before .match2 .rest .0 .0 .1)) (c .before .match2 .rest .0 .1)) (c .before .match2 .rest .1)) (c .stop3 .ensures))) }
 
--- src/lib.rt:2029:9
+-- src/lib.rt:2005:9
 ta-group-requires : (t : ℕ) → ta-lts.Need-group-requires (
   group-reads.Asked,
   group-reads.Learnt,
@@ -21192,7 +21955,7 @@ ta-group-requires : (t : ℕ) → ta-lts.Need-group-requires (
 ) (ta-at t) ta.Post
 ta-group-requires t c κs = search needs
 
--- src/lib.rt:2030:22
+-- src/lib.rt:2006:22
 ta-enum-known-r1 : (t : ℕ) → ta-lts.Need-enum-known-r1 (
   group-reads.Asked,
   group-reads.Learnt,
@@ -21205,7 +21968,7 @@ ta-enum-known-r1 : (t : ℕ) → ta-lts.Need-enum-known-r1 (
 ) (ta-at t) ta.Post
 ta-enum-known-r1 t c = search needs
 
--- src/lib.rt:2031:9
+-- src/lib.rt:2007:9
 ta-enum-told : (t : ℕ) → ta-lts.Need-enum-told (
   group-reads.Asked,
   group-reads.Learnt,
@@ -21218,7 +21981,7 @@ ta-enum-told : (t : ℕ) → ta-lts.Need-enum-told (
 ) (ta-at t) ta.Post
 ta-enum-told t c = search needs
 
--- src/lib.rt:2031:9
+-- src/lib.rt:2007:9
 ta-returns : (t : ℕ) → ta-lts.Need-returns (
   group-reads.Asked,
   group-reads.Learnt,
@@ -21232,7 +21995,7 @@ ta-returns : (t : ℕ) → ta-lts.Need-returns (
 unfolding SigExp.ascription-tail
 ta-returns t c = record { is = group-not (c .before .before .group .ensures) (c .enum-told .given .1) }
 
--- src/lib.rt:2033:9
+-- src/lib.rt:2009:9
 ta-word-requires : (t : ℕ) → ta-lts.Need-word-requires (
   group-reads.Asked,
   group-reads.Learnt,
@@ -21245,7 +22008,7 @@ ta-word-requires : (t : ℕ) → ta-lts.Need-word-requires (
 ) (ta-at t) ta.Post
 ta-word-requires t c κs = search needs
 
--- src/lib.rt:2034:9
+-- src/lib.rt:2010:9
 ta-text-of-requires : (t : ℕ) → ta-lts.Need-text-of-requires (
   group-reads.Asked,
   group-reads.Learnt,
@@ -21258,7 +22021,7 @@ ta-text-of-requires : (t : ℕ) → ta-lts.Need-text-of-requires (
 ) (ta-at t) ta.Post
 ta-text-of-requires t c κs = search needs
 
--- src/lib.rt:2035:22
+-- src/lib.rt:2011:22
 ta-enum-known-r3 : (t : ℕ) → ta-lts.Need-enum-known-r3 (
   group-reads.Asked,
   group-reads.Learnt,
@@ -21271,7 +22034,7 @@ ta-enum-known-r3 : (t : ℕ) → ta-lts.Need-enum-known-r3 (
 ) (ta-at t) ta.Post
 ta-enum-known-r3 t c = search needs
 
--- src/lib.rt:2036:9
+-- src/lib.rt:2012:9
 ta-enum-told-2 : (t : ℕ) → ta-lts.Need-enum-told-2 (
   group-reads.Asked,
   group-reads.Learnt,
@@ -21284,7 +22047,7 @@ ta-enum-told-2 : (t : ℕ) → ta-lts.Need-enum-told-2 (
 ) (ta-at t) ta.Post
 ta-enum-told-2 t c = search needs
 
--- src/lib.rt:2036:9
+-- src/lib.rt:2012:9
 ta-same-length : (t : ℕ) → ta-lts.Need-same-length (
   group-reads.Asked,
   group-reads.Learnt,
@@ -21297,7 +22060,7 @@ ta-same-length : (t : ℕ) → ta-lts.Need-same-length (
 ) (ta-at t) ta.Post
 ta-same-length t c = c .before .before .before .before .text-of .kept .1 .1 .1 .1 .0 ∙ c .before .before .before .before .before .before .before .before .word .kept .1 .0
 
--- src/lib.rt:2036:9
+-- src/lib.rt:2012:9
 ta-returns-2 : (t : ℕ) → ta-lts.Need-returns-2 (
   group-reads.Asked,
   group-reads.Learnt,
@@ -21311,7 +22074,7 @@ ta-returns-2 : (t : ℕ) → ta-lts.Need-returns-2 (
 unfolding SigExp.ascription-tail
 ta-returns-2 t c = record { is = by-same (group-is (c .before .before .before .before .before .before .before .before .before .before .before .before .before .group .ensures) (c .before .before .before .before .before .before .before .before .before .before .before .r1 .given .1)) (then-sure (c .before .before .before .before .before .before .before .before .word .ensures) (then-stop (plain (c .before .before .before .before .text-of .ensures)) (c .enum-told2 .given .1))) }
 
--- src/lib.rt:2038:9
+-- src/lib.rt:2014:9
 ta-word-requires-2 : (t : ℕ) → ta-lts.Need-word-requires-2 (
   group-reads.Asked,
   group-reads.Learnt,
@@ -21324,7 +22087,7 @@ ta-word-requires-2 : (t : ℕ) → ta-lts.Need-word-requires-2 (
 ) (ta-at t) ta.Post
 ta-word-requires-2 t c κs = search needs
 
--- src/lib.rt:2039:5
+-- src/lib.rt:2015:5
 ta-sig-requires : (t : ℕ) → ta-lts.Need-sig-requires (
   group-reads.Asked,
   group-reads.Learnt,
@@ -21337,7 +22100,7 @@ ta-sig-requires : (t : ℕ) → ta-lts.Need-sig-requires (
 ) (ta-at t) ta.Post
 ta-sig-requires t c κs = omega (arith, c .before .before .before .before .before .before .before .before .before .before .before .before .before .before .before .before .before .before .before .before .before .before .before .before .before .before .before .pre .0, c .before .before .before .before .before .before .before .before .before .before .before .before .before .before .before .before .before .before .before .before .before .before .before .before .before .before .before .pre .1)
 
--- src/lib.rt:2015:1
+-- src/lib.rt:1991:1
 ta-same-length-2 : (t : ℕ) → ta-lts.Need-same-length-2 (
   group-reads.Asked,
   group-reads.Learnt,
@@ -21350,7 +22113,7 @@ ta-same-length-2 : (t : ℕ) → ta-lts.Need-same-length-2 (
 ) (ta-at t) ta.Post
 ta-same-length-2 t c = c .before .before .sig .kept .1 .1 .1 .1 .1 .0 ∙ c .before .before .before .before .before .before .before .word2 .kept .1 .0 ∙ c .before .before .before .before .before .before .before .before .before .before .before .before .before .before .text-of .kept .1 .1 .1 .1 .0 ∙ c .before .before .before .before .before .before .before .before .before .before .before .before .before .before .before .before .before .before .word .kept .1 .0
 
--- src/lib.rt:2015:1
+-- src/lib.rt:1991:1
 ta-returns-3 : (t : ℕ) → ta-lts.Need-returns-3 (
   group-reads.Asked,
   group-reads.Learnt,
@@ -21364,7 +22127,7 @@ ta-returns-3 : (t : ℕ) → ta-lts.Need-returns-3 (
 unfolding SigExp.ascription-tail
 ta-returns-3 t c = record { is = by-same (group-is (c .before .before .before .before .before .before .before .before .before .before .before .before .before .before .before .before .before .before .before .before .before .before .before .group .ensures) (c .before .before .before .before .before .before .before .before .before .before .before .before .before .before .before .before .before .before .before .before .before .r1 .given .1)) (then-sure (c .before .before .before .before .before .before .before .before .before .before .before .before .before .before .before .before .before .before .word .ensures) (then-done (plain (c .before .before .before .before .before .before .before .before .before .before .before .before .before .before .text-of .ensures)) (c .before .before .before .before .before .before .before .before .before .before .r3 .given .1) (then-sure (c .before .before .before .before .before .before .before .word2 .ensures) (c .before .before .sig .ensures .is)))) }
 
--- src/lib.rt:534:9
+-- src/lib.rt:546:9
 ty-exp-requires : (t : ℕ) → ty-lts.Need-exp-requires (
   exp-below t,
   exp.Post,
@@ -21375,7 +22138,7 @@ ty-exp-requires : (t : ℕ) → ty-lts.Need-exp-requires (
 ) (ty-at t) ty.Post
 ty-exp-requires t c κs = omega (arith, c .before .before .before .before .before .before .before .before .pre .0, c .before .before .before .before .before .before .before .before .pre .1)
 
--- src/lib.rt:535:22
+-- src/lib.rt:547:22
 ty-enum-known-r1 : (t : ℕ) → ty-lts.Need-enum-known-r1 (
   exp-below t,
   exp.Post,
@@ -21386,7 +22149,7 @@ ty-enum-known-r1 : (t : ℕ) → ty-lts.Need-enum-known-r1 (
 ) (ty-at t) ty.Post
 ty-enum-known-r1 t c = search needs
 
--- src/lib.rt:536:9
+-- src/lib.rt:548:9
 ty-enum-told : (t : ℕ) → ty-lts.Need-enum-told (
   exp-below t,
   exp.Post,
@@ -21397,7 +22160,7 @@ ty-enum-told : (t : ℕ) → ty-lts.Need-enum-told (
 ) (ty-at t) ty.Post
 ty-enum-told t c = search needs
 
--- src/lib.rt:536:9
+-- src/lib.rt:548:9
 ty-same-length : (t : ℕ) → ty-lts.Need-same-length (
   exp-below t,
   exp.Post,
@@ -21408,7 +22171,7 @@ ty-same-length : (t : ℕ) → ty-lts.Need-same-length (
 ) (ty-at t) ty.Post
 ty-same-length t c = c .before .before .before .before .exp .kept .1 .1 .1 .1 .1 .0
 
--- src/lib.rt:536:9
+-- src/lib.rt:548:9
 ty-returns : (t : ℕ) → ty-lts.Need-returns (
   exp-below t,
   exp.Post,
@@ -21417,10 +22180,10 @@ ty-returns : (t : ℕ) → ty-lts.Need-returns (
   get-ty-reads.Asked,
   get-ty-reads.Learnt,
 ) (ty-at t) ty.Post
-unfolding Exp.TypedExp
+unfolding Exp.exp
 ty-returns t c = record { is = then-stop (c .before .before .before .before .exp .ensures .is) (c .enum-told .given .1) }
 
--- src/lib.rt:538:9
+-- src/lib.rt:550:9
 ty-word-requires : (t : ℕ) → ty-lts.Need-word-requires (
   exp-below t,
   exp.Post,
@@ -21431,7 +22194,7 @@ ty-word-requires : (t : ℕ) → ty-lts.Need-word-requires (
 ) (ty-at t) ty.Post
 ty-word-requires t c κs = search needs
 
--- src/lib.rt:539:5
+-- src/lib.rt:551:5
 ty-get-ty-requires : (t : ℕ) → ty-lts.Need-get-ty-requires (
   exp-below t,
   exp.Post,
@@ -21442,7 +22205,7 @@ ty-get-ty-requires : (t : ℕ) → ty-lts.Need-get-ty-requires (
 ) (ty-at t) ty.Post
 ty-get-ty-requires t c κs = search needs
 
--- src/lib.rt:520:1
+-- src/lib.rt:532:1
 ty-same-length-2 : (t : ℕ) → ty-lts.Need-same-length-2 (
   exp-below t,
   exp.Post,
@@ -21453,7 +22216,7 @@ ty-same-length-2 : (t : ℕ) → ty-lts.Need-same-length-2 (
 ) (ty-at t) ty.Post
 ty-same-length-2 t c = c .before .before .get-ty .kept .1 .1 .1 .1 .0 ∙ c .before .before .before .before .before .before .word .kept .1 .0 ∙ c .before .before .before .before .before .before .before .before .before .before .before .before .before .exp .kept .1 .1 .1 .1 .1 .0
 
--- src/lib.rt:520:1
+-- src/lib.rt:532:1
 ty-returns-2 : (t : ℕ) → ty-lts.Need-returns-2 (
   exp-below t,
   exp.Post,
@@ -21462,10 +22225,10 @@ ty-returns-2 : (t : ℕ) → ty-lts.Need-returns-2 (
   get-ty-reads.Asked,
   get-ty-reads.Learnt,
 ) (ty-at t) ty.Post
-unfolding Exp.TypedExp
+unfolding Exp.exp
 ty-returns-2 t c = record { is = then-done (c .before .before .before .before .before .before .before .before .before .before .before .before .before .exp .ensures .is) (c .before .before .before .before .before .before .before .before .before .r1 .given .1) (then-sure (c .before .before .before .before .before .before .word .ensures) (plain (c .before .before .get-ty .ensures))) }
 
--- src/lib.rt:1269:9
+-- src/lib.rt:1245:9
 vb-group-requires : (t : ℕ) → vb-lts.Need-group-requires (
   group-reads.Asked,
   group-reads.Learnt,
@@ -21478,7 +22241,7 @@ vb-group-requires : (t : ℕ) → vb-lts.Need-group-requires (
 ) (vb-at t) vb.Post
 vb-group-requires t c κs = search needs
 
--- src/lib.rt:1270:22
+-- src/lib.rt:1246:22
 vb-enum-known-r1 : (t : ℕ) → vb-lts.Need-enum-known-r1 (
   group-reads.Asked,
   group-reads.Learnt,
@@ -21491,7 +22254,7 @@ vb-enum-known-r1 : (t : ℕ) → vb-lts.Need-enum-known-r1 (
 ) (vb-at t) vb.Post
 vb-enum-known-r1 t c = search needs
 
--- src/lib.rt:1271:9
+-- src/lib.rt:1247:9
 vb-enum-told : (t : ℕ) → vb-lts.Need-enum-told (
   group-reads.Asked,
   group-reads.Learnt,
@@ -21504,7 +22267,7 @@ vb-enum-told : (t : ℕ) → vb-lts.Need-enum-told (
 ) (vb-at t) vb.Post
 vb-enum-told t c = search needs
 
--- src/lib.rt:1271:9
+-- src/lib.rt:1247:9
 vb-returns : (t : ℕ) → vb-lts.Need-returns (
   group-reads.Asked,
   group-reads.Learnt,
@@ -21518,7 +22281,7 @@ vb-returns : (t : ℕ) → vb-lts.Need-returns (
 unfolding DecOne.val-bind
 vb-returns t c = record { is = group-not (c .before .before .group .ensures) (c .enum-told .given .1) }
 
--- src/lib.rt:1273:9
+-- src/lib.rt:1249:9
 vb-word-if-requires : (t : ℕ) → vb-lts.Need-word-if-requires (
   group-reads.Asked,
   group-reads.Learnt,
@@ -21531,7 +22294,7 @@ vb-word-if-requires : (t : ℕ) → vb-lts.Need-word-if-requires (
 ) (vb-at t) vb.Post
 vb-word-if-requires t c κs = search needs
 
--- src/lib.rt:1274:22
+-- src/lib.rt:1250:22
 vb-enum-known-r2 : (t : ℕ) → vb-lts.Need-enum-known-r2 (
   group-reads.Asked,
   group-reads.Learnt,
@@ -21544,7 +22307,7 @@ vb-enum-known-r2 : (t : ℕ) → vb-lts.Need-enum-known-r2 (
 ) (vb-at t) vb.Post
 vb-enum-known-r2 t c = search needs
 
--- src/lib.rt:1275:9
+-- src/lib.rt:1251:9
 vb-enum-told-2 : (t : ℕ) → vb-lts.Need-enum-told-2 (
   group-reads.Asked,
   group-reads.Learnt,
@@ -21557,7 +22320,7 @@ vb-enum-told-2 : (t : ℕ) → vb-lts.Need-enum-told-2 (
 ) (vb-at t) vb.Post
 vb-enum-told-2 t c = search needs
 
--- src/lib.rt:1275:9
+-- src/lib.rt:1251:9
 vb-same-length : (t : ℕ) → vb-lts.Need-same-length (
   group-reads.Asked,
   group-reads.Learnt,
@@ -21570,7 +22333,7 @@ vb-same-length : (t : ℕ) → vb-lts.Need-same-length (
 ) (vb-at t) vb.Post
 vb-same-length t c = c .before .before .before .before .word-if .kept .1 .1 .1 .1 .0
 
--- src/lib.rt:1275:9
+-- src/lib.rt:1251:9
 vb-returns-2 : (t : ℕ) → vb-lts.Need-returns-2 (
   group-reads.Asked,
   group-reads.Learnt,
@@ -21584,7 +22347,7 @@ vb-returns-2 : (t : ℕ) → vb-lts.Need-returns-2 (
 unfolding DecOne.val-bind
 vb-returns-2 t c = record { is = by-same (group-is (c .before .before .before .before .before .before .before .before .before .group .ensures) (c .before .before .before .before .before .before .before .r1 .given .1)) (then-stop (plain (c .before .before .before .before .word-if .ensures)) (c .enum-told2 .given .1)) }
 
--- src/lib.rt:1277:9
+-- src/lib.rt:1253:9
 vb-get-pat-requires : (t : ℕ) → vb-lts.Need-get-pat-requires (
   group-reads.Asked,
   group-reads.Learnt,
@@ -21597,7 +22360,7 @@ vb-get-pat-requires : (t : ℕ) → vb-lts.Need-get-pat-requires (
 ) (vb-at t) vb.Post
 vb-get-pat-requires t c κs = search needs
 
--- src/lib.rt:1278:22
+-- src/lib.rt:1254:22
 vb-enum-known-r3 : (t : ℕ) → vb-lts.Need-enum-known-r3 (
   group-reads.Asked,
   group-reads.Learnt,
@@ -21610,7 +22373,7 @@ vb-enum-known-r3 : (t : ℕ) → vb-lts.Need-enum-known-r3 (
 ) (vb-at t) vb.Post
 vb-enum-known-r3 t c = search needs
 
--- src/lib.rt:1279:9
+-- src/lib.rt:1255:9
 vb-enum-told-3 : (t : ℕ) → vb-lts.Need-enum-told-3 (
   group-reads.Asked,
   group-reads.Learnt,
@@ -21623,7 +22386,7 @@ vb-enum-told-3 : (t : ℕ) → vb-lts.Need-enum-told-3 (
 ) (vb-at t) vb.Post
 vb-enum-told-3 t c = search needs
 
--- src/lib.rt:1279:9
+-- src/lib.rt:1255:9
 vb-same-length-2 : (t : ℕ) → vb-lts.Need-same-length-2 (
   group-reads.Asked,
   group-reads.Learnt,
@@ -21636,7 +22399,7 @@ vb-same-length-2 : (t : ℕ) → vb-lts.Need-same-length-2 (
 ) (vb-at t) vb.Post
 vb-same-length-2 t c = c .before .before .before .before .get-pat .kept .1 .1 .1 .1 .0 ∙ c .before .before .before .before .before .before .before .before .before .before .before .word-if .kept .1 .1 .1 .1 .0
 
--- src/lib.rt:1279:9
+-- src/lib.rt:1255:9
 vb-returns-3 : (t : ℕ) → vb-lts.Need-returns-3 (
   group-reads.Asked,
   group-reads.Learnt,
@@ -21650,7 +22413,7 @@ vb-returns-3 : (t : ℕ) → vb-lts.Need-returns-3 (
 unfolding DecOne.val-bind
 vb-returns-3 t c = record { is = by-same (group-is (c .before .before .before .before .before .before .before .before .before .before .before .before .before .before .before .before .group .ensures) (c .before .before .before .before .before .before .before .before .before .before .before .before .before .before .r1 .given .1)) (then-done (plain (c .before .before .before .before .before .before .before .before .before .before .before .word-if .ensures)) (c .before .before .before .before .before .before .before .r2 .given .1) (then-stop (plain (c .before .before .before .before .get-pat .ensures)) (c .enum-told3 .given .1))) }
 
--- src/lib.rt:1281:5
+-- src/lib.rt:1257:5
 vb-qb-requires : (t : ℕ) → vb-lts.Need-qb-requires (
   group-reads.Asked,
   group-reads.Learnt,
@@ -21663,7 +22426,7 @@ vb-qb-requires : (t : ℕ) → vb-lts.Need-qb-requires (
 ) (vb-at t) vb.Post
 vb-qb-requires t c κs = omega (arith, c .before .before .before .before .before .before .before .before .before .before .before .before .before .before .before .before .before .before .before .before .before .before .before .before .before .before .pre .0, c .before .before .before .before .before .before .before .before .before .before .before .before .before .before .before .before .before .before .before .before .before .before .before .before .before .before .pre .1)
 
--- src/lib.rt:1255:1
+-- src/lib.rt:1231:1
 vb-same-length-3 : (t : ℕ) → vb-lts.Need-same-length-3 (
   group-reads.Asked,
   group-reads.Learnt,
@@ -21676,7 +22439,7 @@ vb-same-length-3 : (t : ℕ) → vb-lts.Need-same-length-3 (
 ) (vb-at t) vb.Post
 vb-same-length-3 t c = c .before .before .qb .kept .1 .1 .1 .1 .1 .0 ∙ c .before .before .before .before .before .before .before .before .before .before .get-pat .kept .1 .1 .1 .1 .0 ∙ c .before .before .before .before .before .before .before .before .before .before .before .before .before .before .before .before .before .word-if .kept .1 .1 .1 .1 .0
 
--- src/lib.rt:1255:1
+-- src/lib.rt:1231:1
 vb-returns-4 : (t : ℕ) → vb-lts.Need-returns-4 (
   group-reads.Asked,
   group-reads.Learnt,
@@ -21697,7 +22460,7 @@ vd-Inv-loop text rec kinds starts lens out₀ left₀ cfg n s₀ i₀ out left s
 abbrev vd-μ-loop : vd-lts.MeasureT-loop
 vd-μ-loop text rec kinds starts lens out₀ left₀ cfg n s₀ i₀ out left s i = n - i
 
--- src/lib.rt:1236:9
+-- src/lib.rt:1212:9
 vd-word-requires : (t : ℕ) → vd-lts.Need-word-requires (
   word-reads.Asked,
   word-reads.Learnt,
@@ -21712,7 +22475,7 @@ vd-word-requires : (t : ℕ) → vd-lts.Need-word-requires (
 ) (vd-at t) vd.Post vd-Inv-loop vd-μ-loop
 vd-word-requires t c κs = search needs
 
--- src/lib.rt:1237:27
+-- src/lib.rt:1213:27
 vd-list-requires : (t : ℕ) → vd-lts.Need-list-requires (
   word-reads.Asked,
   word-reads.Learnt,
@@ -21727,7 +22490,7 @@ vd-list-requires : (t : ℕ) → vd-lts.Need-list-requires (
 ) (vd-at t) vd.Post vd-Inv-loop vd-μ-loop
 vd-list-requires t c κs = search needs
 
--- src/lib.rt:1237:18
+-- src/lib.rt:1213:18
 vd-enum-known-n : (t : ℕ) → vd-lts.Need-enum-known-n (
   word-reads.Asked,
   word-reads.Learnt,
@@ -21742,7 +22505,7 @@ vd-enum-known-n : (t : ℕ) → vd-lts.Need-enum-known-n (
 ) (vd-at t) vd.Post vd-Inv-loop vd-μ-loop
 vd-enum-known-n t c = search needs
 
--- src/lib.rt:1238:9
+-- src/lib.rt:1214:9
 vd-enum-told : (t : ℕ) → vd-lts.Need-enum-told (
   word-reads.Asked,
   word-reads.Learnt,
@@ -21757,7 +22520,7 @@ vd-enum-told : (t : ℕ) → vd-lts.Need-enum-told (
 ) (vd-at t) vd.Post vd-Inv-loop vd-μ-loop
 vd-enum-told t c = search needs
 
--- src/lib.rt:1238:9
+-- src/lib.rt:1214:9
 vd-stop-requires : (t : ℕ) → vd-lts.Need-stop-requires (
   word-reads.Asked,
   word-reads.Learnt,
@@ -21772,7 +22535,7 @@ vd-stop-requires : (t : ℕ) → vd-lts.Need-stop-requires (
 ) (vd-at t) vd.Post vd-Inv-loop vd-μ-loop
 vd-stop-requires t c κs = search needs
 
--- src/lib.rt:1238:9
+-- src/lib.rt:1214:9
 vd-same-length : (t : ℕ) → vd-lts.Need-same-length (
   word-reads.Asked,
   word-reads.Learnt,
@@ -21787,7 +22550,7 @@ vd-same-length : (t : ℕ) → vd-lts.Need-same-length (
 ) (vd-at t) vd.Post vd-Inv-loop vd-μ-loop
 vd-same-length t c = c .before .before .before .before .before .before .word .kept .1 .0
 
--- src/lib.rt:1238:9
+-- src/lib.rt:1214:9
 vd-returns : (t : ℕ) → vd-lts.Need-returns (
   word-reads.Asked,
   word-reads.Learnt,
@@ -21800,10 +22563,10 @@ vd-returns : (t : ℕ) → vd-lts.Need-returns (
   vb-below t,
   vb.Post,
 ) (vd-at t) vd.Post vd-Inv-loop vd-μ-loop
-unfolding DecOne.ValDec DecOne.val-binds Helpers.sep-with-lines
+unfolding DecOne.dec-one DecOne.val-binds Helpers.sep-with-lines
 vd-returns t c = record { is = then-sure (c .before .before .before .before .before .before .word .ensures) (list-not (c .stop .ensures) (c .before .before .before .list .ensures) (c .before .enum-told .given .1)) }
 
--- src/lib.rt:1242:5
+-- src/lib.rt:1218:5
 vd-loop-holds : (t : ℕ) → vd-lts.Need-loop-holds (
   word-reads.Asked,
   word-reads.Learnt,
@@ -21818,7 +22581,7 @@ vd-loop-holds : (t : ℕ) → vd-lts.Need-loop-holds (
 ) (vd-at t) vd.Post vd-Inv-loop vd-μ-loop
 vd-loop-holds t c = (omega arith, λ r o m h. h, refl)
 
--- src/lib.rt:1243:13
+-- src/lib.rt:1219:13
 vd-new-line-requires : (t : ℕ) → vd-lts.Need-new-line-requires (
   word-reads.Asked,
   word-reads.Learnt,
@@ -21833,7 +22596,7 @@ vd-new-line-requires : (t : ℕ) → vd-lts.Need-new-line-requires (
 ) (vd-at t) vd.Post vd-Inv-loop vd-μ-loop
 vd-new-line-requires t c κs = search needs
 
--- src/lib.rt:1244:13
+-- src/lib.rt:1220:13
 vd-vb-requires : (t : ℕ) → vd-lts.Need-vb-requires (
   word-reads.Asked,
   word-reads.Learnt,
@@ -21848,7 +22611,7 @@ vd-vb-requires : (t : ℕ) → vd-lts.Need-vb-requires (
 ) (vd-at t) vd.Post vd-Inv-loop vd-μ-loop
 vd-vb-requires t c κs = omega (arith, c .before .before .before .before .before .before .before .before .before .before .before .before .before .before .before .before .before .before .before .before .before .before .pre .0, c .before .before .before .before .before .before .before .before .before .before .before .before .before .before .before .before .before .before .before .before .before .before .pre .1)
 
--- src/lib.rt:1245:26
+-- src/lib.rt:1221:26
 vd-enum-known-r4 : (t : ℕ) → vd-lts.Need-enum-known-r4 (
   word-reads.Asked,
   word-reads.Learnt,
@@ -21863,7 +22626,7 @@ vd-enum-known-r4 : (t : ℕ) → vd-lts.Need-enum-known-r4 (
 ) (vd-at t) vd.Post vd-Inv-loop vd-μ-loop
 vd-enum-known-r4 t c = search needs
 
--- src/lib.rt:1246:13
+-- src/lib.rt:1222:13
 vd-enum-told-2 : (t : ℕ) → vd-lts.Need-enum-told-2 (
   word-reads.Asked,
   word-reads.Learnt,
@@ -21878,7 +22641,7 @@ vd-enum-told-2 : (t : ℕ) → vd-lts.Need-enum-told-2 (
 ) (vd-at t) vd.Post vd-Inv-loop vd-μ-loop
 vd-enum-told-2 t c = search needs
 
--- src/lib.rt:1246:13
+-- src/lib.rt:1222:13
 vd-same-length-2 : (t : ℕ) → vd-lts.Need-same-length-2 (
   word-reads.Asked,
   word-reads.Learnt,
@@ -21893,7 +22656,7 @@ vd-same-length-2 : (t : ℕ) → vd-lts.Need-same-length-2 (
 ) (vd-at t) vd.Post vd-Inv-loop vd-μ-loop
 vd-same-length-2 t c = c .before .before .before .before .vb .kept .1 .1 .1 .1 .1 .0 ∙ c .before .before .before .before .before .before .before .before .before .new-line .kept .1 .0 ∙ c .before .before .before .before .before .before .before .before .before .before .before .before .loop .inv .2 ∙ c .before .before .before .before .before .before .before .before .before .before .before .before .before .before .before .before .before .before .before .word .kept .1 .0
 
--- src/lib.rt:1246:13
+-- src/lib.rt:1222:13
 vd-returns-2 : (t : ℕ) → vd-lts.Need-returns-2 (
   word-reads.Asked,
   word-reads.Learnt,
@@ -21906,10 +22669,10 @@ vd-returns-2 : (t : ℕ) → vd-lts.Need-returns-2 (
   vb-below t,
   vb.Post,
 ) (vd-at t) vd.Post vd-Inv-loop vd-μ-loop
-unfolding DecOne.ValDec DecOne.val-binds Helpers.sep-with-lines
+unfolding DecOne.dec-one DecOne.val-binds Helpers.sep-with-lines
 vd-returns-2 t c = record { is = then-sure (c .before .before .before .before .before .before .before .before .before .before .before .before .before .before .before .before .before .before .before .word .ensures) (by-same (list-is (c .before .before .before .before .before .before .before .before .before .before .before .before .before .before .before .before .list .ensures) (c .before .before .before .before .before .before .before .before .before .before .before .before .before .before .n .given .1)) (by-same (items-all _ _ _) (c .before .before .before .before .before .before .before .before .before .before .before .before .loop .inv .1 _ _ _ (from-more _ _ (c .before .before .before .before .before .before .before .before .before .before .before .loop-test .taken) (then-sure (c .before .before .before .before .before .before .before .before .before .new-line .ensures) (then-stop (c .before .before .before .before .vb .ensures .is) (c .enum-told2 .given .1))))))) }
 
--- src/lib.rt:1249:9
+-- src/lib.rt:1225:9
 vd-add-i : (t : ℕ) → vd-lts.Need-add-i (
   word-reads.Asked,
   word-reads.Learnt,
@@ -21924,7 +22687,7 @@ vd-add-i : (t : ℕ) → vd-lts.Need-add-i (
 ) (vd-at t) vd.Post vd-Inv-loop vd-μ-loop
 vd-add-i t c = omega (arith, c .before .before .before .before .before .before .before .before .before .before .before .before .loop-test .taken, c .before .before .before .before .before .before .before .before .before .before .before .before .before .before .known-told)
 
--- src/lib.rt:1242:5
+-- src/lib.rt:1218:5
 vd-loop-less : (t : ℕ) → vd-lts.Need-loop-less (
   word-reads.Asked,
   word-reads.Learnt,
@@ -21939,7 +22702,7 @@ vd-loop-less : (t : ℕ) → vd-lts.Need-loop-less (
 ) (vd-at t) vd.Post vd-Inv-loop vd-μ-loop
 vd-loop-less t c = omega arith
 
--- src/lib.rt:1242:5
+-- src/lib.rt:1218:5
 vd-loop-again : (t : ℕ) → vd-lts.Need-loop-again (
   word-reads.Asked,
   word-reads.Learnt,
@@ -21952,10 +22715,10 @@ vd-loop-again : (t : ℕ) → vd-lts.Need-loop-again (
   vb-below t,
   vb.Post,
 ) (vd-at t) vd.Post vd-Inv-loop vd-μ-loop
-unfolding DecOne.ValDec DecOne.val-binds Helpers.sep-with-lines
+unfolding DecOne.dec-one DecOne.val-binds Helpers.sep-with-lines
 vd-loop-again t c = (omega (arith, c .before .before .before .before .before .before .before .before .before .before .before .before .before .loop .inv .0), λ r o m h. c .before .before .before .before .before .before .before .before .before .before .before .before .before .loop .inv .1 r o m (from-more _ _ (c .before .before .before .before .before .before .before .before .before .before .before .before .loop-test .taken) (then-sure (c .before .before .before .before .before .before .before .before .before .before .new-line .ensures) (then-done (c .before .before .before .before .before .vb .ensures .is) (c .before .r4 .given .1) h))), c .before .before .before .before .before .vb .kept .1 .1 .1 .1 .1 .0 ∙ c .before .before .before .before .before .before .before .before .before .before .new-line .kept .1 .0 ∙ c .before .before .before .before .before .before .before .before .before .before .before .before .before .loop .inv .2)
 
--- src/lib.rt:1222:1
+-- src/lib.rt:1198:1
 vd-same-length-3 : (t : ℕ) → vd-lts.Need-same-length-3 (
   word-reads.Asked,
   word-reads.Learnt,
@@ -21970,7 +22733,7 @@ vd-same-length-3 : (t : ℕ) → vd-lts.Need-same-length-3 (
 ) (vd-at t) vd.Post vd-Inv-loop vd-μ-loop
 vd-same-length-3 t c = c .before .loop .inv .2 ∙ c .before .before .before .before .before .before .before .before .word .kept .1 .0
 
--- src/lib.rt:1222:1
+-- src/lib.rt:1198:1
 vd-returns-3 : (t : ℕ) → vd-lts.Need-returns-3 (
   word-reads.Asked,
   word-reads.Learnt,
@@ -21983,10 +22746,10 @@ vd-returns-3 : (t : ℕ) → vd-lts.Need-returns-3 (
   vb-below t,
   vb.Post,
 ) (vd-at t) vd.Post vd-Inv-loop vd-μ-loop
-unfolding DecOne.ValDec DecOne.val-binds Helpers.sep-with-lines
+unfolding DecOne.dec-one DecOne.val-binds Helpers.sep-with-lines
 vd-returns-3 t c = record { is = then-sure (c .before .before .before .before .before .before .before .before .word .ensures) (by-same (list-is (c .before .before .before .before .before .list .ensures) (c .before .before .before .n .given .1)) (by-same (items-all _ _ _) (c .before .loop .inv .1 _ _ _ (from-none _ _ (c .loop-test .left))))) }
 
--- src/lib.rt:292:9
+-- src/lib.rt:302:9
 ve-word-requires : (t : ℕ) → ve-lts.Need-word-requires (
   word-reads.Asked,
   word-reads.Learnt,
@@ -21997,7 +22760,7 @@ ve-word-requires : (t : ℕ) → ve-lts.Need-word-requires (
 ) (ve-at t) ve.Post
 ve-word-requires t c κs = search needs
 
--- src/lib.rt:293:9
+-- src/lib.rt:303:9
 ve-group-requires : (t : ℕ) → ve-lts.Need-group-requires (
   word-reads.Asked,
   word-reads.Learnt,
@@ -22008,7 +22771,7 @@ ve-group-requires : (t : ℕ) → ve-lts.Need-group-requires (
 ) (ve-at t) ve.Post
 ve-group-requires t c κs = search needs
 
--- src/lib.rt:294:22
+-- src/lib.rt:304:22
 ve-enum-known-r2 : (t : ℕ) → ve-lts.Need-enum-known-r2 (
   word-reads.Asked,
   word-reads.Learnt,
@@ -22019,7 +22782,7 @@ ve-enum-known-r2 : (t : ℕ) → ve-lts.Need-enum-known-r2 (
 ) (ve-at t) ve.Post
 ve-enum-known-r2 t c = search needs
 
--- src/lib.rt:295:9
+-- src/lib.rt:305:9
 ve-enum-told : (t : ℕ) → ve-lts.Need-enum-told (
   word-reads.Asked,
   word-reads.Learnt,
@@ -22030,7 +22793,7 @@ ve-enum-told : (t : ℕ) → ve-lts.Need-enum-told (
 ) (ve-at t) ve.Post
 ve-enum-told t c = search needs
 
--- src/lib.rt:295:9
+-- src/lib.rt:305:9
 ve-same-length : (t : ℕ) → ve-lts.Need-same-length (
   word-reads.Asked,
   word-reads.Learnt,
@@ -22041,7 +22804,7 @@ ve-same-length : (t : ℕ) → ve-lts.Need-same-length (
 ) (ve-at t) ve.Post
 ve-same-length t c = c .before .before .before .before .before .word .kept .1 .0
 
--- src/lib.rt:295:9
+-- src/lib.rt:305:9
 ve-returns : (t : ℕ) → ve-lts.Need-returns (
   word-reads.Asked,
   word-reads.Learnt,
@@ -22050,10 +22813,10 @@ ve-returns : (t : ℕ) → ve-lts.Need-returns (
   ar-below t,
   ar.Post,
 ) (ve-at t) ve.Post
-unfolding Exp.VectorExp
+unfolding Exp.exp
 ve-returns t c = record { is = then-sure (c .before .before .before .before .before .word .ensures) (then-stop (group-not (c .before .before .group .ensures) (c .enum-told .given .1)) (c .enum-told .given .1)) }
 
--- src/lib.rt:297:9
+-- src/lib.rt:307:9
 ve-ar-requires : (t : ℕ) → ve-lts.Need-ar-requires (
   word-reads.Asked,
   word-reads.Learnt,
@@ -22064,7 +22827,7 @@ ve-ar-requires : (t : ℕ) → ve-lts.Need-ar-requires (
 ) (ve-at t) ve.Post
 ve-ar-requires t c κs = omega (arith, c .before .before .before .before .before .before .before .before .before .before .before .before .before .before .before .before .pre .0, c .before .before .before .before .before .before .before .before .before .before .before .before .before .before .before .before .pre .1)
 
--- src/lib.rt:298:22
+-- src/lib.rt:308:22
 ve-enum-known-r3 : (t : ℕ) → ve-lts.Need-enum-known-r3 (
   word-reads.Asked,
   word-reads.Learnt,
@@ -22075,7 +22838,7 @@ ve-enum-known-r3 : (t : ℕ) → ve-lts.Need-enum-known-r3 (
 ) (ve-at t) ve.Post
 ve-enum-known-r3 t c = search needs
 
--- src/lib.rt:299:9
+-- src/lib.rt:309:9
 ve-enum-told-2 : (t : ℕ) → ve-lts.Need-enum-told-2 (
   word-reads.Asked,
   word-reads.Learnt,
@@ -22086,7 +22849,7 @@ ve-enum-told-2 : (t : ℕ) → ve-lts.Need-enum-told-2 (
 ) (ve-at t) ve.Post
 ve-enum-told-2 t c = search needs
 
--- src/lib.rt:299:9
+-- src/lib.rt:309:9
 ve-same-length-2 : (t : ℕ) → ve-lts.Need-same-length-2 (
   word-reads.Asked,
   word-reads.Learnt,
@@ -22097,7 +22860,7 @@ ve-same-length-2 : (t : ℕ) → ve-lts.Need-same-length-2 (
 ) (ve-at t) ve.Post
 ve-same-length-2 t c = c .before .before .before .before .ar .kept .1 .1 .1 .1 .1 .0 ∙ c .before .before .before .before .before .before .before .before .before .before .before .before .before .word .kept .1 .0
 
--- src/lib.rt:299:9
+-- src/lib.rt:309:9
 ve-returns-2 : (t : ℕ) → ve-lts.Need-returns-2 (
   word-reads.Asked,
   word-reads.Learnt,
@@ -22106,10 +22869,10 @@ ve-returns-2 : (t : ℕ) → ve-lts.Need-returns-2 (
   ar-below t,
   ar.Post,
 ) (ve-at t) ve.Post
-unfolding Exp.VectorExp
+unfolding Exp.exp
 ve-returns-2 t c = record { is = then-sure (c .before .before .before .before .before .before .before .before .before .before .before .before .before .word .ensures) (by-same (first-same (group-is (c .before .before .before .before .before .before .before .before .before .before .group .ensures) (c .before .before .before .before .before .before .before .before .r2 .given .1))) (then-stop (c .before .before .before .before .ar .ensures .is) (c .enum-told2 .given .1))) }
 
--- src/lib.rt:301:18
+-- src/lib.rt:311:18
 ve-word-requires-2 : (t : ℕ) → ve-lts.Need-word-requires-2 (
   word-reads.Asked,
   word-reads.Learnt,
@@ -22120,7 +22883,7 @@ ve-word-requires-2 : (t : ℕ) → ve-lts.Need-word-requires-2 (
 ) (ve-at t) ve.Post
 ve-word-requires-2 t c κs = search needs
 
--- src/lib.rt:278:1
+-- src/lib.rt:288:1
 ve-same-length-3 : (t : ℕ) → ve-lts.Need-same-length-3 (
   word-reads.Asked,
   word-reads.Learnt,
@@ -22131,7 +22894,7 @@ ve-same-length-3 : (t : ℕ) → ve-lts.Need-same-length-3 (
 ) (ve-at t) ve.Post
 ve-same-length-3 t c = c .before .before .word2 .kept .1 .0 ∙ c .before .before .before .before .before .before .before .before .before .ar .kept .1 .1 .1 .1 .1 .0 ∙ c .before .before .before .before .before .before .before .before .before .before .before .before .before .before .before .before .before .before .word .kept .1 .0
 
--- src/lib.rt:278:1
+-- src/lib.rt:288:1
 ve-returns-3 : (t : ℕ) → ve-lts.Need-returns-3 (
   word-reads.Asked,
   word-reads.Learnt,
@@ -22140,10 +22903,10 @@ ve-returns-3 : (t : ℕ) → ve-lts.Need-returns-3 (
   ar-below t,
   ar.Post,
 ) (ve-at t) ve.Post
-unfolding Exp.VectorExp
+unfolding Exp.exp
 ve-returns-3 t c = record { is = then-sure (c .before .before .before .before .before .before .before .before .before .before .before .before .before .before .before .before .before .before .word .ensures) (by-same (first-same (group-is (c .before .before .before .before .before .before .before .before .before .before .before .before .before .before .before .group .ensures) (c .before .before .before .before .before .before .before .before .before .before .before .before .before .r2 .given .1))) (then-done (c .before .before .before .before .before .before .before .before .before .ar .ensures .is) (c .before .before .before .before .before .r3 .given .1) (last-sure (c .before .before .word2 .ensures)))) }
 
--- src/lib.rt:581:9
+-- src/lib.rt:593:9
 wh-word-requires : (t : ℕ) → wh-lts.Need-word-requires (
   word-reads.Asked,
   word-reads.Learnt,
@@ -22152,7 +22915,7 @@ wh-word-requires : (t : ℕ) → wh-lts.Need-word-requires (
 ) (wh-at t) wh.Post
 wh-word-requires t c κs = search needs
 
--- src/lib.rt:582:5
+-- src/lib.rt:594:5
 wh-du-requires : (t : ℕ) → wh-lts.Need-du-requires (
   word-reads.Asked,
   word-reads.Learnt,
@@ -22161,7 +22924,7 @@ wh-du-requires : (t : ℕ) → wh-lts.Need-du-requires (
 ) (wh-at t) wh.Post
 wh-du-requires t c κs = omega (arith, c .before .before .before .before .before .before .before .before .before .before .before .before .pre .0, c .before .before .before .before .before .before .before .before .before .before .before .before .pre .1)
 
--- src/lib.rt:567:1
+-- src/lib.rt:579:1
 wh-same-length : (t : ℕ) → wh-lts.Need-same-length (
   word-reads.Asked,
   word-reads.Learnt,
@@ -22170,17 +22933,17 @@ wh-same-length : (t : ℕ) → wh-lts.Need-same-length (
 ) (wh-at t) wh.Post
 wh-same-length t c = c .before .before .du .kept .1 .1 .1 .1 .1 .0 ∙ c .before .before .before .before .before .before .before .word .kept .1 .0
 
--- src/lib.rt:567:1
+-- src/lib.rt:579:1
 wh-returns : (t : ℕ) → wh-lts.Need-returns (
   word-reads.Asked,
   word-reads.Learnt,
   du-below t,
   du.Post,
 ) (wh-at t) wh.Post
-unfolding Exp.WhileExp
+unfolding Exp.exp
 wh-returns t c = record { is = then-sure (c .before .before .before .before .before .before .before .word .ensures) (c .before .before .du .ensures .is) }
 
--- src/lib.rt:2272:9
+-- src/lib.rt:2248:9
 wr-sig-requires : (t : ℕ) → wr-lts.Need-sig-requires (
   sig-below t,
   sig.Post,
@@ -22191,7 +22954,7 @@ wr-sig-requires : (t : ℕ) → wr-lts.Need-sig-requires (
 ) (wr-at t) wr.Post
 wr-sig-requires t c κs = omega (arith, c .before .before .before .before .before .before .before .before .pre .0, c .before .before .before .before .before .before .before .before .pre .1)
 
--- src/lib.rt:2273:22
+-- src/lib.rt:2249:22
 wr-enum-known-r1 : (t : ℕ) → wr-lts.Need-enum-known-r1 (
   sig-below t,
   sig.Post,
@@ -22202,7 +22965,7 @@ wr-enum-known-r1 : (t : ℕ) → wr-lts.Need-enum-known-r1 (
 ) (wr-at t) wr.Post
 wr-enum-known-r1 t c = search needs
 
--- src/lib.rt:2274:9
+-- src/lib.rt:2250:9
 wr-enum-told : (t : ℕ) → wr-lts.Need-enum-told (
   sig-below t,
   sig.Post,
@@ -22213,7 +22976,7 @@ wr-enum-told : (t : ℕ) → wr-lts.Need-enum-told (
 ) (wr-at t) wr.Post
 wr-enum-told t c = search needs
 
--- src/lib.rt:2274:9
+-- src/lib.rt:2250:9
 wr-same-length : (t : ℕ) → wr-lts.Need-same-length (
   sig-below t,
   sig.Post,
@@ -22224,7 +22987,7 @@ wr-same-length : (t : ℕ) → wr-lts.Need-same-length (
 ) (wr-at t) wr.Post
 wr-same-length t c = c .before .before .before .before .sig .kept .1 .1 .1 .1 .1 .0
 
--- src/lib.rt:2274:9
+-- src/lib.rt:2250:9
 wr-returns : (t : ℕ) → wr-lts.Need-returns (
   sig-below t,
   sig.Post,
@@ -22233,10 +22996,10 @@ wr-returns : (t : ℕ) → wr-lts.Need-returns (
   path-reads.Asked,
   path-reads.Learnt,
 ) (wr-at t) wr.Post
-unfolding SigExp.WhereSigExp
+unfolding SigExp.sig-exp
 wr-returns t c = record { is = then-stop (c .before .before .before .before .sig .ensures .is) (c .enum-told .given .1) }
 
--- src/lib.rt:2276:9
+-- src/lib.rt:2252:9
 wr-word-requires : (t : ℕ) → wr-lts.Need-word-requires (
   sig-below t,
   sig.Post,
@@ -22247,7 +23010,7 @@ wr-word-requires : (t : ℕ) → wr-lts.Need-word-requires (
 ) (wr-at t) wr.Post
 wr-word-requires t c κs = search needs
 
--- src/lib.rt:2277:9
+-- src/lib.rt:2253:9
 wr-path-requires : (t : ℕ) → wr-lts.Need-path-requires (
   sig-below t,
   sig.Post,
@@ -22258,7 +23021,7 @@ wr-path-requires : (t : ℕ) → wr-lts.Need-path-requires (
 ) (wr-at t) wr.Post
 wr-path-requires t c κs = search needs
 
--- src/lib.rt:2278:22
+-- src/lib.rt:2254:22
 wr-enum-known-r3 : (t : ℕ) → wr-lts.Need-enum-known-r3 (
   sig-below t,
   sig.Post,
@@ -22269,7 +23032,7 @@ wr-enum-known-r3 : (t : ℕ) → wr-lts.Need-enum-known-r3 (
 ) (wr-at t) wr.Post
 wr-enum-known-r3 t c = search needs
 
--- src/lib.rt:2279:9
+-- src/lib.rt:2255:9
 wr-enum-told-2 : (t : ℕ) → wr-lts.Need-enum-told-2 (
   sig-below t,
   sig.Post,
@@ -22280,7 +23043,7 @@ wr-enum-told-2 : (t : ℕ) → wr-lts.Need-enum-told-2 (
 ) (wr-at t) wr.Post
 wr-enum-told-2 t c = search needs
 
--- src/lib.rt:2279:9
+-- src/lib.rt:2255:9
 wr-same-length-2 : (t : ℕ) → wr-lts.Need-same-length-2 (
   sig-below t,
   sig.Post,
@@ -22291,7 +23054,7 @@ wr-same-length-2 : (t : ℕ) → wr-lts.Need-same-length-2 (
 ) (wr-at t) wr.Post
 wr-same-length-2 t c = c .before .before .before .before .path .kept .1 .1 .1 .1 .0 ∙ c .before .before .before .before .before .before .before .before .word .kept .1 .0 ∙ c .before .before .before .before .before .before .before .before .before .before .before .before .before .before .before .sig .kept .1 .1 .1 .1 .1 .0
 
--- src/lib.rt:2279:9
+-- src/lib.rt:2255:9
 wr-returns-2 : (t : ℕ) → wr-lts.Need-returns-2 (
   sig-below t,
   sig.Post,
@@ -22300,10 +23063,10 @@ wr-returns-2 : (t : ℕ) → wr-lts.Need-returns-2 (
   path-reads.Asked,
   path-reads.Learnt,
 ) (wr-at t) wr.Post
-unfolding SigExp.WhereSigExp
+unfolding SigExp.sig-exp
 wr-returns-2 t c = record { is = then-done (c .before .before .before .before .before .before .before .before .before .before .before .before .before .before .before .sig .ensures .is) (c .before .before .before .before .before .before .before .before .before .before .before .r1 .given .1) (then-sure (c .before .before .before .before .before .before .before .before .word .ensures) (then-stop (plain (c .before .before .before .before .path .ensures)) (c .enum-told2 .given .1))) }
 
--- src/lib.rt:2281:9
+-- src/lib.rt:2257:9
 wr-word-requires-2 : (t : ℕ) → wr-lts.Need-word-requires-2 (
   sig-below t,
   sig.Post,
@@ -22314,7 +23077,7 @@ wr-word-requires-2 : (t : ℕ) → wr-lts.Need-word-requires-2 (
 ) (wr-at t) wr.Post
 wr-word-requires-2 t c κs = search needs
 
--- src/lib.rt:2282:5
+-- src/lib.rt:2258:5
 wr-path-requires-2 : (t : ℕ) → wr-lts.Need-path-requires-2 (
   sig-below t,
   sig.Post,
@@ -22325,7 +23088,7 @@ wr-path-requires-2 : (t : ℕ) → wr-lts.Need-path-requires-2 (
 ) (wr-at t) wr.Post
 wr-path-requires-2 t c κs = search needs
 
--- src/lib.rt:2258:1
+-- src/lib.rt:2234:1
 wr-same-length-3 : (t : ℕ) → wr-lts.Need-same-length-3 (
   sig-below t,
   sig.Post,
@@ -22336,7 +23099,7 @@ wr-same-length-3 : (t : ℕ) → wr-lts.Need-same-length-3 (
 ) (wr-at t) wr.Post
 wr-same-length-3 t c = c .before .before .path2 .kept .1 .1 .1 .1 .0 ∙ c .before .before .before .before .before .before .word2 .kept .1 .0 ∙ c .before .before .before .before .before .before .before .before .before .before .before .before .before .path .kept .1 .1 .1 .1 .0 ∙ c .before .before .before .before .before .before .before .before .before .before .before .before .before .before .before .before .before .word .kept .1 .0 ∙ c .before .before .before .before .before .before .before .before .before .before .before .before .before .before .before .before .before .before .before .before .before .before .before .before .sig .kept .1 .1 .1 .1 .1 .0
 
--- src/lib.rt:2258:1
+-- src/lib.rt:2234:1
 wr-returns-3 : (t : ℕ) → wr-lts.Need-returns-3 (
   sig-below t,
   sig.Post,
@@ -22345,10 +23108,10 @@ wr-returns-3 : (t : ℕ) → wr-lts.Need-returns-3 (
   path-reads.Asked,
   path-reads.Learnt,
 ) (wr-at t) wr.Post
-unfolding SigExp.WhereSigExp
+unfolding SigExp.sig-exp
 wr-returns-3 t c = record { is = then-done (c .before .before .before .before .before .before .before .before .before .before .before .before .before .before .before .before .before .before .before .before .before .before .before .before .sig .ensures .is) (c .before .before .before .before .before .before .before .before .before .before .before .before .before .before .before .before .before .before .before .before .r1 .given .1) (then-sure (c .before .before .before .before .before .before .before .before .before .before .before .before .before .before .before .before .before .word .ensures) (then-done (plain (c .before .before .before .before .before .before .before .before .before .before .before .before .before .path .ensures)) (c .before .before .before .before .before .before .before .before .before .r3 .given .1) (then-sure (c .before .before .before .before .before .before .word2 .ensures) (plain (c .before .before .path2 .ensures))))) }
 
--- src/lib.rt:2240:9
+-- src/lib.rt:2216:9
 wt-sig-requires : (t : ℕ) → wt-lts.Need-sig-requires (
   sig-below t,
   sig.Post,
@@ -22363,7 +23126,7 @@ wt-sig-requires : (t : ℕ) → wt-lts.Need-sig-requires (
 ) (wt-at t) wt.Post
 wt-sig-requires t c κs = omega (arith, c .before .before .before .before .before .before .before .before .pre .0, c .before .before .before .before .before .before .before .before .pre .1)
 
--- src/lib.rt:2241:22
+-- src/lib.rt:2217:22
 wt-enum-known-r1 : (t : ℕ) → wt-lts.Need-enum-known-r1 (
   sig-below t,
   sig.Post,
@@ -22378,7 +23141,7 @@ wt-enum-known-r1 : (t : ℕ) → wt-lts.Need-enum-known-r1 (
 ) (wt-at t) wt.Post
 wt-enum-known-r1 t c = search needs
 
--- src/lib.rt:2242:9
+-- src/lib.rt:2218:9
 wt-enum-told : (t : ℕ) → wt-lts.Need-enum-told (
   sig-below t,
   sig.Post,
@@ -22393,7 +23156,7 @@ wt-enum-told : (t : ℕ) → wt-lts.Need-enum-told (
 ) (wt-at t) wt.Post
 wt-enum-told t c = search needs
 
--- src/lib.rt:2242:9
+-- src/lib.rt:2218:9
 wt-same-length : (t : ℕ) → wt-lts.Need-same-length (
   sig-below t,
   sig.Post,
@@ -22408,7 +23171,7 @@ wt-same-length : (t : ℕ) → wt-lts.Need-same-length (
 ) (wt-at t) wt.Post
 wt-same-length t c = c .before .before .before .before .sig .kept .1 .1 .1 .1 .1 .0
 
--- src/lib.rt:2242:9
+-- src/lib.rt:2218:9
 wt-returns : (t : ℕ) → wt-lts.Need-returns (
   sig-below t,
   sig.Post,
@@ -22421,10 +23184,10 @@ wt-returns : (t : ℕ) → wt-lts.Need-returns (
   get-ty-reads.Asked,
   get-ty-reads.Learnt,
 ) (wt-at t) wt.Post
-unfolding SigExp.WhereTypeSigExp
+unfolding SigExp.sig-exp
 wt-returns t c = record { is = then-stop (c .before .before .before .before .sig .ensures .is) (c .enum-told .given .1) }
 
--- src/lib.rt:2244:9
+-- src/lib.rt:2220:9
 wt-word-requires : (t : ℕ) → wt-lts.Need-word-requires (
   sig-below t,
   sig.Post,
@@ -22439,7 +23202,7 @@ wt-word-requires : (t : ℕ) → wt-lts.Need-word-requires (
 ) (wt-at t) wt.Post
 wt-word-requires t c κs = search needs
 
--- src/lib.rt:2245:9
+-- src/lib.rt:2221:9
 wt-ty-var-seq-requires : (t : ℕ) → wt-lts.Need-ty-var-seq-requires (
   sig-below t,
   sig.Post,
@@ -22454,7 +23217,7 @@ wt-ty-var-seq-requires : (t : ℕ) → wt-lts.Need-ty-var-seq-requires (
 ) (wt-at t) wt.Post
 wt-ty-var-seq-requires t c κs = search needs
 
--- src/lib.rt:2246:22
+-- src/lib.rt:2222:22
 wt-enum-known-r3 : (t : ℕ) → wt-lts.Need-enum-known-r3 (
   sig-below t,
   sig.Post,
@@ -22469,7 +23232,7 @@ wt-enum-known-r3 : (t : ℕ) → wt-lts.Need-enum-known-r3 (
 ) (wt-at t) wt.Post
 wt-enum-known-r3 t c = search needs
 
--- src/lib.rt:2247:9
+-- src/lib.rt:2223:9
 wt-enum-told-2 : (t : ℕ) → wt-lts.Need-enum-told-2 (
   sig-below t,
   sig.Post,
@@ -22484,7 +23247,7 @@ wt-enum-told-2 : (t : ℕ) → wt-lts.Need-enum-told-2 (
 ) (wt-at t) wt.Post
 wt-enum-told-2 t c = search needs
 
--- src/lib.rt:2247:9
+-- src/lib.rt:2223:9
 wt-same-length-2 : (t : ℕ) → wt-lts.Need-same-length-2 (
   sig-below t,
   sig.Post,
@@ -22499,7 +23262,7 @@ wt-same-length-2 : (t : ℕ) → wt-lts.Need-same-length-2 (
 ) (wt-at t) wt.Post
 wt-same-length-2 t c = c .before .before .before .before .ty-var-seq .kept .1 .1 .1 .1 .0 ∙ c .before .before .before .before .before .before .before .before .word .kept .1 .0 ∙ c .before .before .before .before .before .before .before .before .before .before .before .before .before .before .before .sig .kept .1 .1 .1 .1 .1 .0
 
--- src/lib.rt:2247:9
+-- src/lib.rt:2223:9
 wt-returns-2 : (t : ℕ) → wt-lts.Need-returns-2 (
   sig-below t,
   sig.Post,
@@ -22512,10 +23275,10 @@ wt-returns-2 : (t : ℕ) → wt-lts.Need-returns-2 (
   get-ty-reads.Asked,
   get-ty-reads.Learnt,
 ) (wt-at t) wt.Post
-unfolding SigExp.WhereTypeSigExp
+unfolding SigExp.sig-exp
 wt-returns-2 t c = record { is = then-done (c .before .before .before .before .before .before .before .before .before .before .before .before .before .before .before .sig .ensures .is) (c .before .before .before .before .before .before .before .before .before .before .before .r1 .given .1) (then-sure (c .before .before .before .before .before .before .before .before .word .ensures) (then-stop (plain (c .before .before .before .before .ty-var-seq .ensures)) (c .enum-told2 .given .1))) }
 
--- src/lib.rt:2249:9
+-- src/lib.rt:2225:9
 wt-path-requires : (t : ℕ) → wt-lts.Need-path-requires (
   sig-below t,
   sig.Post,
@@ -22530,7 +23293,7 @@ wt-path-requires : (t : ℕ) → wt-lts.Need-path-requires (
 ) (wt-at t) wt.Post
 wt-path-requires t c κs = search needs
 
--- src/lib.rt:2250:22
+-- src/lib.rt:2226:22
 wt-enum-known-r4 : (t : ℕ) → wt-lts.Need-enum-known-r4 (
   sig-below t,
   sig.Post,
@@ -22545,7 +23308,7 @@ wt-enum-known-r4 : (t : ℕ) → wt-lts.Need-enum-known-r4 (
 ) (wt-at t) wt.Post
 wt-enum-known-r4 t c = search needs
 
--- src/lib.rt:2251:9
+-- src/lib.rt:2227:9
 wt-enum-told-3 : (t : ℕ) → wt-lts.Need-enum-told-3 (
   sig-below t,
   sig.Post,
@@ -22560,7 +23323,7 @@ wt-enum-told-3 : (t : ℕ) → wt-lts.Need-enum-told-3 (
 ) (wt-at t) wt.Post
 wt-enum-told-3 t c = search needs
 
--- src/lib.rt:2251:9
+-- src/lib.rt:2227:9
 wt-same-length-3 : (t : ℕ) → wt-lts.Need-same-length-3 (
   sig-below t,
   sig.Post,
@@ -22575,7 +23338,7 @@ wt-same-length-3 : (t : ℕ) → wt-lts.Need-same-length-3 (
 ) (wt-at t) wt.Post
 wt-same-length-3 t c = c .before .before .before .before .path .kept .1 .1 .1 .1 .0 ∙ c .before .before .before .before .before .before .before .before .before .before .before .ty-var-seq .kept .1 .1 .1 .1 .0 ∙ c .before .before .before .before .before .before .before .before .before .before .before .before .before .before .before .word .kept .1 .0 ∙ c .before .before .before .before .before .before .before .before .before .before .before .before .before .before .before .before .before .before .before .before .before .before .sig .kept .1 .1 .1 .1 .1 .0
 
--- src/lib.rt:2251:9
+-- src/lib.rt:2227:9
 wt-returns-3 : (t : ℕ) → wt-lts.Need-returns-3 (
   sig-below t,
   sig.Post,
@@ -22588,10 +23351,10 @@ wt-returns-3 : (t : ℕ) → wt-lts.Need-returns-3 (
   get-ty-reads.Asked,
   get-ty-reads.Learnt,
 ) (wt-at t) wt.Post
-unfolding SigExp.WhereTypeSigExp
+unfolding SigExp.sig-exp
 wt-returns-3 t c = record { is = then-done (c .before .before .before .before .before .before .before .before .before .before .before .before .before .before .before .before .before .before .before .before .before .before .sig .ensures .is) (c .before .before .before .before .before .before .before .before .before .before .before .before .before .before .before .before .before .before .r1 .given .1) (then-sure (c .before .before .before .before .before .before .before .before .before .before .before .before .before .before .before .word .ensures) (then-done (plain (c .before .before .before .before .before .before .before .before .before .before .before .ty-var-seq .ensures)) (c .before .before .before .before .before .before .before .r3 .given .1) (then-stop (plain (c .before .before .before .before .path .ensures)) (c .enum-told3 .given .1)))) }
 
--- src/lib.rt:2253:9
+-- src/lib.rt:2229:9
 wt-word-requires-2 : (t : ℕ) → wt-lts.Need-word-requires-2 (
   sig-below t,
   sig.Post,
@@ -22606,7 +23369,7 @@ wt-word-requires-2 : (t : ℕ) → wt-lts.Need-word-requires-2 (
 ) (wt-at t) wt.Post
 wt-word-requires-2 t c κs = search needs
 
--- src/lib.rt:2254:5
+-- src/lib.rt:2230:5
 wt-get-ty-requires : (t : ℕ) → wt-lts.Need-get-ty-requires (
   sig-below t,
   sig.Post,
@@ -22621,7 +23384,7 @@ wt-get-ty-requires : (t : ℕ) → wt-lts.Need-get-ty-requires (
 ) (wt-at t) wt.Post
 wt-get-ty-requires t c κs = search needs
 
--- src/lib.rt:2226:1
+-- src/lib.rt:2202:1
 wt-same-length-4 : (t : ℕ) → wt-lts.Need-same-length-4 (
   sig-below t,
   sig.Post,
@@ -22636,7 +23399,7 @@ wt-same-length-4 : (t : ℕ) → wt-lts.Need-same-length-4 (
 ) (wt-at t) wt.Post
 wt-same-length-4 t c = c .before .before .get-ty .kept .1 .1 .1 .1 .0 ∙ c .before .before .before .before .before .before .word2 .kept .1 .0 ∙ c .before .before .before .before .before .before .before .before .before .before .before .before .before .path .kept .1 .1 .1 .1 .0 ∙ c .before .before .before .before .before .before .before .before .before .before .before .before .before .before .before .before .before .before .before .before .ty-var-seq .kept .1 .1 .1 .1 .0 ∙ c .before .before .before .before .before .before .before .before .before .before .before .before .before .before .before .before .before .before .before .before .before .before .before .before .word .kept .1 .0 ∙ c .before .before .before .before .before .before .before .before .before .before .before .before .before .before .before .before .before .before .before .before .before .before .before .before .before .before .before .before .before .before .before .sig .kept .1 .1 .1 .1 .1 .0
 
--- src/lib.rt:2226:1
+-- src/lib.rt:2202:1
 wt-returns-4 : (t : ℕ) → wt-lts.Need-returns-4 (
   sig-below t,
   sig.Post,
@@ -22649,10 +23412,10 @@ wt-returns-4 : (t : ℕ) → wt-lts.Need-returns-4 (
   get-ty-reads.Asked,
   get-ty-reads.Learnt,
 ) (wt-at t) wt.Post
-unfolding SigExp.WhereTypeSigExp
+unfolding SigExp.sig-exp
 wt-returns-4 t c = record { is = then-done (c .before .before .before .before .before .before .before .before .before .before .before .before .before .before .before .before .before .before .before .before .before .before .before .before .before .before .before .before .before .before .before .sig .ensures .is) (c .before .before .before .before .before .before .before .before .before .before .before .before .before .before .before .before .before .before .before .before .before .before .before .before .before .before .before .r1 .given .1) (then-sure (c .before .before .before .before .before .before .before .before .before .before .before .before .before .before .before .before .before .before .before .before .before .before .before .before .word .ensures) (then-done (plain (c .before .before .before .before .before .before .before .before .before .before .before .before .before .before .before .before .before .before .before .before .ty-var-seq .ensures)) (c .before .before .before .before .before .before .before .before .before .before .before .before .before .before .before .before .r3 .given .1) (then-done (plain (c .before .before .before .before .before .before .before .before .before .before .before .before .before .path .ensures)) (c .before .before .before .before .before .before .before .before .before .r4 .given .1) (then-sure (c .before .before .before .before .before .before .word2 .ensures) (plain (c .before .before .get-ty .ensures)))))) }
 
--- src/lib.rt:1472:9
+-- src/lib.rt:1448:9
 xb-group-requires : (t : ℕ) → xb-lts.Need-group-requires (
   group-reads.Asked,
   group-reads.Learnt,
@@ -22669,7 +23432,7 @@ xb-group-requires : (t : ℕ) → xb-lts.Need-group-requires (
 ) (xb-at t) xb.Post
 xb-group-requires t c κs = search needs
 
--- src/lib.rt:1473:22
+-- src/lib.rt:1449:22
 xb-enum-known-r1 : (t : ℕ) → xb-lts.Need-enum-known-r1 (
   group-reads.Asked,
   group-reads.Learnt,
@@ -22686,7 +23449,7 @@ xb-enum-known-r1 : (t : ℕ) → xb-lts.Need-enum-known-r1 (
 ) (xb-at t) xb.Post
 xb-enum-known-r1 t c = search needs
 
--- src/lib.rt:1474:9
+-- src/lib.rt:1450:9
 xb-enum-told : (t : ℕ) → xb-lts.Need-enum-told (
   group-reads.Asked,
   group-reads.Learnt,
@@ -22703,7 +23466,7 @@ xb-enum-told : (t : ℕ) → xb-lts.Need-enum-told (
 ) (xb-at t) xb.Post
 xb-enum-told t c = search needs
 
--- src/lib.rt:1474:9
+-- src/lib.rt:1450:9
 xb-returns : (t : ℕ) → xb-lts.Need-returns (
   group-reads.Asked,
   group-reads.Learnt,
@@ -22721,7 +23484,7 @@ xb-returns : (t : ℕ) → xb-lts.Need-returns (
 unfolding DecOne.ex-bind
 xb-returns t c = record { is = group-not (c .before .before .group .ensures) (c .enum-told .given .1) }
 
--- src/lib.rt:1476:9
+-- src/lib.rt:1452:9
 xb-text-of-requires : (t : ℕ) → xb-lts.Need-text-of-requires (
   group-reads.Asked,
   group-reads.Learnt,
@@ -22738,7 +23501,7 @@ xb-text-of-requires : (t : ℕ) → xb-lts.Need-text-of-requires (
 ) (xb-at t) xb.Post
 xb-text-of-requires t c κs = search needs
 
--- src/lib.rt:1477:22
+-- src/lib.rt:1453:22
 xb-enum-known-r2 : (t : ℕ) → xb-lts.Need-enum-known-r2 (
   group-reads.Asked,
   group-reads.Learnt,
@@ -22755,7 +23518,7 @@ xb-enum-known-r2 : (t : ℕ) → xb-lts.Need-enum-known-r2 (
 ) (xb-at t) xb.Post
 xb-enum-known-r2 t c = search needs
 
--- src/lib.rt:1478:9
+-- src/lib.rt:1454:9
 xb-enum-told-2 : (t : ℕ) → xb-lts.Need-enum-told-2 (
   group-reads.Asked,
   group-reads.Learnt,
@@ -22772,7 +23535,7 @@ xb-enum-told-2 : (t : ℕ) → xb-lts.Need-enum-told-2 (
 ) (xb-at t) xb.Post
 xb-enum-told-2 t c = search needs
 
--- src/lib.rt:1478:9
+-- src/lib.rt:1454:9
 xb-same-length : (t : ℕ) → xb-lts.Need-same-length (
   group-reads.Asked,
   group-reads.Learnt,
@@ -22789,7 +23552,7 @@ xb-same-length : (t : ℕ) → xb-lts.Need-same-length (
 ) (xb-at t) xb.Post
 xb-same-length t c = c .before .before .before .before .text-of .kept .1 .1 .1 .1 .0
 
--- src/lib.rt:1478:9
+-- src/lib.rt:1454:9
 xb-returns-2 : (t : ℕ) → xb-lts.Need-returns-2 (
   group-reads.Asked,
   group-reads.Learnt,
@@ -22807,7 +23570,7 @@ xb-returns-2 : (t : ℕ) → xb-lts.Need-returns-2 (
 unfolding DecOne.ex-bind
 xb-returns-2 t c = record { is = by-same (group-is (c .before .before .before .before .before .before .before .before .before .group .ensures) (c .before .before .before .before .before .before .before .r1 .given .1)) (then-stop (plain (c .before .before .before .before .text-of .ensures)) (c .enum-told2 .given .1)) }
 
--- src/lib.rt:1480:29
+-- src/lib.rt:1456:29
 xb-absent-requires : (t : ℕ) → xb-lts.Need-absent-requires (
   group-reads.Asked,
   group-reads.Learnt,
@@ -22824,7 +23587,7 @@ xb-absent-requires : (t : ℕ) → xb-lts.Need-absent-requires (
 ) (xb-at t) xb.Post
 xb-absent-requires t c κs = search needs
 
--- src/lib.rt:1480:23
+-- src/lib.rt:1456:23
 xb-enum-known-s3 : (t : ℕ) → xb-lts.Need-enum-known-s3 (
   group-reads.Asked,
   group-reads.Learnt,
@@ -22841,7 +23604,7 @@ xb-enum-known-s3 : (t : ℕ) → xb-lts.Need-enum-known-s3 (
 ) (xb-at t) xb.Post
 xb-enum-known-s3 t c = search needs
 
--- src/lib.rt:1481:9
+-- src/lib.rt:1457:9
 xb-same-length-2 : (t : ℕ) → xb-lts.Need-same-length-2 (
   group-reads.Asked,
   group-reads.Learnt,
@@ -22858,7 +23621,7 @@ xb-same-length-2 : (t : ℕ) → xb-lts.Need-same-length-2 (
 ) (xb-at t) xb.Post
 xb-same-length-2 t c = c .before .before .before .before .before .before .before .before .before .text-of .kept .1 .1 .1 .1 .0
 
--- src/lib.rt:1481:9
+-- src/lib.rt:1457:9
 xb-returns-3 : (t : ℕ) → xb-lts.Need-returns-3 (
   group-reads.Asked,
   group-reads.Learnt,
@@ -22892,7 +23655,7 @@ xb-enum-told-3 : (t : ℕ) → xb-lts.Need-enum-told-3 (
 ) (xb-at t) xb.Post
 xb-enum-told-3 t c = search needs
 
--- src/lib.rt:1483:27
+-- src/lib.rt:1459:27
 xb-choice-requires : (t : ℕ) → xb-lts.Need-choice-requires (
   group-reads.Asked,
   group-reads.Learnt,
@@ -22909,7 +23672,7 @@ xb-choice-requires : (t : ℕ) → xb-lts.Need-choice-requires (
 ) (xb-at t) xb.Post
 xb-choice-requires t c κs = search needs
 
--- src/lib.rt:1483:18
+-- src/lib.rt:1459:18
 xb-enum-known-k : (t : ℕ) → xb-lts.Need-enum-known-k (
   group-reads.Asked,
   group-reads.Learnt,
@@ -22926,7 +23689,7 @@ xb-enum-known-k : (t : ℕ) → xb-lts.Need-enum-known-k (
 ) (xb-at t) xb.Post
 xb-enum-known-k t c = search needs
 
--- src/lib.rt:1484:9
+-- src/lib.rt:1460:9
 xb-enum-told-4 : (t : ℕ) → xb-lts.Need-enum-told-4 (
   group-reads.Asked,
   group-reads.Learnt,
@@ -22943,7 +23706,7 @@ xb-enum-told-4 : (t : ℕ) → xb-lts.Need-enum-told-4 (
 ) (xb-at t) xb.Post
 xb-enum-told-4 t c = search needs
 
--- src/lib.rt:1484:9
+-- src/lib.rt:1460:9
 xb-stop-requires : (t : ℕ) → xb-lts.Need-stop-requires (
   group-reads.Asked,
   group-reads.Learnt,
@@ -22960,7 +23723,7 @@ xb-stop-requires : (t : ℕ) → xb-lts.Need-stop-requires (
 ) (xb-at t) xb.Post
 xb-stop-requires t c κs = search needs
 
--- src/lib.rt:1484:9
+-- src/lib.rt:1460:9
 xb-same-length-3 : (t : ℕ) → xb-lts.Need-same-length-3 (
   group-reads.Asked,
   group-reads.Learnt,
@@ -22977,7 +23740,7 @@ xb-same-length-3 : (t : ℕ) → xb-lts.Need-same-length-3 (
 ) (xb-at t) xb.Post
 xb-same-length-3 t c = c .before .before .before .before .before .before .before .before .before .before .before .before .text-of .kept .1 .1 .1 .1 .0
 
--- src/lib.rt:1484:9
+-- src/lib.rt:1460:9
 xb-returns-4 : (t : ℕ) → xb-lts.Need-returns-4 (
   group-reads.Asked,
   group-reads.Learnt,
@@ -22995,7 +23758,7 @@ xb-returns-4 : (t : ℕ) → xb-lts.Need-returns-4 (
 unfolding DecOne.ex-bind
 xb-returns-4 t c = record { is = by-same (group-is (c .before .before .before .before .before .before .before .before .before .before .before .before .before .before .before .before .before .group .ensures) (c .before .before .before .before .before .before .before .before .before .before .before .before .before .before .before .r1 .given .1)) (then-done (plain (c .before .before .before .before .before .before .before .before .before .before .before .before .text-of .ensures)) (c .before .before .before .before .before .before .before .before .r2 .given .1) (by-same (maybe-there (c .before .before .before .before .before .before .absent .ensures) (c .before .before .before .before .enum-told3 .given .1)) (choice-not (c .stop .ensures) (c .before .before .before .choice .ensures) (c .before .enum-told4 .given .1)))) }
 
--- src/lib.rt:1486:5
+-- src/lib.rt:1462:5
 xb-xi-requires : (t : ℕ) → xb-lts.Need-xi-requires (
   group-reads.Asked,
   group-reads.Learnt,
@@ -23012,7 +23775,7 @@ xb-xi-requires : (t : ℕ) → xb-lts.Need-xi-requires (
 ) (xb-at t) xb.Post
 xb-xi-requires t c κs = omega (arith, c .before .before .before .before .before .before .before .before .before .before .before .before .before .before .before .before .before .before .before .before .before .before .before .before .before .before .pre .0, c .before .before .before .before .before .before .before .before .before .before .before .before .before .before .before .before .before .before .before .before .before .before .before .before .before .before .pre .1)
 
--- src/lib.rt:1458:1
+-- src/lib.rt:1434:1
 xb-same-length-4 : (t : ℕ) → xb-lts.Need-same-length-4 (
   group-reads.Asked,
   group-reads.Learnt,
@@ -23029,7 +23792,7 @@ xb-same-length-4 : (t : ℕ) → xb-lts.Need-same-length-4 (
 ) (xb-at t) xb.Post
 xb-same-length-4 t c = c .before .before .xi .kept .1 .1 .1 .1 .1 .0 ∙ c .before .before .before .before .before .before .before .before .before .before .before .before .before .before .before .before .before .text-of .kept .1 .1 .1 .1 .0
 
--- src/lib.rt:1458:1
+-- src/lib.rt:1434:1
 xb-returns-5 : (t : ℕ) → xb-lts.Need-returns-5 (
   group-reads.Asked,
   group-reads.Learnt,
@@ -23054,7 +23817,7 @@ xd-Inv-loop text rec kinds starts lens out₀ left₀ cfg n s₀ i₀ out left s
 abbrev xd-μ-loop : xd-lts.MeasureT-loop
 xd-μ-loop text rec kinds starts lens out₀ left₀ cfg n s₀ i₀ out left s i = n - i
 
--- src/lib.rt:1439:9
+-- src/lib.rt:1415:9
 xd-word-requires : (t : ℕ) → xd-lts.Need-word-requires (
   word-reads.Asked,
   word-reads.Learnt,
@@ -23069,7 +23832,7 @@ xd-word-requires : (t : ℕ) → xd-lts.Need-word-requires (
 ) (xd-at t) xd.Post xd-Inv-loop xd-μ-loop
 xd-word-requires t c κs = search needs
 
--- src/lib.rt:1440:27
+-- src/lib.rt:1416:27
 xd-list-requires : (t : ℕ) → xd-lts.Need-list-requires (
   word-reads.Asked,
   word-reads.Learnt,
@@ -23084,7 +23847,7 @@ xd-list-requires : (t : ℕ) → xd-lts.Need-list-requires (
 ) (xd-at t) xd.Post xd-Inv-loop xd-μ-loop
 xd-list-requires t c κs = search needs
 
--- src/lib.rt:1440:18
+-- src/lib.rt:1416:18
 xd-enum-known-n : (t : ℕ) → xd-lts.Need-enum-known-n (
   word-reads.Asked,
   word-reads.Learnt,
@@ -23099,7 +23862,7 @@ xd-enum-known-n : (t : ℕ) → xd-lts.Need-enum-known-n (
 ) (xd-at t) xd.Post xd-Inv-loop xd-μ-loop
 xd-enum-known-n t c = search needs
 
--- src/lib.rt:1441:9
+-- src/lib.rt:1417:9
 xd-enum-told : (t : ℕ) → xd-lts.Need-enum-told (
   word-reads.Asked,
   word-reads.Learnt,
@@ -23114,7 +23877,7 @@ xd-enum-told : (t : ℕ) → xd-lts.Need-enum-told (
 ) (xd-at t) xd.Post xd-Inv-loop xd-μ-loop
 xd-enum-told t c = search needs
 
--- src/lib.rt:1441:9
+-- src/lib.rt:1417:9
 xd-stop-requires : (t : ℕ) → xd-lts.Need-stop-requires (
   word-reads.Asked,
   word-reads.Learnt,
@@ -23129,7 +23892,7 @@ xd-stop-requires : (t : ℕ) → xd-lts.Need-stop-requires (
 ) (xd-at t) xd.Post xd-Inv-loop xd-μ-loop
 xd-stop-requires t c κs = search needs
 
--- src/lib.rt:1441:9
+-- src/lib.rt:1417:9
 xd-same-length : (t : ℕ) → xd-lts.Need-same-length (
   word-reads.Asked,
   word-reads.Learnt,
@@ -23144,7 +23907,7 @@ xd-same-length : (t : ℕ) → xd-lts.Need-same-length (
 ) (xd-at t) xd.Post xd-Inv-loop xd-μ-loop
 xd-same-length t c = c .before .before .before .before .before .before .word .kept .1 .0
 
--- src/lib.rt:1441:9
+-- src/lib.rt:1417:9
 xd-returns : (t : ℕ) → xd-lts.Need-returns (
   word-reads.Asked,
   word-reads.Learnt,
@@ -23157,10 +23920,10 @@ xd-returns : (t : ℕ) → xd-lts.Need-returns (
   xb-below t,
   xb.Post,
 ) (xd-at t) xd.Post xd-Inv-loop xd-μ-loop
-unfolding DecOne.ExDec Helpers.sep-with-lines
+unfolding DecOne.dec-one Helpers.sep-with-lines
 xd-returns t c = record { is = then-sure (c .before .before .before .before .before .before .word .ensures) (list-not (c .stop .ensures) (c .before .before .before .list .ensures) (c .before .enum-told .given .1)) }
 
--- src/lib.rt:1445:5
+-- src/lib.rt:1421:5
 xd-loop-holds : (t : ℕ) → xd-lts.Need-loop-holds (
   word-reads.Asked,
   word-reads.Learnt,
@@ -23175,7 +23938,7 @@ xd-loop-holds : (t : ℕ) → xd-lts.Need-loop-holds (
 ) (xd-at t) xd.Post xd-Inv-loop xd-μ-loop
 xd-loop-holds t c = (omega arith, λ r o m h. h, refl)
 
--- src/lib.rt:1446:13
+-- src/lib.rt:1422:13
 xd-new-line-requires : (t : ℕ) → xd-lts.Need-new-line-requires (
   word-reads.Asked,
   word-reads.Learnt,
@@ -23190,7 +23953,7 @@ xd-new-line-requires : (t : ℕ) → xd-lts.Need-new-line-requires (
 ) (xd-at t) xd.Post xd-Inv-loop xd-μ-loop
 xd-new-line-requires t c κs = search needs
 
--- src/lib.rt:1447:13
+-- src/lib.rt:1423:13
 xd-xb-requires : (t : ℕ) → xd-lts.Need-xb-requires (
   word-reads.Asked,
   word-reads.Learnt,
@@ -23205,7 +23968,7 @@ xd-xb-requires : (t : ℕ) → xd-lts.Need-xb-requires (
 ) (xd-at t) xd.Post xd-Inv-loop xd-μ-loop
 xd-xb-requires t c κs = omega (arith, c .before .before .before .before .before .before .before .before .before .before .before .before .before .before .before .before .before .before .before .before .before .before .pre .0, c .before .before .before .before .before .before .before .before .before .before .before .before .before .before .before .before .before .before .before .before .before .before .pre .1)
 
--- src/lib.rt:1448:26
+-- src/lib.rt:1424:26
 xd-enum-known-r4 : (t : ℕ) → xd-lts.Need-enum-known-r4 (
   word-reads.Asked,
   word-reads.Learnt,
@@ -23220,7 +23983,7 @@ xd-enum-known-r4 : (t : ℕ) → xd-lts.Need-enum-known-r4 (
 ) (xd-at t) xd.Post xd-Inv-loop xd-μ-loop
 xd-enum-known-r4 t c = search needs
 
--- src/lib.rt:1449:13
+-- src/lib.rt:1425:13
 xd-enum-told-2 : (t : ℕ) → xd-lts.Need-enum-told-2 (
   word-reads.Asked,
   word-reads.Learnt,
@@ -23235,7 +23998,7 @@ xd-enum-told-2 : (t : ℕ) → xd-lts.Need-enum-told-2 (
 ) (xd-at t) xd.Post xd-Inv-loop xd-μ-loop
 xd-enum-told-2 t c = search needs
 
--- src/lib.rt:1449:13
+-- src/lib.rt:1425:13
 xd-same-length-2 : (t : ℕ) → xd-lts.Need-same-length-2 (
   word-reads.Asked,
   word-reads.Learnt,
@@ -23250,7 +24013,7 @@ xd-same-length-2 : (t : ℕ) → xd-lts.Need-same-length-2 (
 ) (xd-at t) xd.Post xd-Inv-loop xd-μ-loop
 xd-same-length-2 t c = c .before .before .before .before .xb .kept .1 .1 .1 .1 .1 .0 ∙ c .before .before .before .before .before .before .before .before .before .new-line .kept .1 .0 ∙ c .before .before .before .before .before .before .before .before .before .before .before .before .loop .inv .2 ∙ c .before .before .before .before .before .before .before .before .before .before .before .before .before .before .before .before .before .before .before .word .kept .1 .0
 
--- src/lib.rt:1449:13
+-- src/lib.rt:1425:13
 xd-returns-2 : (t : ℕ) → xd-lts.Need-returns-2 (
   word-reads.Asked,
   word-reads.Learnt,
@@ -23263,10 +24026,10 @@ xd-returns-2 : (t : ℕ) → xd-lts.Need-returns-2 (
   xb-below t,
   xb.Post,
 ) (xd-at t) xd.Post xd-Inv-loop xd-μ-loop
-unfolding DecOne.ExDec Helpers.sep-with-lines
+unfolding DecOne.dec-one Helpers.sep-with-lines
 xd-returns-2 t c = record { is = then-sure (c .before .before .before .before .before .before .before .before .before .before .before .before .before .before .before .before .before .before .before .word .ensures) (by-same (list-is (c .before .before .before .before .before .before .before .before .before .before .before .before .before .before .before .before .list .ensures) (c .before .before .before .before .before .before .before .before .before .before .before .before .before .before .n .given .1)) (by-same (items-all _ _ _) (c .before .before .before .before .before .before .before .before .before .before .before .before .loop .inv .1 _ _ _ (from-more _ _ (c .before .before .before .before .before .before .before .before .before .before .before .loop-test .taken) (then-sure (c .before .before .before .before .before .before .before .before .before .new-line .ensures) (then-stop (c .before .before .before .before .xb .ensures .is) (c .enum-told2 .given .1))))))) }
 
--- src/lib.rt:1452:9
+-- src/lib.rt:1428:9
 xd-add-i : (t : ℕ) → xd-lts.Need-add-i (
   word-reads.Asked,
   word-reads.Learnt,
@@ -23281,7 +24044,7 @@ xd-add-i : (t : ℕ) → xd-lts.Need-add-i (
 ) (xd-at t) xd.Post xd-Inv-loop xd-μ-loop
 xd-add-i t c = omega (arith, c .before .before .before .before .before .before .before .before .before .before .before .before .loop-test .taken, c .before .before .before .before .before .before .before .before .before .before .before .before .before .before .known-told)
 
--- src/lib.rt:1445:5
+-- src/lib.rt:1421:5
 xd-loop-less : (t : ℕ) → xd-lts.Need-loop-less (
   word-reads.Asked,
   word-reads.Learnt,
@@ -23296,7 +24059,7 @@ xd-loop-less : (t : ℕ) → xd-lts.Need-loop-less (
 ) (xd-at t) xd.Post xd-Inv-loop xd-μ-loop
 xd-loop-less t c = omega arith
 
--- src/lib.rt:1445:5
+-- src/lib.rt:1421:5
 xd-loop-again : (t : ℕ) → xd-lts.Need-loop-again (
   word-reads.Asked,
   word-reads.Learnt,
@@ -23309,10 +24072,10 @@ xd-loop-again : (t : ℕ) → xd-lts.Need-loop-again (
   xb-below t,
   xb.Post,
 ) (xd-at t) xd.Post xd-Inv-loop xd-μ-loop
-unfolding DecOne.ExDec Helpers.sep-with-lines
+unfolding DecOne.dec-one Helpers.sep-with-lines
 xd-loop-again t c = (omega (arith, c .before .before .before .before .before .before .before .before .before .before .before .before .before .loop .inv .0), λ r o m h. c .before .before .before .before .before .before .before .before .before .before .before .before .before .loop .inv .1 r o m (from-more _ _ (c .before .before .before .before .before .before .before .before .before .before .before .before .loop-test .taken) (then-sure (c .before .before .before .before .before .before .before .before .before .before .new-line .ensures) (then-done (c .before .before .before .before .before .xb .ensures .is) (c .before .r4 .given .1) h))), c .before .before .before .before .before .xb .kept .1 .1 .1 .1 .1 .0 ∙ c .before .before .before .before .before .before .before .before .before .before .new-line .kept .1 .0 ∙ c .before .before .before .before .before .before .before .before .before .before .before .before .before .loop .inv .2)
 
--- src/lib.rt:1425:1
+-- src/lib.rt:1401:1
 xd-same-length-3 : (t : ℕ) → xd-lts.Need-same-length-3 (
   word-reads.Asked,
   word-reads.Learnt,
@@ -23327,7 +24090,7 @@ xd-same-length-3 : (t : ℕ) → xd-lts.Need-same-length-3 (
 ) (xd-at t) xd.Post xd-Inv-loop xd-μ-loop
 xd-same-length-3 t c = c .before .loop .inv .2 ∙ c .before .before .before .before .before .before .before .before .word .kept .1 .0
 
--- src/lib.rt:1425:1
+-- src/lib.rt:1401:1
 xd-returns-3 : (t : ℕ) → xd-lts.Need-returns-3 (
   word-reads.Asked,
   word-reads.Learnt,
@@ -23340,10 +24103,10 @@ xd-returns-3 : (t : ℕ) → xd-lts.Need-returns-3 (
   xb-below t,
   xb.Post,
 ) (xd-at t) xd.Post xd-Inv-loop xd-μ-loop
-unfolding DecOne.ExDec Helpers.sep-with-lines
+unfolding DecOne.dec-one Helpers.sep-with-lines
 xd-returns-3 t c = record { is = then-sure (c .before .before .before .before .before .before .before .before .word .ensures) (by-same (list-is (c .before .before .before .before .before .list .ensures) (c .before .before .before .n .given .1)) (by-same (items-all _ _ _) (c .before .loop .inv .1 _ _ _ (from-none _ _ (c .loop-test .left))))) }
 
--- src/lib.rt:1506:14
+-- src/lib.rt:1482:14
 xi-ex-bind-of-requires : (t : ℕ) → xi-lts.Need-ex-bind-of-requires (
   ex-bind-of-reads.Asked,
   ex-bind-of-reads.Learnt,
@@ -23354,7 +24117,7 @@ xi-ex-bind-of-requires : (t : ℕ) → xi-lts.Need-ex-bind-of-requires (
 ) (xi-at t) xi.Post
 xi-ex-bind-of-requires t c κs = search needs
 
--- src/lib.rt:1507:14
+-- src/lib.rt:1483:14
 xi-pr-requires : (t : ℕ) → xi-lts.Need-pr-requires (
   ex-bind-of-reads.Asked,
   ex-bind-of-reads.Learnt,
@@ -23365,7 +24128,7 @@ xi-pr-requires : (t : ℕ) → xi-lts.Need-pr-requires (
 ) (xi-at t) xi.Post
 xi-pr-requires t c κs = omega (arith, c .before .before .before .before .before .before .before .before .before .pre .0, c .before .before .before .before .before .before .before .before .before .pre .1)
 
--- src/lib.rt:1519:14
+-- src/lib.rt:1495:14
 xi-stop-requires : (t : ℕ) → xi-lts.Need-stop-requires (
   ex-bind-of-reads.Asked,
   ex-bind-of-reads.Learnt,
@@ -23376,7 +24139,7 @@ xi-stop-requires : (t : ℕ) → xi-lts.Need-stop-requires (
 ) (xi-at t) xi.Post
 xi-stop-requires t c κs = search needs
 
--- src/lib.rt:1490:1
+-- src/lib.rt:1466:1
 xi-same-length : (t : ℕ) → xi-lts.Need-same-length (
   ex-bind-of-reads.Asked,
   ex-bind-of-reads.Learnt,
@@ -23387,7 +24150,7 @@ xi-same-length : (t : ℕ) → xi-lts.Need-same-length (
 ) (xi-at t) xi.Post
 xi-same-length t c = c .before .before .ex-bind-of .kept .1 .1 .1 .1 .0
 
--- src/lib.rt:1490:1
+-- src/lib.rt:1466:1
 xi-returns : (t : ℕ) → xi-lts.Need-returns (
   ex-bind-of-reads.Asked,
   ex-bind-of-reads.Learnt,
@@ -23399,7 +24162,7 @@ xi-returns : (t : ℕ) → xi-lts.Need-returns (
 unfolding DecOne.ex-bind-inner
 xi-returns t c = record { is = at-key (λ i. DecOne.ex-bind-inner (walks (c .before .before .before .before .before .before .before .before .before .before .before .args .cfg .left)) (cfgOf (c .before .before .before .before .before .before .before .before .before .before .before .args .cfg)) i) (c .before .before .before .before .match .keys1) (plain (c .before .before .ex-bind-of .ensures)) }
 
--- src/lib.rt:1490:1
+-- src/lib.rt:1466:1
 xi-same-length-2 : (t : ℕ) → xi-lts.Need-same-length-2 (
   ex-bind-of-reads.Asked,
   ex-bind-of-reads.Learnt,
@@ -23410,7 +24173,7 @@ xi-same-length-2 : (t : ℕ) → xi-lts.Need-same-length-2 (
 ) (xi-at t) xi.Post
 xi-same-length-2 t c = c .before .before .pr .kept .1 .1 .1 .1 .1 .0
 
--- src/lib.rt:1490:1
+-- src/lib.rt:1466:1
 xi-returns-2 : (t : ℕ) → xi-lts.Need-returns-2 (
   ex-bind-of-reads.Asked,
   ex-bind-of-reads.Learnt,
@@ -23422,7 +24185,7 @@ xi-returns-2 : (t : ℕ) → xi-lts.Need-returns-2 (
 unfolding DecOne.ex-bind-inner
 xi-returns-2 t c = record { is = at-key (λ i. DecOne.ex-bind-inner (walks (c .before .before .before .before .before .before .before .before .before .before .before .before .args .cfg .left)) (cfgOf (c .before .before .before .before .before .before .before .before .before .before .before .before .args .cfg)) i) (c .before .before .before .before .before .match .keys2) (c .before .before .pr .ensures .is) }
 
--- src/lib.rt:1490:1
+-- src/lib.rt:1466:1
 xi-returns-3 : (t : ℕ) → xi-lts.Need-returns-3 (
   ex-bind-of-reads.Asked,
   ex-bind-of-reads.Learnt,
@@ -23564,6 +24327,10 @@ pub +ab+ac+an+app+ar+arm+br+ca+cb+cd+da+dec+dp+ds+du+exp+fa+fb+fc+fd+fe+fs+fx+gd
       heads-reads.Learnt,
       missing-reads.Asked,
       missing-reads.Learnt,
+      func-is-bang-reads.Asked,
+      func-is-bang-reads.Learnt,
+      arg-is-symbolic-reads.Asked,
+      arg-is-symbolic-reads.Learnt,
       exp-below t,
       exp.Post,
       app-space-reads.Asked,
@@ -23576,6 +24343,8 @@ pub +ab+ac+an+app+ar+arm+br+ca+cb+cd+da+dec+dp+ds+du+exp+fa+fb+fc+fd+fe+fs+fx+gd
     (app-enum-told t)
     (app-missing-requires t)
     (app-returns t)
+    (app-func-is-bang-requires t)
+    (app-arg-is-symbolic-requires t)
     (app-exp-requires t)
     (app-enum-known-r1 t)
     (app-enum-told-2 t)
@@ -23630,10 +24399,14 @@ pub +ab+ac+an+app+ar+arm+br+ca+cb+cd+da+dec+dp+ds+du+exp+fa+fb+fc+fd+fe+fs+fx+gd
       get-pat-reads.Learnt,
       word-reads.Asked,
       word-reads.Learnt,
+      expression-reads.Asked,
+      expression-reads.Learnt,
+      stop-reads.Asked,
+      stop-reads.Learnt,
       body-exp-needs-newline-reads.Asked,
       body-exp-needs-newline-reads.Learnt,
-      forms-reads.Asked,
-      forms-reads.Learnt,
+      deepen-reads.Asked,
+      deepen-reads.Learnt,
       indented-reads.Asked,
       indented-reads.Learnt,
       dp-below t,
@@ -23653,17 +24426,23 @@ pub +ab+ac+an+app+ar+arm+br+ca+cb+cd+da+dec+dp+ds+du+exp+fa+fb+fc+fd+fe+fs+fx+gd
     (arm-same-length t)
     (arm-returns-2 t)
     (arm-word-requires t)
-    (arm-body-exp-needs-newline-requires t)
-    (arm-word-requires-2 t)
-    (arm-forms-requires t)
-    (arm-indented-requires t)
-    (arm-dp-requires t)
+    (arm-expression-requires t)
+    (arm-enum-known--k t)
+    (arm-enum-told-3 t)
+    (arm-stop-requires t)
     (arm-same-length-2 t)
     (arm-returns-3 t)
+    (arm-body-exp-needs-newline-requires t)
+    (arm-word-requires-2 t)
+    (arm-deepen-requires t)
+    (arm-indented-requires t)
+    (arm-dp-requires t)
+    (arm-same-length-3 t)
+    (arm-returns-4 t)
     (arm-word-requires-3 t)
     (arm-exp-requires t)
-    (arm-same-length-3 t)
-    (arm-returns-4 t))
+    (arm-same-length-4 t)
+    (arm-returns-5 t))
     (λ t. br-lts.spec
     (word-reads.Asked, word-reads.Learnt, ar-below t, ar.Post)
     (br-at t)
@@ -24033,8 +24812,8 @@ pub +ab+ac+an+app+ar+arm+br+ca+cb+cd+da+dec+dp+ds+du+exp+fa+fb+fc+fd+fe+fs+fx+gd
     (λ t. fb-lts.spec (
       group-reads.Asked,
       group-reads.Learnt,
-      forms-reads.Asked,
-      forms-reads.Learnt,
+      deepen-reads.Asked,
+      deepen-reads.Learnt,
       list-reads.Asked,
       list-reads.Learnt,
       stop-reads.Asked,
@@ -24052,7 +24831,7 @@ pub +ab+ac+an+app+ar+arm+br+ca+cb+cd+da+dec+dp+ds+du+exp+fa+fb+fc+fd+fe+fs+fx+gd
     (fb-enum-known-r1 t)
     (fb-enum-told t)
     (fb-returns t)
-    (fb-forms-requires t)
+    (fb-deepen-requires t)
     (fb-list-requires t)
     (fb-enum-known-n t)
     (fb-enum-told-2 t)
@@ -24359,6 +25138,10 @@ pub +ab+ac+an+app+ar+arm+br+ca+cb+cd+da+dec+dp+ds+du+exp+fa+fb+fc+fd+fe+fs+fx+gd
       indented-reads.Learnt,
       line-reads.Asked,
       line-reads.Learnt,
+      expression-reads.Asked,
+      expression-reads.Learnt,
+      stop-reads.Asked,
+      stop-reads.Learnt,
       is-if-exp-reads.Asked,
       is-if-exp-reads.Learnt,
       line-in-reads.Asked,
@@ -24382,15 +25165,21 @@ pub +ab+ac+an+app+ar+arm+br+ca+cb+cd+da+dec+dp+ds+du+exp+fa+fb+fc+fd+fe+fs+fx+gd
     (ie-returns-2 t)
     (ie-line-requires t)
     (ie-word-requires-3 t)
+    (ie-expression-requires t)
+    (ie-enum-known--k t)
+    (ie-enum-told-3 t)
+    (ie-stop-requires t)
+    (ie-same-length-3 t)
+    (ie-returns-3 t)
     (ie-is-if-exp-requires t)
     (ie-word-requires-4 t)
     (ie-exp-requires-3 t)
-    (ie-same-length-3 t)
-    (ie-returns-3 t)
+    (ie-same-length-4 t)
+    (ie-returns-4 t)
     (ie-line-in-requires t)
     (ie-exp-requires-4 t)
-    (ie-same-length-4 t)
-    (ie-returns-4 t))
+    (ie-same-length-5 t)
+    (ie-returns-5 t))
     (λ t. it-lts.spec (
       group-reads.Asked,
       group-reads.Learnt,
@@ -24761,6 +25550,10 @@ pub +ab+ac+an+app+ar+arm+br+ca+cb+cd+da+dec+dp+ds+du+exp+fa+fb+fc+fd+fe+fs+fx+gd
       group-reads.Learnt,
       word-reads.Asked,
       word-reads.Learnt,
+      expression-reads.Asked,
+      expression-reads.Learnt,
+      stop-reads.Asked,
+      stop-reads.Learnt,
       body-exp-needs-newline-reads.Asked,
       body-exp-needs-newline-reads.Learnt,
       dp-below t,
@@ -24779,15 +25572,21 @@ pub +ab+ac+an+app+ar+arm+br+ca+cb+cd+da+dec+dp+ds+du+exp+fa+fb+fc+fd+fe+fs+fx+gd
     (qb-enum-told-2 t)
     (qb-returns-2 t)
     (qb-word-requires t)
+    (qb-expression-requires t)
+    (qb-enum-known--k t)
+    (qb-enum-told-3 t)
+    (qb-stop-requires t)
+    (qb-same-length t)
+    (qb-returns-3 t)
     (qb-body-exp-needs-newline-requires t)
     (qb-word-requires-2 t)
     (qb-dp-requires t)
-    (qb-same-length t)
-    (qb-returns-3 t)
+    (qb-same-length-2 t)
+    (qb-returns-4 t)
     (qb-word-requires-3 t)
     (qb-exp-requires t)
-    (qb-same-length-2 t)
-    (qb-returns-4 t))
+    (qb-same-length-3 t)
+    (qb-returns-5 t))
     (λ t. qs-lts.spec (
       list-reads.Asked,
       list-reads.Learnt,

@@ -1,9 +1,9 @@
 -- `layout::helpers::comment_above` equals its layout.
-use mathlib.Core.Path.{ap, refl}
+use mathlib.Core.Path.{ap}
 use Rattle.reader.specs.Commands.{numberIn}
 use Rattle.comments.specs.Above.{commentIn, foundOf, commentOf}
 use Rattle.comments.proofs.Search.{comment-told}
-use Rattle.layout.proofs.Steps.{then-done, last-comment, last-sure}
+use Rattle.layout.specs.DecOne.{comment-line}
 use Rattle.layout.proofs.DecLaws.{comment-skip, comment-none, comment-some}
 use borrow.Author.Needs.{needs}
 use Rattle.layout.proofs.helpers.comment_above.Statement.{statement}
@@ -17,7 +17,7 @@ enum-told c = search needs
 
 returns : tie.Need-returns
 unfolding numberIn
-returns c = λ rec. comment-skip _ (ap numberIn (c .enum-told .given .1))
+returns c = comment-skip (ap numberIn (c .enum-told .given .1))
 
 comment-above-requires : tie.Need-comment-above-requires
 comment-above-requires c κs = search needs
@@ -31,7 +31,7 @@ enum-told-2 c = search needs
 returns-2 : tie.Need-returns-2
 unfolding numberIn commentOf foundOf commentIn
 returns-2 c =
-    λ rec. comment-none _ (ap numberIn (c .before .before .before .before .first .given .1)) (comment-told _ _ (c .before .before .comment-above .result) (c .before .before .comment-above .ensures)) (ap commentOf (c .enum-told2 .given .1))
+    comment-none (ap numberIn (c .before .before .before .before .first .given .1)) (comment-told _ _ (c .before .before .comment-above .result) (c .before .before .comment-above .ensures)) (ap commentOf (c .enum-told2 .given .1))
 
 comment-requires : tie.Need-comment-requires
 comment-requires c κs = search needs
@@ -43,10 +43,10 @@ same-length : tie.Need-same-length
 same-length c = search needs
 
 returns-3 : tie.Need-returns-3
-unfolding numberIn commentOf foundOf commentIn
+unfolding numberIn commentOf foundOf commentIn comment-line
 returns-3 c =
-    λ rec. comment-some _ (ap numberIn (c .before .before .before .before .before .before .before .before .before .before .before .before .before .before .first .given .1)) (comment-told _ _ (c .before .before .before .before .before .before .before .before .before .before .before .before .comment-above .result) (c .before .before .before .before .before .before .before .before .before .before .before .before .comment-above .ensures)) (ap commentOf (c .before .before .before .before .before .before .before .before .before .before .found .given .1))
-    (then-done (last-comment (c .before .before .before .before .before .before .comment .ensures)) refl (last-sure (c .before .before .line .ensures)))
+    comment-some (ap numberIn (c .before .before .before .before .before .before .before .before .before .before .before .before .before .before .first .given .1)) (comment-told _ _ (c .before .before .before .before .before .before .before .before .before .before .before .before .comment-above .result) (c .before .before .before .before .before .before .before .before .before .before .before .before .comment-above .ensures)) (ap commentOf (c .before .before .before .before .before .before .before .before .before .before .found .given .1))
+    (c .before .before .before .before .before .before .comment .ensures) (c .before .before .line .ensures)
 
 pub comment-above-spec : {M : Type 1} → statement M
 comment-above-spec =

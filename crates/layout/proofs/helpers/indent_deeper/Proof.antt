@@ -5,8 +5,8 @@ use borrow.Author.Needs.{needs}
 use Rattle.layout.proofs.helpers.indent_deeper.Statement.{statement}
 use Rattle.layout.proofs.helpers.indent_deeper.Tie as tie
 
-forms-requires : tie.Need-forms-requires
-forms-requires c κs = search needs
+deepen-requires : tie.Need-deepen-requires
+deepen-requires c κs = search needs
 
 indent-in-requires : tie.Need-indent-in-requires
 indent-in-requires c κs = search needs
@@ -15,8 +15,8 @@ same-length : tie.Need-same-length
 same-length c = search needs
 
 returns : tie.Need-returns
-unfolding Helpers.indented
-returns c = sure-then (sure-formed (c .before .before .before .before .forms .ensures)) (c .before .before .indent-in .ensures)
+unfolding Helpers.indent-deeper Helpers.deepen
+returns c = sure-then (sure-formed (c .before .before .before .before .deepen .ensures)) (c .before .before .indent-in .ensures)
 
 pub indent-deeper-spec : {M : Type 1} → statement M
-indent-deeper-spec = tie.close (tie.spec forms-requires indent-in-requires same-length returns)
+indent-deeper-spec = tie.close (tie.spec deepen-requires indent-in-requires same-length returns)

@@ -6,13 +6,13 @@ use Prim.Native.Nat.{_-_}
 use Rattle.layout.specs.Words.{wordOf}
 use Rattle.layout.specs.Layout as Layout
 use Rattle.layout.specs.Helpers as Helpers
-use Rattle.layout.proofs.Steps.{PlainTurn, from, plain, by-same, first-same, then-done, then-stop, then-sure, last-sure, then-write, last-write, last-skip, token-is, token-not, list-is, list-not, group-is, group-not, maybe-past, maybe-there, optional-is, optional-no, optional-not, skip-same, items-all, from-more, from-none}
+use Rattle.layout.proofs.Steps.{PlainTurn, from, plain, by-same, first-same, then-done, then-stop, then-sure, last-sure, last-skip, list-is, list-not, group-is, group-not, maybe-past, maybe-there, skip-same, items-all, from-more, from-none, text-is, text-not, present-there, present-gone, present-not, name-yes, name-no, name-not}
 use borrow.Author.Needs.{needs}
 use Rattle.layout.proofs.helpers.op_path.Statement.{statement}
 use Rattle.layout.proofs.helpers.op_path.Tie as tie
 
-optional-requires : tie.Need-optional-requires
-optional-requires c κs = search needs
+present-requires : tie.Need-present-requires
+present-requires c κs = search needs
 
 enum-known-given : tie.Need-enum-known-given
 enum-known-given c = search needs
@@ -36,25 +36,25 @@ same-length : tie.Need-same-length
 same-length c = c .before .before .op-path-there .kept .1 .1 .1 .1 .0
 
 returns : tie.Need-returns
-unfolding Helpers.op-path Helpers.when-some
-returns c = record { is = λ kinds m. by-same (optional-is (c .before .before .before .before .before .before .before .optional .ensures) (c .before .before .before .before .before .given .given .1)) (plain (c .before .before .op-path-there .ensures)) }
+unfolding Helpers.op-path
+returns c = record { is = λ kinds m. by-same (first-same (present-there (c .before .before .before .before .before .before .before .present .ensures) (c .before .before .before .before .before .given .given .1))) (plain (c .before .before .op-path-there .ensures)) }
 
 same-length-2 : tie.Need-same-length-2
 same-length-2 c = c .before .before .path .kept .1 .1 .1 .1 .0
 
 returns-2 : tie.Need-returns-2
-unfolding Helpers.op-path Helpers.when-some
-returns-2 c = record { is = λ kinds m. by-same (optional-no (c .before .before .before .before .before .before .before .optional .ensures) (c .before .before .before .before .before .given2 .given .1)) (by-same skip-same (plain (c .before .before .path .ensures))) }
+unfolding Helpers.op-path
+returns-2 c = record { is = λ kinds m. by-same (first-same (present-gone (c .before .before .before .before .before .before .before .present .ensures) (c .before .before .before .before .before .given2 .given .1))) (by-same skip-same (plain (c .before .before .path .ensures))) }
 
 returns-3 : tie.Need-returns-3
-unfolding Helpers.op-path Helpers.when-some
-returns-3 c = record { is = λ kinds m. optional-not (c .stop .ensures) (c .before .before .before .optional .ensures) (c .before .enum-told .given .1) }
+unfolding Helpers.op-path
+returns-3 c = record { is = λ kinds m. then-stop (present-not (c .stop .ensures) (c .before .before .before .present .ensures) (c .before .enum-told .given .1)) (c .stop .ensures) }
 
 pub op-path-spec : {M : Type 1} → statement M
 op-path-spec =
     tie.close
     (tie.spec
-    optional-requires
+    present-requires
     enum-known-given
     op-path-there-requires
     enum-known-given-2

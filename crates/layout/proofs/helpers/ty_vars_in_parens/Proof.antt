@@ -6,52 +6,63 @@ use Prim.Native.Nat.{_-_}
 use Rattle.layout.specs.Words.{wordOf}
 use Rattle.layout.specs.Layout as Layout
 use Rattle.layout.specs.Helpers as Helpers
-use Rattle.layout.proofs.Steps.{PlainTurn, from, plain, by-same, first-same, then-done, then-stop, then-sure, last-sure, then-write, last-write, last-skip, token-is, token-not, list-is, list-not, group-is, group-not, maybe-past, maybe-there, optional-is, optional-no, optional-not, skip-same, items-all, from-more, from-none}
+use Rattle.layout.proofs.Steps.{PlainTurn, from, plain, by-same, first-same, then-done, then-stop, then-sure, last-sure, last-skip, list-is, list-not, group-is, group-not, maybe-past, maybe-there, skip-same, items-all, from-more, from-none, text-is, text-not, present-there, present-gone, present-not, name-yes, name-no, name-not}
 use borrow.Author.Needs.{needs}
 use Rattle.layout.proofs.helpers.ty_vars_in_parens.Statement.{statement}
 use Rattle.layout.proofs.helpers.ty_vars_in_parens.Tie as tie
 
-word-requires : tie.Need-word-requires
-word-requires c κs = search needs
+present-requires : tie.Need-present-requires
+present-requires c κs = search needs
+
+enum-known-given : tie.Need-enum-known-given
+enum-known-given c = search needs
+
+ty-vars-parens-requires : tie.Need-ty-vars-parens-requires
+ty-vars-parens-requires c κs = search needs
+
+enum-known-given-2 : tie.Need-enum-known-given-2
+enum-known-given-2 c = search needs
 
 ty-vars-requires : tie.Need-ty-vars-requires
 ty-vars-requires c κs = search needs
 
-enum-known-r2 : tie.Need-enum-known-r2
-enum-known-r2 c = search needs
-
 enum-told : tie.Need-enum-told
 enum-told c = search needs
 
+stop-requires : tie.Need-stop-requires
+stop-requires c κs = search needs
+
 same-length : tie.Need-same-length
-same-length c = c .before .before .before .before .ty-vars .kept .1 .1 .1 .1 .0 ∙ c .before .before .before .before .before .before .before .before .word .kept .1 .0
+same-length c = c .before .before .ty-vars-parens .kept .1 .1 .1 .1 .0
 
 returns : tie.Need-returns
-returns c = record { is = λ kinds m. then-sure (c .before .before .before .before .before .before .before .before .word .ensures) (then-stop (plain (c .before .before .before .before .ty-vars .ensures)) (c .enum-told .given .1)) }
-
-word-requires-2 : tie.Need-word-requires-2
-word-requires-2 c κs = search needs
-
-word-requires-3 : tie.Need-word-requires-3
-word-requires-3 c κs = search needs
+unfolding Helpers.in-parens
+returns c = record { is = λ kinds m. by-same (present-there (c .before .before .before .before .before .before .before .present .ensures) (c .before .before .before .before .before .given .given .1)) (plain (c .before .before .ty-vars-parens .ensures)) }
 
 same-length-2 : tie.Need-same-length-2
-same-length-2 c = c .before .before .word3 .kept .1 .0 ∙ c .before .before .before .before .before .before .word2 .kept .1 .0 ∙ c .before .before .before .before .before .before .before .before .before .before .before .before .before .ty-vars .kept .1 .1 .1 .1 .0 ∙ c .before .before .before .before .before .before .before .before .before .before .before .before .before .before .before .before .before .word .kept .1 .0
+same-length-2 c = c .before .before .ty-vars .kept .1 .1 .1 .1 .0
 
 returns-2 : tie.Need-returns-2
-returns-2 c = record { is = λ kinds m. then-sure (c .before .before .before .before .before .before .before .before .before .before .before .before .before .before .before .before .before .word .ensures) (then-done (plain (c .before .before .before .before .before .before .before .before .before .before .before .before .before .ty-vars .ensures)) (c .before .before .before .before .before .before .before .before .before .r2 .given .1) (then-sure (c .before .before .before .before .before .before .word2 .ensures) (last-sure (c .before .before .word3 .ensures)))) }
+unfolding Helpers.in-parens
+returns-2 c = record { is = λ kinds m. by-same (present-gone (c .before .before .before .before .before .before .before .present .ensures) (c .before .before .before .before .before .given2 .given .1)) (plain (c .before .before .ty-vars .ensures)) }
+
+returns-3 : tie.Need-returns-3
+unfolding Helpers.in-parens
+returns-3 c = record { is = λ kinds m. present-not (c .stop .ensures) (c .before .before .before .present .ensures) (c .before .enum-told .given .1) }
 
 pub ty-vars-in-parens-spec : {M : Type 1} → statement M
 ty-vars-in-parens-spec =
     tie.close
     (tie.spec
-    word-requires
+    present-requires
+    enum-known-given
+    ty-vars-parens-requires
+    enum-known-given-2
     ty-vars-requires
-    enum-known-r2
     enum-told
+    stop-requires
     same-length
     returns
-    word-requires-2
-    word-requires-3
     same-length-2
-    returns-2)
+    returns-2
+    returns-3)

@@ -1,10 +1,10 @@
--- `layout::helpers::forms` meets its contract.
+-- `layout::helpers::deepen` meets its contract.
 use mathlib.Core.Path.{_∙_, ap}
 use Rattle.layout.specs.State.{withDepth}
 use Rattle.layout.proofs.Steps.{deep-depth}
 use borrow.Author.Needs.{needs}
-use Rattle.layout.proofs.helpers.forms.Statement.{statement}
-use Rattle.layout.proofs.helpers.forms.Tie as tie
+use Rattle.layout.proofs.helpers.deepen.Statement.{statement}
+use Rattle.layout.proofs.helpers.deepen.Tie as tie
 
 indented-requires : tie.Need-indented-requires
 indented-requires c κs = search needs
@@ -15,5 +15,5 @@ formed-requires c κs = search needs
 returns : tie.Need-returns
 returns c = (c .formed .ensures) ∙ ap (λ d. withDepth d (c .before .before .args .st)) (deep-depth (c .before .indented .ensures))
 
-pub forms-spec : {M : Type 1} → statement M
-forms-spec = tie.close (tie.spec indented-requires formed-requires returns)
+pub deepen-spec : {M : Type 1} → statement M
+deepen-spec = tie.close (tie.spec indented-requires formed-requires returns)
