@@ -6,19 +6,23 @@ use native.Mathlib.Omega.{arith}
 use mathlib.Core.Path.{_≡_, refl, sym, ap, ap₂, _∙_}
 use mathlib.Core.Bool.{Bool, true, false}
 use mathlib.Core.Logic.{_⊎_, inl, inr, ⊎-elim}
-use mathlib.Core.List.{List, [], _∷_, reverse, reverseAux, reverse-reverse}
+use mathlib.Core.List.{List, [], _∷_, reverse, reverseAux, reverse-append, reverse-reverse}
 use mathlib.Core.Option.{none, some}
 use lib.Dec.{eqb}
 use lib.ListN.{length, getD, take, drop, length-take, length-drop, length-reverse, drop-of-length-le}
-use lib.Seq.{drop-cons, drop-drop, take-nil}
+use lib.Seq.{drop-cons, drop-drop, take-nil, take-suc}
 use borrow.Author.Tests.{eq-eqb, ne-eqb, eqb-true, eqb-false}
-use Rattle.text.proofs.Laws.{reverse-take, take-rest}
+use Rattle.text.proofs.Laws.{take-rest}
 use Rattle.doc_comment.specs.Doc.{withoutReturn, linesFrom, afterAsterisk, withoutSpace, starred}
 use Rattle.doc_comment.specs.Lines.{before, Cuts, Starts, kept, FirstKept, Nexts}
 use Rattle.doc_comment.specs.declared.Start.{Start}
 use Rattle.doc_comment.specs.declared.Start.the-variants.{At, Nowhere}
 use Rattle.doc_comment.specs.declared.Next.{Next}
 use Rattle.doc_comment.specs.declared.Next.the-variants.{Line, End}
+
+-- The text up to a byte, read backwards.
+reverse-take : (s : List ℕ) (k : ℕ) → k < length s → reverse (take (suc k) s) ≡ getD s k 0 ∷ reverse (take k s)
+reverse-take s k h = rw (take-suc s k 0, reverse-append)
 
 -- ---- the bytes before the first b
 

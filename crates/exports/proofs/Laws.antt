@@ -7,7 +7,7 @@ use lib.ListN.{length, getD, replicate}
 use lib.Seq.{paste, take-all}
 use Rattle.text.specs.Output.{Plain, Reply}
 use Rattle.reader.specs.declared.Reading.{Reading}
-use Rattle.reader.specs.declared.Reading.the-variants.{Sheet, TooLong, NotAscii, Malformed, TooDeep}
+use Rattle.reader.specs.declared.Reading.the-variants.{Sheet, TooLong, NotUtf8, Malformed, TooDeep}
 use Rattle.reader.specs.declared.tree.Checked as Code
 use Rattle.reader.specs.Tokens.{tokensIn}
 use Rattle.reader.specs.Tree.{checkedIn}
@@ -110,9 +110,9 @@ module _ {text rec kinds starts lens answer : List ℕ} {r : Reading} (s : Reads
   read-long e = refusal (reading-says s e)
 
   module _ {place : ℕ} where
-    pub read-wide : r ≡ NotAscii place → answer ≡ 2 ∷ place ∷ 0 ∷ 0 ∷ [] → ReadOut text rec answer kinds starts lens
+    pub read-broken : r ≡ NotUtf8 place → answer ≡ 2 ∷ place ∷ 0 ∷ 0 ∷ [] → ReadOut text rec answer kinds starts lens
     unfolding numberOf placeOf
-    read-wide e = refusal (reading-says s e)
+    read-broken e = refusal (reading-says s e)
 
     pub read-malformed : r ≡ Malformed place → answer ≡ 3 ∷ place ∷ 0 ∷ 0 ∷ [] → ReadOut text rec answer kinds starts lens
     unfolding numberOf placeOf

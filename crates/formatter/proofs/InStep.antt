@@ -8,7 +8,7 @@ use mathlib.Core.Option.{Option, none, some}
 use lib.ListN.{length}
 use lib.Dec.{leb, eqb}
 use borrow.Author.Tests.{eqb-true, eqb-false}
-use Rattle.text.specs.Bytes.{firstWide}
+use Rattle.text.specs.Utf8.{firstBroken, boundary}
 use Rattle.text.proofs.Laws.{never}
 use Rattle.reader.specs.Tokens.{Tokens, countOf, Tiling, tiled, untiled, tokens}
 use Rattle.reader.specs.Check.{Checked, ok, malformed, tooDeep, treeCheck}
@@ -51,8 +51,8 @@ module _ (text rec : List ℕ) where
     passes-walks e = let both : AllEnd (sheet ts tree) = subst AllEnd e all-end in both .0
 
     -- A walk that ends at the record's end has passed the check.
-    pub walked-passes : {es : List Event} → tokens (length text) rec ≡ tiled ts tree → walk (page text rec ts) tree ≡ done (length rec) es
-        → readRecord rec (length text) ≡ sheet ts tree
+    pub walked-passes : {es : List Event} → tokens (boundary text) (length text) rec ≡ tiled ts tree → walk (page text rec ts) tree ≡ done (length rec) es
+        → readRecord rec (boundary text) (length text) ≡ sheet ts tree
     unfolding readRecord readTree
     walked-passes {es} t e = rw (t, readRecord, tree-passes text rec ts tree es e, readTree) refl
 
@@ -101,20 +101,20 @@ module _ (text rec : List ℕ) (ts : Tokens) (tree : ℕ) where
   tree-is (tooDeep place) (stopped why es) e f = refl
 
 module _ (text rec : List ℕ) where
-  record-is : (t : Tiling) → tokens (length text) rec ≡ t → judgeOf text rec (readRecord rec (length text)) ≡ recordFirst text rec
+  record-is : (t : Tiling) → tokens (boundary text) (length text) rec ≡ t → judgeOf text rec (readRecord rec (boundary text) (length text)) ≡ recordFirst text rec
   unfolding readRecord readTree recordFirst byWalk
   record-is (tiled ts tree) e =
       rw (e, readRecord, recordFirst, readTree, byWalk) (tree-is text rec ts tree (treeCheck rec (countOf ts) tree) (walk (page text rec ts) tree) refl refl)
   record-is (untiled place) e = rw (e, readRecord, recordFirst) refl
 
-  text-is : (o : Option ℕ) → firstWide 0 text ≡ o → judgeOf text rec (readText text rec) ≡ textFirst text rec
+  text-is : (o : Option ℕ) → firstBroken text ≡ o → judgeOf text rec (readText text rec) ≡ textFirst text rec
   unfolding readText textFirst
-  text-is none e = rw (e, readText, textFirst) (record-is (tokens (length text) rec) refl)
+  text-is none e = rw (e, readText, textFirst) (record-is (tokens (boundary text) (length text) rec) refl)
   text-is (some place) e = rw (e, readText, textFirst) refl
 
   lengths-are : (b : Bool) → (leb (length text) maxText && leb (length rec) maxRecord) ≡ b → judgeOf text rec (read text rec) ≡ judgeWalkFirst text rec
   unfolding read judgeWalkFirst
-  lengths-are true e = rw (e, read, judgeWalkFirst) (text-is (firstWide 0 text) refl)
+  lengths-are true e = rw (e, read, judgeWalkFirst) (text-is (firstBroken text) refl)
   lengths-are false e = rw (e, read, judgeWalkFirst) refl
 
   -- Judging by the walk first, and running the check only where it did not end at the record's end, is the same judgement.

@@ -12,8 +12,8 @@ use lib.Dec.{eqb}
 use borrow.Author.Tests.{eq-eqb, ne-eqb, eqb-true, le-leb, lt-leb}
 use Rattle.text.proofs.Laws.{never}
 use Rattle.reader.specs.Check.{maxForms, treeCheck}
-use Rattle.text.specs.declared.Wide.{Wide}
-use Rattle.text.specs.Bytes.{firstWide, wideAt}
+use Rattle.text.specs.declared.Broken.{Broken}
+use Rattle.text.specs.Utf8.{firstBroken, brokenAt, boundary}
 use Rattle.reader.specs.Tokens.{countOf, maxTokens, tokens, tokensIn, tilingIn, Tiles}
 use Rattle.reader.specs.Reading.{maxText, maxRecord}
 use Rattle.reader.specs.Tree.{checkedIn, TreeEnd}
@@ -332,17 +332,17 @@ module _ (text rec : List ℕ) where
       unfolding judgeWalkFirst
       text-first = walk-first text rec ∙ rw (le-leb (length text) maxText a, le-leb (length rec) maxRecord b, judgeWalkFirst) refl
 
-      module _ {w : Wide} (s : wideAt w ≡ firstWide 0 text) where
-        pub not-ascii : {place : ℕ} → w ≡ Wide.At place → judge text rec ≡ declined (verdictOf (Case.NotAscii place) emptySet)
-        unfolding textFirst wideAt verdictOf numberOf placeOf givenMeasures
-        not-ascii e = text-first ∙ rw (sym s ∙ ap wideAt e, textFirst) refl
+      module _ {w : Broken} (s : brokenAt w ≡ firstBroken text) where
+        pub not-utf8 : {place : ℕ} → w ≡ Broken.At place → judge text rec ≡ declined (verdictOf (Case.NotUtf8 place) emptySet)
+        unfolding textFirst brokenAt verdictOf numberOf placeOf givenMeasures
+        not-utf8 e = text-first ∙ rw (sym s ∙ ap brokenAt e, textFirst) refl
 
-        module _ (e : w ≡ Wide.Nowhere) {kinds starts lens : List ℕ} {t : Tokens.Tiled} (u : Tiles (length text) rec kinds starts lens t) where
+        module _ (e : w ≡ Broken.Nowhere) {kinds starts lens : List ℕ} {t : Tokens.Tiled} (u : Tiles (boundary text) (length text) rec kinds starts lens t) where
           record-first : judge text rec ≡ recordFirst text rec
-          unfolding textFirst wideAt
-          record-first = text-first ∙ rw (sym s ∙ ap wideAt e, textFirst) refl
+          unfolding textFirst brokenAt
+          record-first = text-first ∙ rw (sym s ∙ ap brokenAt e, textFirst) refl
 
-          tiling-is : {x : Tokens.Tiled} → t ≡ x → tokens (length text) rec ≡ tilingIn x kinds starts lens
+          tiling-is : {x : Tokens.Tiled} → t ≡ x → tokens (boundary text) (length text) rec ≡ tilingIn x kinds starts lens
           tiling-is f = sym (u .is) ∙ ap (λ x. tilingIn x kinds starts lens) f
 
           pub not-tiled : {place : ℕ} → t ≡ Tiled.Untiled place → judge text rec ≡ declined (verdictOf (Case.Malformed place) emptySet)
@@ -356,7 +356,7 @@ module _ (text rec : List ℕ) where
             pub sheet-limits : Limits text rec kinds starts lens count
             sheet-limits =
                 let c : (length (take count kinds) ≡ count) × (count ≤ maxTokens) = rw f at (u .counts) in
-                let even = tiled-even (length text) rec (tokensIn count kinds starts lens) tree (tiling-is f) in
+                let even = tiled-even (boundary text) (length text) rec (tokensIn count kinds starts lens) tree (tiling-is f) in
                 let long : Within count kinds starts lens = (
                   omega (arith, c .0, length-take count kinds),
                   omega (arith, c .0, even .0, length-take count starts),

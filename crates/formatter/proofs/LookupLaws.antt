@@ -57,9 +57,9 @@ module _ {text rec kinds starts lens : List ℕ} {r : Reading} (s : Reads text r
   unfolding lookedOf numberOf placeOf answerOf keywordOf Reading.numberOf Reading.placeOf
   ask-long e = record { is = refusal (reading-says s e); counts = tt }
 
-  pub ask-wide : {place : ℕ} → r ≡ Says.NotAscii place → Asks text rec token kinds starts lens (Declined (Case.NotAscii place))
+  pub ask-broken : {place : ℕ} → r ≡ Says.NotUtf8 place → Asks text rec token kinds starts lens (Declined (Case.NotUtf8 place))
   unfolding lookedOf numberOf placeOf answerOf keywordOf Reading.numberOf Reading.placeOf
-  ask-wide e = record { is = refusal (reading-says s e); counts = tt }
+  ask-broken e = record { is = refusal (reading-says s e); counts = tt }
 
   pub ask-malformed : {place : ℕ} → r ≡ Says.Malformed place → Asks text rec token kinds starts lens (Declined (Case.Malformed place))
   unfolding lookedOf numberOf placeOf answerOf keywordOf Reading.numberOf Reading.placeOf

@@ -11,7 +11,7 @@ use Rattle.reader.specs.Reading.{Read, refused, sheet, read}
 use Rattle.comments.specs.Above as Above
 use Rattle.comments.specs.Above.{foundAbove, passedIn}
 use Rattle.formatter.specs.declared.Lookup.{Lookup}
-use Rattle.formatter.specs.declared.Lookup.the-variants.{Found, Nothing, TooLong, NotAscii, Malformed, TooDeep, NoRoom, NoToken}
+use Rattle.formatter.specs.declared.Lookup.the-variants.{Found, Nothing, TooLong, NotUtf8, Malformed, TooDeep, NoRoom, NoToken}
 use Rattle.formatter.specs.declared.Asked as Code
 use Rattle.formatter.specs.declared.Asked.the-variants as Case
 
@@ -54,7 +54,7 @@ unfoldable pub numberOf : Lookup → ℕ
 numberOf (Found k saw) = 0
 numberOf Nothing = 0
 numberOf TooLong = 1
-numberOf (NotAscii at) = 2
+numberOf (NotUtf8 at) = 2
 numberOf (Malformed at) = 3
 numberOf (TooDeep at) = 4
 numberOf NoRoom = 8
@@ -64,7 +64,7 @@ unfoldable pub placeOf : Lookup → ℕ
 placeOf (Found k saw) = 0
 placeOf Nothing = 0
 placeOf TooLong = 0
-placeOf (NotAscii at) = at
+placeOf (NotUtf8 at) = at
 placeOf (Malformed at) = at
 placeOf (TooDeep at) = at
 placeOf NoRoom = 0
@@ -74,7 +74,7 @@ unfoldable pub answerOf : Lookup → Option ℕ
 answerOf (Found k saw) = some k
 answerOf Nothing = none
 answerOf TooLong = none
-answerOf (NotAscii at) = none
+answerOf (NotUtf8 at) = none
 answerOf (Malformed at) = none
 answerOf (TooDeep at) = none
 answerOf NoRoom = none
@@ -84,7 +84,7 @@ unfoldable pub keywordOf : Lookup → Option ℕ
 keywordOf (Found k saw) = passedIn saw
 keywordOf Nothing = none
 keywordOf TooLong = none
-keywordOf (NotAscii at) = none
+keywordOf (NotUtf8 at) = none
 keywordOf (Malformed at) = none
 keywordOf (TooDeep at) = none
 keywordOf NoRoom = none

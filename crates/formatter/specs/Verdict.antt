@@ -13,7 +13,7 @@ use Rattle.layout.specs.Walk.{walk}
 use Rattle.layout.specs.Events.{deepest, letters, units, formatted, isLeft}
 use Rattle.formatter.specs.declared.Measures.{Measures}
 use Rattle.formatter.specs.declared.Answer.{Answer}
-use Rattle.formatter.specs.declared.Answer.the-variants.{Accepted, TooLong, NotAscii, Malformed, TooDeep, Syntax, Comments, TooWide, NoRoom}
+use Rattle.formatter.specs.declared.Answer.the-variants.{Accepted, TooLong, NotUtf8, Malformed, TooDeep, Syntax, Comments, TooWide, NoRoom}
 
 -- A verdict (document 01): number, place, measures, and the words of the set of comments left.
 pub record Verdict : Type 0 where
@@ -96,7 +96,7 @@ get text rec tab out = elim (judge text rec) [ declined v ↦ result v out | acc
 unfoldable pub numberOf : Answer → ℕ
 numberOf (Accepted m) = 0
 numberOf TooLong = 1
-numberOf (NotAscii at) = 2
+numberOf (NotUtf8 at) = 2
 numberOf (Malformed at) = 3
 numberOf (TooDeep at) = 4
 numberOf Syntax = 5
@@ -107,7 +107,7 @@ numberOf (NoRoom m) = 8
 unfoldable pub placeOf : Answer → ℕ
 placeOf (Accepted m) = 0
 placeOf TooLong = 0
-placeOf (NotAscii at) = at
+placeOf (NotUtf8 at) = at
 placeOf (Malformed at) = at
 placeOf (TooDeep at) = at
 placeOf Syntax = 0
@@ -118,7 +118,7 @@ placeOf (NoRoom m) = 0
 unfoldable pub givenMeasures : Answer → Measures
 givenMeasures (Accepted m) = m
 givenMeasures TooLong = noMeasures
-givenMeasures (NotAscii at) = noMeasures
+givenMeasures (NotUtf8 at) = noMeasures
 givenMeasures (Malformed at) = noMeasures
 givenMeasures (TooDeep at) = noMeasures
 givenMeasures Syntax = noMeasures

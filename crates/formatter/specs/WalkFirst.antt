@@ -5,7 +5,7 @@ use mathlib.Core.Bool.{true, false, _&&_}
 use mathlib.Core.Option.{none, some}
 use lib.ListN.{length}
 use lib.Dec.{leb, eqb}
-use Rattle.text.specs.Bytes.{firstWide}
+use Rattle.text.specs.Utf8.{firstBroken, boundary}
 use Rattle.reader.specs.Tokens.{countOf, tiled, untiled, tokens}
 use Rattle.reader.specs.Check.{Checked, ok, malformed, tooDeep, treeCheck}
 use Rattle.reader.specs.Reading.{maxText, maxRecord}
@@ -34,11 +34,11 @@ byWalk p tree =
 module _ (text rec : List ℕ) where
   unfoldable pub recordFirst : Judged
   recordFirst =
-      elim (tokens (length text) rec)
+      elim (tokens (boundary text) (length text) rec)
       [ tiled ts tree ↦ byWalk (record { text = text; rec = rec; tokens = ts }) tree | untiled place ↦ refused 3 place ]
 
   unfoldable pub textFirst : Judged
-  textFirst = elim (firstWide 0 text) [ none ↦ recordFirst | some place ↦ refused 2 place ]
+  textFirst = elim (firstBroken text) [ none ↦ recordFirst | some place ↦ refused 2 place ]
 
   -- 1 to 6.
   unfoldable pub judgeWalkFirst : Judged

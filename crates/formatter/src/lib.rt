@@ -10,9 +10,9 @@ use reader::tokens::Tiled;
 use reader::tokens::read_tokens;
 use reader::tree::Checked;
 use reader::tree::tree_end;
-use text::Wide;
+use text::Broken;
 use text::copy;
-use text::first_wide;
+use text::first_broken;
 ghost use mathlib.Core.Path.{_≡_};
 ghost use Prim.Native.Nat.{_*_, _≤_};
 ghost use lib.ListN.{length, take};
@@ -35,8 +35,8 @@ pub enum Answer {
     Accepted(Measures),
     // The text or the record is too long.
     TooLong,
-    // The offset in the text of the first byte of 128 or more.
-    NotAscii(usize),
+    // The offset in the text of the first byte of the first broken character.
+    NotUtf8(usize),
     // The offset in the record of the first command that is malformed.
     Malformed(usize),
     // The offset in the record of the 201st form inside one another.
@@ -58,8 +58,8 @@ pub enum Lookup {
     Nothing,
     // The text or the record is too long.
     TooLong,
-    // The offset in the text of the first byte of 128 or more.
-    NotAscii(usize),
+    // The offset in the text of the first byte of the first broken character.
+    NotUtf8(usize),
     // The offset in the record of the first command that is malformed.
     Malformed(usize),
     // The offset in the record of the 201st form inside one another.
@@ -186,10 +186,10 @@ fn judge(
     if MAX_RECORD < rec.len() {
         return refused(left, Answer::TooLong);
     }
-    if let Wide::At(place) = first_wide(text) {
-        return refused(left, Answer::NotAscii(place));
+    if let Broken::At(place) = first_broken(text) {
+        return refused(left, Answer::NotUtf8(place));
     }
-    let tokens = read_tokens(text.len() as u16, rec, kinds, starts, lens);
+    let tokens = read_tokens(text, text.len() as u16, rec, kinds, starts, lens);
     match tokens {
         Tiled::Tiled { count, tree } => weigh(
             text,
@@ -340,7 +340,7 @@ pub fn ask(
             Asked::Declined(Lookup::NoToken)
         }
         Reading::TooLong => Asked::Declined(Lookup::TooLong),
-        Reading::NotAscii(place) => Asked::Declined(Lookup::NotAscii(place)),
+        Reading::NotUtf8(place) => Asked::Declined(Lookup::NotUtf8(place)),
         Reading::Malformed(place) => Asked::Declined(Lookup::Malformed(place)),
         Reading::TooDeep(place) => Asked::Declined(Lookup::TooDeep(place)),
     }

@@ -5,6 +5,7 @@ use mathlib.Core.List.{List, _++_}
 use mathlib.Core.Option.{Option, none, some}
 use mathlib.Core.Path.{_≡_, refl}
 use lib.ListN.{length, replicate}
+use Rattle.text.specs.Utf8.{boundary}
 use Rattle.text.specs.Bytes.{bytes}
 use Rattle.reader.specs.Tokens.{tiled, untiled, tokens}
 use Rattle.layout.specs.Meaning.{done, stopped}
@@ -16,7 +17,7 @@ use Rattle.program.proofs.Sheets.{hex, pairs, digit, textA}
 -- Where the walk without bounds ends.
 unfoldable pub endOf : List ℕ → List ℕ → Option ℕ
 endOf text rec =
-    elim (tokens (length text) rec) [
+    elim (tokens (boundary text) (length text) rec) [
       | tiled ts tree ↦ elim (Unbounded.walk (record { text = text; rec = rec; tokens = ts }) tree)
           [ done end es ↦ some end | stopped why es ↦ none ]
       | untiled place ↦ none

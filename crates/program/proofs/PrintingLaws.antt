@@ -15,7 +15,7 @@ use denote.Enum.Declared.{tagOf}
 use Rattle.formatter.proofs.Answer.{the-type}
 use Rattle.formatter.specs.declared.Measures.{Measures}
 use Rattle.formatter.specs.declared.Answer.{Answer}
-use Rattle.formatter.specs.declared.Answer.the-variants.{Accepted, TooLong, NotAscii, Malformed, TooDeep, Syntax, Comments, TooWide, NoRoom}
+use Rattle.formatter.specs.declared.Answer.the-variants.{Accepted, TooLong, NotUtf8, Malformed, TooDeep, Syntax, Comments, TooWide, NoRoom}
 use Rattle.formatter.specs.Verdict.{Verdict, numberOf, givenMeasures, verdictOf}
 use Rattle.program.specs.Program.{digits, decimal, line}
 use Rattle.program.specs.Printing.{said, saidWith, shown, TextWithin, Puts, Prints}
@@ -122,7 +122,7 @@ declines-number : (a : Answer) → Declines a → eqb (numberOf a) 0 ≡ false
 unfolding numberOf
 declines-number (Accepted m) d = absurd (miss others 0 tt d)
 declines-number TooLong d = refl
-declines-number (NotAscii at) d = refl
+declines-number (NotUtf8 at) d = refl
 declines-number (Malformed at) d = refl
 declines-number (TooDeep at) d = refl
 declines-number Syntax d = refl

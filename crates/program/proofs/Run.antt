@@ -1,5 +1,6 @@
 -- `unfolding run` opens every definition of specs/, so that a theorem about a sheet is closed by computation.
 -- Written by tools/unfold.py.
+use Rattle.text.specs.Utf8 as Utf8
 use Rattle.text.specs.Bytes as Bytes
 use Rattle.text.specs.Output as Output
 use Rattle.reader.specs.Forms as Forms
@@ -31,8 +32,12 @@ use Rattle.doc_comment.specs.Lines as Lines
 use Rattle.program.specs.Program as Program
 use Rattle.program.specs.Printing as Printing
 
+unfoldable pub runUtf8 : Unit {0}
+unfolding Utf8.isIn Utf8.isScalar Utf8.encode Utf8.encoded Utf8.wellFormed Utf8.fits Utf8.widthIn Utf8.charAt Utf8.brokenFrom Utf8.firstBroken Utf8.isInside Utf8.boundary Utf8.brokenAt
+runUtf8 = tt
+
 unfoldable pub runBytes : Unit {0}
-unfolding Bytes.bytes Bytes.between Bytes.isSpace Bytes.isLetter Bytes.isDigit Bytes.classOf Bytes.classesFrom Bytes.classTable Bytes.trimStart Bytes.trimEnd Bytes.trim Bytes.sameBytes Bytes.firstIs Bytes.firstWide Bytes.wideAt
+unfolding Bytes.bytes Bytes.between Bytes.isSpace Bytes.isLetter Bytes.isDigit Bytes.classOf Bytes.classesFrom Bytes.classTable Bytes.whiteSpaceCodes Bytes.whiteSpace Bytes.startsWith Bytes.leading Bytes.stripFrom Bytes.strip Bytes.trimStart Bytes.trimEnd Bytes.trim Bytes.sameBytes Bytes.firstIs Bytes.isAmong
 runBytes = tt
 
 unfoldable pub runOutput : Unit {0}
@@ -52,7 +57,7 @@ unfolding Commands.formWidth Commands.u16 Commands.command Commands.absentAt Com
 runCommands = tt
 
 unfoldable pub runTokens : Unit {0}
-unfolding Tokens.textOf Tokens.isToken Tokens.endTokens Tokens.withToken Tokens.tokensFrom Tokens.tokens Tokens.nextAt Tokens.endAt
+unfolding Tokens.textOf Tokens.endTokens Tokens.withToken Tokens.isToken Tokens.tokensFrom Tokens.tokens Tokens.nextAt Tokens.endAt
 runTokens = tt
 
 unfoldable pub runCheck : Unit {0}
@@ -152,5 +157,5 @@ unfolding Printing.shown
 runPrinting = tt
 
 unfoldable pub run : Unit {0}
-unfolding runBytes runOutput runForms runFields runCommands runTokens runCheck runReading runSet runAbove runMeaning runHelpers runGetDec runTy runPat runExp runSigExp runStrExp runDecOne runWalk runEvents runUnbounded runVerdict runLookup runWalkFirst runDemands runDoc runLines runProgram runPrinting
+unfolding runUtf8 runBytes runOutput runForms runFields runCommands runTokens runCheck runReading runSet runAbove runMeaning runHelpers runGetDec runTy runPat runExp runSigExp runStrExp runDecOne runWalk runEvents runUnbounded runVerdict runLookup runWalkFirst runDemands runDoc runLines runProgram runPrinting
 run = tt

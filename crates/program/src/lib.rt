@@ -82,7 +82,7 @@ pub fn numbers_of(answer: Answer) -> Numbers
     match answer {
         Answer::Accepted(m) => measured(0, m),
         Answer::TooLong => refused(1, 0),
-        Answer::NotAscii(place) => refused(2, place),
+        Answer::NotUtf8(place) => refused(2, place),
         Answer::Malformed(place) => refused(3, place),
         Answer::TooDeep(place) => refused(4, place),
         Answer::Syntax => refused(5, 0),

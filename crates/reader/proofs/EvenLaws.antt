@@ -19,7 +19,7 @@ tiling-if : (b : Bool) (x y : Tiling) → EvenTiling x → EvenTiling y → Even
 tiling-if true x y h k = h
 tiling-if false x y h k = k
 
-module _ (size : ℕ) (rec : List ℕ) where
+module _ (boundary : ℕ → Bool) (size : ℕ) (rec : List ℕ) where
   end-even : (start at : ℕ) → EvenTiling (endTokens size rec start at)
   unfolding endTokens
   end-even start at = tiling-if (eqb start size) (tiled _ at) (untiled at) (refl, refl) tt
@@ -29,18 +29,18 @@ module _ (size : ℕ) (rec : List ℕ) where
   with-even start at (tiled ts end) h = (ap suc (h .0), ap suc (h .1))
   with-even start at (untiled place) h = tt
 
-  from-even : (n start at : ℕ) → EvenTiling (tokensFrom size rec n start at)
+  from-even : (n start at : ℕ) → EvenTiling (tokensFrom boundary size rec n start at)
   unfolding tokensFrom
   from-even zero start at = tiling-if (eqb (getD rec at 0) 0x05) (untiled at) (endTokens size rec start at) tt (end-even start at)
   from-even (suc n) start at =
-      let more : Tiling = withToken size rec start at (tokensFrom size rec n (start + u16 rec (at + 2)) (at + 4)) in
-      tiling-if (eqb (getD rec at 0) 0x05) (elim (isToken size rec start at) [ true ↦ more | false ↦ untiled at ]) (endTokens size rec start at)
-      (tiling-if (isToken size rec start at) more (untiled at) (with-even start at (tokensFrom size rec n (start + u16 rec (at + 2)) (at + 4)) (from-even n (start + u16 rec (at + 2)) (at + 4))) tt)
+      let more : Tiling = withToken size rec start at (tokensFrom boundary size rec n (start + u16 rec (at + 2)) (at + 4)) in
+      tiling-if (eqb (getD rec at 0) 0x05) (elim (isToken boundary size rec start at) [ true ↦ more | false ↦ untiled at ]) (endTokens size rec start at)
+      (tiling-if (isToken boundary size rec start at) more (untiled at) (with-even start at (tokensFrom boundary size rec n (start + u16 rec (at + 2)) (at + 4)) (from-even n (start + u16 rec (at + 2)) (at + 4))) tt)
       (end-even start at)
 
-  tokens-even : EvenTiling (tokens size rec)
+  tokens-even : EvenTiling (tokens boundary size rec)
   unfolding tokens
   tokens-even = from-even maxTokens 0 0
 
-pub tiled-even : (size : ℕ) (rec : List ℕ) (ts : Tokens) (tree : ℕ) → tokens size rec ≡ tiled ts tree → Even ts
-tiled-even size rec ts tree e = let even : EvenTiling (tiled ts tree) = subst EvenTiling e (tokens-even size rec) in even
+pub tiled-even : (boundary : ℕ → Bool) (size : ℕ) (rec : List ℕ) (ts : Tokens) (tree : ℕ) → tokens boundary size rec ≡ tiled ts tree → Even ts
+tiled-even boundary size rec ts tree e = let even : EvenTiling (tiled ts tree) = subst EvenTiling e (tokens-even boundary size rec) in even

@@ -8,14 +8,14 @@ use native.Mathlib.Omega.{arith}
 use lib.ListN.{length, take}
 use lib.Dec.{leb}
 use borrow.Author.Tests.{le-leb, lt-leb}
-use Rattle.text.specs.declared.Wide.{Wide}
-use Rattle.text.specs.Bytes.{firstWide, wideAt}
+use Rattle.text.specs.declared.Broken.{Broken}
+use Rattle.text.specs.Utf8.{firstBroken, boundary, brokenAt}
 use Rattle.reader.specs.declared.tokens.Tiled as Tiled
 use Rattle.reader.specs.declared.tokens.Tiled.the-variants as Tokens
 use Rattle.reader.specs.declared.tree.Checked as Checked
 use Rattle.reader.specs.declared.tree.Checked.the-variants as Tree
 use Rattle.reader.specs.declared.Reading.{Reading}
-use Rattle.reader.specs.declared.Reading.the-variants.{Sheet, TooLong, NotAscii, Malformed, TooDeep}
+use Rattle.reader.specs.declared.Reading.the-variants.{Sheet, TooLong, NotUtf8, Malformed, TooDeep}
 use Rattle.reader.specs.Tokens.{Tokens, countOf, Tiling, tiled, untiled, tokens, tokensIn, tilingIn, Tiles}
 use Rattle.reader.specs.Check as Check
 use Rattle.reader.specs.Check.{treeCheck}
@@ -24,32 +24,32 @@ use Rattle.reader.proofs.EvenLaws.{tiled-even}
 use Rattle.reader.specs.Reading.{Read, refused, sheet, maxText, maxRecord, readTree, readRecord, readText, read, numberOf, placeOf, RecordReads, Reads}
 
 -- ---- 3 and 4
-module _ {size : ℕ} {rec kinds starts lens : List ℕ} {t : Tiled.Tiled} (s : Tiles size rec kinds starts lens t) where
-  pub record-untiled : {place : ℕ} → t ≡ Tokens.Untiled place → RecordReads size rec kinds starts lens (Malformed place)
+module _ {boundary : ℕ → Bool} {size : ℕ} {rec kinds starts lens : List ℕ} {t : Tiled.Tiled} (s : Tiles boundary size rec kinds starts lens t) where
+  pub record-untiled : {place : ℕ} → t ≡ Tokens.Untiled place → RecordReads boundary size rec kinds starts lens (Malformed place)
   unfolding readRecord numberOf placeOf
   record-untiled {place} e =
-      let f : tokens size rec ≡ untiled place = sym (s .is) ∙ ap (λ (x : Tiled.Tiled). tilingIn x kinds starts lens) e in
+      let f : tokens boundary size rec ≡ untiled place = sym (s .is) ∙ ap (λ (x : Tiled.Tiled). tilingIn x kinds starts lens) e in
       record { is = rw (f, readRecord); counts = tt }
 
   module _ {count tree : ℕ} (e : t ≡ Tokens.Tiled count tree) {r : Checked.Checked} (u : TreeEnd rec count tree r) where
-    tiles : tokens size rec ≡ tiled (tokensIn count kinds starts lens) tree
+    tiles : tokens boundary size rec ≡ tiled (tokensIn count kinds starts lens) tree
     tiles = sym (s .is) ∙ ap (λ (x : Tiled.Tiled). tilingIn x kinds starts lens) e
 
     counts : (length (take count kinds) ≡ count) × (count ≤ 4096)
     counts = rw e at (s .counts)
 
     tree-says : treeCheck rec (length (take count starts)) tree ≡ checkedIn r
-    tree-says = rw (tiled-even size rec (tokensIn count kinds starts lens) tree tiles .0 ∙ counts .0) (sym (u .is))
+    tree-says = rw (tiled-even boundary size rec (tokensIn count kinds starts lens) tree tiles .0 ∙ counts .0) (sym (u .is))
 
-    pub record-sheet : {end : ℕ} → r ≡ Tree.Ok end → RecordReads size rec kinds starts lens (Sheet count tree)
+    pub record-sheet : {end : ℕ} → r ≡ Tree.Ok end → RecordReads boundary size rec kinds starts lens (Sheet count tree)
     unfolding readRecord readTree
     record-sheet f = record { is = rw (tiles, readRecord, tree-says ∙ ap checkedIn f, readTree); counts = counts }
 
-    pub record-malformed : {place : ℕ} → r ≡ Tree.Malformed place → RecordReads size rec kinds starts lens (Malformed place)
+    pub record-malformed : {place : ℕ} → r ≡ Tree.Malformed place → RecordReads boundary size rec kinds starts lens (Malformed place)
     unfolding readRecord readTree numberOf placeOf
     record-malformed f = record { is = rw (tiles, readRecord, tree-says ∙ ap checkedIn f, readTree); counts = tt }
 
-    pub record-deep : {place : ℕ} → r ≡ Tree.TooDeep place → RecordReads size rec kinds starts lens (TooDeep place)
+    pub record-deep : {place : ℕ} → r ≡ Tree.TooDeep place → RecordReads boundary size rec kinds starts lens (TooDeep place)
     unfolding readRecord readTree numberOf placeOf
     record-deep f = record { is = rw (tiles, readRecord, tree-says ∙ ap checkedIn f, readTree); counts = tt }
 
@@ -69,48 +69,48 @@ module _ (text rec kinds starts lens : List ℕ) where
       unfolding read
       short = rw (le-leb (length text) 32768 a, le-leb (length rec) 65536 b, read)
 
-      text-wide : {place : ℕ} → firstWide 0 text ≡ some place → refused 2 place ≡ readText text rec
+      text-broken : {place : ℕ} → firstBroken text ≡ some place → refused 2 place ≡ readText text rec
       unfolding readText
-      text-wide f = rw (f, readText)
+      text-broken f = rw (f, readText)
 
-      text-ascii : firstWide 0 text ≡ none → readRecord rec (length text) ≡ readText text rec
+      text-whole : firstBroken text ≡ none → readRecord rec (boundary text) (length text) ≡ readText text rec
       unfolding readText
-      text-ascii f = rw (f, readText)
+      text-whole f = rw (f, readText)
 
-      pub not-ascii : {w : Wide} {place : ℕ} → wideAt w ≡ firstWide 0 text → w ≡ Wide.At place → Reads text rec kinds starts lens (NotAscii place)
-      unfolding readText wideAt numberOf placeOf
-      not-ascii {w} {place} s e =
-          let f : firstWide 0 text ≡ some place = sym s ∙ ap wideAt e in
-          record { is = text-wide f ∙ short; counts = tt }
+      pub not-utf8 : {w : Broken} {place : ℕ} → brokenAt w ≡ firstBroken text → w ≡ Broken.At place → Reads text rec kinds starts lens (NotUtf8 place)
+      unfolding readText brokenAt numberOf placeOf
+      not-utf8 {w} {place} s e =
+          let f : firstBroken text ≡ some place = sym s ∙ ap brokenAt e in
+          record { is = text-broken f ∙ short; counts = tt }
 
-      pub ascii : {w : Wide} {r : Reading} → wideAt w ≡ firstWide 0 text → w ≡ Wide.Nowhere → RecordReads (length text) rec kinds starts lens r → Reads text rec kinds starts lens r
-      unfolding readText wideAt
-      ascii {w} {r} s e u =
-          let f : firstWide 0 text ≡ none = sym s ∙ ap wideAt e in
-          record { is = u .is ∙ text-ascii f ∙ short; counts = u .counts }
+      pub utf8 : {w : Broken} {r : Reading} → brokenAt w ≡ firstBroken text → w ≡ Broken.Nowhere → RecordReads (boundary text) (length text) rec kinds starts lens r → Reads text rec kinds starts lens r
+      unfolding readText brokenAt
+      utf8 {w} {r} s e u =
+          let f : firstBroken text ≡ none = sym s ∙ ap brokenAt e in
+          record { is = u .is ∙ text-whole f ∙ short; counts = u .counts }
 
 -- By cases: a refusal's number is not 0; a sheet's tokens are those of its record, and its tree passes the check.
 module _ (P : Read → Type 0) (text rec : List ℕ) (refuses : (number place : ℕ) → (number ≡ 0 → ⊥) → P (refused number place))
-    (reads : (ts : Tokens) (tree end : ℕ) → tokens (length text) rec ≡ tiled ts tree → treeCheck rec (countOf ts) tree ≡ Check.ok end → P (sheet ts tree)) where
-  tree-cases : (ts : Tokens) (tree : ℕ) → tokens (length text) rec ≡ tiled ts tree → (c : Check.Checked) → treeCheck rec (countOf ts) tree ≡ c → P (readTree rec ts tree)
+    (reads : (ts : Tokens) (tree end : ℕ) → tokens (boundary text) (length text) rec ≡ tiled ts tree → treeCheck rec (countOf ts) tree ≡ Check.ok end → P (sheet ts tree)) where
+  tree-cases : (ts : Tokens) (tree : ℕ) → tokens (boundary text) (length text) rec ≡ tiled ts tree → (c : Check.Checked) → treeCheck rec (countOf ts) tree ≡ c → P (readTree rec ts tree)
   unfolding readTree
   tree-cases ts tree t (Check.ok end) e = rw (e, readTree) (reads ts tree end t e)
   tree-cases ts tree t (Check.malformed place) e = rw (e, readTree) (refuses 3 place (λ z. omega (arith, z)))
   tree-cases ts tree t (Check.tooDeep place) e = rw (e, readTree) (refuses 4 place (λ z. omega (arith, z)))
 
-  record-cases : (t : Tiling) → tokens (length text) rec ≡ t → P (readRecord rec (length text))
+  record-cases : (t : Tiling) → tokens (boundary text) (length text) rec ≡ t → P (readRecord rec (boundary text) (length text))
   unfolding readRecord
   record-cases (tiled ts tree) e = rw (e, readRecord) (tree-cases ts tree e (treeCheck rec (countOf ts) tree) refl)
   record-cases (untiled place) e = rw (e, readRecord) (refuses 3 place (λ z. omega (arith, z)))
 
-  text-cases : (o : Option ℕ) → firstWide 0 text ≡ o → P (readText text rec)
+  text-cases : (o : Option ℕ) → firstBroken text ≡ o → P (readText text rec)
   unfolding readText
-  text-cases none e = rw (e, readText) (record-cases (tokens (length text) rec) refl)
+  text-cases none e = rw (e, readText) (record-cases (tokens (boundary text) (length text) rec) refl)
   text-cases (some place) e = rw (e, readText) (refuses 2 place (λ z. omega (arith, z)))
 
   length-cases : (b : Bool) → (leb (length text) maxText && leb (length rec) maxRecord) ≡ b → P (read text rec)
   unfolding read
-  length-cases true e = rw (e, read) (text-cases (firstWide 0 text) refl)
+  length-cases true e = rw (e, read) (text-cases (firstBroken text) refl)
   length-cases false e = rw (e, read) (refuses 1 0 (λ z. omega (arith, z)))
 
   pub read-cases : P (read text rec)

@@ -6,11 +6,11 @@ use mathlib.Core.Bool.{Bool, true, false, _&&_}
 use mathlib.Core.Option.{Option, none, some}
 use lib.ListN.{length, take}
 use lib.Dec.{leb}
-use Rattle.text.specs.Bytes.{firstWide}
+use Rattle.text.specs.Utf8.{firstBroken, boundary}
 use Rattle.reader.specs.Tokens.{Tokens, countOf, Tiling, tiled, untiled, tokens, tokensIn, maxTokens}
 use Rattle.reader.specs.Check.{Checked, ok, malformed, tooDeep, treeCheck}
 use Rattle.reader.specs.declared.Reading.{Reading}
-use Rattle.reader.specs.declared.Reading.the-variants.{Sheet, TooLong, NotAscii, Malformed, TooDeep}
+use Rattle.reader.specs.declared.Reading.the-variants.{Sheet, TooLong, NotUtf8, Malformed, TooDeep}
 
 abbrev pub maxText : ℕ
 maxText = 32768
@@ -30,13 +30,13 @@ module _ (rec : List ℕ) where
       elim (treeCheck rec (countOf ts) at)
       [ ok end ↦ sheet ts at | malformed place ↦ refused 3 place | tooDeep place ↦ refused 4 place ]
 
-  -- Over the length of the text.
-  unfoldable pub readRecord : ℕ → Read
-  readRecord size = elim (tokens size rec) [ tiled ts at ↦ readTree ts at | untiled place ↦ refused 3 place ]
+  -- Over the test for an offset of the text that is not inside a character, and the length of the text.
+  unfoldable pub readRecord : (ℕ → Bool) → ℕ → Read
+  readRecord boundary size = elim (tokens boundary size rec) [ tiled ts at ↦ readTree ts at | untiled place ↦ refused 3 place ]
 
 module _ (text : List ℕ) (rec : List ℕ) where
   unfoldable pub readText : Read
-  readText = elim (firstWide 0 text) [ none ↦ readRecord rec (length text) | some place ↦ refused 2 place ]
+  readText = elim (firstBroken text) [ none ↦ readRecord rec (boundary text) (length text) | some place ↦ refused 2 place ]
 
   unfoldable pub read : Read
   read = elim (leb (length text) maxText && leb (length rec) maxRecord) [ true ↦ readText | false ↦ refused 1 0 ]
@@ -45,7 +45,7 @@ module _ (text : List ℕ) (rec : List ℕ) where
 unfoldable pub numberOf : Reading → ℕ
 numberOf (Sheet count tree) = 0
 numberOf TooLong = 1
-numberOf (NotAscii at) = 2
+numberOf (NotUtf8 at) = 2
 numberOf (Malformed at) = 3
 numberOf (TooDeep at) = 4
 
@@ -53,7 +53,7 @@ numberOf (TooDeep at) = 4
 unfoldable pub placeOf : Reading → ℕ
 placeOf (Sheet count tree) = 0
 placeOf TooLong = 0
-placeOf (NotAscii at) = at
+placeOf (NotUtf8 at) = at
 placeOf (Malformed at) = at
 placeOf (TooDeep at) = at
 
@@ -61,7 +61,7 @@ placeOf (TooDeep at) = at
 abbrev pub readIn : Reading → List ℕ → List ℕ → List ℕ → Read
 readIn (Sheet count tree) kinds starts lens = sheet (tokensIn count kinds starts lens) tree
 readIn TooLong kinds starts lens = refused (numberOf TooLong) (placeOf TooLong)
-readIn (NotAscii at) kinds starts lens = refused (numberOf (NotAscii at)) (placeOf (NotAscii at))
+readIn (NotUtf8 at) kinds starts lens = refused (numberOf (NotUtf8 at)) (placeOf (NotUtf8 at))
 readIn (Malformed at) kinds starts lens = refused (numberOf (Malformed at)) (placeOf (Malformed at))
 readIn (TooDeep at) kinds starts lens = refused (numberOf (TooDeep at)) (placeOf (TooDeep at))
 
@@ -69,13 +69,13 @@ readIn (TooDeep at) kinds starts lens = refused (numberOf (TooDeep at)) (placeOf
 abbrev pub counted : Reading → List ℕ → Type 0
 counted (Sheet count tree) kinds = (length (take count kinds) ≡ count) × (count ≤ maxTokens)
 counted TooLong kinds = Unit {0}
-counted (NotAscii at) kinds = Unit {0}
+counted (NotUtf8 at) kinds = Unit {0}
 counted (Malformed at) kinds = Unit {0}
 counted (TooDeep at) kinds = Unit {0}
 
 -- Contract: refusals 3 and 4.
-pub record RecordReads (size : ℕ) (rec kinds starts lens : List ℕ) (r : Reading) : Type 0 where
-  pub is : readIn r kinds starts lens ≡ readRecord rec size
+pub record RecordReads (boundary : ℕ → Bool) (size : ℕ) (rec kinds starts lens : List ℕ) (r : Reading) : Type 0 where
+  pub is : readIn r kinds starts lens ≡ readRecord rec boundary size
   pub counts : counted r kinds
 
 -- Contract: refusals 1 to 4.

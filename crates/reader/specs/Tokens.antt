@@ -46,15 +46,6 @@ pub data Tiling : Type 0 where
 
 -- Over the length of the text and the record.
 module _ (size : ℕ) (rec : List ℕ) where
-  -- 0x05 kind(u8) length(u16) at the offset: a token that starts at the text's offset start.
-  -- Its kind is known, its length at least 1, and it does not reach past the text's end.
-  unfoldable pub isToken : ℕ → ℕ → Bool
-  isToken start at =
-      command rec 0x05 4 at
-      && leb (getD rec (at + 1) 0) lastKind
-      && leb 1 (u16 rec (at + 2))
-      && leb (start + u16 rec (at + 2)) size
-
   -- After the last token: the text is tiled to its end, or the place is where the tokens end.
   unfoldable pub endTokens : ℕ → ℕ → Tiling
   endTokens start at = elim (eqb start size) [ true ↦ tiled noTokens at | false ↦ untiled at ]
@@ -63,25 +54,38 @@ module _ (size : ℕ) (rec : List ℕ) where
   withToken start at (tiled ts end) = tiled (token∷ (getD rec (at + 1) 0) start (u16 rec (at + 2)) ts) end
   withToken start at (untiled place) = untiled place
 
+-- Over the test for an offset of the text that is not inside a character, the length of the text and the record.
+module _ (boundary : ℕ → Bool) (size : ℕ) (rec : List ℕ) where
+  -- 0x05 kind(u8) length(u16) at the offset: a token that starts at the text's offset start.
+  -- Its kind is known, its length at least 1, and it does not reach past the text's end. It does not end inside a character; so none starts
+  -- inside one, the first starting at 0 and each other where the one before it ends.
+  unfoldable pub isToken : ℕ → ℕ → Bool
+  isToken start at =
+      command rec 0x05 4 at
+      && leb (getD rec (at + 1) 0) lastKind
+      && leb 1 (u16 rec (at + 2))
+      && leb (start + u16 rec (at + 2)) size
+      && boundary (start + u16 rec (at + 2))
+
   -- At most n more tokens, the next at the text's offset start; their commands from the record's offset at.
   unfoldable pub tokensFrom : ℕ → ℕ → ℕ → Tiling
-  tokensFrom zero start at = elim (eqb (getD rec at 0) 0x05) [ true ↦ untiled at | false ↦ endTokens start at ]
+  tokensFrom zero start at = elim (eqb (getD rec at 0) 0x05) [ true ↦ untiled at | false ↦ endTokens size rec start at ]
   tokensFrom (suc n) start at =
       elim (eqb (getD rec at 0) 0x05) [
         | true ↦ elim (isToken start at)
-            [ true ↦ withToken start at (tokensFrom n (start + u16 rec (at + 2)) (at + 4)) | false ↦ untiled at ]
-        | false ↦ endTokens start at
+            [ true ↦ withToken size rec start at (tokensFrom n (start + u16 rec (at + 2)) (at + 4)) | false ↦ untiled at ]
+        | false ↦ endTokens size rec start at
       ]
 
   unfoldable pub tokens : Tiling
   tokens = tokensFrom maxTokens 0 0
 
 -- What the command at an offset says of the next token.
-module _ (size : ℕ) (rec : List ℕ) where
+module _ (boundary : ℕ → Bool) (size : ℕ) (rec : List ℕ) where
   unfoldable pub nextAt : ℕ → ℕ → Next
   nextAt start at =
       elim (eqb (getD rec at 0) 0x05) [
-        | true ↦ elim (isToken size rec start at)
+        | true ↦ elim (isToken boundary size rec start at)
             [ true ↦ Following.Is (getD rec (at + 1) 0) (u16 rec (at + 2)) | false ↦ Following.Malformed ]
         | false ↦ Following.End
       ]
@@ -110,6 +114,6 @@ abbrev pub Long : List ℕ → List ℕ → List ℕ → Type 0
 Long kinds starts lens = (length kinds ≡ maxTokens) × (length starts ≡ maxTokens) × (length lens ≡ maxTokens)
 
 -- Contract: the tokens of a record stand in the tables.
-pub record Tiles (size : ℕ) (rec kinds starts lens : List ℕ) (r : Code.Tiled) : Type 0 where
-  pub is : tilingIn r kinds starts lens ≡ tokens size rec
+pub record Tiles (boundary : ℕ → Bool) (size : ℕ) (rec kinds starts lens : List ℕ) (r : Code.Tiled) : Type 0 where
+  pub is : tilingIn r kinds starts lens ≡ tokens boundary size rec
   pub counts : counted r kinds

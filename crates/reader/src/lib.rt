@@ -4,14 +4,14 @@ pub mod tokens; // tokens.rt: the tokens
 mod grammar; // grammar.rt: the fields of every form, group and choice
 pub mod tree; // tree.rt: the record check behind the tokens
 
-use text::Wide;
-use text::first_wide;
+use text::Broken;
+use text::first_broken;
 use tokens::Tiled;
 use tokens::read_tokens;
 use tree::Checked;
 use tree::tree_end;
 ghost use mathlib.Core.Path.{_≡_};
-ghost use Rattle.text.specs.Bytes.{firstWide};
+ghost use Rattle.text.specs.Utf8.{boundary};
 ghost use Rattle.reader.specs.Commands.{numberIn};
 ghost use Rattle.reader.specs.Reading.{RecordReads, Reads};
 
@@ -21,8 +21,8 @@ pub enum Reading {
     Sheet { count: usize, tree: usize },
     // The text or the record is too long.
     TooLong,
-    // The offset in the text of the first byte of 128 or more.
-    NotAscii(usize),
+    // The offset in the text of the first byte of the first broken character.
+    NotUtf8(usize),
     // The offset in the record of the first command that is malformed.
     Malformed(usize),
     // The offset in the record of the 201st form inside one another.
@@ -35,15 +35,16 @@ const MAX_RECORD: usize = 65536;
 
 // Refusals 3 and 4, over a text of this length.
 fn read_record(
+    text: &[u8],
     size: u16,
     rec: &[u8],
     kinds: &mut [u8; 4096],
     starts: &mut [u16; 4096],
     lens: &mut [u16; 4096],
 ) -> Reading
-    ensures { λ r. ⌜ RecordReads size (now (rec .entry)) (now (kinds .exit)) (now (starts .exit)) (now (lens .exit)) r ⌝ }
+    ensures { λ r. ⌜ RecordReads (boundary (now (text .entry))) size (now (rec .entry)) (now (kinds .exit)) (now (starts .exit)) (now (lens .exit)) r ⌝ }
 {
-    let tokens = read_tokens(size, rec, kinds, starts, lens);
+    let tokens = read_tokens(text, size, rec, kinds, starts, lens);
     match tokens {
         Tiled::Tiled { count, tree } => {
             let found = tree_end(rec, count, tree);
@@ -73,8 +74,8 @@ pub fn check(
     if MAX_RECORD < rec.len() {
         return Reading::TooLong;
     }
-    if let Wide::At(place) = first_wide(text) {
-        return Reading::NotAscii(place);
+    if let Broken::At(place) = first_broken(text) {
+        return Reading::NotUtf8(place);
     }
-    read_record(text.len() as u16, rec, kinds, starts, lens)
+    read_record(text, text.len() as u16, rec, kinds, starts, lens)
 }

@@ -9,7 +9,7 @@ use lib.ListN.{length, getD, take, drop}
 use lib.Seq.{take-at}
 use lib.Dec.{leb, eqb}
 use borrow.Author.Tests.{leb-true}
-use Rattle.text.specs.Bytes.{firstWide}
+use Rattle.text.specs.Utf8.{firstBroken, boundary}
 use Rattle.text.specs.Output.{Plain, plain, Reply, accepted}
 use Rattle.text.proofs.OutputLaws.{fitted-cases}
 use Rattle.reader.specs.Tokens.{Tokens, tiled}
@@ -47,7 +47,7 @@ module _ (text : List ℕ) where
 
   read-known : Known (read text)
   unfolding read
-  read-known = go (leb (length text) 32768) (firstWide 0 text)
+  read-known = go (leb (length text) 32768) (firstBroken text)
     where
       go : (t : Bool) (w : Option ℕ) → Known (elim t as (λ x. Scanned) [
         | true ↦ elim w as (λ x. Scanned) [ none ↦ limited (scanText text) | some place ↦ refused 2 place ]
@@ -86,14 +86,14 @@ accepts text out e = go (read text) refl (read-known text)
 
 -- What was written, in front of a part of a record that does not start with a token, is read as the text's list of tokens.
 pub reads-back : (text out : List ℕ) → scan text out .verdict .number ≡ 0 → (tree : List ℕ) → (getD tree 0 0 ≡ 5 → ⊥)
-    → (ts : Tokens) × ListOf text ts × (Reading.tokens (length text) (take (scan text out .written) (scan text out .out) ++ tree) ≡ tiled ts (scan text out .written))
+    → (ts : Tokens) × ListOf text ts × (Reading.tokens (boundary text) (length text) (take (scan text out .written) (scan text out .out) ++ tree) ≡ tiled ts (scan text out .written))
 reads-back text out e tree other =
     let a = accepts text out e in
     let bytes = commands (a .ts .kinds) (a .ts .lengths) in (
       a .ts,
       a .list,
       rw (a .is)
-          (ap (λ (b : List ℕ). Reading.tokens (length text) (b ++ tree)) (take-at bytes (drop (length bytes) out) (length bytes) refl)
+          (ap (λ (b : List ℕ). Reading.tokens (boundary text) (length text) (b ++ tree)) (take-at bytes (drop (length bytes) out) (length bytes) refl)
           ∙ tokens-read (a .list) (a .few) tree other
           ∙ ap (tiled (a .ts)) (sym (length-list (a .list)))),
     )

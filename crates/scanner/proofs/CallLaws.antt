@@ -1,22 +1,21 @@
 -- Laws of the answers: each case of `tables` and of `scan`. Assumes nothing.
-use Prim.Native.Nat.{ℕ, suc, _*_, _≤_, _<_}
+use Prim.Native.Nat.{ℕ, _*_, _≤_, _<_}
 use native.Mathlib.Omega.{arith}
 use mathlib.Core.Path.{_≡_, refl, sym, subst, ap, _∙_}
-use mathlib.Core.List.{List, [], _∷_, _++_}
-use mathlib.Core.Option.{none}
-use lib.ListN.{length, getD, take, drop}
+use mathlib.Core.List.{List, _++_}
+use lib.ListN.{length, take, drop}
 use lib.Seq.{length-take-le}
 use borrow.Author.Tests.{le-leb, lt-leb}
-use Rattle.text.specs.Bytes.{firstWide, wideAt}
-use Rattle.text.specs.declared.Wide.{Wide}
-use Rattle.text.specs.declared.Wide.the-variants.{At, Nowhere}
+use Rattle.text.specs.Utf8.{firstBroken, brokenAt}
+use Rattle.text.specs.declared.Broken.{Broken}
+use Rattle.text.specs.declared.Broken.the-variants.{At, Nowhere}
 use Rattle.text.specs.Output.{plain, declined, fittedPlain}
 use Rattle.text.proofs.OutputLaws.{fitted-room, fitted-short}
 use Rattle.reader.specs.Tokens.{Tokens}
 use Rattle.scanner.specs.Scan.{refused, tokens, read, commands, scan}
 use Rattle.scanner.specs.Answers.{numberOf, placeOf, verdictOf, writtenOf, replyOf, Fills, Reads}
 use Rattle.scanner.specs.declared.Refusal.{Refusal}
-use Rattle.scanner.specs.declared.Refusal.the-variants.{TooLong, NotAscii}
+use Rattle.scanner.specs.declared.Refusal.the-variants.{TooLong, NotUtf8}
 use Rattle.scanner.specs.declared.Tabled.{Tabled}
 use Rattle.scanner.specs.declared.Tabled.the-variants.{Tokens as Counted, Refused}
 use Rattle.scanner.specs.declared.Scanned.the-variants as Case
@@ -29,14 +28,14 @@ module _ {text kinds starts lens : List ℕ} where
   reads-long h = record { is = rw (lt-leb (length text) 32768 h, read); counts = tt }
 
   module _ (h : length text ≤ 32768) where
-    pub reads-wide : {w : Wide} {place : ℕ} → wideAt w ≡ firstWide 0 text → w ≡ At place → Reads text kinds starts lens (Refused (NotAscii place))
-    unfolding read numberOf placeOf wideAt
-    reads-wide e f = let wide = rw f at e in record { is = rw (le-leb (length text) 32768 h, read, ← wide); counts = tt }
+    pub reads-broken : {w : Broken} {place : ℕ} → brokenAt w ≡ firstBroken text → w ≡ At place → Reads text kinds starts lens (Refused (NotUtf8 place))
+    unfolding read numberOf placeOf brokenAt
+    reads-broken e f = let broken = rw f at e in record { is = rw (le-leb (length text) 32768 h, read, ← broken); counts = tt }
 
-    pub reads-filled : {w : Wide} {r : Tabled} → wideAt w ≡ firstWide 0 text → w ≡ Nowhere → Fills text kinds starts lens r → Reads text kinds starts lens r
-    unfolding read wideAt
+    pub reads-filled : {w : Broken} {r : Tabled} → brokenAt w ≡ firstBroken text → w ≡ Nowhere → Fills text kinds starts lens r → Reads text kinds starts lens r
+    unfolding read brokenAt
     reads-filled e f s =
-        let narrow = rw f at e in record { is = s .is ∙ rw (le-leb (length text) 32768 h, read, ← narrow); counts = s .counts }
+        let whole = rw f at e in record { is = s .is ∙ rw (le-leb (length text) 32768 h, read, ← whole); counts = s .counts }
 
 -- ---- the call
 pub scan-tokens : (text out : List ℕ) {ts : Tokens} → tokens ts ≡ read text → fittedPlain (commands (ts .kinds) (ts .lengths)) out ≡ scan text out
@@ -87,9 +86,3 @@ module _ {text kinds starts lens : List ℕ} {r : Tabled} (s : Reads text kinds 
     scan-written out h f =
         rw (f, counted-kinds, ← size)
         (sym (fitted-room (plain 0 0) (plain 8 0) bytes out (rw size h)) ∙ scan-tokens text out (counts .is))
-
--- A text without a byte of 128 or more.
-pub none-wide : (k : ℕ) (s : List ℕ) → ((i : ℕ) → i < length s → getD s i 0 < 128) → firstWide k s ≡ none
-unfolding firstWide
-none-wide k [] h = refl
-none-wide k (b ∷ s) h = rw (firstWide, lt-leb 128 b (h 0 (omega arith))) (none-wide (suc k) s (λ i l. h (suc i) (omega (arith, l))))

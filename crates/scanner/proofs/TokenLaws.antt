@@ -292,7 +292,7 @@ token-digit b f e t =
 abbrev begins : ℕ → Bool
 begins b = startsName b || isSymbol b || isOneOf (bytes "()[]{},;._\"") b
 
-token-none : (b : ℕ) → isSpace b ≡ false → startsName b ≡ false → isDigit b ≡ false → isSymbol b ≡ false → isOneOf (bytes "()[]{},;._\"") b ≡ false → (t : List ℕ) → isToken (b ∷ t) ≡ false
+pub token-none : (b : ℕ) → isSpace b ≡ false → startsName b ≡ false → isDigit b ≡ false → isSymbol b ≡ false → isOneOf (bytes "()[]{},;._\"") b ≡ false → (t : List ℕ) → isToken (b ∷ t) ≡ false
 unfolding isToken wordsPass reservedCore reservedModules bytes firstIs isSpace isLetter isDigit isSymbol isOneOf between isReserved
 token-none b p a d y o t =
     let n : begins b ≡ false = ap₂ (λ (u v : Bool). u || v) (ap₂ (λ (u v : Bool). u || v) a y) o in

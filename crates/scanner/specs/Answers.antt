@@ -7,7 +7,7 @@ use Rattle.text.specs.Output.{Plain, plain, Reply}
 use Rattle.reader.specs.Tokens.{tokensIn, maxTokens, Long}
 use Rattle.scanner.specs.Scan.{Scanned, refused, tokens, limited, scanText, read}
 use Rattle.scanner.specs.declared.Refusal.{Refusal}
-use Rattle.scanner.specs.declared.Refusal.the-variants.{TooLong, NotAscii, OpenComment, NoString, NoToken}
+use Rattle.scanner.specs.declared.Refusal.the-variants.{TooLong, NotUtf8, OpenComment, NoString, NoToken}
 use Rattle.scanner.specs.declared.Tabled.{Tabled}
 use Rattle.scanner.specs.declared.Tabled.the-variants as Table
 use Rattle.scanner.specs.declared.Scanned as Code
@@ -16,14 +16,14 @@ use Rattle.scanner.specs.declared.Scanned.the-variants as Case
 -- 02's number for each refusal.
 unfoldable pub numberOf : Refusal → ℕ
 numberOf TooLong = 1
-numberOf (NotAscii at) = 2
+numberOf (NotUtf8 at) = 2
 numberOf (OpenComment at) = 10
 numberOf (NoString at) = 11
 numberOf (NoToken at) = 12
 
 unfoldable pub placeOf : Refusal → ℕ
 placeOf TooLong = 0
-placeOf (NotAscii at) = at
+placeOf (NotUtf8 at) = at
 placeOf (OpenComment at) = at
 placeOf (NoString at) = at
 placeOf (NoToken at) = at

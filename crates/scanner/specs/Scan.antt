@@ -5,7 +5,7 @@ use mathlib.Core.Bool.{true, false}
 use mathlib.Core.Option.{none, some}
 use lib.ListN.{length, take}
 use lib.Dec.{leb, eqb}
-use Rattle.text.specs.Bytes.{firstWide}
+use Rattle.text.specs.Utf8.{firstBroken}
 use Rattle.text.specs.Output.{Plain, plain, Reply, declined, fittedPlain}
 use Rattle.reader.specs.Tokens.{Tokens, noTokens, token∷, maxTokens}
 use Rattle.reader.specs.Reading.{maxText}
@@ -49,7 +49,7 @@ limited (tokens ts) = elim (leb (length (ts .kinds)) maxTokens) [ true ↦ token
 unfoldable pub read : List ℕ → Scanned
 read text =
     elim (leb (length text) maxText) [
-      | true ↦ elim (firstWide 0 text) [ none ↦ limited (scanText text) | some place ↦ refused 2 place ]
+      | true ↦ elim (firstBroken text) [ none ↦ limited (scanText text) | some place ↦ refused 2 place ]
       | false ↦ refused 1 0
     ]
 

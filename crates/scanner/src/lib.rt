@@ -9,13 +9,13 @@ use lexical::token_length;
 use reader::MAX_TEXT;
 use reader::tokens::MAX_TOKENS;
 use runs::symbol_table;
-use text::Wide;
-use text::first_wide;
+use text::Broken;
+use text::first_broken;
 ghost use mathlib.Core.Path.{_≡_};
 ghost use mathlib.Core.List.{_++_};
 ghost use Prim.Native.Nat.{ℕ, _*_, _≤_, _<_};
 ghost use lib.ListN.{length, getD, drop};
-ghost use Rattle.text.specs.Bytes.{firstWide, wideAt, classTable};
+ghost use Rattle.text.specs.Bytes.{classTable};
 ghost use Rattle.reader.specs.Tokens.{Long};
 ghost use Rattle.reader.specs.Reading.{maxText};
 ghost use Rattle.scanner.specs.Reach.{TellsSymbols};
@@ -26,8 +26,8 @@ ghost use Rattle.scanner.specs.Answers.{numberOf, placeOf, replyOf, Kept
 pub enum Refusal {
     // The text has too many bytes or too many tokens.
     TooLong,
-    // The offset of the first byte of 128 or more.
-    NotAscii(usize),
+    // The offset of the first byte of the first broken character.
+    NotUtf8(usize),
     // The offset of a comment without an end.
     OpenComment(usize),
     // The offset of a double quote that begins no string constant.
@@ -120,32 +120,6 @@ fn fill(
     Tabled::Tokens(count)
 }
 
-// A byte that no other exceeds. Every byte is looked at, so that many are compared at a time.
-fn greatest(s: &[u8]) -> u8
-    ensures { λ r. ⌜ ((i : ℕ) → i < length (now (s .entry)) → getD (now (s .entry)) i 0 ≤ r) ⌝ }
-{
-    let mut most = 0;
-    let mut i = 0;
-    while i < s.len() {
-        let b = s[i];
-        if most < b {
-            most = b;
-        }
-        i += 1;
-    }
-    most
-}
-
-// Where the first byte of 128 or more stands. It is looked for only where there is one.
-fn first_not_ascii(text: &[u8]) -> Wide
-    ensures { λ r. ⌜ wideAt r ≡ firstWide 0 (now (text .entry)) ⌝ }
-{
-    if greatest(text) < 128 {
-        return Wide::Nowhere;
-    }
-    first_wide(text)
-}
-
 // The tokens of a text: 1 and 2, then 10 to 12, then 1 for the tokens. The tables hold them where none is told.
 pub fn tables(
     text: &[u8],
@@ -158,8 +132,8 @@ pub fn tables(
     if MAX_TEXT < text.len() {
         return Tabled::Refused(Refusal::TooLong);
     }
-    if let Wide::At(place) = first_not_ascii(text) {
-        return Tabled::Refused(Refusal::NotAscii(place));
+    if let Broken::At(place) = first_broken(text) {
+        return Tabled::Refused(Refusal::NotUtf8(place));
     }
     let table = text::classes();
     let symbols = symbol_table();

@@ -4,13 +4,13 @@ use native.Mathlib.Numerals.{add-one}
 use native.Mathlib.Omega.{arith}
 use mathlib.Core.Path.{_≡_, refl, sym, ap, _∙_}
 use mathlib.Core.Bool.{Bool, true, false, _&&_, _||_, and-false, false≢true}
-use mathlib.Core.List.{List, [], _∷_, _++_, reverse, reverse-append, reverse-reverse}
-use mathlib.Core.Option.{none, some}
+use mathlib.Core.List.{List, [], _∷_, _++_, map, reverse, reverse-append, reverse-reverse}
 use lib.Dec.{leb, eqb}
 use lib.ListN.{length, getD, take, drop, set, length-take, length-drop, length-reverse, drop-of-length-le, take-append-drop}
-use lib.Seq.{drop-cons, take-suc, take-all, drop-at, paste, paste-suc}
+use lib.Seq.{drop-cons, drop-drop, take-all, take-take, length-take-le, drop-at, paste, paste-suc}
 use borrow.Author.Tests.{le-leb, lt-leb, eq-eqb, ne-eqb, eqb-true, leb-true}
-use Rattle.text.specs.Bytes.{between, isSpace, isLetter, isDigit, letterEntry, digitEntry, otherEntry, classOf, classesFrom, classTable, trimStart, trimEnd, trim, sameBytes, firstIs, firstWide}
+use Rattle.text.proofs.Computed.{and-right}
+use Rattle.text.specs.Bytes.{between, isSpace, isLetter, isDigit, letterEntry, digitEntry, otherEntry, classOf, classesFrom, classTable, sameBytes, firstIs, whiteSpace, startsWith, leading, stripFrom, strip, trimStart, trimEnd, trim}
 
 -- Two different constructors are not equal: from an equation of theirs `cc` proves `0 ≡ 1`.
 pub never : {A : Type 0} → _≡_ {A = ℕ} 0 1 → A
@@ -80,53 +80,6 @@ unfolding firstIs
 first-at test [] h = absurd (h refl)
 first-at test (b ∷ bs) h = refl
 
-module _ (s : List ℕ) (i : ℕ) where
-  -- The scan for the first byte that is no white space.
-  pub trim-start-end : length s ≤ i → trimStart (drop i s) ≡ drop i s
-  unfolding trimStart
-  trim-start-end h = rw (drop-of-length-le s h)
-
-  pub trim-start-space : i < length s → isSpace (getD s i 0) ≡ true → trimStart (drop i s) ≡ trimStart (drop (i + 1) s)
-  unfolding trimStart
-  trim-start-space h e = rw (add-one, drop-cons s i 0, trimStart, e)
-
-  pub trim-start-other : i < length s → isSpace (getD s i 0) ≡ false → trimStart (drop i s) ≡ drop i s
-  unfolding trimStart
-  trim-start-other h e = rw (drop-cons s i 0, trimStart, e)
-
-  -- The scan for the first byte of 128 or more.
-  pub wide-none : length s ≤ i → firstWide i (drop i s) ≡ none
-  unfolding firstWide
-  wide-none h = rw (drop-of-length-le s h)
-
-  pub wide-at : i < length s → 128 ≤ getD s i 0 → firstWide i (drop i s) ≡ some i
-  unfolding firstWide
-  wide-at h l = rw (drop-cons s i 0, firstWide, le-leb _ _ l)
-
-  pub wide-more : i < length s → getD s i 0 < 128 → firstWide i (drop i s) ≡ firstWide (i + 1) (drop (i + 1) s)
-  unfolding firstWide
-  wide-more h l = rw (add-one, drop-cons s i 0, firstWide, lt-leb _ _ l)
-
--- The text up to a byte, read backwards.
-pub reverse-take : (s : List ℕ) (k : ℕ) → k < length s → reverse (take (suc k) s) ≡ getD s k 0 ∷ reverse (take k s)
-reverse-take s k h = rw (take-suc s k 0, reverse-append)
-
-pub trim-end-none : (s : List ℕ) (i : ℕ) → i ≤ 0 → trimEnd (take i s) ≡ take i s
-unfolding trimEnd trimStart
-trim-end-none s zero h = refl
-trim-end-none s (suc i) h = absurd (omega arith)
-
-module _ (s : List ℕ) (i k : ℕ) (e : i ≡ suc k) (h : k < length s) where
-  pub trim-end-space : isSpace (getD s k 0) ≡ true → trimEnd (take i s) ≡ trimEnd (take k s)
-  unfolding trimEnd trimStart
-  trim-end-space t = rw (e, trimEnd, reverse-take s k h, trimStart, t)
-
-  pub trim-end-other : isSpace (getD s k 0) ≡ false → trimEnd (take i s) ≡ take i s
-  unfolding trimEnd trimStart
-  trim-end-other t =
-      rw (e, trimEnd, reverse-take s k h, trimStart, t)
-      (rw (← reverse-take s k h) (reverse-reverse (take (suc k) s)))
-
 -- Equality of two runs.
 pub same-lengths : (a b : List ℕ) → (length a ≡ length b → ⊥) → sameBytes a b ≡ false
 unfolding sameBytes
@@ -172,35 +125,104 @@ same-refl (b ∷ bs) = rw (eq-eqb b b refl) (same-refl bs)
 pub take-rest : (s : List ℕ) (a : ℕ) → take (length s - a) (drop a s) ≡ drop a s
 take-rest s a = take-all (length s - a) (drop a s) (omega (arith, length-drop a s))
 
+-- ---- trim
+-- The bytes of the word before are passed.
+strip-behind : (ws : List (List ℕ)) (n : ℕ) (t : List ℕ) → stripFrom ws n t ≡ stripFrom ws 0 (drop n t)
+unfolding stripFrom
+strip-behind ws zero t = refl
+strip-behind ws (suc n) [] = refl
+strip-behind ws (suc n) (b ∷ t) = strip-behind ws n t
+
+module _ (ws : List (List ℕ)) where
+  pub strip-none : (t : List ℕ) → leading ws t ≡ 0 → strip ws t ≡ t
+  unfolding strip stripFrom
+  strip-none [] e = refl
+  strip-none (b ∷ t) e = rw (stripFrom, e)
+
+  pub strip-some : (t : List ℕ) (n : ℕ) → n ≡ leading ws t → (n ≡ 0 → ⊥) → strip ws t ≡ strip ws (drop n t)
+  unfolding strip stripFrom
+  strip-some t zero e z = absurd (z refl)
+  strip-some [] (suc n) e z = refl
+  strip-some (b ∷ t) (suc n) e z = rw (stripFrom, ← e) (strip-behind ws n t)
+
+-- Stripping leaves a part.
+strip-part-from : (ws : List (List ℕ)) (k : ℕ) (t : List ℕ) → (a : ℕ) × (a ≤ length t) × (stripFrom ws k t ≡ drop a t)
+unfolding stripFrom
+strip-part-from ws zero [] = (0, zero-le, refl)
+strip-part-from ws (suc k) [] = (0, zero-le, refl)
+strip-part-from ws (suc k) (b ∷ t) = let p = strip-part-from ws k t in (suc (p .0), suc-le-suc (p .1), p .2)
+strip-part-from ws zero (b ∷ t) = go (leading ws (b ∷ t)) (λ m. strip-part-from ws m t)
+  where
+    go : (n : ℕ) → ((m : ℕ) → (a : ℕ) × (a ≤ length t) × (stripFrom ws m t ≡ drop a t)) → (a : ℕ) × (a ≤ suc (length t)) × (_≡_ {A = List ℕ} (elim n as (λ x. List ℕ) [ zero ↦ b ∷ t | suc m ↦ stripFrom ws m t ]) (drop a (b ∷ t)))
+    go zero ih = (0, zero-le, refl)
+    go (suc m) ih = let p = ih m in (suc (p .0), suc-le-suc (p .1), p .2)
+
+pub strip-part : (ws : List (List ℕ)) (t : List ℕ) → (a : ℕ) × (a ≤ length t) × (strip ws t ≡ drop a t)
+unfolding strip
+strip-part ws t = strip-part-from ws 0 t
+
+-- A word that a text starts with is no longer than the text.
+pub starts-within : (w t : List ℕ) → startsWith w t ≡ true → length w ≤ length t
+unfolding startsWith
+starts-within [] t h = zero-le
+starts-within (c ∷ w) [] h = absurd (false≢true h)
+starts-within (c ∷ w) (b ∷ t) h = suc-le-suc (starts-within w t (and-right (eqb b c) (startsWith w t) h))
+
+pub leading-within : (ws : List (List ℕ)) (t : List ℕ) → leading ws t ≤ length t
+unfolding leading
+leading-within [] t = zero-le
+leading-within (w ∷ ws) t = go (startsWith w t) refl (leading-within ws t)
+  where
+    go : (x : Bool) → startsWith w t ≡ x → leading ws t ≤ length t → elim x as (λ z. ℕ) [ true ↦ length w | false ↦ leading ws t ] ≤ length t
+    go true e ih = starts-within w t e
+    go false e ih = ih
+
+-- What is left of a text that is read backwards.
+reverse-drop : (s : List ℕ) (a : ℕ) → a ≤ length s → drop a (reverse s) ≡ reverse (take (length s - a) s)
+reverse-drop s a h =
+    let u = take (length s - a) s in
+    let v = drop (length s - a) s in
+    let e : reverse s ≡ reverse v ++ reverse u = ap reverse (sym (take-append-drop (length s - a) s)) ∙ reverse-append u v in
+    ap (drop a) e ∙ drop-at (reverse v) (reverse u) a (length-reverse v ∙ length-drop (length s - a) s ∙ omega arith)
+
+-- The two scans.
+module _ (s : List ℕ) (i : ℕ) {n : ℕ} where
+  pub start-within : i ≤ length s → n ≡ leading whiteSpace (drop i s) → i + n ≤ length s
+  start-within h e = omega (arith, leading-within whiteSpace (drop i s), length-drop i s)
+
+  pub start-more : n ≡ leading whiteSpace (drop i s) → (n ≡ 0 → ⊥) → strip whiteSpace (drop i s) ≡ strip whiteSpace (drop (i + n) s)
+  start-more e z = strip-some whiteSpace (drop i s) n e z ∙ ap (strip whiteSpace) (drop-drop n i s)
+
+  module _ (h : i ≤ length s) (e : n ≡ leading (map reverse whiteSpace) (reverse (take i s))) where
+    pub end-within : n ≤ i
+    end-within = omega (arith, leading-within (map reverse whiteSpace) (reverse (take i s)), length-reverse (take i s), length-take-le i s h)
+
+    pub end-more : (n ≡ 0 → ⊥) → strip (map reverse whiteSpace) (reverse (take i s)) ≡ strip (map reverse whiteSpace) (reverse (take (i - n) s))
+    end-more z =
+        let l = length-take-le i s h in
+        let w = end-within in
+        strip-some (map reverse whiteSpace) (reverse (take i s)) n e z
+        ∙ ap (strip (map reverse whiteSpace))
+        (reverse-drop (take i s) n (rw l w)
+        ∙ ap (λ (k : ℕ). reverse (take (k - n) (take i s))) l
+        ∙ ap reverse (take-take (i - n) i s (omega arith)))
+
 -- The two scans give the two ends of the trimmed part.
 pub trim-of : (s : List ℕ) (a e : ℕ) → trimStart s ≡ drop a s → trimEnd (take (length s - a) (drop a s)) ≡ take e (take (length s - a) (drop a s)) → take e (take (length s - a) (drop a s)) ≡ trim s
 unfolding trim
 trim-of s a e f g = sym g ∙ ap trimEnd (take-rest s a ∙ sym f)
 
 -- Trimming gives a part.
-pub trim-start-part : (s : List ℕ) → (a : ℕ) × (a ≤ length s) × (trimStart s ≡ drop a s)
+trim-start-part : (s : List ℕ) → (a : ℕ) × (a ≤ length s) × (trimStart s ≡ drop a s)
 unfolding trimStart
-trim-start-part [] = (0, zero-le, refl)
-trim-start-part (b ∷ bs) = go (isSpace b) (trim-start-part bs)
-  where
-    go : (t : Bool) → (a : ℕ) × (a ≤ length bs) × (trimStart bs ≡ drop a bs) → (a : ℕ) × (a ≤ suc (length bs)) × (_≡_ {A = List ℕ} (elim t as (λ x. List ℕ) [ true ↦ trimStart bs | false ↦ b ∷ bs ]) (drop a (b ∷ bs)))
-    go true p = (suc (p .0), suc-le-suc (p .1), p .2)
-    go false p = (0, zero-le, refl)
+trim-start-part s = strip-part whiteSpace s
 
-pub trim-end-part : (s : List ℕ) → (e : ℕ) × (e ≤ length s) × (trimEnd s ≡ take e s)
+trim-end-part : (s : List ℕ) → (e : ℕ) × (e ≤ length s) × (trimEnd s ≡ take e s)
 unfolding trimEnd
 trim-end-part s =
-    let p = trim-start-part (reverse s) in
-    (length s - p .0, omega arith, ap reverse (p .2) ∙ reverse-drop s (p .0) (omega (arith, length-reverse s, p .1)))
-  where
-    reverse-drop : (s : List ℕ) (a : ℕ) → a ≤ length s → reverse (drop a (reverse s)) ≡ take (length s - a) s
-    reverse-drop s a h =
-        let u = take (length s - a) s in
-        let v = drop (length s - a) s in
-        let e : reverse s ≡ reverse v ++ reverse u = ap reverse (sym (take-append-drop (length s - a) s)) ∙ reverse-append u v in
-        ap (λ (l : List ℕ). reverse (drop a l)) e
-        ∙ ap reverse (drop-at (reverse v) (reverse u) a (length-reverse v ∙ length-drop (length s - a) s ∙ omega arith))
-        ∙ reverse-reverse u
+    let p = strip-part (map reverse whiteSpace) (reverse s) in
+    let l : p .0 ≤ length s = omega (arith, length-reverse s, p .1) in
+    (length s - p .0, omega arith, ap reverse (p .2 ∙ reverse-drop s (p .0) l) ∙ reverse-reverse (take (length s - p .0) s))
 
 pub trim-part : (s : List ℕ) → (a : ℕ) × (e : ℕ) × (a + e ≤ length s) × (trim s ≡ take e (drop a s))
 unfolding trim

@@ -1,2 +1,5 @@
+pub mod Computed
 pub mod Laws
+pub mod Utf8Laws
+pub mod SpaceLaws
 pub mod OutputLaws

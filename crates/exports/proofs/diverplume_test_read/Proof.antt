@@ -1,5 +1,5 @@
 -- `exports::diverplume_test_read` meets its contract: each case of the record check. Assumes nothing.
-use Rattle.exports.proofs.Laws.{read-sheet, read-long, read-wide, read-malformed, read-deep}
+use Rattle.exports.proofs.Laws.{read-sheet, read-long, read-broken, read-malformed, read-deep}
 use borrow.Author.Needs.{needs}
 use Rattle.exports.proofs.diverplume_test_read.Statement.{statement}
 use Rattle.exports.proofs.diverplume_test_read.Tie as tie
@@ -44,7 +44,7 @@ returns-2 : tie.Need-returns-2
 returns-2 c = let at = c .before .before in read-long (at .before .before .check .ensures) (at .enum-told .given .1) (c .put-four2 .ensures)
 
 returns-3 : tie.Need-returns-3
-returns-3 c = let at = c .before .before .before in read-wide (at .before .before .check .ensures) (at .reading2 .given .1) (c .put-four3 .ensures)
+returns-3 c = let at = c .before .before .before in read-broken (at .before .before .check .ensures) (at .reading2 .given .1) (c .put-four3 .ensures)
 
 returns-4 : tie.Need-returns-4
 returns-4 c = let at = c .before .before .before in read-malformed (at .before .before .check .ensures) (at .reading3 .given .1) (c .put-four4 .ensures)

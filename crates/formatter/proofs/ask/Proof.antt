@@ -1,5 +1,5 @@
 -- `formatter::ask` meets its contract: each case of the record check. Assumes nothing.
-use Rattle.formatter.proofs.LookupLaws.{ask-tokens, ask-past, ask-long, ask-wide, ask-malformed, ask-deep}
+use Rattle.formatter.proofs.LookupLaws.{ask-tokens, ask-past, ask-long, ask-broken, ask-malformed, ask-deep}
 use borrow.Author.Needs.{needs}
 use Rattle.formatter.proofs.ask.Statement.{statement}
 use Rattle.formatter.proofs.ask.Tie as tie
@@ -32,7 +32,7 @@ returns-3 : tie.Need-returns-3
 returns-3 c = ask-long (c .before .before .check .ensures) _ (c .enum-told .given .1)
 
 returns-4 : tie.Need-returns-4
-returns-4 c = let at = c .before in ask-wide (at .before .before .check .ensures) _ (at .reading2 .given .1)
+returns-4 c = let at = c .before in ask-broken (at .before .before .check .ensures) _ (at .reading2 .given .1)
 
 returns-5 : tie.Need-returns-5
 returns-5 c = let at = c .before in ask-malformed (at .before .before .check .ensures) _ (at .reading3 .given .1)

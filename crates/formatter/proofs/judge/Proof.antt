@@ -1,5 +1,5 @@
 -- `formatter::judge` meets its contract: lengths, ASCII and tokens, then the walk.
-use Rattle.formatter.proofs.JudgeLaws.{text-long, record-long, not-ascii, not-tiled, sheet-limits, judges-sheet, judges-declined}
+use Rattle.formatter.proofs.JudgeLaws.{text-long, record-long, not-utf8, not-tiled, sheet-limits, judges-sheet, judges-declined}
 use borrow.Author.Needs.{needs}
 use Rattle.formatter.proofs.judge.Statement.{statement}
 use Rattle.formatter.proofs.judge.Tie as tie
@@ -16,8 +16,8 @@ refused-requires-2 c κs = search needs
 returns-2 : tie.Need-returns-2
 returns-2 c = judges-declined (record-long _ _ (c .before .before .before .if1 .left) (c .before .before .if2 .taken)) (c .refused2 .ensures)
 
-first-wide-requires : tie.Need-first-wide-requires
-first-wide-requires c κs = search needs
+first-broken-requires : tie.Need-first-broken-requires
+first-broken-requires c κs = search needs
 
 enum-known-place : tie.Need-enum-known-place
 enum-known-place c = search needs
@@ -26,7 +26,7 @@ refused-requires-3 : tie.Need-refused-requires-3
 refused-requires-3 c κs = search needs
 
 returns-3 : tie.Need-returns-3
-returns-3 c = judges-declined (not-ascii _ _ (c .before .before .before .before .before .before .before .if1 .left) (c .before .before .before .before .before .before .if2 .left) (c .before .before .before .before .before .first-wide .ensures) (c .before .before .before .place .given .1)) (c .refused3 .ensures)
+returns-3 c = judges-declined (not-utf8 _ _ (c .before .before .before .before .before .before .before .if1 .left) (c .before .before .before .before .before .before .if2 .left) (c .before .before .before .before .before .first-broken .ensures) (c .before .before .before .place .given .1)) (c .refused3 .ensures)
 
 enum-told : tie.Need-enum-told
 enum-told c = search needs
@@ -41,7 +41,7 @@ enum-known-tokens : tie.Need-enum-known-tokens
 enum-known-tokens c = search needs
 
 weigh-requires : tie.Need-weigh-requires
-weigh-requires c κs = sheet-limits _ _ (c .before .before .before .before .before .before .before .before .before .before .before .before .before .before .before .before .before .before .before .if1 .left) (c .before .before .before .before .before .before .before .before .before .before .before .before .before .before .before .before .before .before .if2 .left) (c .before .before .before .before .before .before .before .before .before .before .before .before .before .before .before .before .before .first-wide .ensures) (c .before .before .before .before .before .before .before .before .before .before .before .before .before .before .before .enum-told .given .1) (c .before .before .before .before .before .before .before .before .before .before .before .read-tokens .ensures) (c .before .before .before .before .before .before .before .before .before .tokens .given .1)
+weigh-requires c κs = sheet-limits _ _ (c .before .before .before .before .before .before .before .before .before .before .before .before .before .before .before .before .before .before .before .if1 .left) (c .before .before .before .before .before .before .before .before .before .before .before .before .before .before .before .before .before .before .if2 .left) (c .before .before .before .before .before .before .before .before .before .before .before .before .before .before .before .before .before .first-broken .ensures) (c .before .before .before .before .before .before .before .before .before .before .before .before .before .before .before .enum-told .given .1) (c .before .before .before .before .before .before .before .before .before .before .before .read-tokens .ensures) (c .before .before .before .before .before .before .before .before .before .tokens .given .1)
 
 enum-known-tokens-2 : tie.Need-enum-known-tokens-2
 enum-known-tokens-2 c = search needs
@@ -53,10 +53,10 @@ same-length : tie.Need-same-length
 same-length c = search needs
 
 returns-4 : tie.Need-returns-4
-returns-4 c = judges-sheet _ _ (c .before .before .before .before .before .before .before .before .before .before .before .before .before .before .before .before .before .before .before .before .before .before .if1 .left) (c .before .before .before .before .before .before .before .before .before .before .before .before .before .before .before .before .before .before .before .before .before .if2 .left) (c .before .before .before .before .before .before .before .before .before .before .before .before .before .before .before .before .before .before .before .before .first-wide .ensures) (c .before .before .before .before .before .before .before .before .before .before .before .before .before .before .before .before .before .before .enum-told .given .1) (c .before .before .before .before .before .before .before .before .before .before .before .before .before .before .read-tokens .ensures) (c .before .before .before .before .before .before .before .before .before .before .before .before .tokens .given .1) (c .before .before .weigh .ensures)
+returns-4 c = judges-sheet _ _ (c .before .before .before .before .before .before .before .before .before .before .before .before .before .before .before .before .before .before .before .before .before .before .if1 .left) (c .before .before .before .before .before .before .before .before .before .before .before .before .before .before .before .before .before .before .before .before .before .if2 .left) (c .before .before .before .before .before .before .before .before .before .before .before .before .before .before .before .before .before .before .before .before .first-broken .ensures) (c .before .before .before .before .before .before .before .before .before .before .before .before .before .before .before .before .before .before .enum-told .given .1) (c .before .before .before .before .before .before .before .before .before .before .before .before .before .before .read-tokens .ensures) (c .before .before .before .before .before .before .before .before .before .before .before .before .tokens .given .1) (c .before .before .weigh .ensures)
 
 returns-5 : tie.Need-returns-5
-returns-5 c = judges-declined (not-tiled _ _ (c .before .before .before .before .before .before .before .before .before .before .before .before .before .if1 .left) (c .before .before .before .before .before .before .before .before .before .before .before .before .if2 .left) (c .before .before .before .before .before .before .before .before .before .before .before .first-wide .ensures) (c .before .before .before .before .before .before .before .before .before .enum-told .given .1) (c .before .before .before .before .before .read-tokens .ensures) (c .before .before .before .tokens2 .given .1)) (c .refused4 .ensures)
+returns-5 c = judges-declined (not-tiled _ _ (c .before .before .before .before .before .before .before .before .before .before .before .before .before .if1 .left) (c .before .before .before .before .before .before .before .before .before .before .before .before .if2 .left) (c .before .before .before .before .before .before .before .before .before .before .before .first-broken .ensures) (c .before .before .before .before .before .before .before .before .before .enum-told .given .1) (c .before .before .before .before .before .read-tokens .ensures) (c .before .before .before .tokens2 .given .1)) (c .refused4 .ensures)
 
 pub judge-spec : {M : Type 1} → statement M
 judge-spec =
@@ -66,7 +66,7 @@ judge-spec =
     returns
     refused-requires-2
     returns-2
-    first-wide-requires
+    first-broken-requires
     enum-known-place
     refused-requires-3
     returns-3

@@ -1,5 +1,5 @@
 -- `check` meets its contract.
-use Rattle.reader.proofs.ReadingLaws.{text-long, record-long, not-ascii, ascii}
+use Rattle.reader.proofs.ReadingLaws.{text-long, record-long, not-utf8, utf8}
 use borrow.Author.Needs.{needs}
 use Rattle.reader.proofs.check.Statement.{statement}
 use Rattle.reader.proofs.check.Tie as tie
@@ -10,14 +10,14 @@ returns c = text-long _ _ _ _ _ (c .if1 .taken)
 returns-2 : tie.Need-returns-2
 returns-2 c = record-long _ _ _ _ _ (c .before .if1 .left) (c .if2 .taken)
 
-first-wide-requires : tie.Need-first-wide-requires
-first-wide-requires c κs = search needs
+first-broken-requires : tie.Need-first-broken-requires
+first-broken-requires c κs = search needs
 
 enum-known-place : tie.Need-enum-known-place
 enum-known-place c = search needs
 
 returns-3 : tie.Need-returns-3
-returns-3 c = not-ascii _ _ _ _ _ (c .before .before .before .before .before .if1 .left) (c .before .before .before .before .if2 .left) (c .before .before .before .first-wide .ensures) (c .before .place .given .1)
+returns-3 c = not-utf8 _ _ _ _ _ (c .before .before .before .before .before .if1 .left) (c .before .before .before .before .if2 .left) (c .before .before .before .first-broken .ensures) (c .before .place .given .1)
 
 enum-told : tie.Need-enum-told
 enum-told c = search needs
@@ -29,7 +29,7 @@ read-record-requires : tie.Need-read-record-requires
 read-record-requires c κs = search needs
 
 returns-4 : tie.Need-returns-4
-returns-4 c = ascii _ _ _ _ _ (c .before .before .before .before .before .before .before .before .if1 .left) (c .before .before .before .before .before .before .before .if2 .left) (c .before .before .before .before .before .before .first-wide .ensures) (c .before .before .before .before .enum-told .given .1) (c .read-record .ensures)
+returns-4 c = utf8 _ _ _ _ _ (c .before .before .before .before .before .before .before .before .if1 .left) (c .before .before .before .before .before .before .before .if2 .left) (c .before .before .before .before .before .before .first-broken .ensures) (c .before .before .before .before .enum-told .given .1) (c .read-record .ensures)
 
 pub check-spec : {M : Type 1} → statement M
 check-spec =
@@ -37,7 +37,7 @@ check-spec =
     (tie.spec
     returns
     returns-2
-    first-wide-requires
+    first-broken-requires
     enum-known-place
     returns-3
     enum-told

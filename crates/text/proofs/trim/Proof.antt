@@ -6,8 +6,8 @@ use borrow.Author.Needs.{needs}
 use Rattle.text.proofs.trim.Statement.{statement}
 use Rattle.text.proofs.trim.Tie as tie
 
-space-before-requires : tie.Need-space-before-requires
-space-before-requires c κs = search needs
+trimmed-start-requires : tie.Need-trimmed-start-requires
+trimmed-start-requires c κs = search needs
 
 sub-t : tie.Need-sub-t
 sub-t c = search needs
@@ -18,23 +18,23 @@ part-t-start c = search needs
 part-t-end : tie.Need-part-t-end
 part-t-end c = search needs
 
-space-behind-requires : tie.Need-space-behind-requires
-space-behind-requires c κs = search needs
+trimmed-end-requires : tie.Need-trimmed-end-requires
+trimmed-end-requires c κs = search needs
 
 slice-aggregate-result : tie.Need-slice-aggregate-result
-slice-aggregate-result c = sym (length-take-le _ _ (c .before .space-behind .ensures .0))
+slice-aggregate-result c = sym (length-take-le _ _ (c .before .trimmed-end .ensures .0))
 
 returns : tie.Need-returns
-returns c = trim-of _ (c .before .before .before .space-before .result) (c .before .space-behind .result) (c .before .before .before .space-before .ensures .1) (c .before .space-behind .ensures .1)
+returns c = trim-of _ (c .before .before .before .trimmed-start .result) (c .before .trimmed-end .result) (c .before .before .before .trimmed-start .ensures .1) (c .before .trimmed-end .ensures .1)
 
 pub trim-spec : {M : Type 1} → statement M
 trim-spec =
     tie.close
     (tie.spec
-    space-before-requires
+    trimmed-start-requires
     sub-t
     part-t-start
     part-t-end
-    space-behind-requires
+    trimmed-end-requires
     slice-aggregate-result
     returns)

@@ -1,4 +1,4 @@
--- `scanner::greatest` meets its contract. The invariant: no byte that was passed exceeds the greatest so far. Assumes nothing.
+-- `text::greatest` meets its contract. The invariant: no byte that was passed exceeds the greatest so far. Assumes nothing.
 use Prim.Native.Nat.{ℕ, _≤_, _<_, _-_}
 use denote.Ref.{now}
 use native.Mathlib.Omega.{arith}
@@ -6,8 +6,8 @@ use mathlib.Core.Logic.{⊎-elim}
 use lib.ListN.{length, getD}
 use borrow.Author.Count.{below-more}
 use borrow.Author.Needs.{needs}
-use Rattle.scanner.proofs.greatest.Statement.{statement}
-use Rattle.scanner.proofs.greatest.Tie as tie
+use Rattle.text.proofs.greatest.Statement.{statement}
+use Rattle.text.proofs.greatest.Tie as tie
 
 abbrev Inv-loop : tie.InvT-loop
 Inv-loop s most₀ i₀ most i = (i ≤ length s) × ((k : ℕ) → k < i → getD s k 0 ≤ most)

@@ -1,0 +1,25 @@
+-- `text::first_broken` meets its contract: where no byte exceeds 127 no character is broken. Assumes nothing.
+use native.Mathlib.Omega.{arith}
+use mathlib.Core.Path.{sym}
+use Rattle.text.specs.Utf8.{brokenAt}
+use Rattle.text.proofs.Utf8Laws.{ascii-whole}
+use borrow.Author.Needs.{needs}
+use Rattle.text.proofs.first_broken.Statement.{statement}
+use Rattle.text.proofs.first_broken.Tie as tie
+
+greatest-requires : tie.Need-greatest-requires
+greatest-requires c κs = search needs
+
+returns : tie.Need-returns
+unfolding brokenAt
+returns c = sym (ascii-whole _ (λ i h. omega (arith, c .before .greatest .ensures i h)))
+
+first-broken-char-requires : tie.Need-first-broken-char-requires
+first-broken-char-requires c κs = search needs
+
+returns-2 : tie.Need-returns-2
+returns-2 c = search needs
+
+pub first-broken-spec : {M : Type 1} → statement M
+first-broken-spec =
+    tie.close (tie.spec greatest-requires returns first-broken-char-requires returns-2)
