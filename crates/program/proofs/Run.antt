@@ -3,12 +3,14 @@
 use Rattle.text.specs.Utf8 as Utf8
 use Rattle.text.specs.Bytes as Bytes
 use Rattle.text.specs.Output as Output
+use Rattle.text.specs.WellFormed as WellFormed
 use Rattle.reader.specs.Forms as Forms
 use Rattle.reader.specs.Fields as Fields
 use Rattle.reader.specs.Commands as Commands
 use Rattle.reader.specs.Tokens as Tokens
 use Rattle.reader.specs.Check as Check
 use Rattle.reader.specs.Reading as Reading
+use Rattle.reader.specs.Ascii as Ascii
 use Rattle.comments.specs.Set as Set
 use Rattle.comments.specs.Above as Above
 use Rattle.layout.specs.Meaning as Meaning
@@ -44,6 +46,10 @@ unfoldable pub runOutput : Unit {0}
 unfolding Output.fitted
 runOutput = tt
 
+unfoldable pub runWellFormed : Unit {0}
+unfolding WellFormed.All WellFormed.dropWhile WellFormed.dropEnds WellFormed.isOneOf WellFormed.isWhiteSpace WellFormed.trimAscii
+runWellFormed = tt
+
 unfoldable pub runForms : Unit {0}
 unfolding Forms.decNumber Forms.expNumber
 runForms = tt
@@ -67,6 +73,10 @@ runCheck = tt
 unfoldable pub runReading : Unit {0}
 unfolding Reading.readTree Reading.readRecord Reading.readText Reading.read Reading.numberOf Reading.placeOf
 runReading = tt
+
+unfoldable pub runAscii : Unit {0}
+unfolding Ascii.readAscii
+runAscii = tt
 
 unfoldable pub runSet : Unit {0}
 unfolding Set.isComment Set.bit Set.holds Set.bits Set.wordsFrom Set.wordsOf Set.without Set.count Set.first Set.firstAt
@@ -157,5 +167,5 @@ unfolding Printing.shown
 runPrinting = tt
 
 unfoldable pub run : Unit {0}
-unfolding runUtf8 runBytes runOutput runForms runFields runCommands runTokens runCheck runReading runSet runAbove runMeaning runHelpers runGetDec runTy runPat runExp runSigExp runStrExp runDecOne runWalk runEvents runUnbounded runVerdict runLookup runWalkFirst runDemands runDoc runLines runProgram runPrinting
+unfolding runUtf8 runBytes runOutput runWellFormed runForms runFields runCommands runTokens runCheck runReading runAscii runSet runAbove runMeaning runHelpers runGetDec runTy runPat runExp runSigExp runStrExp runDecOne runWalk runEvents runUnbounded runVerdict runLookup runWalkFirst runDemands runDoc runLines runProgram runPrinting
 run = tt

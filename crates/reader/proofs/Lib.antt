@@ -11,3 +11,4 @@ pub mod Suffix
 pub mod KindLaws
 pub mod Ends
 pub mod TableLaws
+pub mod AsciiLaws

@@ -6,3 +6,4 @@ pub mod Check
 pub mod Grammar
 pub mod Tree
 pub mod Reading
+pub mod Ascii

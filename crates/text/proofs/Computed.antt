@@ -38,6 +38,6 @@ same-is true b h = sym h
 same-is false true h = absurd (false≢true h)
 same-is false false h = refl
 
--- Two tests that answer alike on every byte.
-pub agree : (f g : ℕ → Bool) → allBelow 256 (λ b. same (f b) (g b)) ≡ true → (b : ℕ) → b < 256 → f b ≡ g b
-agree f g h b l = same-is (f b) (g b) (below 256 (λ b. same (f b) (g b)) h b l)
+-- Two tests that answer alike on every number below n.
+pub agree : (n : ℕ) (f g : ℕ → Bool) → allBelow n (λ b. same (f b) (g b)) ≡ true → (b : ℕ) → b < n → f b ≡ g b
+agree n f g h b l = same-is (f b) (g b) (below n (λ b. same (f b) (g b)) h b l)

@@ -148,7 +148,7 @@ three-bytes = refl
 
 space-is : (a : ℕ) → a < 256 → isSpace a ≡ isAmong singles (a ∷ [])
 unfolding isSpace between isAmong sameBytes allBelow same
-space-is a h = agree isSpace (λ a. isAmong singles (a ∷ [])) refl a h
+space-is a h = agree 256 isSpace (λ a. isAmong singles (a ∷ [])) refl a h
 
 pub pairs-are : (a b : ℕ) → isAmong whiteSpace (a ∷ b ∷ []) ≡ isAmong pairs (a ∷ b ∷ [])
 unfolding isAmong
@@ -184,7 +184,7 @@ module _ (b : ℕ) where
 pub behind-80 : (c : ℕ) → c < 256 → (between 0x80 0x8A c || (between 0xA8 0xA9 c || eqb c 0xAF)) ≡ isAmong whiteSpace (0xE2 ∷ 0x80 ∷ c ∷ [])
 unfolding between isAmong sameBytes allBelow same
 behind-80 c h =
-    agree (λ c. between 0x80 0x8A c || (between 0xA8 0xA9 c || eqb c 0xAF)) (λ c. isAmong triples (0xE2 ∷ 0x80 ∷ c ∷ [])) refl c h
+    agree 256 (λ c. between 0x80 0x8A c || (between 0xA8 0xA9 c || eqb c 0xAF)) (λ c. isAmong triples (0xE2 ∷ 0x80 ∷ c ∷ [])) refl c h
     ∙ sym (triples-are 0xE2 0x80 c)
 
 module _ (b c : ℕ) where

@@ -12,6 +12,7 @@ use lib.ListN.{length, getD, take, drop, drop-of-length-le, length-drop}
 use lib.Seq.{drop-cons, drop-drop}
 use borrow.Author.Tests.{le-leb, lt-leb}
 use Rattle.text.specs.Utf8.{Range, _‥_, isIn, continuation, wellFormed, fits, widthIn, charAt, brokenFrom, firstBroken, isInside, boundary}
+use Rattle.text.specs.WellFormed.{Ascii}
 use Rattle.text.proofs.Computed.{and-right}
 use Rattle.text.proofs.Laws.{take-rest}
 
@@ -116,10 +117,6 @@ module _ (s : List ℕ) (i : ℕ) where
         ∙ ap (brokenFrom 0 (i + suc n)) (drop-drop n (suc i) s ∙ ap (λ (k : ℕ). drop k s) sum)
 
 -- ---- ASCII
--- Every byte is below 128.
-abbrev pub Ascii : List ℕ → Type 0
-Ascii t = (i : ℕ) → i < length t → getD t i 0 < 128
-
 ascii-fits : (b : ℕ) (t : List ℕ) → b < 128 → true ≡ fits (0x00 ‥ 0x7F ∷ []) (b ∷ t)
 unfolding fits isIn
 ascii-fits b t h = rw (le-leb 0 b (omega arith), le-leb b 127 (omega arith))
