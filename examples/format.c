@@ -14,7 +14,7 @@ enum { HEAD = 6, LONGEST = HEAD + UINT16_MAX + DIVERPLUME_MAX_RECORD };
 static const char *const REASONS[] = {
     "accepted",
     "the text or the record is too long: split the file",
-    "a byte of the text is not ASCII: write it another way",
+    "the text is not well-formed UTF-8: save the file in UTF-8",
     "the record is malformed: write it again",
     "too many forms stand inside one another: give an inner part a declaration of its own",
     "a part that formatting needs is absent, or there is an import: correct the file",

@@ -22,8 +22,8 @@ static const char *reason(uint64_t number)
     switch (number) {
     case DIVERPLUME_TOO_LONG:
         return "the text is too long, or has too many tokens: split the file";
-    case DIVERPLUME_NOT_ASCII:
-        return "the byte is not ASCII: write it another way";
+    case DIVERPLUME_NOT_UTF8:
+        return "no character in UTF-8 begins here: save the file in UTF-8";
     case DIVERPLUME_OPEN_COMMENT:
         return "the comment has no end: close it";
     case DIVERPLUME_NO_STRING:
@@ -39,7 +39,7 @@ static int refuse(const uint8_t *text, const diverplume_written *answer)
 {
     unsigned line = 1, column = 1;
     for (uint64_t at = 0; at < answer->place; at++) {
-        column = text[at] == '\n' ? 1 : column + 1;
+        column = text[at] == '\n' ? 1 : column + ((text[at] & 0xC0) != 0x80);
         line += text[at] == '\n';
     }
     fprintf(stderr, "tokens: refused with %" PRIu64 " at line %u, column %u: %s\n",

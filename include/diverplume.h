@@ -36,7 +36,7 @@ extern "C" {
 enum {
     DIVERPLUME_ACCEPTED = 0,
     DIVERPLUME_TOO_LONG = 1,         /* text or record past its limit */
-    DIVERPLUME_NOT_ASCII = 2,        /* place: the first text byte of 128 or more */
+    DIVERPLUME_NOT_UTF8 = 2,         /* place: the first byte of the text's first broken character */
     DIVERPLUME_MALFORMED = 3,        /* place: the record's first command that does not fit */
     DIVERPLUME_TOO_DEEP = 4,         /* place: the record's form inside 200 others */
     DIVERPLUME_SYNTAX = 5,           /* a part that formatting needs is absent, or an import */

@@ -64,9 +64,8 @@ pub fn scan(text: &[u8], output: &mut [u8]) -> Result<usize, Refused> {
     if text.len() > MOST_BYTES {
         return Err((1, 0));
     }
-    if !text.is_ascii() {
-        let wide = text.iter().position(|byte| !byte.is_ascii());
-        return Err((2, wide.unwrap_or_default()));
+    if let Err(error) = std::str::from_utf8(text) {
+        return Err((2, error.valid_up_to()));
     }
     let mut table = [[0; 4]; MOST_TOKENS];
     let (mut at, mut count) = (0, 0);

@@ -1,7 +1,7 @@
 //! The sheets that are timed.
 
 use diverplume::record::tree::{Dec, HoleDec};
-use diverplume::record::{limit, Sheet, SheetBuilder};
+use diverplume::record::{limit, Sheet};
 use diverplume_sheet::tokens_and_tree;
 use sheet::worst;
 use std::iter;
@@ -20,13 +20,22 @@ pub fn branches(count: usize) -> String {
     (1..=count).map(|branch| RULES.replace("HarbourStreet", &format!("Branch{branch}"))).collect()
 }
 
-fn parsed(count: usize) -> (SheetBuilder, Vec<Dec>) {
-    tokens_and_tree(&branches(count)).expect("the rule file is Standard ML")
+/// The same text, of as many bytes, with accents in its comments.
+pub fn accented(text: &str) -> String {
+    let mut parts = text.split("(*");
+    let first = parts.next().unwrap_or_default().to_owned();
+    parts.fold(first, |before, part| {
+        let (comment, behind) = part.split_once("*)").expect("a comment has an end");
+        let comment = ["th", "he", "an", "re", "s ", "e "]
+            .iter()
+            .fold(comment.to_owned(), |comment, pair| comment.replace(pair, "\u{e9}"));
+        format!("{before}(*{comment}*){behind}")
+    })
 }
 
-/// The rules of so many branches.
-fn rules(count: usize) -> Sheet {
-    let (builder, decs) = parsed(count);
+/// The sheet of a rule file.
+fn parsed(text: &str) -> Sheet {
+    let (builder, decs) = tokens_and_tree(text).expect("the rule file is Standard ML");
     builder.finish(decs).expect("a sheet within the limits")
 }
 
@@ -58,8 +67,10 @@ fn repeated(branches: usize, record: usize) -> Sheet {
 pub fn all() -> Vec<Named> {
     let mut sheets = Vec::new();
     for count in [1, 2, 4, 8] {
-        sheets.push(Named { name: format!("rules-{count}"), sheet: rules(count) });
+        sheets.push(Named { name: format!("rules-{count}"), sheet: parsed(&branches(count)) });
     }
+    let accents = parsed(&accented(&branches(8)));
+    sheets.push(Named { name: "accents-8".to_owned(), sheet: accents });
     for (name, branches, record) in [("4KiB", 1, 4_096), ("64KiB", 15, limit::RECORD)] {
         sheets.push(Named { name: format!("record-{name}"), sheet: repeated(branches, record) });
     }

@@ -1,6 +1,6 @@
 //! The texts that are scanned.
 
-use crate::sheets::branches;
+use crate::sheets::{accented, branches};
 use diverplume::record::limit;
 
 /// A text with its name.
@@ -21,9 +21,9 @@ fn nested(length: usize) -> Vec<u8> {
 }
 
 /// The rules of as many branches as fit, and as have no more tokens than a sheet may have.
-fn rules(length: usize) -> Vec<u8> {
-    let texts = (1..).map(|count| branches(count).into_bytes());
-    let fit = |text: &Vec<u8>| text.len() <= length && diverplume::scan(text).is_ok();
+fn rules(length: usize) -> String {
+    let texts = (1..).map(branches);
+    let fit = |text: &String| text.len() <= length && diverplume::scan(text.as_bytes()).is_ok();
     texts.take_while(fit).last().expect("the rules of a branch fit")
 }
 
@@ -32,7 +32,8 @@ pub fn all(length: usize) -> Vec<Named> {
     // A part of 16 bytes with two tokens: a full text has as many tokens as there may be.
     assert_eq!(limit::TEXT / 16 * 2, limit::TOKENS);
     [
-        ("rules", rules(length)),
+        ("rules", rules(length).into_bytes()),
+        ("accents", accented(&rules(length)).into_bytes()),
         ("identifier", filled("", "structureHarbour", "", length)),
         ("keywords", filled("", "datatype\n       ", "", length)),
         ("one-byte", filled("", ";", "", length.min(limit::TOKENS))),
@@ -41,6 +42,7 @@ pub fn all(length: usize) -> Vec<Named> {
         ("digits", filled("", "7", "", length)),
         ("reals", filled("", "1234567.89e~123 ", "", length)),
         ("comment", filled("(*", " why ", "*)", length)),
+        ("accents-in-comment", filled("(*", " \u{e9}\u{20ac}o", "*)", length)),
         ("nested-comments", nested(length)),
         ("stars-in-comment", filled("(*", "*", "*)", length)),
         ("string", filled("\"", "x", "\"", length)),

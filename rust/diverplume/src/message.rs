@@ -2,7 +2,7 @@
 
 use crate::scan::{longest_output, Refusal};
 use crate::verdict::{CommentAbove, Lookup, Measures, Number, Verdict};
-use diverplume_record::{command, limit};
+use diverplume_record::{command, limit, Bytes};
 use std::fmt;
 
 /// What a message needs beyond the numbers.
@@ -14,6 +14,8 @@ pub(crate) enum Cause {
     Lengths(usize, usize),
     /// A place in the text and the byte there.
     Text(Position, u8),
+    /// A place in the text and the broken character there.
+    Broken(Position, Bytes),
     /// What is wrong at a place in the record.
     Record(Fault),
     /// The tab size, and the output's length.
@@ -28,7 +30,7 @@ pub(crate) enum Cause {
     TokenOutput(usize, usize),
 }
 
-/// A line and a column, both from 1.
+/// A line and a column, both from 1; columns count characters.
 #[derive(Debug, Clone, Copy, PartialEq, Eq)]
 pub(crate) struct Position {
     line: usize,
@@ -51,7 +53,8 @@ impl Cause {
     pub(crate) fn of_sheet(number: Number, place: usize, text: &[u8], record: &[u8]) -> Self {
         match number {
             Number::TooLong => Self::Lengths(text.len(), record.len()),
-            Number::NotAscii | Number::CommentsLeft => Self::in_text(place, text),
+            Number::NotUtf8 => Self::broken(place, text),
+            Number::CommentsLeft => Self::in_text(place, text),
             Number::Malformed | Number::TooDeep => Self::Record(Fault::at(place, text, record)),
             _ => Self::None,
         }
@@ -63,11 +66,18 @@ impl Cause {
         byte.map_or(Self::None, |&byte| Self::Text(Position::of(text, place), byte))
     }
 
+    /// A broken character in the text.
+    fn broken(place: usize, text: &[u8]) -> Self {
+        text.get(place..)
+            .map_or(Self::None, |rest| Self::Broken(Position::of(text, place), Bytes::broken(rest)))
+    }
+
     /// The cause of a scan's number.
     pub(crate) fn of_scan(number: Number, place: usize, text: &[u8], output: usize) -> Self {
         match number {
             Number::TooLong => Self::TextLength(text.len()),
             Number::OutputTooShort => Self::TokenOutput(output, longest_output(text)),
+            Number::NotUtf8 => Self::broken(place, text),
             _ => Self::in_text(place, text),
         }
     }
@@ -99,7 +109,8 @@ impl Position {
     fn of(text: &[u8], place: usize) -> Self {
         let mut lines = text[..place].split(|&byte| byte == b'\n');
         let last = lines.next_back().unwrap_or_default();
-        Self { line: lines.count() + 1, column: last.len() + 1 }
+        let column = last.iter().filter(|&&byte| byte & 0xC0 != 0x80).count() + 1;
+        Self { line: lines.count() + 1, column }
     }
 }
 
@@ -162,6 +173,11 @@ fn write_sheet(
             limit::RECORD
         ),
         Cause::Text(at, byte) => write_text(f, number, place, at, byte),
+        Cause::Broken(at, bytes) => write!(
+            f,
+            "{bytes} at {at} of the text (offset {place}) is no character in UTF-8; save the file \
+             in UTF-8"
+        ),
         Cause::Record(Fault::Command(byte)) if number == Number::TooDeep => write!(
             f,
             "the form {} (0x{byte:02X}) at offset {place} of the record stands inside {} others, \
@@ -178,7 +194,7 @@ fn write_sheet(
     }
 }
 
-/// Writes what is said of a place in the text, numbers 2 and 10 to 12.
+/// Writes what is said of a place in the text, numbers 10 to 12.
 fn write_text(
     f: &mut fmt::Formatter<'_>,
     number: Number,
@@ -196,17 +212,13 @@ fn write_text(
         Number::NoString => write!(
             f,
             "the double quote at {at} begins no string constant; close the string on its line, \
-             write control characters as escapes such as \\n or \\009, and a backslash as \\\\"
-        ),
-        Number::BeginsNoToken => write!(
-            f,
-            "no token begins with the byte 0x{byte:02X} at {at}; remove it, or write it in a \
-             string constant as \\{byte:03}"
+             write control characters and bytes of 128 and more as escapes such as \\n, \\009 or \
+             \\195, and a backslash as \\\\"
         ),
         _ => write!(
             f,
-            "the byte 0x{byte:02X} at {at} is not ASCII; write it another way, in a string \
-             constant as \\{byte}"
+            "no token begins with the byte 0x{byte:02X} at {at}; move it into a comment, or write \
+             it in a string constant as \\{byte:03}"
         ),
     }
 }

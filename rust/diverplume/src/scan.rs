@@ -150,7 +150,7 @@ impl FusedIterator for TokenRanges<'_> {}
 pub struct Refusal {
     /// The number.
     pub number: Number,
-    /// The place: an offset in the text for [`Number::NotAscii`] and from [`Number::OpenComment`]
+    /// The place: an offset in the text for [`Number::NotUtf8`] and from [`Number::OpenComment`]
     /// on, else 0.
     pub place: usize,
     pub(crate) cause: Cause,

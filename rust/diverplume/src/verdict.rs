@@ -19,8 +19,8 @@ pub enum Number {
     Accepted,
     /// The text or the record is too long.
     TooLong,
-    /// The text has a byte of 128 or more.
-    NotAscii,
+    /// The text is not well-formed UTF-8.
+    NotUtf8,
     /// The record is malformed.
     Malformed,
     /// The record has too many forms inside one another.
@@ -47,7 +47,7 @@ impl Number {
     const ALL: [Self; 13] = [
         Self::Accepted,
         Self::TooLong,
-        Self::NotAscii,
+        Self::NotUtf8,
         Self::Malformed,
         Self::TooDeep,
         Self::Syntax,
@@ -176,7 +176,7 @@ impl Iterator for Comments<'_> {
 pub struct Verdict {
     /// The number.
     pub number: Number,
-    /// The place: an offset in the text for [`Number::NotAscii`] and [`Number::CommentsLeft`], in
+    /// The place: an offset in the text for [`Number::NotUtf8`] and [`Number::CommentsLeft`], in
     /// the record for [`Number::Malformed`] and [`Number::TooDeep`], else 0.
     pub place: usize,
     /// The measures; 0 where the sheet itself is refused.

@@ -1,6 +1,6 @@
 //! What the builder refuses.
 
-use crate::{limit, FieldKind, Node};
+use crate::{limit, Bytes, FieldKind, Node};
 use std::fmt;
 
 /// A description that is no sheet.
@@ -46,8 +46,8 @@ pub enum Problem {
     TooManyTokens(usize),
     /// A token that ends past the longest text; its number.
     LongText(usize),
-    /// A token with a byte that is not ASCII; its number and the byte.
-    NotAscii(usize, u8),
+    /// A token with a broken character, or that ends inside one; its number and the bytes there.
+    NotUtf8(usize, Bytes),
     /// A form inside too many others.
     TooDeep(Node),
     /// A record over the limit; its length.
@@ -100,8 +100,8 @@ impl fmt::Display for Problem {
                 let most = limit::TEXT;
                 write!(f, "token {number} ends past the longest text of {most} bytes")
             }
-            Self::NotAscii(number, byte) => {
-                write!(f, "token {number} has the byte 0x{byte:02X}, which is not ASCII")
+            Self::NotUtf8(number, bytes) => {
+                write!(f, "token {number} has {bytes}, which is no character in UTF-8")
             }
             Self::TooDeep(node) => {
                 let (node, most) = (node.name(), limit::FORMS);

@@ -34,6 +34,7 @@
 //! long, malformed or too deep.
 
 mod build;
+mod bytes;
 mod describe;
 mod error;
 mod input;
@@ -44,6 +45,7 @@ mod tokens;
 pub mod tree;
 
 pub use build::SheetBuilder;
+pub use bytes::Bytes;
 pub use describe::{node, NodeDescription, PartDescription, Token};
 pub use error::{BuildError, Problem};
 pub use input::Input;

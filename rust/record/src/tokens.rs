@@ -2,7 +2,7 @@
 
 use crate::describe::{NodeDescription, PartDescription, Token};
 use crate::error::{BuildError, Problem};
-use crate::{command, limit, SyntaxKind};
+use crate::{command, limit, Bytes, SyntaxKind};
 use std::ops::Range;
 
 /// A text as its tokens.
@@ -97,10 +97,13 @@ impl Tokens {
         if range.end > limit::TEXT {
             return told(Problem::LongText(number), range.start);
         }
-        let mut bytes = range.map(|at| (at, self.text[at]));
-        match bytes.find(|(_, byte)| !byte.is_ascii()) {
-            Some((at, byte)) => told(Problem::NotAscii(number, byte), at),
-            None => Ok(()),
+        let (start, token) = (range.start, &self.text[range]);
+        match std::str::from_utf8(token) {
+            Ok(_) => Ok(()),
+            Err(error) => {
+                let whole = error.valid_up_to();
+                told(Problem::NotUtf8(number, Bytes::broken(&token[whole..])), start + whole)
+            }
         }
     }
 }

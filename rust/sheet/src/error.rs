@@ -1,7 +1,7 @@
 //! Why a text gives no sheet.
 
 use crate::lex::{Broken, Fault};
-use diverplume_record::{limit, BuildError, Problem};
+use diverplume_record::{limit, BuildError, Bytes, Problem};
 use std::fmt;
 
 /// A line and a column of a text, both from 1; columns count characters.
@@ -65,11 +65,11 @@ impl std::error::Error for Error {}
 impl Error {
     pub(crate) fn of_tokens(text: &[u8], broken: Broken) -> Self {
         let reason = match broken.fault {
-            Fault::NotAscii(_) | Fault::Long => Reason::Limit,
+            Fault::NotUtf8(_) | Fault::Long => Reason::Limit,
             Fault::Comment | Fault::Quote | Fault::Byte(_) => Reason::Syntax,
         };
         let problem = match broken.fault {
-            Fault::NotAscii(byte) => not_ascii(byte),
+            Fault::NotUtf8(bytes) => not_utf8(bytes),
             Fault::Long if text.len() > limit::TEXT => long_text(text),
             Fault::Long => {
                 format!("more than {} tokens follow without white space; set some", limit::TOKENS)
@@ -95,7 +95,7 @@ impl Error {
                 "the file's record has {length} bytes, the most is {}; split the file",
                 limit::RECORD
             ),
-            Problem::NotAscii(_, byte) => not_ascii(*byte),
+            Problem::NotUtf8(_, bytes) => not_utf8(*bytes),
             Problem::TooDeep(_) => too_deep(),
             other => other.to_string(),
         };
@@ -108,8 +108,8 @@ fn long_text(text: &[u8]) -> String {
     format!("the text has {} bytes, the most is {}; split the file", text.len(), limit::TEXT)
 }
 
-fn not_ascii(byte: u8) -> String {
-    format!("the byte 0x{byte:02X} is not ASCII; write it another way")
+fn not_utf8(bytes: Bytes) -> String {
+    format!("{bytes} is no character in UTF-8; save the file in UTF-8")
 }
 
 /// What is said of too many forms inside one another.

@@ -79,8 +79,6 @@ impl<'a> Parts<'a> {
 }
 
 /// A comment's text without white space at both ends.
-fn trimmed(text: &[u8]) -> &[u8] {
-    let start = text.iter().position(|&byte| !is_space(byte)).unwrap_or(text.len());
-    let end = text.iter().rposition(|&byte| !is_space(byte)).map_or(start, |at| at + 1);
-    &text[start..end]
+fn trimmed(text: &[u8]) -> &str {
+    std::str::from_utf8(text).expect("tokens end at characters").trim()
 }

@@ -17,8 +17,8 @@ pub mod number {
     pub const ACCEPTED: u8 = 0;
     /// Text or record too long.
     pub const TOO_LONG: u8 = 1;
-    /// A text byte of 128 or more.
-    pub const TEXT_BYTE: u8 = 2;
+    /// Text that is not well-formed UTF-8.
+    pub const NOT_UTF8: u8 = 2;
     /// Record malformed.
     pub const MALFORMED: u8 = 3;
     /// The 201st form inside.

@@ -15,14 +15,11 @@ pub fn decode(text: &[u8], record: &[u8]) -> Result<Root, Refusal> {
     if text.len() > limit::TEXT || record.len() > limit::RECORD {
         return Err(Refusal::new(number::TOO_LONG, 0));
     }
-    if let Some(place) = text.iter().position(|byte| !byte.is_ascii()) {
-        return Err(Refusal::new(number::TEXT_BYTE, place));
-    }
-    let text: String = text.iter().map(|&byte| char::from(byte)).collect();
-    let text_length = text.len();
-    let mut pass =
-        Pass { record, cursor: 0, forms: 0, open: Vec::new(), tree: TreeBuilder::new(text) };
-    pass.tokens(text_length)?;
+    let text = std::str::from_utf8(text)
+        .map_err(|error| Refusal::new(number::NOT_UTF8, error.valid_up_to()))?;
+    let tree = TreeBuilder::new(text.to_owned());
+    let mut pass = Pass { record, cursor: 0, forms: 0, open: Vec::new(), tree };
+    pass.tokens(text)?;
     pass.tree()?;
     if pass.cursor < record.len() {
         return Err(malformed(pass.cursor));
@@ -53,20 +50,21 @@ struct Pass<'a> {
 }
 
 impl Pass<'_> {
-    /// Reads the 0x05 commands; they have to tile the text.
-    fn tokens(&mut self, text_length: usize) -> Result<(), Refusal> {
+    /// Reads the 0x05 commands; they have to tile the text, each token ending at a character.
+    fn tokens(&mut self, text: &str) -> Result<(), Refusal> {
         while self.record.get(self.cursor) == Some(&command::TOKEN) {
             let [_, kind, low, high] = self.command()?;
             let kind = SyntaxKind::of_number(kind).ok_or(malformed(self.cursor))?;
             let length = u16::from_le_bytes([low, high]);
             let end = self.tree.tokens_end() as usize + usize::from(length);
-            if length == 0 || end > text_length || self.tree.token_count() == limit::TOKENS {
+            let fits = length > 0 && text.is_char_boundary(end);
+            if !fits || self.tree.token_count() == limit::TOKENS {
                 return Err(malformed(self.cursor));
             }
             self.tree.token(kind, length);
             self.cursor += 4;
         }
-        if (self.tree.tokens_end() as usize) < text_length {
+        if (self.tree.tokens_end() as usize) < text.len() {
             return Err(malformed(self.cursor));
         }
         Ok(())

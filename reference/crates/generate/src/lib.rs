@@ -4,6 +4,7 @@
 //! calls on it. Most sheets are grammar-directed, driven by the schema; three in ten of them are
 //! damaged in one place, each kind of damage with a name. [`Coverage`] counts what a run reaches.
 
+mod accents;
 mod case;
 mod commands;
 mod course;
@@ -20,6 +21,7 @@ mod style;
 mod words;
 mod write;
 
+pub use accents::accented;
 pub use case::{Calls, Case, Generator, Room};
 pub use commands::{commands, Command, Role};
 pub use coverage::{goals, Coverage, Goal};

@@ -59,7 +59,7 @@ fn numbers(damage: Damage) -> &'static [u8] {
         | Damage::TokenInTree
         | Damage::TextShorter
         | Damage::TextLonger => &[number::MALFORMED],
-        Damage::TextByte => &[number::TEXT_BYTE],
+        Damage::TextByte => &[number::NOT_UTF8],
         Damage::FieldAbsent | Damage::TokenKindChanged => {
             &[number::ACCEPTED, number::SYNTAX, number::COMMENTS]
         }

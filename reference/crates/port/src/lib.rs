@@ -86,30 +86,59 @@ pub struct Reading {
     pub tokens: Vec<(u8, u16, u16)>,
 }
 
-/// The record check.
+/// The tables that the record check fills.
+#[derive(Debug)]
+pub struct Tables {
+    kinds: [u8; limit::TOKENS],
+    starts: [u16; limit::TOKENS],
+    lengths: [u16; limit::TOKENS],
+}
+
+impl Tables {
+    /// Tables of zeros.
+    #[must_use]
+    pub fn new() -> Self {
+        let zeros = [0; limit::TOKENS];
+        Self { kinds: [0; limit::TOKENS], starts: zeros, lengths: zeros }
+    }
+
+    /// The record check: number, place, count of tokens, where the list of declarations starts.
+    pub fn read(&mut self, text: &[u8], record: &[u8]) -> [u64; 4] {
+        let mut answer = [UNWRITTEN; 4];
+        // SAFETY: each pointer comes from a slice or array of the length passed with it.
+        unsafe {
+            diverplume_test_read(
+                text.as_ptr(),
+                text.len(),
+                record.as_ptr(),
+                record.len(),
+                &mut answer,
+                &mut self.kinds,
+                &mut self.starts,
+                &mut self.lengths,
+            );
+        }
+        answer
+    }
+}
+
+impl Default for Tables {
+    fn default() -> Self {
+        Self::new()
+    }
+}
+
+/// The record check, with the tokens.
 ///
 /// # Panics
 ///
 /// Where the call gives more tokens than the tables have entries.
 #[must_use]
 pub fn read(text: &[u8], record: &[u8]) -> Reading {
-    let mut answer = [UNWRITTEN; 4];
-    let mut kinds = [0; limit::TOKENS];
-    let (mut starts, mut lengths) = ([0; limit::TOKENS], [0; limit::TOKENS]);
-    // SAFETY: each pointer comes from a slice or array of the length passed with it.
-    unsafe {
-        diverplume_test_read(
-            text.as_ptr(),
-            text.len(),
-            record.as_ptr(),
-            record.len(),
-            &mut answer,
-            &mut kinds,
-            &mut starts,
-            &mut lengths,
-        );
-    }
+    let mut tables = Tables::new();
+    let answer = tables.read(text, record);
     let count = usize::try_from(answer[2]).expect("a count of tokens");
+    let Tables { kinds, starts, lengths } = tables;
     let tokens = (0..count).map(|token| (kinds[token], starts[token], lengths[token])).collect();
     Reading { answer, tokens }
 }

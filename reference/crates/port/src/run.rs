@@ -3,7 +3,7 @@
 use crate::compare::{compare, Difference, Work};
 use crate::count::Compared;
 use crate::parallel::in_parallel;
-use generate::{Case, Generator};
+use generate::{accented, Case, Generator, Rng};
 use std::fmt;
 
 /// Comments are looked up at every token, doc comments too on 24 sheets in 25.
@@ -33,5 +33,19 @@ pub fn run(seed: u64, cases: u64) -> Result<Compared, Box<Differing>> {
     in_parallel(cases, |index| {
         let case = Generator::new(seed).case(index);
         compare(&case.sheet, WORK).map_err(|difference| Box::new(Differing { case, difference }))
+    })
+}
+
+/// Compares the first cases of a seed with accents in their texts, on all processors.
+///
+/// # Errors
+///
+/// A case that differs, with the accents in the difference: of those found before the threads
+/// stopped, the first.
+pub fn run_accented(seed: u64, cases: u64) -> Result<Compared, Box<Differing>> {
+    in_parallel(cases, |index| {
+        let case = Generator::new(seed).case(index);
+        let sheet = accented(&case.sheet, &mut Rng::new(seed, index));
+        compare(&sheet, WORK).map_err(|difference| Box::new(Differing { case, difference }))
     })
 }

@@ -1,6 +1,6 @@
 //! Texts at the corners of the grammar, and at the limits, with their answers.
 
-use decode::number::{BEGINS_NO_TOKEN, NO_STRING, OPEN_COMMENT, TEXT_BYTE, TOO_LONG};
+use decode::number::{BEGINS_NO_TOKEN, NO_STRING, OPEN_COMMENT, TOO_LONG};
 use std::iter::repeat_n;
 use Expected::{Refused, Tokens};
 
@@ -145,9 +145,15 @@ const STRINGS: &[(&str, Expected)] = &[
     ("\0", Refused(BEGINS_NO_TOKEN, 0)),
     ("x\u{1f}\"", Refused(BEGINS_NO_TOKEN, 1)),
     ("x\"\u{1f}", Refused(NO_STRING, 1)),
-    ("\u{e9}", Refused(TEXT_BYTE, 0)),
-    ("(* \u{e9} *)", Refused(TEXT_BYTE, 3)),
-    ("\"\u{e9}", Refused(TEXT_BYTE, 1)),
+    ("\u{e9}", Refused(BEGINS_NO_TOKEN, 0)),
+    ("(* \u{e9} *)", Tokens(&["(* \u{e9} *)"])),
+    ("(*\u{e9}(*\u{20ac}*)\u{1f600}*)\u{e9}", Refused(BEGINS_NO_TOKEN, 17)),
+    ("(*\u{e9}", Refused(OPEN_COMMENT, 0)),
+    ("\"\u{e9}\"", Refused(NO_STRING, 0)),
+    ("#\"\u{e9}\"", Refused(NO_STRING, 1)),
+    ("x\u{e9}", Refused(BEGINS_NO_TOKEN, 1)),
+    ("x \u{a0}", Refused(BEGINS_NO_TOKEN, 2)),
+    ("\u{3000}x", Refused(BEGINS_NO_TOKEN, 0)),
 ];
 
 /// All corners: a text and what it gives.
@@ -192,8 +198,9 @@ pub fn limits() -> Vec<Limit> {
         limit(
             "a wide byte behind a quote",
             &[("\"", 1), ("x", 9), ("\u{e9}", 1)],
-            Err((TEXT_BYTE, 10)),
+            Err((NO_STRING, 0)),
         ),
+        limit("accents, 32,768 bytes", &[("(*", 1), ("\u{e9}", 16_382), ("*)", 1)], Ok(1)),
         limit("a comment of 32,768 bytes", &[("(*", 8_192), ("*)", 8_192)], Ok(1)),
         limit("8,191 comments open", &[("(*", 8_192), ("*)", 1)], Err((OPEN_COMMENT, 0))),
         limit("32,768 digits", &[("7", 32_768)], Ok(1)),

@@ -46,8 +46,8 @@ pub fn scan(text: &[u8]) -> Scanned {
     if text.len() > limit::TEXT {
         return Err(refusal(numbers::TOO_LONG, 0));
     }
-    if let Some(place) = text.iter().position(|&byte| byte >= 128) {
-        return Err(refusal(numbers::TEXT_BYTE, place));
+    if let Err(error) = std::str::from_utf8(text) {
+        return Err(refusal(numbers::NOT_UTF8, error.valid_up_to()));
     }
     let (mut tokens, mut place) = (Vec::new(), 0);
     while place < text.len() {

@@ -39,9 +39,9 @@ fn number_1() {
 #[test]
 fn number_2() {
     assert_eq!(
-        refusal("val x = 1\nval \u{e9} = 2".as_bytes(), &[]),
-        "refused (2): the byte 0xC3 at line 2, column 5 of the text (offset 14) is not ASCII; \
-         write it another way, in a string constant as \\195"
+        refusal(b"(* \xC3\xA9 *)\n(* \xC3\xA9\xE2\x82 *)", &[]),
+        "refused (2): 0xE2 0x82 at line 2, column 5 of the text (offset 14) is no character in \
+         UTF-8; save the file in UTF-8"
     );
     assert!(refusal(&[0x80], &[]).contains("at line 1, column 1 of the text (offset 0)"));
     assert!(refusal(&[b'\n', 0xFF], &[]).contains("at line 2, column 1 of the text (offset 1)"));

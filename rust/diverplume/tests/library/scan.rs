@@ -78,15 +78,20 @@ fn messages_of_places() {
     assert_eq!(
         refusal(b"val x = \"a\n\""),
         "refused (11): the double quote at line 1, column 9 of the text (offset 8) begins no \
-         string constant; close the string on its line, write control characters as escapes such \
-         as \\n or \\009, and a backslash as \\\\"
+         string constant; close the string on its line, write control characters and bytes of 128 \
+         and more as escapes such as \\n, \\009 or \\195, and a backslash as \\\\"
     );
     assert_eq!(
         refusal(b"val x\n = \x01"),
         "refused (12): no token begins with the byte 0x01 at line 2, column 4 of the text (offset \
-         9); remove it, or write it in a string constant as \\001"
+         9); move it into a comment, or write it in a string constant as \\001"
     );
-    let text = "val x = 1\nval \u{e9} = 2".as_bytes();
+    assert_eq!(
+        refusal("(* \u{e9} *) val \u{e9} = 2".as_bytes()),
+        "refused (12): no token begins with the byte 0xC3 at line 1, column 13 of the text (offset \
+         13); move it into a comment, or write it in a string constant as \\195"
+    );
+    let text = b"val x = 1\nval \xED\xA0\x80 = 2";
     assert_eq!(refusal(text), check(text, &[]).to_string());
 }
 

@@ -9,7 +9,7 @@ mod word;
 pub(crate) use word::{words, Class, Word};
 
 use diverplume::{Number, Refusal};
-use diverplume_record::{limit, SyntaxKind};
+use diverplume_record::{limit, Bytes, SyntaxKind};
 use std::ops::Range;
 
 /// A token: its kind and its place in the text.
@@ -35,8 +35,8 @@ pub(crate) enum Fault {
     Quote,
     /// Another byte that begins no token.
     Byte(u8),
-    /// A byte that is not ASCII.
-    NotAscii(u8),
+    /// A broken character.
+    NotUtf8(Bytes),
     /// A token that is past the limits of a sheet, or too many without white space between.
     Long,
 }
@@ -59,7 +59,7 @@ fn in_pieces(text: &[u8], piece: usize) -> Result<Vec<Lexeme>, Broken> {
             (start, length) = (end, piece);
             continue;
         };
-        if matches!(broken.fault, Fault::NotAscii(_) | Fault::Long) {
+        if matches!(broken.fault, Fault::NotUtf8(_) | Fault::Long) {
             return Err(broken);
         }
         let whole = whole_before(text, start, broken);
@@ -114,7 +114,7 @@ fn broken(text: &[u8], start: usize, refusal: &Refusal) -> Broken {
         Number::OpenComment => Fault::Comment,
         Number::NoString => Fault::Quote,
         Number::BeginsNoToken => Fault::Byte(text[offset]),
-        Number::NotAscii => Fault::NotAscii(text[offset]),
+        Number::NotUtf8 => Fault::NotUtf8(Bytes::broken(&text[offset..])),
         _ => Fault::Long,
     };
     Broken { offset, fault }
@@ -179,7 +179,7 @@ mod tests {
             assert_eq!(of("x (* (* *)"), (at + 2, Fault::Comment));
             assert_eq!(of("x \"a\n\""), (at + 2, Fault::Quote));
             assert_eq!(of("x \u{1}"), (at + 2, Fault::Byte(1)));
-            assert_eq!(of("\u{e9}"), (at, Fault::NotAscii(0xC3)));
+            assert_eq!(of("\u{e9}"), (at, Fault::Byte(0xC3)));
         }
         assert_eq!(told(&";".repeat(5_000)), Err((0, Fault::Long)));
         assert_eq!(told(&format!("(*{}", "x ".repeat(20_000))), Err((0, Fault::Long)));

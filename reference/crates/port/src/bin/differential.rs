@@ -7,8 +7,9 @@ use std::process::ExitCode;
 use std::time::Instant;
 
 const USAGE: &str = "usage:
-  differential COUNT SEED        compares port and Rust on the first COUNT cases of SEED
-  differential scan COUNT SEED   compares the scanners on the first COUNT texts of SEED";
+  differential COUNT SEED          compares port and Rust on the first COUNT cases of SEED
+  differential accents COUNT SEED  the same, with accents in their texts
+  differential scan COUNT SEED     compares the scanners on the first COUNT texts of SEED";
 
 fn main() -> ExitCode {
     let arguments: Vec<_> = std::env::args().skip(1).collect();
@@ -17,6 +18,9 @@ fn main() -> ExitCode {
     let done = match arguments[..] {
         ["scan", ref numbers @ ..] => {
             numbers_of(numbers).map(|(count, seed)| report(seed, scan::run(seed, count)))
+        }
+        ["accents", ref numbers @ ..] => {
+            numbers_of(numbers).map(|(count, seed)| report(seed, run::run_accented(seed, count)))
         }
         ref numbers => numbers_of(numbers).map(|(count, seed)| report(seed, run::run(seed, count))),
     };
