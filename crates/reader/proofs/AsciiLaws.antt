@@ -1,15 +1,13 @@
 -- Document 02, Ticket 5: on ASCII texts every answer is what it was. Assumes nothing.
-use Prim.Native.Nat.{ℕ, zero, suc, _+_, _<_}
+use Prim.Native.Nat.{ℕ, zero, suc, _+_}
 use native.Mathlib.Omega.{arith}
-use mathlib.Core.Path.{_≡_, refl, ap, ap₂, _∙_}
+use mathlib.Core.Path.{_≡_, refl, ap, ap₂}
 use mathlib.Core.Bool.{Bool, true, false, not, _&&_}
 use mathlib.Core.List.{List, [], _∷_}
-use mathlib.Core.Option.{none, some}
 use lib.Dec.{leb, eqb}
 use lib.ListN.{length, getD, drop}
-use lib.Seq.{getD-drop}
 use borrow.Author.Tests.{lt-leb}
-use Rattle.text.specs.Utf8.{isIn, isInside, boundary, firstBroken}
+use Rattle.text.specs.Utf8.{isIn, isInside, boundary}
 use Rattle.text.specs.WellFormed.{Ascii}
 use Rattle.text.proofs.Utf8Laws.{ascii-whole}
 use Rattle.reader.specs.Commands.{u16, command}

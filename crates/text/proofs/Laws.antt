@@ -8,9 +8,9 @@ use mathlib.Core.List.{List, [], _∷_, _++_, map, reverse, reverse-append, reve
 use lib.Dec.{leb, eqb}
 use lib.ListN.{length, getD, take, drop, set, length-take, length-drop, length-reverse, drop-of-length-le, take-append-drop}
 use lib.Seq.{drop-cons, drop-drop, take-all, take-take, length-take-le, drop-at, paste, paste-suc}
-use borrow.Author.Tests.{le-leb, lt-leb, eq-eqb, ne-eqb, eqb-true, leb-true}
+use borrow.Author.Tests.{lt-leb, eq-eqb, ne-eqb, eqb-true, leb-true}
 use Rattle.text.proofs.Computed.{and-right}
-use Rattle.text.specs.Bytes.{between, isSpace, isLetter, isDigit, letterEntry, digitEntry, otherEntry, classOf, classesFrom, classTable, sameBytes, firstIs, whiteSpace, startsWith, leading, stripFrom, strip, trimStart, trimEnd, trim}
+use Rattle.text.specs.Bytes.{between, isLetter, isDigit, letterEntry, digitEntry, otherEntry, classOf, classesFrom, classTable, sameBytes, firstIs, whiteSpace, startsWith, leading, stripFrom, strip, trimStart, trimEnd, trim}
 
 -- Two different constructors are not equal: from an equation of theirs `cc` proves `0 ≡ 1`.
 pub never : {A : Type 0} → _≡_ {A = ℕ} 0 1 → A

@@ -1,16 +1,14 @@
 -- Laws of the definitions in specs/Utf8.antt: rows of the table, the scan for the first broken character. Assumes nothing.
 use Prim.Native.Nat.{ℕ, zero, suc, _+_, _-_, _≤_, _<_}
-use native.Mathlib.Numerals.{add-one}
 use native.Mathlib.Nat.{add-zero}
 use native.Mathlib.Omega.{arith}
 use mathlib.Core.Path.{_≡_, refl, sym, ap, _∙_}
 use mathlib.Core.Bool.{Bool, true, false, not, _&&_, and-true, false≢true}
 use mathlib.Core.List.{List, [], _∷_, _++_}
-use mathlib.Core.Option.{Option, none, some}
-use lib.Dec.{leb}
+use mathlib.Core.Option.{none, some}
 use lib.ListN.{length, getD, take, drop, drop-of-length-le, length-drop}
 use lib.Seq.{drop-cons, drop-drop}
-use borrow.Author.Tests.{le-leb, lt-leb}
+use borrow.Author.Tests.{le-leb}
 use Rattle.text.specs.Utf8.{Range, _‥_, isIn, continuation, wellFormed, fits, widthIn, charAt, brokenFrom, firstBroken, isInside, boundary}
 use Rattle.text.specs.WellFormed.{Ascii}
 use Rattle.text.proofs.Computed.{and-right}

@@ -4,19 +4,19 @@ use Prim.Native.Nat.{ℕ, zero, suc, _+_, _-_, _/_, _%_, _≤_, _<_}
 use native.Mathlib.Omega.{arith}
 use mathlib.Core.Path.{_≡_, refl, sym, ap, ap₂, subst, _∙_}
 use mathlib.Core.Bool.{Bool, true, false, not, _&&_, _||_, false≢true}
-use mathlib.Core.List.{List, [], _∷_, _++_, map, reverse, reverseAux, reverse-append, reverse-reverse, append-assoc, append-nil}
+use mathlib.Core.List.{List, [], _∷_, _++_, map, reverse, reverse-append, reverse-reverse, append-assoc, append-nil}
 use mathlib.Core.Option.{Option, none, some}
 use lib.Dec.{leb, eqb}
-use lib.ListN.{length, getD, take, drop, length-drop, length-append, length-reverse}
+use lib.ListN.{length, take, drop, length-drop, length-append, length-reverse}
 use lib.Seq.{drop-at, take-at, drop-append-add}
-use borrow.Author.Tests.{eq-eqb, ne-eqb, eqb-true, eqb-false, leb-true, leb-false}
+use borrow.Author.Tests.{eq-eqb, eqb-true, eqb-false, leb-true, leb-false}
 use Rattle.text.specs.Utf8.{isIn, isScalar, encode, encoded, continuation, charAt, brokenFrom, firstBroken, isInside, boundary}
 use Rattle.text.specs.Bytes.{between, isSpace, whiteSpaceCodes, whiteSpace, startsWith, leading, stripFrom, strip, trimStart, trimEnd, trim}
 use Rattle.text.specs.WellFormed.{All, Scalar, Encodes, Between, dropWhile, dropEnds, isOneOf, isWhiteSpace, Ascii, trimAscii}
 use Rattle.text.proofs.Computed.{and-left, and-right, allBelow, same, agree}
 use Rattle.text.proofs.Laws.{never, strip-none, strip-some}
 use Rattle.text.proofs.Utf8Laws.{broken-cons}
-use Rattle.text.proofs.EncodeLaws.{in-yes, in-over, in-under, lengths, encode-one, encode-two, encode-three, encode-four, char-encode, encode-some, encode-injective, Starts, char-starts, scalar-bounds, scalar-low}
+use Rattle.text.proofs.EncodeLaws.{in-yes, in-over, in-under, lengths, encode-one, encode-two, encode-three, encode-four, char-encode, encode-some, encode-injective, char-starts, scalar-bounds, scalar-low}
 
 -- ---- well-formed texts
 -- A character in front of a text.

@@ -1,6 +1,5 @@
 -- Document 02, Ticket 5: "Text shall be well-formed UTF-8, as the Rust takes it." Characters, by The Unicode Standard, chapter 3.
 use Prim.Native.Nat.{ℕ, zero, suc, _+_, _/_, _%_}
-use mathlib.Core.Path.{_≡_}
 use mathlib.Core.List.{List, [], _∷_, _++_}
 use mathlib.Core.Bool.{Bool, true, false, not, _&&_, _||_}
 use mathlib.Core.Option.{Option, none, some}

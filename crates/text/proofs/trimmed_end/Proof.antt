@@ -2,7 +2,7 @@
 use denote.Ref.{now}
 use Prim.Native.Nat.{ℕ, _≤_}
 use native.Mathlib.Omega.{arith}
-use mathlib.Core.Path.{_≡_, refl, sym, ap, _∙_}
+use mathlib.Core.Path.{_≡_, sym, ap, _∙_}
 use mathlib.Core.List.{List, map, reverse, reverse-reverse}
 use lib.ListN.{length, take}
 use lib.Seq.{take-length}
