@@ -73,22 +73,30 @@ fn places_of_broken_characters() {
     assert_eq!(place(&long), Some(32_766));
 }
 
-/// Sheet F with another comment.
-fn with_comment(comment: &str) -> Sheet {
-    let Sheet { text, mut record } = lettered::f();
-    let length = u16::from_le_bytes([record[2], record[3]]);
-    record[2..4].copy_from_slice(&u16::try_from(comment.len()).expect("short").to_le_bytes());
-    Sheet { text: [comment.as_bytes(), &text[usize::from(length)..]].concat(), record }
+/// The sheet with another text of a token.
+fn with_token(sheet: Sheet, number: usize, token: &str) -> Sheet {
+    let Sheet { mut text, mut record } = sheet;
+    let length =
+        |at: usize| usize::from(u16::from_le_bytes([record[4 * at + 2], record[4 * at + 3]]));
+    let start = (0..number).map(length).sum::<usize>();
+    text.splice(start..start + length(number), token.bytes());
+    let length = u16::try_from(token.len()).expect("a short token");
+    record[4 * number + 2..4 * number + 4].copy_from_slice(&length.to_le_bytes());
+    Sheet { text, record }
 }
 
-/// What is written of a comment above `val x = 1`.
-fn written(comment: &str) -> String {
-    let Sheet { text, record } = with_comment(comment);
+/// What is written of a sheet at tab size 2.
+fn written(sheet: &Sheet) -> String {
     let mut output = [0; 64];
-    let verdict = get(&text, &record, 2, &mut output);
-    assert_eq!(verdict.number, Number::Accepted, "{comment:?}");
+    let verdict = get(&sheet.text, &sheet.record, 2, &mut output);
+    assert_eq!(verdict.number, Number::Accepted, "{sheet:?}");
     let length = usize::try_from(verdict.measures.length(2)).expect("short");
     std::str::from_utf8(&output[..length]).expect("well-formed").to_owned()
+}
+
+/// What is written of a comment above `val x = 1`: sheet F with another comment.
+fn with_comment(comment: &str) -> String {
+    written(&with_token(lettered::f(), 0, comment))
 }
 
 #[test]
@@ -98,7 +106,8 @@ fn every_scalar_value_at_both_ends_of_a_comment() {
         for code in block as u32 * 256..(block as u32 + 1) * 256 {
             let Some(end) = char::from_u32(code) else { continue };
             let comment = format!("{end}(* a *){end}");
-            let (given, expected) = (written(&comment), format!("{}\nval x = 1", comment.trim()));
+            let (given, expected) =
+                (with_comment(&comment), format!("{}\nval x = 1", comment.trim()));
             if given != expected {
                 return Err(format!("U+{code:04X}: {given:?}, not {expected:?}"));
             }
@@ -119,8 +128,17 @@ fn white_space_is_stripped_by_characters() {
         ("\u{3000}\u{85} (* \u{a0} *)\u{2028}\t\u{205f}", "(* \u{a0} *)"),
         ("\u{a0}\u{2003}", ""),
     ] {
-        assert_eq!(written(comment), format!("{trimmed}\nval x = 1"));
+        assert_eq!(with_comment(comment), format!("{trimmed}\nval x = 1"));
     }
+}
+
+/// A name that begins with a byte of 128 or more is not alphanumeric: sheet I, `val p = op +`.
+#[test]
+fn letter_tests_know_ascii_only() {
+    let op = |name| written(&with_token(lettered::i(), 8, name));
+    assert_eq!(op("+"), "val p = op+");
+    assert_eq!(op("\u{e9}"), "val p = op\u{e9}");
+    assert_eq!(op("e\u{301}"), "val p = op e\u{301}");
 }
 
 /// A token that ends inside a character is 3 at its command, and the first to be told.
