@@ -94,6 +94,14 @@ stopped-is : (x : Outcome) → ends x ≡ 1 → (why : Stop) × (es : List Event
 stopped-is (done end es) e = never e
 stopped-is (stopped why es) e = (why, es, refl)
 
+-- What the record check decides.
+abbrev checked : Page → ℕ → Judged
+checked p tree = byCheck (treeCheck (p .rec) (countOf (p .tokens)) tree)
+
+pub weigh-checked : {p : Page} {count tree tab : ℕ} {draft left : List ℕ} {j : Code.Judged} {a : Answer} → byWalk p tree ≡ checked p tree
+    → declined (verdictOf a emptySet) ≡ checked p tree → (j ≡ Says.Declined a) × (left ≡ emptySet) → Weighs p count tree tab draft left j
+weigh-checked e q h = record { is = rw (h .0, h .1) (e ∙ sym q) }
+
 -- The walk over a sheet, from its start.
 abbrev begin : ℕ → St
 begin tree = record { at = tree; deepest = 0; letters = 0; units = 0 }
@@ -126,23 +134,15 @@ module _ {p : Page} {tree tab : ℕ} {o m : List ℕ} {r : Walking.Answer} {o′
       (sym (run-falls p tab (walk p tree) (runOf (begin tree) o m)) ∙ ap falls (sym whole ∙ ap (λ x. packed x o′ m′) f))
 
   -- ---- 3 to 5
-  abbrev checked : Judged
-  checked = byCheck (treeCheck (p .rec) (countOf (p .tokens)) tree)
-
-  weigh-checked : byWalk p tree ≡ checked → {a : Answer} {j : Code.Judged} {count : ℕ} {draft left : List ℕ}
-      → declined (verdictOf a emptySet) ≡ checked → (j ≡ Says.Declined a) × (left ≡ emptySet) → Weighs p count tree tab draft left j
-  weigh-checked e q h = record { is = rw (h .0, h .1) (e ∙ sym q) }
-
   whole-stops : {s : St} {place : ℕ} {import : Bool} → r ≡ Stopped s place import → (why : Stop) × (es : List Event) × (walk p tree ≡ stopped why es)
   whole-stops f =
       stopped-is (walk p tree)
       (sym (run-falls p tab (walk p tree) (runOf (begin tree) o m)) ∙ ap falls (sym whole ∙ ap (λ x. packed x o′ m′) f))
 
   -- A walk that stopped.
-  pub weigh-stopped : {s : St} {place : ℕ} {import : Bool} → r ≡ Stopped s place import → {a : Answer} {j : Code.Judged} {count : ℕ} {draft left : List ℕ}
-      → declined (verdictOf a emptySet) ≡ checked → (j ≡ Says.Declined a) × (left ≡ emptySet) → Weighs p count tree tab draft left j
+  pub stopped-checked : {s : St} {place : ℕ} {import : Bool} → r ≡ Stopped s place import → byWalk p tree ≡ checked p tree
   unfolding byWalk
-  weigh-stopped f = weigh-checked (rw (whole-stops f .2, byWalk) refl)
+  stopped-checked f = rw (whole-stops f .2, byWalk) refl
 
   module _ {s : St} (f : r ≡ Done s) where
     ended : walk p tree ≡ done (s .at) (whole-ends f .1)
@@ -151,10 +151,9 @@ module _ {p : Page} {tree tab : ℕ} {o m : List ℕ} {r : Walking.Answer} {o′
         e ∙ ap (λ n. done n (whole-ends f .1)) (sym (ap (λ x. x .at) (whole-st e f)))
 
     -- A walk that ended elsewhere than at the record's end.
-    pub weigh-short : (s .at ≡ length (p .rec) → ⊥) → {a : Answer} {j : Code.Judged} {count : ℕ} {draft left : List ℕ}
-        → declined (verdictOf a emptySet) ≡ checked → (j ≡ Says.Declined a) × (left ≡ emptySet) → Weighs p count tree tab draft left j
+    pub short-checked : (s .at ≡ length (p .rec) → ⊥) → byWalk p tree ≡ checked p tree
     unfolding byWalk
-    weigh-short ne = weigh-checked (rw (ended, byWalk, ne-eqb (s .at) (length (p .rec)) ne) refl)
+    short-checked ne = rw (ended, byWalk, ne-eqb (s .at) (length (p .rec)) ne) refl
 
     whole-is : s .at ≡ length (p .rec) → byWalk p tree ≡ comments p (whole-ends f .1)
     unfolding byWalk

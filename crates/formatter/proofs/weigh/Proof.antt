@@ -1,5 +1,5 @@
 -- `formatter::weigh` meets its contract: the walk over a draft; the record check where it did not end at the record's end.
-use Rattle.formatter.proofs.JudgeLaws.{taken, kinds-few, weigh-stopped, weigh-short, weigh-accepts, weigh-never, weigh-comments}
+use Rattle.formatter.proofs.JudgeLaws.{taken, kinds-few, weigh-checked, stopped-checked, short-checked, weigh-accepts, weigh-never, weigh-comments}
 use borrow.Author.Needs.{needs}
 use Rattle.formatter.proofs.weigh.Statement.{statement}
 use Rattle.formatter.proofs.weigh.Tie as tie
@@ -35,7 +35,7 @@ same-length : tie.Need-same-length
 same-length c = search needs
 
 returns : tie.Need-returns
-returns c = weigh-stopped (c .before .before .before .before .before .before .before .walk .ensures) (c .before .before .before .enum-told .given .1) (c .before .by-check .ensures) (c .refused .ensures)
+returns c = weigh-checked (stopped-checked (c .before .before .before .before .before .before .before .walk .ensures) (c .before .before .before .enum-told .given .1)) (c .before .by-check .ensures) (c .refused .ensures)
 
 by-check-requires-2 : tie.Need-by-check-requires-2
 by-check-requires-2 c κs = search needs
@@ -47,7 +47,7 @@ same-length-2 : tie.Need-same-length-2
 same-length-2 c = search needs
 
 returns-2 : tie.Need-returns-2
-returns-2 c = weigh-short (c .before .before .before .before .before .before .before .before .before .before .walk .ensures) (c .before .before .before .before .before .before .walked .given .1) (c .before .before .before .if1 .taken) (c .before .by-check2 .ensures) (c .refused2 .ensures)
+returns-2 c = weigh-checked (short-checked (c .before .before .before .before .before .before .before .before .before .before .walk .ensures) (c .before .before .before .before .before .before .walked .given .1) (c .before .before .before .if1 .taken)) (c .before .by-check2 .ensures) (c .refused2 .ensures)
 
 is-empty-requires : tie.Need-is-empty-requires
 is-empty-requires c κs = search needs
