@@ -2,8 +2,9 @@
 
 use schema::tree::{
     AppExp, Arm, CaseExp, ConTy, Dec, EqExp, EqTy, Exp, ExpArg, ExpDec, HoleDec, HoleTy, LetExp,
-    ListExp, Matcher, ParenPat, ParenTy, Pat, Path, PathExp, RecordTy, SConExp, StarTy, StrBind,
-    StructStrExp, StructureDec, TupleTy, Ty, TyBind, TyDec, TyRow, ValBind, ValDec, WildcardPat,
+    ListExp, LocalDec, Matcher, ParenPat, ParenTy, Pat, Path, PathExp, RecordTy, SConExp, StarTy,
+    StrBind, StructStrExp, StructureDec, TupleTy, Ty, TyBind, TyDec, TyRow, ValBind, ValDec,
+    WildcardPat,
 };
 use schema::{limit, tree, Sheet, SheetBuilder, SyntaxKind, Token};
 
@@ -14,6 +15,7 @@ pub fn all() -> Vec<(&'static str, Sheet)> {
         ("cases", cases()),
         ("lets", lets()),
         ("structures", structures()),
+        ("locals", locals()),
         ("patterns", patterns()),
         ("types", types()),
         ("left-applications", left_applications()),
@@ -74,6 +76,19 @@ pub fn structures() -> Sheet {
     let dec = (0..(limit::FORMS - 1) / 2).fold(hole, |dec, _| {
         let body = tree::EqStrExp::of(StructStrExp::of([Dec::one(dec)]));
         StructureDec::of([StrBind::new().name(s).eq_str_exp(body)]).first(structure)
+    });
+    finish(builder, [Dec::one(dec)])
+}
+
+/// `local` inside `local`, 200 forms, the innermost `...`. No sheet is known that takes more stack.
+#[must_use]
+pub fn locals() -> Sheet {
+    let mut builder = SheetBuilder::new();
+    let local = builder.word("local");
+    let hole = HoleDec::new().first(local);
+    let dec = (0..limit::FORMS - 1).fold(hole, |dec, _| {
+        let head = tree::LocalDecHd::of([Dec::one(dec)]);
+        LocalDec::new().local_dec_hd(head).first(local)
     });
     finish(builder, [Dec::one(dec)])
 }
