@@ -49,7 +49,7 @@ module _ (c : ℕ) where
 
 -- ---- rows
 -- Every row starts with a range below a byte.
-unfoldable under : ℕ → List (List Range) → Bool
+unfoldable pub under : ℕ → List (List Range) → Bool
 under lo [] = true
 under lo ([] ∷ rows) = false
 under lo ((r ∷ rs) ∷ rows) = leb (suc (r .last)) lo && under lo rows
@@ -76,16 +76,16 @@ module _ (k : ℕ) (lo hi lo′ hi′ : ℕ) (u : under lo (take k wellFormed) �
       ∙ pass lo (take k wellFormed) ((lo ‥ hi ∷ rs) ∷ drop (suc k) wellFormed) a t u p
       ∙ hit (lo ‥ hi ∷ rs) (drop (suc k) wellFormed) (a ∷ t) (rw (in-yes lo hi a p p′) f)
 
-  char-two : wellFormed ≡ take k wellFormed ++ (lo ‥ hi ∷ lo′ ‥ hi′ ∷ []) ∷ drop (suc k) wellFormed → charAt (a ∷ b ∷ t) ≡ 2
+  pub char-two : wellFormed ≡ take k wellFormed ++ (lo ‥ hi ∷ lo′ ‥ hi′ ∷ []) ∷ drop (suc k) wellFormed → charAt (a ∷ b ∷ t) ≡ 2
   unfolding fits
   char-two e = char-row (lo′ ‥ hi′ ∷ []) (b ∷ t) e (rw (in-yes lo′ hi′ b q q′))
 
   module _ (c : ℕ) (r : 0x80 ≤ c) (r′ : c ≤ 0xBF) where
-    char-three : wellFormed ≡ take k wellFormed ++ (lo ‥ hi ∷ lo′ ‥ hi′ ∷ continuation ∷ []) ∷ drop (suc k) wellFormed → charAt (a ∷ b ∷ c ∷ t) ≡ 3
+    pub char-three : wellFormed ≡ take k wellFormed ++ (lo ‥ hi ∷ lo′ ‥ hi′ ∷ continuation ∷ []) ∷ drop (suc k) wellFormed → charAt (a ∷ b ∷ c ∷ t) ≡ 3
     unfolding fits
     char-three e = char-row (lo′ ‥ hi′ ∷ continuation ∷ []) (b ∷ c ∷ t) e (rw (in-yes lo′ hi′ b q q′, in-yes 0x80 0xBF c r r′))
 
-    char-four : (d : ℕ) → 0x80 ≤ d → d ≤ 0xBF
+    pub char-four : (d : ℕ) → 0x80 ≤ d → d ≤ 0xBF
         → wellFormed ≡ take k wellFormed ++ (lo ‥ hi ∷ lo′ ‥ hi′ ∷ continuation ∷ continuation ∷ []) ∷ drop (suc k) wellFormed
         → charAt (a ∷ b ∷ c ∷ d ∷ t) ≡ 4
     unfolding fits

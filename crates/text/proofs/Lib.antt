@@ -3,5 +3,6 @@ pub mod Laws
 pub mod Utf8Laws
 pub mod SpaceLaws
 pub mod EncodeLaws
+pub mod WholeLaws
 pub mod WellFormedLaws
 pub mod OutputLaws

@@ -1,4 +1,4 @@
--- `text::first_broken` meets its contract: where no byte exceeds 127 no character is broken. Assumes nothing.
+-- `text::first_broken` meets its contract: where no byte exceeds 127, or each may stand where it does, no character is broken. Assumes nothing.
 use native.Mathlib.Omega.{arith}
 use mathlib.Core.Path.{sym}
 use Rattle.text.specs.Utf8.{brokenAt}
@@ -14,12 +14,26 @@ returns : tie.Need-returns
 unfolding brokenAt
 returns c = sym (ascii-whole _ (λ i h. omega (arith, c .before .greatest .ensures i h)))
 
+is-whole-requires : tie.Need-is-whole-requires
+is-whole-requires c κs = search needs
+
+returns-2 : tie.Need-returns-2
+unfolding brokenAt
+returns-2 c = sym (c .before .is-whole .ensures (c .if2 .taken))
+
 first-broken-char-requires : tie.Need-first-broken-char-requires
 first-broken-char-requires c κs = search needs
 
-returns-2 : tie.Need-returns-2
-returns-2 c = search needs
+returns-3 : tie.Need-returns-3
+returns-3 c = search needs
 
 pub first-broken-spec : {M : Type 1} → statement M
 first-broken-spec =
-    tie.close (tie.spec greatest-requires returns first-broken-char-requires returns-2)
+    tie.close
+    (tie.spec
+    greatest-requires
+    returns
+    is-whole-requires
+    returns-2
+    first-broken-char-requires
+    returns-3)

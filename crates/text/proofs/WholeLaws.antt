@@ -1,0 +1,324 @@
+-- A text whose every byte may stand behind the three before it is well-formed. Assumes nothing.
+use Prim.Native.Nat.{ℕ, zero, suc, _+_, _-_, _*_, _≤_, _<_}
+use native.Mathlib.Omega.{arith}
+use mathlib.Core.Path.{_≡_, refl, sym, ap, subst, _∙_}
+use mathlib.Core.Bool.{Bool, true, false}
+use mathlib.Core.List.{List, [], _∷_, _++_}
+use mathlib.Core.Option.{none}
+use lib.Dec.{leb, eqb}
+use lib.ListN.{length, getD, take, drop}
+use lib.Seq.{getD-take, length-take-le}
+use borrow.Author.Tests.{leb-true, leb-false, eqb-true, eqb-false}
+use Rattle.text.specs.Utf8.{_‥_, continuation, wellFormed, charAt, brokenFrom, firstBroken, Follows, AllFollow}
+use Rattle.text.proofs.Utf8Laws.{ascii-char, broken-none, broken-more}
+use Rattle.text.proofs.SpaceLaws.{first-byte, first-two, first-three}
+use Rattle.text.proofs.EncodeLaws.{under, char-two, char-three, char-four}
+
+-- ---- limits
+abbrev Limit : ℕ → ℕ → ℕ → Type 0
+Limit l b r = (r ≤ 1) × (l * r ≤ b) × (b < l + 256 * r)
+
+limit-off : (l b r : ℕ) → Limit l b r → b < l → r ≡ 0
+limit-off l b zero p h = refl
+limit-off l b (suc zero) p h = let q = p .1 in absurd (omega arith)
+limit-off l b (suc (suc r)) p h = let q = p .0 in absurd (omega arith)
+
+limit-on : (l b r : ℕ) → Limit l b r → l ≤ b → r ≡ 1
+limit-on l b zero p h = let q = p .2 in absurd (omega arith)
+limit-on l b (suc zero) p h = refl
+limit-on l b (suc (suc r)) p h = let q = p .0 in absurd (omega arith)
+
+-- A byte that is asked for stands between 0x80 and 0xBF.
+asked-inside : (n d k c : ℕ) → Limit 0x80 d k → Limit 0xC0 d c → n + c ≡ k → 1 ≤ n → (0x80 ≤ d) × (d ≤ 0xBF)
+asked-inside n d k c p q e h =
+    let k1 = p .0 in
+    let k2 = p .1 in
+    let c2 = q .2 in
+    (omega arith, omega arith)
+
+-- One that is not is below, or above 0xC1.
+not-asked : (n d k c f : ℕ) → Limit 0x80 d k → Limit 0xC0 d c → Limit 0xC2 d f → n + c ≡ k → n ≡ 0 → c ≡ f → 0x80 ≤ d → 0xC2 ≤ d
+not-asked n d k c f p q r e z g h =
+    let k1 = limit-on 0x80 d k p h in
+    let f1 = r .1 in
+    omega arith
+
+module _ (a b c d n3 n2 n1 k kC kC′ kC2 lo hi : ℕ)
+    (p3 : Limit 0xF0 a n3) (p2 : Limit 0xE0 b n2) (p1 : Limit 0xC0 c n1) (q : Limit 0x80 d k) (qC : Limit 0xC0 d kC) (qC′ : Limit 0xC0 d kC′) (qC2 : Limit 0xC2 d kC2)
+    (e : n3 + n2 + n1 + kC ≡ k) (f : kC′ ≡ kC2) (m : d ≤ 0xF4)
+    (l : lo ≤ d) (ls : (c ≡ 0xE0 → lo ≡ 0xA0) × (c ≡ 0xF0 → lo ≡ 0x90)) (h : d ≤ hi) (hs : (c ≡ 0xED → hi ≡ 0x9F) × (c ≡ 0xF4 → hi ≡ 0x8F)) where
+  once : kC ≡ kC′
+  once = go (leb 0xC0 d) refl
+    where
+      go : (x : Bool) → leb 0xC0 d ≡ x → kC ≡ kC′
+      go true g = limit-on 0xC0 d kC qC (leb-true 0xC0 d g) ∙ sym (limit-on 0xC0 d kC′ qC′ (leb-true 0xC0 d g))
+      go false g = limit-off 0xC0 d kC qC (leb-false 0xC0 d g) ∙ sym (limit-off 0xC0 d kC′ qC′ (leb-false 0xC0 d g))
+
+  asked : 1 ≤ n3 + n2 + n1 → (0x80 ≤ d) × (d ≤ 0xBF)
+  asked g = asked-inside (n3 + n2 + n1) d k kC q qC e g
+
+  pub follows : Follows a b c d
+  follows =
+      record {
+        fourth = λ g. asked (let z = limit-on 0xF0 a n3 p3 g in omega (arith, z));
+        third = λ g. asked (let z = limit-on 0xE0 b n2 p2 g in omega (arith, z));
+        second = λ g. asked (let z = limit-on 0xC0 c n1 p1 g in omega (arith, z));
+        first = λ x y z g. not-asked (n3 + n2 + n1) d k kC kC2 q qC qC2 e
+            (let u = limit-off 0xF0 a n3 p3 x in let v = limit-off 0xE0 b n2 p2 y in let w = limit-off 0xC0 c n1 p1 z in omega (arith, u, v, w)) (once ∙ f) g;
+        known = m;
+        overlong-three = λ g. (let z = ls .0 g in omega (arith, z));
+        surrogate = λ g. (let z = hs .0 g in omega (arith, z));
+        overlong-four = λ g. (let z = ls .1 g in omega (arith, z));
+        over = λ g. (let z = hs .1 g in omega (arith, z));
+      }
+
+-- ---- a text of such bytes
+abbrev Inside : ℕ → Type 0
+Inside b = (0x80 ≤ b) × (b ≤ 0xBF)
+
+module _ (s : List ℕ) (f : AllFollow s) (e1 : getD s (length s - 1) 0 < 0xC0) (e2 : getD s (length s - 2) 0 < 0xE0) (e3 : getD s (length s - 3) 0 < 0xF0) where
+  abbrev at : ℕ → ℕ
+  at i = getD s i 0
+
+  -- No byte is asked for at an offset.
+  abbrev Free : ℕ → Type 0
+  Free i = (at (i - 3) < 0xF0) × (at (i - 2) < 0xE0) × (at (i - 1) < 0xC0)
+
+  -- The bytes behind the first of a character.
+  module _ (i : ℕ) (l : 3 ≤ i) where
+    behind-one : i + 1 < length s → 0xC0 ≤ at i → Inside (at (i + 1))
+    behind-one h g = let p = f (i + 1) (omega arith) h in let q : i ≡ i + 1 - 1 = omega arith in p .second (subst (λ (m : ℕ). 0xC0 ≤ at m) q g)
+
+    behind-two : i + 2 < length s → 0xE0 ≤ at i → Inside (at (i + 2))
+    behind-two h g = let p = f (i + 2) (omega arith) h in let q : i ≡ i + 2 - 2 = omega arith in p .third (subst (λ (m : ℕ). 0xE0 ≤ at m) q g)
+
+    behind-three : i + 2 + 1 < length s → 0xF0 ≤ at i → Inside (at (i + 2 + 1))
+    behind-three h g = let p = f (i + 2 + 1) (omega arith) h in let q : i ≡ i + 2 + 1 - 3 = omega arith in p .fourth (subst (λ (m : ℕ). 0xF0 ≤ at m) q g)
+
+    module _ (h : i + 1 < length s) {b : ℕ} (e : at i ≡ b) where
+      same-lead : at (i + 1 - 1) ≡ b
+      same-lead = let q : i ≡ i + 1 - 1 = omega arith in subst (λ (m : ℕ). at m ≡ b) q e
+
+      behind : Follows (at (i + 1 - 3)) (at (i + 1 - 2)) (at (i + 1 - 1)) (at (i + 1))
+      behind = f (i + 1) (omega arith) h
+
+  -- The text does not end inside a character.
+  module _ (i : ℕ) (h : i < length s) where
+    goes-one : 0xC0 ≤ at i → i + 1 < length s
+    goes-one g = go (leb (i + 2) (length s)) refl
+      where
+        go : (x : Bool) → leb (i + 2) (length s) ≡ x → i + 1 < length s
+        go true q = let z = leb-true (i + 2) (length s) q in omega arith
+        go false q =
+            let z = leb-false (i + 2) (length s) q in
+            let last : length s - 1 ≡ i = omega arith in
+            let d = subst (λ (m : ℕ). at m < 0xC0) last e1 in
+            absurd (omega (arith, d, g))
+
+    goes-two : 0xE0 ≤ at i → i + 2 < length s
+    goes-two g = go (leb (i + 3) (length s)) refl
+      where
+        go : (x : Bool) → leb (i + 3) (length s) ≡ x → i + 2 < length s
+        go true q = let z = leb-true (i + 3) (length s) q in omega arith
+        go false q =
+            let z = leb-false (i + 3) (length s) q in
+            let more = goes-one (omega (arith, g)) in
+            let last : length s - 2 ≡ i = omega arith in
+            let d = subst (λ (m : ℕ). at m < 0xE0) last e2 in
+            absurd (omega (arith, d, g))
+
+    goes-three : 0xF0 ≤ at i → i + 2 + 1 < length s
+    goes-three g = go (leb (i + 4) (length s)) refl
+      where
+        go : (x : Bool) → leb (i + 4) (length s) ≡ x → i + 2 + 1 < length s
+        go true q = let z = leb-true (i + 4) (length s) q in omega arith
+        go false q =
+            let z = leb-false (i + 4) (length s) q in
+            let more = goes-two (omega (arith, g)) in
+            let last : length s - 3 ≡ i = omega arith in
+            let d = subst (λ (m : ℕ). at m < 0xF0) last e3 in
+            absurd (omega (arith, d, g))
+
+  -- The character at an offset at which no byte is asked for; behind it none is either.
+  record Step (i : ℕ) : Type 0 where
+    width : ℕ
+    is : charAt (drop i s) ≡ width
+    some : 0 < width
+    within : i + width ≤ length s
+    free : Free (i + width)
+
+  module _ (i : ℕ) (l : 3 ≤ i) (h : i < length s) (p : Free i) where
+    step-one : at i < 0x80 → Step i
+    step-one g =
+        let e3 : i + 1 - 3 ≡ i - 2 = omega arith in
+        let e2 : i + 1 - 2 ≡ i - 1 = omega arith in
+        let e1 : i + 1 - 1 ≡ i = omega arith in
+        record {
+          width = 1;
+          is = ap charAt (first-byte s i h) ∙ ascii-char (at i) (drop (i + 1) s) g;
+          some = omega arith;
+          within = omega arith;
+          free = (rw e3 (omega (arith, p .1)), rw e2 (omega (arith, p .2)), rw e1 (omega (arith, g)));
+        }
+
+    step-two : 0xC2 ≤ at i → at i ≤ 0xDF → Step i
+    unfolding wellFormed under
+    step-two g k =
+        let m = goes-one i h (omega (arith, g)) in
+        let b = behind-one i l m (omega (arith, g)) in
+        let e3 : i + 2 - 3 ≡ i - 1 = omega arith in
+        let e2 : i + 2 - 2 ≡ i = omega arith in
+        let e1 : i + 2 - 1 ≡ i + 1 = omega arith in
+        record {
+          width = 2;
+          is = ap charAt (first-two s i m)
+              ∙ char-two 1 0xC2 0xDF 0x80 0xBF refl (drop (i + 2) s) (at i) (at (i + 1)) g k (b .0) (b .1) refl;
+          some = omega arith;
+          within = omega (arith, m);
+          free = (rw e3 (omega (arith, p .2)), rw e2 (omega (arith, k)), rw e1 (omega (arith, b .1)));
+        }
+
+    module _ (g : 0xE0 ≤ at i) (k : at i ≤ 0xEF) where
+      step-three : charAt (drop i s) ≡ 3 → Step i
+      step-three e =
+          let m = goes-two i h g in
+          let b = behind-one i l (omega (arith, m)) (omega (arith, g)) in
+          let c = behind-two i l m g in
+          let e3 : i + 3 - 3 ≡ i = omega arith in
+          let e2 : i + 3 - 2 ≡ i + 1 = omega arith in
+          let e1 : i + 3 - 1 ≡ i + 2 = omega arith in
+          record {
+            width = 3;
+            is = e;
+            some = omega arith;
+            within = omega (arith, m);
+            free = (rw e3 (omega (arith, k)), rw e2 (omega (arith, b .1)), rw e1 (omega (arith, c .1)));
+          }
+
+      three-row : (row lo hi lo′ hi′ : ℕ) → under lo (take row wellFormed) ≡ true → lo ≤ at i → at i ≤ hi → lo′ ≤ at (i + 1) → at (i + 1) ≤ hi′
+          → wellFormed ≡ take row wellFormed ++ (lo ‥ hi ∷ lo′ ‥ hi′ ∷ continuation ∷ []) ∷ drop (suc row) wellFormed → Step i
+      three-row row lo hi lo′ hi′ u x x′ y y′ e =
+          let m = goes-two i h g in
+          let c = behind-two i l m g in
+          step-three
+          (ap charAt (first-three s i m)
+          ∙ char-three row lo hi lo′ hi′ u (drop (i + 2 + 1) s) (at i) (at (i + 1)) x x′ y y′ (at (i + 2)) (c .0) (c .1) e)
+
+      threes : Step i
+      unfolding wellFormed under
+      threes = go (eqb (at i) 0xE0) refl (eqb (at i) 0xED) refl (leb (at i) 0xEC) refl
+        where
+          m : i + 1 < length s
+          m = let z = goes-two i h g in omega (arith, z)
+
+          b : Inside (at (i + 1))
+          b = behind-one i l m (omega (arith, g))
+
+          go : (x : Bool) → eqb (at i) 0xE0 ≡ x → (y : Bool) → eqb (at i) 0xED ≡ y → (z : Bool) → leb (at i) 0xEC ≡ z → Step i
+          go true q y r z t =
+              let e = eqb-true (at i) 0xE0 q in
+              let o = behind i l m e .overlong-three (same-lead i l m e) in
+              three-row 2 0xE0 0xE0 0xA0 0xBF refl (omega (arith, e)) (omega (arith, e)) o (b .1) refl
+          go false q true r z t =
+              let e = eqb-true (at i) 0xED r in
+              let o = behind i l m e .surrogate (same-lead i l m e) in
+              three-row 4 0xED 0xED 0x80 0x9F refl (omega (arith, e)) (omega (arith, e)) (b .0) o refl
+          go false q false r true t =
+              let n = eqb-false (at i) 0xE0 q in
+              let v = leb-true (at i) 0xEC t in
+              three-row 3 0xE1 0xEC 0x80 0xBF refl (omega (arith, n, g)) v (b .0) (b .1) refl
+          go false q false r false t =
+              let n = eqb-false (at i) 0xED r in
+              let v = leb-false (at i) 0xEC t in
+              three-row 5 0xEE 0xEF 0x80 0xBF refl (omega (arith, n, v)) k (b .0) (b .1) refl
+
+    module _ (g : 0xF0 ≤ at i) (k : at i ≤ 0xF4) where
+      four-row : (row lo hi lo′ hi′ : ℕ) → under lo (take row wellFormed) ≡ true → lo ≤ at i → at i ≤ hi → lo′ ≤ at (i + 1) → at (i + 1) ≤ hi′
+          → wellFormed ≡ take row wellFormed ++ (lo ‥ hi ∷ lo′ ‥ hi′ ∷ continuation ∷ continuation ∷ []) ∷ drop (suc row) wellFormed → Step i
+      four-row row lo hi lo′ hi′ u x x′ y y′ e =
+          let m = goes-three i h g in
+          let b = behind-one i l (omega (arith, m)) (omega (arith, g)) in
+          let c = behind-two i l (omega (arith, m)) (omega (arith, g)) in
+          let d = behind-three i l m g in
+          let e3 : i + 4 - 3 ≡ i + 1 = omega arith in
+          let e2 : i + 4 - 2 ≡ i + 2 = omega arith in
+          let e1 : i + 4 - 1 ≡ i + 2 + 1 = omega arith in
+          record {
+            width = 4;
+            is = ap charAt
+                (first-three s i (omega (arith, m)) ∙ ap (λ (t : List ℕ). at i ∷ at (i + 1) ∷ at (i + 2) ∷ t) (first-byte s (i + 2 + 1) m))
+                ∙ char-four row lo hi lo′ hi′ u (drop (i + 2 + 1 + 1) s) (at i) (at (i + 1)) x x′ y y′ (at (i + 2)) (c .0) (c .1) (at (i + 2 + 1)) (d .0) (d .1) e;
+            some = omega arith;
+            within = omega (arith, m);
+            free = (rw e3 (omega (arith, b .1)), rw e2 (omega (arith, c .1)), rw e1 (omega (arith, d .1)));
+          }
+
+      fours : Step i
+      unfolding wellFormed under
+      fours = go (eqb (at i) 0xF0) refl (eqb (at i) 0xF4) refl
+        where
+          m : i + 1 < length s
+          m = let z = goes-three i h g in omega (arith, z)
+
+          b : Inside (at (i + 1))
+          b = behind-one i l m (omega (arith, g))
+
+          go : (x : Bool) → eqb (at i) 0xF0 ≡ x → (y : Bool) → eqb (at i) 0xF4 ≡ y → Step i
+          go true q y r =
+              let e = eqb-true (at i) 0xF0 q in
+              let o = behind i l m e .overlong-four (same-lead i l m e) in
+              four-row 6 0xF0 0xF0 0x90 0xBF refl (omega (arith, e)) (omega (arith, e)) o (b .1) refl
+          go false q true r =
+              let e = eqb-true (at i) 0xF4 r in
+              let o = behind i l m e .over (same-lead i l m e) in
+              four-row 8 0xF4 0xF4 0x80 0x8F refl (omega (arith, e)) (omega (arith, e)) (b .0) o refl
+          go false q false r =
+              let n = eqb-false (at i) 0xF0 q in
+              let v = eqb-false (at i) 0xF4 r in
+              four-row 7 0xF1 0xF3 0x80 0xBF refl (omega (arith, n, g)) (omega (arith, v, k)) (b .0) (b .1) refl
+
+    step : Step i
+    step = go (leb (at i) 0x7F) refl (leb (at i) 0xDF) refl (leb (at i) 0xEF) refl
+      where
+        go : (x : Bool) → leb (at i) 0x7F ≡ x → (y : Bool) → leb (at i) 0xDF ≡ y → (z : Bool) → leb (at i) 0xEF ≡ z → Step i
+        go true q y r z t = let v = leb-true (at i) 0x7F q in step-one (omega (arith, v))
+        go false q true r z t =
+            let v = leb-false (at i) 0x7F q in
+            step-two (f i l h .first (p .0) (p .1) (p .2) (omega (arith, v))) (leb-true (at i) 0xDF r)
+        go false q false r true t = let v = leb-false (at i) 0xDF r in threes (omega (arith, v)) (leb-true (at i) 0xEF t)
+        go false q false r false t = let v = leb-false (at i) 0xEF t in fours (omega (arith, v)) (f i l h .known)
+
+  whole-from : (n i : ℕ) → length s ≤ i + n → 3 ≤ i → i ≤ length s → Free i → brokenFrom 0 i (drop i s) ≡ none
+  whole-from zero i l h m p = broken-none s i (omega arith)
+  whole-from (suc n) i l h m p = go (leb (length s) i) refl (λ j a b c d. whole-from n j a b c d)
+    where
+      go : (x : Bool) → leb (length s) i ≡ x → ((j : ℕ) → length s ≤ j + n → 3 ≤ j → j ≤ length s → Free j → brokenFrom 0 j (drop j s) ≡ none) → brokenFrom 0 i (drop i s) ≡ none
+      go true q ih = broken-none s i (leb-true (length s) i q)
+      go false q ih =
+          let v = leb-false (length s) i q in
+          let t = step i h v p in
+          broken-more s i v (t .width) (sym (t .is)) (λ z. absurd (omega (arith, z, t .some)))
+          ∙ ih (i + t .width) (omega (arith, t .some)) (omega arith) (t .within) (t .free)
+
+  -- The first three bytes are ASCII.
+  module _ (n : 3 ≤ length s) (a : (i : ℕ) → i < 3 → at i < 0x80) where
+    first-step : (i : ℕ) → i < 3 → brokenFrom 0 i (drop i s) ≡ brokenFrom 0 (i + 1) (drop (i + 1) s)
+    first-step i h =
+        broken-more s i (omega (arith, h)) 1 (sym (ap charAt (first-byte s i (omega (arith, h))) ∙ ascii-char (at i) (drop (i + 1) s) (a i h))) (λ z. absurd (omega (arith, z)))
+
+    pub follows-whole : firstBroken s ≡ none
+    unfolding firstBroken
+    follows-whole =
+        let x = a 0 (omega arith) in
+        let y = a 1 (omega arith) in
+        let z = a 2 (omega arith) in
+        first-step 0 (omega arith)
+        ∙ first-step 1 (omega arith)
+        ∙ first-step 2 (omega arith)
+        ∙ whole-from (length s) 3 (omega arith) (omega arith) n (omega (arith, x), omega (arith, y), omega (arith, z))
+
+-- None of the first three bytes exceeds one below 128.
+pub first-narrow : (s : List ℕ) (r : ℕ) → 3 ≤ length s → ((i : ℕ) → i < length (take 3 s) → getD (take 3 s) i 0 ≤ r) → r < 128 → (i : ℕ) → i < 3 → getD s i 0 < 0x80
+first-narrow s r n g h i l =
+    let p = g i (rw (length-take-le 3 s n) l) in
+    omega (arith, p, getD-take 3 s i 0 l)
