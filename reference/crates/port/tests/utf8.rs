@@ -33,7 +33,8 @@ fn every_string_of_up_to_three_bytes() {
     assert_eq!(compared, Ok(256 + 256 * 256 + 256 * 256 * 256));
 }
 
-/// Any first byte, then bytes at the borders of the ranges, then an ASCII letter or nothing.
+/// Any first byte, then bytes at the borders of the ranges: by themselves, before an ASCII letter, and
+/// behind three, where a text is tested many bytes at a time.
 #[test]
 fn strings_of_four_bytes_at_the_borders() {
     const BORDERS: [u8; 16] = [
@@ -46,13 +47,14 @@ fn strings_of_four_bytes_at_the_borders() {
         for number in 0..16 * 16 * 16 {
             let [second, third, fourth] =
                 [number / 256, number / 16 % 16, number % 16].map(|at| BORDERS[at]);
-            let text = [first as u8, second, third, fourth, b'x'];
-            compared += same_refusal(&mut tables, &text[..4])?;
-            compared += same_refusal(&mut tables, &text)?;
+            let text = [b'a', b'b', b'c', first as u8, second, third, fourth, b'x'];
+            for part in [3..7, 3..8, 0..7, 0..8] {
+                compared += same_refusal(&mut tables, &text[part])?;
+            }
         }
         Ok::<u64, String>(compared)
     });
-    assert_eq!(compared, Ok(2 * 256 * 16 * 16 * 16));
+    assert_eq!(compared, Ok(4 * 256 * 16 * 16 * 16));
 }
 
 /// The place is the first byte of the character, also behind other text.
