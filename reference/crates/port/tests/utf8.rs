@@ -143,6 +143,22 @@ fn letter_tests_know_ascii_only() {
     assert_eq!(op("e\u{301}"), "val p = op e\u{301}");
 }
 
+/// Nor is it a letter: `AppExp` writes its space behind `!`. Sheet I with an application in place of its path.
+#[test]
+fn a_wide_name_behind_a_bang_is_symbolic() {
+    let applied = |name| {
+        let Sheet { text, record } = with_token(with_token(lettered::i(), 6, "!"), 8, name);
+        let op = [0x45, 0x01, 6, 0];
+        let at = record.windows(4).position(|bytes| *bytes == op).expect("`op` and a path");
+        let path = |token| [0x45, 0x00, 0x03, 0x02, 1, 0, 0x03, 0x01, token, 0];
+        let parts = [&record[..at], &[0x4E], &path(6), &path(8), &record[at + 12..]];
+        written(&Sheet { text, record: parts.concat() })
+    };
+    assert_eq!(applied("x"), "val p = !x");
+    assert_eq!(applied("+"), "val p = ! +");
+    assert_eq!(applied("\u{e9}"), "val p = ! \u{e9}");
+}
+
 /// A token that ends inside a character is 3 at its command, and the first to be told.
 #[test]
 fn tokens_end_at_characters() {
