@@ -10,6 +10,7 @@ use borrow.Author.Tests.{lt-leb}
 use Rattle.text.specs.Utf8.{isIn, isInside, boundary}
 use Rattle.text.specs.WellFormed.{Ascii}
 use Rattle.text.proofs.Utf8Laws.{ascii-whole}
+use Rattle.text.proofs.WellFormedLaws.{none-wide, ascii-drop}
 use Rattle.reader.specs.Commands.{u16, command}
 use Rattle.reader.specs.Tokens.{Tiling, tiled, untiled, isToken, endTokens, withToken, tokensFrom, tokens, lastKind}
 use Rattle.reader.specs.Reading.{Read, refused, readTree, readRecord, readText, read, maxText, maxRecord}
@@ -21,14 +22,9 @@ unfolding isInside isIn
 outside [] h = refl
 outside (b ∷ t) h = rw (lt-leb 0x80 b (h 0 (omega arith)))
 
-ascii-drop : (t : List ℕ) (i : ℕ) → Ascii t → Ascii (drop i t)
-ascii-drop t zero h = h
-ascii-drop [] (suc i) h = h
-ascii-drop (b ∷ t) (suc i) h = ascii-drop t i (λ k l. h (suc k) (omega (arith, l)))
-
 ascii-boundary : (t : List ℕ) (i : ℕ) → Ascii t → boundary t i ≡ true
 unfolding boundary
-ascii-boundary t i h = ap not (outside (drop i t) (ascii-drop t i h))
+ascii-boundary t i h = ap not (outside (drop i t) (ascii-drop i t h))
 
 -- The tokens, where no offset is inside a character.
 module _ (boundary : ℕ → Bool) (free : (i : ℕ) → boundary i ≡ true) (size : ℕ) (rec : List ℕ) where
@@ -54,9 +50,9 @@ module _ (boundary : ℕ → Bool) (free : (i : ℕ) → boundary i ≡ true) (s
   free-record =
       ap (λ (t : Tiling). elim t as (λ z. Read) [ tiled ts at ↦ readTree rec ts at | untiled place ↦ refused 3 place ]) (free-from 4096 0 0)
 
--- Refusals 1 to 4 of an ASCII text are document 01's.
+-- Refusals 1 to 4 of an ASCII text are what they were.
 pub read-ascii : (text rec : List ℕ) → Ascii text → read text rec ≡ readAscii text rec
 unfolding read readText readAscii
 read-ascii text rec h =
     ap (λ (r : Read). elim (leb (length text) maxText && leb (length rec) maxRecord) as (λ z. Read) [ true ↦ r | false ↦ refused 1 0 ])
-    (rw (ascii-whole text h, readText) (free-record (boundary text) (λ i. ascii-boundary text i h) (length text) rec))
+    (rw (ascii-whole text h, none-wide 0 text h, readText) (free-record (boundary text) (λ i. ascii-boundary text i h) (length text) rec))

@@ -7,12 +7,12 @@ use mathlib.Core.Bool.{Bool, true, false, not, _&&_, _||_, false≢true}
 use mathlib.Core.List.{List, [], _∷_, _++_, map, reverse, reverse-append, reverse-reverse, append-assoc, append-nil}
 use mathlib.Core.Option.{Option, none, some}
 use lib.Dec.{leb, eqb}
-use lib.ListN.{length, take, drop, length-drop, length-append, length-reverse}
-use lib.Seq.{drop-at, take-at, drop-append-add}
-use borrow.Author.Tests.{eq-eqb, eqb-true, eqb-false, leb-true, leb-false}
+use lib.ListN.{length, getD, take, drop, length-take, length-drop, length-append, length-reverse}
+use lib.Seq.{getD-take, drop-at, take-at, drop-append-add}
+use borrow.Author.Tests.{eq-eqb, eqb-true, eqb-false, leb-true, leb-false, lt-leb}
 use Rattle.text.specs.Utf8.{isIn, isScalar, encode, encoded, continuation, charAt, brokenFrom, firstBroken, isInside, boundary}
 use Rattle.text.specs.Bytes.{between, isSpace, whiteSpaceCodes, whiteSpace, startsWith, leading, stripFrom, strip, trimStart, trimEnd, trim}
-use Rattle.text.specs.WellFormed.{All, Scalar, Encodes, Between, dropWhile, dropEnds, isOneOf, isWhiteSpace, Ascii, trimAscii}
+use Rattle.text.specs.WellFormed.{All, Scalar, Encodes, Between, dropWhile, dropEnds, isOneOf, isWhiteSpace, Ascii, firstWide, trimAscii}
 use Rattle.text.proofs.Computed.{and-left, and-right, allBelow, same, agree}
 use Rattle.text.proofs.Laws.{never, strip-none, strip-some}
 use Rattle.text.proofs.Utf8Laws.{broken-cons}
@@ -416,7 +416,7 @@ narrow-ends t p =
     (narrow-drop (reverse (dropWhile isWhiteSpace t)) (all-reverse Narrow (dropWhile isWhiteSpace t) (all-drop Narrow isWhiteSpace t p))
     ∙ ap (λ (l : List ℕ). dropWhile isSpace (reverse l)) (narrow-drop t p))
 
--- On ASCII texts trim is what it was.
+-- On ASCII texts trim is what it was, and none was refused with 2.
 pub trim-narrow : (t : List ℕ) → Ascii t → trim t ≡ trimAscii t
 unfolding trimAscii
 trim-narrow t h =
@@ -425,3 +425,19 @@ trim-narrow t h =
     ∙ trim-codes t (narrow-scalar t p)
     ∙ narrow-encoded (dropEnds isWhiteSpace t) (all-ends Narrow isWhiteSpace t p)
     ∙ narrow-ends t p
+
+pub none-wide : (i : ℕ) (t : List ℕ) → Ascii t → firstWide i t ≡ none
+unfolding firstWide
+none-wide i [] h = refl
+none-wide i (b ∷ t) h = rw (firstWide, lt-leb 128 b (h 0 (omega arith))) (none-wide (suc i) t (λ k l. h (suc k) (omega (arith, l))))
+
+-- A part of an ASCII text is one.
+pub ascii-drop : (n : ℕ) (t : List ℕ) → Ascii t → Ascii (drop n t)
+ascii-drop zero t h = h
+ascii-drop (suc n) [] h = h
+ascii-drop (suc n) (b ∷ t) h = ascii-drop n t (λ k l. h (suc k) (omega (arith, l)))
+
+pub ascii-take : (n : ℕ) (t : List ℕ) → Ascii t → Ascii (take n t)
+ascii-take n t h i l =
+    let short = length-take n t in
+    rw (getD-take n t i 0 (omega (arith, l, short))) (h i (omega (arith, l, short)))

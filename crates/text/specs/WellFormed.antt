@@ -1,9 +1,10 @@
 -- Document 02, Ticket 5: what the definitions come to, said of characters.
-use Prim.Native.Nat.{ℕ, _<_}
+use Prim.Native.Nat.{ℕ, suc, _<_}
 use mathlib.Core.Path.{_≡_}
 use mathlib.Core.List.{List, [], _∷_, _++_, reverse}
 use mathlib.Core.Bool.{Bool, true, false, _||_}
-use lib.Dec.{eqb}
+use mathlib.Core.Option.{Option, none, some}
+use lib.Dec.{leb, eqb}
 use lib.ListN.{length, getD}
 use Rattle.text.specs.Utf8.{isScalar, encoded}
 use Rattle.text.specs.Bytes.{isSpace, whiteSpaceCodes}
@@ -49,6 +50,11 @@ isWhiteSpace c = isOneOf whiteSpaceCodes c
 abbrev pub Ascii : List ℕ → Type 0
 Ascii text = (i : ℕ) → i < length text → getD text i 0 < 128
 
--- Document 01's trim, of such texts: "Trim strips 9 to 13 and 32 at both ends."
+-- Number 2 before Ticket 5: the offset of the first byte of 128 or more; i is the offset of the first byte of the list.
+unfoldable pub firstWide : ℕ → List ℕ → Option ℕ
+firstWide i [] = none
+firstWide i (b ∷ bs) = elim (leb 128 b) [ true ↦ some i | false ↦ firstWide (suc i) bs ]
+
+-- Trim before Ticket 5, document 01's: "Trim strips 9 to 13 and 32 at both ends."
 unfoldable pub trimAscii : List ℕ → List ℕ
 trimAscii t = dropEnds isSpace t
