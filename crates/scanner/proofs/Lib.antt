@@ -15,3 +15,4 @@ pub mod WriteLaws
 pub mod CallLaws
 pub mod ReadBack
 pub mod Accepted
+pub mod AsciiLaws

@@ -7,3 +7,4 @@ pub mod Spans
 pub mod Scan
 pub mod ListOf
 pub mod Answers
+pub mod Ascii
