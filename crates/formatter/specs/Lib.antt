@@ -1,5 +1,6 @@
 pub mod Verdict
 pub mod Lookup
+pub mod Ascii
 pub mod WalkFirst
 pub mod Judging
 pub mod Demands
