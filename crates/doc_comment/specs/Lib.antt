@@ -1,2 +1,3 @@
 pub mod Doc
 pub mod Lines
+pub mod Ascii
