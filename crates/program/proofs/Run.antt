@@ -10,7 +10,6 @@ use Rattle.reader.specs.Commands as Commands
 use Rattle.reader.specs.Tokens as Tokens
 use Rattle.reader.specs.Check as Check
 use Rattle.reader.specs.Reading as Reading
-use Rattle.reader.specs.Ascii as Ascii
 use Rattle.comments.specs.Set as Set
 use Rattle.comments.specs.Above as Above
 use Rattle.layout.specs.Meaning as Meaning
@@ -47,7 +46,7 @@ unfolding Output.fitted
 runOutput = tt
 
 unfoldable pub runWellFormed : Unit {0}
-unfolding WellFormed.All WellFormed.dropWhile WellFormed.dropEnds WellFormed.isOneOf WellFormed.isWhiteSpace WellFormed.trimAscii
+unfolding WellFormed.All WellFormed.dropWhile WellFormed.dropEnds WellFormed.isOneOf WellFormed.isWhiteSpace WellFormed.firstWide WellFormed.trimAscii
 runWellFormed = tt
 
 unfoldable pub runForms : Unit {0}
@@ -73,10 +72,6 @@ runCheck = tt
 unfoldable pub runReading : Unit {0}
 unfolding Reading.readTree Reading.readRecord Reading.readText Reading.read Reading.numberOf Reading.placeOf
 runReading = tt
-
-unfoldable pub runAscii : Unit {0}
-unfolding Ascii.readAscii
-runAscii = tt
 
 unfoldable pub runSet : Unit {0}
 unfolding Set.isComment Set.bit Set.holds Set.bits Set.wordsFrom Set.wordsOf Set.without Set.count Set.first Set.firstAt
@@ -167,5 +162,5 @@ unfolding Printing.shown
 runPrinting = tt
 
 unfoldable pub run : Unit {0}
-unfolding runUtf8 runBytes runOutput runWellFormed runForms runFields runCommands runTokens runCheck runReading runAscii runSet runAbove runMeaning runHelpers runGetDec runTy runPat runExp runSigExp runStrExp runDecOne runWalk runEvents runUnbounded runVerdict runLookup runWalkFirst runDemands runDoc runLines runProgram runPrinting
+unfolding runUtf8 runBytes runOutput runWellFormed runForms runFields runCommands runTokens runCheck runReading runSet runAbove runMeaning runHelpers runGetDec runTy runPat runExp runSigExp runStrExp runDecOne runWalk runEvents runUnbounded runVerdict runLookup runWalkFirst runDemands runDoc runLines runProgram runPrinting
 run = tt
