@@ -54,7 +54,7 @@ module _ (p : Page) (h : Ascii (p .text)) where
   spelt-ascii tab (Formed depth) = refl
   spelt-ascii tab (Indent depth) = refl
 
-  formatted-ascii : (tab : ℕ) (es : List Event) → formatted p tab es ≡ formattedAscii p tab es
+  pub formatted-ascii : (tab : ℕ) (es : List Event) → formatted p tab es ≡ formattedAscii p tab es
   unfolding formatted formattedAscii
   formatted-ascii tab [] = refl
   formatted-ascii tab (e ∷ es) = ap₂ (λ (a b : List ℕ). a ++ b) (spelt-ascii tab e) (formatted-ascii tab es)
@@ -75,7 +75,7 @@ module _ (p : Page) (h : Ascii (p .text)) where
 
 module _ (text rec : List ℕ) (h : Ascii text) where
   -- ---- 1 to 6
-  judge-ascii : judge text rec ≡ judgeAscii text rec
+  pub judge-ascii : judge text rec ≡ judgeAscii text rec
   unfolding judge judgeAscii
   judge-ascii =
       ap (λ (r : Read). elim r as (λ z. Judged) [
@@ -85,7 +85,7 @@ module _ (text rec : List ℕ) (h : Ascii text) where
       (read-ascii text rec h)
 
   -- The page of a sheet that is accepted has its text.
-  page-ascii : {p : Page} {es : List Event} → judge text rec ≡ accepted p es → Ascii (p .text)
+  pub page-ascii : {p : Page} {es : List Event} → judge text rec ≡ accepted p es → Ascii (p .text)
   page-ascii {p} {es} e = rw (ap (λ (q : Page). q .text) (accepted-is text rec p es .0 e .page)) h
 
   -- Number, place, measures and the comments left.

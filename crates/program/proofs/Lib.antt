@@ -3,3 +3,4 @@ pub mod Sheets
 pub mod PrintingLaws
 pub mod InputLaws
 pub mod Bounds
+pub mod AsciiLaws
