@@ -268,7 +268,9 @@ impl<'a> Place<'a> {
             Damage::TokenKindChanged => record[at + 1] = self.rng.pick(SyntaxKind::ALL).number(),
             Damage::TokenEmpty => set(record, at + 2, 0),
             Damage::TokenLength => {
-                set(record, at + 2, if self.rng.chance(1, 2) { length + 1 } else { length - 1 });
+                // It wraps: a sheet that was damaged before may have a length of 0 or 65,535.
+                let step = if self.rng.chance(1, 2) { 1 } else { u16::MAX };
+                set(record, at + 2, length.wrapping_add(step));
             }
             Damage::TokenLengthHuge => {
                 set(record, at + 2, self.rng.pick(&[0x7FFF, 0x8001, 0xFFFF]));
