@@ -1,5 +1,5 @@
 -- Tests of bytes that are decided by computation over all of them, and the keys of a `match`. Assumes nothing.
-use Prim.Native.Nat.{ℕ, zero, suc, _-_, _≤_, _<_}
+use Prim.Native.Nat.{ℕ, _-_, _≤_, _<_}
 use native.Mathlib.Omega.{arith}
 use mathlib.Core.Path.{_≡_, refl, sym, ap, ap₂, _∙_}
 use mathlib.Core.Bool.{Bool, true, false, not, _&&_, _||_, false≢true, or-false}
@@ -8,20 +8,13 @@ use mathlib.Core.List.{List, [], _∷_}
 use lib.Dec.{leb, ltb, eqb, T}
 use mir.Val.{hasKey}
 use types.Run.{OneOf, hit}
-use borrow.Author.Tests.{eqb-true, eqb-false, leb-true, leb-false, not-true, le-leb, lt-leb, lt-ltb, eq-eqb, ne-eqb}
+use borrow.Author.Tests.{eqb-true, leb-true, not-true, le-leb, lt-leb, lt-ltb, eq-eqb, ne-eqb}
 use lib.ListN.{getD}
 use Rattle.text.specs.Bytes.{between, isLetter, isDigit, classOf, classesFrom, classTable}
+use Rattle.text.proofs.Computed.{and-left, and-right, allBelow, below, same, same-is}
 use Rattle.scanner.specs.Parts.{every, isOneOf}
 use Rattle.scanner.specs.Constants.{isHexDigit}
 use Rattle.scanner.specs.Strings.{isDigitOf, digitValue}
-
-pub and-left : (a b : Bool) → (a && b) ≡ true → a ≡ true
-and-left true b h = refl
-and-left false b h = absurd (false≢true h)
-
-pub and-right : (a b : Bool) → (a && b) ≡ true → b ≡ true
-and-right true b h = h
-and-right false b h = absurd (false≢true h)
 
 pub both : {a b : Bool} → a ≡ true → b ≡ true → (a && b) ≡ true
 both e f = rw (e, f)
@@ -35,30 +28,6 @@ absorb false y h = refl
 pub not-so : (x : Bool) → (x ≡ true → ⊥) → x ≡ false
 not-so true h = absurd (h refl)
 not-so false h = refl
-
--- A test of every number below n.
-unfoldable pub allBelow : ℕ → (ℕ → Bool) → Bool
-allBelow zero test = true
-allBelow (suc n) test = test n && allBelow n test
-
-pub below : (n : ℕ) (test : ℕ → Bool) → allBelow n test ≡ true → (b : ℕ) → b < n → test b ≡ true
-unfolding allBelow
-below zero test h b l = absurd (omega arith)
-below (suc n) test h b l = go (eqb b n) refl (below n test (and-right (test n) (allBelow n test) h) b)
-  where
-    go : (t : Bool) → eqb b n ≡ t → (b < n → test b ≡ true) → test b ≡ true
-    go true e ih = rw (eqb-true b n e) (and-left (test n) (allBelow n test) h)
-    go false e ih = let d = eqb-false b n e in ih (omega arith)
-
-unfoldable pub same : Bool → Bool → Bool
-same true b = b
-same false b = not b
-
-pub same-is : (a b : Bool) → same a b ≡ true → a ≡ b
-unfolding same
-same-is true b h = sym h
-same-is false true h = absurd (false≢true h)
-same-is false false h = refl
 
 -- A test's answer at every byte that passes a guard, by computation.
 module _ (guard answer : ℕ → Bool) (v : Bool) where

@@ -11,7 +11,8 @@ use borrow.Author.Tests.{eqb-true}
 use Rattle.text.specs.Bytes.{bytes, sameBytes, firstIs}
 use Rattle.scanner.specs.Parts.{isEmpty, behind, isOneOf}
 use Rattle.scanner.specs.Lexical.{closes, isComment, isToken, opensComment, keywords, numbered, kindOf}
-use Rattle.scanner.proofs.Bytes.{and-left, and-right, not-so}
+use Rattle.text.proofs.Computed.{and-left, and-right}
+use Rattle.scanner.proofs.Bytes.{not-so}
 use Rattle.scanner.proofs.ReachLaws.{behind-no, starts}
 use Rattle.scanner.proofs.TokenLaws.{wordsPass, token-bracket}
 

@@ -19,7 +19,8 @@ use Rattle.scanner.specs.Parts.{isOneOf}
 use Rattle.scanner.specs.Lexical.{isSymbol, isToken, tokenOf, kindOf}
 use Rattle.scanner.specs.Scan.{command, commands}
 use Rattle.scanner.specs.ListOf.{joined, AllLongest, tokensOf, ListOf}
-use Rattle.scanner.proofs.Bytes.{and-left, and-right, allBelow, same, decides, between-keys, by-range}
+use Rattle.text.proofs.Computed.{and-left, and-right, allBelow, same}
+use Rattle.scanner.proofs.Bytes.{decides, between-keys, by-range}
 use Rattle.scanner.proofs.TokenLaws.{startsName, token-none, opens-not}
 use Rattle.scanner.proofs.CutLaws.{kind-known}
 use Rattle.scanner.proofs.WriteLaws.{length-commands}

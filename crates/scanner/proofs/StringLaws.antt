@@ -19,7 +19,8 @@ use Rattle.scanner.specs.Reach.{longer, reach, run, isPlain}
 use Rattle.scanner.specs.Spans.{Span, ends, endless, further, span, onFrom, Inside, Goes}
 use Rattle.scanner.specs.declared.strings.Quoted.{Quoted}
 use Rattle.scanner.specs.declared.strings.Quoted.the-variants.{Ends, Endless}
-use Rattle.scanner.proofs.Bytes.{not-so, allBelow, same, decides, by-bytes, apart, apart-all, of-ten, of-other, digit-value, hex-small, hex-positive}
+use Rattle.text.proofs.Computed.{allBelow, same}
+use Rattle.scanner.proofs.Bytes.{not-so, decides, by-bytes, apart, apart-all, of-ten, of-other, digit-value, hex-small, hex-positive}
 use Rattle.scanner.proofs.ReachLaws.{empty, onward, reach-nil, reach-cons, reach-never, reach-none, reach-step, run-yes, run-no, run-more, first-inside, first-here}
 
 -- ---- spans

@@ -23,7 +23,8 @@ use Rattle.scanner.specs.Reach.{longer, reach, taken, run, isHexadecimal
 use Rattle.scanner.specs.Spans.{Span, ends, endless, further, span, spanOf}
 use Rattle.scanner.specs.declared.strings.Quoted.{Quoted}
 use Rattle.scanner.specs.declared.strings.Quoted.the-variants.{Ends, Endless}
-use Rattle.scanner.proofs.Bytes.{and-left, and-right, absorb, not-so, apart-all, allBelow, same, decides, by-bytes, among-keys}
+use Rattle.text.proofs.Computed.{and-left, and-right, allBelow, same}
+use Rattle.scanner.proofs.Bytes.{absorb, not-so, apart-all, decides, by-bytes, among-keys}
 use Rattle.scanner.proofs.ReachLaws.{best, empty, down, down-reach, reach-never, reach-step, reach-first, reach-or, reach-every, reach-positive, run-no, more-yes, more-no, behind-no, starts, reach-behind-yes, reach-behind-no, reach-behind-all, reach-two, reach-two-no, none-of}
 use Rattle.scanner.proofs.NumberLaws.{unsigned-no, digits-no, best-zero, reach-empty, reach-or-empty, word-wins, word-nil, magnitude-nil, magnitude-other}
 use Rattle.scanner.proofs.StringLaws.{denotes, bytesOf, reach-denotes}

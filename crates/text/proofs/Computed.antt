@@ -19,7 +19,7 @@ unfoldable pub allBelow : ℕ → (ℕ → Bool) → Bool
 allBelow zero test = true
 allBelow (suc n) test = test n && allBelow n test
 
-below : (n : ℕ) (test : ℕ → Bool) → allBelow n test ≡ true → (b : ℕ) → b < n → test b ≡ true
+pub below : (n : ℕ) (test : ℕ → Bool) → allBelow n test ≡ true → (b : ℕ) → b < n → test b ≡ true
 unfolding allBelow
 below zero test h b l = absurd (omega arith)
 below (suc n) test h b l = go (eqb b n) refl (below n test (and-right (test n) (allBelow n test) h) b)
@@ -32,7 +32,7 @@ unfoldable pub same : Bool → Bool → Bool
 same true b = b
 same false b = not b
 
-same-is : (a b : Bool) → same a b ≡ true → a ≡ b
+pub same-is : (a b : Bool) → same a b ≡ true → a ≡ b
 unfolding same
 same-is true b h = sym h
 same-is false true h = absurd (false≢true h)

@@ -5,7 +5,8 @@ use mathlib.Core.Bool.{true, false}
 use mathlib.Core.List.{[]}
 use Rattle.text.specs.Bytes.{between, isDigit}
 use Rattle.scanner.specs.Constants.{isHexDigit}
-use Rattle.scanner.proofs.Bytes.{allBelow, same, decides, between-keys, by-range, hex-below}
+use Rattle.text.proofs.Computed.{allBelow, same}
+use Rattle.scanner.proofs.Bytes.{decides, between-keys, by-range, hex-below}
 use borrow.Author.Needs.{needs}
 use Rattle.scanner.proofs.runs.is_hex_digit.Statement.{statement}
 use Rattle.scanner.proofs.runs.is_hex_digit.Tie as tie

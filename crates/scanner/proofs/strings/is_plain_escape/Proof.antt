@@ -6,7 +6,8 @@ use mathlib.Core.Bool.{Bool, true, false}
 use mathlib.Core.List.{List, [], _∷_}
 use Rattle.text.specs.Bytes.{bytes}
 use Rattle.scanner.specs.Parts.{every, isOneOf}
-use Rattle.scanner.proofs.Bytes.{allBelow, same, decides, between-keys, by-range, among-keys}
+use Rattle.text.proofs.Computed.{allBelow, same}
+use Rattle.scanner.proofs.Bytes.{decides, between-keys, by-range, among-keys}
 use Rattle.scanner.proofs.strings.is_plain_escape.Statement.{statement}
 use Rattle.scanner.proofs.strings.is_plain_escape.Tie as tie
 
