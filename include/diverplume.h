@@ -31,25 +31,26 @@ extern "C" {
 /* An output of this many bytes holds the tokens of any text: four bytes a token. */
 #define DIVERPLUME_MAX_SCANNED (4 * DIVERPLUME_MAX_TOKENS)
 
-/* The numbers of verdicts. For 1 to 6 the sheet is at fault, for 7 to 9 what else the caller brings, from 10 on
- * the text that is scanned. */
+/* The numbers of verdicts. For 1 to 6, 13 and 14 the sheet is at fault, for 7 to 9 what else the caller brings, for 10 to
+ * 12 the text that is scanned. No call gives 5. */
 enum {
     DIVERPLUME_ACCEPTED = 0,
     DIVERPLUME_TOO_LONG = 1,         /* text or record past its limit */
     DIVERPLUME_NOT_UTF8 = 2,         /* place: the first byte of the text's first broken character */
     DIVERPLUME_MALFORMED = 3,        /* place: the record's first command that does not fit */
     DIVERPLUME_TOO_DEEP = 4,         /* place: the record's form inside 200 others */
-    DIVERPLUME_SYNTAX = 5,           /* a part that formatting needs is absent, or an import */
     DIVERPLUME_COMMENTS_LEFT = 6,    /* place: text offset of the first comment that would be lost */
     DIVERPLUME_INDENT_TOO_WIDE = 7,  /* deepest * tab size is over 4294967295 */
     DIVERPLUME_OUTPUT_TOO_SHORT = 8, /* the output is shorter than the text to be written */
     DIVERPLUME_NO_TOKEN = 9,         /* a lookup of a token number not below the count */
     DIVERPLUME_OPEN_COMMENT = 10,    /* place: the text's first comment without an end */
     DIVERPLUME_NO_STRING = 11,       /* place: a double quote that begins no string constant */
-    DIVERPLUME_BEGINS_NO_TOKEN = 12  /* place: another byte that begins no token */
+    DIVERPLUME_BEGINS_NO_TOKEN = 12, /* place: another byte that begins no token */
+    DIVERPLUME_MISSING = 13,         /* place: the record's part that formatting needs and that is absent */
+    DIVERPLUME_IMPORT = 14           /* place: the record's import, which is not formatted */
 };
 
-/* What the check or formatting says. Measures are 0 for numbers 1 to 6. */
+/* What the check or formatting says. Measures are 0 for numbers other than 0, 7 and 8. */
 typedef struct diverplume_verdict {
     uint64_t number;
     uint64_t place;    /* an offset, or 0 */
@@ -81,12 +82,12 @@ typedef struct diverplume_written {
     uint64_t written; /* bytes written at the output's start; the others are unchanged */
 } diverplume_written;
 
-/* Whether a sheet can be formatted: numbers 0 to 6. */
+/* Whether a sheet can be formatted: numbers 0 to 4, 6, 13 and 14. */
 void diverplume_check(const uint8_t *text, size_t text_length,
                       const uint8_t *record, size_t record_length,
                       diverplume_verdict *verdict);
 
-/* Formats a sheet: numbers 0 to 8. Accepted, the first diverplume_length bytes of the output are the
+/* Formats a sheet: numbers 0 to 4, 6 to 8, 13 and 14. Accepted, the first diverplume_length bytes of the output are the
  * formatted text, the others are unchanged. */
 void diverplume_get(const uint8_t *text, size_t text_length,
                     const uint8_t *record, size_t record_length,

@@ -19,7 +19,7 @@ use Rattle.layout.specs.Walk.{walk}
 use Rattle.agreement.specs.Agreement.{EndsAt}
 use Rattle.agreement.specs.Unbounded as Unbounded
 use Rattle.agreement.proofs.Knot as Knot
-use Rattle.formatter.specs.Verdict.{Judged, declined, verdict, noMeasures, comments, walked, judge}
+use Rattle.formatter.specs.Verdict.{Judged, declined, verdict, noMeasures, comments, stopVerdict, walked, judge}
 use Rattle.formatter.specs.WalkFirst.{byCheck, byWalk, recordFirst, textFirst, judgeWalkFirst}
 
 abbrev pub page : List ℕ → List ℕ → Tokens → Page
@@ -67,17 +67,17 @@ judgeOf text rec r = elim r [ refused number place ↦ declined (verdict number 
 
 module _ (text rec : List ℕ) (ts : Tokens) (tree : ℕ) where
   abbrev judged : Outcome → Judged
-  judged o = elim o [ done end es ↦ comments (page text rec ts) es | stopped why es ↦ declined (verdict 5 0 noMeasures) ]
+  judged o = elim o [ done end es ↦ comments (page text rec ts) es | stopped why es ↦ declined (stopVerdict why) ]
 
   abbrev tree-read : Checked → Read
   tree-read c = elim c [ ok end ↦ sheet ts tree | malformed place ↦ refused 3 place | tooDeep place ↦ refused 4 place ]
 
-  abbrev at-end : List Event → Checked → Bool → Judged
-  at-end es c b = elim b [ true ↦ comments (page text rec ts) es | false ↦ byCheck c ]
+  abbrev at-end : ℕ → List Event → Checked → Bool → Judged
+  at-end end es c b = elim b [ true ↦ comments (page text rec ts) es | false ↦ byCheck (verdict 3 end noMeasures) c ]
 
   -- A walk that ends.
   end-is : (c : Checked) (next : ℕ) (es : List Event) (b : Bool) → eqb next (length rec) ≡ b → treeCheck rec (countOf ts) tree ≡ c
-      → walk (page text rec ts) tree ≡ done next es → judgeOf text rec (tree-read c) ≡ at-end es c b
+      → walk (page text rec ts) tree ≡ done next es → judgeOf text rec (tree-read c) ≡ at-end next es c b
   unfolding walked byCheck
   end-is (ok end) next es true h e f = ap judged f
   end-is (ok end) next es false h e f =
@@ -93,7 +93,7 @@ module _ (text rec : List ℕ) (ts : Tokens) (tree : ℕ) where
   end-is (tooDeep place) next es false h e f = refl
 
   tree-is : (c : Checked) (o : Outcome) → treeCheck rec (countOf ts) tree ≡ c → walk (page text rec ts) tree ≡ o
-      → judgeOf text rec (tree-read c) ≡ elim o as (λ o. Judged) [ done end es ↦ at-end es c (eqb end (length rec)) | stopped why es ↦ byCheck c ]
+      → judgeOf text rec (tree-read c) ≡ elim o as (λ o. Judged) [ done end es ↦ at-end end es c (eqb end (length rec)) | stopped why es ↦ byCheck (stopVerdict why) c ]
   unfolding walked byCheck
   tree-is c (done next es) e f = end-is c next es (eqb next (length rec)) refl e f
   tree-is (ok end) (stopped why es) e f = ap judged f

@@ -1,5 +1,5 @@
 -- From what the walk's code leaves to the verdicts of `check` and `get`. Assumes nothing.
-use Prim.Native.Nat.{ℕ, _+_, _*_, _≤_, _<_}
+use Prim.Native.Nat.{ℕ, _+_, _-_, _*_, _≤_, _<_}
 use native.Mathlib.Nat.{mul-comm, mul-le-mul, zero-add}
 use native.Mathlib.Omega.{arith}
 use mathlib.Core.Path.{_≡_, refl, sym, ap, ap₂, _∙_, subst}
@@ -11,7 +11,8 @@ use lib.Seq.{paste, take-append-seam, take-length}
 use lib.Dec.{eqb}
 use borrow.Author.Tests.{eq-eqb, ne-eqb, eqb-true, le-leb, lt-leb}
 use Rattle.text.proofs.Laws.{never}
-use Rattle.reader.specs.Check.{maxForms, treeCheck}
+use Rattle.reader.specs.Commands.{formWidth}
+use Rattle.reader.specs.Check.{Checked, maxForms, treeCheck}
 use Rattle.text.specs.declared.Broken.{Broken}
 use Rattle.text.specs.Utf8.{firstBroken, brokenAt, boundary}
 use Rattle.reader.specs.Tokens.{countOf, maxTokens, tokens, tokensIn, tilingIn, Tiles}
@@ -26,12 +27,14 @@ use Rattle.comments.specs.Set.{isComment, holds, wordsOf, room, count, first, f
 use Rattle.layout.specs.declared.St.{St}
 use Rattle.layout.specs.declared.Answer as Walking
 use Rattle.layout.specs.declared.Answer.the-variants.{Done, Stopped}
-use Rattle.layout.specs.Meaning.{Page, Event, Outcome, done, stopped, Stop}
+use Rattle.layout.specs.Meaning.{Page, Event, Outcome, done, stopped, Stop, absent, imported}
 use Rattle.layout.specs.Walk.{walks, top, walk}
 use Rattle.layout.specs.GetDec.{get-dec}
 use Rattle.layout.specs.Events.{deepest, letters, units, formatted, isLeft}
-use Rattle.layout.specs.State.{Run, runOf, at, effects, Ran, went, fell, run, runs, packed, Walked, page}
+use Rattle.layout.specs.State.{Run, runOf, at, effects, Ran, went, fell, run, runs, packed, stopOf, Walked, page}
 use Rattle.layout.proofs.Exact.{exact-letters, exact-units, exact-deepest}
+use Rattle.agreement.specs.Agreement.{EndsAt, Proper}
+use Rattle.agreement.proofs.Knot.{passes-walks}
 use Rattle.measures.specs.Small.{Small}
 use Rattle.measures.proofs.Measures.{small-done}
 use Rattle.formatter.specs.declared.Measures.{Measures}
@@ -39,9 +42,9 @@ use Rattle.formatter.specs.declared.Answer.{Answer}
 use Rattle.formatter.specs.declared.Answer.the-variants as Case
 use Rattle.formatter.specs.declared.Judged as Code
 use Rattle.formatter.specs.declared.Judged.the-variants as Says
-use Rattle.formatter.specs.Verdict.{Result, Judged, judge, check, get, declined, comments, measuresOf, emptySet, verdictOf, numberOf, placeOf, givenMeasures, format, maxWidth}
+use Rattle.formatter.specs.Verdict.{Verdict, Result, Judged, judge, check, get, declined, stopVerdict, comments, measuresOf, emptySet, verdictOf, numberOf, placeOf, givenMeasures, format, maxWidth}
 use Rattle.formatter.specs.WalkFirst.{byCheck, byWalk, recordFirst, textFirst, judgeWalkFirst}
-use Rattle.formatter.specs.Judging.{Limits, Weight, Drafts, Accepts, Weighs, Within, Judges, Puts}
+use Rattle.formatter.specs.Judging.{otherwise, BehindCommand, BehindWhere, Limits, Weight, Drafts, Accepts, Weighs, Within, Judges, Puts}
 use Rattle.formatter.proofs.EventLaws.{length-formatted}
 use Rattle.formatter.proofs.RunLaws.{out-is, left-comments, empty-left, first-left, comments-some, comments-none}
 use Rattle.formatter.proofs.VerdictLaws.{format-wide, format-short, format-fits, check-declined, get-declined, check-accepted, get-accepted}
@@ -90,16 +93,23 @@ done-is : (x : Outcome) → ends x ≡ 0 → (end : ℕ) × (es : List Event) ×
 done-is (done end es) e = (end, es, refl)
 done-is (stopped why es) e = never (sym e)
 
-stopped-is : (x : Outcome) → ends x ≡ 1 → (why : Stop) × (es : List Event) × (x ≡ stopped why es)
-stopped-is (done end es) e = never e
-stopped-is (stopped why es) e = (why, es, refl)
+-- Where a run fell.
+abbrev stopIn : Ran → Stop
+stopIn (went g) = absent 0
+stopIn (fell why g) = why
 
--- What the record check decides.
-abbrev checked : Page → ℕ → Judged
-checked p tree = byCheck (treeCheck (p .rec) (countOf (p .tokens)) tree)
+stopped-is : (p : Page) (tab : ℕ) (x : Outcome) (g : Run) {why : Stop} {h : Run} → run p tab x g ≡ fell why h
+    → (es : List Event) × (x ≡ stopped why es)
+unfolding run
+stopped-is p tab (done end es) g e = never (ap falls e)
+stopped-is p tab (stopped why es) g e = (es, ap (λ w. stopped w es) (ap stopIn e))
 
-pub weigh-checked : {p : Page} {count tree tab : ℕ} {draft left : List ℕ} {j : Code.Judged} {a : Answer} → byWalk p tree ≡ checked p tree
-    → declined (verdictOf a emptySet) ≡ checked p tree → (j ≡ Says.Declined a) × (left ≡ emptySet) → Weighs p count tree tab draft left j
+-- What the record check decides, where it passes by the verdict of the walk.
+abbrev checked : Walking.Answer → Page → ℕ → Judged
+checked r p tree = byCheck (otherwise r) (treeCheck (p .rec) (countOf (p .tokens)) tree)
+
+pub weigh-checked : {p : Page} {count tree tab : ℕ} {draft left : List ℕ} {j : Code.Judged} {a : Answer} {x : Judged} → byWalk p tree ≡ x
+    → declined (verdictOf a emptySet) ≡ x → (j ≡ Says.Declined a) × (left ≡ emptySet) → Weighs p count tree tab draft left j
 weigh-checked e q h = record { is = rw (h .0, h .1) (e ∙ sym q) }
 
 -- The walk over a sheet, from its start.
@@ -133,16 +143,27 @@ module _ {p : Page} {tree tab : ℕ} {o m : List ℕ} {r : Walking.Answer} {o′
       done-is (walk p tree)
       (sym (run-falls p tab (walk p tree) (runOf (begin tree) o m)) ∙ ap falls (sym whole ∙ ap (λ x. packed x o′ m′) f))
 
-  -- ---- 3 to 5
-  whole-stops : {s : St} {place : ℕ} {import : Bool} → r ≡ Stopped s place import → (why : Stop) × (es : List Event) × (walk p tree ≡ stopped why es)
-  whole-stops f =
-      stopped-is (walk p tree)
-      (sym (run-falls p tab (walk p tree) (runOf (begin tree) o m)) ∙ ap falls (sym whole ∙ ap (λ x. packed x o′ m′) f))
+  -- ---- 3, 4, 13 and 14
+  whole-stops : {s : St} {place : ℕ} {import : Bool} → r ≡ Stopped s place import
+      → (es : List Event) × (walk p tree ≡ stopped (stopOf place import) es)
+  whole-stops f = stopped-is p tab (walk p tree) (runOf (begin tree) o m) (sym whole ∙ ap (λ x. packed x o′ m′) f)
 
   -- A walk that stopped.
-  pub stopped-checked : {s : St} {place : ℕ} {import : Bool} → r ≡ Stopped s place import → byWalk p tree ≡ checked p tree
-  unfolding byWalk
-  stopped-checked f = rw (whole-stops f .2, byWalk) refl
+  pub stopped-checked : {s : St} {place : ℕ} {import : Bool} → r ≡ Stopped s place import → byWalk p tree ≡ checked r p tree
+  unfolding byWalk otherwise
+  stopped-checked f = rw (whole-stops f .1, byWalk, f, otherwise) refl
+
+  -- On a record that passes, an import stops the walk behind its command.
+  pub behind : BehindWhere (treeCheck (p .rec) (countOf (p .tokens)) tree) r
+  unfolding stopOf
+  behind =
+      record {
+        is = λ end e. record {
+          is = λ s place f.
+              let at-import : Proper p (imported place) = subst (λ x. EndsAt p (length (p .rec)) x) (whole-stops f .1) (passes-walks p tree end e) in
+              omega (arith, at-import .1);
+        };
+      }
 
   module _ {s : St} (f : r ≡ Done s) where
     ended : walk p tree ≡ done (s .at) (whole-ends f .1)
@@ -151,13 +172,36 @@ module _ {p : Page} {tree tab : ℕ} {o m : List ℕ} {r : Walking.Answer} {o′
         e ∙ ap (λ n. done n (whole-ends f .1)) (sym (ap (λ x. x .at) (whole-st e f)))
 
     -- A walk that ended elsewhere than at the record's end.
-    pub short-checked : (s .at ≡ length (p .rec) → ⊥) → byWalk p tree ≡ checked p tree
-    unfolding byWalk
+    pub short-checked : (s .at ≡ length (p .rec) → ⊥) → byWalk p tree ≡ checked (Done s) p tree
+    unfolding byWalk otherwise
     short-checked ne = rw (ended, byWalk, ne-eqb (s .at) (length (p .rec)) ne) refl
 
     whole-is : s .at ≡ length (p .rec) → byWalk p tree ≡ comments p (whole-ends f .1)
     unfolding byWalk
     whole-is e = rw (ended, byWalk, eq-eqb (s .at) (length (p .rec)) e) refl
+
+-- A walk that ended is not behind an import.
+pub behind-done : {c : Checked} {s : St} → BehindWhere c (Done s)
+behind-done = record { is = λ end e. record { is = λ t place f. never (cc) } }
+
+-- The verdict of the walk's answer.
+module _ {r : Walking.Answer} {s : St} where
+  pub told-ended : r ≡ Done s → verdictOf (Case.Malformed (s .at)) emptySet ≡ otherwise r
+  unfolding otherwise verdictOf numberOf placeOf givenMeasures
+  told-ended e = ap otherwise (sym e)
+
+  module _ {place : ℕ} {import : Bool} (e : r ≡ Stopped s place import) where
+    pub told-missing : import ≡ false → verdictOf (Case.Missing place) emptySet ≡ otherwise r
+    unfolding otherwise stopOf stopVerdict verdictOf numberOf placeOf givenMeasures
+    told-missing f = ap otherwise (sym (e ∙ ap (Stopped s place) f))
+
+    pub told-import : import ≡ true → verdictOf (Case.Import (place - 3)) emptySet ≡ otherwise r
+    unfolding otherwise stopOf stopVerdict formWidth verdictOf numberOf placeOf givenMeasures
+    told-import t = ap otherwise (sym (e ∙ ap (Stopped s place) t))
+
+    pub command-before : BehindCommand r → import ≡ true → 3 ≤ place
+    unfolding formWidth
+    command-before b t = b .is s place (e ∙ ap (Stopped s place) t)
 
 -- ---- 6, and what is accepted
 module _ {p : Page} {tree tab : ℕ} {o m : List ℕ} {r : Walking.Answer} {o′ m′ : List ℕ} {s : St} (w : Whole p tree tab o m r o′ m′) (f : r ≡ Done s)
@@ -377,8 +421,12 @@ module _ (text rec : List ℕ) where
                 }
             judges-sheet {j = Says.Declined a} x = record { is = judge-is ∙ x .is }
 
-pub checks : {rec : List ℕ} {count tree : ℕ} {r x : Tree.Checked} → TreeEnd rec count tree r → r ≡ x → byCheck (checkedIn x) ≡ byCheck (treeCheck rec count tree)
-checks u e = ap byCheck (ap checkedIn (sym e) ∙ u .is)
+pub tree-end-is : {rec : List ℕ} {count tree : ℕ} {r x : Tree.Checked} → TreeEnd rec count tree r → r ≡ x → checkedIn x ≡ treeCheck rec count tree
+tree-end-is u e = ap checkedIn (sym e) ∙ u .is
+
+pub checks : (v : Verdict) {rec : List ℕ} {count tree : ℕ} {r x : Tree.Checked} → TreeEnd rec count tree r → r ≡ x
+    → byCheck v (checkedIn x) ≡ byCheck v (treeCheck rec count tree)
+checks v u e = ap (byCheck v) (tree-end-is u e)
 
 pub judges-declined : {text rec : List ℕ} {tab : ℕ} {kinds starts lens draft left : List ℕ} {j : Code.Judged} {a : Answer}
     → judge text rec ≡ declined (verdictOf a emptySet) → (j ≡ Says.Declined a) × (left ≡ emptySet) → Judges text rec tab kinds starts lens draft left j

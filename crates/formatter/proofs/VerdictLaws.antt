@@ -11,10 +11,10 @@ use Rattle.text.proofs.Laws.{never}
 use Rattle.reader.specs.Reading.{Read, refused, sheet, read}
 use Rattle.reader.proofs.ReadingLaws.{read-cases}
 use Rattle.comments.specs.Set.{first}
-use Rattle.layout.specs.Meaning.{Page, Event, Outcome, done, stopped}
+use Rattle.layout.specs.Meaning.{Page, Event, Stop, absent, imported, Outcome, done, stopped}
 use Rattle.layout.specs.Walk.{walk}
 use Rattle.layout.specs.Events.{deepest, letters, units, formatted, isLeft}
-use Rattle.formatter.specs.Verdict.{Verdict, verdict, measuresOf, Judged, declined, accepted, comments, walked, judge, check, maxWidth, put, format, get}
+use Rattle.formatter.specs.Verdict.{Verdict, verdict, measuresOf, Judged, declined, accepted, comments, stopVerdict, walked, judge, check, maxWidth, put, format, get}
 use Rattle.formatter.specs.Demands.{Sheet}
 use Rattle.formatter.proofs.EventLaws.{length-formatted}
 
@@ -39,13 +39,18 @@ module _ (p : Page) where
       go (some k) f = rw (f, comments) (λ e. omega (arith, e))
       go none f = rw (f, comments) tt
 
+  stop-number : (why : Stop) → stopVerdict why .number ≡ 0 → ⊥
+  unfolding stopVerdict
+  stop-number (absent place) e = omega (arith, e)
+  stop-number (imported next) e = omega (arith, e)
+
   walked-number : (tree : ℕ) → Declined (walked p tree)
   unfolding walked
   walked-number tree = go (walk p tree) refl
     where
       go : (o : Outcome) → walk p tree ≡ o → Declined (walked p tree)
       go (done end es) f = rw (f, walked) (comments-number es)
-      go (stopped why es) f = rw (f, walked) (λ e. omega (arith, e))
+      go (stopped why es) f = rw (f, walked) (stop-number why)
 
 judge-number : (text rec : List ℕ) → Declined (judge text rec)
 unfolding judge

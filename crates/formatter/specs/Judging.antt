@@ -1,20 +1,39 @@
 -- Contracts of the functions behind `check` and `get`: what they know of the walk over a sheet.
 use Prim.Native.Nat.{ℕ, _≤_}
 use mathlib.Core.Path.{_≡_}
+use mathlib.Core.Bool.{true}
 use mathlib.Core.List.{List}
 use lib.ListN.{length, take}
+use Rattle.reader.specs.Fields.{DecOne}
+use Rattle.reader.specs.Commands.{formWidth}
 use Rattle.reader.specs.Tokens.{maxTokens}
+use Rattle.reader.specs.Check.{Checked, ok}
 use Rattle.reader.specs.Reading.{maxText, maxRecord}
 use Rattle.layout.specs.Meaning.{Page, Event, done}
 use Rattle.layout.specs.Walk.{walk}
 use Rattle.layout.specs.Events.{deepest, letters, units, formatted}
-use Rattle.layout.specs.State.{page}
+use Rattle.layout.specs.State.{page, stopOf}
+use Rattle.layout.specs.declared.St.{St}
+use Rattle.layout.specs.declared.Answer as Walking
+use Rattle.layout.specs.declared.Answer.the-variants.{Done, Stopped}
 use Rattle.formatter.specs.declared.Measures.{Measures}
 use Rattle.formatter.specs.declared.Answer.{Answer}
 use Rattle.formatter.specs.declared.Judged as Code
 use Rattle.formatter.specs.declared.Judged.the-variants as Case
 use Rattle.formatter.specs.WalkFirst.{byWalk}
-use Rattle.formatter.specs.Verdict.{Result, Judged, declined, accepted, judge, measuresOf, emptySet, verdictOf, format}
+use Rattle.formatter.specs.Verdict.{Verdict, verdict, noMeasures, stopVerdict, Result, Judged, declined, accepted, judge, measuresOf, emptySet, verdictOf, format}
+
+-- The verdict of a walk that did not end at the record's end, where the record passes the check.
+unfoldable pub otherwise : Walking.Answer → Verdict
+otherwise (Done s) = verdict 3 (s .at) noMeasures
+otherwise (Stopped s place import) = stopVerdict (stopOf place import)
+
+-- A walk that stopped at an import did so behind a declaration's command; so it is where the check passes.
+pub record BehindCommand (r : Walking.Answer) : Type 0 where
+  pub is : (s : St) (place : ℕ) → r ≡ Stopped s place true → formWidth DecOne ≤ place
+
+pub record BehindWhere (c : Checked) (r : Walking.Answer) : Type 0 where
+  pub is : (end : ℕ) → c ≡ ok end → BehindCommand r
 
 -- The walk over a sheet ends, with these measures, none of which is large.
 pub record Weight (p : Page) (tree : ℕ) (m : Measures) : Type 0 where
@@ -49,7 +68,7 @@ pub record Limits (text rec kinds starts lens : List ℕ) (count : ℕ) : Type 0
   pub few : count ≤ maxTokens
   pub within : Within count kinds starts lens
 
--- What an answer says of a page: 3 to 6.
+-- What an answer says of a page: 3, 4, 13, 14 and 6.
 abbrev weighed : Page → ℕ → ℕ → ℕ → List ℕ → List ℕ → Code.Judged → Type 0
 weighed p count tree tab draft left (Case.Accepted n at m) = (n ≡ count) × (at ≡ tree) × Accepts (byWalk p tree) p tree tab m draft left
 weighed p count tree tab draft left (Case.Declined a) = byWalk p tree ≡ declined (verdictOf a left)
@@ -57,7 +76,7 @@ weighed p count tree tab draft left (Case.Declined a) = byWalk p tree ≡ declin
 pub record Weighs (p : Page) (count tree tab : ℕ) (draft left : List ℕ) (r : Code.Judged) : Type 0 where
   pub is : weighed p count tree tab draft left r
 
--- What an answer says of a text and a record with the tables: 1 to 6.
+-- What an answer says of a text and a record with the tables: 1 to 4, 13, 14 and 6.
 abbrev judged : List ℕ → List ℕ → ℕ → List ℕ → List ℕ → List ℕ → List ℕ → List ℕ → Code.Judged → Type 0
 judged text rec tab kinds starts lens draft left (Case.Accepted count tree m) =
     Within count kinds starts lens

@@ -1,19 +1,21 @@
--- Document 01, module 6: the verdicts of `check` and `get` and the final output, for every input.
-use Prim.Native.Nat.{ℕ, zero, suc, _+_, _*_}
+-- Document 01, module 6, and document 02, Ticket 4: the verdicts of `check` and `get` and the final output, for every input.
+use Prim.Native.Nat.{ℕ, zero, suc, _+_, _-_, _*_}
 use mathlib.Core.List.{List, [], _∷_, _++_}
 use mathlib.Core.Bool.{Bool, true, false}
 use mathlib.Core.Option.{Option, none, some}
 use lib.ListN.{length, getD, drop, replicate}
 use lib.Dec.{leb}
+use Rattle.reader.specs.Fields.{DecOne}
+use Rattle.reader.specs.Commands.{formWidth}
 use Rattle.reader.specs.Tokens.{Tokens}
 use Rattle.reader.specs.Reading.{Read, refused, sheet, read}
 use Rattle.comments.specs.Set.{wordsOf, first}
-use Rattle.layout.specs.Meaning.{Page, Event, done, stopped}
+use Rattle.layout.specs.Meaning.{Page, Event, Stop, absent, imported, done, stopped}
 use Rattle.layout.specs.Walk.{walk}
 use Rattle.layout.specs.Events.{deepest, letters, units, formatted, isLeft}
 use Rattle.formatter.specs.declared.Measures.{Measures}
 use Rattle.formatter.specs.declared.Answer.{Answer}
-use Rattle.formatter.specs.declared.Answer.the-variants.{Accepted, TooLong, NotUtf8, Malformed, TooDeep, Syntax, Comments, TooWide, NoRoom}
+use Rattle.formatter.specs.declared.Answer.the-variants.{Accepted, TooLong, NotUtf8, Malformed, TooDeep, Missing, Import, Comments, TooWide, NoRoom}
 
 -- A verdict (document 01): number, place, measures, and the words of the set of comments left.
 pub record Verdict : Type 0 where
@@ -49,11 +51,16 @@ comments p es =
       | none ↦ accepted p es
     ]
 
--- 5, then 6.
-unfoldable pub walked : Page → ℕ → Judged
-walked p tree = elim (walk p tree) [ done end es ↦ comments p es | stopped why es ↦ declined (verdict 5 0 noMeasures) ]
+-- 13 at the part that is absent; 14 at the import's command, behind which the walk stops.
+unfoldable pub stopVerdict : Stop → Verdict
+stopVerdict (absent place) = verdict 13 place noMeasures
+stopVerdict (imported next) = verdict 14 (next - formWidth DecOne) noMeasures
 
--- 1 to 4, then 5 and 6.
+-- 13 and 14, then 6.
+unfoldable pub walked : Page → ℕ → Judged
+walked p tree = elim (walk p tree) [ done end es ↦ comments p es | stopped why es ↦ declined (stopVerdict why) ]
+
+-- 1 to 4, then 13, 14 and 6.
 unfoldable pub judge : List ℕ → List ℕ → Judged
 judge text rec =
     elim (read text rec) [
@@ -92,14 +99,15 @@ format tab p es out =
 unfoldable pub get : List ℕ → List ℕ → ℕ → List ℕ → Result
 get text rec tab out = elim (judge text rec) [ declined v ↦ result v out | accepted p es ↦ format tab p es out ]
 
--- 01's number for each case of the answer.
+-- The number of the documents for each case of the answer.
 unfoldable pub numberOf : Answer → ℕ
 numberOf (Accepted m) = 0
 numberOf TooLong = 1
 numberOf (NotUtf8 at) = 2
 numberOf (Malformed at) = 3
 numberOf (TooDeep at) = 4
-numberOf Syntax = 5
+numberOf (Missing at) = 13
+numberOf (Import at) = 14
 numberOf (Comments at) = 6
 numberOf (TooWide m) = 7
 numberOf (NoRoom m) = 8
@@ -110,7 +118,8 @@ placeOf TooLong = 0
 placeOf (NotUtf8 at) = at
 placeOf (Malformed at) = at
 placeOf (TooDeep at) = at
-placeOf Syntax = 0
+placeOf (Missing at) = at
+placeOf (Import at) = at
 placeOf (Comments at) = at
 placeOf (TooWide m) = 0
 placeOf (NoRoom m) = 0
@@ -121,7 +130,8 @@ givenMeasures TooLong = noMeasures
 givenMeasures (NotUtf8 at) = noMeasures
 givenMeasures (Malformed at) = noMeasures
 givenMeasures (TooDeep at) = noMeasures
-givenMeasures Syntax = noMeasures
+givenMeasures (Missing at) = noMeasures
+givenMeasures (Import at) = noMeasures
 givenMeasures (Comments at) = noMeasures
 givenMeasures (TooWide m) = m
 givenMeasures (NoRoom m) = m

@@ -11,24 +11,24 @@ use Rattle.reader.specs.Check.{Checked, ok, malformed, tooDeep, treeCheck}
 use Rattle.reader.specs.Reading.{maxText, maxRecord}
 use Rattle.layout.specs.Meaning.{Page, done, stopped}
 use Rattle.layout.specs.Walk.{walk}
-use Rattle.formatter.specs.Verdict.{Judged, declined, verdict, noMeasures, comments}
+use Rattle.formatter.specs.Verdict.{Verdict, Judged, declined, verdict, noMeasures, stopVerdict, comments}
 
 abbrev refused : ℕ → ℕ → Judged
 refused number place = declined (verdict number place noMeasures)
 
--- 3 and 4; where the check passes, 5.
-unfoldable pub byCheck : Checked → Judged
-byCheck (ok end) = refused 5 0
-byCheck (malformed place) = refused 3 place
-byCheck (tooDeep place) = refused 4 place
+-- 3 and 4; where the check passes, the verdict of the walk.
+unfoldable pub byCheck : Verdict → Checked → Judged
+byCheck v (ok end) = declined v
+byCheck v (malformed place) = refused 3 place
+byCheck v (tooDeep place) = refused 4 place
 
--- 3 to 6 of a page. A walk that ends at the record's end needs no check.
+-- 3, 4, 13, 14 and 6 of a page. A walk that ends at the record's end needs no check; one that ends elsewhere leaves bytes over.
 unfoldable pub byWalk : Page → ℕ → Judged
 byWalk p tree =
     elim (walk p tree) [
       | done end es ↦ elim (eqb end (length (p .rec)))
-          [ true ↦ comments p es | false ↦ byCheck (treeCheck (p .rec) (countOf (p .tokens)) tree) ]
-      | stopped why es ↦ byCheck (treeCheck (p .rec) (countOf (p .tokens)) tree)
+          [ true ↦ comments p es | false ↦ byCheck (verdict 3 end noMeasures) (treeCheck (p .rec) (countOf (p .tokens)) tree) ]
+      | stopped why es ↦ byCheck (stopVerdict why) (treeCheck (p .rec) (countOf (p .tokens)) tree)
     ]
 
 module _ (text rec : List ℕ) where
@@ -40,6 +40,6 @@ module _ (text rec : List ℕ) where
   unfoldable pub textFirst : Judged
   textFirst = elim (firstBroken text) [ none ↦ recordFirst | some place ↦ refused 2 place ]
 
-  -- 1 to 6.
+  -- 1 to 4, 13, 14 and 6.
   unfoldable pub judgeWalkFirst : Judged
   judgeWalkFirst = elim (leb (length text) maxText && leb (length rec) maxRecord) [ true ↦ textFirst | false ↦ refused 1 0 ]

@@ -21,7 +21,7 @@ ghost use Rattle.layout.specs.State.{page};
 ghost use Rattle.formatter.specs.Lookup.{Asks, lookedOf, lookup};
 ghost use Rattle.formatter.specs.Verdict.{declined, emptySet, verdictOf, check as check·, get as get·};
 ghost use Rattle.formatter.specs.WalkFirst.{byCheck};
-ghost use Rattle.formatter.specs.Judging.{Limits, Weighs, Weight, Drafts, Judges, Puts};
+ghost use Rattle.formatter.specs.Judging.{otherwise, BehindCommand, BehindWhere, Limits, Weighs, Weight, Drafts, Judges, Puts};
 
 // Deepest, letters and units of a walk (document 01, module 5).
 pub struct Measures {
@@ -41,8 +41,10 @@ pub enum Answer {
     Malformed(usize),
     // The offset in the record of the 201st form inside one another.
     TooDeep(usize),
-    // A required part is absent.
-    Syntax,
+    // The offset in the record of the part that is absent.
+    Missing(usize),
+    // The offset in the record of the import's command.
+    Import(usize),
     // The offset in the text of the first comment left.
     Comments(usize),
     // Deepest × tab size is over 4,294,967,295.
@@ -96,7 +98,10 @@ const MAX_WIDTH: u64 = 0xFFFF_FFFF;
 // A text of this length is written in one walk.
 const DRAFT: usize = 65536;
 
-// A refusal of 1 to 5, whose set is empty.
+// A declaration's command, with its operand.
+const DECLARATION: usize = 3;
+
+// A refusal because of the sheet other than 6: its set is empty.
 fn refused(left: &mut [u64; 64], answer: Answer) -> Judged
     ensures { λ r. ⌜ (r ≡ Judged.Declined answer) × (now (left .exit) ≡ emptySet) ⌝ }
 {
@@ -104,19 +109,36 @@ fn refused(left: &mut [u64; 64], answer: Answer) -> Judged
     Judged::Declined(answer)
 }
 
-// 3 and 4 of a record whose walk did not end at its end; where the check passes, 5.
-fn by_check(rec: &[u8], count: usize, tree: usize) -> Answer
-    ensures { λ r. ⌜ declined (verdictOf r emptySet) ≡ byCheck (treeCheck (now (rec .entry)) count tree) ⌝ }
+// 13 and 14. An import stops the walk behind its command.
+fn stop(walked: layout::Answer) -> Answer
+    requires { ⌜ BehindCommand walked ⌝ }
+    ensures { λ r. ⌜ verdictOf r emptySet ≡ otherwise walked ⌝ }
+{
+    match walked {
+        layout::Answer::Done(s) => Answer::Malformed(s.at),
+        layout::Answer::Stopped(_, place, import) => {
+            if import {
+                return Answer::Import(place - DECLARATION);
+            }
+            Answer::Missing(place)
+        }
+    }
+}
+
+// 3 and 4 of a record whose walk did not end at its end; where the check passes, 13 and 14.
+fn by_check(rec: &[u8], count: usize, tree: usize, walked: layout::Answer) -> Answer
+    requires { ⌜ BehindWhere (treeCheck (now rec) count tree) walked ⌝ }
+    ensures { λ r. ⌜ declined (verdictOf r emptySet) ≡ byCheck (otherwise walked) (treeCheck (now (rec .entry)) count tree) ⌝ }
 {
     let found = tree_end(rec, count, tree);
     match found {
-        Checked::Ok(_) => Answer::Syntax,
+        Checked::Ok(_) => stop(walked),
         Checked::Malformed(place) => Answer::Malformed(place),
         Checked::TooDeep(place) => Answer::TooDeep(place),
     }
 }
 
-// 3 to 6 of a sheet whose tokens stand in the tables: the walk at a tab size over a draft of the output.
+// 3, 4, 13, 14 and 6 of a sheet whose tokens stand in the tables: the walk at a tab size over a draft of the output.
 // The words become those of the comments left.
 fn weigh(
     text: &[u8],
@@ -141,10 +163,10 @@ fn weigh(
     *left = words;
     let walked = walk::walk(text, rec, kinds, starts, lens, draft, left, tree, tab);
     let layout::Answer::Done(s) = walked else {
-        return refused(left, by_check(rec, starts.len(), tree));
+        return refused(left, by_check(rec, starts.len(), tree, walked));
     };
     if s.at != rec.len() {
-        return refused(left, by_check(rec, starts.len(), tree));
+        return refused(left, by_check(rec, starts.len(), tree, walked));
     }
     let unwritten = *left;
     let set = Set { words: unwritten };
@@ -166,7 +188,7 @@ fn weigh(
     Judged::Declined(Answer::Comments(entry(starts, k)))
 }
 
-// 1 to 6. The record check is run only where the walk did not end at the record's end.
+// 1 to 4, 13, 14 and 6. The record check is run only where the walk did not end at the record's end.
 // The words become those of the comments left, which are none but for 6.
 fn judge(
     text: &[u8],

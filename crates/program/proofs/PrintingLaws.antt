@@ -15,7 +15,7 @@ use denote.Enum.Declared.{tagOf}
 use Rattle.formatter.proofs.Answer.{the-type}
 use Rattle.formatter.specs.declared.Measures.{Measures}
 use Rattle.formatter.specs.declared.Answer.{Answer}
-use Rattle.formatter.specs.declared.Answer.the-variants.{Accepted, TooLong, NotUtf8, Malformed, TooDeep, Syntax, Comments, TooWide, NoRoom}
+use Rattle.formatter.specs.declared.Answer.the-variants.{Accepted, TooLong, NotUtf8, Malformed, TooDeep, Missing, Import, Comments, TooWide, NoRoom}
 use Rattle.formatter.specs.Verdict.{Verdict, numberOf, givenMeasures, verdictOf}
 use Rattle.program.specs.Program.{digits, decimal, line}
 use Rattle.program.specs.Printing.{said, saidWith, shown, TextWithin, Puts, Prints}
@@ -111,9 +111,9 @@ line-parts v = rw (behind, behind, behind, behind)
 
 -- ---- the line and the text
 
--- An answer that does not accept, by the numbers of its cases.
+-- An answer that does not accept, by the places of its cases.
 abbrev others : List ℕ
-others = 1 ∷ 2 ∷ 3 ∷ 4 ∷ 5 ∷ 6 ∷ 7 ∷ 8 ∷ []
+others = 1 ∷ 2 ∷ 3 ∷ 4 ∷ 5 ∷ 6 ∷ 7 ∷ 8 ∷ 9 ∷ []
 
 abbrev pub Declines : Answer → Type 0
 Declines a = OneOf others (tagOf the-type a)
@@ -125,7 +125,8 @@ declines-number TooLong d = refl
 declines-number (NotUtf8 at) d = refl
 declines-number (Malformed at) d = refl
 declines-number (TooDeep at) d = refl
-declines-number Syntax d = refl
+declines-number (Missing at) d = refl
+declines-number (Import at) d = refl
 declines-number (Comments at) d = refl
 declines-number (TooWide m) d = refl
 declines-number (NoRoom m) d = refl

@@ -27,6 +27,7 @@ use Rattle.agreement.specs.Unbounded as Unbounded
 use Rattle.formatter.specs.Verdict as Verdict
 use Rattle.formatter.specs.Lookup as Lookup
 use Rattle.formatter.specs.WalkFirst as WalkFirst
+use Rattle.formatter.specs.Judging as Judging
 use Rattle.formatter.specs.Demands as Demands
 use Rattle.doc_comment.specs.Doc as Doc
 use Rattle.doc_comment.specs.Lines as Lines
@@ -130,7 +131,7 @@ unfolding Unbounded.onwards Unbounded.outcome Unbounded.walk
 runUnbounded = tt
 
 unfoldable pub runVerdict : Unit {0}
-unfolding Verdict.measuresOf Verdict.comments Verdict.walked Verdict.judge Verdict.check Verdict.put Verdict.format Verdict.get Verdict.numberOf Verdict.placeOf Verdict.givenMeasures Verdict.verdictOf
+unfolding Verdict.measuresOf Verdict.comments Verdict.stopVerdict Verdict.walked Verdict.judge Verdict.check Verdict.put Verdict.format Verdict.get Verdict.numberOf Verdict.placeOf Verdict.givenMeasures Verdict.verdictOf
 runVerdict = tt
 
 unfoldable pub runLookup : Unit {0}
@@ -140,6 +141,10 @@ runLookup = tt
 unfoldable pub runWalkFirst : Unit {0}
 unfolding WalkFirst.byCheck WalkFirst.byWalk WalkFirst.recordFirst WalkFirst.textFirst WalkFirst.judgeWalkFirst
 runWalkFirst = tt
+
+unfoldable pub runJudging : Unit {0}
+unfolding Judging.otherwise
+runJudging = tt
 
 unfoldable pub runDemands : Unit {0}
 unfolding Demands.withoutSpaces
@@ -162,5 +167,5 @@ unfolding Printing.shown
 runPrinting = tt
 
 unfoldable pub run : Unit {0}
-unfolding runUtf8 runBytes runOutput runWellFormed runForms runFields runCommands runTokens runCheck runReading runSet runAbove runMeaning runHelpers runGetDec runTy runPat runExp runSigExp runStrExp runDecOne runWalk runEvents runUnbounded runVerdict runLookup runWalkFirst runDemands runDoc runLines runProgram runPrinting
+unfolding runUtf8 runBytes runOutput runWellFormed runForms runFields runCommands runTokens runCheck runReading runSet runAbove runMeaning runHelpers runGetDec runTy runPat runExp runSigExp runStrExp runDecOne runWalk runEvents runUnbounded runVerdict runLookup runWalkFirst runJudging runDemands runDoc runLines runProgram runPrinting
 run = tt

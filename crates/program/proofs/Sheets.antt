@@ -1,4 +1,4 @@
--- The sheets that document 01 marks *, A to L, with all that their lines say, as theorems about the definitions, closed by computation.
+-- The sheets that document 01 marks *, A to L, with all that their lines say (L by document 02, Ticket 4), as theorems about the definitions, closed by computation.
 -- A text stands as quoted text, a record as document 01 writes it: its bytes in hexadecimal.
 use Prim.Native.Nat.{ℕ, _+_, _-_, _*_}
 use Prim.Native.String.{String}
@@ -36,14 +36,14 @@ abbrev result : Verdict → List ℕ → Result
 result v out = record { verdict = v; out = out }
 
 -- Accepted with these measures; at the tab size the text is this one, in an output of its length.
-abbrev Accepts : List ℕ → List ℕ → ℕ → ℕ → ℕ → ℕ → String → Type 0
+abbrev pub Accepts : List ℕ → List ℕ → ℕ → ℕ → ℕ → ℕ → String → Type 0
 Accepts text rec deepest letters units tab formatted =
     (check text rec ≡ verdict 0 0 (record { deepest = deepest; letters = letters; units = units }))
     × (get text rec tab (replicate (length (bytes formatted)) 0)
     ≡ result (verdict 0 0 (record { deepest = deepest; letters = letters; units = units })) (bytes formatted))
 
 -- Declined with this verdict, by the check and at every tab size and output, which stays unchanged.
-abbrev Declines : List ℕ → List ℕ → Verdict → Type 0
+abbrev pub Declines : List ℕ → List ℕ → Verdict → Type 0
 Declines text rec v = (check text rec ≡ v) × ((tab : ℕ) (out : List ℕ) → get text rec tab out ≡ result v out)
 
 -- A: unchanged, (0, 9, 0).
@@ -284,7 +284,7 @@ unfolding run hex pairs digit
 J = (refl, refl)
 
 -- K: the tuple type drops its stopped first part; (0, 16, 0).
-abbrev textK : List ℕ
+abbrev pub textK : List ℕ
 textK = bytes "type t = () * int"
 
 abbrev recK : List ℕ
@@ -299,7 +299,7 @@ K : K-says
 unfolding run hex pairs digit
 K = (refl, refl)
 
--- L: an import alone: 5.
+-- L: an import alone: 14 at its command.
 abbrev textL : List ℕ
 textL = bytes "import x"
 
@@ -309,13 +309,21 @@ recL =
     ++ hex "02 01 00 03 03 02 01 00 03 23 00 00 00 02 00 00 00"
 
 abbrev L-says : Type 0
-L-says = Declines textL recL (verdict 5 0 noMeasures)
+L-says = Declines textL recL (verdict 14 21 noMeasures)
 
 L : L-says
 unfolding run hex pairs digit
 L = (refl, λ tab out. refl)
 
--- L with a comment: 5, and the set is empty.
+-- The program on L at tab 2.
+abbrev L-program-says : Type 0
+L-program-says = program (hex "02 00 00 00 08 00" ++ textL ++ recL) ≡ bytes "14 21 0 0 0\n"
+
+L-program : L-program-says
+unfolding run hex pairs digit
+L-program = refl
+
+-- L with a comment: 14 at the command, behind two tokens more, and the set is empty.
 abbrev textL-comment : List ℕ
 textL-comment = bytes "(* c *) import x"
 
@@ -325,7 +333,7 @@ recL-comment =
     ++ hex "02 01 00 03 03 02 01 00 03 23 02 00 00 02 00 00 00"
 
 abbrev L-comment-says : Type 0
-L-comment-says = Declines textL-comment recL-comment (verdict 5 0 noMeasures)
+L-comment-says = Declines textL-comment recL-comment (verdict 14 29 noMeasures)
 
 L-comment : L-comment-says
 unfolding run hex pairs digit
@@ -365,6 +373,7 @@ sheets :
     × J-says
     × K-says
     × L-says
+    × L-program-says
     × L-comment-says
     × L-empty-says
-sheets = (A, A-program, B, C, C-short, C-wide, C-fits, D, E, F, F-above, G, G-above, H, I, J, K, L, L-comment, L-empty)
+sheets = (A, A-program, B, C, C-short, C-wide, C-fits, D, E, F, F-above, G, G-above, H, I, J, K, L, L-program, L-comment, L-empty)

@@ -1,5 +1,5 @@
 -- `formatter::weigh` meets its contract: the walk over a draft; the record check where it did not end at the record's end.
-use Rattle.formatter.proofs.JudgeLaws.{taken, kinds-few, weigh-checked, stopped-checked, short-checked, weigh-accepts, weigh-never, weigh-comments}
+use Rattle.formatter.proofs.JudgeLaws.{taken, kinds-few, weigh-checked, stopped-checked, short-checked, behind, behind-done, weigh-accepts, weigh-never, weigh-comments}
 use borrow.Author.Needs.{needs}
 use Rattle.formatter.proofs.weigh.Statement.{statement}
 use Rattle.formatter.proofs.weigh.Tie as tie
@@ -26,7 +26,7 @@ enum-told : tie.Need-enum-told
 enum-told c = search needs
 
 by-check-requires : tie.Need-by-check-requires
-by-check-requires c κs = search needs
+by-check-requires c κs = behind (c .before .before .before .before .before .walk .ensures)
 
 refused-requires : tie.Need-refused-requires
 refused-requires c κs = search needs
@@ -38,7 +38,7 @@ returns : tie.Need-returns
 returns c = weigh-checked (stopped-checked (c .before .before .before .before .before .before .before .walk .ensures) (c .before .before .before .enum-told .given .1)) (c .before .by-check .ensures) (c .refused .ensures)
 
 by-check-requires-2 : tie.Need-by-check-requires-2
-by-check-requires-2 c κs = search needs
+by-check-requires-2 c κs = behind-done
 
 refused-requires-2 : tie.Need-refused-requires-2
 refused-requires-2 c κs = search needs

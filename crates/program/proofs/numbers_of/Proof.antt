@@ -36,26 +36,32 @@ enum-known-answer-4 c = search needs
 refused-requires-4 : tie.Need-refused-requires-4
 refused-requires-4 c κs = search needs
 
-enum-told-2 : tie.Need-enum-told-2
-enum-told-2 c = search needs
+enum-known-answer-5 : tie.Need-enum-known-answer-5
+enum-known-answer-5 c = search needs
 
 refused-requires-5 : tie.Need-refused-requires-5
 refused-requires-5 c κs = search needs
 
-enum-known-answer-5 : tie.Need-enum-known-answer-5
-enum-known-answer-5 c = search needs
+enum-known-answer-6 : tie.Need-enum-known-answer-6
+enum-known-answer-6 c = search needs
 
 refused-requires-6 : tie.Need-refused-requires-6
 refused-requires-6 c κs = search needs
 
-enum-known-answer-6 : tie.Need-enum-known-answer-6
-enum-known-answer-6 c = search needs
+enum-known-answer-7 : tie.Need-enum-known-answer-7
+enum-known-answer-7 c = search needs
+
+refused-requires-7 : tie.Need-refused-requires-7
+refused-requires-7 c κs = search needs
+
+enum-known-answer-8 : tie.Need-enum-known-answer-8
+enum-known-answer-8 c = search needs
 
 measured-requires-2 : tie.Need-measured-requires-2
 measured-requires-2 c κs = search needs
 
-enum-known-answer-7 : tie.Need-enum-known-answer-7
-enum-known-answer-7 c = search needs
+enum-known-answer-9 : tie.Need-enum-known-answer-9
+enum-known-answer-9 c = search needs
 
 measured-requires-3 : tie.Need-measured-requires-3
 measured-requires-3 c κs = search needs
@@ -82,19 +88,23 @@ returns-5 c = c .refused4 .ensures ∙ ap said (sym (c .before .before .answer4 
 
 returns-6 : tie.Need-returns-6
 unfolding verdictOf numberOf placeOf givenMeasures
-returns-6 c = c .refused5 .ensures ∙ ap said (sym (c .before .enum-told2 .given .1))
+returns-6 c = c .refused5 .ensures ∙ ap said (sym (c .before .before .answer5 .given .1))
 
 returns-7 : tie.Need-returns-7
 unfolding verdictOf numberOf placeOf givenMeasures
-returns-7 c = c .refused6 .ensures ∙ ap said (sym (c .before .before .answer5 .given .1))
+returns-7 c = c .refused6 .ensures ∙ ap said (sym (c .before .before .answer6 .given .1))
 
 returns-8 : tie.Need-returns-8
 unfolding verdictOf numberOf placeOf givenMeasures
-returns-8 c = c .measured2 .ensures ∙ ap said (sym (c .before .before .answer6 .given .1))
+returns-8 c = c .refused7 .ensures ∙ ap said (sym (c .before .before .answer7 .given .1))
 
 returns-9 : tie.Need-returns-9
 unfolding verdictOf numberOf placeOf givenMeasures
-returns-9 c = c .measured3 .ensures ∙ ap said (sym (c .before .before .answer7 .given .1))
+returns-9 c = c .measured2 .ensures ∙ ap said (sym (c .before .before .answer8 .given .1))
+
+returns-10 : tie.Need-returns-10
+unfolding verdictOf numberOf placeOf givenMeasures
+returns-10 c = c .measured3 .ensures ∙ ap said (sym (c .before .before .answer9 .given .1))
 
 pub numbers-of-spec : {M : Type 1} → statement M
 numbers-of-spec =
@@ -110,13 +120,15 @@ numbers-of-spec =
     refused-requires-3
     enum-known-answer-4
     refused-requires-4
-    enum-told-2
-    refused-requires-5
     enum-known-answer-5
-    refused-requires-6
+    refused-requires-5
     enum-known-answer-6
-    measured-requires-2
+    refused-requires-6
     enum-known-answer-7
+    refused-requires-7
+    enum-known-answer-8
+    measured-requires-2
+    enum-known-answer-9
     measured-requires-3
     returns
     returns-2
@@ -126,4 +138,5 @@ numbers-of-spec =
     returns-6
     returns-7
     returns-8
-    returns-9)
+    returns-9
+    returns-10)
