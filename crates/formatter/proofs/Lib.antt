@@ -6,3 +6,4 @@ pub mod VerdictLaws
 pub mod AsciiLaws
 pub mod Demands
 pub mod InStep
+pub mod Stops

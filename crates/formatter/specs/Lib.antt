@@ -4,3 +4,4 @@ pub mod Ascii
 pub mod WalkFirst
 pub mod Judging
 pub mod Demands
+pub mod Stops

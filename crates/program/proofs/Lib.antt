@@ -4,3 +4,4 @@ pub mod PrintingLaws
 pub mod InputLaws
 pub mod Bounds
 pub mod AsciiLaws
+pub mod Stops
