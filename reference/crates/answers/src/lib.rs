@@ -1,8 +1,11 @@
 //! The answers of the unchanged Rust for a sheet, as document 01 puts them.
 //!
 //! - Numbers 1 to 4 come from the decoder.
-//! - Numbers 0, 5 and 6, the set and the formatted text come from `check` and `get` of 000, run
-//!   over the stand-in tree; the lookups come from `comment_above` and `doc_comment_above` of 001.
+//! - Numbers 0 and 6, the set and the formatted text come from `check` and `get` of 000, run over the
+//!   stand-in tree; the lookups come from `comment_above` and `doc_comment_above` of 001.
+//! - Numbers 13 and 14 stand for `Error::Syntax` of 000. Which of them it is, and the place, come from
+//!   a copy of 000 that records each failing `?`, made by the crate `stops`: the last failure that
+//!   began is the one told.
 //! - Letters is the length of `get`'s text at tab size 0. Units is what the length of the text at
 //!   tab size 1 has beyond that. Within the limits of a sheet both texts stay under 1 GB.
 //! - Deepest comes from a copy of 000 that `build.rs` makes from the unchanged file by adding one
@@ -36,7 +39,7 @@ pub struct Verdict {
     pub number: u8,
     /// The place.
     pub place: u32,
-    /// The measures; 0 for numbers 1 to 6.
+    /// The measures; 0 for numbers other than 0, 7 and 8.
     pub measures: Measures,
     /// The comments left; empty for numbers other than 6.
     pub set: CommentSet,
@@ -227,7 +230,7 @@ impl Tree {
         let deepest = depth::deepest(&root);
         let check = match check(&root) {
             Ok(()) => Verdict::with_measures(number::ACCEPTED, measures(&root, deepest)),
-            Err(error) => refused(&root, &error),
+            Err(error) => refused(&root, &error, || stops::failures_of_check(&root)),
         };
         Self { root, record_length, check, deepest }
     }
@@ -243,8 +246,8 @@ impl Tree {
         self.call_get(tab_size)
     }
 
-    /// Formatting of a sheet that the check refuses. Numbers 5 and 6 come before 7 and 8, so where
-    /// `get` can't run at the tab size, the check's verdict stands.
+    /// Formatting of a sheet that the check refuses. Numbers 6, 13 and 14 come before 7 and 8, so
+    /// where `get` can't run at the tab size, the check's verdict stands.
     fn get_refused(&self, tab_size: u32, text_bound: u64) -> Answer<Formatted> {
         // A command has at most six indents written, `local` with a comment above it.
         let units = 6 * self.record_length as u64 * u64::from(self.deepest);
@@ -263,7 +266,10 @@ impl Tree {
                 verdict: Verdict::with_measures(number::ACCEPTED, self.check.measures),
                 text: Some(text),
             },
-            Err(error) => Formatted { verdict: refused(&self.root, &error), text: None },
+            Err(error) => {
+                let failures = || stops::failures_of_get(&self.root, tab_size);
+                Formatted { verdict: refused(&self.root, &error, failures), text: None }
+            }
         };
         Answer { value, origin: Origin::Rust }
     }
@@ -276,10 +282,17 @@ fn measures(root: &ast::Root, deepest: u32) -> Measures {
     Measures { deepest, letters, units: length(1).saturating_sub(letters) }
 }
 
-/// The verdict of a refusal by the Rust.
-fn refused(root: &ast::Root, error: &Error) -> Verdict {
+/// The verdict of a refusal by the Rust; `failures` are those of the walk that is refused.
+fn refused(
+    root: &ast::Root,
+    error: &Error,
+    failures: impl FnOnce() -> Vec<stops::Failure>,
+) -> Verdict {
     let Error::Comments(ranges) = error else {
-        return Verdict::with_measures(number::SYNTAX, Measures::default());
+        let stop = stops::told(&failures()).expect("the copy of 000 stops as 000 does");
+        let number = if stop.is_import { number::IMPORT } else { number::MISSING };
+        let verdict = Verdict::with_measures(number, Measures::default());
+        return Verdict { place: stop.place, ..verdict };
     };
     let mut verdict = Verdict::with_measures(number::COMMENTS, Measures::default());
     verdict.place = ranges.iter().map(|range| range.start()).min().unwrap_or(0);

@@ -144,8 +144,8 @@ fn k() {
 
 #[test]
 fn l() {
-    refused(&lettered::l_import(), 5, 0, EMPTY, Origin::Rust);
-    refused(&lettered::l_import_with_comment(), 5, 0, EMPTY, Origin::Rust);
+    refused(&lettered::l_import(), 14, 21, EMPTY, Origin::Rust);
+    refused(&lettered::l_import_with_comment(), 14, 29, EMPTY, Origin::Rust);
     accepted(&lettered::l_empty(), (0, 0, 0), &[(0, "")]);
 }
 
@@ -188,7 +188,7 @@ fn n_tokens() {
 #[test]
 fn program_declines() {
     assert_eq!(printed(&lettered::g_left(), 2), "6 8 0 0 0\n");
-    assert_eq!(printed(&lettered::l_import(), 2), "5 0 0 0 0\n");
+    assert_eq!(printed(&lettered::l_import(), 2), "14 21 0 0 0\n");
     assert_eq!(program_output(&[]), b"1 0 0 0 0\n");
     assert_eq!(program_output(&[0, 0, 0, 0, 1, 0]), b"1 0 0 0 0\n");
     let empty = Sheet::default();

@@ -77,8 +77,9 @@ fn every_node_is_walked() {
     for (family, form, which) in forms() {
         let sheet = sheet_with(family, |token| full(form, which, token, &mut seen));
         let verdict = Reference::new(&sheet).check().value;
-        let expected = if form == Node::EsImportDec { 5 } else { 0 };
-        assert_eq!((verdict.number, verdict.place), (expected, 0), "{}", form.name());
+        // The import stands behind one token and nine bytes.
+        let expected = if form == Node::EsImportDec { (14, 13) } else { (0, 0) };
+        assert_eq!((verdict.number, verdict.place), expected, "{}", form.name());
     }
     let all: BTreeSet<_> = Node::ALL.iter().map(|node| node.name()).collect();
     assert_eq!(seen, all);
@@ -101,12 +102,16 @@ fn check_and_get_agree_and_lengths_follow_from_the_measures() {
 }
 
 #[test]
-fn a_form_without_fields_is_syntax_or_accepted() {
+fn a_form_without_fields_is_stopped_or_accepted() {
     for (family, form, _) in forms().filter(|(.., which)| *which == 0) {
         let sheet = sheet_with(family, |_| node(form.name()));
         let number = Reference::new(&sheet).check().value.number;
-        let required = form == Node::EsImportDec || first_required(form);
-        assert_eq!(number, if required { 5 } else { 0 }, "{}", form.name());
+        let expected = match form {
+            Node::EsImportDec => 14,
+            _ if first_required(form) => 13,
+            _ => 0,
+        };
+        assert_eq!(number, expected, "{}", form.name());
     }
 }
 
@@ -207,7 +212,7 @@ fn a_refusal_at_a_tab_size_out_of_the_rusts_domain_is_the_checks() {
     let reference = Reference::new(&sheet);
     for (tab_size, origin) in [(2, Origin::Rust), (u32::MAX, Origin::Arithmetic)] {
         let answer = reference.get(tab_size, usize::MAX);
-        assert_eq!((answer.value.verdict.number, answer.origin), (5, origin));
+        assert_eq!((answer.value.verdict.number, answer.origin), (13, origin));
         assert_eq!(answer.value.verdict, reference.check().value);
     }
 }

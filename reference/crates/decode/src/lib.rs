@@ -23,8 +23,6 @@ pub mod number {
     pub const MALFORMED: u8 = 3;
     /// The 201st form inside.
     pub const TOO_DEEP: u8 = 4;
-    /// Syntax.
-    pub const SYNTAX: u8 = 5;
     /// Comments left.
     pub const COMMENTS: u8 = 6;
     /// Deepest × tab size over 4,294,967,295.
@@ -39,4 +37,8 @@ pub mod number {
     pub const NO_STRING: u8 = 11;
     /// Another byte that begins no token.
     pub const BEGINS_NO_TOKEN: u8 = 12;
+    /// A part that formatting needs is absent. Against the Rust it is `Error::Syntax`.
+    pub const MISSING: u8 = 13;
+    /// An import. Against the Rust it is `Error::Syntax`.
+    pub const IMPORT: u8 = 14;
 }

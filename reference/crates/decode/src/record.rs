@@ -33,10 +33,12 @@ fn malformed(place: usize) -> Refusal {
 
 /// What is being read.
 enum Open {
-    /// A list: the part that its items are, its count, and how many are still to be read.
-    List { part: Part, count: u16, left: u16 },
-    /// A node: how many of its fields have been read, and whether it counts as a form.
-    Node { node: Node, read: usize, is_form: bool, first_token: Option<u16> },
+    /// A list: the part that its items are, its count, how many are still to be read, and where its
+    /// command stands.
+    List { part: Part, count: u16, left: u16, at: usize },
+    /// A node: how many of its fields have been read, whether it counts as a form, and where its
+    /// command stands.
+    Node { node: Node, read: usize, is_form: bool, first_token: Option<u16>, at: usize },
 }
 
 struct Pass<'a> {
@@ -97,10 +99,10 @@ impl Pass<'_> {
     fn close(&mut self) {
         match self.open.pop() {
             None => {}
-            Some(Open::List { count, .. }) => self.tree.list(count),
-            Some(Open::Node { node, is_form, first_token, .. }) => {
+            Some(Open::List { count, at, .. }) => self.tree.list(count, at),
+            Some(Open::Node { node, is_form, first_token, at, .. }) => {
                 self.forms -= usize::from(is_form);
-                self.tree.node(node, first_token);
+                self.tree.node(node, first_token, at);
             }
         }
     }
@@ -111,12 +113,12 @@ impl Pass<'_> {
             FieldKind::List(part) => {
                 let [_, low, high] = self.command_of(command::LIST)?;
                 let count = u16::from_le_bytes([low, high]);
+                self.open.push(Open::List { part, count, left: count, at: self.cursor });
                 self.cursor += 3;
-                self.open.push(Open::List { part, count, left: count });
             }
             FieldKind::One(_) if self.record.get(self.cursor) == Some(&command::ABSENT) => {
+                self.tree.absent(self.cursor);
                 self.cursor += 1;
-                self.tree.absent();
             }
             FieldKind::One(part) => self.part(part)?,
         }
@@ -135,8 +137,8 @@ impl Pass<'_> {
             }
             Part::Group(node) => {
                 let [_] = self.command_of(command::GROUP)?;
-                self.cursor += 1;
                 self.open_node(node, false, None);
+                self.cursor += 1;
                 Ok(())
             }
             Part::Choice(choice) => self.choice(choice),
@@ -147,8 +149,8 @@ impl Pass<'_> {
     fn choice(&mut self, choice: Choice) -> Result<(), Refusal> {
         let [_, which] = self.command_of(command::CHOICE)?;
         let node = choice.node(which).ok_or(malformed(self.cursor))?;
-        self.cursor += 2;
         self.open_node(node, false, None);
+        self.cursor += 2;
         Ok(())
     }
 
@@ -165,14 +167,16 @@ impl Pass<'_> {
         if self.forms == limit::FORMS {
             return Err(Refusal::new(number::TOO_DEEP, self.cursor));
         }
+        self.open_node(form, true, first_token);
         self.cursor += length;
         self.forms += 1;
-        self.open_node(form, true, first_token);
         Ok(())
     }
 
+    /// Opens a node whose command stands at the cursor.
     fn open_node(&mut self, node: Node, is_form: bool, first_token: Option<u16>) {
-        self.open.push(Open::Node { node, read: 0, is_form, first_token });
+        let at = self.cursor;
+        self.open.push(Open::Node { node, read: 0, is_form, first_token, at });
     }
 
     /// The first token that a declaration's operand gives.

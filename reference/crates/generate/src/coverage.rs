@@ -3,7 +3,6 @@
 use crate::case::{Calls, Case};
 use crate::commands::{commands, Command, Role};
 use crate::goals::{Goals, Mark, SIZES};
-use crate::sites;
 use answers::Reference;
 use decode::number;
 use schema::{command, SyntaxKind};
@@ -113,8 +112,9 @@ pub fn goals(case: &Case, reference: &Reference, calls: &Calls) -> Vec<Goal> {
     let commands = commands(&case.sheet.record).unwrap_or_default();
     reached.sizes(case, &commands);
     if let Some(root) = reference.root() {
-        let failures = sites::failures(root);
-        reached.found.extend(failures.into_iter().filter_map(|site| reached.goals.sites[site]));
+        let failures = [stops::failures_of_get(root, 0), stops::failures_of_check(root)].concat();
+        let sites = failures.iter().map(|failure| failure.site);
+        reached.found.extend(sites.filter_map(|site| reached.goals.sites[site]));
         reached.tokens(case, &commands);
     }
     if calls.check.value.number == number::ACCEPTED {

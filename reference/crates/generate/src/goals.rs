@@ -2,10 +2,9 @@
 
 use crate::damage::Damage;
 use crate::shape::Shape;
-use crate::sites;
-use crate::stops::Missing;
 use schema::{limit, FieldKind, Node, SyntaxKind};
 use std::sync::OnceLock;
+use stops::Missing;
 
 macro_rules! marks {
     ($($mark:ident $name:literal,)*) => {
@@ -37,8 +36,8 @@ marks! {
 
 /// The calls by their numbers in [`Goals::number`].
 pub(crate) const CALLS: [(&str, &[u8]); 4] = [
-    ("check", &[0, 1, 2, 3, 4, 5, 6]),
-    ("get", &[0, 1, 2, 3, 4, 5, 6, 7, 8]),
+    ("check", &[0, 1, 2, 3, 4, 6, 13, 14]),
+    ("get", &[0, 1, 2, 3, 4, 6, 7, 8, 13, 14]),
     ("comment_above", &[0, 1, 2, 3, 4, 9]),
     ("doc_comment_above", &[0, 1, 2, 3, 4, 8, 9]),
 ];
@@ -62,7 +61,7 @@ pub(crate) struct Goals {
     /// For each site: that it fails.
     pub(crate) sites: Vec<Option<usize>>,
     /// For each call and number: that the call gives it.
-    pub(crate) number: [[Option<usize>; 10]; 4],
+    pub(crate) number: [[Option<usize>; 15]; 4],
     pub(crate) damage: Vec<usize>,
     pub(crate) kinds: Vec<usize>,
     pub(crate) sizes: Vec<[usize; 3]>,
@@ -83,7 +82,7 @@ impl Goals {
         let mut names = Names(Vec::new());
         let nodes = Node::ALL.iter().map(|&node| names.node(node)).collect();
         let fields = Node::ALL.iter().map(|&node| names.fields(node)).collect();
-        let sites = sites::missing().map(|(place, missing)| names.site(place, missing)).collect();
+        let sites = stops::missing().map(|(place, missing)| names.site(place, missing)).collect();
         let number = CALLS.map(|(call, numbers)| {
             std::array::from_fn(|number| {
                 let given = numbers.iter().any(|&given| usize::from(given) == number);
@@ -137,7 +136,7 @@ impl Names {
         goals
     }
 
-    fn site(&mut self, place: &sites::Place, missing: Option<Missing>) -> Option<usize> {
+    fn site(&mut self, place: &stops::Place, missing: Option<Missing>) -> Option<usize> {
         if place.never_fails() {
             return None;
         }

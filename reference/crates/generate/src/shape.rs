@@ -4,8 +4,8 @@ use crate::course::{is_closed, nodes_of};
 use schema::{Family, FieldKind, Node, Part};
 use std::sync::OnceLock;
 
-/// The fields that may be absent without a Syntax error where the walk reads them; any other field
-/// that is no list is required.
+/// The fields that may be absent where the walk reads them; any other field that is no list is
+/// required.
 const OPTIONAL: &[(Node, &str)] = &[
     (Node::Dec, "semicolon"),
     (Node::DecInSeq, "semicolon"),
@@ -44,8 +44,7 @@ const OPTIONAL: &[(Node, &str)] = &[
     (Node::ExpInSeq, "semicolon"),
 ];
 
-/// Whether a field is one that isn't a list and whose absence is a Syntax error where the walk reads
-/// it.
+/// Whether a field is one that isn't a list and whose absence stops the walk where it reads it.
 #[must_use]
 pub fn is_required(node: Node, field: usize) -> bool {
     let is_list = matches!(node.fields()[field].kind, FieldKind::List(_));
@@ -88,7 +87,7 @@ impl Shape {
         Self { optional, leads, leads_back, terminal, distances }
     }
 
-    /// Whether a field may be absent without a Syntax error. A list is not optional.
+    /// Whether a field may be absent where the walk reads it. A list is not optional.
     pub fn is_optional(&self, node: Node, field: usize) -> bool {
         self.optional[node as usize][field]
     }

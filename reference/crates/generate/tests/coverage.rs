@@ -25,7 +25,7 @@ fn no_goal_is_reached_without_cases() {
     let kinds = |kind| coverage.unreached().filter(|goal| goal.kind() == kind).count();
     // 75 forms without the import, and the groups and what choices hold.
     assert!(kinds("node") > 74);
-    assert_eq!(kinds("number"), 7 + 9 + 6 + 7);
+    assert_eq!(kinds("number"), 8 + 10 + 6 + 7);
     assert_eq!(kinds("kind"), 21);
     assert_eq!(kinds("size"), 12);
 }

@@ -1,53 +1,11 @@
-//! The table of stops against the text of 000 and against what the walk does.
+//! The table of stops against what the walk does.
 
 use answers::Reference;
 use decode::number;
-use generate::sites::{failures, missing, SITES};
-use generate::{commands, is_required, Generator, Missing, Role, STOPS};
+use generate::{commands, is_required, Command, Generator, Role};
 use schema::{FieldKind, Node};
-use sheet::Sheet;
 use std::collections::HashSet;
-
-fn source() -> String {
-    let path = concat!(env!("CARGO_MANIFEST_DIR"), "/../sml-naive-fmt/src/lib.rs");
-    std::fs::read_to_string(path).unwrap_or_else(|error| panic!("{path}: {error}"))
-}
-
-#[test]
-fn sites_are_the_question_marks_of_000_and_the_import() {
-    let text = source();
-    assert_eq!(SITES.len(), text.matches('?').count() + 1);
-    let lines: Vec<_> = text.lines().collect();
-    for site in SITES {
-        let line = lines[site.line - 1];
-        let behind = line.strip_prefix(site.before).expect("the text before the site");
-        let import = site.before.ends_with("EsImportDec(_) => return None");
-        assert!(behind.starts_with('?') || import, "line {}: {line}", site.line);
-    }
-}
-
-#[test]
-fn stops_stand_in_the_order_of_000() {
-    let stops: Vec<_> = SITES.iter().filter(|site| site.is_stop()).collect();
-    assert_eq!(stops.len(), STOPS.len());
-    for (site, stop) in stops.iter().zip(STOPS) {
-        let part = site.part().expect("a stop reads a part");
-        match *stop {
-            Missing::Field(Node::PatArg, "pat") => assert_eq!(part, "p"),
-            Missing::Field(Node::ExpArg, "exp") => assert_eq!(part, "e"),
-            Missing::Field(_, accessor) => assert_eq!(part, accessor, "line {}", site.line),
-            Missing::FirstName => assert_eq!(part, "next", "line {}", site.line),
-            Missing::Import => assert_eq!(part, "None", "line {}", site.line),
-        }
-    }
-}
-
-#[test]
-fn sites_that_never_fail_are_five() {
-    let lines: Vec<_> =
-        SITES.iter().filter(|site| site.never_fails()).map(|site| site.line).collect();
-    assert_eq!(lines, [44, 272, 280, 284, 632]);
-}
+use stops::{failures_of_check, missing, told, Missing, SITES, STOPS};
 
 #[test]
 fn required_fields_are_those_of_the_stops() {
@@ -61,34 +19,55 @@ fn required_fields_are_those_of_the_stops() {
     }
 }
 
-/// What is missing in a sheet: the fields that are absent, empty paths, imports.
-fn lacks(sheet: &Sheet) -> HashSet<Missing> {
-    let commands = commands(&sheet.record).expect("the record fits the schema");
-    let lack = commands.iter().filter_map(|command| match (command.role, command.field) {
+/// What the walk misses at a command.
+fn missing_at(command: &Command) -> Option<Missing> {
+    match (command.role, command.field) {
         (Role::Absent, Some((node, at))) => Some(Missing::Field(node, node.fields()[at].accessor)),
         (Role::List(0), Some((Node::Path, _))) => Some(Missing::FirstName),
         (Role::Form(_, Node::EsImportDec), _) => Some(Missing::Import),
         _ => None,
-    });
-    lack.collect()
+    }
 }
 
 #[test]
-fn a_failure_begins_with_what_the_sheet_lacks() {
+fn the_place_is_that_of_what_the_innermost_failing_site_misses() {
     let stops: Vec<_> = missing().map(|(_, missing)| missing).collect();
     let mut begun = HashSet::new();
     for case in Generator::new(1).cases(40_000) {
         let reference = Reference::new(&case.sheet);
         let Some(root) = reference.root() else { continue };
-        if reference.check().value.number != number::SYNTAX {
-            continue;
+        let failures = failures_of_check(root);
+        let commands = commands(&case.sheet.record).expect("the record fits the schema");
+        // Each failure begins with what stands at its place, a dropped one too.
+        for failure in &failures {
+            let missing = stops[failure.site];
+            assert_eq!(
+                failure.stop.is_some(),
+                missing.is_some(),
+                "{case}: {:?}",
+                SITES[failure.site]
+            );
+            let Some(stop) = failure.stop else { continue };
+            let at = commands.iter().find(|command| command.bytes.start == stop.place as usize);
+            assert_eq!(at.and_then(missing_at), missing, "{case}: {stop:?}");
+            assert_eq!(stop.is_import, missing == Some(Missing::Import));
+            begun.insert(failure.site);
         }
-        let first = failures(root)[0];
-        let missing = stops[first].unwrap_or_else(|| panic!("{case}: {:?}", SITES[first]));
-        assert!(lacks(&case.sheet).contains(&missing), "{case}: {missing:?}");
-        begun.insert(first);
+        let check = reference.check().value;
+        match check.number {
+            number::MISSING | number::IMPORT => {
+                let stop = told(&failures).expect("a stop");
+                assert_eq!(
+                    (check.place, check.number == number::IMPORT),
+                    (stop.place, stop.is_import)
+                );
+                // Behind the stop that is told each site hands on.
+                let behind = failures.iter().rev().take_while(|failure| failure.stop.is_none());
+                assert!(behind.count() > 0 || failures.len() == 1, "{case}");
+            }
+            _ => assert!(check.place == 0 || check.number == number::COMMENTS, "{case}"),
+        }
     }
-    // A name that `op_path` finds missing is missed by AppExp or `path` as well.
     let all = stops.iter().filter(|stop| stop.is_some()).count();
-    assert!(begun.len() + 1 >= all, "{} of {all} stops begin a failure", begun.len());
+    assert_eq!(begun.len(), all, "every stop begins a failure");
 }

@@ -3,6 +3,7 @@
 use crate::report;
 use crate::shrink::shrink;
 use answers::Reference;
+use decode::number;
 use generate::Generator;
 use sheet::Sheet;
 use sml_syntax::ast::Root;
@@ -124,12 +125,13 @@ pub fn run(walks: &[Walk]) -> Vec<Option<Kill>> {
 fn assert_same_as_000(sheet: &Sheet, seen: &Seen) {
     let check = Reference::new(sheet).check().value;
     let expected = match check.number {
-        0 => matches!(&seen.get, Outcome::Accepted(text)
+        number::ACCEPTED => matches!(&seen.get, Outcome::Accepted(text)
             if text.len() as u128 == check.measures.length(TAB_SIZE)),
-        5 => seen.get == Outcome::Syntax,
+        number::MISSING | number::IMPORT => seen.get == Outcome::Syntax,
         _ => matches!(seen.get, Outcome::Comments(_)),
     };
-    let deepest = check.number != 0 || seen.deepest == check.measures.deepest * TAB_SIZE;
+    let deepest =
+        check.number != number::ACCEPTED || seen.deepest == check.measures.deepest * TAB_SIZE;
     assert!(expected && deepest, "the unchanged copy differs from 000");
 }
 

@@ -1,7 +1,7 @@
 //! Typed nodes, with the accessors of the schema.
 
 use crate::kind::{SyntaxNode, SyntaxToken};
-use crate::tree::{Slot, Tree};
+use crate::tree::{miss, Slot, Tree};
 use schema::Node;
 use std::marker::PhantomData;
 use std::ops::Range;
@@ -23,7 +23,10 @@ impl FromSlot for SyntaxToken {
     #[inline]
     fn from_slot(tree: &Rc<Tree>, slot: Slot) -> Option<Self> {
         match slot {
-            Slot::Absent => None,
+            Slot::Absent { at } => {
+                miss(at);
+                None
+            }
             Slot::Token(number) => Some(Self { tree: Rc::clone(tree), number }),
             Slot::Node(_) | Slot::List { .. } => unreachable!("not a token: {slot:?}"),
         }
@@ -34,7 +37,10 @@ impl FromSlot for SyntaxNode {
     #[inline]
     fn from_slot(tree: &Rc<Tree>, slot: Slot) -> Option<Self> {
         match slot {
-            Slot::Absent => None,
+            Slot::Absent { at } => {
+                miss(at);
+                None
+            }
             Slot::Node(index) => Some(Self::new(Rc::clone(tree), index)),
             Slot::Token(_) | Slot::List { .. } => unreachable!("not a node: {slot:?}"),
         }
@@ -46,17 +52,20 @@ impl FromSlot for SyntaxNode {
 pub struct AstChildren<T> {
     tree: Rc<Tree>,
     slots: Range<usize>,
+    /// Where the list's command stands in the record.
+    at: u32,
     items: PhantomData<T>,
 }
 
 impl<T> AstChildren<T> {
     #[inline]
     fn of(syntax: &SyntaxNode, field: usize) -> Self {
-        let slots = match syntax.slot(field) {
-            Slot::List { start, count } => start as usize..start as usize + usize::from(count),
+        let (start, count, at) = match syntax.slot(field) {
+            Slot::List { start, count, at } => (start as usize, usize::from(count), at),
             slot => unreachable!("not a list: {slot:?}"),
         };
-        Self { tree: Rc::clone(&syntax.tree), slots, items: PhantomData }
+        let slots = start..start + count;
+        Self { tree: Rc::clone(&syntax.tree), slots, at, items: PhantomData }
     }
 }
 
@@ -65,7 +74,11 @@ impl<T: FromSlot> Iterator for AstChildren<T> {
 
     #[inline]
     fn next(&mut self) -> Option<T> {
-        T::from_slot(&self.tree, self.tree.slots[self.slots.next()?])
+        let Some(slot) = self.slots.next() else {
+            miss(self.at);
+            return None;
+        };
+        T::from_slot(&self.tree, self.tree.slots[slot])
     }
 
     #[inline]

@@ -53,6 +53,13 @@ impl SyntaxNode {
         known.then(|| Self { first_token: Some(number), ..self.clone() })
     }
 
+    /// Where the node's command stands in the record; 0 for the root, which has none.
+    #[must_use]
+    #[inline]
+    pub fn offset_in_record(&self) -> u32 {
+        self.data().at
+    }
+
     /// The tokens of the tree in order. The record tells the tokens of the root alone, and 000
     /// asks the root alone.
     pub fn descendants_with_tokens(&self) -> impl Iterator<Item = SyntaxElement> + '_ {

@@ -3,6 +3,7 @@
 use crate::ast::Root;
 use crate::kind::{SyntaxKind, SyntaxNode};
 use schema::Node;
+use std::cell::Cell;
 use std::rc::Rc;
 use text_size_util::TextRange;
 
@@ -27,19 +28,42 @@ pub(crate) struct NodeData {
     pub(crate) first_token: Option<u16>,
     /// Where the node's fields begin in the slots.
     pub(crate) fields: u32,
+    /// Where its command stands in the record.
+    pub(crate) at: u32,
 }
 
 /// A field of a node or an item of a list.
 #[derive(Debug, Clone, Copy)]
 pub(crate) enum Slot {
-    Absent,
+    /// Where its command stands in the record.
+    Absent {
+        at: u32,
+    },
     Token(u16),
     Node(u32),
-    /// The items stand side by side in the slots.
+    /// The items stand side by side in the slots, the list's command at this place of the record.
     List {
         start: u32,
         count: u16,
+        at: u32,
     },
+}
+
+thread_local! {
+    static MISSED: Cell<u32> = const { Cell::new(0) };
+}
+
+/// Notes what was asked for and is not there.
+#[inline]
+pub(crate) fn miss(at: u32) {
+    MISSED.set(at);
+}
+
+/// Where what was last asked for on this thread and is not there stands in the record: the command of
+/// an absent part, or of the list that had no further item.
+#[must_use]
+pub fn missed() -> u32 {
+    MISSED.get()
 }
 
 /// Builds a tree: first the tokens, then the nodes, each after its fields.
@@ -79,9 +103,9 @@ impl TreeBuilder {
         self.tree.tokens.len()
     }
 
-    /// An absent part.
-    pub fn absent(&mut self) {
-        self.waiting.push(Slot::Absent);
+    /// An absent part, its command at this place of the record.
+    pub fn absent(&mut self, at: usize) {
+        self.waiting.push(Slot::Absent { at: index(at) });
     }
 
     /// A part that is a token of the text.
@@ -89,25 +113,26 @@ impl TreeBuilder {
         self.waiting.push(Slot::Token(number));
     }
 
-    /// A list of the last `count` parts.
-    pub fn list(&mut self, count: u16) {
+    /// A list of the last `count` parts, its command at this place of the record.
+    pub fn list(&mut self, count: u16, at: usize) {
         let start = self.take_waiting(usize::from(count));
-        self.waiting.push(Slot::List { start, count });
+        self.waiting.push(Slot::List { start, count, at: index(at) });
     }
 
-    /// A node with the last parts as its fields.
-    pub fn node(&mut self, node: Node, first_token: Option<u16>) {
+    /// A node with the last parts as its fields, its command at this place of the record.
+    pub fn node(&mut self, node: Node, first_token: Option<u16>, at: usize) {
         let fields = self.take_waiting(node.fields().len());
-        let index = index(self.tree.nodes.len());
-        self.tree.nodes.push(NodeData { node, first_token, fields });
-        self.waiting.push(Slot::Node(index));
+        let number = index(self.tree.nodes.len());
+        self.tree.nodes.push(NodeData { node, first_token, fields, at: index(at) });
+        self.waiting.push(Slot::Node(number));
     }
 
-    /// The tree's root with the one part left, the list of declarations, as its field.
+    /// The tree's root with the one part left, the list of declarations, as its field. It has no
+    /// command of its own.
     #[must_use]
     pub fn finish(mut self) -> Root {
         let first_token = (!self.tree.tokens.is_empty()).then_some(0);
-        self.node(Node::Root, first_token);
+        self.node(Node::Root, first_token, 0);
         let root = index(self.tree.nodes.len() - 1);
         Root::of(SyntaxNode::new(Rc::new(self.tree), root))
     }
@@ -121,7 +146,7 @@ impl TreeBuilder {
     }
 }
 
-/// An index into the arena; a record has far fewer parts than a u32 counts.
+/// An index into the arena or an offset in the record, which has far fewer bytes than a u32 counts.
 fn index(len: usize) -> u32 {
     u32::try_from(len).expect("arena over 4 GiB")
 }

@@ -45,11 +45,11 @@ fn sizes_are_small(vectors: &[Vector], file: usize) {
 
 fn numbers_are_all_there(vectors: &[Vector]) {
     let expected: [(Call, &[u8]); 5] = [
-        (Call::Check, &[0, 1, 2, 3, 4, 5, 6]),
-        (Call::Get, &[0, 1, 2, 3, 4, 5, 6, 7, 8]),
+        (Call::Check, &[0, 1, 2, 3, 4, 6, 13, 14]),
+        (Call::Get, &[0, 1, 2, 3, 4, 6, 7, 8, 13, 14]),
         (Call::CommentAbove, &[0, 1, 2, 3, 4, 9]),
         (Call::DocCommentAbove, &[0, 1, 2, 3, 4, 8, 9]),
-        (Call::Program, &[0, 1, 3, 4, 5, 6, 7, 8]),
+        (Call::Program, &[0, 1, 3, 4, 6, 7, 8, 14]),
     ];
     for (call, numbers) in expected {
         let of_call = vectors.iter().filter(|vector| vector.call == call);

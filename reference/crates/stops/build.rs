@@ -1,11 +1,13 @@
-//! Makes a copy of 000 that records which `?` fail.
+//! Makes a copy of 000 that records which `?` fail, and its stop at an import.
 
 use std::fmt::Write as _;
 use std::path::Path;
 use std::{env, fs};
 
 /// The one stop of 000 that is no `?`.
-const IMPORT: &str = "ast::DecOne::EsImportDec(_) => return None,";
+const IMPORT: &str = "ast::DecOne::EsImportDec(_) => return None";
+/// What stands there in the copy, before the number of the site.
+const IMPORTED: &str = "ast::DecOne::EsImportDec(dec) => return crate::imported(dec.syntax(), ";
 
 fn main() {
     let source = Path::new(&variable("CARGO_MANIFEST_DIR")).join("../sml-naive-fmt/src/lib.rs");
@@ -21,10 +23,10 @@ fn main() {
     fs::write(Path::new(&out).join("module.rs"), module).expect("the module can be written");
 }
 
-/// The copy, in which `x?` is `x.site(n)?`, and the table of the sites n.
+/// The copy, in which `x?` is `x.site(n)?` and the import's `None` a call, and the table of the sites n.
 fn instrumented(text: &str) -> (String, String) {
     assert_eq!(text.matches(IMPORT).count(), 1, "000 has {IMPORT:?} other than once");
-    let mut copy = String::from("use crate::sites::Site as _;\n");
+    let mut copy = String::from("use crate::Site as _;\n");
     let mut table = String::from("/// The sites in the order of 000's text.\n");
     table.push_str("pub const SITES: &[Place] = &[\n");
     let mut count = 0;
@@ -36,17 +38,18 @@ fn instrumented(text: &str) -> (String, String) {
         let (code, comment) = line.split_at(line.find("//").unwrap_or(line.len()));
         assert!(!code.split('"').skip(1).step_by(2).any(|s| s.contains('?')), "? in a string");
         let mut behind = 0;
-        let stop = code.contains(IMPORT).then(|| code.find("None").expect("the stop") + 4);
+        let stop = code.find(IMPORT).map(|at| at + IMPORT.len());
         let failing = code.match_indices('?').map(|(at, _)| at).chain(stop);
         for at in failing {
             let before = &code[..at];
             let line = first_line + number + 1;
             writeln!(table, "    Place {{ line: {line}, before: {before:?} }},").expect("a String");
             let part = &code[behind..at];
-            // `return None` has no type of its own to call a method on.
-            let part =
-                if stop == Some(at) { part.replace("None", "Res::None") } else { part.into() };
-            write!(copy, "{part}.site({count})").expect("a String");
+            let written = match part.strip_suffix(IMPORT) {
+                Some(part) => write!(copy, "{part}{IMPORTED}{count})"),
+                None => write!(copy, "{part}.site({count})"),
+            };
+            written.expect("a String");
             behind = at;
             count += 1;
         }
