@@ -27,7 +27,9 @@ impl Message {
 /// What is said of a sheet that isn't accepted.
 pub fn of_verdict(verdict: &Verdict, sheet: &Sheet) -> Vec<Message> {
     if verdict.number != Number::CommentsLeft {
-        return vec![Message { at: None, text: verdict.to_string() }];
+        let offset = verdict.stop().and_then(|stop| stop.token).map(|(offset, _)| offset);
+        let at = offset.map(|offset| Position::of(&sheet.text, offset));
+        return vec![Message { at, text: verdict.to_string() }];
     }
     let starts = token_starts(&sheet.record);
     let count = verdict.comments.len();
@@ -82,5 +84,41 @@ pub fn of_stray(stray: &Stray, text: &[u8]) -> Message {
                 if *count > 2 { " and others" } else { "" }
             ),
         },
+    }
+}
+
+#[cfg(test)]
+mod tests {
+    use super::*;
+    use diverplume::record::tree::{Dec, DecOne, DoDec, EsImportDec, ParenExp};
+    use diverplume::record::SheetBuilder;
+
+    /// What is said of a sheet of `(* é *)`, two words on a line of their own, and this declaration.
+    fn said(
+        words: [&str; 2],
+        dec: impl FnOnce(diverplume::record::Token) -> DecOne,
+    ) -> Vec<String> {
+        let mut builder = SheetBuilder::new();
+        let [_, _, first, _, _] = builder.words(["(* \u{e9} *)", " ", words[0], " ", words[1]]);
+        let sheet = builder.finish([Dec::one(dec(first))]).expect("a sheet within the limits");
+        let verdict = diverplume::check(&sheet.text, &sheet.record);
+        of_verdict(&verdict, &sheet).iter().map(|message| message.of_file("f.sml")).collect()
+    }
+
+    #[test]
+    fn what_is_missing_is_told_at_the_nearest_token() {
+        assert_eq!(
+            said(["do", "()"], |first| DoDec::of(ParenExp::new()).first(first)),
+            [
+                "f.sml:1:9: refused (13): ParenExp at offset 32 of the record: its `exp` is missing, \
+              behind the token at line 1, column 9 of the text (offset 9); complete the file's \
+              syntax there"
+            ]
+        );
+        assert_eq!(
+            said(["import", "x"], |first| EsImportDec::new().first(first)),
+            ["f.sml:1:9: refused (14): EsImportDec at offset 29 of the record, line 1, column 9 of \
+              the text (offset 9): an import is not formatted; keep imports out of the file"]
+        );
     }
 }

@@ -2,11 +2,11 @@
 
 use crate::scan::{longest_output, Refusal};
 use crate::verdict::{CommentAbove, Lookup, Measures, Number, Verdict};
-use diverplume_record::{command, limit, Bytes};
+use diverplume_record::{command, limit, Bytes, Position, Stop};
 use std::fmt;
 
 /// What a message needs beyond the numbers.
-#[derive(Debug, Clone, Copy, PartialEq, Eq)]
+#[derive(Debug, Clone, PartialEq, Eq)]
 pub(crate) enum Cause {
     /// Nothing.
     None,
@@ -18,6 +18,8 @@ pub(crate) enum Cause {
     Broken(Position, Bytes),
     /// What is wrong at a place in the record.
     Record(Fault),
+    /// The part of the record at which formatting stops.
+    Stop(Box<Stop>),
     /// The tab size, and the output's length.
     Output(u32, usize),
     /// The output of a doc lookup.
@@ -28,13 +30,6 @@ pub(crate) enum Cause {
     TextLength(usize),
     /// The output of a scan, and a length that is enough.
     TokenOutput(usize, usize),
-}
-
-/// A line and a column, both from 1; columns count characters.
-#[derive(Debug, Clone, Copy, PartialEq, Eq)]
-pub(crate) struct Position {
-    line: usize,
-    column: usize,
 }
 
 /// What is wrong at a place in the record.
@@ -49,13 +44,16 @@ pub(crate) enum Fault {
 }
 
 impl Cause {
-    /// The cause of numbers 1 to 6.
+    /// The cause of numbers 1 to 4, 6, 13 and 14.
     pub(crate) fn of_sheet(number: Number, place: usize, text: &[u8], record: &[u8]) -> Self {
         match number {
             Number::TooLong => Self::Lengths(text.len(), record.len()),
             Number::NotUtf8 => Self::broken(place, text),
             Number::CommentsLeft => Self::in_text(place, text),
             Number::Malformed | Number::TooDeep => Self::Record(Fault::at(place, text, record)),
+            Number::Missing | Number::Import => {
+                Stop::at(text, record, place).map_or(Self::None, |stop| Self::Stop(Box::new(stop)))
+            }
             _ => Self::None,
         }
     }
@@ -105,21 +103,6 @@ impl Cause {
     }
 }
 
-impl Position {
-    fn of(text: &[u8], place: usize) -> Self {
-        let mut lines = text[..place].split(|&byte| byte == b'\n');
-        let last = lines.next_back().unwrap_or_default();
-        let column = last.iter().filter(|&&byte| byte & 0xC0 != 0x80).count() + 1;
-        Self { line: lines.count() + 1, column }
-    }
-}
-
-impl fmt::Display for Position {
-    fn fmt(&self, f: &mut fmt::Formatter<'_>) -> fmt::Result {
-        write!(f, "line {}, column {}", self.line, self.column)
-    }
-}
-
 /// The lengths of the tokens at the record's start.
 fn tokens(record: &[u8]) -> impl Iterator<Item = usize> + '_ {
     record.chunks(4).map_while(|chunk| match *chunk {
@@ -156,15 +139,15 @@ impl fmt::Display for Fault {
     }
 }
 
-/// Writes what is said of the sheet itself, numbers 1 to 4, for verdicts and lookups alike.
+/// Writes what is said of the sheet itself: numbers 1 to 4, for verdicts and lookups alike, 13 and 14.
 fn write_sheet(
     f: &mut fmt::Formatter<'_>,
     number: Number,
     place: usize,
-    cause: Cause,
+    cause: &Cause,
 ) -> fmt::Result {
     write!(f, "refused ({}): ", number as u8)?;
-    match cause {
+    match *cause {
         Cause::Lengths(text, record) => write!(
             f,
             "the text has {text} bytes and the record {record}, the most are {} and {}; split the \
@@ -185,6 +168,7 @@ fn write_sheet(
             command::name(byte).unwrap_or("unknown"),
             limit::FORMS
         ),
+        Cause::Stop(ref stop) => write!(f, "{stop}"),
         Cause::Record(fault) => write!(
             f,
             "the record is malformed at offset {place}{fault}; write the record again, for \
@@ -265,19 +249,13 @@ impl Verdict {
 
 impl fmt::Display for Verdict {
     fn fmt(&self, f: &mut fmt::Formatter<'_>) -> fmt::Result {
-        match (self.number, self.cause) {
+        match (self.number, &self.cause) {
             (Number::Accepted, _) => {
                 let Measures { deepest, letters, units } = self.measures;
                 write!(f, "accepted: deepest {deepest}, {letters} letters, {units} units")
             }
-            (Number::Syntax, _) => write!(
-                f,
-                "refused ({}): the tree lacks a part that formatting needs, or has an import; \
-                 correct the file's syntax, and keep imports out of it",
-                self.number as u8
-            ),
-            (Number::CommentsLeft, Cause::Text(at, _)) => self.write_comments(f, at),
-            (_, Cause::Output(tab_size, output)) => self.write_output(f, tab_size, output),
+            (Number::CommentsLeft, &Cause::Text(at, _)) => self.write_comments(f, at),
+            (_, &Cause::Output(tab_size, output)) => self.write_output(f, tab_size, output),
             (number, cause) => write_sheet(f, number, self.place, cause),
         }
     }
@@ -288,9 +266,9 @@ fn write_declined(
     f: &mut fmt::Formatter<'_>,
     number: Number,
     place: usize,
-    cause: Cause,
+    cause: &Cause,
 ) -> fmt::Result {
-    match cause {
+    match *cause {
         Cause::DocOutput(output) => write!(
             f,
             "declined ({}): the doc text has more than the output's {output} bytes; an output as \
@@ -303,7 +281,7 @@ fn write_declined(
              0; ask for one of these",
             number as u8
         ),
-        cause => write_sheet(f, number, place, cause),
+        _ => write_sheet(f, number, place, cause),
     }
 }
 
@@ -315,7 +293,7 @@ impl fmt::Display for CommentAbove {
             }
             (Number::Accepted, Some(comment), None) => write!(f, "found: token {comment}"),
             (Number::Accepted, None, _) => f.write_str("none found"),
-            _ => write_declined(f, self.number, self.place, self.cause),
+            _ => write_declined(f, self.number, self.place, &self.cause),
         }
     }
 }
@@ -325,7 +303,7 @@ impl fmt::Display for Lookup {
         match (self.number, self.found) {
             (Number::Accepted, Some(length)) => write!(f, "found: {length} bytes"),
             (Number::Accepted, None) => f.write_str("none found"),
-            _ => write_declined(f, self.number, self.place, self.cause),
+            _ => write_declined(f, self.number, self.place, &self.cause),
         }
     }
 }
@@ -350,7 +328,7 @@ impl fmt::Display for Refusal {
                 "declined ({number}): the tokens take more than the output's {output} bytes; an \
                  output of {enough} bytes is long enough"
             ),
-            cause => write_sheet(f, self.number, self.place, cause),
+            _ => write_sheet(f, self.number, self.place, &self.cause),
         }
     }
 }

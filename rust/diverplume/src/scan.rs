@@ -150,8 +150,8 @@ impl FusedIterator for TokenRanges<'_> {}
 pub struct Refusal {
     /// The number.
     pub number: Number,
-    /// The place: an offset in the text for [`Number::NotUtf8`] and from [`Number::OpenComment`]
-    /// on, else 0.
+    /// The place: an offset in the text for [`Number::NotUtf8`], [`Number::OpenComment`],
+    /// [`Number::NoString`] and [`Number::BeginsNoToken`], else 0.
     pub place: usize,
     pub(crate) cause: Cause,
 }

@@ -1,6 +1,7 @@
 //! Verdicts and answers of lookups.
 
 use crate::message::Cause;
+use diverplume_record::Stop;
 use std::fmt;
 
 /// Number, place, three measures, and the words of the set.
@@ -11,46 +12,47 @@ const WORDS: usize = 64;
 /// What stands in a lookup's answer for none.
 const NONE: u64 = u64::MAX;
 
-/// The number of a verdict.
+/// The number of a verdict. No call gives 5.
 #[derive(Debug, Clone, Copy, PartialEq, Eq, Hash)]
 #[repr(u8)]
 pub enum Number {
     /// Accepted.
-    Accepted,
+    Accepted = 0,
     /// The text or the record is too long.
-    TooLong,
+    TooLong = 1,
     /// The text is not well-formed UTF-8.
-    NotUtf8,
+    NotUtf8 = 2,
     /// The record is malformed.
-    Malformed,
+    Malformed = 3,
     /// The record has too many forms inside one another.
-    TooDeep,
-    /// A part that formatting needs is missing, or there is an import.
-    Syntax,
+    TooDeep = 4,
     /// Comments are left over.
-    CommentsLeft,
+    CommentsLeft = 6,
     /// An indent is wider than 4,294,967,295 spaces.
-    IndentTooWide,
+    IndentTooWide = 7,
     /// The output is too short.
-    OutputTooShort,
+    OutputTooShort = 8,
     /// A lookup of a token that the sheet doesn't have.
-    NoToken,
+    NoToken = 9,
     /// The text has a comment without an end.
-    OpenComment,
+    OpenComment = 10,
     /// The text has a double quote that begins no string constant.
-    NoString,
+    NoString = 11,
     /// The text has another byte that begins no token.
-    BeginsNoToken,
+    BeginsNoToken = 12,
+    /// A part that formatting needs is missing.
+    Missing = 13,
+    /// There is an import, which is not formatted.
+    Import = 14,
 }
 
 impl Number {
-    const ALL: [Self; 13] = [
+    const ALL: [Self; 14] = [
         Self::Accepted,
         Self::TooLong,
         Self::NotUtf8,
         Self::Malformed,
         Self::TooDeep,
-        Self::Syntax,
         Self::CommentsLeft,
         Self::IndentTooWide,
         Self::OutputTooShort,
@@ -58,10 +60,12 @@ impl Number {
         Self::OpenComment,
         Self::NoString,
         Self::BeginsNoToken,
+        Self::Missing,
+        Self::Import,
     ];
 
     pub(crate) fn of(number: u64) -> Self {
-        let known = usize::try_from(number).ok().and_then(|at| Self::ALL.get(at).copied());
+        let known = Self::ALL.into_iter().find(|&known| known as u64 == number);
         known.unwrap_or_else(|| {
             panic!("the archive gave the number {number}; build it and this crate from one source")
         })
@@ -177,7 +181,8 @@ pub struct Verdict {
     /// The number.
     pub number: Number,
     /// The place: an offset in the text for [`Number::NotUtf8`] and [`Number::CommentsLeft`], in
-    /// the record for [`Number::Malformed`] and [`Number::TooDeep`], else 0.
+    /// the record for [`Number::Malformed`], [`Number::TooDeep`], [`Number::Missing`] and
+    /// [`Number::Import`], else 0.
     pub place: usize,
     /// The measures; 0 where the sheet itself is refused.
     pub measures: Measures,
@@ -208,6 +213,15 @@ impl Verdict {
     #[must_use]
     pub fn is_accepted(&self) -> bool {
         self.number == Number::Accepted
+    }
+
+    /// For [`Number::Missing`] and [`Number::Import`] the part of the record at the place.
+    #[must_use]
+    pub fn stop(&self) -> Option<&Stop> {
+        match &self.cause {
+            Cause::Stop(stop) => Some(stop),
+            _ => None,
+        }
     }
 }
 

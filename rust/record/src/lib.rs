@@ -40,7 +40,9 @@ mod error;
 mod input;
 mod kind;
 mod nodes;
+mod position;
 mod schema;
+mod stop;
 mod tokens;
 pub mod tree;
 
@@ -50,7 +52,9 @@ pub use describe::{node, NodeDescription, PartDescription, Token};
 pub use error::{BuildError, Problem};
 pub use input::Input;
 pub use kind::SyntaxKind;
+pub use position::Position;
 pub use schema::{command, limit, Choice, Family, Field, FieldKind, Node, Part};
+pub use stop::Stop;
 
 /// A sheet: a text, and a record of its tokens and its syntax tree.
 ///

@@ -1,17 +1,14 @@
 //! What verdicts say in words.
 
 use crate::sheets;
-use diverplume::record::Sheet;
-use diverplume::{check, comment_above, doc_comment_above, format, get};
+use diverplume::record::{Node, Sheet};
+use diverplume::{check, comment_above, doc_comment_above, format, get, Number};
 
 fn refusal(text: &[u8], record: &[u8]) -> String {
     let said = check(text, record).to_string();
     // A lookup says the same of the sheet itself.
-    assert!(
-        said.starts_with("refused (5)")
-            || said.starts_with("refused (6)")
-            || said == comment_above(text, record, 0).to_string()
-    );
+    let is_of_the_walk = ["(6)", "(13)", "(14)"].iter().any(|number| said.contains(number));
+    assert!(is_of_the_walk || said == comment_above(text, record, 0).to_string());
     said
 }
 
@@ -87,16 +84,6 @@ fn number_4() {
 }
 
 #[test]
-fn number_5() {
-    let Sheet { text, record } = sheets::import();
-    assert_eq!(
-        refusal(&text, &record),
-        "refused (5): the tree lacks a part that formatting needs, or has an import; correct the \
-         file's syntax, and keep imports out of it"
-    );
-}
-
-#[test]
 fn number_6() {
     let Sheet { text, record } = sheets::with_comments_inside(&["(* c *)"]);
     assert_eq!(
@@ -141,4 +128,31 @@ fn number_9() {
         "declined (9): there is no token 9, the sheet has 9 tokens, numbered from 0; ask for one \
          of these"
     );
+}
+
+#[test]
+fn number_13() {
+    let Sheet { text, record } = sheets::without_value();
+    assert_eq!(
+        refusal(&text, &record),
+        "refused (13): ValDec at offset 37 of the record: the `exp` of its binding's `eq_exp` is \
+         missing, behind the token at line 2, column 5 of the text (offset 16); complete the file's \
+         syntax there"
+    );
+    let verdict = check(&text, &record);
+    assert_eq!((verdict.number, verdict.place), (Number::Missing, 57));
+    let stop = verdict.stop().expect("what is missing");
+    assert_eq!((stop.form, stop.field), (Some((Node::ValDec, 37)), Some("exp")));
+    assert_eq!(stop.token.map(|(offset, _)| offset), Some(16));
+}
+
+#[test]
+fn number_14() {
+    let Sheet { text, record } = sheets::import();
+    assert_eq!(
+        refusal(&text, &record),
+        "refused (14): EsImportDec at offset 21 of the record, line 1, column 1 of the text (offset \
+         0): an import is not formatted; keep imports out of the file"
+    );
+    assert!(check(b"", &[]).stop().is_none());
 }

@@ -46,6 +46,15 @@ pub fn with_comments_inside(comments: &[&str]) -> Sheet {
     finish(builder, [val_dec(val, x, SConExp::of(one))])
 }
 
+/// A comment with an accent, then `val x =` without a value on the next line.
+pub fn without_value() -> Sheet {
+    let mut builder = SheetBuilder::new();
+    builder.words(["(* \u{e9}t\u{e9} *)", "\n"]);
+    let [val, _, x, _, _] = builder.words(["val", " ", "x", " ", "="]);
+    let pat = ConPat::new().path(Path::named([x]));
+    finish(builder, [ValDec::of([ValBind::new().pat(pat).eq_exp(EqExp::new())]).first(val)])
+}
+
 /// `import x`
 pub fn import() -> Sheet {
     let mut builder = SheetBuilder::new();
