@@ -12,16 +12,17 @@
 enum { HEAD = 6, LONGEST = HEAD + UINT16_MAX + DIVERPLUME_MAX_RECORD };
 
 static const char *const REASONS[] = {
-    "accepted",
-    "the text or the record is too long: split the file",
-    "the text is not well-formed UTF-8: save the file in UTF-8",
-    "the record is malformed: write it again",
-    "too many forms stand inside one another: give an inner part a declaration of its own",
-    "a part that formatting needs is absent, or there is an import: correct the file",
-    "a comment would be lost: move it above a declaration",
-    "an indent is too wide: take a smaller tab size",
-    "the output is too short",
-    "there is no such token",
+    [DIVERPLUME_ACCEPTED] = "accepted",
+    [DIVERPLUME_TOO_LONG] = "the text or the record is too long: split the file",
+    [DIVERPLUME_NOT_UTF8] = "the text is not well-formed UTF-8: save the file in UTF-8",
+    [DIVERPLUME_MALFORMED] = "the record is malformed: write it again",
+    [DIVERPLUME_TOO_DEEP] =
+        "too many forms stand inside one another: give an inner part a declaration of its own",
+    [DIVERPLUME_COMMENTS_LEFT] = "a comment would be lost: move it above a declaration",
+    [DIVERPLUME_INDENT_TOO_WIDE] = "an indent is too wide: take a smaller tab size",
+    [DIVERPLUME_OUTPUT_TOO_SHORT] = "the output is too short",
+    [DIVERPLUME_MISSING] = "a part of the record is missing there: complete the file",
+    [DIVERPLUME_IMPORT] = "an import of the record stands there: keep imports out of the file",
 };
 
 static int refuse(const diverplume_verdict *verdict)
