@@ -3,11 +3,16 @@
 use crate::case::{Calls, Case};
 use crate::commands::{commands, Command, Role};
 use crate::goals::{Goals, Mark, SIZES};
+use crate::told::shown;
 use answers::Reference;
 use decode::number;
 use schema::{command, SyntaxKind};
 use std::collections::HashSet;
 use std::fmt;
+
+/// The kinds of goals.
+const KINDS: [&str; 10] =
+    ["node", "field", "list", "site", "number", "damage", "kind", "size", "told", "mark"];
 
 /// Counts of the cases that reach each goal.
 #[derive(Debug, Clone, PartialEq, Eq)]
@@ -28,7 +33,7 @@ impl Goal {
         (0..Goals::get().names.len()).map(Self)
     }
 
-    /// The goal's kind: node, field, list, site, number, damage, kind, size or mark.
+    /// The goal's kind: node, field, list, site, number, damage, kind, size, told or mark.
     #[must_use]
     pub fn kind(self) -> &'static str {
         Goals::get().names[self.0].0
@@ -91,7 +96,7 @@ impl fmt::Display for Coverage {
         let share = *accepted as f64 * 100.0 / (*grammar_directed).max(1) as f64;
         writeln!(f, "cases {cases}")?;
         writeln!(f, "grammar-directed {grammar_directed}, accepted {accepted} ({share:.1} %)")?;
-        for kind in ["node", "field", "list", "site", "number", "damage", "kind", "size", "mark"] {
+        for kind in KINDS {
             let goals: Vec<_> = Goal::all().filter(|goal| goal.kind() == kind).collect();
             let reached = goals.iter().filter(|&&goal| self.count(goal) > 0).count();
             writeln!(f, "\n{kind}: {reached} of {} reached", goals.len())?;
@@ -112,9 +117,12 @@ pub fn goals(case: &Case, reference: &Reference, calls: &Calls) -> Vec<Goal> {
     let commands = commands(&case.sheet.record).unwrap_or_default();
     reached.sizes(case, &commands);
     if let Some(root) = reference.root() {
-        let failures = [stops::failures_of_get(root, 0), stops::failures_of_check(root)].concat();
-        let sites = failures.iter().map(|failure| failure.site);
+        let (get, check) = (stops::failures_of_get(root, 0), stops::failures_of_check(root));
+        let sites = get.iter().chain(&check).map(|failure| failure.site);
         reached.found.extend(sites.filter_map(|site| reached.goals.sites[site]));
+        let shown = shown(&commands, &check, &calls.check.value);
+        let told = reached.goals.told.iter().filter(|(told, _)| shown.contains(told));
+        reached.found.extend(told.map(|&(_, goal)| goal));
         reached.tokens(case, &commands);
     }
     if calls.check.value.number == number::ACCEPTED {

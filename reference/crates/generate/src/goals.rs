@@ -2,6 +2,7 @@
 
 use crate::damage::Damage;
 use crate::shape::Shape;
+use crate::told::Shown;
 use schema::{limit, FieldKind, Node, SyntaxKind};
 use std::sync::OnceLock;
 use stops::Missing;
@@ -65,6 +66,8 @@ pub(crate) struct Goals {
     pub(crate) damage: Vec<usize>,
     pub(crate) kinds: Vec<usize>,
     pub(crate) sizes: Vec<[usize; 3]>,
+    /// What stops and imports show.
+    pub(crate) told: Vec<(Shown, usize)>,
     marks: Vec<usize>,
 }
 
@@ -97,8 +100,10 @@ impl Goals {
             [limit - 1, limit, limit + 1].map(|size| names.add("size", format!("{size} {name}")))
         });
         let sizes = sizes.collect();
+        let told = Shown::all().into_iter().map(|shown| (shown, names.add("told", shown.name())));
+        let told = told.collect();
         let marks = MARKS.iter().map(|(_, name)| names.add("mark", (*name).to_owned())).collect();
-        Self { names: names.0, nodes, fields, sites, number, damage, kinds, sizes, marks }
+        Self { names: names.0, nodes, fields, sites, number, damage, kinds, sizes, told, marks }
     }
 }
 

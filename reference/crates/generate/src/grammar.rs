@@ -43,7 +43,7 @@ impl<'r> Grammar<'r> {
             Size::Small | Size::Text(_) | Size::Tokens(_) | Size::Record(_) => {}
         }
         if !course.is_free() {
-            style.faults = 0;
+            (style.faults, style.odd) = (0, 0);
         }
         let out = Writer::new(rng, style);
         Self { out, shape: Shape::get(), budget, course, wide, operand: Operand::No }
@@ -208,22 +208,29 @@ impl<'r> Grammar<'r> {
         self.fields(node, carries);
     }
 
-    fn form(&mut self, family: Family, accessor: &str, carries: bool) {
+    pub(crate) fn form(&mut self, family: Family, accessor: &str, carries: bool) {
         self.budget = self.budget.saturating_sub(1);
         let carries = carries && self.course_goes_on();
         let form = self.choose(family, accessor, carries);
         let command = family.command(form).expect("a form of the family");
         if family.has_first_token() {
             self.declaration(command, form, carries);
-        } else {
-            self.out.tree.push(command);
-            self.operand = match accessor {
-                "func" if form == Node::PathExp => Operand::Func,
-                "arg" if form == Node::PathExp => Operand::Arg,
-                _ => Operand::No,
-            };
-            self.fields(form, carries);
-            self.operand = Operand::No;
+            return;
+        }
+        self.out.tree.push(command);
+        let is_odd = self.out.style.odd > 0 && self.out.rng.chance(self.out.style.odd, 256);
+        match form {
+            Node::AppExp if is_odd => self.odd_operands(),
+            Node::TupleTy if is_odd => self.odd_types(),
+            _ => {
+                self.operand = match accessor {
+                    "func" if form == Node::PathExp => Operand::Func,
+                    "arg" if form == Node::PathExp => Operand::Arg,
+                    _ => Operand::No,
+                };
+                self.fields(form, carries);
+                self.operand = Operand::No;
+            }
         }
     }
 
@@ -239,13 +246,17 @@ impl<'r> Grammar<'r> {
     }
 
     /// Any form of the family that the course allows, a terminal one where the budget is spent.
-    /// An `AppExp` is frequent, its operands are often paths, and an `if` often follows `else`.
+    /// An `AppExp` is frequent, its operands are often paths, and an `if` often follows `else`. In an
+    /// odd sheet tuples are frequent among types, and an import may stand.
     fn choose(&mut self, family: Family, accessor: &str, carries: bool) -> Node {
         let rng = &mut *self.out.rng;
+        let is_odd = self.out.style.odd > 0;
         let frequent = match accessor {
             "func" | "arg" if rng.chance(1, 2) => Some(Node::PathExp),
             "no" if rng.chance(1, 3) => Some(Node::IfExp),
             _ if family == Family::Exp && rng.chance(1, 12) => Some(Node::AppExp),
+            _ if is_odd && family == Family::Exp && rng.chance(1, 3) => Some(Node::AppExp),
+            _ if is_odd && family == Family::Ty && rng.chance(1, 3) => Some(Node::TupleTy),
             _ => None,
         };
         match frequent {
@@ -257,7 +268,7 @@ impl<'r> Grammar<'r> {
         loop {
             let form = rng.pick(family.forms());
             let fits = match form {
-                Node::EsImportDec => self.out.style.faults > 0 && rng.chance(1, 4),
+                Node::EsImportDec => (is_odd || self.out.style.faults > 0) && rng.chance(1, 4),
                 _ => self.budget > 0 || self.shape.is_terminal(form),
             };
             if fits {

@@ -13,9 +13,11 @@ mod damage;
 mod goals;
 mod grammar;
 mod limits;
+mod odd;
 mod rng;
 mod shape;
 mod style;
+mod told;
 mod words;
 mod write;
 

@@ -79,6 +79,8 @@ pub(crate) enum Comments {
 pub(crate) struct Style {
     /// A required field is absent.
     pub(crate) faults: usize,
+    /// The operands of an `AppExp` lack a first name, the first type of a `TupleTy` lacks a part.
+    pub(crate) odd: usize,
     pub(crate) comments: Comments,
     /// A token operand names any token of the text.
     pub(crate) any_token: usize,
@@ -93,6 +95,7 @@ impl Style {
         use Comments::{AboveDeclarations, Anywhere, Nowhere};
         Self {
             faults: rng.pick(&[0, 0, 0, 0, 0, 3, 12]),
+            odd: rng.pick(&[0, 0, 0, 0, 0, 0, 0, 0, 0, 0, 0, 0, 0, 0, 0, 128]),
             comments: rng.pick(&[Nowhere, Nowhere, AboveDeclarations, AboveDeclarations, Anywhere]),
             any_token: rng.pick(&[0, 0, 0, 0, 8, 64]),
             any_kind: rng.pick(&[0, 0, 0, 0, 0, 0, 0, 32]),
