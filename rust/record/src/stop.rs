@@ -32,7 +32,9 @@ pub struct Stop {
     pub form: Option<(Node, usize)>,
     /// What stands between that form, or the root, and the part.
     inside: Vec<Step>,
-    /// The field that is missing; none for an import.
+    /// The node that lacks the part, or the import.
+    pub node: Node,
+    /// The field of the node that is missing; none for an import.
     pub field: Option<&'static str>,
     /// Whether the field is a list.
     is_list: bool,
@@ -219,8 +221,8 @@ impl Pass<'_> {
         };
         match (part, next) {
             (Some(Part::Form(family)), _) if byte != command::ABSENT => self.import(family, byte),
-            (Some(_), Next::Field(field)) if byte == command::ABSENT => Some(self.missing(field)),
-            (None, Next::Field(field)) if byte == command::LIST => Some(self.missing(field)),
+            (Some(_), Next::Field(field)) if byte == command::ABSENT => self.missing(field),
+            (None, Next::Field(field)) if byte == command::LIST => self.missing(field),
             _ => None,
         }
     }
@@ -228,18 +230,19 @@ impl Pass<'_> {
     /// The import at the cursor.
     fn import(&mut self, family: Family, byte: u8) -> Option<Stop> {
         let import = family.form(byte).filter(|&form| form == Node::EsImportDec)?;
-        let form = Some((import, self.at));
         let is_own = self.first_token(family)?;
-        Some(Stop { form, inside: Vec::new(), field: None, is_list: false, token: None, is_own })
+        let (form, inside) = (Some((import, self.at)), Vec::new());
+        Some(Stop { form, inside, node: import, field: None, is_list: false, token: None, is_own })
     }
 
     /// The field at the cursor, in which something is missing.
-    fn missing(&self, field: Field) -> Stop {
+    fn missing(&self, field: Field) -> Option<Stop> {
         let outer = self.open.iter().rposition(|open| open.form.is_some());
         let form = outer.and_then(|at| Some((self.open[at].node, self.open[at].form?)));
         let inside = self.open[outer.unwrap_or(0)..].iter().filter_map(|open| open.step).collect();
-        let is_list = matches!(field.kind, FieldKind::List(_));
-        Stop { form, inside, field: Some(field.accessor), is_list, token: None, is_own: false }
+        let (node, is_list) = (self.open.last()?.node, matches!(field.kind, FieldKind::List(_)));
+        let field = Some(field.accessor);
+        Some(Stop { form, inside, node, field, is_list, token: None, is_own: false })
     }
 }
 

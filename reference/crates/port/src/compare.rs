@@ -6,11 +6,12 @@ use crate::{end, read};
 use answers::{CommentSet, Formatted, Reference};
 use decode::number;
 use diverplume::{check, comment_above, doc_comment_above, get};
-use schema::{command, Family};
+use schema::{command, Family, Node};
 use sheet::Sheet;
 use sml_syntax::ast::AstNode as _;
 use sml_syntax::kind::SyntaxElement;
 use std::fmt;
+use stops::{failures_of_check, missing, Missing};
 
 /// The tab sizes at which every sheet is formatted.
 const TAB_SIZES: [u32; 5] = [0, 1, 2, 4, 8];
@@ -158,10 +159,37 @@ impl Comparison<'_> {
 
     fn check(&mut self) -> Result<(), Difference> {
         let expected = Told::from(self.reference.check().value);
-        let actual = Told::from(check(&self.sheet.text, &self.sheet.record));
-        self.same(|| "check".into(), &expected, &actual)?;
+        let verdict = check(&self.sheet.text, &self.sheet.record);
+        let named = verdict.stop().map(|stop| (stop.node, stop.field));
+        self.same(|| "check".into(), &expected, &Told::from(verdict))?;
         self.compared.check.add(expected.number);
-        Ok(())
+        self.same(|| "what the message names".into(), &self.missing(), &named)?;
+        self.same(|| "the bytes at the place".into(), &true, &self.fits(&expected))
+    }
+
+    /// The node and the field that the innermost failing `?` of the check misses.
+    fn missing(&self) -> Option<(Node, Option<&'static str>)> {
+        let number = self.reference.check().value.number;
+        let is_stopped = [number::MISSING, number::IMPORT].contains(&number);
+        let root = self.reference.root().filter(|_| is_stopped)?;
+        let failures = failures_of_check(root);
+        let innermost = failures.iter().rev().find(|failure| failure.stop.is_some())?;
+        match missing().nth(innermost.site)?.1? {
+            Missing::Field(node, field) => Some((node, Some(field))),
+            Missing::FirstName => Some((Node::Path, Some("name_star_eq_dots"))),
+            Missing::Import => Some((Node::EsImportDec, None)),
+        }
+    }
+
+    /// Whether what stands in the record at the place of 13 or 14 is an absent part, an empty list or
+    /// an import.
+    fn fits(&self, told: &Told) -> bool {
+        let there = self.sheet.record.get(told.place..).unwrap_or_default();
+        match told.number {
+            number::MISSING => there.starts_with(&[0x00]) || there.starts_with(&[0x02, 0, 0]),
+            number::IMPORT => there.starts_with(&[0x23]),
+            _ => true,
+        }
     }
 
     /// Formatting at the usual tab sizes, at the largest at which no indent is too wide, and at one

@@ -47,6 +47,12 @@ fn sheet_a_prints_its_line_and_text() {
 }
 
 #[test]
+fn sheet_l_prints_its_line_alone() {
+    assert_eq!(printed(&input(&lettered::l_import(), 2)), b"14 21 0 0 0\n");
+    assert_eq!(printed(&input(&lettered::l_import_with_comment(), 2)), b"14 29 0 0 0\n");
+}
+
+#[test]
 fn cut_short_or_too_long() {
     let sheet = lettered::c();
     let input = input(&sheet, 2);
