@@ -255,7 +255,7 @@ impl<'r> Grammar<'r> {
             "func" | "arg" if rng.chance(1, 2) => Some(Node::PathExp),
             "no" if rng.chance(1, 3) => Some(Node::IfExp),
             _ if family == Family::Exp && rng.chance(1, 12) => Some(Node::AppExp),
-            _ if is_odd && family == Family::Exp && rng.chance(1, 3) => Some(Node::AppExp),
+            _ if is_odd && family == Family::Exp && rng.chance(1, 2) => Some(Node::AppExp),
             _ if is_odd && family == Family::Ty && rng.chance(1, 3) => Some(Node::TupleTy),
             _ => None,
         };

@@ -14,8 +14,8 @@ impl Grammar<'_> {
                     self.path_exp(&[command::GROUP, command::LIST, 1, 0]);
                     self.out.tree.extend([command::GROUP, command::ABSENT]);
                 }
-                6 => self.out.tree.push(command::ABSENT),
-                7 | 8 => self.without_part(Family::Exp, Node::ParenExp),
+                6 | 7 => self.out.tree.push(command::ABSENT),
+                8 | 9 => self.without_part(Family::Exp, Node::ParenExp),
                 _ => self.form(Family::Exp, accessor, false),
             }
         }

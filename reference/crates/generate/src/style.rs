@@ -95,7 +95,7 @@ impl Style {
         use Comments::{AboveDeclarations, Anywhere, Nowhere};
         Self {
             faults: rng.pick(&[0, 0, 0, 0, 0, 3, 12]),
-            odd: rng.pick(&[0, 0, 0, 0, 0, 0, 0, 0, 0, 0, 0, 0, 0, 0, 0, 128]),
+            odd: rng.pick(&[0, 0, 0, 0, 0, 0, 0, 0, 0, 0, 0, 0, 0, 0, 0, 192]),
             comments: rng.pick(&[Nowhere, Nowhere, AboveDeclarations, AboveDeclarations, Anywhere]),
             any_token: rng.pick(&[0, 0, 0, 0, 8, 64]),
             any_kind: rng.pick(&[0, 0, 0, 0, 0, 0, 0, 32]),
