@@ -3,6 +3,7 @@
 use crate::ast::Root;
 use crate::kind::{SyntaxKind, SyntaxNode};
 use schema::Node;
+#[cfg(feature = "notes")]
 use std::cell::Cell;
 use std::rc::Rc;
 use text_size_util::TextRange;
@@ -49,6 +50,7 @@ pub(crate) enum Slot {
     },
 }
 
+#[cfg(feature = "notes")]
 thread_local! {
     static MISSED: Cell<u32> = const { Cell::new(0) };
 }
@@ -56,11 +58,15 @@ thread_local! {
 /// Notes what was asked for and is not there.
 #[inline]
 pub(crate) fn miss(at: u32) {
+    #[cfg(feature = "notes")]
     MISSED.set(at);
+    #[cfg(not(feature = "notes"))]
+    let _ = at;
 }
 
 /// Where what was last asked for on this thread and is not there stands in the record: the command of
 /// an absent part, or of the list that had no further item.
+#[cfg(feature = "notes")]
 #[must_use]
 pub fn missed() -> u32 {
     MISSED.get()
