@@ -6,7 +6,8 @@ use crate::course::nodes_of;
 use crate::shape::is_required;
 use answers::Verdict;
 use decode::number;
-use schema::{FieldKind, Node};
+use schema::Node;
+use std::ops::Range;
 use stops::Failure;
 
 /// What an operand of an `AppExp` that is a `PathExp` has.
@@ -112,13 +113,31 @@ struct Told<'a> {
 }
 
 impl Told<'_> {
+    /// Whether what is missing at this place is told.
     fn is_missing(&self, place: usize) -> bool {
         self.number == number::MISSING && self.place == place
     }
 
-    /// The command at an offset.
-    fn at(&self, offset: usize) -> Option<usize> {
-        self.commands.binary_search_by_key(&offset, |command| command.bytes.start).ok()
+    /// The command at an offset, or the next.
+    fn at(&self, offset: usize) -> usize {
+        self.commands.partition_point(|command| command.bytes.start < offset)
+    }
+
+    fn start(&self, at: usize) -> usize {
+        self.commands[at].bytes.start
+    }
+
+    /// The command at the place that is told.
+    fn told(&self) -> usize {
+        self.at(self.place)
+    }
+
+    /// The innermost such node around the place that is told.
+    fn around(&self, node: Node) -> Option<usize> {
+        let mut before = (0..self.told()).rev();
+        before.find(|&at| {
+            self.commands[at].role.node() == Some(node) && self.commands[at].end > self.place
+        })
     }
 
     /// What the operand at a command has, and the place of what it lacks; none where it is no path.
@@ -132,14 +151,13 @@ impl Told<'_> {
             Role::Form(_, Node::PathExp) => (Operand::Whole, path),
             _ => return None,
         };
-        Some((operand, self.commands[place].bytes.start))
+        Some((operand, self.start(place)))
     }
 
     /// What the operands of the `AppExp` at a command show.
     fn operands(&self, at: usize) -> Option<Shown> {
         let func = at + 1;
-        let arg = self.at(self.commands[func].end)?;
-        let arg_place = self.commands[arg].bytes.start;
+        let arg = self.at(self.commands[func].end);
         match (self.operand(func), self.operand(arg)) {
             (Some((Operand::Whole, _)), Some((Operand::Whole, _))) => {
                 let whole = Shown::Operands(Operand::Whole, Operand::Whole);
@@ -150,7 +168,7 @@ impl Told<'_> {
                 self.is_missing(place).then_some(Shown::Operands(func, arg))
             }
             (Some((func, _)), None) if self.commands[arg].role == Role::Absent => {
-                self.is_missing(arg_place).then_some(Shown::ArgAbsent(func))
+                self.is_missing(self.start(arg)).then_some(Shown::ArgAbsent(func))
             }
             (None, Some((arg, place))) if self.lacks_inside(func) => {
                 (arg != Operand::Whole && self.is_missing(place)).then_some(Shown::InsideFunc(arg))
@@ -169,57 +187,53 @@ impl Told<'_> {
         })
     }
 
+    /// Where the first type of the `TupleTy` at a command stands; empty where it is absent.
+    fn first_type(&self, at: usize) -> Range<usize> {
+        let first = &self.commands[at + 1];
+        match first.role {
+            Role::Absent => 0..0,
+            _ => first.bytes.start..first.end,
+        }
+    }
+
     /// What the `TupleTy` at a command shows of the failures that begin in its first type.
     fn dropped(&self, at: usize, failures: &[Failure]) -> Vec<Shown> {
-        let first = |at: usize| {
-            let first = &self.commands[at + 1];
-            let is_there = first.role != Role::Absent;
-            is_there.then(|| first.bytes.start..first.end).unwrap_or_default()
-        };
-        let range = first(at);
+        let first = self.first_type(at);
         let begun = failures.iter().filter_map(|failure| failure.stop);
-        let begun: Vec<_> = begun.map(|stop| stop.place as usize).collect();
-        let inside: Vec<_> = begun.iter().filter(|&place| range.contains(place)).collect();
-        if inside.is_empty() {
+        let begun = begun.map(|stop| stop.place as usize);
+        let begun: Vec<_> = begun.filter(|place| first.contains(place)).collect();
+        if begun.is_empty() {
             return Vec::new();
         }
-        let mut shown = Vec::new();
-        let star = self.at(self.place).map(|at| &self.commands[at]);
-        let is_star = star.is_some_and(|star| star.field == Some((Node::StarTy, 0)));
-        match self.number {
-            number::ACCEPTED => shown.push(Shown::Dropped),
-            number::IMPORT if !range.contains(&self.place) => shown.push(Shown::ImportAfterDropped),
-            // A star type of this TupleTy is a field of one of its items.
-            number::MISSING if is_star && self.place < self.commands[at].end => {
-                let is_own = !range.contains(&self.place);
-                shown.extend(is_own.then_some(Shown::StarAfterDropped));
-            }
-            _ => {}
-        }
-        // An inner TupleTy drops one failure, and another one that begins behind its first type.
-        let inner = (at + 1..self.commands.len())
-            .take_while(|&at| self.commands[at].bytes.start < range.end);
-        let mut inner =
-            inner.filter(|&at| matches!(self.commands[at].role, Role::Form(_, Node::TupleTy)));
-        let is_twice = inner.any(|at| {
-            let (own, whole) = (first(at), self.commands[at].bytes.start..self.commands[at].end);
-            inside.iter().any(|place| own.contains(place))
-                && inside.iter().any(|place| whole.contains(place) && !own.contains(place))
-        });
-        shown.extend(is_twice.then_some(Shown::DroppedInside));
-        shown
+        let is_star = self.around(Node::StarTy).is_some_and(|star| star + 1 == self.told());
+        let is_own = is_star && self.around(Node::TupleTy) == Some(at);
+        let told = match self.number {
+            number::ACCEPTED => Some(Shown::Dropped),
+            number::IMPORT if !first.contains(&self.place) => Some(Shown::ImportAfterDropped),
+            number::MISSING if is_own => Some(Shown::StarAfterDropped),
+            _ => None,
+        };
+        let is_inside = self.is_dropped_inside(at, &begun);
+        told.into_iter().chain(is_inside.then_some(Shown::DroppedInside)).collect()
+    }
+
+    /// Whether a `TupleTy` inside the first type of that at a command drops one of these failures, and
+    /// another one begins behind its first type.
+    fn is_dropped_inside(&self, at: usize, begun: &[usize]) -> bool {
+        let end = self.first_type(at).end;
+        let inside = (at + 1..self.commands.len()).take_while(|&at| self.start(at) < end);
+        let mut inner = inside.filter(|&at| self.commands[at].role.node() == Some(Node::TupleTy));
+        inner.any(|at| {
+            let (first, whole) = (self.first_type(at), self.start(at)..self.commands[at].end);
+            begun.iter().any(|place| first.contains(place))
+                && begun.iter().any(|place| whole.contains(place) && !first.contains(place))
+        })
     }
 
     /// Where the import stands that is told.
     fn import(&self) -> Option<Shown> {
-        if self.number != number::IMPORT {
-            return None;
-        }
-        let around = self.commands.iter().rev().filter(|command| command.end > self.place);
-        let mut around = around.filter(|command| command.bytes.start <= self.place);
-        let dec = around.find(|command| command.role.node() == Some(Node::Dec))?;
-        let (node, field) = dec.field?;
-        let field = node.fields()[field];
-        matches!(field.kind, FieldKind::List(_)).then_some(Shown::Import(node, field.accessor))
+        let dec = self.around(Node::Dec).filter(|_| self.number == number::IMPORT)?;
+        let (node, field) = self.commands[dec].field?;
+        Some(Shown::Import(node, node.fields()[field].accessor))
     }
 }
