@@ -3,8 +3,7 @@
 use crate::{command, Choice, Family, Field, FieldKind, Node, Part, Position};
 use std::fmt;
 
-/// A part of a record at which formatting stops: one that is absent, a list without a first item, or an
-/// import.
+/// A part of a record at which formatting may stop: one that is absent, an empty list, or an import.
 ///
 /// As text it names the part from the innermost form around it, where in the text that is, and what to
 /// do:
@@ -56,7 +55,7 @@ enum Step {
 
 impl Stop {
     /// What stands at an offset of the record; none where the record does not fit the schema before
-    /// it, or no absent field, no list and no import begins there.
+    /// it, or no absent field, no empty list and no import begins there.
     #[must_use]
     pub fn at(text: &[u8], record: &[u8], place: usize) -> Option<Self> {
         let starts = token_starts(record);
@@ -213,16 +212,15 @@ impl Pass<'_> {
     fn stop(&mut self) -> Option<Stop> {
         let next = self.next()?;
         let byte = *self.record.get(self.at)?;
-        let part = match next {
-            Next::Field(Field { kind: FieldKind::One(part), .. }) | Next::Item(part, ..) => {
-                Some(part)
+        match (next, byte) {
+            (Next::Field(field @ Field { kind: FieldKind::List(_), .. }), command::LIST) => {
+                self.missing(field).filter(|_| self.operand() == Some(0))
             }
-            Next::Field(_) => None,
-        };
-        match (part, next) {
-            (Some(Part::Form(family)), _) if byte != command::ABSENT => self.import(family, byte),
-            (Some(_), Next::Field(field)) if byte == command::ABSENT => self.missing(field),
-            (None, Next::Field(field)) if byte == command::LIST => self.missing(field),
+            (Next::Field(Field { kind: FieldKind::List(_), .. }), _) => None,
+            (Next::Field(field), command::ABSENT) => self.missing(field),
+            (Next::Field(Field { kind: FieldKind::One(Part::Form(family)), .. }), _) => {
+                self.import(family, byte)
+            }
             _ => None,
         }
     }
