@@ -1,9 +1,23 @@
 //! Parses Standard ML and makes sheets from it.
 //!
-//! The language is that of The Definition of Standard ML (Revised), modules included, with the
-//! forms of Successor ML for which there is a layout: or-patterns, vectors, `do`, rows of an
-//! expression without a value, `op andalso` and `op orelse`, and `...` and `_` for what is left
-//! open. Fixity directives have the scope that the Definition gives them.
+//! The language is that of the grammar in The Definition of Standard ML (Revised), sections 2 and 3
+//! and appendices A and B: modules and derived forms included. Fixity directives have the scope that the
+//! Definition gives them; operators of the Basis are infix from the start.
+//!
+//! More is parsed than that:
+//!
+//! - of Successor ML the forms for which there is a layout: or-patterns inside brackets, vectors
+//!   `#[..]` as expressions and patterns, `do`, a pattern before `as`, rows of an expression without
+//!   a value, `op andalso` and `op orelse`, a first bar, `withtype` in a specification;
+//! - `where` of structures; among specifications `open`, fixity directives, `structure S = T`,
+//!   `exception E = F`, and `op` before a name behind `val`;
+//! - structures, signatures and functors wherever a declaration may stand;
+//! - `...` for an expression, type, declaration or specification, and `_` for an expression or type
+//!   that is left open.
+//!
+//! No rule about names or types is checked: neither the syntactic restrictions of the Definition
+//! (sections 2.9 and 3.5) nor that the clauses of a function have one name. `import` is no
+//! declaration here, although a record has a form for it.
 //!
 //! ```
 //! let sheet = diverplume_sheet::sheet("(* why *)\nval late = true")?;
