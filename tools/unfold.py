@@ -1,13 +1,16 @@
 #!/usr/bin/env python3
-"""unfold.py: writes crates/program/proofs/Run.antt, whose name `run` opens every definition of specs/.
+"""unfold.py [--check]: writes crates/program/proofs/Run.antt, whose name `run` opens every definition of specs/.
 
 A theorem about a sheet is closed by computation under `unfolding run`. Definitions that speak of the code's
-own state or of the answers before Ticket 5 are left out: no sheet's answer is computed by them.
+own state are left out: no sheet's answer is computed by them.
+With --check nothing is written: the exit status says whether the file is what the definitions give, spaces aside.
 """
 import os
 import re
+import sys
 
-LEFT_OUT = {"State", "Words", "Grammar", "Tree", "Answers", "Wide", "Tables", "Ascii"}
+OWN = {"State", "Words", "Grammar", "Tree", "Answers", "Wide", "Tables"}
+FILE = "crates/program/proofs/Run.antt"
 CRATES = ["text", "reader", "comments", "layout", "agreement", "formatter", "doc_comment", "program"]
 
 
@@ -21,7 +24,8 @@ def modules():
                 yield crate, name, names
 
 
-def main():
+def text():
+    """What the file has to be."""
     found = list(modules())
     lines = ["-- `unfolding run` opens every definition of specs/, so that a theorem about a sheet is closed by computation.",
              "-- Written by tools/unfold.py."]
@@ -31,11 +35,22 @@ def main():
     for crate, name, names in found:
         lines += ["", "unfoldable pub run%s : Unit {0}" % name, "unfolding " + " ".join(name + "." + one for one in names), "run%s = tt" % name]
     lines += ["", "unfoldable pub run : Unit {0}", "unfolding " + " ".join("run" + name for crate, name, names in found), "run = tt"]
-    with open("crates/program/proofs/Run.antt", "w") as out:
-        out.write("\n".join(lines) + "\n")
+    return "\n".join(lines) + "\n"
+
+
+def main(arguments):
+    if not os.path.exists("crates/program"):
+        raise SystemExit("unfold: run it from the repository's root")
+    if arguments == ["--check"]:
+        with open(FILE, encoding="utf-8") as file:
+            if file.read().split() != text().split():
+                raise SystemExit("unfold: %s is not what the definitions give; run python3 tools/unfold.py" % FILE)
+    elif arguments:
+        raise SystemExit(__doc__)
+    else:
+        with open(FILE, "w", encoding="utf-8") as out:
+            out.write(text())
 
 
 if __name__ == "__main__":
-    if not os.path.exists("crates/program"):
-        raise SystemExit("unfold: run it from the repository's root")
-    main()
+    main(sys.argv[1:])
