@@ -27,16 +27,13 @@ pub fn why(text: &[u8], line: usize, column: usize) -> Result<Why, Message> {
         Position::of(text, range.start) <= at && at < Position::of(text, range.end)
     };
     let mut declarations = file.declarations();
-    let (those, problem) = match file.comments().find(is_here) {
-        Some(comment) => {
-            let has_it = |above: Above| above.comment == comment;
-            declarations.retain(|declaration| file.above(declaration).is_some_and(has_it));
-            (declarations, "no declaration has this comment")
-        }
-        None => {
-            let innermost = declarations.into_iter().rfind(|each| is_here(&each.range));
-            (innermost.into_iter().collect(), "no declaration stands here")
-        }
+    let (those, problem) = if let Some(comment) = file.comments().find(is_here) {
+        let has_it = |above: Above| above.comment == comment;
+        declarations.retain(|declaration| file.above(declaration).is_some_and(has_it));
+        (declarations, "no declaration has this comment")
+    } else {
+        let innermost = declarations.into_iter().rfind(|each| is_here(&each.range));
+        (innermost.into_iter().collect(), "no declaration stands here")
     };
     let Some(first) = those.first() else {
         return Err(Message { at: Some(at), text: problem.to_owned() });

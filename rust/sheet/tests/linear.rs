@@ -19,8 +19,9 @@ fn spent() -> Duration {
     const THREAD_CPUTIME: i32 = 3;
     let mut time = Timespec { seconds: 0, nanoseconds: 0 };
     // SAFETY: `time` has the layout of C's `timespec` and lives through the call.
-    assert_eq!(unsafe { clock_gettime(THREAD_CPUTIME, &mut time) }, 0);
-    Duration::from_secs(time.seconds as u64) + Duration::from_nanos(time.nanoseconds as u64)
+    assert_eq!(unsafe { clock_gettime(THREAD_CPUTIME, &raw mut time) }, 0);
+    let part = |part: i64| u64::try_from(part).expect("a time that is not negative");
+    Duration::from_secs(part(time.seconds)) + Duration::from_nanos(part(time.nanoseconds))
 }
 
 /// The least time of some runs.
@@ -28,7 +29,7 @@ fn time(text: &[u8]) -> Duration {
     let run = || {
         let start = spent();
         File::parse(text).expect("the text is Standard ML");
-        spent() - start
+        spent().saturating_sub(start)
     };
     (0..5).map(|_| run()).min().expect("five runs")
 }
