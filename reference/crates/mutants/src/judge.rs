@@ -90,14 +90,15 @@ pub struct Kill {
     pub copy: Seen,
 }
 
-/// Runs the copies and prints the report. The first walk is that of 000 without a change.
-pub fn main(walks: &[Walk]) {
+/// Runs the copies of the changes with these numbers, from 0, and prints the report. The first walk
+/// is that of 000 without a change.
+pub fn main(numbers: &[usize], walks: &[Walk]) {
     // A panic of a copy is an outcome, not a message.
     set_hook(Box::new(|_| {}));
     let walks = walks.to_vec();
     let run = thread::Builder::new().stack_size(STACK).spawn(move || run(&walks));
     let kills = run.expect("a thread").join().expect("the run ends");
-    print!("{}", report::table(&kills));
+    print!("{}", report::table(numbers, &kills));
 }
 
 /// For each copy but the first the sheet that tells it from the first.

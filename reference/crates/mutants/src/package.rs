@@ -10,7 +10,7 @@ const HEAD: &str = "  fn indented(self) -> Self {\n";
 /// The line put behind it: it records the indent that is formed.
 const LINE: &str = "    mutants::judge::formed(self.indent + self.tab_size);\n";
 
-/// The program of the package. `MODULES` and `WALKS` are replaced.
+/// The program of the package. `MODULES`, `NUMBERS` and `WALKS` are replaced.
 const PROGRAM: &str = r#"//! Changed copies of 000.
 #![allow(warnings)]
 
@@ -39,7 +39,7 @@ macro_rules! walk {
 
 MODULES
 fn main() {
-    mutants::judge::main(&[WALKS]);
+    mutants::judge::main(&[NUMBERS], &[WALKS]);
 }
 "#;
 
@@ -57,24 +57,28 @@ pub fn source() -> io::Result<String> {
     fs::read_to_string(crates().join("sml-naive-fmt/src/lib.rs"))
 }
 
-/// Writes the package into a folder: the copies of all changes, and one without a change.
+/// Writes the package into a folder: the copies of the changes with these numbers in
+/// [`MUTATIONS`], and one without a change.
 ///
 /// # Errors
 ///
 /// If a change doesn't fit 000 or a file can't be written.
-pub fn write(folder: &Path) -> Result<(), String> {
+pub fn write(folder: &Path, numbers: &[usize]) -> Result<(), String> {
     let source = source().map_err(|error| format!("000: {error}"))?;
     let told = |error: io::Error| format!("{}: {error}", folder.display());
     fs::create_dir_all(folder.join("src")).map_err(told)?;
     let unchanged = Mutation { change: "none", from: HEAD, to: HEAD };
     let (mut modules, mut walks) = (String::new(), String::new());
-    for (number, mutation) in std::iter::once(&unchanged).chain(MUTATIONS).enumerate() {
+    let changed = numbers.iter().map(|&number| &MUTATIONS[number]);
+    for (number, mutation) in std::iter::once(&unchanged).chain(changed).enumerate() {
         let copy = recording(&mutation.apply(&source)?)?;
         fs::write(folder.join(format!("src/copy_{number}.rs")), copy).map_err(told)?;
         writeln!(modules, "mod copy_{number};").expect("a String");
         write!(walks, "walk!(copy_{number}), ").expect("a String");
     }
-    let program = PROGRAM.replace("MODULES", &modules).replace("WALKS", &walks);
+    let numbers: String = numbers.iter().map(|number| format!("{number}, ")).collect();
+    let program = PROGRAM.replace("MODULES", &modules).replace("NUMBERS", &numbers);
+    let program = program.replace("WALKS", &walks);
     fs::write(folder.join("src/main.rs"), program).map_err(told)?;
     fs::write(folder.join("Cargo.toml"), manifest()).map_err(told)
 }

@@ -16,9 +16,9 @@ that does so first is then made smaller as long as it still does.
 
 ";
 
-/// The report on the copies, in the order of [`MUTATIONS`].
+/// The report on the copies of the changes with these numbers in [`MUTATIONS`].
 #[must_use]
-pub fn table(kills: &[Option<Kill>]) -> String {
+pub fn table(numbers: &[usize], kills: &[Option<Kill>]) -> String {
     let killed = kills.iter().flatten().count();
     let mut report = String::from(HEAD);
     writeln!(
@@ -29,7 +29,7 @@ pub fn table(kills: &[Option<Kill>]) -> String {
     .expect("a String");
     report.push_str("| number | change | told apart after | by the forms | 000 | the copy |\n");
     report.push_str("|---|---|---|---|---|---|\n");
-    for (number, (mutation, kill)) in MUTATIONS.iter().zip(kills).enumerate() {
+    for (&number, kill) in numbers.iter().zip(kills) {
         let told = match kill {
             None => "not told apart | | |".to_owned(),
             Some(kill) => {
@@ -37,10 +37,15 @@ pub fn table(kills: &[Option<Kill>]) -> String {
                 format!("{} | {} | {original} | {copy}", kill.index + 1, forms(&kill.sheet))
             }
         };
-        writeln!(report, "| {} | {} | {told} |", number + 1, cell(mutation.change))
-            .expect("a String");
+        let change = cell(MUTATIONS[number].change);
+        writeln!(report, "| {} | {change} | {told} |", number + 1).expect("a String");
     }
     report
+}
+
+/// The lines of a report that are about one copy each.
+pub fn rows(report: &str) -> impl Iterator<Item = &str> {
+    report.lines().filter(|line| line.starts_with("| ")).skip(1)
 }
 
 /// The forms of a sheet in the order of the record.

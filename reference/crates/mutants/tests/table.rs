@@ -1,6 +1,6 @@
 //! The changes fit 000, and the report is one of these changes.
 
-use mutants::{package, MUTATIONS};
+use mutants::{package, report, MUTATIONS};
 use std::collections::HashSet;
 use std::process::Command;
 
@@ -26,8 +26,8 @@ fn a_change_without_its_place_is_refused() {
 #[test]
 fn the_report_lists_these_changes() {
     let path = concat!(env!("CARGO_MANIFEST_DIR"), "/../../MUTANTS.md");
-    let report = std::fs::read_to_string(path).unwrap_or_else(|error| panic!("{path}: {error}"));
-    let rows: Vec<_> = report.lines().filter(|line| line.starts_with("| ")).skip(1).collect();
+    let stored = std::fs::read_to_string(path).unwrap_or_else(|error| panic!("{path}: {error}"));
+    let rows: Vec<_> = report::rows(&stored).collect();
     assert_eq!(rows.len(), MUTATIONS.len());
     for (number, (row, mutation)) in rows.iter().zip(MUTATIONS).enumerate() {
         let change = mutation.change.replace('|', "\\|");
@@ -36,10 +36,17 @@ fn the_report_lists_these_changes() {
 }
 
 #[test]
-fn an_argument_gets_a_message_and_exit_2() {
-    let output = Command::new(env!("CARGO_BIN_EXE_mutants")).arg("all").output();
-    let output = output.expect("the tool runs");
-    assert_eq!(output.status.code(), Some(2));
-    let told = String::from_utf8(output.stderr).unwrap();
-    assert!(told.starts_with("mutants: unknown argument \"all\""), "{told}");
+fn a_wrong_argument_gets_a_message_and_exit_2() {
+    let wrong = [
+        (&["all"][..], "unknown argument \"all\""),
+        (&["sample"], "unknown argument \"sample\""),
+        (&["sample", "0"], "the step \"0\" is no number from 1 on"),
+    ];
+    for (arguments, message) in wrong {
+        let output = Command::new(env!("CARGO_BIN_EXE_mutants")).args(arguments).output();
+        let output = output.expect("the tool runs");
+        assert_eq!(output.status.code(), Some(2));
+        let told = String::from_utf8(output.stderr).unwrap();
+        assert!(told.starts_with(&format!("mutants: {message}")), "{told}");
+    }
 }
