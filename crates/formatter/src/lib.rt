@@ -4,6 +4,7 @@ use comments::First;
 use comments::Passed;
 use comments::Set;
 use layout::entry;
+use reader::MAX_RECORD;
 use reader::MAX_TEXT;
 use reader::Reading;
 use reader::tokens::Tiled;
@@ -91,8 +92,6 @@ pub enum Judged {
 }
 
 // ---- check and get
-const MAX_RECORD: usize = 65536;
-
 const MAX_WIDTH: u64 = 0xFFFF_FFFF;
 
 // A text of this length is written in one walk.

@@ -31,7 +31,7 @@ pub enum Reading {
 
 pub const MAX_TEXT: usize = 32768;
 
-const MAX_RECORD: usize = 65536;
+pub const MAX_RECORD: usize = 65536;
 
 // Refusals 3 and 4, over a text of this length.
 fn read_record(
