@@ -195,7 +195,9 @@ impl Reference {
     pub fn doc_comment_above(&self, token: u64, output: usize) -> Answer<Lookup<String>> {
         let answer = self.lookup(token, doc_comment_above);
         match &answer.value.found {
-            Some(text) if text.len() > output => declined(number::OUTPUT, 0, Origin::Arithmetic),
+            Some(text) if text.len() > output => {
+                declined(number::OUTPUT_TOO_SHORT, 0, Origin::Arithmetic)
+            }
             _ => answer,
         }
     }
@@ -294,7 +296,7 @@ fn refused(
         let verdict = Verdict::with_measures(number, Measures::default());
         return Verdict { place: stop.place, ..verdict };
     };
-    let mut verdict = Verdict::with_measures(number::COMMENTS, Measures::default());
+    let mut verdict = Verdict::with_measures(number::COMMENTS_LEFT, Measures::default());
     verdict.place = ranges.iter().map(|range| range.start()).min().unwrap_or(0);
     let tokens = root.syntax().descendants_with_tokens();
     for token in tokens.filter_map(|element| element.into_token()) {

@@ -24,13 +24,13 @@ pub mod number {
     /// The 201st form inside.
     pub const TOO_DEEP: u8 = 4;
     /// Comments left.
-    pub const COMMENTS: u8 = 6;
+    pub const COMMENTS_LEFT: u8 = 6;
     /// Deepest × tab size over 4,294,967,295.
-    pub const INDENT: u8 = 7;
+    pub const INDENT_TOO_WIDE: u8 = 7;
     /// Output too short.
-    pub const OUTPUT: u8 = 8;
+    pub const OUTPUT_TOO_SHORT: u8 = 8;
     /// Lookup of a token number not below the count.
-    pub const TOKEN: u8 = 9;
+    pub const NO_TOKEN: u8 = 9;
     /// A comment without an end.
     pub const OPEN_COMMENT: u8 = 10;
     /// A double quote that begins no string constant.

@@ -40,9 +40,9 @@ impl Measures {
     #[must_use]
     pub fn bounds(&self, tab_size: u32, output: usize) -> u8 {
         if u64::from(self.deepest) * u64::from(tab_size) > u64::from(u32::MAX) {
-            number::INDENT
+            number::INDENT_TOO_WIDE
         } else if self.length(tab_size) > output as u128 {
-            number::OUTPUT
+            number::OUTPUT_TOO_SHORT
         } else {
             number::ACCEPTED
         }
@@ -55,6 +55,6 @@ pub fn token_bound(token: u64, token_count: usize) -> u8 {
     if token < token_count as u64 {
         number::ACCEPTED
     } else {
-        number::TOKEN
+        number::NO_TOKEN
     }
 }

@@ -103,7 +103,7 @@ pub fn write(scanned: &Scanned, output: &mut [u8]) -> Answer {
     let written = scanned.as_ref().map_err(|&refusal| refusal).and_then(|tokens| {
         let commands = commands(tokens);
         let start = output.get_mut(..commands.len());
-        start.ok_or(refusal(numbers::OUTPUT, 0))?.copy_from_slice(&commands);
+        start.ok_or(refusal(numbers::OUTPUT_TOO_SHORT, 0))?.copy_from_slice(&commands);
         Ok(commands.len())
     });
     match written {

@@ -56,7 +56,7 @@ fn written() {
     assert_eq!(write(&scanned, &mut output), accepted);
     assert_eq!((&output[..12], &output[12..]), (&expected[..], &[0xA5; 2][..]));
     let mut output = [0xA5; 11];
-    let short = Answer { number: number::OUTPUT, place: 0, written: 0 };
+    let short = Answer { number: number::OUTPUT_TOO_SHORT, place: 0, written: 0 };
     assert_eq!(write(&scanned, &mut output), short);
     let refused = Answer { number: number::NO_STRING, place: 1, written: 0 };
     assert_eq!(write(&scan(b";\""), &mut output), refused);

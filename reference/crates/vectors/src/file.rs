@@ -35,7 +35,7 @@ fn put_answer(file: &mut Vec<u8>, answer: &Answer) {
     file.extend([u64::from(deepest), letters, units].map(u64::to_le_bytes).as_flattened());
     file.push(u8::from(answer.found.is_some()));
     file.extend(answer.found.unwrap_or(0).to_le_bytes());
-    if answer.number == number::COMMENTS {
+    if answer.number == number::COMMENTS_LEFT {
         file.extend(answer.set.map(u64::to_le_bytes).as_flattened());
     }
     put_run(file, &answer.output);
@@ -166,7 +166,7 @@ impl Reader<'_> {
         let (is_found, found) = (self.u8()?, self.u64()?);
         let found = (is_found == 1).then_some(found);
         let mut set = [0; 64];
-        if number == number::COMMENTS {
+        if number == number::COMMENTS_LEFT {
             for word in &mut set {
                 *word = self.u64()?;
             }
