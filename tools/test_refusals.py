@@ -121,13 +121,14 @@ class Refusals(unittest.TestCase):
         paths = glob.glob(os.path.join(ROOT, "rust/diverplume/src/*.rs")) + glob.glob(os.path.join(ROOT, "rust/record/src/*.rs"))
         said = "".join(joined(read(os.path.relpath(path, ROOT))) for path in paths)
         for refusal in REFUSALS:
-            self.assertIn(refusal.advice, said)
+            self.assertTrue(refusal.advice in said, "no message has '%s', the advice of %d" % (refusal.advice, refusal.number))
 
     def test_each_message_is_tested(self):
         paths = glob.glob(os.path.join(ROOT, "rust/diverplume/tests/library/*.rs"))
         tested = "".join(joined(read(os.path.relpath(path, ROOT))) for path in paths)
         for refusal in REFUSALS[1:]:
-            self.assertRegex(tested, r'"(refused|declined) \(%d\): ' % refusal.number)
+            shown = re.search(r'"(refused|declined) \(%d\): ' % refusal.number, tested)
+            self.assertTrue(shown, "no test has the message of %d" % refusal.number)
 
 
 if __name__ == "__main__":
