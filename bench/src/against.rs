@@ -3,7 +3,7 @@
 //! A loop of a few instructions takes up to 1.6 times as long at another place in memory. So each
 //! archive is there several times, with its code at other places.
 
-use crate::time::{call, spread, turns, Plan};
+use crate::time::{call, turns, Plan, Times};
 use crate::{sheets, texts, TAB_SIZE};
 use decode::decode;
 use diverplume::record::limit;
@@ -81,9 +81,9 @@ impl Archives {
         let run = &run;
         let calls = self.objects.iter().zip(&mut left);
         let mut calls: Vec<_> =
-            calls.map(|(object, left)| call("", move || run(object, left))).collect();
+            calls.map(|(object, left)| call(move || run(object, left))).collect();
         let taken = turns(&mut calls, Plan { repeats, turn: TURN }).into_iter();
-        let least: Vec<_> = taken.map(|times| spread(times).least).collect();
+        let least: Vec<_> = taken.map(|times| Times::of(&times).least).collect();
         print_times(&least.chunks(self.places).collect::<Vec<_>>());
     }
 }

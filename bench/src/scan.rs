@@ -2,7 +2,7 @@
 
 use crate::greedy;
 use crate::texts::{all, Named};
-use crate::time::{call, named};
+use crate::time::{call, turns, Times, AGAINST_RUST};
 use diverplume::record::limit;
 use std::hint::black_box;
 
@@ -34,15 +34,16 @@ fn for_a_byte(named_text: &Named) -> f64 {
     let written = diverplume::scan_into(text, &mut output).expect("a text with tokens");
     assert_eq!(greedy::scan(text, &mut of_greedy), Ok(written), "{name}");
     assert!(output == of_greedy, "{name}: the tokens differ");
-    let times = named(vec![
-        call("port", || {
+    let mut calls = [
+        call(|| {
             black_box(diverplume::scan_into(black_box(text), &mut output)).ok();
         }),
-        call("Rust", || {
+        call(|| {
             black_box(greedy::scan(black_box(text), &mut of_greedy)).ok();
         }),
-    ]);
-    let [(_, port), (_, rust)] = times[..] else { unreachable!("two calls") };
+    ];
+    let times = turns(&mut calls, AGAINST_RUST);
+    let [port, rust] = [0, 1].map(|at| Times::of(&times[at]));
     let [of_port, of_rust] = [port, rust].map(|times| times.median / text.len() as f64);
     println!(
         "{name:24} {:6} {:6} {of_port:8.2} {of_rust:8.2}  {:6.2} {:6.2}",

@@ -13,12 +13,14 @@ pub struct Plan {
 }
 
 /// The calls of the port and of the Rust.
-pub const AGAINST_RUST: Plan = Plan { repeats: 11, turn: Duration::from_millis(4) };
+pub const AGAINST_RUST: Plan = Plan { repeats: 21, turn: Duration::from_millis(4) };
 
 /// A call that is timed.
-pub struct Call<'a> {
-    pub name: &'static str,
-    pub run: Box<dyn FnMut() + 'a>,
+pub struct Call<'a>(Box<dyn FnMut() + 'a>);
+
+/// A call that is timed.
+pub fn call<'a>(run: impl FnMut() + 'a) -> Call<'a> {
+    Call(Box::new(run))
 }
 
 /// The least, the median and the greatest of the repeats, in nanoseconds.
@@ -27,22 +29,59 @@ pub struct Times {
     pub least: f64,
     pub median: f64,
     pub greatest: f64,
+    /// How far the halves of the repeats, the earlier and the later, are apart: the least and the
+    /// median of the slower half by those of the faster.
+    pub halves: Halves,
+}
+
+/// Ratios of the two halves of the repeats, from 1 on.
+#[derive(Debug, Clone, Copy)]
+pub struct Halves {
+    pub least: f64,
+    pub median: f64,
+}
+
+impl Times {
+    /// Of the times in the order in which they were taken, two or more.
+    pub fn of(taken: &[f64]) -> Self {
+        let [least, median, greatest] = spread(taken);
+        let (earlier, later) = taken.split_at(taken.len() / 2);
+        let [earlier, later] = [earlier, later].map(spread);
+        let apart = |at: usize| {
+            let ratio: f64 = earlier[at] / later[at];
+            ratio.max(1.0 / ratio)
+        };
+        Self { least, median, greatest, halves: Halves { least: apart(0), median: apart(1) } }
+    }
+
+    /// The times of one of so many calls that were timed together.
+    pub fn each_of(self, count: usize) -> Self {
+        let [least, median, greatest] =
+            [self.least, self.median, self.greatest].map(|time| time / count as f64);
+        Self { least, median, greatest, ..self }
+    }
 }
 
 impl fmt::Display for Times {
     fn fmt(&self, f: &mut fmt::Formatter<'_>) -> fmt::Result {
-        let micro = |nano: f64| nano / 1_000.0;
-        let (least, median, greatest) =
-            (micro(self.least), micro(self.median), micro(self.greatest));
-        write!(f, "{median:11.1} {least:11.1} {greatest:11.1}")
+        let [least, median, greatest] =
+            [self.least, self.median, self.greatest].map(|nano| nano / 1_000.0);
+        write!(f, "{median:11.2} {least:11.2} {greatest:11.2}")
     }
 }
 
+/// The least, the median and the greatest of some numbers.
+fn spread(taken: &[f64]) -> [f64; 3] {
+    let mut taken = taken.to_vec();
+    taken.sort_by(f64::total_cmp);
+    [taken[0], taken[taken.len() / 2], taken[taken.len() - 1]]
+}
+
 /// The time of a turn of so many runs.
-fn turn(call: &mut Call<'_>, runs: u32) -> Duration {
+fn turn(Call(run): &mut Call<'_>, runs: u32) -> Duration {
     let start = Instant::now();
     for _ in 0..runs {
-        (call.run)();
+        run();
     }
     start.elapsed()
 }
@@ -69,21 +108,4 @@ pub fn turns(calls: &mut [Call<'_>], plan: Plan) -> Vec<Vec<f64>> {
         }
     }
     taken
-}
-
-/// The least, the median and the greatest of some numbers.
-pub fn spread(mut taken: Vec<f64>) -> Times {
-    taken.sort_by(f64::total_cmp);
-    Times { least: taken[0], median: taken[taken.len() / 2], greatest: taken[taken.len() - 1] }
-}
-
-/// The times of calls with their names.
-pub fn named(mut calls: Vec<Call<'_>>) -> Vec<(&'static str, Times)> {
-    let times = turns(&mut calls, AGAINST_RUST).into_iter().map(spread);
-    calls.iter().map(|call| call.name).zip(times).collect()
-}
-
-/// A call with its name.
-pub fn call<'a>(name: &'static str, run: impl FnMut() + 'a) -> Call<'a> {
-    Call { name, run: Box::new(run) }
 }

@@ -1,10 +1,10 @@
 //! Sheets on which a call takes long or nests deep, all of them accepted.
 
 use schema::tree::{
-    AppExp, Arm, CaseExp, ConTy, Dec, EqExp, EqTy, Exp, ExpArg, ExpDec, HoleDec, HoleTy, LetExp,
-    ListExp, LocalDec, Matcher, ParenPat, ParenTy, Pat, Path, PathExp, RecordTy, SConExp, StarTy,
-    StrBind, StructStrExp, StructureDec, TupleTy, Ty, TyBind, TyDec, TyRow, ValBind, ValDec,
-    WildcardPat,
+    AppExp, Arm, CaseExp, ConTy, Dec, EqExp, EqTy, Exp, ExpArg, ExpDec, FnExp, HoleDec, HoleExp,
+    HoleTy, LetExp, ListExp, LocalDec, Matcher, ParenPat, ParenTy, Pat, Path, PathExp, RecordTy,
+    SConExp, StarTy, StrBind, StructStrExp, StructureDec, TupleTy, Ty, TyBind, TyDec, TyRow,
+    ValBind, ValDec, WildcardPat,
 };
 use schema::{limit, tree, Sheet, SheetBuilder, SyntaxKind, Token};
 
@@ -20,6 +20,7 @@ pub fn all() -> Vec<(&'static str, Sheet)> {
         ("types", types()),
         ("left-applications", left_applications()),
         ("applied-list", applied_list()),
+        ("applied-fn", applied_fn()),
         ("stopped-types", stopped_types()),
         ("far-comment", far_comment()),
     ]
@@ -147,6 +148,23 @@ pub fn applied_list() -> Sheet {
         let [one, a] = builder.words(["1", "a"]);
         let list = ListExp::of(vec![ExpArg::of(SConExp::of(one)); items]);
         let exp = applied(list, a, limit::FORMS - 3);
+        finish(builder, [Dec::one(ExpDec::of(exp).without_first())])
+    };
+    let (none, one) = (sheet(0).record.len(), sheet(1).record.len());
+    sheet(most(none, one - none))
+}
+
+/// A `fn` of as many arms as the record holds, three bytes each, applied: 197 applications, each of
+/// which looks behind the same arms. Its text is longer than the draft of `get`, which walks twice.
+/// No sheet is known that takes longer.
+#[must_use]
+pub fn applied_fn() -> Sheet {
+    let sheet = |arms: usize| {
+        let mut builder = SheetBuilder::new();
+        let a = builder.word("a");
+        let arm = Arm::new().pat(WildcardPat::new()).exp(HoleExp::new());
+        let fn_exp = FnExp::new().matcher(Matcher::of(vec![arm; arms]));
+        let exp = applied(fn_exp, a, limit::FORMS - 3);
         finish(builder, [Dec::one(ExpDec::of(exp).without_first())])
     };
     let (none, one) = (sheet(0).record.len(), sheet(1).record.len());
