@@ -1,7 +1,28 @@
 //! Times of calls, taken in turn and repeated.
 
 use std::fmt;
-use std::time::{Duration, Instant};
+use std::time::Duration;
+
+/// C's `timespec`.
+#[repr(C)]
+struct Timespec {
+    seconds: i64,
+    nanoseconds: i64,
+}
+
+// Of the C library.
+extern "C" {
+    fn clock_gettime(clock: i32, time: *mut Timespec) -> i32;
+}
+
+/// The processor's time of this thread, which does not grow while other programs run.
+fn spent() -> Duration {
+    const THREAD_CPUTIME: i32 = 3;
+    let mut time = Timespec { seconds: 0, nanoseconds: 0 };
+    // SAFETY: `time` has the layout of C's `timespec` and lives through the call.
+    assert_eq!(unsafe { clock_gettime(THREAD_CPUTIME, &mut time) }, 0, "no clock of the thread");
+    Duration::from_secs(time.seconds as u64) + Duration::from_nanos(time.nanoseconds as u64)
+}
 
 /// How calls are timed.
 #[derive(Debug, Clone, Copy)]
@@ -79,11 +100,11 @@ fn spread(taken: &[f64]) -> [f64; 3] {
 
 /// The time of a turn of so many runs.
 fn turn(Call(run): &mut Call<'_>, runs: u32) -> Duration {
-    let start = Instant::now();
+    let start = spent();
     for _ in 0..runs {
         run();
     }
-    start.elapsed()
+    spent() - start
 }
 
 /// The runs that a turn needs to take that long.
