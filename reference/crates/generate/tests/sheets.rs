@@ -6,7 +6,7 @@ use generate::{commands, Damage, Generator, Rng, Role, Size};
 use schema::limit;
 
 /// The numbers that the check gives a sheet that meets none of 1 to 4.
-const WALKED: [u8; 4] = [number::ACCEPTED, number::MISSING, number::IMPORT, number::COMMENTS];
+const WALKED: [u8; 4] = [number::ACCEPTED, number::MISSING, number::IMPORT, number::COMMENTS_LEFT];
 
 #[test]
 fn sizes_are_exact() {

@@ -65,7 +65,7 @@ fn the_place_is_that_of_what_the_innermost_failing_site_misses() {
                 let behind = failures.iter().rev().take_while(|failure| failure.stop.is_none());
                 assert!(behind.count() > 0 || failures.len() == 1, "{case}");
             }
-            _ => assert!(check.place == 0 || check.number == number::COMMENTS, "{case}"),
+            _ => assert!(check.place == 0 || check.number == number::COMMENTS_LEFT, "{case}"),
         }
     }
     let all = stops.iter().filter(|stop| stop.is_some()).count();
