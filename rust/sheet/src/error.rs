@@ -4,7 +4,7 @@ use crate::lex::{Broken, Fault};
 use diverplume_record::{limit, BuildError, Bytes, Problem};
 use std::fmt;
 
-/// A line and a column of a text, both from 1; columns count characters.
+/// A line and a column of a text, both from 1; columns count characters. Written `line:column`.
 #[derive(Debug, Clone, Copy, PartialEq, Eq, PartialOrd, Ord)]
 pub struct Position {
     /// The line.
@@ -17,12 +17,9 @@ impl Position {
     /// The position of an offset of a text; past the end that of the end.
     #[must_use]
     pub fn of(text: &[u8], offset: usize) -> Self {
-        let before = &text[..offset.min(text.len())];
-        let mut lines = before.split(|&byte| byte == b'\n');
-        let last = lines.next_back().unwrap_or_default();
-        // Every byte but those inside a character of UTF-8.
-        let column = last.iter().filter(|&&byte| byte & 0xC0 != 0x80).count() + 1;
-        Self { line: lines.count() + 1, column }
+        let diverplume_record::Position { line, column } =
+            diverplume_record::Position::of(text, offset);
+        Self { line, column }
     }
 }
 
