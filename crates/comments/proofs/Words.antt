@@ -4,18 +4,18 @@ use native.Mathlib.Nat.{pow-suc, div-one, add-zero, zero-add, suc-add, one-mul}
 use native.Mathlib.Numerals.{one-add}
 use native.Mathlib.Omega.{arith}
 use mathlib.Core.Path.{_≡_, refl, sym, ap, ap₂, _∙_}
-use mathlib.Core.Bool.{Bool, true, false, not, _&&_, and-true, and-false}
+use mathlib.Core.Bool.{Bool, true, false, cond, not, _&&_, and-true, and-false}
 use mathlib.Core.List.{List}
 use mathlib.Core.Option.{Option, none, some, Option·none-ne-some, Option·some-ne-none, Option·some-injective}
 use mathlib.Core.Logic.{_⊎_, inl, inr, ⊎-elim}
-use lib.Dec.{eqb, eqb·suc-suc, lit<}
+use lib.Dec.{eqb, ltb, eqb·suc-suc, lit<}
 use lib.Pow.{shr-shr, shl-exact, pow-mono}
 use lib.Count.{ones, onesIn, ones-step, trailingZeros}
-use lib.ListN.{length, getD, set, length-set}
+use lib.ListN.{length, getD, set, length-set, List·getD-eq-default}
 use lib.Seq.{ext-getD, getD-set-same, getD-set-other}
 use borrow.Author.Count.{below-more}
-use borrow.Author.Tests.{eqb-true, eqb-false, eq-eqb, ne-eqb}
-use Rattle.comments.specs.Set.{bit, bits, holds, wordsFrom, wordsOf, room, without, count, first}
+use borrow.Author.Tests.{eqb-true, eqb-false, eq-eqb, ne-eqb, ltb-true, ltb-false}
+use Rattle.comments.specs.Set.{bit, clear, bits, holds, wordsFrom, wordsOf, room, without, count, first}
 
 -- ---- a word and its bits
 
@@ -124,6 +124,14 @@ module _ (member : ℕ → Bool) where
   unfolding first
   first-zero zero k s = refl
   first-zero (suc n) k s = first-out k n (spells-head n 0 k s) ∙ first-zero n (k + 1) (spells-tail n 0 k s)
+
+  -- The word of tokens that are not in the set.
+  pub bits-empty : (n k : ℕ) → ((i : ℕ) → k ≤ i → member i ≡ false) → 0 ≡ bits member k n
+  unfolding bits
+  bits-empty zero k h = refl
+  bits-empty (suc n) k h =
+      let ih = bits-empty n (k + 1) (λ i l. h i (omega arith)) in
+      omega (arith, ih, bits-out k n (h k (omega arith)))
 
   -- The bits of the word are the tokens.
   bits-half : (n k : ℕ) → (bits member k (suc n) / 2 ≡ bits member (k + 1) n) × (member k ≡ eqb (bits member k (suc n) % 2) 1)
@@ -350,6 +358,23 @@ bit-kept b x i h = go (eqb i b) refl
     go true e = rw (eqb-true i b e, h)
     go false e = sym (and-true (bit x i))
 
+-- A word without bit b has the other bits, and is no larger.
+pub clear-bits : (x b i : ℕ) → bit (clear x b) i ≡ (bit x i && not (eqb i b))
+unfolding clear
+clear-bits x b i = go (bit x b) refl
+  where
+    go : (t : Bool) → bit x b ≡ t → bit (cond t (x - 2 ^ b) x) i ≡ (bit x i && not (eqb i b))
+    go true e = bit-struck b x i e
+    go false e = bit-kept b x i e
+
+pub clear-le : (x b : ℕ) → clear x b ≤ x
+unfolding clear
+clear-le x b = go (bit x b)
+  where
+    go : (t : Bool) → cond t (x - 2 ^ b) x ≤ x
+    go true = omega arith
+    go false = omega arith
+
 -- ---- the loops
 
 module _ (words : List ℕ) (long : length words ≡ 64) (fit : (w : ℕ) → getD words w 0 < 2 ^ 64) (k : ℕ) where
@@ -363,12 +388,13 @@ module _ (words : List ℕ) (long : length words ≡ 64) (fit : (w : ℕ) → ge
       }
 
   -- The word that holds token k.
-  struck-word : (y : ℕ) → y < 2 ^ 64 → ((i : ℕ) → bit y i ≡ (bit (getD words (k / 64) 0) i && not (eqb i (k % 64)))) → Spells (without (holds words) k) (64 * (k / 64)) 64 y
+  struck-word : Spells (without (holds words) k) (64 * (k / 64)) 64 (clear (getD words (k / 64) 0) (k % 64))
   unfolding without
-  struck-word y b e =
+  struck-word =
       record {
-        below = b;
-        at = λ i l. ap₂ (λ (s t : Bool). s && not t) (holds-spells words (k / 64) (fit (k / 64)) .at i l) (same i l) ∙ sym (e i);
+        below = omega (arith, clear-le (getD words (k / 64) 0) (k % 64), fit (k / 64));
+        at = λ i l. ap₂ (λ (s t : Bool). s && not t) (holds-spells words (k / 64) (fit (k / 64)) .at i l) (same i l)
+            ∙ sym (clear-bits (getD words (k / 64) 0) (k % 64) i);
       }
     where
       same : (i : ℕ) → i < 64 → eqb (64 * (k / 64) + i) k ≡ eqb i (k % 64)
@@ -382,8 +408,8 @@ module _ (words : List ℕ) (long : length words ≡ 64) (fit : (w : ℕ) → ge
   words-kept h =
       words-is (without (holds words) k) words long (λ w l. sym (bits-is (without (holds words) k) 64 (getD words w 0) (64 * w) (other-word w (λ e. omega arith))))
 
-  pub words-struck : (y : ℕ) → k / 64 < 64 → y < 2 ^ 64 → ((i : ℕ) → bit y i ≡ (bit (getD words (k / 64) 0) i && not (eqb i (k % 64)))) → set words (k / 64) y ≡ wordsOf (without (holds words) k)
-  words-struck y h b e =
+  pub words-struck : (y : ℕ) → k / 64 < 64 → y ≡ clear (getD words (k / 64) 0) (k % 64) → set words (k / 64) y ≡ wordsOf (without (holds words) k)
+  words-struck y h e =
       words-is (without (holds words) k) (set words (k / 64) y) (length-set words (k / 64) y ∙ long)
       (λ w l. go w (eqb w (k / 64)) refl)
     where
@@ -391,7 +417,8 @@ module _ (words : List ℕ) (long : length words ≡ 64) (fit : (w : ℕ) → ge
       go w true f =
           rw (eqb-true w (k / 64) f)
           (getD-set-same words (k / 64) y 0 (omega arith)
-          ∙ sym (bits-is (without (holds words) k) 64 y (64 * (k / 64)) (struck-word y b e)))
+          ∙ e
+          ∙ sym (bits-is (without (holds words) k) 64 (clear (getD words (k / 64) 0) (k % 64)) (64 * (k / 64)) struck-word))
       go w false f =
           getD-set-other words (k / 64) w y 0 (eqb-false w (k / 64) f)
           ∙ sym (bits-is (without (holds words) k) 64 (getD words w 0) (64 * w) (other-word w (eqb-false w (k / 64) f)))
@@ -463,11 +490,13 @@ module _ (b x : ℕ) (h : b < 64) where
   pub cleared-fits : x / 2 ^ b % 2 ≡ 1 → 1 * 2 ^ b % 2 ^ 64 ≤ x
   cleared-fits e = omega (arith, one-shifted, bit-le b x (set-bit b x e))
 
-  pub cleared-is : x / 2 ^ b % 2 ≡ 1 → (i : ℕ) → bit (x - 1 * 2 ^ b % 2 ^ 64) i ≡ (bit x i && not (eqb i b))
-  cleared-is e i = ap (λ (y : ℕ). bit (x - y) i) one-shifted ∙ bit-struck b x i (set-bit b x e)
+  pub cleared-is : x / 2 ^ b % 2 ≡ 1 → x - 1 * 2 ^ b % 2 ^ 64 ≡ clear x b
+  unfolding clear
+  cleared-is e = rw (one-shifted, set-bit b x e) refl
 
-pub clear-already : (b x : ℕ) → (x / 2 ^ b % 2 ≡ 1 → ⊥) → (i : ℕ) → bit x i ≡ (bit x i && not (eqb i b))
-clear-already b x h i = bit-kept b x i (clear-bit b x h)
+pub clear-already : (b x : ℕ) → (x / 2 ^ b % 2 ≡ 1 → ⊥) → x ≡ clear x b
+unfolding clear
+clear-already b x h = rw (clear-bit b x h) refl
 
 pub made-all : (member : ℕ → Bool) (k b x : ℕ) → b ≤ 0 → x ≡ bits member (k + b) (64 - b) → x ≡ bits member k 64
 made-all member k b x h e =
@@ -481,3 +510,22 @@ words-more member words w x l h e =
     below-more (λ (j : ℕ). getD (set words w x) j 0 ≡ bits member (64 * j) 64) w
     (λ j b. getD-set-other words w j x 0 (λ f. omega arith) ∙ h j b)
     (getD-set-same words w x 0 l ∙ e)
+
+-- The words of a set without one token.
+module _ (member : ℕ → Bool) (k : ℕ) where
+  words-fit : (w : ℕ) → getD (wordsOf member) w 0 < 2 ^ 64
+  words-fit w = go (ltb w 64) refl
+    where
+      go : (b : Bool) → ltb w 64 ≡ b → getD (wordsOf member) w 0 < 2 ^ 64
+      go true e = omega (arith, word-at member w (ltb-true w 64 e), bits-below member 64 (64 * w))
+      go false e =
+          let z : getD (wordsOf member) w 0 ≡ 0 = List·getD-eq-default (wordsOf member) 0 (omega (arith, length-words member, ltb-false w 64 e)) in
+          rw z (lit< tt)
+
+  pub words-clear : k / 64 < 64 → set (wordsOf member) (k / 64) (clear (getD (wordsOf member) (k / 64) 0) (k % 64)) ≡ wordsOf (without member k)
+  words-clear h =
+      words-struck (wordsOf member) (length-words member) words-fit k (clear (getD (wordsOf member) (k / 64) 0) (k % 64)) h refl
+      ∙ words-without member (wordsOf member) refl k
+
+  pub words-past : 64 ≤ k / 64 → wordsOf member ≡ wordsOf (without member k)
+  words-past h = words-kept (wordsOf member) (length-words member) words-fit k h ∙ words-without member (wordsOf member) refl k

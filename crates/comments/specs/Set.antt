@@ -1,7 +1,7 @@
 -- Document 01, module 2: the comment set, one bit a token, as 64 words of 64 bits.
-use Prim.Native.Nat.{ℕ, zero, suc, _+_, _*_, _/_, _%_, _^_}
+use Prim.Native.Nat.{ℕ, zero, suc, _+_, _-_, _*_, _/_, _%_, _^_}
 use mathlib.Core.List.{List, [], _∷_}
-use mathlib.Core.Bool.{Bool, true, false, not, _&&_}
+use mathlib.Core.Bool.{Bool, true, false, cond, not, _&&_}
 use mathlib.Core.Option.{Option, none, some}
 use lib.ListN.{getD}
 use lib.Dec.{eqb}
@@ -19,6 +19,10 @@ isComment kinds k = eqb (getD kinds k 0) blockComment
 -- Bit b of a word.
 unfoldable pub bit : ℕ → ℕ → Bool
 bit word b = eqb (word / 2 ^ b % 2) 1
+
+-- A word without its bit b.
+unfoldable pub clear : ℕ → ℕ → ℕ
+clear word b = cond (bit word b) (word - 2 ^ b) word
 
 -- Whether a token is in the set of these words: bit b of word w is token 64 × w + b.
 unfoldable pub holds : List ℕ → ℕ → Bool

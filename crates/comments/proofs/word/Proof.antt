@@ -3,7 +3,8 @@ use Prim.Native.Nat.{_+_, _-_, _≤_}
 use native.Mathlib.Omega.{arith}
 use mathlib.Core.Path.{_≡_, refl, sym, _∙_}
 use Rattle.comments.specs.Set.{isComment, bits}
-use Rattle.comments.proofs.Words.{made-fits, made-one, made-zero, made-all}
+use Rattle.comments.proofs.Words.{bits-empty, made-fits, made-one, made-zero, made-all}
+use Rattle.comments.proofs.Search.{no-comment}
 use borrow.Author.Needs.{needs}
 use Rattle.comments.proofs.word.Statement.{statement}
 use Rattle.comments.proofs.word.Tie as tie
@@ -13,6 +14,11 @@ Inv-loop kinds k x₀ b₀ x b = (b ≤ 64) × (x ≡ bits (isComment kinds) (k 
 
 abbrev μ-loop : tie.MeasureT-loop
 μ-loop kinds k x₀ b₀ x b = b
+
+returns : tie.Need-returns Inv-loop μ-loop
+returns c =
+    let kinds = c .before .before .args .kinds .now in
+    bits-empty (isComment kinds) 64 (c .before .before .args .k) (λ i l. no-comment kinds i (omega (arith, c .if1 .taken)))
 
 loop-holds : tie.Need-loop-holds Inv-loop μ-loop
 unfolding bits
@@ -37,16 +43,16 @@ loop-less : tie.Need-loop-less Inv-loop μ-loop
 loop-less c = search needs
 
 loop-again : tie.Need-loop-again Inv-loop μ-loop
-loop-again c = let at = c .before .before .before .loop in (omega arith, made-one _ _ (at .b) (at .b - 1) (at .x) (omega arith) (at .inv .0) (at .inv .1) (sym (c .before .is-comment .ensures) ∙ c .if1 .taken))
+loop-again c = let at = c .before .before .before .loop in (omega arith, made-one _ _ (at .b) (at .b - 1) (at .x) (omega arith) (at .inv .0) (at .inv .1) (sym (c .before .is-comment .ensures) ∙ c .if2 .taken))
 
 loop-less-2 : tie.Need-loop-less-2 Inv-loop μ-loop
 loop-less-2 c = search needs
 
 loop-again-2 : tie.Need-loop-again-2 Inv-loop μ-loop
-loop-again-2 c = let at = c .before .before .before .loop in (omega arith, made-zero _ _ (at .b) (at .b - 1) (at .x) (omega arith) (at .inv .0) (at .inv .1) (sym (c .before .is-comment .ensures) ∙ c .if1 .left))
+loop-again-2 c = let at = c .before .before .before .loop in (omega arith, made-zero _ _ (at .b) (at .b - 1) (at .x) (omega arith) (at .inv .0) (at .inv .1) (sym (c .before .is-comment .ensures) ∙ c .if2 .left))
 
-returns : tie.Need-returns Inv-loop μ-loop
-returns c = made-all _ _ _ _ (c .loop-test .left) (c .before .loop .inv .1)
+returns-2 : tie.Need-returns-2 Inv-loop μ-loop
+returns-2 c = made-all _ _ _ _ (c .loop-test .left) (c .before .loop .inv .1)
 
 pub word-spec : {M : Type 1} → statement M
 word-spec =
@@ -54,6 +60,7 @@ word-spec =
     (tie.spec
     Inv-loop
     μ-loop
+    returns
     loop-holds
     sub-b
     mul-x
@@ -64,4 +71,4 @@ word-spec =
     loop-again
     loop-less-2
     loop-again-2
-    returns)
+    returns-2)

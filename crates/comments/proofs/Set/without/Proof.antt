@@ -32,7 +32,7 @@ array-write-words : tie.Need-array-write-words
 array-write-words c = search needs
 
 returns : tie.Need-returns
-returns c = let at = c .before .before .before in words-struck _ (long at) (fit at) (at .args .k) _ (c .before .if1 .taken) (c .cleared .ok) (c .cleared .ensures)
+returns c = let at = c .before .before .before in words-struck _ (long at) (fit at) (at .args .k) _ (c .before .if1 .taken) (c .cleared .ensures)
 
 returns-2 : tie.Need-returns-2
 returns-2 c = let at = c .before .before in words-kept _ (long at) (fit at) (at .args .k) (c .if1 .left)
