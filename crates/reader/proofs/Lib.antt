@@ -3,8 +3,10 @@ pub mod CommandLaws
 pub mod GrammarLaws
 pub mod TreeLaws
 pub mod FieldLaws
+pub mod Bounded
 pub mod TokenLaws
 pub mod EvenLaws
+pub mod TreePlace
 pub mod ReadingLaws
 pub mod Local
 pub mod Suffix
