@@ -27,7 +27,8 @@ import sys
 import tempfile
 
 READS = {"list": "list", "choice": "choice", "form": "form", "expression": "look"}
-SURE = {"word", "between", "indent-at", "indent", "indent-in", "new-line", "new-line-in", "word-when", "app-end", "app-space"}
+SURE = {"word", "between", "indent", "indent-in", "new-line", "new-line-in", "word-when", "app-end", "app-space"}
+WORDLESS = {"indent", "indent-in", "indent-deeper"}
 BOTH = {"line", "line-in", "indent-deeper"}
 LOOKS = {"is-if-exp", "body-exp-needs-newline"}
 DEEPER = {"indented", "deepen", "indent-in", "indent-deeper", "line-in", "new-line-in"}
@@ -72,7 +73,7 @@ def parenthesised(term):
 
 def deep_calls(source, name):
     """The calls in a function's code that are handed the configuration `new`, by the names of their places."""
-    body = re.search(r"\nfn %s\(.*?\n}\n" % name, source.replace("\npub fn", "\nfn"), re.S)
+    body = re.search(r"\nfn %s(?:<'a>)?\(.*?\n}\n" % name, source.replace("\npub fn", "\nfn"), re.S)
     calls, deep = {}, set()
     for found in re.finditer(r"\b([a-z_]+)\(([^()]*)\)", body.group(0).split("\n{\n", 1)[1] if body else ""):
         called = dashed(found.group(1))
@@ -122,17 +123,18 @@ class Function:
         return path + (" .taken" if record.startswith("Then") else " .left")
 
     def apart(self, way, at):
-        """How the answer of the call at this step is taken apart: ("is", path) or ("not", path)."""
-        key = None
+        """How the answer of the call at this step is taken apart: ("is" or "not", path, key, what `told` says of a number)."""
+        key, told = None, None
         for place in range(at + 1, len(way)):
             record, thing, path = way[place]
             if self.kind(thing):
                 return None
             key = re.search(r"keys(\d+)$", record).group(1) if re.search(r"keys\d+$", record) else key
+            told = "(%s .ensures)" % path if base(thing) == "told" else told
             if base(thing) == "enum-told":
-                return ("not", path + " .given .1", key)
+                return ("not", path + " .given .1", key, told)
             if base(thing) == "known-told":
-                return ("is", way[place - 1][2] + " .given .1", key)
+                return ("is", way[place - 1][2] + " .given .1", key, told)
         return None
 
     def term(self, steps, last, stop):
@@ -149,7 +151,7 @@ class Function:
     def step(self, steps, last, stop):
         (kind, thing, path, apart), rest = steps[0], steps[1:]
         more = lambda: parenthesised(self.term(rest, last, stop))
-        proof = "(%s .ensures)" % path
+        proof = "(%s .ensures%s)" % (path, " _" if base(thing) in WORDLESS else "")
         tail = thing in self.answers.get("tail", [])
         same = lambda law: "by-same %s %s" % ("(first-same (%s))" % law if tail else "(%s)" % law, more())
         if kind == "sure":
@@ -165,14 +167,15 @@ class Function:
             if apart[0] == "is":
                 return same("%s-is %s (%s)" % (law, proof, apart[1]))
             term = "%s-not (%s .ensures) %s (%s)" % (law, stop, proof, apart[1])
-            return "then-stop (%s) (%s .ensures)" % (term, stop) if tail else term
+            return "then-halt (%s) (%s .ensures)" % (term, stop) if tail else term
         if kind == "group":
+            found = "%s (%s)" % (apart[3], apart[1])
             if apart[0] == "is" and thing in self.answers.get("regroup", []):
-                return "by-same (first-same (group-is %s (%s))) (regroup %s)" % (proof, apart[1], more())
+                return "by-same (first-same (group-is %s %s)) (regroup %s)" % (proof, found, more())
             if apart[0] == "is":
-                return same("group-is %s (%s)" % (proof, apart[1]))
-            term = "group-not %s (%s)" % (proof, apart[1])
-            return "then-stop (%s) (%s)" % (term, apart[1]) if tail or thing in self.answers.get("regroup", []) else term
+                return same("group-is %s %s" % (proof, found))
+            term = "group-not %s %s" % (proof, found)
+            return "then-stop (%s) %s" % (term, found) if tail or thing in self.answers.get("regroup", []) else term
         if kind == "gone":
             return self.gone(proof, apart, same)
         if kind == "present":
@@ -180,7 +183,7 @@ class Function:
             if apart[0] == "is":
                 return same("%s %s (%s)" % (laws[apart[2]], proof, apart[1]))
             term = "present-not (%s .ensures) %s (%s)" % (stop, proof, apart[1])
-            return "then-stop (%s) (%s .ensures)" % (term, stop) if tail else term
+            return "then-halt (%s) (%s .ensures)" % (term, stop) if tail else term
         if kind in ("loop", "turn", "left"):
             return self.loop(kind, path, more)
         raise SystemExit("arms: no step for '%s' in %s" % (thing, self.name))
@@ -212,8 +215,8 @@ class Function:
         if apart is None:
             return proof[1:-1]
         if apart[0] == "not":
-            return "then-stop %s (%s)" % (proof, apart[1])
-        return "then-done %s (%s) %s" % (proof, apart[1], more())
+            return "then-stop %s %s (%s)" % (proof, apart[3], apart[1])
+        return "then-done %s %s (%s) %s" % (proof, apart[3], apart[1], more())
 
     def gone(self, proof, apart, same):
         if apart[0] == "is":
@@ -238,13 +241,13 @@ class Function:
 
     def hypotheses(self):
         """What an invariant's implication binds before its premise."""
-        return "kinds m r o " if self.answers["as"] == "plain" else "r o m "
+        return "kinds r m o " if self.answers["as"] == "plain" else "r m o "
 
     def blanks(self):
-        return "kinds m _ _ " if self.answers["as"] == "plain" else "_ _ _ "
+        return "kinds _ _ _ " if self.answers["as"] == "plain" else "_ _ _ "
 
     def wrapped(self, term):
-        return {"plain": "record { is = λ kinds m. %s }", "does": "record { is = %s }", "walked": "%s"}[self.answers["as"]] % term
+        return {"plain": "record { is = λ kinds. %s }", "does": "record { is = %s }", "walked": "%s"}[self.answers["as"]] % term
 
     def stop(self, way):
         stops = [path for record, thing, path in way if base(thing) == "stop"]
@@ -345,9 +348,9 @@ class Function:
         return " ∙ ".join(kept[::-1]) or "search needs"
 
     def answers_lent(self, thing):
-        lent = {"indent-at": ".0", "indent": ".0", "indent-in": ".0", "indent-deeper": ".0", "token": ".1 .1 .1 .0"}
-        lent.update((name, ".1 .0") for name in ("word", "between", "line", "line-in", "new-line", "new-line-in", "word-when", "app-end", "app-space"))
-        member = ".1 .1 .1 .1 .1 .0" if self.members.get(base(thing)) in ("walked", "does") else ".1 .1 .1 .1 .0"
+        lent = {"indent": ".0", "indent-in": ".0", "indent-deeper": ".0", "token": ".1 .1 .1 .1 .0"}
+        lent.update((name, ".1 .1 .0") for name in ("word", "between", "line", "line-in", "new-line", "new-line-in", "word-when", "app-end", "app-space"))
+        member = ".1 .1 .1 .1 .1 .1 .0" if self.members.get(base(thing)) in ("walked", "does") else ".1 .1 .1 .1 .1 .0"
         return lent.get(base(thing)) or lent.get(thing) or member
 
     def invariant(self):
@@ -358,16 +361,16 @@ class Function:
         else:
             left = "λ i k. times k (%s)" % self.answers["loop"][1]
         if self.answers["as"] == "plain":
-            return "PlainTurn text rec starts lens (cfg .tab) (%s) n s₀ out₀ i s out" % left
-        return "Turn (page text rec kinds starts lens) (cfg .tab) (%s) n s₀ out₀ left₀ i s out left" % left
+            return "PlainTurn run text rec starts lens (%s) n s₀ mem₀ out₀ i s mem out" % left
+        return "Turn run (page text rec kinds starts lens) (%s) n s₀ mem₀ out₀ i s mem out" % left
 
 
 def filled(function, text):
     """An offered proof file of one function, with each hole filled."""
     def need(found):
         return "%s%s = %s" % (found.group(1), found.group(2), function.answer(found.group(1)))
-    text = re.sub(r"^(Inv-loop .*) = \?$", lambda found: "%s =\n    %s" % (found.group(1), function.invariant()) if "loop" in function.answers else found.group(0), text, flags=re.M)
-    text = re.sub(r"^(μ-loop .*) = \?$", r"\1 = n - i", text, flags=re.M)
+    text = re.sub(r"^(Inv-loop .*) =\s+\?$", lambda found: "%s =\n    %s" % (found.group(1), function.invariant()) if "loop" in function.answers else found.group(0), text, flags=re.M)
+    text = re.sub(r"^(μ-loop .*) =\s+\?$", r"\1 = n - i", text, flags=re.M)
     text = re.sub(r"^([a-z0-9-]+)( c(?: κs)?) = (?:\?|search needs)$", need, text, flags=re.M)
     unfold = function.answers.get("unfold")
     if unfold:  # an empty text unfolds nothing
@@ -401,8 +404,8 @@ def filled_cycle(functions, text, left):
         unfold = functions[who].answers.get("unfold") if who and short.startswith(("returns", "loop-again")) else None
         return found.group(0).replace("\n" + found.group(2), "\nunfolding %s\n%s" % (unfold, found.group(2))) if unfold else found.group(0)
     text = re.sub(r"^(μ-([a-z0-9-]+)) κs a = \?$", lambda found: "%s κs a = 16 * %s + %d" % (found.group(1), left, rank[found.group(2)]), text, flags=re.M)
-    text = re.sub(r"^(([a-z0-9-]+)-Inv-loop .*) = \?$", lambda found: "%s =\n    %s" % (found.group(1), functions[found.group(2)].invariant()), text, flags=re.M)
-    text = re.sub(r"^([a-z0-9-]+-μ-loop .*) = \?$", r"\1 = n - i", text, flags=re.M)
+    text = re.sub(r"^(([a-z0-9-]+)-Inv-loop .*) =\s+\?$", lambda found: "%s =\n    %s" % (found.group(1), functions[found.group(2)].invariant()), text, flags=re.M)
+    text = re.sub(r"^([a-z0-9-]+-μ-loop .*) =\s+\?$", r"\1 = n - i", text, flags=re.M)
     text = re.sub(r"^([a-z0-9-]+)( t c(?: κs)?) = \?$", need, text, flags=re.M)
     return re.sub(r"^([a-z0-9-]+) :\s+\(t : ℕ\) →\s.*?\n(\1 t c)", unfolding, text, flags=re.M | re.S)
 

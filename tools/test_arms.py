@@ -24,10 +24,11 @@ def places(ways):
     return arms.Places(text + "".join("\n  %s =\n    (c : %s)" % need for need in needs.items()))
 
 
-PAREN = [("After-word", "word"), ("After-exp", "exp"), ("At-match-keys1", "match"), ("After-r", "r2"), ("After-told", "known-told"), ("After-word2", "word2")]
-STOP = [("After-word", "word"), ("After-exp", "exp"), ("At-match-keys2", "match"), ("After-enum", "enum-told")]
+PAREN = [("After-word", "word"), ("After-exp", "exp"), ("After-told", "told"), ("At-match-keys1", "match"), ("After-s1", "s1"), ("After-known", "known-told"),
+         ("After-word2", "word2")]
+STOP = [("After-word", "word"), ("After-exp", "exp"), ("After-told", "told"), ("At-match-keys2", "match"), ("After-enum", "enum-told")]
 TURN = [("After-list", "list"), ("At-match-keys1", "match"), ("After-n", "n"), ("After-known", "known-told"), ("At-loop", "loop"), ("In-loop", "loop-test"),
-        ("After-between", "between"), ("After-item", "item"), ("At-match2-keys1", "match2"), ("After-r", "r2"), ("After-told", "known-told2")]
+        ("After-between", "between"), ("After-item", "item"), ("After-told", "told"), ("At-match2-keys1", "match2"), ("After-s1", "s1"), ("After-known2", "known-told2")]
 
 
 class Arms(unittest.TestCase):
@@ -37,22 +38,33 @@ class Arms(unittest.TestCase):
     def test_straight_arm(self):
         f = self.function({"returns": PAREN, "returns-2": STOP}, {"as": "walked"}, {"exp": "walked"})
         self.assertEqual(f.answer("returns"),
-                         "then-sure (c .before .before .before .before .before .word .ensures) "
-                         "(then-done (c .before .before .before .before .exp .ensures) (c .before .before .r2 .given .1) "
-                         "(last-sure (c .word2 .ensures)))")
+                         "then-sure (c .before .before .before .before .before .before .word .ensures) "
+                         "(then-done (c .before .before .before .before .before .exp .ensures) (c .before .before .before .before .told .ensures) "
+                         "(c .before .before .s1 .given .1) (last-sure (c .word2 .ensures)))")
         self.assertEqual(f.answer("returns-2"),
-                         "then-sure (c .before .before .before .word .ensures) (then-stop (c .before .before .exp .ensures) (c .enum-told .given .1))")
+                         "then-sure (c .before .before .before .before .word .ensures) "
+                         "(then-stop (c .before .before .before .exp .ensures) (c .before .before .told .ensures) (c .enum-told .given .1))")
+
+    def test_a_stop_before_another_layout(self):
+        way = [("After-list", "list"), ("At-match-keys2", "match"), ("After-enum", "enum-told"), ("After-stop", "stop")]
+        f = self.function({"returns": way}, {"as": "walked", "tail": ["list"]}, {})
+        self.assertEqual(f.answer("returns"),
+                         "then-halt (list-not (c .stop .ensures) (c .before .before .before .list .ensures) (c .before .enum-told .given .1)) (c .stop .ensures)")
+
+    def test_an_indent_takes_any_words(self):
+        f = self.function({"returns": [("After-indent", "indent"), ("After-word", "word")]}, {"as": "walked"}, {})
+        self.assertEqual(f.answer("returns"), "then-sure (c .before .indent .ensures _) (last-sure (c .word .ensures))")
 
     def test_plain_contract(self):
         f = self.function({"returns": PAREN}, {"as": "plain"}, {"exp": "plain"})
-        self.assertTrue(f.answer("returns").startswith("record { is = λ kinds m. then-sure ("))
-        self.assertIn("(plain (c .before .before .before .before .exp .ensures))", f.answer("returns"))
+        self.assertTrue(f.answer("returns").startswith("record { is = λ kinds. then-sure ("))
+        self.assertIn("(plain (c .before .before .before .before .before .exp .ensures))", f.answer("returns"))
 
     def test_turn_of_a_loop(self):
         f = self.function({"loop-again": TURN}, {"as": "walked", "loop": ["from", "u", "w"]}, {"item": "walked"})
         answer = f.answer("loop-again")
-        self.assertIn("from-more _ _ (c .before .before .before .before .before .loop-test .taken)", answer)
-        self.assertIn("(then-done (c .before .before .before .item .ensures) (c .before .r2 .given .1) h)", answer)
+        self.assertIn("from-more _ _ (c .before .before .before .before .before .before .loop-test .taken)", answer)
+        self.assertIn("(then-done (c .before .before .before .before .item .ensures) (c .before .before .before .told .ensures) (c .before .s1 .given .1) h)", answer)
 
     def test_ranks(self):
         dispatch = self.function({"arm-requires": []}, {"as": "plain", "walk": "ty"}, {})
@@ -69,7 +81,7 @@ class Arms(unittest.TestCase):
         self.assertIn("deep-depth (c .indented .ensures)", f.answer("exp-requires"))
 
     def test_calls_with_the_deeper_configuration(self):
-        source = "\nfn f(cfg: Cfg) -> St\n{\n    exp(st, cfg);\n    exp(st, new);\n    line(text, st, new)\n}\n"
+        source = "\nfn f<'a>(run: &'a [u8; 3], cfg: Cfg) -> usize\n{\n    exp(run, at, cfg);\n    exp(run, at, new);\n    line(run, text, new);\n}\n"
         self.assertEqual(arms.deep_calls(source, "f"), {"exp2", "line"})
 
     def test_given_steps(self):
@@ -81,8 +93,14 @@ class Arms(unittest.TestCase):
         laws = {"inv": "I", "all": "all", "more": "more (@loop-test .taken) %more", "none": "none", "again": "(again h)"}
         f = self.function({"loop-again": TURN}, {"as": "does", "loop": ["own", laws]}, {"item": "does"})
         self.assertEqual(f.invariant(), "I")
-        self.assertIn("more (c .before .before .before .before .before .loop-test .taken) (then-sure", f.answer("loop-again"))
+        self.assertIn("more (c .before .before .before .before .before .before .loop-test .taken) (then-sure", f.answer("loop-again"))
         self.assertIn("(again h)", f.answer("loop-again"))
+
+    def test_an_invariant_offered_on_a_line_of_its_own(self):
+        f = self.function({"loop-again": TURN}, {"as": "walked", "loop": ["times", "w"]}, {"item": "walked"})
+        text = arms.filled(f, "Inv-loop run s i =\n    ?\n\nμ-loop run s i =\n    ?\n")
+        self.assertIn("Inv-loop run s i =\n    Turn run (page text rec kinds starts lens) (λ i k. times k (w)) n s₀ mem₀ out₀ i s mem out\n", text)
+        self.assertIn("μ-loop run s i = n - i\n", text)
 
     def test_a_call_named_as_an_argument(self):
         way = [("After-word-arg", "word-arg"), ("After-word", "word"), ("After-con-arg-arg", "con-arg-arg"), ("After-con-arg", "con-arg")]

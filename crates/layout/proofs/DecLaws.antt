@@ -1,6 +1,6 @@
 -- Laws of a declaration's command.
 use mathlib.Core.Path.{_≡_, refl, sym, ap, ap₂, _∙_}
-use mathlib.Core.Bool.{false}
+use native.Mathlib.Omega.{arith}
 use mathlib.Core.Option.{Option, none, some}
 use mathlib.Core.List.{List, [], _∷_}
 use Prim.Native.Nat.{ℕ, _+_}
@@ -12,14 +12,13 @@ use Rattle.reader.specs.declared.commands.Number.{Number}
 use Rattle.reader.specs.Commands.{formWidth, firstToken, numberIn, declarationIn}
 use Rattle.reader.specs.Check.{formFits}
 use lib.ListN.{length}
-use Rattle.layout.specs.declared.St.{St}
-use Rattle.layout.specs.declared.Answer.{Answer}
-use Rattle.layout.specs.declared.Answer.the-variants.{Done, Stopped}
+use Rattle.reader.proofs.CommandLaws.{form-fits}
+use Rattle.reader.proofs.FieldLaws.{fits-parts}
 use Rattle.layout.specs.Layout.{Layout, declaration}
 use Rattle.layout.specs.Meaning.{Page, Comment, Outcome, bind, orStop, outcome, commented, aboveFirst, tokenText}
 use Rattle.layout.specs.Events.{trimmed}
-use Rattle.layout.specs.State.{runOf, run, runs, effect, effects, packed, page, stopOf, struck, moved, Walked, Ended, Sure, Commented, CommentedAbove, declaredAt, DeclaredAt}
-use Rattle.layout.proofs.Steps.{ended, ended-done, ended-after, moved-end, last-sure}
+use Rattle.layout.specs.State.{runOf, run, runs, effect, effects, page, Walked, Sure, Stops, Commented, CommentedAbove, declaredAt, DeclaredAt}
+use Rattle.layout.proofs.Steps.{run-at, packed-absent, wrote-then, wrote-after}
 use Rattle.reader.specs.Tokens.{textOf}
 use Rattle.comments.specs.Above.{commentAbove}
 
@@ -46,45 +45,52 @@ is-gone (some k) t w e = never (cc)
 abbrev declaring : Page → Layout → Layout → Option ℕ → ℕ → Outcome
 declaring p line arm first next = bind (commented (aboveFirst p first) (λ a. outcome p line a) next) (λ a. outcome p arm a)
 
-module _ {p : Page} {tab : ℕ} {s : St} {o m : List ℕ} {line : Layout} {arm : ℕ → Layout} {x : Declaration} where
-  pub declaration-is : {n next : ℕ} {first : Number} {s′ s″ : St} {r : Answer} {o′ m′ o″ m″ : List ℕ} → DeclaredAt (length (p .tokens .starts)) (p .rec) (s .at) x
-      → x ≡ Whole.Is n first next → s′ ≡ moved next s → Ended p tab (commented (aboveFirst p (numberIn first)) (outcome p line)) (runOf s′ o m) (Done s″) o′ m′
-      → Walked p tab (arm n) (runOf s″ o′ m′) r o″ m″ → Walked p tab (declaration line arm) (runOf s o m) r o″ m″
+module _ {words : List ℕ} {p : Page} {a : ℕ} {m o : List ℕ} {line : Layout} {arm : ℕ → Layout} {x : Declaration} where
+  pub declaration-is : {n next r : ℕ} {first : Number} {m′ o′ m″ o″ : List ℕ} → DeclaredAt (length (p .tokens .starts)) (p .rec) a x → x ≡ Whole.Is n first next
+      → CommentedAbove words (p .text) (p .tokens .kinds) (p .tokens .starts) (p .tokens .lengths) (numberIn first) line m o m′ o′
+      → Walked words p (arm n) (runOf next m′ o′) r m″ o″ → Walked words p (declaration line arm) (runOf a m o) r m″ o″
   unfolding runs outcome declaredAt declarationIn orStop
-  declaration-is {n} {next} {first} {s′} e f g h w =
-      let q = is-there (formFits (p .rec) (length (p .tokens .starts)) DecOne (s .at)) (firstToken (p .rec) (s .at)) (s .at + formWidth DecOne) n (numberIn first) next
+  declaration-is {n} {next} {first = first} {m′} {o′} e f h w =
+      let q = is-there (formFits (p .rec) (length (p .tokens .starts)) DecOne a) (firstToken (p .rec) a) (a + formWidth DecOne) n (numberIn first) next
       (sym (ap declarationIn f) ∙ e .is) in
+      let fits = form-fits (p .rec) a DecOne n (fits-parts (p .rec) (length (p .tokens .starts)) DecOne a n (q .0) .0) in
       record {
-        is = ended-done h refl (ended w) .is
-            ∙ sym (rw (q .0, ← q .1, ← q .2) (moved-end p tab next (declaring p line (arm n) (numberIn first)) s s′ o m g));
+        is = λ fair.
+            wrote-then p (commented (aboveFirst p (numberIn first)) (outcome p line)) next m o (λ b. outcome p (arm n) b) (h .is (fair .words-are) (p .rec) next)
+            (w .is (record { words-are = fair .words-are; short = fair .short; cursor = omega (arith, fits, q .2, fair .short) }))
+            ∙ run-at p (declaring p line (arm n) (numberIn first) next) next (runOf a m o)
+            ∙ sym (rw (q .0, ← q .1, ← q .2) refl);
       }
 
-  pub declaration-not : {a : Answer} → a ≡ Stopped s (s .at) false → DeclaredAt (length (p .tokens .starts)) (p .rec) (s .at) x → x ≡ Whole.Not
-      → Walked p tab (declaration line arm) (runOf s o m) a o m
-  unfolding runs outcome run effects stopOf declaredAt declarationIn orStop
-  declaration-not h e f =
-      let q = is-gone (formFits (p .rec) (length (p .tokens .starts)) DecOne (s .at)) (firstToken (p .rec) (s .at)) (s .at + formWidth DecOne) (sym (ap declarationIn f) ∙ e .is) in
-      record { is = ap (λ y. packed y o m) h ∙ rw q refl }
+  pub declaration-not : {r : ℕ} → Stops a r → DeclaredAt (length (p .tokens .starts)) (p .rec) a x → x ≡ Whole.Not
+      → Walked words p (declaration line arm) (runOf a m o) r m o
+  unfolding runs outcome run effects declaredAt declarationIn orStop
+  declaration-not {r} h e f =
+      let q = is-gone (formFits (p .rec) (length (p .tokens .starts)) DecOne a) (firstToken (p .rec) a) (a + formWidth DecOne) (sym (ap declarationIn f) ∙ e .is) in
+      record { is = λ fair. packed-absent a r m o (h .is (fair .cursor)) ∙ rw q refl }
 
 -- ---- the comment above a declaration
-module _ {x kinds starts lens : List ℕ} {tab : ℕ} {line : Layout} {s : St} {o m : List ℕ} where
-  pub comment-skip : {t : Option ℕ} → t ≡ none → CommentedAbove x kinds starts lens tab t line s o m s o m
+module _ {words x kinds starts lens : List ℕ} {line : Layout} {m o : List ℕ} where
+  pub comment-skip : {t : Option ℕ} → t ≡ none → CommentedAbove words x kinds starts lens t line m o m o
   unfolding commented aboveFirst run effects
-  comment-skip e = rw e (record { is = λ r. record { is = refl } })
+  comment-skip e = rw e (record { is = λ h r a. refl })
 
   module _ {t y : Option ℕ} {k : ℕ} (e : t ≡ some k) (f : y ≡ commentAbove kinds k) where
-    pub comment-none : y ≡ none → CommentedAbove x kinds starts lens tab t line s o m s o m
+    pub comment-none : y ≡ none → CommentedAbove words x kinds starts lens t line m o m o
     unfolding commented aboveFirst run effects
     comment-none g =
         let q : commentAbove kinds k ≡ none = sym f ∙ g in
-        rw e (record { is = λ r. record { is = rw (q, commented) refl } })
+        rw e (record { is = λ h r a. rw (q, commented) refl })
 
-    pub comment-some : {j : ℕ} {s′ s″ : St} {o′ o″ m′ : List ℕ} → y ≡ some j → Commented x starts lens tab j s o m s′ o′ m′ → Sure tab line s′ o′ s″ o″
-        → CommentedAbove x kinds starts lens tab t line s o m s″ o″ m′
-    unfolding commented aboveFirst effects effect trimmed tokenText textOf
-    comment-some {j} {s′} {s″} {o′} {o″} {m′} g c w =
+    pub comment-some : {j : ℕ} {m′ o′ m″ o″ : List ℕ} → y ≡ some j → Commented x starts lens j m o m′ o′ → Sure words line m′ o′ m″ o″
+        → CommentedAbove words x kinds starts lens t line m o m″ o″
+    unfolding commented aboveFirst runs effects effect trimmed tokenText textOf
+    comment-some {j} g c w =
         let q : commentAbove kinds k ≡ some j = sym f ∙ g in
-        rw e (record { is = λ r. record { is = rw (q, commented) (ended-after (Comment j ∷ []) (written r) (ended (last-sure w)) .is) } })
-      where
-        written : (r : List ℕ) → runOf s′ o′ m′ ≡ effects (page x r kinds starts lens) tab (Comment j ∷ []) (runOf s o m)
-        written r = ap (λ y. runOf s′ o′ y) (c .left) ∙ ap₂ (λ x y. runOf x y (struck m j)) (c .wrote .st) (c .wrote .out)
+        rw e
+        (record {
+          is = λ h r a.
+              rw (q, commented)
+              (wrote-after (page x r kinds starts lens) (outcome (page x r kinds starts lens) line) a m o (Comment j ∷ []) (ap₂ (λ x y. runOf a x y) (c .is .mem) (c .is .out))
+              (w .is h (page x r kinds starts lens) a));
+        })

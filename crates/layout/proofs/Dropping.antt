@@ -3,7 +3,7 @@ use mathlib.Core.Path.{_≡_, refl, sym, ap, _∙_, subst}
 use mathlib.Core.Bool.{Bool, true, false}
 use mathlib.Core.Option.{Option, none, some}
 use mathlib.Core.List.{List}
-use Prim.Native.Nat.{ℕ, zero, suc}
+use Prim.Native.Nat.{ℕ, zero, suc, _+_, _*_, _≤_, _<_}
 use lib.ListN.{length}
 use Rattle.text.proofs.Laws.{never}
 use Rattle.reader.specs.Fields as Fields
@@ -14,60 +14,95 @@ use Rattle.reader.specs.declared.tree.Checked as Tree
 use Rattle.reader.specs.Commands.{formAt, FormAt}
 use Rattle.reader.specs.Check.{Checked, ok, malformed, tooDeep, endWithin}
 use Rattle.reader.specs.Tree.{checkedIn, FieldsEnd}
-use Rattle.reader.proofs.CommandLaws.{form-not, form-read}
-use Rattle.layout.specs.declared.St.{St}
-use Rattle.layout.specs.declared.Answer.{Answer}
-use Rattle.layout.specs.declared.Answer.the-variants.{Done, Stopped}
+use Rattle.reader.proofs.CommandLaws.{form-not, form-read, form-fits}
 use Rattle.layout.specs.Layout.{Layout, dropped}
 use Rattle.layout.specs.Meaning.{Page, Event, Outcome, done, stopped, Stop, absent, outcome, onwards}
-use Rattle.layout.specs.State.{Run, runOf, at, Ran, went, fell, run, runs, packed, stopOf, moved, Walked, Onwards, onwardsOf}
+use Rattle.layout.specs.State.{Run, runOf, at, effects, Ran, went, fell, run, runs, stopNo, packed, Walked, Stops, Onwards, onwardsOf}
+use Rattle.layout.proofs.Steps.{packed-done, packed-stop, packed-absent}
+use Rattle.reader.proofs.Bounded.{Below, end-below}
+use borrow.Author.Tests.{lt-ltb, le-ltb, ltb-true, ltb-false}
+use native.Mathlib.Omega.{arith}
+use lib.Dec.{ltb}
 use Rattle.layout.specs.Walk.{walks}
 
 -- ---- the code
-module _ {r : List ℕ} {count left at : ℕ} {a : Answer} where
-  pub onwards-done : {s : St} → a ≡ Done s → Onwards r count left at a a
+module _ {r : List ℕ} {count left a n : ℕ} where
+  pub onwards-done : n < stopNo → Onwards r count left a n n
   unfolding onwardsOf
-  onwards-done e = record { is = e ∙ sym (ap (onwardsOf r count left at) e) }
+  onwards-done t = record { is = λ short. sym (rw (lt-ltb n stopNo t) refl) }
 
-  module _ {s : St} {place : ℕ} {import : Bool} {x : Number} (e : a ≡ Stopped s place import) (f : FormAt Case.Ty r at x) where
-    pub onwards-none : x ≡ Number.Not → Onwards r count left at a (Stopped s place import)
+  module _ {x : Number} (t : stopNo ≤ n) (f : FormAt Case.Ty r a x) where
+    pub onwards-none : x ≡ Number.Not → Onwards r count left a n n
     unfolding onwardsOf
-    onwards-none g = record { is = rw (e, form-not f g, onwardsOf) refl }
+    onwards-none g = record { is = λ short. sym (rw (le-ltb n stopNo t, form-not f g) refl) }
 
-    module _ {k : ℕ} {y : Tree.Checked} (g : x ≡ Number.Is k) (h : FieldsEnd r count left true (Fields.form Ty) at y) where
-      pub onwards-ok : {next : ℕ} {s′ : St} → y ≡ Tree.Checked.Ok next → s′ ≡ moved next s → Onwards r count left at a (Done s′)
-      unfolding onwardsOf
-      onwards-ok i j = record { is = rw (e, form-read f g, sym (h .is) ∙ ap checkedIn i, j, onwardsOf) refl }
+    module _ {k : ℕ} {y : Tree.Checked} (g : x ≡ Number.Is k) (h : FieldsEnd r count left true (Fields.form Ty) a y) where
+      -- The check ends below the numbers of stops, as the type stands in the record.
+      inside : length r < stopNo → Below stopNo (checkedIn y)
+      inside short = subst (Below stopNo) (sym (h .is)) (end-below r count stopNo short left (Fields.form Ty) a (omega (arith, form-fits r a Ty k (form-read f g))))
 
-      pub onwards-malformed : {other : ℕ} → y ≡ Tree.Checked.Malformed other → Onwards r count left at a (Stopped s other false)
+      pub onwards-ok : {next : ℕ} → y ≡ Tree.Checked.Ok next → Onwards r count left a n next
       unfolding onwardsOf
-      onwards-malformed i = record { is = rw (e, form-read f g, sym (h .is) ∙ ap checkedIn i, onwardsOf) refl }
+      onwards-ok i = record { is = λ short. sym (rw (le-ltb n stopNo t, form-read f g, sym (h .is) ∙ ap checkedIn i) refl) }
 
-      pub onwards-deep : {other : ℕ} → y ≡ Tree.Checked.TooDeep other → Onwards r count left at a (Stopped s other false)
+      pub onwards-malformed : {place s : ℕ} → y ≡ Tree.Checked.Malformed place → Stops place s → Onwards r count left a n s
       unfolding onwardsOf
-      onwards-deep i = record { is = rw (e, form-read f g, sym (h .is) ∙ ap checkedIn i, onwardsOf) refl }
+      onwards-malformed i j =
+          record {
+            is = λ short.
+                j .is (subst (λ z. Below stopNo (checkedIn z)) i (inside short))
+                ∙ sym (rw (le-ltb n stopNo t, form-read f g, sym (h .is) ∙ ap checkedIn i) refl);
+          }
+
+      pub onwards-deep : {place s : ℕ} → y ≡ Tree.Checked.TooDeep place → Stops place s → Onwards r count left a n s
+      unfolding onwardsOf
+      onwards-deep i j =
+          record {
+            is = λ short.
+                j .is (subst (λ z. Below stopNo (checkedIn z)) i (inside short))
+                ∙ sym (rw (le-ltb n stopNo t, form-read f g, sym (h .is) ∙ ap checkedIn i) refl);
+          }
 
 -- ---- the walk
 abbrev under : Ran → Run
 under (went g) = g
 under (fell why g) = g
 
-module _ (p : Page) (tab : ℕ) where
-  dropped-run : (a : Answer) (x : Outcome) (left i : ℕ) (o m : List ℕ) (g : Run) → packed a o m ≡ run p tab x g
-      → packed (onwardsOf (p .rec) (length (p .tokens .starts)) left i a) o m ≡ run p tab (onwards p left i x) g
-  unfolding onwardsOf onwards run stopOf
-  dropped-run (Done s) (done next es) left i o m g h = h
-  dropped-run (Done s) (stopped why es) left i o m g h = never (cc)
-  dropped-run (Stopped s place import) (done next es) left i o m g h = never (cc)
-  dropped-run (Stopped s place import) (stopped why es) left i o m g h =
-      go (formAt (p .rec) Ty i) refl (endWithin (p .rec) (length (p .tokens .starts)) left (Fields.form Ty) i) refl
+module _ (p : Page) (left a : ℕ) (short : length (p .rec) < stopNo) where
+  abbrev ends : Checked
+  ends = endWithin (p .rec) (length (p .tokens .starts)) left (Fields.form Ty) a
+
+  -- A type that stopped, by what the check says of it.
+  fallen : (n : ℕ) (why : Stop) (es : List Event) (m o : List ℕ) (g : Run) → stopNo ≤ n → packed n m o ≡ run p (stopped why es) g
+      → (f : Option ℕ) → formAt (p .rec) Ty a ≡ f → (e : Checked) → ends ≡ e → ((k : ℕ) → f ≡ some k → Below stopNo e)
+      → packed (onwardsOf (p .rec) (length (p .tokens .starts)) left a n) m o ≡ run p (onwards p left a (stopped why es)) g
+  unfolding onwardsOf onwards run
+  fallen n why es m o g i h none d e q b = rw (le-ltb n stopNo i, d, onwards) h
+  fallen n why es m o g i h (some k) d (ok next) q b =
+      let u = sym (packed-stop n m o i) ∙ h in
+      rw (le-ltb n stopNo i, d, q, onwards) (packed-done next m o (b k refl) ∙ ap (λ x. went (at next (under x))) u)
+  fallen n why es m o g i h (some k) d (malformed place) q b =
+      let u = sym (packed-stop n m o i) ∙ h in
+      rw (le-ltb n stopNo i, d, q, onwards) (packed-absent place _ m o refl ∙ ap (λ x. fell (absent place) (under x)) u)
+  fallen n why es m o g i h (some k) d (tooDeep place) q b =
+      let u = sym (packed-stop n m o i) ∙ h in
+      rw (le-ltb n stopNo i, d, q, onwards) (packed-absent place _ m o refl ∙ ap (λ x. fell (absent place) (under x)) u)
+
+  dropped-run : (n : ℕ) (x : Outcome) (m o : List ℕ) (g : Run) → a < stopNo → packed n m o ≡ run p x g
+      → packed (onwardsOf (p .rec) (length (p .tokens .starts)) left a n) m o ≡ run p (onwards p left a x) g
+  unfolding onwardsOf onwards run
+  dropped-run n (done next es) m o g c h = go (ltb n stopNo) refl
     where
-      go : (f : Option ℕ) → formAt (p .rec) Ty i ≡ f → (e : Checked) → endWithin (p .rec) (length (p .tokens .starts)) left (Fields.form Ty) i ≡ e
-          → packed (onwardsOf (p .rec) (length (p .tokens .starts)) left i (Stopped s place import)) o m ≡ run p tab (onwards p left i (stopped why es)) g
-      go none d e q = rw (d, onwardsOf, onwards) h
-      go (some n) d (ok next) q = rw (d, q, onwardsOf, onwards) (ap (λ x. went (at next (under x))) h)
-      go (some n) d (malformed other) q = rw (d, q, onwardsOf, onwards) (ap (λ x. fell (absent other) (under x)) h)
-      go (some n) d (tooDeep other) q = rw (d, q, onwardsOf, onwards) (ap (λ x. fell (absent other) (under x)) h)
+      go : (b : Bool) → ltb n stopNo ≡ b → packed (onwardsOf (p .rec) (length (p .tokens .starts)) left a n) m o ≡ went (at next (effects p es g))
+      go true e = rw e h
+      go false e = let u = sym (packed-stop n m o (ltb-false n stopNo e)) ∙ h in never (cc)
+  dropped-run n (stopped why es) m o g c h = go (ltb n stopNo) refl
+    where
+      go : (b : Bool) → ltb n stopNo ≡ b → packed (onwardsOf (p .rec) (length (p .tokens .starts)) left a n) m o ≡ run p (onwards p left a (stopped why es)) g
+      go true e = let u = sym (packed-done n m o (ltb-true n stopNo e)) ∙ h in never (cc)
+      go false e =
+          fallen n why es m o g (ltb-false n stopNo e) h (formAt (p .rec) Ty a) refl ends refl
+          (λ k f. end-below (p .rec) (length (p .tokens .starts)) stopNo short left (Fields.form Ty) a c)
 
 -- The walks have as many forms left as their number says.
 pub left-is : (n : ℕ) → walks n .left ≡ n
@@ -75,9 +110,11 @@ unfolding walks
 left-is zero = refl
 left-is (suc n) = refl
 
-pub dropped-by : {p : Page} {tab n : ℕ} {w : Layout} {s : St} {o m o′ m′ : List ℕ} {a b : Answer} → Walked p tab w (runOf s o m) a o′ m′
-    → Onwards (p .rec) (length (p .tokens .starts)) n (s .at) a b → Walked p tab (dropped (walks n .left) w) (runOf s o m) b o′ m′
+pub dropped-by : {words : List ℕ} {p : Page} {n : ℕ} {w : Layout} {a r s : ℕ} {m o m′ o′ : List ℕ} → Walked words p w (runOf a m o) r m′ o′
+    → Onwards (p .rec) (length (p .tokens .starts)) n a r s → Walked words p (dropped (walks n .left) w) (runOf a m o) s m′ o′
 unfolding runs outcome
-dropped-by {p} {tab} {n} {w} {s} {o} {m} {o′} {m′} {a} {b} e f =
-    subst (λ (l : ℕ). Walked p tab (dropped l w) (runOf s o m) b o′ m′) (sym (left-is n))
-    (record { is = ap (λ x. packed x o′ m′) (f .is) ∙ dropped-run p tab a (outcome p w (s .at)) n (s .at) o′ m′ (runOf s o m) (e .is) })
+dropped-by {words} {p} {n} {w} {a} {r} {s} {m} {o} {m′} {o′} e f =
+    subst (λ (l : ℕ). Walked words p (dropped l w) (runOf a m o) s m′ o′) (sym (left-is n))
+    (record {
+      is = λ fair. ap (λ x. packed x m′ o′) (f .is (fair .short)) ∙ dropped-run p n a (fair .short) r (outcome p w a) m′ o′ (runOf a m o) (fair .cursor) (e .is fair);
+    })

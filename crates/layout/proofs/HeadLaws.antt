@@ -1,6 +1,6 @@
 -- Laws of what AppExp sees of its expressions.
 use mathlib.Core.Path.{_≡_, refl, sym, ap, _∙_}
-use mathlib.Core.Bool.{Bool, false}
+use mathlib.Core.Bool.{Bool}
 use mathlib.Core.List.{List}
 use Prim.Native.Nat.{ℕ, _+_}
 use lib.ListN.{length}
@@ -14,16 +14,14 @@ use Rattle.reader.specs.declared.tree.Checked as Tree
 use Rattle.reader.specs.Commands.{FormAt}
 use Rattle.reader.specs.Tree.{checkedIn, Ends}
 use Rattle.reader.proofs.CommandLaws.{form-not, form-read}
-use Rattle.layout.specs.declared.St.{St}
-use Rattle.layout.specs.declared.Answer.{Answer}
-use Rattle.layout.specs.declared.Answer.the-variants.{Stopped}
 use Rattle.layout.specs.declared.names.Name as Code
 use Rattle.layout.specs.declared.looks.Head as Looks
 use Rattle.layout.specs.declared.looks.BothSeen as Both
 use Rattle.layout.specs.Layout.{Layout, application}
 use Rattle.layout.specs.Meaning.{Page, opPathName, Head, pathExp, otherExp, Seen, seen, unseen, headOf, Heads, missing, bothSeen, headsFrom, headsAt, funcIsBang, argIsSymbolic, outcome}
-use Rattle.layout.specs.State.{runOf, run, runs, effects, packed, page, stopOf, Walked, nameIn, headIn, headsIn, BangIs, SymbolicIs}
-use Rattle.layout.proofs.Steps.{Same}
+use Rattle.layout.specs.State.{runOf, run, runs, effects, page, Walked, Stops, nameIn, headIn, headsIn, BangIs, SymbolicIs}
+use Rattle.layout.proofs.Steps.{Same, packed-absent}
+use Rattle.layout.proofs.HeadPlaces.{missing-below}
 
 -- ---- one expression
 module _ (rec : List ℕ) (n fields : ℕ) where
@@ -73,17 +71,19 @@ module _ {rec : List ℕ} {func : ℕ} {x : Number} (e : FormAt Case.Exp rec fun
     at-deep i = rw (form-read e f, headsAt, sym (h .is) ∙ ap checkedIn i) refl
 
 -- ---- the walk
-module _ {x r kinds starts lens : List ℕ} {tab : ℕ} {s : St} {o m : List ℕ} {k : Bool → Bool → Layout} {y : Both.BothSeen} (e : headsIn y ≡ headsAt r (length starts) (s .at)) where
-  pub application-is : {f a : Looks.Head} {b c : Bool} → y ≡ Both.BothSeen.Are f a → BangIs x starts lens (headIn f) b → SymbolicIs x starts lens (headIn a) c
-      → Same (page x r kinds starts lens) tab (application k) (runOf s o m) (k b c) (runOf s o m)
+module _ {words x r kinds starts lens : List ℕ} {a : ℕ} {m o : List ℕ} {k : Bool → Bool → Layout} {y : Both.BothSeen} (e : headsIn y ≡ headsAt r (length starts) a) where
+  pub application-is : {f g : Looks.Head} {b c : Bool} → y ≡ Both.BothSeen.Are f g → BangIs x starts lens (headIn f) b → SymbolicIs x starts lens (headIn g) c
+      → Same words (page x r kinds starts lens) (application k) (runOf a m o) (k b c) (runOf a m o)
   unfolding runs outcome
-  application-is {f} {a} {b} {c} h i j =
+  application-is {f} {g} {b} {c} h i j =
       let q = sym e ∙ ap headsIn h in
-      record { is = rw (q, outcome, ← i .is r kinds, ← j .is r kinds) refl }
+      record { on = λ fair. fair .cursor; is = λ fair. rw (q, outcome, ← i .is r kinds, ← j .is r kinds) refl }
 
-  pub application-missing : {place : ℕ} {a : Answer} → y ≡ Both.BothSeen.Missing place → a ≡ Stopped s place false
-      → Walked (page x r kinds starts lens) tab (application k) (runOf s o m) a o m
-  unfolding runs outcome run effects stopOf
-  application-missing f h =
+  pub application-missing : {place n : ℕ} → y ≡ Both.BothSeen.Missing place → Stops place n
+      → Walked words (page x r kinds starts lens) (application k) (runOf a m o) n m o
+  unfolding runs outcome run effects
+  application-missing {place} {n} f h =
       let q = sym e ∙ ap headsIn f in
-      record { is = ap (λ y. packed y o m) h ∙ rw (q, outcome) refl }
+      record {
+        is = λ fair. packed-absent place n m o (h .is (missing-below r (length starts) (fair .short) (fair .cursor) q)) ∙ rw (q, outcome) refl;
+      }

@@ -1,22 +1,18 @@
 -- The walks of the families, by how many forms may still stand inside one another.
 use native.Mathlib.Omega.{arith}
 use mathlib.Core.Path.{_≡_, sym, subst}
-use mathlib.Core.Bool.{false}
 use mathlib.Core.List.{List}
 use Prim.Native.Nat.{ℕ, suc, _-_, _≤_}
 use lib.ListN.{length, getD, List·getD-eq-default}
 use Rattle.reader.specs.Fields.{Ty, Pat, Exp, StrExp, SigExp}
 use Rattle.reader.specs.Commands.{familyOf}
 use Rattle.reader.specs.declared.commands.Family as Code
-use Rattle.layout.specs.declared.St.{St}
-use Rattle.layout.specs.declared.Answer.{Answer}
-use Rattle.layout.specs.declared.Answer.the-variants.{Stopped}
 use Rattle.layout.specs.declared.fields.Read.{Read}
 use Rattle.layout.specs.declared.fields.Read.the-variants.{Is}
 use Rattle.layout.specs.Layout.{Layout, form, declaration, halt}
 use Rattle.layout.specs.Helpers.{Cfg}
 use Rattle.layout.specs.Meaning.{Page}
-use Rattle.layout.specs.State.{Run, runOf, Walked, FormRead}
+use Rattle.layout.specs.State.{Run, runOf, Walked, Stops, FormRead}
 use Rattle.layout.specs.Walk.{walks}
 use Rattle.layout.specs.Ty.{tys}
 use Rattle.layout.specs.Pat.{pats}
@@ -30,82 +26,79 @@ use Rattle.layout.proofs.Steps.{by-same, form-is, last-halt}
 pub past : {k n : ℕ} → k ≤ n → (n ≡ k → ⊥) → suc k ≤ n
 past h e = omega (arith, e)
 
-module _ {p : Page} {tab : ℕ} where
-  halted : {s : St} {o m : List ℕ} {a : Answer} → a ≡ Stopped s (s .at) false → Walked p tab halt (runOf s o m) a o m
-  halted {s} {o} {m} e = subst (λ x. Walked p tab halt (runOf s o m) x o m) (sym e) last-halt
-
+module _ {words : List ℕ} {p : Page} where
   -- No arm has the number.
-  pub beyond : (arms : List Layout) (n k : ℕ) {s : St} {o m : List ℕ} {a : Answer} → length arms ≡ k → k ≤ n → a ≡ Stopped s (s .at) false
-      → Walked p tab (getD arms n halt) (runOf s o m) a o m
-  beyond arms n k {s} {o} {m} {a} l h e =
-      subst (λ w. Walked p tab w (runOf s o m) a o m) (sym (List·getD-eq-default arms halt (omega (arith, l)))) (halted e)
+  pub beyond : (arms : List Layout) (n k : ℕ) {a r : ℕ} {m o : List ℕ} → length arms ≡ k → k ≤ n → Stops a r
+      → Walked words p (getD arms n halt) (runOf a m o) r m o
+  beyond arms n k {a} {r} {m} {o} l h e =
+      subst (λ w. Walked words p w (runOf a m o) r m o) (sym (List·getD-eq-default arms halt (omega (arith, l)))) (last-halt e)
 
   -- The layout of the number that was matched.
-  pub at-key : (f : ℕ → Layout) {n key : ℕ} {g : Run} {r : Answer} {o m : List ℕ} → n ≡ key → Walked p tab (f key) g r o m → Walked p tab (f n) g r o m
-  at-key f {g = g} {r = r} {o = o} {m = m} h w = subst (λ i. Walked p tab (f i) g r o m) (sym h) w
+  pub at-key : (f : ℕ → Layout) {n key : ℕ} {g : Run} {r : ℕ} {m o : List ℕ} → n ≡ key → Walked words p (f key) g r m o → Walked words p (f n) g r m o
+  at-key f {g = g} {r = r} {m = m} {o = o} h w = subst (λ i. Walked words p (f i) g r m o) (sym h) w
 
   -- The arm of the number that was read.
-  pub form-key : {family : Code.Family} {k : ℕ → Layout} {n key : ℕ} {s s′ : St} {o m o′ m′ : List ℕ} {x : Read} {r : Answer} → FormRead family (p .rec) s x
-      → x ≡ Is n s′ → n ≡ key → Walked p tab (k key) (runOf s′ o m) r o′ m′ → Walked p tab (form (familyOf family) k) (runOf s o m) r o′ m′
-  form-key {k = k} {s′ = s′} {o = o} {m = m} {o′ = o′} {m′ = m′} {r = r} e f h w =
-      by-same (form-is e f) (subst (λ i. Walked p tab (k i) (runOf s′ o m) r o′ m′) (sym h) w)
+  pub form-key : {family : Code.Family} {k : ℕ → Layout} {n key a b r : ℕ} {m o m′ o′ : List ℕ} {x : Read} → FormRead family (p .rec) a x
+      → x ≡ Is n b → n ≡ key → Walked words p (k key) (runOf b m o) r m′ o′ → Walked words p (form (familyOf family) k) (runOf a m o) r m′ o′
+  form-key {k = k} {b = b} {r = r} {m = m} {o = o} {m′ = m′} {o′ = o′} e f h w =
+      by-same (form-is e f) (subst (λ i. Walked words p (k i) (runOf b m o) r m′ o′) (sym h) w)
 
-  pub ty-zero : (n : ℕ) {s : St} {o m : List ℕ} {a : Answer} → n ≡ 0 → a ≡ Stopped s (s .at) false → Walked p tab (walks n .get-ty) (runOf s o m) a o m
+  pub ty-zero : (n : ℕ) {a r : ℕ} {m o : List ℕ} → n ≡ 0 → Stops a r → Walked words p (walks n .get-ty) (runOf a m o) r m o
   unfolding walks
-  ty-zero n {s} {o} {m} {a} e f = subst (λ n. Walked p tab (walks n .get-ty) (runOf s o m) a o m) (sym e) (halted f)
+  ty-zero n {a} {r} {m} {o} e f = subst (λ n. Walked words p (walks n .get-ty) (runOf a m o) r m o) (sym e) (last-halt f)
 
-  pub ty-form : (n : ℕ) {g : Run} {r : Answer} {o m : List ℕ} → (n ≡ 0 → ⊥) → Walked p tab (form Ty (λ k. getD (tys (walks (n - 1))) k halt)) g r o m → Walked p tab (walks n .get-ty) g r o m
+  pub ty-form : (n : ℕ) {g : Run} {r : ℕ} {m o : List ℕ} → (n ≡ 0 → ⊥) → Walked words p (form Ty (λ k. getD (tys (walks (n - 1))) k halt)) g r m o → Walked words p (walks n .get-ty) g r m o
   unfolding walks
-  ty-form n {g} {r} {o} {m} e w =
+  ty-form n {g} {r} {m} {o} e w =
       let q : n ≡ suc (n - 1) = omega arith in
-      subst (λ n. Walked p tab (walks n .get-ty) g r o m) (sym q) w
+      subst (λ n. Walked words p (walks n .get-ty) g r m o) (sym q) w
 
-  pub pat-zero : (n : ℕ) {s : St} {o m : List ℕ} {a : Answer} → n ≡ 0 → a ≡ Stopped s (s .at) false → Walked p tab (walks n .get-pat) (runOf s o m) a o m
+  pub pat-zero : (n : ℕ) {a r : ℕ} {m o : List ℕ} → n ≡ 0 → Stops a r → Walked words p (walks n .get-pat) (runOf a m o) r m o
   unfolding walks
-  pat-zero n {s} {o} {m} {a} e f = subst (λ n. Walked p tab (walks n .get-pat) (runOf s o m) a o m) (sym e) (halted f)
+  pat-zero n {a} {r} {m} {o} e f = subst (λ n. Walked words p (walks n .get-pat) (runOf a m o) r m o) (sym e) (last-halt f)
 
-  pub pat-form : (n : ℕ) {g : Run} {r : Answer} {o m : List ℕ} → (n ≡ 0 → ⊥) → Walked p tab (form Pat (λ k. getD (pats (walks (n - 1))) k halt)) g r o m → Walked p tab (walks n .get-pat) g r o m
+  pub pat-form : (n : ℕ) {g : Run} {r : ℕ} {m o : List ℕ} → (n ≡ 0 → ⊥) → Walked words p (form Pat (λ k. getD (pats (walks (n - 1))) k halt)) g r m o → Walked words p (walks n .get-pat) g r m o
   unfolding walks
-  pat-form n {g} {r} {o} {m} e w =
+  pat-form n {g} {r} {m} {o} e w =
       let q : n ≡ suc (n - 1) = omega arith in
-      subst (λ n. Walked p tab (walks n .get-pat) g r o m) (sym q) w
+      subst (λ n. Walked words p (walks n .get-pat) g r m o) (sym q) w
 
-  pub exp-zero : (n : ℕ) (c : Cfg) {s : St} {o m : List ℕ} {a : Answer} → n ≡ 0 → a ≡ Stopped s (s .at) false → Walked p tab (walks n .get-exp c) (runOf s o m) a o m
+  pub exp-zero : (n : ℕ) (c : Cfg) {a r : ℕ} {m o : List ℕ} → n ≡ 0 → Stops a r → Walked words p (walks n .get-exp c) (runOf a m o) r m o
   unfolding walks
-  exp-zero n c {s} {o} {m} {a} e f = subst (λ n. Walked p tab (walks n .get-exp c) (runOf s o m) a o m) (sym e) (halted f)
+  exp-zero n c {a} {r} {m} {o} e f = subst (λ n. Walked words p (walks n .get-exp c) (runOf a m o) r m o) (sym e) (last-halt f)
 
-  pub exp-form : (n : ℕ) (c : Cfg) {g : Run} {r : Answer} {o m : List ℕ} → (n ≡ 0 → ⊥) → Walked p tab (form Exp (λ k. getD (exps (walks (n - 1)) c) k halt)) g r o m → Walked p tab (walks n .get-exp c) g r o m
+  pub exp-form : (n : ℕ) (c : Cfg) {g : Run} {r : ℕ} {m o : List ℕ} → (n ≡ 0 → ⊥) → Walked words p (form Exp (λ k. getD (exps (walks (n - 1)) c) k halt)) g r m o → Walked words p (walks n .get-exp c) g r m o
   unfolding walks
-  exp-form n c {g} {r} {o} {m} e w =
+  exp-form n c {g} {r} {m} {o} e w =
       let q : n ≡ suc (n - 1) = omega arith in
-      subst (λ n. Walked p tab (walks n .get-exp c) g r o m) (sym q) w
+      subst (λ n. Walked words p (walks n .get-exp c) g r m o) (sym q) w
 
-  pub str-zero : (n : ℕ) (c : Cfg) {s : St} {o m : List ℕ} {a : Answer} → n ≡ 0 → a ≡ Stopped s (s .at) false → Walked p tab (walks n .get-str-exp c) (runOf s o m) a o m
+  pub str-zero : (n : ℕ) (c : Cfg) {a r : ℕ} {m o : List ℕ} → n ≡ 0 → Stops a r → Walked words p (walks n .get-str-exp c) (runOf a m o) r m o
   unfolding walks
-  str-zero n c {s} {o} {m} {a} e f = subst (λ n. Walked p tab (walks n .get-str-exp c) (runOf s o m) a o m) (sym e) (halted f)
+  str-zero n c {a} {r} {m} {o} e f = subst (λ n. Walked words p (walks n .get-str-exp c) (runOf a m o) r m o) (sym e) (last-halt f)
 
-  pub str-form : (n : ℕ) (c : Cfg) {g : Run} {r : Answer} {o m : List ℕ} → (n ≡ 0 → ⊥) → Walked p tab (form StrExp (λ k. getD (str-exps (walks (n - 1)) c) k halt)) g r o m → Walked p tab (walks n .get-str-exp c) g r o m
+  pub str-form : (n : ℕ) (c : Cfg) {g : Run} {r : ℕ} {m o : List ℕ} → (n ≡ 0 → ⊥) → Walked words p (form StrExp (λ k. getD (str-exps (walks (n - 1)) c) k halt)) g r m o → Walked words p (walks n .get-str-exp c) g r m o
   unfolding walks
-  str-form n c {g} {r} {o} {m} e w =
+  str-form n c {g} {r} {m} {o} e w =
       let q : n ≡ suc (n - 1) = omega arith in
-      subst (λ n. Walked p tab (walks n .get-str-exp c) g r o m) (sym q) w
+      subst (λ n. Walked words p (walks n .get-str-exp c) g r m o) (sym q) w
 
-  pub sig-zero : (n : ℕ) (c : Cfg) {s : St} {o m : List ℕ} {a : Answer} → n ≡ 0 → a ≡ Stopped s (s .at) false → Walked p tab (walks n .get-sig-exp c) (runOf s o m) a o m
+  pub sig-zero : (n : ℕ) (c : Cfg) {a r : ℕ} {m o : List ℕ} → n ≡ 0 → Stops a r → Walked words p (walks n .get-sig-exp c) (runOf a m o) r m o
   unfolding walks
-  sig-zero n c {s} {o} {m} {a} e f = subst (λ n. Walked p tab (walks n .get-sig-exp c) (runOf s o m) a o m) (sym e) (halted f)
+  sig-zero n c {a} {r} {m} {o} e f = subst (λ n. Walked words p (walks n .get-sig-exp c) (runOf a m o) r m o) (sym e) (last-halt f)
 
-  pub sig-form : (n : ℕ) (c : Cfg) {g : Run} {r : Answer} {o m : List ℕ} → (n ≡ 0 → ⊥) → Walked p tab (form SigExp (λ k. getD (sig-exps (walks (n - 1)) c) k halt)) g r o m → Walked p tab (walks n .get-sig-exp c) g r o m
+  pub sig-form : (n : ℕ) (c : Cfg) {g : Run} {r : ℕ} {m o : List ℕ} → (n ≡ 0 → ⊥) → Walked words p (form SigExp (λ k. getD (sig-exps (walks (n - 1)) c) k halt)) g r m o → Walked words p (walks n .get-sig-exp c) g r m o
   unfolding walks
-  sig-form n c {g} {r} {o} {m} e w =
+  sig-form n c {g} {r} {m} {o} e w =
       let q : n ≡ suc (n - 1) = omega arith in
-      subst (λ n. Walked p tab (walks n .get-sig-exp c) g r o m) (sym q) w
+      subst (λ n. Walked words p (walks n .get-sig-exp c) g r m o) (sym q) w
 
-  pub dec-zero : (n : ℕ) (c : Cfg) {s : St} {o m : List ℕ} {a : Answer} → n ≡ 0 → a ≡ Stopped s (s .at) false → Walked p tab (walks n .get-dec-one c) (runOf s o m) a o m
+  pub dec-zero : (n : ℕ) (c : Cfg) {a r : ℕ} {m o : List ℕ} → n ≡ 0 → Stops a r → Walked words p (walks n .get-dec-one c) (runOf a m o) r m o
   unfolding walks
-  dec-zero n c {s} {o} {m} {a} e f = subst (λ n. Walked p tab (walks n .get-dec-one c) (runOf s o m) a o m) (sym e) (halted f)
+  dec-zero n c {a} {r} {m} {o} e f = subst (λ n. Walked words p (walks n .get-dec-one c) (runOf a m o) r m o) (sym e) (last-halt f)
 
-  pub dec-form : (n : ℕ) (c : Cfg) {g : Run} {r : Answer} {o m : List ℕ} → (n ≡ 0 → ⊥) → Walked p tab (declaration (comment-line c) (λ k. getD (decs (walks (n - 1)) c) k halt)) g r o m → Walked p tab (walks n .get-dec-one c) g r o m
+  pub dec-form : (n : ℕ) (c : Cfg) {g : Run} {r : ℕ} {m o : List ℕ} → (n ≡ 0 → ⊥) → Walked words p (declaration (comment-line c) (λ k. getD (decs (walks (n - 1)) c) k halt)) g r m o → Walked words p (walks n .get-dec-one c) g r m o
   unfolding walks
-  dec-form n c {g} {r} {o} {m} e w =
+  dec-form n c {g} {r} {m} {o} e w =
       let q : n ≡ suc (n - 1) = omega arith in
-      subst (λ n. Walked p tab (walks n .get-dec-one c) g r o m) (sym q) w
+      subst (λ n. Walked words p (walks n .get-dec-one c) g r m o) (sym q) w

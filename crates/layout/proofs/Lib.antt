@@ -4,6 +4,7 @@ pub mod Reading
 pub mod NameLaws
 pub mod LookLaws
 pub mod Steps
+pub mod HeadPlaces
 pub mod HeadLaws
 pub mod DecLaws
 pub mod Dropping

@@ -9,6 +9,7 @@ use lib.ListN.{length, take, drop, length-drop, drop-of-length-le}
 use lib.Seq.{take-all, take-nil}
 use Rattle.text.specs.Bytes.{bytes}
 use Rattle.layout.specs.Words.{wordText, takeText, dropText, wordOf, wordRun}
+use Rattle.layout.specs.State.{Put}
 
 -- ---- a part, as far as it is there
 pub part-past : (s : List ℕ) (a n : ℕ) → length s ≤ a → take (length s - length s) (drop (length s) s) ≡ take n (drop a s)
@@ -43,3 +44,10 @@ pub word-in : (place : ℕ) → take (place % 16) (drop (place / 16) wordRun) �
 unfolding wordRun
 word-in place =
     ap (take (place % 16)) (drop-bytes (place / 16) wordText) ∙ take-bytes (place % 16) (dropText (place / 16) wordText)
+
+-- ---- the piece that is written
+pub put-same : {v w m o m′ o′ : List ℕ} → v ≡ w → Put v m o m′ o′ → Put w m o m′ o′
+put-same e f = rw e at f
+
+pub put-behind : {w m₀ m o m′ o′ : List ℕ} → m ≡ m₀ → Put w m o m′ o′ → Put w m₀ o m′ o′
+put-behind e f = rw e at f

@@ -1,13 +1,14 @@
--- Laws of writing into a lent output: a piece or spaces at an offset, and what a turn of the loops that do it leaves.
+-- Laws of writing: a piece or spaces at an offset of a lent output, what a turn of the loops that do it leaves, and what becomes of the lent words.
 use native.Mathlib.Omega.{arith}
 use native.Mathlib.Numerals.{add-one}
 use mathlib.Core.Path.{_≡_, refl, sym, ap, _∙_}
 use mathlib.Core.List.{List}
-use Prim.Native.Nat.{ℕ, _+_, _-_, _≤_, _<_}
+use Prim.Native.Nat.{ℕ, _+_, _-_, _/_, _%_, _≤_, _<_}
 use lib.ListN.{length, set, getD, replicate, length-replicate, getD-replicate}
 use lib.Seq.{paste, paste-suc}
-use borrow.Author.Tests.{le-leb, lt-leb}
-use Rattle.layout.specs.State.{placed, spaced}
+use borrow.Author.Tests.{le-leb, lt-leb, lt-ltb, le-ltb}
+use Rattle.comments.specs.Set.{clear}
+use Rattle.layout.specs.State.{sumOf, placeAt, lettersIn, unitsIn, tabIn, placeIn, placed, spaced, struck, Put, Indented}
 
 pub placed-yes : (o : List ℕ) (at : ℕ) (w : List ℕ) → at + length w ≤ length o → placed o at w ≡ paste o at w (length w)
 placed-yes o at w h = simp (le-leb _ _ h)
@@ -35,3 +36,17 @@ space-turn o₀ o at end p h e k l =
     let v : getD w (p - at) 0 ≡ 32 = getD-replicate (end - at) (p - at) 32 0 (omega arith) in
     let q : p + 1 - at ≡ p - at + 1 = omega arith in
     rw q (ap (set o p) (sym v) ∙ copy-turn o₀ o w at (p - at) p (omega arith) e (omega arith) (omega arith))
+
+-- ---- the lent words
+pub put-is : {w m o o′ : List ℕ} {at x : ℕ} → at ≡ placeIn m → o′ ≡ placed o at w → x ≡ sumOf (lettersIn m) (length w) → Put w m o (set m 0 x) o′
+put-is {m = m} e f g = record { mem = ap (set m 0) g; out = rw e at f }
+
+pub indent-is : {m o o′ : List ℕ} {d at end x : ℕ} → x ≡ sumOf (unitsIn m) d → at ≡ placeIn m → end ≡ placeAt (tabIn m) (lettersIn m) x → o′ ≡ spaced o at end
+    → Indented d m o (set m 1 x) o′
+indent-is {m} e f g h = record { mem = ap (set m 1) e; out = rw (f, g, e) at h }
+
+pub struck-is : (m : List ℕ) (k : ℕ) {x : ℕ} → k / 64 < 64 → x ≡ clear (getD m (4 + k / 64) 0) (k % 64) → set m (4 + k / 64) x ≡ struck m k
+struck-is m k h e = rw (lt-ltb _ _ h) (ap (set m (4 + k / 64)) e)
+
+pub struck-not : (m : List ℕ) (k : ℕ) → 64 ≤ k / 64 → m ≡ struck m k
+struck-not m k h = rw (le-ltb _ _ h) refl

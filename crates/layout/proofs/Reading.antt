@@ -16,13 +16,10 @@ use Rattle.reader.specs.declared.commands.Declaration.{Declaration}
 use Rattle.reader.specs.declared.commands.Declaration.the-variants as Whole
 use Rattle.reader.proofs.CommandLaws as Commands
 use Rattle.reader.proofs.CommandLaws.{read-not, read-is, form-not, form-read}
-use Rattle.layout.specs.declared.St.{St}
-use Rattle.layout.specs.declared.Answer.{Answer}
-use Rattle.layout.specs.declared.Answer.the-variants.{Done, Stopped}
 use Rattle.layout.specs.declared.fields.Read.{Read}
 use Rattle.layout.specs.declared.fields.Gone.{Gone}
 use Rattle.layout.specs.declared.fields.Given.{Given}
-use Rattle.layout.specs.State.{moved, readOf, ReadAt, FormRead, groupOf, GroupRead, goneOf, GoneRead, presentOf, PresentRead, declaredAt, DeclaredAt}
+use Rattle.layout.specs.State.{Stops, readOf, ReadAt, FormRead, groupOf, GroupRead, goneOf, GoneRead, presentOf, PresentRead, declaredAt, DeclaredAt}
 use Rattle.layout.proofs.Steps.{is-some, not-none, gone-true, gone-false}
 
 -- ---- what was read stands in the record
@@ -45,81 +42,77 @@ pub group-fits : {r : List ℕ} {at : ℕ} {b : Bool} → SignAt groupAt r at b 
 group-fits {r} {at} e f = Commands.group-fits r at (sym (e .is) ∙ f)
 
 -- ---- the cursor behind what was read
-module _ {reads : List ℕ → ℕ → Option ℕ} {width : ℕ} {r : List ℕ} {s : St} {x : Number} where
-  pub read-yes : {n : ℕ} {s′ : St} → NumberAt reads r (s .at) x → x ≡ Number.Is n → s′ ≡ moved (s .at + width) s → ReadAt reads width r s (Read.Is n s′)
+module _ {reads : List ℕ → ℕ → Option ℕ} {width : ℕ} {r : List ℕ} {a : ℕ} {x : Number} where
+  pub read-yes : {n : ℕ} → NumberAt reads r a x → x ≡ Number.Is n → ReadAt reads width r a (Read.Is n (a + width))
   unfolding readOf
-  read-yes {n} e f g = record { is = ap (Read.Is n) g ∙ ap (readOf width s) (sym (read-is e f)) }
+  read-yes e f = record { is = ap (readOf width a) (sym (read-is e f)) }
 
-  pub read-no : NumberAt reads r (s .at) x → x ≡ Number.Not → ReadAt reads width r s Read.Not
+  pub read-no : NumberAt reads r a x → x ≡ Number.Not → ReadAt reads width r a Read.Not
   unfolding readOf
-  read-no e f = record { is = ap (readOf width s) (sym (read-not e f)) }
+  read-no e f = record { is = ap (readOf width a) (sym (read-not e f)) }
 
-module _ {family : Family} {r : List ℕ} {s : St} {x : Number} where
-  pub form-yes : {n w : ℕ} {s′ : St} → FormAt family r (s .at) x → x ≡ Number.Is n → w ≡ formWidth (familyOf family) → s′ ≡ moved (s .at + w) s → FormRead family r s (Read.Is n s′)
+module _ {family : Family} {r : List ℕ} {a : ℕ} {x : Number} where
+  pub form-yes : {n w : ℕ} → FormAt family r a x → x ≡ Number.Is n → w ≡ formWidth (familyOf family) → FormRead family r a (Read.Is n (a + w))
   unfolding readOf
-  form-yes {n} e f h g =
-      record {
-        is =
-            ap (Read.Is n) (g ∙ ap (λ w. moved (s .at + w) s) h)
-            ∙ ap (readOf (formWidth (familyOf family)) s) (sym (form-read e f));
-      }
+  form-yes {n} e f h =
+      record { is = ap (λ w. Read.Is n (a + w)) h ∙ ap (readOf (formWidth (familyOf family)) a) (sym (form-read e f)) }
 
-  pub form-no : FormAt family r (s .at) x → x ≡ Number.Not → FormRead family r s Read.Not
+  pub form-no : FormAt family r a x → x ≡ Number.Not → FormRead family r a Read.Not
   unfolding readOf
-  form-no e f = record { is = ap (readOf (formWidth (familyOf family)) s) (sym (form-not e f)) }
+  form-no e f = record { is = ap (readOf (formWidth (familyOf family)) a) (sym (form-not e f)) }
 
-module _ {r : List ℕ} {s : St} {b : Bool} where
-  pub group-yes : {s′ : St} → SignAt groupAt r (s .at) b → b ≡ true → s′ ≡ moved (s .at + 1) s → GroupRead r s (Done s′)
+module _ {r : List ℕ} {a : ℕ} {b : Bool} where
+  pub group-yes : SignAt groupAt r a b → b ≡ true → GroupRead r a (a + 1)
   unfolding groupOf
-  group-yes e f g = record { is = ap Done g ∙ ap (groupOf s) (sym f ∙ e .is) }
+  group-yes e f = record { is = λ h. ap (groupOf a) (sym f ∙ e .is) }
 
-  pub group-no : {a : Answer} → SignAt groupAt r (s .at) b → b ≡ false → a ≡ Stopped s (s .at) false → GroupRead r s a
+  pub group-no : {n : ℕ} → SignAt groupAt r a b → b ≡ false → Stops a n → GroupRead r a n
   unfolding groupOf
-  group-no e f g = record { is = g ∙ ap (groupOf s) (sym f ∙ e .is) }
+  group-no e f g = record { is = λ h. g .is h ∙ ap (groupOf a) (sym f ∙ e .is) }
 
-  pub gone-yes : {s′ : St} → SignAt absentAt r (s .at) b → b ≡ true → s′ ≡ moved (s .at + 1) s → GoneRead r s (Gone.Past s′)
+  pub gone-yes : SignAt absentAt r a b → b ≡ true → GoneRead r a (Gone.Past (a + 1))
   unfolding goneOf
-  gone-yes e f g = record { is = ap Gone.Past g ∙ ap (goneOf s) (sym f ∙ e .is) }
+  gone-yes e f = record { is = ap (goneOf a) (sym f ∙ e .is) }
 
-  pub gone-no : SignAt absentAt r (s .at) b → b ≡ false → GoneRead r s Gone.There
+  pub gone-no : SignAt absentAt r a b → b ≡ false → GoneRead r a Gone.There
   unfolding goneOf
-  gone-no e f = record { is = ap (goneOf s) (sym f ∙ e .is) }
+  gone-no e f = record { is = ap (goneOf a) (sym f ∙ e .is) }
 
 -- ---- a token that may be absent
-module _ {r : List ℕ} {s : St} {x : Gone} where
-  pub none-absent : {s′ : St} → GoneRead r s x → x ≡ Gone.Past s′ → Given.Absent s′ ≡ presentOf s none (absentAt r (s .at))
+module _ {r : List ℕ} {a : ℕ} {x : Gone} where
+  pub none-absent : {c : ℕ} → GoneRead r a x → x ≡ Gone.Past c → Given.Absent c ≡ presentOf a none (absentAt r a)
   unfolding presentOf
-  none-absent {s′} e f =
-      let q = gone-true (absentAt r (s .at)) s s′ (sym f ∙ e .is) in
-      ap Given.Absent (q .1) ∙ ap (presentOf s none) (sym (q .0))
+  none-absent {c} e f =
+      let q = gone-true (absentAt r a) a c (sym f ∙ e .is) in
+      ap Given.Absent (q .1) ∙ ap (presentOf a none) (sym (q .0))
 
-  pub none-neither : GoneRead r s x → x ≡ Gone.There → Given.Neither ≡ presentOf s none (absentAt r (s .at))
+  pub none-neither : GoneRead r a x → x ≡ Gone.There → Given.Neither ≡ presentOf a none (absentAt r a)
   unfolding presentOf
-  none-neither e f = ap (presentOf s none) (sym (gone-false (absentAt r (s .at)) s (sym f ∙ e .is)))
+  none-neither e f = ap (presentOf a none) (sym (gone-false (absentAt r a) a (sym f ∙ e .is)))
 
-module _ {count : ℕ} {r : List ℕ} {s : St} {x : Read} where
-  pub present-token : {n : ℕ} {s′ : St} → ReadAt (λ bytes. tokenFits bytes count) 3 r s x → x ≡ Read.Is n s′ → PresentRead count r s (Given.There s′)
+module _ {count : ℕ} {r : List ℕ} {a : ℕ} {x : Read} where
+  pub present-token : {n c : ℕ} → ReadAt (λ bytes. tokenFits bytes count) 3 r a x → x ≡ Read.Is n c → PresentRead count r a (Given.There c)
   unfolding presentOf
-  present-token {n} {s′} e f =
-      let q = is-some (tokenFits r count (s .at)) 3 n s s′ (sym f ∙ e .is) in
-      record { is = ap Given.There (q .1) ∙ ap (λ t. presentOf s t (absentAt r (s .at))) (sym (q .0)) }
+  present-token {n} {c} e f =
+      let q = is-some (tokenFits r count a) 3 n a c (sym f ∙ e .is) in
+      record { is = ap Given.There (q .1) ∙ ap (λ t. presentOf a t (absentAt r a)) (sym (q .0)) }
 
-  pub present-none : {y : Given} → ReadAt (λ bytes. tokenFits bytes count) 3 r s x → x ≡ Read.Not → y ≡ presentOf s none (absentAt r (s .at)) → PresentRead count r s y
+  pub present-none : {y : Given} → ReadAt (λ bytes. tokenFits bytes count) 3 r a x → x ≡ Read.Not → y ≡ presentOf a none (absentAt r a) → PresentRead count r a y
   present-none e f g =
-      record { is = g ∙ ap (λ t. presentOf s t (absentAt r (s .at))) (sym (not-none (tokenFits r count (s .at)) 3 s (sym f ∙ e .is))) }
+      record { is = g ∙ ap (λ t. presentOf a t (absentAt r a)) (sym (not-none (tokenFits r count a) 3 a (sym f ∙ e .is))) }
 
 -- ---- a token whose number is below the count
-module _ (count : ℕ) {r : List ℕ} {s : St} {x : Number} (e : NumberAt tokenAt r (s .at) x) where
-  pub token-none : x ≡ Number.Not → ReadAt (λ bytes. tokenFits bytes count) 3 r s Read.Not
+module _ (count : ℕ) {r : List ℕ} {a : ℕ} {x : Number} (e : NumberAt tokenAt r a x) where
+  pub token-none : x ≡ Number.Not → ReadAt (λ bytes. tokenFits bytes count) 3 r a Read.Not
   unfolding readOf tokenFits
   token-none f = record { is = rw (read-not e f, tokenFits) refl }
 
   module _ {n : ℕ} (f : x ≡ Number.Is n) where
-    pub token-below : {s′ : St} → n < count → s′ ≡ moved (s .at + 3) s → ReadAt (λ bytes. tokenFits bytes count) 3 r s (Read.Is n s′)
+    pub token-below : n < count → ReadAt (λ bytes. tokenFits bytes count) 3 r a (Read.Is n (a + 3))
     unfolding readOf tokenFits
-    token-below h g = record { is = rw (read-is e f, tokenFits, lt-ltb n count h) (ap (Read.Is n) g) }
+    token-below h = record { is = rw (read-is e f, tokenFits, lt-ltb n count h) refl }
 
-    pub token-over : count ≤ n → ReadAt (λ bytes. tokenFits bytes count) 3 r s Read.Not
+    pub token-over : count ≤ n → ReadAt (λ bytes. tokenFits bytes count) 3 r a Read.Not
     unfolding readOf tokenFits
     token-over h = record { is = rw (read-is e f, tokenFits, le-ltb n count h) refl }
 

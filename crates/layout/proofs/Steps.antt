@@ -2,26 +2,30 @@
 use native.Mathlib.Nat.{sub-zero}
 use native.Mathlib.Omega.{arith}
 use mathlib.Core.Path.{_≡_, refl, sym, ap, ap₂, _∙_, subst}
-use mathlib.Core.Bool.{Bool, true, false}
+use mathlib.Core.Bool.{Bool, true, false, cond}
 use mathlib.Core.List.{List, [], _∷_, _++_}
-use Prim.Native.Nat.{ℕ, zero, suc, _+_, _-_, _≤_, _<_}
+use Prim.Native.Nat.{ℕ, zero, suc, _+_, _-_, _*_, _/_, _%_, _≤_, _<_}
 use Prim.Native.String.{String}
 use lib.ListN.{length}
+use lib.Dec.{ltb}
 use Rattle.text.specs.Bytes.{bytes}
 use Rattle.text.proofs.Laws.{never}
-use Rattle.layout.specs.declared.St.{St}
 use Rattle.layout.specs.declared.Cfg.{Cfg}
 use Rattle.layout.specs.declared.Answer.{Answer}
 use Rattle.layout.specs.declared.Answer.the-variants.{Done, Stopped}
 use Rattle.layout.specs.Layout.{Layout, skip, _⨾_, word, output-indent, formed, text, group, choice, form, list, maybe, present, Look, look, Test, isPipe, firstName, operator, halt}
-use Rattle.layout.specs.Meaning.{Page, Event, Word, Token, Comment, Formed, Indent, Outcome, done, stopped, absent, after, bind, orStop, outcome, operated, tokenText, namePasses, sees, passes}
-use Rattle.layout.specs.State.{Run, runOf, at, effect, effects, Ran, went, fell, run, runs, packed, page, Walked, Ended, Plain, Wrote, Sure, Texted, Indented, withDepth, withLetters, placed, placeOf, stopOf, moved, readOf, ReadAt, FormRead, groupOf, GroupRead, goneOf, GoneRead, presentOf, PresentRead, joint, TestedText, TestedName, Looked, Operated, cfgOf, Deeper, Does}
+use Rattle.layout.specs.Meaning.{Page, Event, Word, Token, Comment, Formed, Indent, Outcome, done, stopped, Stop, absent, imported, after, bind, orStop, outcome, operated, tokenText, namePasses, sees, passes}
+use Rattle.layout.specs.Words.{wordRun}
+use Rattle.layout.specs.State.{Run, runOf, at, effect, effects, Ran, went, fell, run, runs, stopNo, stopOf, toldOf, packed, page, Fair, Walked, Ended, Plain, Put, Sure, Texted, Indented, deepened, Stops, readOf, ReadAt, FormRead, groupOf, GroupRead, goneOf, GoneRead, presentOf, PresentRead, joint, TestedText, TestedName, Looked, Operated, cfgOf, Deeper, Does}
 use Rattle.reader.specs.Tokens.{textOf}
 use Rattle.reader.specs.declared.commands.Family as Code
 use Rattle.reader.specs.declared.commands.Family.the-variants as Case
+use Rattle.reader.specs.Fields as Fields
 use Rattle.reader.specs.Fields.{Exp}
 use Rattle.reader.specs.Check.{tokenFits}
-use Rattle.reader.specs.Commands.{absentAt, listAt, groupAt, choiceAt, formAt, formWidth, familyOf}
+use Rattle.reader.specs.Commands.{absentAt, tokenAt, listAt, groupAt, choiceAt, formAt, formWidth, familyOf}
+use Rattle.reader.proofs.CommandLaws.{token-fits, list-fits, choice-fits, form-fits, absent-fits, group-fits}
+use Rattle.reader.proofs.FieldLaws.{token-parts}
 use Rattle.layout.specs.declared.fields.Read.{Read}
 use Rattle.layout.specs.declared.fields.Read.the-variants.{Is}
 use Rattle.layout.specs.declared.fields.Gone.{Gone}
@@ -30,7 +34,7 @@ use mathlib.Core.Option.{Option, none, some}
 use Rattle.layout.specs.Helpers as Helpers
 use Rattle.layout.specs.Helpers.{times, items, when}
 use Rattle.layout.specs.Walk.{walks}
-use borrow.Author.Tests.{lt-ltb, le-ltb}
+use borrow.Author.Tests.{lt-ltb, le-ltb, ltb-true, ltb-false}
 
 abbrev pub andThen : Ran → (Run → Ran) → Ran
 andThen (went g) k = k g
@@ -44,9 +48,9 @@ andThen-same : (r : Ran) (f g : Run → Ran) → ((x : Run) → f x ≡ g x) →
 andThen-same (went x) f g h = h x
 andThen-same (fell why x) f g h = refl
 
-module _ (p : Page) (tab : ℕ) where
+module _ (p : Page) where
   -- No event looks at the cursor.
-  effect-at : (e : Event) (a : ℕ) (g : Run) → effect p tab e (at a g) ≡ at a (effect p tab e g)
+  effect-at : (e : Event) (a : ℕ) (g : Run) → effect p e (at a g) ≡ at a (effect p e g)
   unfolding effect
   effect-at (Word w) a g = refl
   effect-at (Token k) a g = refl
@@ -54,137 +58,207 @@ module _ (p : Page) (tab : ℕ) where
   effect-at (Formed d) a g = refl
   effect-at (Indent d) a g = refl
 
-  effects-at : (es : List Event) (a : ℕ) (g : Run) → effects p tab es (at a g) ≡ at a (effects p tab es g)
+  effects-at : (es : List Event) (a : ℕ) (g : Run) → effects p es (at a g) ≡ at a (effects p es g)
   unfolding effects
   effects-at [] a g = refl
-  effects-at (e ∷ es) a g = ap (effects p tab es) (effect-at e a g) ∙ effects-at es a (effect p tab e g)
+  effects-at (e ∷ es) a g = ap (effects p es) (effect-at e a g) ∙ effects-at es a (effect p e g)
 
-  effects-append : (es fs : List Event) (g : Run) → effects p tab (es ++ fs) g ≡ effects p tab fs (effects p tab es g)
+  effects-append : (es fs : List Event) (g : Run) → effects p (es ++ fs) g ≡ effects p fs (effects p es g)
   unfolding effects
   effects-append [] fs g = refl
-  effects-append (e ∷ es) fs g = effects-append es fs (effect p tab e g)
+  effects-append (e ∷ es) fs g = effects-append es fs (effect p e g)
 
-  run-at : (x : Outcome) (a : ℕ) (g : Run) → run p tab x (at a g) ≡ run p tab x g
+  pub run-at : (x : Outcome) (a : ℕ) (g : Run) → run p x (at a g) ≡ run p x g
   unfolding run
   run-at (done b es) a g = ap (λ h. went (at b h)) (effects-at es a g)
   run-at (stopped why es) a g = ap (λ h. fell why (at 0 h)) (effects-at es a g)
 
-  run-after : (es : List Event) (x : Outcome) (g : Run) → run p tab (after es x) g ≡ run p tab x (effects p tab es g)
+  run-after : (es : List Event) (x : Outcome) (g : Run) → run p (after es x) g ≡ run p x (effects p es g)
   unfolding run after
   run-after es (done a fs) g = ap (λ h. went (at a h)) (effects-append es fs g)
   run-after es (stopped why fs) g = ap (λ h. fell why (at 0 h)) (effects-append es fs g)
 
-  run-bind : (x : Outcome) (k : ℕ → Outcome) (g : Run) → run p tab (bind x k) g ≡ andThen (run p tab x g) (λ h. run p tab (k (h .st .at)) h)
+  run-bind : (x : Outcome) (k : ℕ → Outcome) (g : Run) → run p (bind x k) g ≡ andThen (run p x g) (λ h. run p (k (h .at)) h)
   unfolding run bind
-  run-bind (done a es) k g = run-after es (k a) g ∙ sym (run-at (k a) a (effects p tab es g))
+  run-bind (done a es) k g = run-after es (k a) g ∙ sym (run-at (k a) a (effects p es g))
   run-bind (stopped why es) k g = refl
 
-  pub runs-seq : (v w : Layout) (g : Run) → runs p tab (v ⨾ w) g ≡ andThen (runs p tab v g) (runs p tab w)
+  pub runs-seq : (v w : Layout) (g : Run) → runs p (v ⨾ w) g ≡ andThen (runs p v g) (runs p w)
   unfolding runs outcome
-  runs-seq v w g = run-bind (outcome p v (g .st .at)) (λ next. outcome p w next) g
+  runs-seq v w g = run-bind (outcome p v (g .at)) (λ next. outcome p w next) g
+
+-- ---- a walk's number
+pub packed-done : (r : ℕ) (m o : List ℕ) → r < stopNo → packed r m o ≡ went (runOf r m o)
+unfolding packed
+packed-done r m o h = rw (lt-ltb r stopNo h) refl
+
+pub packed-stop : (r : ℕ) (m o : List ℕ) → stopNo ≤ r → packed r m o ≡ fell (stopOf (r - stopNo)) (runOf 0 m o)
+unfolding packed
+packed-stop r m o h = rw (le-ltb r stopNo h) refl
+
+-- A stop at a part that is absent.
+pub packed-absent : (a r : ℕ) (m o : List ℕ) → r ≡ stopNo + 2 * a → packed r m o ≡ fell (absent a) (runOf 0 m o)
+unfolding stopOf
+packed-absent a r m o e =
+    let i : stopNo ≤ r = omega (arith, e) in
+    let d : (r - stopNo) % 2 ≡ 0 = omega (arith, e) in
+    let q : (r - stopNo) / 2 ≡ a = omega (arith, e) in
+    packed-stop r m o i ∙ ap (λ x. fell x (runOf 0 m o)) (rw (d, q) refl)
+
+-- A stop at an import.
+pub packed-imported : (a r : ℕ) (m o : List ℕ) → r ≡ stopNo + 2 * a + 1 → packed r m o ≡ fell (imported a) (runOf 0 m o)
+unfolding stopOf
+packed-imported a r m o e =
+    let i : stopNo ≤ r = omega (arith, e) in
+    let d : (r - stopNo) % 2 ≡ 1 = omega (arith, e) in
+    let q : (r - stopNo) / 2 ≡ a = omega (arith, e) in
+    packed-stop r m o i ∙ ap (λ x. fell x (runOf 0 m o)) (rw (d, q) refl)
+
+-- What `told` says of it.
+pub told-done : (r s : ℕ) → toldOf r ≡ Done s → (r ≡ s) × (r < stopNo)
+told-done r s e = go (ltb r stopNo) refl e
+  where
+    go : (b : Bool) → ltb r stopNo ≡ b → cond b (Done r) Stopped ≡ Done s → (r ≡ s) × (r < stopNo)
+    go true f e = (cc, ltb-true r stopNo f)
+    go false f e = never (cc)
+
+pub told-stop : (r : ℕ) → toldOf r ≡ Stopped → stopNo ≤ r
+told-stop r e = go (ltb r stopNo) refl e
+  where
+    go : (b : Bool) → ltb r stopNo ≡ b → cond b (Done r) Stopped ≡ Stopped → stopNo ≤ r
+    go true f e = never (cc)
+    go false f e = ltb-false r stopNo f
+
+fair-on : {words : List ℕ} {p : Page} {a b : ℕ} → Fair words p a → b < stopNo → Fair words p b
+fair-on f h = record { words-are = f .words-are; short = f .short; cursor = h }
 
 -- ---- what an outcome leaves, from the cursor on
-module _ {p : Page} {tab : ℕ} where
-  pub ended : {w : Layout} {g : Run} {r : Answer} {o m : List ℕ} → Walked p tab w g r o m → Ended p tab (outcome p w) g r o m
+module _ {words : List ℕ} {p : Page} where
+  pub ended : {w : Layout} {g : Run} {r : ℕ} {m o : List ℕ} → Walked words p w g r m o → Ended words p (outcome p w) g r m o
   unfolding runs
   ended e = record { is = e .is }
 
-  pub ended-done : {f k : ℕ → Outcome} {g : Run} {s′ : St} {o′ m′ o″ m″ : List ℕ} {r r′ : Answer} → Ended p tab f g r′ o′ m′ → r′ ≡ Done s′
-      → Ended p tab k (runOf s′ o′ m′) r o″ m″ → Ended p tab (λ a. bind (f a) k) g r o″ m″
-  ended-done {f} {k} {g} {s′} {o′} {m′} e h i =
+  pub ended-done : {f k : ℕ → Outcome} {g : Run} {s′ : ℕ} {m′ o′ m″ o″ : List ℕ} {r r′ : ℕ} {x : Answer} → Ended words p f g r′ m′ o′ → x ≡ toldOf r′ → x ≡ Done s′
+      → Ended words p k (runOf s′ m′ o′) r m″ o″ → Ended words p (λ a. bind (f a) k) g r m″ o″
+  ended-done {f} {k} {g} {s′} {m′} {o′} {r′ = r′} e t h i =
+      let q = told-done r′ s′ (sym t ∙ h) in
+      let n : s′ < stopNo = omega (arith, q .0, q .1) in
       record {
-        is = i .is
-            ∙ sym (run-bind p tab (f (g .st .at)) k g ∙ ap (λ x. andThen x (λ x. run p tab (k (x .st .at)) x)) (sym (e .is) ∙ ap (λ x. packed x o′ m′) h));
+        is = λ fair. i .is (fair-on fair n)
+            ∙ sym (run-bind p (f (g .at)) k g
+            ∙ ap (λ x. andThen x (λ x. run p (k (x .at)) x)) (sym (e .is fair) ∙ packed-done r′ m′ o′ (q .1) ∙ ap (λ a. went (runOf a m′ o′)) (q .0)));
       }
 
-  pub ended-stop : {f : ℕ → Outcome} (k : ℕ → Outcome) {g : Run} {s′ : St} {place : ℕ} {import : Bool} {o′ m′ : List ℕ} {r′ : Answer} → Ended p tab f g r′ o′ m′
-      → r′ ≡ Stopped s′ place import → Ended p tab (λ a. bind (f a) k) g r′ o′ m′
-  ended-stop {f} k {g} {s′} {place} {import} {o′} {m′} e h =
-      record {
-        is = ap (λ x. packed x o′ m′) h
-            ∙ sym (run-bind p tab (f (g .st .at)) k g ∙ ap (λ x. andThen x (λ x. run p tab (k (x .st .at)) x)) (sym (e .is) ∙ ap (λ x. packed x o′ m′) h));
-      }
+  pub ended-stop : {f : ℕ → Outcome} (k : ℕ → Outcome) {g : Run} {m′ o′ : List ℕ} {r′ : ℕ} {x : Answer} → Ended words p f g r′ m′ o′ → x ≡ toldOf r′
+      → x ≡ Stopped → Ended words p (λ a. bind (f a) k) g r′ m′ o′
+  ended-stop {f} k {g} {m′} {o′} {r′} e t h =
+      let q = packed-stop r′ m′ o′ (told-stop r′ (sym t ∙ h)) in
+      record { is = λ fair. q ∙ sym (run-bind p (f (g .at)) k g ∙ ap (λ x. andThen x (λ x. run p (k (x .at)) x)) (sym (e .is fair) ∙ q)) }
 
+-- What is only written stays at the cursor.
+module _ (p : Page) (f : ℕ → Outcome) (a : ℕ) (m o : List ℕ) {m′ o′ : List ℕ} {x : Ran} where
   -- Behind events, which leave the cursor where it is.
-  pub ended-after : (es : List Event) {f : ℕ → Outcome} {g h : Run} {r : Answer} {o m : List ℕ} → h ≡ effects p tab es g → Ended p tab f h r o m
-      → Ended p tab (λ a. after es (f a)) g r o m
-  ended-after es {f} {g} {h} e i =
-      record {
-        is = i .is
-            ∙ ap (λ x. run p tab (f (x .st .at)) x) e
-            ∙ ap (λ a. run p tab (f a) (effects p tab es g)) (ap (λ x. x .st .at) (effects-at p tab es (g .st .at) g))
-            ∙ sym (run-after p tab es (f (g .st .at)) g);
-      }
+  pub wrote-after : (es : List Event) → runOf a m′ o′ ≡ effects p es (runOf a m o) → x ≡ run p (f a) (runOf a m′ o′)
+      → x ≡ run p (after es (f a)) (runOf a m o)
+  wrote-after es e i = i ∙ ap (run p (f a)) e ∙ sym (run-after p es (f a) (runOf a m o))
+
+  pub wrote-then : (k : ℕ → Outcome) → went (runOf a m′ o′) ≡ run p (f a) (runOf a m o) → x ≡ run p (k a) (runOf a m′ o′)
+      → x ≡ run p (bind (f a) k) (runOf a m o)
+  wrote-then k e i = i ∙ sym (run-bind p (f a) k (runOf a m o) ∙ ap (λ x. andThen x (λ x. run p (k (x .at)) x)) (sym e))
 
 -- ---- a step for each kind of statement
-module _ {p : Page} {tab : ℕ} where
-  pub then-done : {g : Run} {o′ m′ o″ m″ : List ℕ} {v w : Layout} {s′ : St} {r r′ : Answer} → Walked p tab v g r′ o′ m′ → r′ ≡ Done s′
-      → Walked p tab w (runOf s′ o′ m′) r o″ m″ → Walked p tab (v ⨾ w) g r o″ m″
-  then-done {g} {o′} {m′} {o″} {m″} {v} {w} {s′} {r} {r′} e f h =
-      record { is = h .is ∙ sym (runs-seq p tab v w g ∙ ap (λ x. andThen x (runs p tab w)) (sym (e .is) ∙ ap (λ x. packed x o′ m′) f)) }
-
-  pub then-stop : {g : Run} {o′ m′ : List ℕ} {v w : Layout} {s′ : St} {place : ℕ} {import : Bool} {r′ : Answer} → Walked p tab v g r′ o′ m′
-      → r′ ≡ Stopped s′ place import → Walked p tab (v ⨾ w) g r′ o′ m′
-  then-stop {g} {o′} {m′} {v} {w} {s′} {place} {import} {r′} e f =
-      record { is = ap (λ x. packed x o′ m′) f ∙ sym (runs-seq p tab v w g ∙ ap (λ x. andThen x (runs p tab w)) (sym (e .is) ∙ ap (λ x. packed x o′ m′) f)) }
-
-  pub last-sure : {s s′ : St} {o o′ m : List ℕ} {v : Layout} → Sure tab v s o s′ o′ → Walked p tab v (runOf s o m) (Done s′) o′ m
-  last-sure {m = m} e = e .is p m
-
-  pub then-sure : {s s′ : St} {o o′ m o″ m″ : List ℕ} {v w : Layout} {r : Answer} → Sure tab v s o s′ o′
-      → Walked p tab w (runOf s′ o′ m) r o″ m″ → Walked p tab (v ⨾ w) (runOf s o m) r o″ m″
-  then-sure e h = then-done (last-sure e) refl h
-
-  pub last-skip : {s : St} {o m : List ℕ} → Walked p tab skip (runOf s o m) (Done s) o m
-  unfolding runs outcome run effects
-  last-skip = record { is = refl }
-
-  pub last-halt : {s : St} {o m : List ℕ} → Walked p tab halt (runOf s o m) (Stopped s (s .at) false) o m
-  unfolding runs outcome run effects stopOf
-  last-halt = record { is = refl }
-
-  pub regroup : {g : Run} {o m : List ℕ} {u v w : Layout} {r : Answer} → Walked p tab (u ⨾ v ⨾ w) g r o m → Walked p tab ((u ⨾ v) ⨾ w) g r o m
-  regroup {g} {o} {m} {u} {v} {w} {r} f =
+module _ {words : List ℕ} {p : Page} where
+  pub then-done : {g : Run} {m′ o′ m″ o″ : List ℕ} {v w : Layout} {s′ r r′ : ℕ} {x : Answer} → Walked words p v g r′ m′ o′ → x ≡ toldOf r′ → x ≡ Done s′
+      → Walked words p w (runOf s′ m′ o′) r m″ o″ → Walked words p (v ⨾ w) g r m″ o″
+  then-done {g} {m′} {o′} {v = v} {w} {s′} {r} {r′} e t f h =
+      let q = told-done r′ s′ (sym t ∙ f) in
+      let n : s′ < stopNo = omega (arith, q .0, q .1) in
       record {
-        is =
-            f .is
-            ∙ runs-seq p tab u (v ⨾ w) g
-            ∙ andThen-same (runs p tab u g) (runs p tab (v ⨾ w)) (λ x. andThen (runs p tab v x) (runs p tab w)) (runs-seq p tab v w)
-            ∙ sym (runs-seq p tab (u ⨾ v) w g ∙ ap (λ x. andThen x (runs p tab w)) (runs-seq p tab u v g)
-            ∙ andThen-assoc (runs p tab u g) (runs p tab v) (runs p tab w));
+        is = λ fair. h .is (fair-on fair n)
+            ∙ sym (runs-seq p v w g ∙ ap (λ x. andThen x (runs p w)) (sym (e .is fair) ∙ packed-done r′ m′ o′ (q .1) ∙ ap (λ a. went (runOf a m′ o′)) (q .0)));
+      }
+
+  -- A walk that stopped, whatever stands behind it.
+  pub then-fell : {g : Run} {m′ o′ : List ℕ} {v w : Layout} {r′ : ℕ} → Walked words p v g r′ m′ o′ → (Fair words p (g .at) → stopNo ≤ r′) → Walked words p (v ⨾ w) g r′ m′ o′
+  then-fell {g} {m′} {o′} {v} {w} {r′} e f =
+      record {
+        is = λ fair.
+            let q = packed-stop r′ m′ o′ (f fair) in
+            q ∙ sym (runs-seq p v w g ∙ ap (λ x. andThen x (runs p w)) (sym (e .is fair) ∙ q));
+      }
+
+  pub then-stop : {g : Run} {m′ o′ : List ℕ} {v w : Layout} {r′ : ℕ} {x : Answer} → Walked words p v g r′ m′ o′ → x ≡ toldOf r′ → x ≡ Stopped
+      → Walked words p (v ⨾ w) g r′ m′ o′
+  then-stop {r′ = r′} e t f = then-fell e (λ fair. told-stop r′ (sym t ∙ f))
+
+  -- A stop at the cursor, whatever stands behind it.
+  pub then-halt : {a r′ : ℕ} {m o m′ o′ : List ℕ} {v w : Layout} → Walked words p v (runOf a m o) r′ m′ o′ → Stops a r′ → Walked words p (v ⨾ w) (runOf a m o) r′ m′ o′
+  then-halt e f = then-fell e (λ fair. omega (arith, f .is (fair .cursor)))
+
+  pub last-sure : {a : ℕ} {m o m′ o′ : List ℕ} {v : Layout} → Sure words v m o m′ o′ → Walked words p v (runOf a m o) a m′ o′
+  last-sure {a} {m′ = m′} {o′} e = record { is = λ fair. packed-done a m′ o′ (fair .cursor) ∙ e .is (fair .words-are) p a }
+
+  pub then-sure : {a r : ℕ} {m o m′ o′ m″ o″ : List ℕ} {v w : Layout} → Sure words v m o m′ o′
+      → Walked words p w (runOf a m′ o′) r m″ o″ → Walked words p (v ⨾ w) (runOf a m o) r m″ o″
+  then-sure {a} {m = m} {o} {v = v} {w} e h =
+      record { is = λ fair. h .is fair ∙ sym (runs-seq p v w (runOf a m o) ∙ ap (λ x. andThen x (runs p w)) (sym (e .is (fair .words-are) p a))) }
+
+  pub last-skip : {a : ℕ} {m o : List ℕ} → Walked words p skip (runOf a m o) a m o
+  unfolding runs outcome run effects
+  last-skip {a} {m} {o} = record { is = λ fair. packed-done a m o (fair .cursor) }
+
+  pub last-halt : {a r : ℕ} {m o : List ℕ} → Stops a r → Walked words p halt (runOf a m o) r m o
+  unfolding runs outcome run effects
+  last-halt {a} {r} {m} {o} e = record { is = λ fair. packed-absent a r m o (e .is (fair .cursor)) }
+
+  pub regroup : {g : Run} {m o : List ℕ} {u v w : Layout} {r : ℕ} → Walked words p (u ⨾ v ⨾ w) g r m o → Walked words p ((u ⨾ v) ⨾ w) g r m o
+  regroup {g} {m} {o} {u} {v} {w} {r} f =
+      record {
+        is = λ fair.
+            f .is fair
+            ∙ runs-seq p u (v ⨾ w) g
+            ∙ andThen-same (runs p u g) (runs p (v ⨾ w)) (λ x. andThen (runs p v x) (runs p w)) (runs-seq p v w)
+            ∙ sym (runs-seq p (u ⨾ v) w g ∙ ap (λ x. andThen x (runs p w)) (runs-seq p u v g)
+            ∙ andThen-assoc (runs p u g) (runs p v) (runs p w));
       }
 
 -- A token's text by number.
-module _ (p : Page) {tab : ℕ} where
-  text-effects : {s s′ : St} {o o′ m : List ℕ} {k : ℕ} → Texted (p .text) (p .tokens .starts) (p .tokens .lengths) tab k s o s′ o′
-      → runOf s′ o′ m ≡ effects p tab (Token k ∷ []) (runOf s o m)
+module _ (p : Page) where
+  text-effects : {a k : ℕ} {m o m′ o′ : List ℕ} → Texted (p .text) (p .tokens .starts) (p .tokens .lengths) k m o m′ o′
+      → runOf a m′ o′ ≡ effects p (Token k ∷ []) (runOf a m o)
   unfolding effects effect tokenText textOf
-  text-effects {m = m} e = ap₂ (λ x y. runOf x y m) (e .is .st) (e .is .out)
+  text-effects {a} e = ap₂ (λ x y. runOf a x y) (e .is .mem) (e .is .out)
 
 -- ---- two layouts that run alike
-pub record Same (p : Page) (tab : ℕ) (v : Layout) (g : Run) (w : Layout) (h : Run) : Type 0 where
-  pub is : runs p tab v g ≡ runs p tab w h
+pub record Same (words : List ℕ) (p : Page) (v : Layout) (g : Run) (w : Layout) (h : Run) : Type 0 where
+  pub on : Fair words p (g .at) → h .at < stopNo
+  pub is : Fair words p (g .at) → runs p v g ≡ runs p w h
 
-module _ {p : Page} {tab : ℕ} where
-  pub by-same : {v w : Layout} {g h : Run} {r : Answer} {o m : List ℕ} → Same p tab v g w h → Walked p tab w h r o m → Walked p tab v g r o m
-  by-same e f = record { is = f .is ∙ sym (e .is) }
+module _ {words : List ℕ} {p : Page} where
+  pub by-same : {v w : Layout} {g h : Run} {r : ℕ} {m o : List ℕ} → Same words p v g w h → Walked words p w h r m o → Walked words p v g r m o
+  by-same e f = record { is = λ fair. f .is (fair-on fair (e .on fair)) ∙ sym (e .is fair) }
 
   -- With the same behind both.
-  pub first-same : {v w u : Layout} {g h : Run} → Same p tab v g w h → Same p tab (v ⨾ u) g (w ⨾ u) h
+  pub first-same : {v w u : Layout} {g h : Run} → Same words p v g w h → Same words p (v ⨾ u) g (w ⨾ u) h
   first-same {v} {w} {u} {g} {h} e =
-      record { is = runs-seq p tab v u g ∙ ap (λ x. andThen x (runs p tab u)) (e .is) ∙ sym (runs-seq p tab w u h) }
+      record { on = e .on; is = λ fair. runs-seq p v u g ∙ ap (λ x. andThen x (runs p u)) (e .is fair) ∙ sym (runs-seq p w u h) }
 
-  pub skip-same : {w : Layout} {g : Run} → Same p tab (skip ⨾ w) g w g
+  -- From one cursor.
+  pub here : {v w : Layout} {g : Run} → runs p v g ≡ runs p w g → Same words p v g w g
+  here e = record { on = λ fair. fair .cursor; is = λ fair. e }
+
+  pub skip-same : {w : Layout} {g : Run} → Same words p (skip ⨾ w) g w g
   unfolding runs outcome run effects
-  skip-same {w} {g} = record { is = runs-seq p tab skip w g }
+  skip-same {w} {g} = here (runs-seq p skip w g)
 
 -- ---- fields
-pub moved-end : (p : Page) (tab a : ℕ) (f : ℕ → Outcome) (s s′ : St) (o m : List ℕ) → s′ ≡ moved a s → run p tab (f a) (runOf s o m) ≡ run p tab (f (s′ .at)) (runOf s′ o m)
-moved-end p tab a f s s′ o m e = sym (run-at p tab (f a) a (runOf s o m)) ∙ ap (λ x. run p tab (f (x .at)) (runOf x o m)) (sym e)
+-- The cursor behind what was read is no stop.
+behind : {words : List ℕ} {p : Page} {a b : ℕ} (width : ℕ) → Fair words p a → a + width ≤ length (p .rec) → b ≡ a + width → b < stopNo
+behind width fair h e = omega (arith, h, e, fair .short)
 
-pub moved-run : (p : Page) (tab a : ℕ) (w : Layout) (s s′ : St) (o m : List ℕ) → s′ ≡ moved a s → run p tab (outcome p w a) (runOf s o m) ≡ runs p tab w (runOf s′ o m)
+pub moved-run : (p : Page) (b : ℕ) (w : Layout) (a c : ℕ) (m o : List ℕ) → c ≡ b → run p (outcome p w b) (runOf a m o) ≡ runs p w (runOf c m o)
 unfolding runs
-moved-run p tab a w s s′ o m e = moved-end p tab a (λ next. outcome p w next) s s′ o m e
+moved-run p b w a c m o e = sym (run-at p (outcome p w b) c (runOf a m o)) ∙ ap (λ x. run p (outcome p w x) (runOf c m o)) (sym e)
 
 or-some : (x : Option ℕ) (a : ℕ) (f : ℕ → Outcome) (n : ℕ) → x ≡ some n → orStop x a f ≡ f n
 unfolding orStop
@@ -194,159 +268,199 @@ or-none : (x : Option ℕ) (a : ℕ) (f : ℕ → Outcome) → x ≡ none → or
 unfolding orStop
 or-none x a f e = ap (λ y. orStop y a f) e
 
-pub is-some : (x : Option ℕ) (width n : ℕ) (s s′ : St) → Is n s′ ≡ readOf width s x → (x ≡ some n) × (s′ ≡ moved (s .at + width) s)
+pub is-some : (x : Option ℕ) (width n a b : ℕ) → Is n b ≡ readOf width a x → (x ≡ some n) × (b ≡ a + width)
 unfolding readOf
-is-some (some k) width n s s′ e =
+is-some (some k) width n a b e =
     let h : k ≡ n = cc in
     (ap some h, cc)
-is-some none width n s s′ e = never (cc)
+is-some none width n a b e = never (cc)
 
-pub not-none : (x : Option ℕ) (width : ℕ) (s : St) → Read.Not ≡ readOf width s x → x ≡ none
+pub not-none : (x : Option ℕ) (width a : ℕ) → Read.Not ≡ readOf width a x → x ≡ none
 unfolding readOf
-not-none (some k) width s e = never (cc)
-not-none none width s e = refl
+not-none (some k) width a e = never (cc)
+not-none none width a e = refl
 
 -- What is read at the cursor and handed on.
-reads-end : (p : Page) (tab width : ℕ) (x : Option ℕ) (f : ℕ → ℕ → Outcome) (n : ℕ) (s s′ : St) (o m : List ℕ) → Is n s′ ≡ readOf width s x
-    → run p tab (orStop x (s .at) (λ i. f i (s .at + width))) (runOf s o m) ≡ run p tab (f n (s′ .at)) (runOf s′ o m)
-reads-end p tab width x f n s s′ o m e =
-    let q = is-some x width n s s′ e in
-    ap (λ y. run p tab y (runOf s o m)) (or-some x (s .at) (λ i. f i (s .at + width)) n (q .0))
-    ∙ moved-end p tab (s .at + width) (f n) s s′ o m (q .1)
+reads-end : (p : Page) (width : ℕ) (x : Option ℕ) (f : ℕ → ℕ → Outcome) (n a b : ℕ) (m o : List ℕ) → Is n b ≡ readOf width a x
+    → run p (orStop x a (λ i. f i (a + width))) (runOf a m o) ≡ run p (f n b) (runOf b m o)
+reads-end p width x f n a b m o e =
+    let q = is-some x width n a b e in
+    ap (λ y. run p y (runOf a m o)) (or-some x a (λ i. f i (a + width)) n (q .0))
+    ∙ ap (λ c. run p (f n c) (runOf a m o)) (sym (q .1))
+    ∙ sym (run-at p (f n b) b (runOf a m o))
 
-reads-same : (p : Page) (tab width : ℕ) (x : Option ℕ) (k : ℕ → Layout) (n : ℕ) (s s′ : St) (o m : List ℕ) → Is n s′ ≡ readOf width s x
-    → run p tab (orStop x (s .at) (λ i. outcome p (k i) (s .at + width))) (runOf s o m) ≡ runs p tab (k n) (runOf s′ o m)
+reads-same : (p : Page) (width : ℕ) (x : Option ℕ) (k : ℕ → Layout) (n a b : ℕ) (m o : List ℕ) → Is n b ≡ readOf width a x
+    → run p (orStop x a (λ i. outcome p (k i) (a + width))) (runOf a m o) ≡ runs p (k n) (runOf b m o)
 unfolding runs
-reads-same p tab width x k n s s′ o m e = reads-end p tab width x (λ i next. outcome p (k i) next) n s s′ o m e
+reads-same p width x k n a b m o e = reads-end p width x (λ i next. outcome p (k i) next) n a b m o e
 
-reads-stop : (p : Page) (tab width : ℕ) (x : Option ℕ) (f : ℕ → Outcome) (s : St) (o m : List ℕ) → Read.Not ≡ readOf width s x
-    → packed (Stopped s (s .at) false) o m ≡ run p tab (orStop x (s .at) f) (runOf s o m)
-unfolding run effects stopOf
-reads-stop p tab width x f s o m e =
-    sym (ap (λ y. run p tab y (runOf s o m)) (or-none x (s .at) f (not-none x width s e)))
+reads-stop : (p : Page) (width : ℕ) (x : Option ℕ) (f : ℕ → Outcome) (a r : ℕ) (m o : List ℕ) → Read.Not ≡ readOf width a x → r ≡ stopNo + 2 * a
+    → packed r m o ≡ run p (orStop x a f) (runOf a m o)
+unfolding run effects
+reads-stop p width x f a r m o e h =
+    packed-absent a r m o h ∙ sym (ap (λ y. run p y (runOf a m o)) (or-none x a f (not-none x width a e)))
 
-module _ {p : Page} {tab : ℕ} {s : St} {o m : List ℕ} {k : ℕ → Layout} {x : Read} where
-  pub list-is : {n : ℕ} {s′ : St} → ReadAt listAt 3 (p .rec) s x → x ≡ Is n s′ → Same p tab (list k) (runOf s o m) (k n) (runOf s′ o m)
-  unfolding runs outcome
-  list-is {n} {s′} e f = record { is = reads-same p tab 3 (listAt (p .rec) (s .at)) k n s s′ o m (sym f ∙ e .is) }
+-- A command that is read whole stands in the record.
+abbrev Whole : List ℕ → (List ℕ → ℕ → Option ℕ) → ℕ → Type 0
+Whole r reads width = (a n : ℕ) → reads r a ≡ some n → a + width ≤ length r
 
-  pub choice-is : {n : ℕ} {s′ : St} → ReadAt choiceAt 2 (p .rec) s x → x ≡ Is n s′ → Same p tab (choice k) (runOf s o m) (k n) (runOf s′ o m)
-  unfolding runs outcome
-  choice-is {n} {s′} e f = record { is = reads-same p tab 2 (choiceAt (p .rec) (s .at)) k n s s′ o m (sym f ∙ e .is) }
+token-whole : (r : List ℕ) (count : ℕ) → Whole r (λ bytes. tokenFits bytes count) 3
+token-whole r count a n e = token-fits r a n (token-parts r count a n e .0)
 
-  pub form-is : {family : Code.Family} {n : ℕ} {s′ : St} → FormRead family (p .rec) s x → x ≡ Is n s′
-      → Same p tab (form (familyOf family) k) (runOf s o m) (k n) (runOf s′ o m)
-  unfolding runs outcome
-  form-is {family} {n} {s′} e f =
-      record { is = reads-same p tab (formWidth (familyOf family)) (formAt (p .rec) (familyOf family) (s .at)) k n s s′ o m (sym f ∙ e .is) }
+module _ {words : List ℕ} {p : Page} {a : ℕ} {m o : List ℕ} {x : Read} where
+  read-same : (reads : List ℕ → ℕ → Option ℕ) (width : ℕ) {n b : ℕ} (w : Layout) (k : ℕ → Layout) → Whole (p .rec) reads width
+      → runs p w (runOf a m o) ≡ run p (orStop (reads (p .rec) a) a (λ i. outcome p (k i) (a + width))) (runOf a m o)
+      → x ≡ readOf width a (reads (p .rec) a) → x ≡ Is n b → Same words p w (runOf a m o) (k n) (runOf b m o)
+  read-same reads width {n} {b} w k fits d e f =
+      let h = sym f ∙ e in
+      let q = is-some (reads (p .rec) a) width n a b h in
+      record { on = λ fair. behind width fair (fits a n (q .0)) (q .1); is = λ fair. d ∙ reads-same p width (reads (p .rec) a) k n a b m o h }
 
-  module _ {a : Answer} (h : a ≡ Stopped s (s .at) false) where
-    pub list-not : ReadAt listAt 3 (p .rec) s x → x ≡ Read.Not → Walked p tab (list k) (runOf s o m) a o m
+  module _ {k : ℕ → Layout} where
+    pub list-is : {n b : ℕ} → ReadAt listAt 3 (p .rec) a x → x ≡ Is n b → Same words p (list k) (runOf a m o) (k n) (runOf b m o)
     unfolding runs outcome
-    list-not e f = record { is = ap (λ y. packed y o m) h ∙ reads-stop p tab 3 (listAt (p .rec) (s .at)) (λ i. outcome p (k i) (s .at + 3)) s o m (sym f ∙ e .is) }
+    list-is e f = read-same listAt 3 (list k) k (list-fits (p .rec)) refl (e .is) f
 
-    pub choice-not : ReadAt choiceAt 2 (p .rec) s x → x ≡ Read.Not → Walked p tab (choice k) (runOf s o m) a o m
+    pub choice-is : {n b : ℕ} → ReadAt choiceAt 2 (p .rec) a x → x ≡ Is n b → Same words p (choice k) (runOf a m o) (k n) (runOf b m o)
     unfolding runs outcome
-    choice-not e f = record { is = ap (λ y. packed y o m) h ∙ reads-stop p tab 2 (choiceAt (p .rec) (s .at)) (λ i. outcome p (k i) (s .at + 2)) s o m (sym f ∙ e .is) }
+    choice-is e f = read-same choiceAt 2 (choice k) k (choice-fits (p .rec)) refl (e .is) f
 
-    pub form-not : {family : Code.Family} → FormRead family (p .rec) s x → x ≡ Read.Not → Walked p tab (form (familyOf family) k) (runOf s o m) a o m
+    pub form-is : {family : Code.Family} {n b : ℕ} → FormRead family (p .rec) a x → x ≡ Is n b
+        → Same words p (form (familyOf family) k) (runOf a m o) (k n) (runOf b m o)
     unfolding runs outcome
-    form-not {family} e f =
-        record { is = ap (λ y. packed y o m) h ∙ reads-stop p tab (formWidth (familyOf family)) (formAt (p .rec) (familyOf family) (s .at)) (λ i. outcome p (k i) (s .at + formWidth (familyOf family))) s o m (sym f ∙ e .is) }
+    form-is {family} e f =
+        read-same (λ r i. formAt r (familyOf family) i) (formWidth (familyOf family)) (form (familyOf family) k) k (λ i n h. form-fits (p .rec) i (familyOf family) n h) refl (e .is) f
+
+    module _ {r : ℕ} (h : Stops a r) where
+      pub list-not : ReadAt listAt 3 (p .rec) a x → x ≡ Read.Not → Walked words p (list k) (runOf a m o) r m o
+      unfolding runs outcome
+      list-not e f = record { is = λ fair. reads-stop p 3 (listAt (p .rec) a) (λ i. outcome p (k i) (a + 3)) a r m o (sym f ∙ e .is) (h .is (fair .cursor)) }
+
+      pub choice-not : ReadAt choiceAt 2 (p .rec) a x → x ≡ Read.Not → Walked words p (choice k) (runOf a m o) r m o
+      unfolding runs outcome
+      choice-not e f = record { is = λ fair. reads-stop p 2 (choiceAt (p .rec) a) (λ i. outcome p (k i) (a + 2)) a r m o (sym f ∙ e .is) (h .is (fair .cursor)) }
+
+      pub form-not : {family : Code.Family} → FormRead family (p .rec) a x → x ≡ Read.Not → Walked words p (form (familyOf family) k) (runOf a m o) r m o
+      unfolding runs outcome
+      form-not {family} e f =
+          record {
+            is = λ fair. reads-stop p (formWidth (familyOf family)) (formAt (p .rec) (familyOf family) a)
+                (λ i. outcome p (k i) (a + formWidth (familyOf family))) a r m o (sym f ∙ e .is) (h .is (fair .cursor));
+          }
 
 -- ---- a token
-abbrev pub TokenRead : Page → St → Read → Type 0
-TokenRead p s x = ReadAt (λ bytes. tokenFits bytes (length (p .tokens .starts))) 3 (p .rec) s x
+abbrev pub TokenRead : Page → ℕ → Read → Type 0
+TokenRead p a x = ReadAt (λ bytes. tokenFits bytes (length (p .tokens .starts))) 3 (p .rec) a x
 
-abbrev reads-token : Page → St → Option ℕ
-reads-token p s = tokenFits (p .rec) (length (p .tokens .starts)) (s .at)
+abbrev reads-token : Page → ℕ → Option ℕ
+reads-token p a = tokenFits (p .rec) (length (p .tokens .starts)) a
 
 -- An operator that is kept: the walk behind it.
 abbrev kept : Page → Layout → Layout → Layout → ℕ → ℕ → Outcome
 kept p lhs pipe gap k a = bind (outcome p lhs a) (operated p k (λ next. outcome p pipe next) (λ next. outcome p gap next))
 
-module _ {p : Page} {tab : ℕ} {s : St} {o m : List ℕ} {x : Read} where
-  pub text-is : {k : ℕ} {s′ s″ : St} {o′ : List ℕ} → TokenRead p s x → x ≡ Is k s′ → Texted (p .text) (p .tokens .starts) (p .tokens .lengths) tab k s′ o s″ o′
-      → Walked p tab text (runOf s o m) (Done s″) o′ m
+-- The cursor behind a token is no stop.
+token-behind : {words : List ℕ} {p : Page} {a k b : ℕ} {x : Read} → Fair words p a → TokenRead p a x → x ≡ Is k b → b < stopNo
+token-behind {p = p} {a} {k} {b} fair e f =
+    let q = is-some (reads-token p a) 3 k a b (sym f ∙ e .is) in
+    behind 3 fair (token-whole (p .rec) (length (p .tokens .starts)) a k (q .0)) (q .1)
+
+module _ {words : List ℕ} {p : Page} {a : ℕ} {m o : List ℕ} {x : Read} where
+  pub text-is : {k b : ℕ} {m′ o′ : List ℕ} → TokenRead p a x → x ≡ Is k b → Texted (p .text) (p .tokens .starts) (p .tokens .lengths) k m o m′ o′
+      → Walked words p text (runOf a m o) b m′ o′
   unfolding runs outcome run effects effect
-  text-is {k} {s′} e f t =
+  text-is {k} {b} {m′} {o′} e f t =
       record {
-        is = ap went (text-effects p t)
-            ∙ sym (reads-end p tab 3 (reads-token p s) (λ k next. done next (Token k ∷ [])) k s s′ o m (sym f ∙ e .is));
+        is = λ fair. packed-done b m′ o′ (token-behind fair e f)
+            ∙ ap went (text-effects p t)
+            ∙ sym (reads-end p 3 (reads-token p a) (λ k next. done next (Token k ∷ [])) k a b m o (sym f ∙ e .is));
       }
 
-  pub text-not : {a : Answer} → a ≡ Stopped s (s .at) false → TokenRead p s x → x ≡ Read.Not → Walked p tab text (runOf s o m) a o m
+  pub text-not : {r : ℕ} → Stops a r → TokenRead p a x → x ≡ Read.Not → Walked words p text (runOf a m o) r m o
   unfolding runs outcome
-  text-not h e f = record { is = ap (λ y. packed y o m) h ∙ reads-stop p tab 3 (reads-token p s) (λ k. done (s .at + 3) (Token k ∷ [])) s o m (sym f ∙ e .is) }
+  text-not {r} h e f = record { is = λ fair. reads-stop p 3 (reads-token p a) (λ k. done (a + 3) (Token k ∷ [])) a r m o (sym f ∙ e .is) (h .is (fair .cursor)) }
 
   -- An operator that is kept.
   module _ {lhs pipe gap : Layout} where
-    pub operator-not : {a : Answer} → a ≡ Stopped s (s .at) false → TokenRead p s x → x ≡ Read.Not → Walked p tab (operator lhs pipe gap) (runOf s o m) a o m
+    pub operator-not : {r : ℕ} → Stops a r → TokenRead p a x → x ≡ Read.Not → Walked words p (operator lhs pipe gap) (runOf a m o) r m o
     unfolding runs outcome
-    operator-not h e f = record { is = ap (λ y. packed y o m) h ∙ reads-stop p tab 3 (reads-token p s) (λ k. kept p lhs pipe gap k (s .at + 3)) s o m (sym f ∙ e .is) }
+    operator-not {r} h e f =
+        record { is = λ fair. reads-stop p 3 (reads-token p a) (λ k. kept p lhs pipe gap k (a + 3)) a r m o (sym f ∙ e .is) (h .is (fair .cursor)) }
 
-    operator-ends : {k : ℕ} {s′ : St} {r : Answer} {o′ m′ : List ℕ} → TokenRead p s x → x ≡ Is k s′ → Ended p tab (kept p lhs pipe gap k) (runOf s′ o m) r o′ m′
-        → Walked p tab (operator lhs pipe gap) (runOf s o m) r o′ m′
+    operator-ends : {k b r : ℕ} {m′ o′ : List ℕ} → TokenRead p a x → x ≡ Is k b → Ended words p (kept p lhs pipe gap k) (runOf b m o) r m′ o′
+        → Walked words p (operator lhs pipe gap) (runOf a m o) r m′ o′
     unfolding runs outcome
-    operator-ends {k} {s′} e f h = record { is = h .is ∙ sym (reads-end p tab 3 (reads-token p s) (kept p lhs pipe gap) k s s′ o m (sym f ∙ e .is)) }
+    operator-ends {k} {b} e f h =
+        record { is = λ fair. h .is (fair-on fair (token-behind fair e f)) ∙ sym (reads-end p 3 (reads-token p a) (kept p lhs pipe gap) k a b m o (sym f ∙ e .is)) }
 
-    pub operator-stop : {k : ℕ} {s′ s″ : St} {r : Answer} {o′ m′ : List ℕ} {place : ℕ} {import : Bool} → TokenRead p s x → x ≡ Is k s′
-        → Walked p tab lhs (runOf s′ o m) r o′ m′ → r ≡ Stopped s″ place import → Walked p tab (operator lhs pipe gap) (runOf s o m) r o′ m′
-    operator-stop e f h i = operator-ends e f (ended-stop (operated p _ (λ next. outcome p pipe next) (λ next. outcome p gap next)) (ended h) i)
+    pub operator-stop : {k b r : ℕ} {m′ o′ : List ℕ} {y : Answer} → TokenRead p a x → x ≡ Is k b
+        → Walked words p lhs (runOf b m o) r m′ o′ → y ≡ toldOf r → y ≡ Stopped → Walked words p (operator lhs pipe gap) (runOf a m o) r m′ o′
+    operator-stop e f h t i = operator-ends e f (ended-stop (operated p _ (λ next. outcome p pipe next) (λ next. outcome p gap next)) (ended h) t i)
 
-    pub operator-done : {k : ℕ} {s′ s″ : St} {r r′ : Answer} {o′ m′ o″ m″ : List ℕ} → TokenRead p s x → x ≡ Is k s′
-        → Walked p tab lhs (runOf s′ o m) r′ o′ m′ → r′ ≡ Done s″
-        → Ended p tab (operated p k (λ next. outcome p pipe next) (λ next. outcome p gap next)) (runOf s″ o′ m′) r o″ m″
-        → Walked p tab (operator lhs pipe gap) (runOf s o m) r o″ m″
-    operator-done e f h i j = operator-ends e f (ended-done (ended h) i j)
+    pub operator-done : {k b c r r′ : ℕ} {m′ o′ m″ o″ : List ℕ} {y : Answer} → TokenRead p a x → x ≡ Is k b
+        → Walked words p lhs (runOf b m o) r′ m′ o′ → y ≡ toldOf r′ → y ≡ Done c
+        → Ended words p (operated p k (λ next. outcome p pipe next) (λ next. outcome p gap next)) (runOf c m′ o′) r m″ o″
+        → Walked words p (operator lhs pipe gap) (runOf a m o) r m″ o″
+    operator-done e f h t i j = operator-ends e f (ended-done (ended h) t i j)
 
 -- ---- a group
-group-true : (b : Bool) (s s′ : St) → Done s′ ≡ groupOf s b → (b ≡ true) × (s′ ≡ moved (s .at + 1) s)
+group-true : (b : Bool) (a n s : ℕ) {x : Answer} → a < stopNo → n ≡ groupOf a b → x ≡ toldOf n → x ≡ Done s → (b ≡ true) × (s ≡ a + 1)
 unfolding groupOf
-group-true true s s′ e = (refl, cc)
-group-true false s s′ e = never (cc)
+group-true true a n s h e t f = (refl, sym (told-done n s (sym t ∙ f) .0) ∙ e)
+group-true false a n s h e t f = absurd (omega (arith, e, told-done n s (sym t ∙ f) .1))
 
-group-false : (b : Bool) (s s′ : St) (place : ℕ) (import : Bool) → Stopped s′ place import ≡ groupOf s b → b ≡ false
+group-false : (b : Bool) (a n : ℕ) {x : Answer} → (b ≡ true → a + 1 < stopNo) → n ≡ groupOf a b → x ≡ toldOf n → x ≡ Stopped → (b ≡ false) × (n ≡ stopNo + 2 * a)
 unfolding groupOf
-group-false true s s′ place import e = never (cc)
-group-false false s s′ place import e = refl
+group-false true a n h e t f = absurd (omega (arith, h refl, e, told-stop n (sym t ∙ f)))
+group-false false a n h e t f = (refl, e)
 
-module _ {p : Page} {tab : ℕ} {s : St} {o m : List ℕ} {w : Layout} {a : Answer} where
-  pub group-is : {s′ : St} → GroupRead (p .rec) s a → a ≡ Done s′ → Same p tab (group w) (runOf s o m) w (runOf s′ o m)
+module _ {words : List ℕ} {p : Page} {a n : ℕ} {m o : List ℕ} {w : Layout} {x : Answer} where
+  pub group-is : {s : ℕ} → GroupRead (p .rec) a n → x ≡ toldOf n → x ≡ Done s → Same words p (group w) (runOf a m o) w (runOf s m o)
   unfolding runs outcome
-  group-is {s′} e f =
-      let q = group-true (groupAt (p .rec) (s .at)) s s′ (sym f ∙ e .is) in
-      record { is = rw (q .0, outcome) (moved-run p tab (s .at + 1) w s s′ o m (q .1)) }
+  group-is {s} e t f =
+      record {
+        on = λ fair.
+            let q = group-true (groupAt (p .rec) a) a n s (fair .cursor) (e .is (fair .cursor)) t f in
+            behind 1 fair (group-fits (p .rec) a (q .0)) (q .1);
+        is = λ fair.
+            let q = group-true (groupAt (p .rec) a) a n s (fair .cursor) (e .is (fair .cursor)) t f in
+            rw (q .0, outcome) (moved-run p (a + 1) w a s m o (q .1));
+      }
 
-  pub group-not : {s′ : St} {place : ℕ} {import : Bool} → GroupRead (p .rec) s a → a ≡ Stopped s′ place import → Walked p tab (group w) (runOf s o m) a o m
-  unfolding runs outcome run effects stopOf groupOf
-  group-not {s′} {place} {import} e f =
-      let q = group-false (groupAt (p .rec) (s .at)) s s′ place import (sym f ∙ e .is) in
-      record { is = ap (λ y. packed y o m) (e .is ∙ ap (groupOf s) q) ∙ rw (q, outcome) refl }
+  pub group-not : GroupRead (p .rec) a n → x ≡ toldOf n → x ≡ Stopped → Walked words p (group w) (runOf a m o) n m o
+  unfolding runs outcome run effects
+  group-not e t f =
+      record {
+        is = λ fair.
+            let q = group-false (groupAt (p .rec) a) a n (λ h. omega (arith, group-fits (p .rec) a h, fair .short)) (e .is (fair .cursor)) t f in
+            packed-absent a n m o (q .1) ∙ rw (q .0, outcome) refl;
+      }
 
 -- ---- a field that may be absent
-pub gone-true : (b : Bool) (s s′ : St) → Gone.Past s′ ≡ goneOf s b → (b ≡ true) × (s′ ≡ moved (s .at + 1) s)
+pub gone-true : (b : Bool) (a s : ℕ) → Gone.Past s ≡ goneOf a b → (b ≡ true) × (s ≡ a + 1)
 unfolding goneOf
-gone-true true s s′ e = (refl, cc)
-gone-true false s s′ e = never (cc)
+gone-true true a s e = (refl, cc)
+gone-true false a s e = never (cc)
 
-pub gone-false : (b : Bool) (s : St) → Gone.There ≡ goneOf s b → b ≡ false
+pub gone-false : (b : Bool) (a : ℕ) → Gone.There ≡ goneOf a b → b ≡ false
 unfolding goneOf
-gone-false true s e = never (cc)
-gone-false false s e = refl
+gone-false true a e = never (cc)
+gone-false false a e = refl
 
-module _ {p : Page} {tab : ℕ} {s : St} {o m : List ℕ} {w : Layout} {x : Gone} where
-  pub maybe-past : {s′ : St} → GoneRead (p .rec) s x → x ≡ Gone.Past s′ → Walked p tab (maybe w) (runOf s o m) (Done s′) o m
+module _ {words : List ℕ} {p : Page} {a : ℕ} {m o : List ℕ} {w : Layout} {x : Gone} where
+  pub maybe-past : {s : ℕ} → GoneRead (p .rec) a x → x ≡ Gone.Past s → Walked words p (maybe w) (runOf a m o) s m o
   unfolding runs outcome run effects
-  maybe-past {s′} e f =
-      let q = gone-true (absentAt (p .rec) (s .at)) s s′ (sym f ∙ e .is) in
-      record { is = ap (λ y. went (runOf y o m)) (q .1) ∙ rw (q .0, outcome) refl }
+  maybe-past {s} e f =
+      let q = gone-true (absentAt (p .rec) a) a s (sym f ∙ e .is) in
+      record {
+        is = λ fair. packed-done s m o (behind 1 fair (absent-fits (p .rec) a (q .0)) (q .1)) ∙ ap (λ y. went (runOf y m o)) (q .1) ∙ rw (q .0, outcome) refl;
+      }
 
-  pub maybe-there : GoneRead (p .rec) s x → x ≡ Gone.There → Same p tab (maybe w) (runOf s o m) w (runOf s o m)
+  pub maybe-there : GoneRead (p .rec) a x → x ≡ Gone.There → Same words p (maybe w) (runOf a m o) w (runOf a m o)
   unfolding runs outcome
   maybe-there e f =
-      let q = gone-false (absentAt (p .rec) (s .at)) s (sym f ∙ e .is) in
-      record { is = rw (q, outcome) refl }
+      let q = gone-false (absentAt (p .rec) a) a (sym f ∙ e .is) in
+      here (rw (q, outcome) refl)
 
 -- ---- lists
 -- k items from the i-th on, with u before each but the first.
@@ -364,147 +478,159 @@ joint-later u i =
     let h : 0 < i + 1 = omega arith in
     rw (lt-ltb 0 (i + 1) h) refl
 
-module _ (p : Page) (tab : ℕ) (u w : Layout) where
-  times-from : (k i : ℕ) (g : Run) → runs p tab (times k (u ⨾ w)) g ≡ runs p tab (from u w (i + 1) k) g
+module _ (p : Page) (u w : Layout) where
+  times-from : (k i : ℕ) (g : Run) → runs p (times k (u ⨾ w)) g ≡ runs p (from u w (i + 1) k) g
   unfolding times from
   times-from zero i g = refl
   times-from (suc k) i g =
-      runs-seq p tab (u ⨾ w) (times k (u ⨾ w)) g
-      ∙ andThen-same (runs p tab (u ⨾ w) g) (runs p tab (times k (u ⨾ w))) (runs p tab (from u w (i + 1 + 1) k)) (times-from k (i + 1))
-      ∙ ap (λ v. andThen (runs p tab (v ⨾ w) g) (runs p tab (from u w (i + 1 + 1) k))) (sym (joint-later u i))
-      ∙ sym (runs-seq p tab (joint u (i + 1) ⨾ w) (from u w (i + 1 + 1) k) g)
+      runs-seq p (u ⨾ w) (times k (u ⨾ w)) g
+      ∙ andThen-same (runs p (u ⨾ w) g) (runs p (times k (u ⨾ w))) (runs p (from u w (i + 1 + 1) k)) (times-from k (i + 1))
+      ∙ ap (λ v. andThen (runs p (v ⨾ w) g) (runs p (from u w (i + 1 + 1) k))) (sym (joint-later u i))
+      ∙ sym (runs-seq p (joint u (i + 1) ⨾ w) (from u w (i + 1 + 1) k) g)
 
-  items-from : (n : ℕ) (g : Run) → runs p tab (items n w (u ⨾ w)) g ≡ runs p tab (from u w 0 n) g
+  skipped : (g : Run) → runs p (skip ⨾ w) g ≡ runs p w g
+  unfolding runs outcome run effects
+  skipped g = runs-seq p skip w g
+
+  items-from : (n : ℕ) (g : Run) → runs p (items n w (u ⨾ w)) g ≡ runs p (from u w 0 n) g
   unfolding items from
   items-from zero g = refl
   items-from (suc n) g =
-      runs-seq p tab w (times n (u ⨾ w)) g
-      ∙ andThen-same (runs p tab w g) (runs p tab (times n (u ⨾ w))) (runs p tab (from u w (0 + 1) n)) (times-from n 0)
-      ∙ ap (λ x. andThen x (runs p tab (from u w (0 + 1) n))) (sym (skip-same {p = p} {tab = tab} {w = w} {g = g} .is))
-      ∙ ap (λ v. andThen (runs p tab (v ⨾ w) g) (runs p tab (from u w (0 + 1) n))) (sym (joint-first u))
-      ∙ sym (runs-seq p tab (joint u 0 ⨾ w) (from u w (0 + 1) n) g)
+      runs-seq p w (times n (u ⨾ w)) g
+      ∙ andThen-same (runs p w g) (runs p (times n (u ⨾ w))) (runs p (from u w (0 + 1) n)) (times-from n 0)
+      ∙ ap (λ x. andThen x (runs p (from u w (0 + 1) n))) (sym (skipped g))
+      ∙ ap (λ v. andThen (runs p (v ⨾ w) g) (runs p (from u w (0 + 1) n))) (sym (joint-first u))
+      ∙ sym (runs-seq p (joint u 0 ⨾ w) (from u w (0 + 1) n) g)
 
-module _ {p : Page} {tab : ℕ} (w : Layout) where
+module _ {words : List ℕ} {p : Page} (w : Layout) where
   -- With a joint before each item but the first: before the loop, in a turn, after the last.
-  pub items-all : (u : Layout) (n : ℕ) {g : Run} → Same p tab (items n w (u ⨾ w)) g (from u w 0 (n - 0)) g
-  items-all u n {g} = record { is = items-from p tab u w n g ∙ ap (λ k. runs p tab (from u w 0 k) g) (sym (sub-zero n)) }
+  pub items-all : (u : Layout) (n : ℕ) {g : Run} → Same words p (items n w (u ⨾ w)) g (from u w 0 (n - 0)) g
+  items-all u n {g} = here (items-from p u w n g ∙ ap (λ k. runs p (from u w 0 k) g) (sym (sub-zero n)))
 
-  pub from-more : (u : Layout) {i n : ℕ} {g : Run} {r : Answer} {o m : List ℕ} → i < n
-      → Walked p tab (joint u i ⨾ w ⨾ from u w (i + 1) (n - (i + 1))) g r o m → Walked p tab (from u w i (n - i)) g r o m
+  pub from-more : (u : Layout) {i n : ℕ} {g : Run} {r : ℕ} {m o : List ℕ} → i < n
+      → Walked words p (joint u i ⨾ w ⨾ from u w (i + 1) (n - (i + 1))) g r m o → Walked words p (from u w i (n - i)) g r m o
   unfolding from
   from-more u {i} {n} e h =
       let q : n - i ≡ suc (n - (i + 1)) = omega arith in
       rw q (regroup h)
 
-  pub from-none : (u : Layout) {i n : ℕ} {s : St} {o m : List ℕ} → n ≤ i → Walked p tab (from u w i (n - i)) (runOf s o m) (Done s) o m
+  pub from-none : (u : Layout) {i n a : ℕ} {m o : List ℕ} → n ≤ i → Walked words p (from u w i (n - i)) (runOf a m o) a m o
   unfolding from
   from-none u {i} {n} e =
       let q : n - i ≡ 0 = omega arith in
       rw q last-skip
 
   -- Without a joint.
-  pub times-all : (n : ℕ) {g : Run} → Same p tab (times n w) g (times (n - 0) w) g
-  times-all n {g} = record { is = ap (λ k. runs p tab (times k w) g) (sym (sub-zero n)) }
+  pub times-all : (n : ℕ) {g : Run} → Same words p (times n w) g (times (n - 0) w) g
+  times-all n {g} = here (ap (λ k. runs p (times k w) g) (sym (sub-zero n)))
 
-  pub times-more : {i n : ℕ} {g : Run} {r : Answer} {o m : List ℕ} → i < n
-      → Walked p tab (w ⨾ times (n - (i + 1)) w) g r o m → Walked p tab (times (n - i) w) g r o m
+  pub times-more : {i n : ℕ} {g : Run} {r : ℕ} {m o : List ℕ} → i < n
+      → Walked words p (w ⨾ times (n - (i + 1)) w) g r m o → Walked words p (times (n - i) w) g r m o
   unfolding times
   times-more {i} {n} e h =
       let q : n - i ≡ suc (n - (i + 1)) = omega arith in
       rw q h
 
-  pub times-none : {i n : ℕ} {s : St} {o m : List ℕ} → n ≤ i → Walked p tab (times (n - i) w) (runOf s o m) (Done s) o m
+  pub times-none : {i n a : ℕ} {m o : List ℕ} → n ≤ i → Walked words p (times (n - i) w) (runOf a m o) a m o
   unfolding times
   times-none {i} {n} e =
       let q : n - i ≡ 0 = omega arith in
       rw q last-skip
 
 -- ---- a token that may be absent
-given-some : (t : Option ℕ) (b : Bool) (s s′ : St) → Given.There s′ ≡ presentOf s t b → (k : ℕ) × (t ≡ some k) × (s′ ≡ moved (s .at + 3) s)
+given-some : (t : Option ℕ) (b : Bool) (a s : ℕ) → Given.There s ≡ presentOf a t b → (k : ℕ) × (t ≡ some k) × (s ≡ a + 3)
 unfolding presentOf
-given-some (some k) b s s′ e = (k, refl, cc)
-given-some none true s s′ e = never (cc)
-given-some none false s s′ e = never (cc)
+given-some (some k) b a s e = (k, refl, cc)
+given-some none true a s e = never (cc)
+given-some none false a s e = never (cc)
 
-given-none : (t : Option ℕ) (b : Bool) (s s′ : St) → Given.Absent s′ ≡ presentOf s t b → (t ≡ none) × (b ≡ true) × (s′ ≡ moved (s .at + 1) s)
+given-none : (t : Option ℕ) (b : Bool) (a s : ℕ) → Given.Absent s ≡ presentOf a t b → (t ≡ none) × (b ≡ true) × (s ≡ a + 1)
 unfolding presentOf
-given-none (some j) b s s′ e = never (cc)
-given-none none true s s′ e = (refl, refl, cc)
-given-none none false s s′ e = never (cc)
+given-none (some j) b a s e = never (cc)
+given-none none true a s e = (refl, refl, cc)
+given-none none false a s e = never (cc)
 
-given-neither : (t : Option ℕ) (b : Bool) (s : St) → Given.Neither ≡ presentOf s t b → (t ≡ none) × (b ≡ false)
+given-neither : (t : Option ℕ) (b : Bool) (a : ℕ) → Given.Neither ≡ presentOf a t b → (t ≡ none) × (b ≡ false)
 unfolding presentOf
-given-neither (some j) b s e = never (cc)
-given-neither none true s e = never (cc)
-given-neither none false s e = (refl, refl)
+given-neither (some j) b a e = never (cc)
+given-neither none true a e = never (cc)
+given-neither none false a e = (refl, refl)
 
-module _ {p : Page} {tab : ℕ} {s : St} {o m : List ℕ} {v w : Layout} {x : Given} where
-  pub present-there : {s′ : St} → PresentRead (length (p .tokens .starts)) (p .rec) s x → x ≡ Given.There s′ → Same p tab (present v w) (runOf s o m) v (runOf s′ o m)
+module _ {words : List ℕ} {p : Page} {a : ℕ} {m o : List ℕ} {v w : Layout} {x : Given} where
+  pub present-there : {s : ℕ} → PresentRead (length (p .tokens .starts)) (p .rec) a x → x ≡ Given.There s → Same words p (present v w) (runOf a m o) v (runOf s m o)
   unfolding runs outcome
-  present-there {s′} e f =
-      let q = given-some (tokenFits (p .rec) (length (p .tokens .starts)) (s .at)) (absentAt (p .rec) (s .at)) s s′ (sym f ∙ e .is) in
-      record { is = rw (q .1, outcome) (moved-run p tab (s .at + 3) v s s′ o m (q .2)) }
+  present-there {s} e f =
+      let q = given-some (reads-token p a) (absentAt (p .rec) a) a s (sym f ∙ e .is) in
+      record {
+        on = λ fair. behind 3 fair (token-whole (p .rec) (length (p .tokens .starts)) a (q .0) (q .1)) (q .2);
+        is = λ fair. rw (q .1, outcome) (moved-run p (a + 3) v a s m o (q .2));
+      }
 
-  pub present-gone : {s′ : St} → PresentRead (length (p .tokens .starts)) (p .rec) s x → x ≡ Given.Absent s′ → Same p tab (present v w) (runOf s o m) w (runOf s′ o m)
+  pub present-gone : {s : ℕ} → PresentRead (length (p .tokens .starts)) (p .rec) a x → x ≡ Given.Absent s → Same words p (present v w) (runOf a m o) w (runOf s m o)
   unfolding runs outcome
-  present-gone {s′} e f =
-      let q = given-none (tokenFits (p .rec) (length (p .tokens .starts)) (s .at)) (absentAt (p .rec) (s .at)) s s′ (sym f ∙ e .is) in
-      record { is = rw (q .0, q .1, outcome) (moved-run p tab (s .at + 1) w s s′ o m (q .2)) }
+  present-gone {s} e f =
+      let q = given-none (reads-token p a) (absentAt (p .rec) a) a s (sym f ∙ e .is) in
+      record {
+        on = λ fair. behind 1 fair (absent-fits (p .rec) a (q .1)) (q .2);
+        is = λ fair. rw (q .0, q .1, outcome) (moved-run p (a + 1) w a s m o (q .2));
+      }
 
-  pub present-not : {a : Answer} → a ≡ Stopped s (s .at) false → PresentRead (length (p .tokens .starts)) (p .rec) s x → x ≡ Given.Neither → Walked p tab (present v w) (runOf s o m) a o m
-  unfolding runs outcome run effects stopOf
-  present-not h e f =
-      let q = given-neither (tokenFits (p .rec) (length (p .tokens .starts)) (s .at)) (absentAt (p .rec) (s .at)) s (sym f ∙ e .is) in
-      record { is = ap (λ y. packed y o m) h ∙ rw (q .0, q .1, outcome) refl }
+  pub present-not : {r : ℕ} → Stops a r → PresentRead (length (p .tokens .starts)) (p .rec) a x → x ≡ Given.Neither → Walked words p (present v w) (runOf a m o) r m o
+  unfolding runs outcome run effects
+  present-not {r} h e f =
+      let q = given-neither (reads-token p a) (absentAt (p .rec) a) a (sym f ∙ e .is) in
+      record { is = λ fair. packed-absent a r m o (h .is (fair .cursor)) ∙ rw (q .0, q .1, outcome) refl }
 
--- A function that asks no kinds and strikes nothing out, used in one that may.
-pub plain : {x r kinds starts lens : List ℕ} {tab : ℕ} {w : Layout} {s : St} {o o′ m : List ℕ} {a : Answer} → Plain x r starts lens tab w s o a o′
-    → Walked (page x r kinds starts lens) tab w (runOf s o m) a o′ m
-plain {kinds = kinds} {m = m} e = e .is kinds m
+-- A function that asks no kinds, used in one that may.
+pub plain : {words x r kinds starts lens : List ℕ} {w : Layout} {a n : ℕ} {m o m′ o′ : List ℕ} → Plain words x r starts lens w a m o n m′ o′
+    → Walked words (page x r kinds starts lens) w (runOf a m o) n m′ o′
+plain {kinds = kinds} e = e .is kinds
 
 -- ---- functions that only write
-pub sure-word : {tab : ℕ} {u : String} {s s′ : St} {o o′ : List ℕ} → Wrote tab (bytes u) s o s′ o′ → Sure tab (word u) s o s′ o′
+pub sure-word : {words : List ℕ} {u : String} {m o m′ o′ : List ℕ} → (words ≡ wordRun → Put (bytes u) m o m′ o′) → Sure words (word u) m o m′ o′
 unfolding runs outcome run effects effect
-sure-word e = record { is = λ p m. record { is = ap₂ (λ x y. went (runOf x y m)) (e .st) (e .out) } }
+sure-word e = record { is = λ h p a. ap₂ (λ x y. went (runOf a x y)) (e h .mem) (e h .out) }
 
-pub sure-indent : {tab d : ℕ} {s s′ : St} {o o′ : List ℕ} → Indented tab d s o s′ o′ → Sure tab (output-indent d) s o s′ o′
+pub sure-indent : {words : List ℕ} {d : ℕ} {m o m′ o′ : List ℕ} → Indented d m o m′ o′ → Sure words (output-indent d) m o m′ o′
 unfolding runs outcome run effects effect
-sure-indent e = record { is = λ p m. record { is = ap₂ (λ x y. went (runOf x y m)) (e .st) (e .out) } }
+sure-indent e = record { is = λ h p a. ap₂ (λ x y. went (runOf a x y)) (e .mem) (e .out) }
 
-pub sure-formed : {tab d : ℕ} {s s′ : St} {o : List ℕ} → s′ ≡ withDepth d s → Sure tab (formed d) s o s′ o
+pub sure-formed : {words : List ℕ} {d : ℕ} {m m′ o : List ℕ} → m′ ≡ deepened d m → Sure words (formed d) m o m′ o
 unfolding runs outcome run effects effect
-sure-formed {o = o} e = record { is = λ p m. record { is = ap (λ x. went (runOf x o m)) e } }
+sure-formed {o = o} e = record { is = λ h p a. ap (λ x. went (runOf a x o)) e }
 
-pub sure-then : {tab : ℕ} {v w : Layout} {s s′ s″ : St} {o o′ o″ : List ℕ} → Sure tab v s o s′ o′ → Sure tab w s′ o′ s″ o″ → Sure tab (v ⨾ w) s o s″ o″
-sure-then e f = record { is = λ p m. then-sure e (f .is p m) }
+pub sure-then : {words : List ℕ} {v w : Layout} {m o m′ o′ m″ o″ : List ℕ} → Sure words v m o m′ o′ → Sure words w m′ o′ m″ o″ → Sure words (v ⨾ w) m o m″ o″
+sure-then {v = v} {w} {m} {o} e f =
+    record { is = λ h p a. f .is h p a ∙ sym (runs-seq p v w (runOf a m o) ∙ ap (λ x. andThen x (runs p w)) (sym (e .is h p a))) }
 
-pub sure-skip : {tab : ℕ} {s : St} {o : List ℕ} → Sure tab skip s o s o
-sure-skip = record { is = λ p m. last-skip }
+pub sure-skip : {words m o : List ℕ} → Sure words skip m o m o
+unfolding runs outcome run effects
+sure-skip = record { is = λ h p a. refl }
 
 -- The invariant of a loop over the n items of a list: what is left to run leads on from what was to run.
-abbrev pub PlainTurn : List ℕ → List ℕ → List ℕ → List ℕ → ℕ → (ℕ → ℕ → Layout) → ℕ → St → List ℕ → ℕ → St → List ℕ → Type 0
-PlainTurn x r starts lens tab left n s₀ o₀ i s o =
+abbrev pub PlainTurn : List ℕ → List ℕ → List ℕ → List ℕ → List ℕ → (ℕ → ℕ → Layout) → ℕ → ℕ → List ℕ → List ℕ → ℕ → ℕ → List ℕ → List ℕ → Type 0
+PlainTurn words x r starts lens left n a₀ m₀ o₀ i a m o =
     (i ≤ n)
-    × ((kinds m : List ℕ) (a : Answer) (o′ : List ℕ)
-    → Walked (page x r kinds starts lens) tab (left i (n - i)) (runOf s o m) a o′ m
-    → Walked (page x r kinds starts lens) tab (left 0 (n - 0)) (runOf s₀ o₀ m) a o′ m)
+    × ((kinds : List ℕ) (b : ℕ) (m′ o′ : List ℕ)
+    → Walked words (page x r kinds starts lens) (left i (n - i)) (runOf a m o) b m′ o′
+    → Walked words (page x r kinds starts lens) (left 0 (n - 0)) (runOf a₀ m₀ o₀) b m′ o′)
     × (length o ≡ length o₀)
 
 -- ---- a joint
-pub sure-joint : {tab : ℕ} {u : Layout} {s s′ : St} {o o′ : List ℕ} {i : ℕ} → 0 < i → Sure tab u s o s′ o′ → Sure tab (joint u i) s o s′ o′
+pub sure-joint : {words : List ℕ} {u : Layout} {m o m′ o′ : List ℕ} {i : ℕ} → 0 < i → Sure words u m o m′ o′ → Sure words (joint u i) m o m′ o′
 unfolding joint
 sure-joint {i = i} h e = rw (lt-ltb 0 i h) e
 
-pub sure-no-joint : {tab : ℕ} (u : Layout) {s : St} {o : List ℕ} {i : ℕ} → i ≤ 0 → Sure tab (joint u i) s o s o
+pub sure-no-joint : {words : List ℕ} (u : Layout) {m o : List ℕ} {i : ℕ} → i ≤ 0 → Sure words (joint u i) m o m o
 unfolding joint
 sure-no-joint u {i = i} h = rw (le-ltb 0 i h) sure-skip
 
 -- ---- what a condition decides
-pub sure-when : {tab : ℕ} {w : Layout} {s s′ : St} {o o′ : List ℕ} {b : Bool} → b ≡ true → Sure tab w s o s′ o′ → Sure tab (when b w) s o s′ o′
+pub sure-when : {words : List ℕ} {w : Layout} {m o m′ o′ : List ℕ} {b : Bool} → b ≡ true → Sure words w m o m′ o′ → Sure words (when b w) m o m′ o′
 unfolding when
 sure-when e f = rw (e, when) f
 
-pub sure-unless : {tab : ℕ} (w : Layout) {s : St} {o : List ℕ} {b : Bool} → b ≡ false → Sure tab (when b w) s o s o
+pub sure-unless : {words : List ℕ} (w : Layout) {m o : List ℕ} {b : Bool} → b ≡ false → Sure words (when b w) m o m o
 unfolding when
 sure-unless w e = rw (e, when) sure-skip
 
@@ -513,96 +639,111 @@ sure-unless w e = rw (e, when) sure-skip
 abbrev either : Page → Layout → Layout → ℕ → Bool → Outcome
 either p v w a b = elim b [ true ↦ outcome p v a | false ↦ outcome p w a ]
 
-module _ {p : Page} {tab : ℕ} {s : St} {o m : List ℕ} {l : Look} {v w : Layout} {x : Read} where
-  pub look-yes : {n : ℕ} {s′ : St} {b : Bool} → FormRead Case.Exp (p .rec) s x → x ≡ Is n s′ → Looked (p .rec) l (s .at) b → b ≡ true
-      → Same p tab (look l v w) (runOf s o m) v (runOf s o m)
+module _ {words : List ℕ} {p : Page} {a : ℕ} {m o : List ℕ} {l : Look} {v w : Layout} {x : Read} where
+  pub look-yes : {n c : ℕ} {b : Bool} → FormRead Case.Exp (p .rec) a x → x ≡ Is n c → Looked (p .rec) l a b → b ≡ true
+      → Same words p (look l v w) (runOf a m o) v (runOf a m o)
   unfolding runs outcome orStop
-  look-yes {n} {s′} e f g h =
-      let q = is-some (formAt (p .rec) Exp (s .at)) (formWidth Exp) n s s′ (sym f ∙ e .is) .0 in
+  look-yes {n} {c} e f g h =
+      let q = is-some (formAt (p .rec) Exp a) (formWidth Exp) n a c (sym f ∙ e .is) .0 in
       let y = sym (g .is (p .text) (p .tokens .kinds) (p .tokens .starts) (p .tokens .lengths)) ∙ h in
-      record { is = rw (q, y, orStop) refl }
+      here (rw (q, y, orStop) refl)
 
-  pub look-no : {n : ℕ} {s′ : St} {b : Bool} → FormRead Case.Exp (p .rec) s x → x ≡ Is n s′ → Looked (p .rec) l (s .at) b → b ≡ false
-      → Same p tab (look l v w) (runOf s o m) w (runOf s o m)
+  pub look-no : {n c : ℕ} {b : Bool} → FormRead Case.Exp (p .rec) a x → x ≡ Is n c → Looked (p .rec) l a b → b ≡ false
+      → Same words p (look l v w) (runOf a m o) w (runOf a m o)
   unfolding runs outcome orStop
-  look-no {n} {s′} e f g h =
-      let q = is-some (formAt (p .rec) Exp (s .at)) (formWidth Exp) n s s′ (sym f ∙ e .is) .0 in
+  look-no {n} {c} e f g h =
+      let q = is-some (formAt (p .rec) Exp a) (formWidth Exp) n a c (sym f ∙ e .is) .0 in
       let y = sym (g .is (p .text) (p .tokens .kinds) (p .tokens .starts) (p .tokens .lengths)) ∙ h in
-      record { is = rw (q, y, orStop) refl }
+      here (rw (q, y, orStop) refl)
 
-  pub look-not : {a : Answer} → a ≡ Stopped s (s .at) false → FormRead Case.Exp (p .rec) s x → x ≡ Read.Not → Walked p tab (look l v w) (runOf s o m) a o m
+  pub look-not : {r : ℕ} → Stops a r → FormRead Case.Exp (p .rec) a x → x ≡ Read.Not → Walked words p (look l v w) (runOf a m o) r m o
   unfolding runs outcome
-  look-not h e f =
-      record { is = ap (λ y. packed y o m) h ∙ reads-stop p tab (formWidth Exp) (formAt (p .rec) Exp (s .at)) (λ k. either p v w (s .at) (sees p l (s .at))) s o m (sym f ∙ e .is) }
+  look-not {r} h e f =
+      record {
+        is = λ fair. reads-stop p (formWidth Exp) (formAt (p .rec) Exp a) (λ k. either p v w a (sees p l a)) a r m o (sym f ∙ e .is) (h .is (fair .cursor));
+      }
 
 -- About the first name of the path at the cursor.
-module _ {x r kinds starts lens : List ℕ} {tab : ℕ} {s : St} {o m : List ℕ} {t : Test} {v w : Layout} {a : Answer} where
-  pub name-yes : {s′ : St} {b : Bool} → GroupRead r s a → a ≡ Done s′ → TestedName x r starts lens t (s .at) b → b ≡ true
-      → Same (page x r kinds starts lens) tab (firstName t v w) (runOf s o m) v (runOf s o m)
+module _ {words x r kinds starts lens : List ℕ} {a n : ℕ} {m o : List ℕ} {t : Test} {v w : Layout} {y : Answer} where
+  pub name-yes : {s : ℕ} {b : Bool} → GroupRead r a n → y ≡ toldOf n → y ≡ Done s → TestedName x r starts lens t a b → b ≡ true
+      → Same words (page x r kinds starts lens) (firstName t v w) (runOf a m o) v (runOf a m o)
   unfolding runs outcome
-  name-yes {s′} e f g h =
-      let q = group-true (groupAt r (s .at)) s s′ (sym f ∙ e .is) .0 in
-      let y = sym (g .is kinds) ∙ h in
-      record { is = rw (q, y, outcome) refl }
+  name-yes {s} e u f g h =
+      let z = sym (g .is kinds) ∙ h in
+      record {
+        on = λ fair. fair .cursor;
+        is = λ fair. let q = group-true (groupAt r a) a n s (fair .cursor) (e .is (fair .cursor)) u f .0 in rw (q, z, outcome) refl;
+      }
 
-  pub name-no : {s′ : St} {b : Bool} → GroupRead r s a → a ≡ Done s′ → TestedName x r starts lens t (s .at) b → b ≡ false
-      → Same (page x r kinds starts lens) tab (firstName t v w) (runOf s o m) w (runOf s o m)
+  pub name-no : {s : ℕ} {b : Bool} → GroupRead r a n → y ≡ toldOf n → y ≡ Done s → TestedName x r starts lens t a b → b ≡ false
+      → Same words (page x r kinds starts lens) (firstName t v w) (runOf a m o) w (runOf a m o)
   unfolding runs outcome
-  name-no {s′} e f g h =
-      let q = group-true (groupAt r (s .at)) s s′ (sym f ∙ e .is) .0 in
-      let y = sym (g .is kinds) ∙ h in
-      record { is = rw (q, y, outcome) refl }
+  name-no {s} e u f g h =
+      let z = sym (g .is kinds) ∙ h in
+      record {
+        on = λ fair. fair .cursor;
+        is = λ fair. let q = group-true (groupAt r a) a n s (fair .cursor) (e .is (fair .cursor)) u f .0 in rw (q, z, outcome) refl;
+      }
 
-  pub name-not : {s′ : St} {place : ℕ} {import : Bool} → GroupRead r s a → a ≡ Stopped s′ place import → Walked (page x r kinds starts lens) tab (firstName t v w) (runOf s o m) a o m
-  unfolding runs outcome run effects stopOf groupOf
-  name-not {s′} {place} {import} e f =
-      let q = group-false (groupAt r (s .at)) s s′ place import (sym f ∙ e .is) in
-      record { is = ap (λ y. packed y o m) (e .is ∙ ap (groupOf s) q) ∙ rw (q, outcome) refl }
+  pub name-not : GroupRead r a n → y ≡ toldOf n → y ≡ Stopped → Walked words (page x r kinds starts lens) (firstName t v w) (runOf a m o) n m o
+  unfolding runs outcome run effects
+  name-not e u f =
+      record {
+        is = λ fair.
+            let q = group-false (groupAt r a) a n (λ h. omega (arith, group-fits r a h, fair .short)) (e .is (fair .cursor)) u f in
+            packed-absent a n m o (q .1) ∙ rw (q .0, outcome) refl;
+      }
 
 -- An operator that was kept, by its text.
-module _ {x r starts lens : List ℕ} {tab k : ℕ} {pipe gap : Layout} {b : Bool} (e : TestedText x starts lens isPipe k b) where
-  pub operated-pipe : {s s′ : St} {o o′ : List ℕ} → b ≡ true → Sure tab pipe s o s′ o′ → Operated x r starts lens tab k pipe gap s o s′ o′
-  unfolding operated
+module _ {words x r starts lens : List ℕ} {k : ℕ} {pipe gap : Layout} {b : Bool} (e : TestedText x starts lens isPipe k b) where
+  pub operated-pipe : {m o m′ o′ : List ℕ} → b ≡ true → Sure words pipe m o m′ o′ → Operated words x r starts lens k pipe gap m o m′ o′
+  unfolding operated runs
   operated-pipe h w =
       record {
-        is = λ kinds m.
+        is = λ d kinds a.
             let q = sym (e .is r kinds) ∙ h in
-            record { is = rw (q, operated) (ended (last-sure w) .is) };
+            rw (q, operated) (w .is d (page x r kinds starts lens) a);
       }
 
-  pub operated-gap : {s s₁ s₂ s₃ : St} {o o₁ o₂ o₃ : List ℕ} → b ≡ false → Sure tab gap s o s₁ o₁ → Texted x starts lens tab k s₁ o₁ s₂ o₂ → Sure tab gap s₂ o₂ s₃ o₃
-      → Operated x r starts lens tab k pipe gap s o s₃ o₃
-  unfolding operated
+  pub operated-gap : {m o m₁ o₁ m₂ o₂ m₃ o₃ : List ℕ} → b ≡ false → Sure words gap m o m₁ o₁ → Texted x starts lens k m₁ o₁ m₂ o₂ → Sure words gap m₂ o₂ m₃ o₃
+      → Operated words x r starts lens k pipe gap m o m₃ o₃
+  unfolding operated runs
   operated-gap h v t w =
       record {
-        is = λ kinds m.
+        is = λ d kinds a.
+            let p : Page = page x r kinds starts lens in
             let q = sym (e .is r kinds) ∙ h in
-            record {
-              is = rw (q, operated)
-                  (ended-done (ended (last-sure v)) refl (ended-after (Token k ∷ []) (text-effects (page x r kinds starts lens) t) (ended (last-sure w))) .is);
-            };
+            rw (q, operated)
+            (wrote-then p (outcome p gap) a _ _ (λ next. after (Token k ∷ []) (outcome p gap next)) (v .is d p a)
+            (wrote-after p (outcome p gap) a _ _ (Token k ∷ []) (text-effects p t) (w .is d p a)));
       }
+
+-- What was only written, as an outcome at the cursor.
+pub operated-ended : {words x r kinds starts lens : List ℕ} {k a : ℕ} {pipe gap : Layout} {m o m′ o′ : List ℕ} → Operated words x r starts lens k pipe gap m o m′ o′
+    → Ended words (page x r kinds starts lens)
+    (operated (page x r kinds starts lens) k (outcome (page x r kinds starts lens) pipe) (outcome (page x r kinds starts lens) gap)) (runOf a m o) a m′ o′
+operated-ended {kinds = kinds} {a = a} {m′ = m′} {o′} e = record { is = λ fair. packed-done a m′ o′ (fair .cursor) ∙ e .is (fair .words-are) kinds a }
 
 -- ---- two writes in one call
-module _ {p : Page} {tab : ℕ} where
-  ungroup : {g : Run} {o m : List ℕ} {u v w : Layout} {r : Answer} → Walked p tab ((u ⨾ v) ⨾ w) g r o m → Walked p tab (u ⨾ v ⨾ w) g r o m
-  ungroup {g} {o} {m} {u} {v} {w} {r} f =
+module _ {words : List ℕ} {p : Page} where
+  ungroup : {g : Run} {m o : List ℕ} {u v w : Layout} {r : ℕ} → Walked words p ((u ⨾ v) ⨾ w) g r m o → Walked words p (u ⨾ v ⨾ w) g r m o
+  ungroup {g} {m} {o} {u} {v} {w} {r} f =
       record {
-        is = f .is
-            ∙ (runs-seq p tab (u ⨾ v) w g ∙ ap (λ x. andThen x (runs p tab w)) (runs-seq p tab u v g) ∙ andThen-assoc (runs p tab u g) (runs p tab v) (runs p tab w))
-            ∙ sym (runs-seq p tab u (v ⨾ w) g
-            ∙ andThen-same (runs p tab u g) (runs p tab (v ⨾ w)) (λ x. andThen (runs p tab v x) (runs p tab w)) (runs-seq p tab v w));
+        is = λ fair. f .is fair
+            ∙ (runs-seq p (u ⨾ v) w g ∙ ap (λ x. andThen x (runs p w)) (runs-seq p u v g) ∙ andThen-assoc (runs p u g) (runs p v) (runs p w))
+            ∙ sym (runs-seq p u (v ⨾ w) g
+            ∙ andThen-same (runs p u g) (runs p (v ⨾ w)) (λ x. andThen (runs p v x) (runs p w)) (runs-seq p v w));
       }
 
-  pub then-both : {s s′ : St} {o o′ m o″ m″ : List ℕ} {u v w : Layout} {r : Answer} → Sure tab (u ⨾ v) s o s′ o′
-      → Walked p tab w (runOf s′ o′ m) r o″ m″ → Walked p tab (u ⨾ v ⨾ w) (runOf s o m) r o″ m″
+  pub then-both : {a r : ℕ} {m o m′ o′ m″ o″ : List ℕ} {u v w : Layout} → Sure words (u ⨾ v) m o m′ o′
+      → Walked words p w (runOf a m′ o′) r m″ o″ → Walked words p (u ⨾ v ⨾ w) (runOf a m o) r m″ o″
   then-both e h = ungroup (then-sure e h)
 
 -- The same invariant where comments may be struck out.
-abbrev pub Turn : Page → ℕ → (ℕ → ℕ → Layout) → ℕ → St → List ℕ → List ℕ → ℕ → St → List ℕ → List ℕ → Type 0
-Turn p tab left n s₀ o₀ m₀ i s o m =
+abbrev pub Turn : List ℕ → Page → (ℕ → ℕ → Layout) → ℕ → ℕ → List ℕ → List ℕ → ℕ → ℕ → List ℕ → List ℕ → Type 0
+Turn words p left n a₀ m₀ o₀ i a m o =
     (i ≤ n)
-    × ((a : Answer) (o′ m′ : List ℕ) → Walked p tab (left i (n - i)) (runOf s o m) a o′ m′ → Walked p tab (left 0 (n - 0)) (runOf s₀ o₀ m₀) a o′ m′)
+    × ((b : ℕ) (m′ o′ : List ℕ) → Walked words p (left i (n - i)) (runOf a m o) b m′ o′ → Walked words p (left 0 (n - 0)) (runOf a₀ m₀ o₀) b m′ o′)
     × (length o ≡ length o₀)
 
 -- ---- a deeper configuration
@@ -613,10 +754,10 @@ module _ {c new : Cfg} (e : Deeper c new) where
   pub deep-left : new .left ≡ c .left
   deep-left = ap (λ x. x .left) (e .is)
 
-  pub sure-in : (w : Helpers.Cfg → Layout) {s s′ : St} {o o′ : List ℕ} → Sure (new .tab) (w (cfgOf new)) s o s′ o′ → Sure (c .tab) (w (Helpers.deeper (cfgOf c))) s o s′ o′
-  sure-in w {s} {s′} {o} {o′} f = subst (λ x. Sure (x .tab) (w (cfgOf x)) s o s′ o′) (e .is) f
+  pub sure-in : (w : Helpers.Cfg → Layout) {words m o m′ o′ : List ℕ} → Sure words (w (cfgOf new)) m o m′ o′ → Sure words (w (Helpers.deeper (cfgOf c))) m o m′ o′
+  sure-in w {words} {m} {o} {m′} {o′} f = subst (λ x. Sure words (w (cfgOf x)) m o m′ o′) (e .is) f
 
   -- A function that is called with the deeper configuration.
-  pub along : {p : Page} {w : Helpers.Walkers → Helpers.Cfg → Layout} {g : Run} {r : Answer} {o m : List ℕ} → Does p new w g r o m
-      → Walked p (c .tab) (w (walks (c .left)) (Helpers.deeper (cfgOf c))) g r o m
-  along {p} {w} {g} {r} {o} {m} f = subst (λ x. Walked p (x .tab) (w (walks (x .left)) (cfgOf x)) g r o m) (e .is) (f .is)
+  pub along : {words : List ℕ} {p : Page} {w : Helpers.Walkers → Helpers.Cfg → Layout} {g : Run} {r : ℕ} {m o : List ℕ} → Does words p new w g r m o
+      → Walked words p (w (walks (c .left)) (Helpers.deeper (cfgOf c))) g r m o
+  along {words} {p} {w} {g} {r} {m} {o} f = subst (λ x. Walked words p (w (walks (x .left)) (cfgOf x)) g r m o) (e .is) (f .is)

@@ -1,16 +1,15 @@
--- What the walk's functions do to their state and to what is lent to them, event by event.
--- Their sums stop at a cap; proofs/Exact says that below it they are the sums of Events.
-use Prim.Native.Nat.{ℕ, _+_, _-_, _*_, min, max}
+-- What the walk's functions do to what is lent to them, event by event.
+-- Their sums wrap; proofs/Exact says that below the limits they are the sums of Events.
+use Prim.Native.Nat.{ℕ, _+_, _-_, _*_, _/_, _%_, _<_, max}
 use Prim.Native.String.{String}
 use mathlib.Core.List.{List, [], _∷_}
 use mathlib.Core.Bool.{Bool, true, false, cond}
 use mathlib.Core.Path.{_≡_}
-use lib.ListN.{length, getD, take, drop, replicate}
+use lib.ListN.{length, getD, set, take, drop, replicate}
 use lib.Seq.{paste}
-use lib.Dec.{leb, ltb}
+use lib.Dec.{leb, ltb, eqb}
 use Rattle.text.specs.Bytes.{bytes, trim}
-use Rattle.comments.specs.Set.{wordsOf, holds, without}
-use Rattle.layout.specs.declared.St.{St}
+use Rattle.comments.specs.Set.{clear}
 use Rattle.layout.specs.declared.Cfg.{Cfg}
 use Rattle.layout.specs.declared.Answer.{Answer}
 use Rattle.layout.specs.declared.Piece.{Piece}
@@ -33,23 +32,48 @@ use Rattle.reader.specs.declared.commands.Declaration.{Declaration}
 use mathlib.Core.Option.{Option, none, some}
 use Rattle.layout.specs.declared.Answer.the-variants.{Done, Stopped}
 use Rattle.layout.specs.Layout.{Layout, Look, Test, skip}
+use Rattle.layout.specs.Words.{wordRun}
 use Rattle.layout.specs.Helpers as Helpers
 use Rattle.layout.specs.Meaning.{Page, Event, Word, Token, Comment, Formed, Indent, Outcome, done, stopped, Stop, absent, imported, outcome, operated, commented, aboveFirst, tokenText, passes, funcIsBang, argIsSymbolic, namePasses, sees, Name, name, noName, Head, pathExp, otherExp, Seen, seen, unseen, Heads, both, missing}
 use Rattle.layout.specs.Events.{trimmed}
 use Rattle.layout.specs.Walk.{walks}
 
-abbrev pub cap : ℕ
-cap = 0x8000_0000
-
-abbrev pub satOf : ℕ → ℕ → ℕ
-satOf a b = min cap (a + b)
+-- A sum of 64 bits.
+abbrev pub sumOf : ℕ → ℕ → ℕ
+sumOf a b = (a + b) % 0x1_0000_0000_0000_0000
 
 -- The offset in the output where the next byte goes.
 abbrev pub placeAt : ℕ → ℕ → ℕ → ℕ
-placeAt tab letters units = min cap letters + tab * min cap units
+placeAt tab letters units = sumOf letters (tab % 0x1_0000_0000 * (units % 0x1_0000_0000))
 
-abbrev pub placeOf : ℕ → St → ℕ
-placeOf tab s = placeAt tab (s .letters) (s .units)
+-- The words that are lent to the walk: letters, units, deepest and the tab size, then those of the set of comments left.
+abbrev pub lettersIn : List ℕ → ℕ
+lettersIn m = getD m 0 0
+
+abbrev pub unitsIn : List ℕ → ℕ
+unitsIn m = getD m 1 0
+
+abbrev pub deepestIn : List ℕ → ℕ
+deepestIn m = getD m 2 0
+
+abbrev pub tabIn : List ℕ → ℕ
+tabIn m = getD m 3 0
+
+abbrev pub placeIn : List ℕ → ℕ
+placeIn m = placeAt (tabIn m) (lettersIn m) (unitsIn m)
+
+abbrev pub addLetters : ℕ → List ℕ → List ℕ
+addLetters n m = set m 0 (sumOf (lettersIn m) n)
+
+abbrev pub addUnits : ℕ → List ℕ → List ℕ
+addUnits d m = set m 1 (sumOf (unitsIn m) d)
+
+abbrev pub deepened : ℕ → List ℕ → List ℕ
+deepened d m = set m 2 (max (deepestIn m) d)
+
+-- The words without the token.
+abbrev pub struck : List ℕ → ℕ → List ℕ
+struck m k = cond (ltb (k / 64) 64) (set m (4 + k / 64) (clear (getD m (4 + k / 64) 0) (k % 64))) m
 
 -- A piece in the output at an offset, where it fits.
 abbrev pub placed : List ℕ → ℕ → List ℕ → List ℕ
@@ -64,46 +88,35 @@ abbrev pub pieceOf : List ℕ → List ℕ → Piece → List ℕ
 pieceOf run text (Piece.Word a n) = take n (drop a run)
 pieceOf run text (Piece.Text a n) = take n (drop a text)
 
-abbrev pub moved : ℕ → St → St
-moved at s = record { at = at; deepest = s .deepest; letters = s .letters; units = s .units }
-
-abbrev pub withLetters : ℕ → St → St
-withLetters n s = record { at = s .at; deepest = s .deepest; letters = satOf (s .letters) n; units = s .units }
-
-abbrev pub withDepth : ℕ → St → St
-withDepth d s = record { at = s .at; deepest = max (s .deepest) d; letters = s .letters; units = s .units }
-
-abbrev pub withUnits : ℕ → St → St
-withUnits d s = record { at = s .at; deepest = s .deepest; letters = s .letters; units = satOf (s .units) d }
-
--- The state of a run, the output, and the words of the set of comments left.
+-- The state of a run: the cursor, the words and the output that are lent.
 pub record Run : Type 0 where
-  pub st : St
+  pub at : ℕ
+  pub mem : List ℕ
   pub out : List ℕ
-  pub left : List ℕ
 
-abbrev pub runOf : St → List ℕ → List ℕ → Run
-runOf s o m = record { st = s; out = o; left = m }
+abbrev pub runOf : ℕ → List ℕ → List ℕ → Run
+runOf a m o = record { at = a; mem = m; out = o }
 
 abbrev pub at : ℕ → Run → Run
-at a g = runOf (moved a (g .st)) (g .out) (g .left)
+at a g = runOf a (g .mem) (g .out)
 
 -- A piece is written.
-abbrev pub wrote : ℕ → List ℕ → Run → Run
-wrote tab w g = runOf (withLetters (length w) (g .st)) (placed (g .out) (placeOf tab (g .st)) w) (g .left)
+abbrev pub wrote : List ℕ → Run → Run
+wrote w g = runOf (g .at) (addLetters (length w) (g .mem)) (placed (g .out) (placeIn (g .mem)) w)
 
--- The words without the token.
-abbrev pub struck : List ℕ → ℕ → List ℕ
-struck words k = wordsOf (without (holds words) k)
+-- An indent is written.
+abbrev pub indented : ℕ → Run → Run
+indented d g =
+    runOf (g .at) (addUnits d (g .mem))
+    (spaced (g .out) (placeIn (g .mem)) (placeAt (tabIn (g .mem)) (lettersIn (g .mem)) (sumOf (unitsIn (g .mem)) d)))
 
-module _ (p : Page) (tab : ℕ) where
+module _ (p : Page) where
   unfoldable pub effect : Event → Run → Run
-  effect (Word w) g = wrote tab (bytes w) g
-  effect (Token k) g = wrote tab (tokenText p k) g
-  effect (Comment k) g = wrote tab (trimmed p k) (runOf (g .st) (g .out) (struck (g .left) k))
-  effect (Formed d) g = runOf (withDepth d (g .st)) (g .out) (g .left)
-  effect (Indent d) g =
-      runOf (withUnits d (g .st)) (spaced (g .out) (placeOf tab (g .st)) (placeOf tab (withUnits d (g .st)))) (g .left)
+  effect (Word w) g = wrote (bytes w) g
+  effect (Token k) g = wrote (tokenText p k) g
+  effect (Comment k) g = wrote (trimmed p k) (runOf (g .at) (struck (g .mem) k) (g .out))
+  effect (Formed d) g = runOf (g .at) (deepened d (g .mem)) (g .out)
+  effect (Indent d) g = indented d g
 
   unfoldable pub effects : List Event → Run → Run
   effects [] g = g
@@ -114,23 +127,29 @@ pub data Ran : Type 0 where
   went : Run → Ran
   fell : Stop → Run → Ran
 
-module _ (p : Page) (tab : ℕ) where
+module _ (p : Page) where
   unfoldable pub run : Outcome → Run → Ran
-  run (done a es) g = went (at a (effects p tab es g))
-  run (stopped why es) g = fell why (at 0 (effects p tab es g))
+  run (done a es) g = went (at a (effects p es g))
+  run (stopped why es) g = fell why (at 0 (effects p es g))
 
   -- A layout from the cursor of the state.
   unfoldable pub runs : Layout → Run → Ran
-  runs w g = run (outcome p w (g .st .at)) g
+  runs w g = run (outcome p w (g .at)) g
 
-unfoldable pub stopOf : ℕ → Bool → Stop
-stopOf place false = absent place
-stopOf place true = imported place
+-- A walk answers a number: below this one the cursor behind what it read; from it on a stop, twice the place, and 1 for an import.
+abbrev pub stopNo : ℕ
+stopNo = 0x1_0000_0000
 
--- An answer with the output and the words beside it. At a stop the cursor does not count.
-abbrev pub packed : Answer → List ℕ → List ℕ → Ran
-packed (Done s) o m = went (runOf s o m)
-packed (Stopped s place import) o m = fell (stopOf place import) (at 0 (runOf s o m))
+unfoldable pub stopOf : ℕ → Stop
+stopOf n = cond (eqb (n % 2) 0) (absent (n / 2)) (imported (n / 2))
+
+-- What a walk's number says.
+abbrev pub toldOf : ℕ → Answer
+toldOf n = cond (ltb n stopNo) (Done n) Stopped
+
+-- A walk's number with the words and the output beside it. At a stop the cursor does not count.
+unfoldable pub packed : ℕ → List ℕ → List ℕ → Ran
+packed r m o = cond (ltb r stopNo) (went (runOf r m o)) (fell (stopOf (r - stopNo)) (runOf 0 m o))
 
 abbrev pub page : List ℕ → List ℕ → List ℕ → List ℕ → List ℕ → Page
 page x r kinds starts lens = record { text = x; rec = r; tokens = record { kinds = kinds; starts = starts; lengths = lens } }
@@ -144,88 +163,95 @@ unfoldable pub joint : Layout → ℕ → Layout
 joint u i = cond (ltb 0 i) u skip
 
 -- ---- contracts: a record each, so that a law's arguments are found from it
--- What a function of the walk says: its answer, its output and the set are what the layout's run leaves.
-pub record Walked (p : Page) (tab : ℕ) (w : Layout) (g : Run) (r : Answer) (o m : List ℕ) : Type 0 where
-  pub is : packed r o m ≡ runs p tab w g
+-- What a walk counts on and none asks of its caller: the run that is lent is that of the fixed words, the record is short,
+-- and the cursor is no stop.
+pub record Fair (words : List ℕ) (p : Page) (a : ℕ) : Type 0 where
+  pub words-are : words ≡ wordRun
+  pub short : length (p .rec) < stopNo
+  pub cursor : a < stopNo
+
+-- What a function of the walk says: its number, the words and the output are what the layout's run leaves.
+pub record Walked (words : List ℕ) (p : Page) (w : Layout) (g : Run) (r : ℕ) (m o : List ℕ) : Type 0 where
+  pub is : Fair words p (g .at) → packed r m o ≡ runs p w g
 
 -- The same of what is said by an outcome from the cursor on.
-pub record Ended (p : Page) (tab : ℕ) (f : ℕ → Outcome) (g : Run) (r : Answer) (o m : List ℕ) : Type 0 where
-  pub is : packed r o m ≡ run p tab (f (g .st .at)) g
+pub record Ended (words : List ℕ) (p : Page) (f : ℕ → Outcome) (g : Run) (r : ℕ) (m o : List ℕ) : Type 0 where
+  pub is : Fair words p (g .at) → packed r m o ≡ run p (f (g .at)) g
 
 -- The same of a function whose layout is given by the walks one form deeper and the configuration.
-pub record Does (p : Page) (c : Cfg) (w : Helpers.Walkers → Helpers.Cfg → Layout) (g : Run) (r : Answer) (o m : List ℕ) : Type 0 where
-  pub is : Walked p (c .tab) (w (walks (c .left)) (cfgOf c)) g r o m
+pub record Does (words : List ℕ) (p : Page) (c : Cfg) (w : Helpers.Walkers → Helpers.Cfg → Layout) (g : Run) (r : ℕ) (m o : List ℕ) : Type 0 where
+  pub is : Walked words p (w (walks (c .left)) (cfgOf c)) g r m o
 
--- The same of a function that asks no kinds and strikes no comment out.
-pub record Plain (x r starts lens : List ℕ) (tab : ℕ) (w : Layout) (s : St) (o : List ℕ) (a : Answer) (o′ : List ℕ) : Type 0 where
-  pub is : (kinds m : List ℕ) → Walked (page x r kinds starts lens) tab w (runOf s o m) a o′ m
+-- The same of a function that asks no kinds.
+pub record Plain (words x r starts lens : List ℕ) (w : Layout) (a : ℕ) (m o : List ℕ) (n : ℕ) (m′ o′ : List ℕ) : Type 0 where
+  pub is : (kinds : List ℕ) → Walked words (page x r kinds starts lens) w (runOf a m o) n m′ o′
 
--- A piece is written behind these letters and units; an indent.
-pub record Put (tab : ℕ) (w : List ℕ) (l u : ℕ) (o : List ℕ) (l′ : ℕ) (o′ : List ℕ) : Type 0 where
-  pub letters : l′ ≡ satOf l (length w)
-  pub out : o′ ≡ placed o (placeAt tab l u) w
+-- A piece is written.
+pub record Put (w m o m′ o′ : List ℕ) : Type 0 where
+  pub mem : m′ ≡ addLetters (length w) m
+  pub out : o′ ≡ placed o (placeIn m) w
 
-pub record PutIndent (tab d l u : ℕ) (o : List ℕ) (u′ : ℕ) (o′ : List ℕ) : Type 0 where
-  pub units : u′ ≡ satOf u d
-  pub out : o′ ≡ spaced o (placeAt tab l u) (placeAt tab l (satOf u d))
+-- An indent is written.
+pub record Indented (d : ℕ) (m o m′ o′ : List ℕ) : Type 0 where
+  pub mem : m′ ≡ addUnits d m
+  pub out : o′ ≡ spaced o (placeIn m) (placeAt (tabIn m) (lettersIn m) (sumOf (unitsIn m) d))
 
-pub record Wrote (tab : ℕ) (w : List ℕ) (s : St) (o : List ℕ) (s′ : St) (o′ : List ℕ) : Type 0 where
-  pub st : s′ ≡ withLetters (length w) s
-  pub out : o′ ≡ placed o (placeOf tab s) w
-
--- What a function says that only writes, and fixed words alone: its state and output are what the layout's run leaves.
-pub record Sure (tab : ℕ) (w : Layout) (s : St) (o : List ℕ) (s′ : St) (o′ : List ℕ) : Type 0 where
-  pub is : (p : Page) (m : List ℕ) → Walked p tab w (runOf s o m) (Done s′) o′ m
+-- What a function says that only writes, and fixed words alone: from any cursor the words and the output are what the layout's run leaves.
+pub record Sure (words : List ℕ) (w : Layout) (m o m′ o′ : List ℕ) : Type 0 where
+  pub is : words ≡ wordRun → (p : Page) (a : ℕ) → went (runOf a m′ o′) ≡ runs p w (runOf a m o)
 
 -- A configuration is one deeper than another.
 pub record Deeper (c new : Cfg) : Type 0 where
-  pub is : new ≡ record { depth = c .depth + 1; tab = c .tab; blank = c .blank; left = c .left }
+  pub is : new ≡ record { depth = c .depth + 1; blank = c .blank; left = c .left }
 
 -- A token's text is written.
-pub record Texted (x starts lens : List ℕ) (tab k : ℕ) (s : St) (o : List ℕ) (s′ : St) (o′ : List ℕ) : Type 0 where
-  pub is : Wrote tab (take (getD lens k 0) (drop (getD starts k 0) x)) s o s′ o′
+pub record Texted (x starts lens : List ℕ) (k : ℕ) (m o m′ o′ : List ℕ) : Type 0 where
+  pub is : Put (take (getD lens k 0) (drop (getD starts k 0) x)) m o m′ o′
 
--- An indent is written.
-pub record Indented (tab d : ℕ) (s : St) (o : List ℕ) (s′ : St) (o′ : List ℕ) : Type 0 where
-  pub st : s′ ≡ withUnits d s
-  pub out : o′ ≡ spaced o (placeOf tab s) (placeOf tab (withUnits d s))
+-- A stop at an offset of the record.
+pub record Stops (a n : ℕ) : Type 0 where
+  pub is : a < stopNo → n ≡ stopNo + 2 * a
+
+-- A stop at an import, behind its command.
+pub record Imports (a n : ℕ) : Type 0 where
+  pub is : a < stopNo → n ≡ stopNo + 2 * a + 1
 
 -- What is read at the cursor, with the cursor behind it.
-unfoldable pub readOf : ℕ → St → Option ℕ → Read
-readOf width s (some n) = Is n (moved (s .at + width) s)
-readOf width s none = Read.Not
+unfoldable pub readOf : ℕ → ℕ → Option ℕ → Read
+readOf width a (some n) = Is n (a + width)
+readOf width a none = Read.Not
 
-pub record ReadAt (reads : List ℕ → ℕ → Option ℕ) (width : ℕ) (r : List ℕ) (s : St) (x : Read) : Type 0 where
-  pub is : x ≡ readOf width s (reads r (s .at))
+pub record ReadAt (reads : List ℕ → ℕ → Option ℕ) (width : ℕ) (r : List ℕ) (a : ℕ) (x : Read) : Type 0 where
+  pub is : x ≡ readOf width a (reads r a)
 
 -- A form of a family, read at the cursor.
-pub record FormRead (family : Family) (r : List ℕ) (s : St) (x : Read) : Type 0 where
-  pub is : x ≡ readOf (formWidth (familyOf family)) s (formAt r (familyOf family) (s .at))
+pub record FormRead (family : Family) (r : List ℕ) (a : ℕ) (x : Read) : Type 0 where
+  pub is : x ≡ readOf (formWidth (familyOf family)) a (formAt r (familyOf family) a)
 
 -- A group at the cursor: the cursor behind it, or a stop.
-unfoldable pub groupOf : St → Bool → Answer
-groupOf s true = Done (moved (s .at + 1) s)
-groupOf s false = Stopped s (s .at) false
+unfoldable pub groupOf : ℕ → Bool → ℕ
+groupOf a true = a + 1
+groupOf a false = stopNo + 2 * a
 
-pub record GroupRead (r : List ℕ) (s : St) (a : Answer) : Type 0 where
-  pub is : a ≡ groupOf s (groupAt r (s .at))
+pub record GroupRead (r : List ℕ) (a n : ℕ) : Type 0 where
+  pub is : a < stopNo → n ≡ groupOf a (groupAt r a)
 
 -- Whether the field at the cursor is absent, with the cursor behind it.
-unfoldable pub goneOf : St → Bool → Gone
-goneOf s true = Past (moved (s .at + 1) s)
-goneOf s false = Gone.There
+unfoldable pub goneOf : ℕ → Bool → Gone
+goneOf a true = Past (a + 1)
+goneOf a false = Gone.There
 
-pub record GoneRead (r : List ℕ) (s : St) (x : Gone) : Type 0 where
-  pub is : x ≡ goneOf s (absentAt r (s .at))
+pub record GoneRead (r : List ℕ) (a : ℕ) (x : Gone) : Type 0 where
+  pub is : x ≡ goneOf a (absentAt r a)
 
 -- Whether a token stands at the cursor or is absent, with the cursor behind it.
-unfoldable pub presentOf : St → Option ℕ → Bool → Given
-presentOf s (some k) gone = There (moved (s .at + 3) s)
-presentOf s none true = Absent (moved (s .at + 1) s)
-presentOf s none false = Neither
+unfoldable pub presentOf : ℕ → Option ℕ → Bool → Given
+presentOf a (some k) gone = There (a + 3)
+presentOf a none true = Absent (a + 1)
+presentOf a none false = Neither
 
-pub record PresentRead (count : ℕ) (r : List ℕ) (s : St) (x : Given) : Type 0 where
-  pub is : x ≡ presentOf s (tokenFits r count (s .at)) (absentAt r (s .at))
+pub record PresentRead (count : ℕ) (r : List ℕ) (a : ℕ) (x : Given) : Type 0 where
+  pub is : x ≡ presentOf a (tokenFits r count a) (absentAt r a)
 
 -- A declaration's command whose operand is in range, read at an offset: the number of its form, its first token, the place of its fields.
 unfoldable pub declaredAt : ℕ → List ℕ → ℕ → Option (ℕ × Option ℕ × ℕ)
@@ -235,29 +261,35 @@ pub record DeclaredAt (count : ℕ) (r : List ℕ) (at : ℕ) (x : Declaration) 
   pub is : declarationIn x ≡ declaredAt count r at
 
 -- What a function says that writes an operator that was kept.
-pub record Operated (x r starts lens : List ℕ) (tab k : ℕ) (pipe gap : Layout) (s : St) (o : List ℕ) (s′ : St) (o′ : List ℕ) : Type 0 where
-  pub is : (kinds m : List ℕ)
-      → Ended (page x r kinds starts lens) tab (operated (page x r kinds starts lens) k (outcome (page x r kinds starts lens) pipe) (outcome (page x r kinds starts lens) gap))
-      (runOf s o m) (Done s′) o′ m
+pub record Operated (words x r starts lens : List ℕ) (k : ℕ) (pipe gap : Layout) (m o m′ o′ : List ℕ) : Type 0 where
+  pub is : words ≡ wordRun
+      → (kinds : List ℕ) (a : ℕ)
+      → went (runOf a m′ o′)
+      ≡ run (page x r kinds starts lens)
+      (operated (page x r kinds starts lens) k (outcome (page x r kinds starts lens) pipe) (outcome (page x r kinds starts lens) gap) a)
+      (runOf a m o)
 
 -- What a function says that writes the comment above a first token, and a layout behind it.
-pub record CommentedAbove (x kinds starts lens : List ℕ) (tab : ℕ) (first : Option ℕ) (line : Layout) (s : St) (o m : List ℕ) (s′ : St) (o′ m′ : List ℕ) : Type 0 where
-  pub is : (r : List ℕ)
-      → Ended (page x r kinds starts lens) tab (commented (aboveFirst (page x r kinds starts lens) first) (outcome (page x r kinds starts lens) line))
-      (runOf s o m) (Done s′) o′ m′
+pub record CommentedAbove (words x kinds starts lens : List ℕ) (first : Option ℕ) (line : Layout) (m o m′ o′ : List ℕ) : Type 0 where
+  pub is : words ≡ wordRun
+      → (r : List ℕ) (a : ℕ)
+      → went (runOf a m′ o′)
+      ≡ run (page x r kinds starts lens)
+      (commented (aboveFirst (page x r kinds starts lens) first) (outcome (page x r kinds starts lens) line) a)
+      (runOf a m o)
 
 -- Where the walk goes on after a type whose answer is dropped, at the type's offset.
-unfoldable pub onwardsOf : List ℕ → ℕ → ℕ → ℕ → Answer → Answer
-onwardsOf r count left at (Done s) = Done s
-onwardsOf r count left at (Stopped s place import) =
-    elim (formAt r Ty at) [
-      | some n ↦ elim (endWithin r count left (Fields.form Ty) at)
-          [ ok next ↦ Done (moved next s) | malformed other ↦ Stopped s other false | tooDeep other ↦ Stopped s other false ]
-      | none ↦ Stopped s place import
-    ]
+unfoldable pub onwardsOf : List ℕ → ℕ → ℕ → ℕ → ℕ → ℕ
+onwardsOf r count left a n =
+    cond (ltb n stopNo) n
+    (elim (formAt r Ty a) [
+      | some k ↦ elim (endWithin r count left (Fields.form Ty) a)
+          [ ok next ↦ next | malformed place ↦ stopNo + 2 * place | tooDeep place ↦ stopNo + 2 * place ]
+      | none ↦ n
+    ])
 
-pub record Onwards (r : List ℕ) (count left at : ℕ) (a b : Answer) : Type 0 where
-  pub is : b ≡ onwardsOf r count left at a
+pub record Onwards (r : List ℕ) (count left a n b : ℕ) : Type 0 where
+  pub is : length r < stopNo → b ≡ onwardsOf r count left a n
 
 -- The first name that an answer holds.
 abbrev pub nameIn : Code.Name → Name
@@ -277,9 +309,8 @@ pub record Looked (r : List ℕ) (l : Look) (at : ℕ) (b : Bool) : Type 0 where
   pub is : (x kinds starts lens : List ℕ) → b ≡ sees (page x r kinds starts lens) l at
 
 -- A comment's trimmed text is written, and the comment is not left any more.
-pub record Commented (x starts lens : List ℕ) (tab k : ℕ) (s : St) (o m : List ℕ) (s′ : St) (o′ m′ : List ℕ) : Type 0 where
-  pub wrote : Wrote tab (trim (take (getD lens k 0) (drop (getD starts k 0) x))) s o s′ o′
-  pub left : m′ ≡ struck m k
+pub record Commented (x starts lens : List ℕ) (k : ℕ) (m o m′ o′ : List ℕ) : Type 0 where
+  pub is : Put (trim (take (getD lens k 0) (drop (getD starts k 0) x))) (struck m k) o m′ o′
 
 -- What answers about AppExp's expressions stand for.
 abbrev pub headIn : Looks.Head → Head

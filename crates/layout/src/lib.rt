@@ -6,31 +6,37 @@ pub mod names; // names.rt: the first name of a path
 pub mod looks; // looks.rt: questions about the form at the cursor and about a token's text
 pub mod helpers; // helpers.rt: helpers of 000 that serve more than one family
 
-use comments::Set;
+use comments::cleared;
+use std::num::wrapping_add_u64;
 use text::trim;
 ghost use mathlib.Core.Path.{_≡_};
-ghost use Prim.Native.Nat.{ℕ, _+_, _*_, _≤_, min, max};
-ghost use lib.ListN.{length, take, drop, getD};
+ghost use Prim.Native.Nat.{ℕ, _+_, _≤_, max};
+ghost use lib.ListN.{take, drop, getD};
 ghost use Rattle.layout.specs.Words.{wordOf, wordRun};
 ghost use Rattle.text.specs.Bytes.{bytes};
 ghost use mathlib.Core.List.{List};
 ghost use Rattle.layout.specs.Layout.{word};
-ghost use Rattle.layout.specs.State.{cap, satOf, placeAt, placed, spaced, withDepth, Put, PutIndent, Wrote, Sure, Texted, Indented, Commented, struck, pieceOf, Deeper};
+ghost use Rattle.layout.specs.State.{toldOf, placeAt, placed, spaced, deepened, Put, Sure, Texted, Indented, Commented, struck, pieceOf, Deeper};
 
-const CAP: u64 = 0x8000_0000;
+// A walk answers a number: below STOP the cursor behind what was read, else STOP + 2 × the offset in the record of the
+// part that is absent; 1 more at an import.
+pub const STOP: usize = 0x1_0000_0000;
 
-// The cursor into the record, and the measures of what was written.
-pub struct St {
-    pub at: usize,
-    pub deepest: u64,
-    pub letters: u64,
-    pub units: u64,
-}
+// The words that are lent to the walk: the measures of what was written, the tab size, and from SET on the words of the
+// set of comments left.
+pub const LETTERS: usize = 0;
+
+pub const UNITS: usize = 1;
+
+pub const DEEPEST: usize = 2;
+
+pub const TAB: usize = 3;
+
+pub const SET: usize = 4;
 
 // `Cfg` of 000, with the depth in place of the indent's width, and how many forms may still stand inside one another.
 pub struct Cfg {
     pub depth: u64,
-    pub tab: u32,
     pub blank: bool,
     pub left: u64,
 }
@@ -43,44 +49,32 @@ impl Cfg {
     {
         Cfg {
             depth: self.depth + 1,
-            tab: self.tab,
             blank: self.blank,
             left: self.left,
         }
     }
 }
 
-// What a walk answers: the state behind what it read; or the state at a stop, the offset in the record of the part
-// that is absent, and whether it is an import.
+// What a walk's number says.
 pub enum Answer {
-    Done(St),
-    Stopped(St, usize, bool),
+    Done(usize),
+    Stopped,
 }
 
-// At most CAP.
-fn low(a: u64) -> u64
-    ensures { λ r. ⌜ r ≡ min cap a ⌝ }
+pub fn told(n: usize) -> Answer
+    ensures { λ r. ⌜ r ≡ toldOf n ⌝ }
 {
-    if a <= CAP { a } else { CAP }
-}
-
-// A sum that stops at CAP.
-fn sat(a: u64, b: u64) -> u64
-    ensures { λ r. ⌜ r ≡ satOf a b ⌝ }
-{
-    if a <= CAP {
-        if b <= CAP - a {
-            return a + b;
-        }
+    if n < STOP {
+        return Answer::Done(n);
     }
-    CAP
+    Answer::Stopped
 }
 
 // The offset in the output where the next byte goes.
-fn place(letters: u64, units: u64, tab: u32) -> u64
+fn place(letters: u64, units: u64, tab: u64) -> u64
     ensures { λ r. ⌜ r ≡ placeAt tab letters units ⌝ }
 {
-    low(letters) + (tab as u64) * low(units)
+    wrapping_add_u64(letters, (tab % 0x1_0000_0000) * (units % 0x1_0000_0000))
 }
 
 // Copies a piece into the output at an offset, where it fits.
@@ -119,49 +113,29 @@ fn space(out: &mut [u8], at: u64, end: u64)
     }
 }
 
-// Writes a piece behind these letters and units: the letters behind it.
-fn put(out: &mut [u8], letters: u64, units: u64, tab: u32, piece: &[u8]) -> u64
-    ensures { λ r. ⌜ Put tab (now (piece .entry)) letters units (now (out .entry)) r (now (out .exit)) ⌝ }
+// ---- writing
+// Writes a piece behind what was written.
+fn put(out: &mut [u8], mem: &mut [u64; 68], piece: &[u8])
+    ensures { λ _. ⌜ Put (now (piece .entry)) (now (mem .entry)) (now (out .entry)) (now (mem .exit)) (now (out .exit)) ⌝ }
 {
-    let at = place(letters, units, tab);
+    let letters = mem[LETTERS];
+    let at = place(letters, mem[UNITS], mem[TAB]);
     copy_in(out, at, piece);
-    sat(letters, piece.len() as u64)
-}
-
-pub fn write(out: &mut [u8], st: St, tab: u32, piece: &[u8]) -> St
-    ensures { λ r. ⌜ Wrote tab (now (piece .entry)) st (now (out .entry)) r (now (out .exit)) ⌝ }
-{
-    let letters = put(out, st.letters, st.units, tab, piece);
-    St {
-        at: st.at,
-        deepest: st.deepest,
-        letters,
-        units: st.units,
-    }
-}
-
-// Writes an indent at a depth: the units behind it.
-pub fn put_indent(out: &mut [u8], letters: u64, units: u64, tab: u32, depth: u64) -> u64
-    ensures { λ r. ⌜ PutIndent tab depth letters units (now (out .entry)) r (now (out .exit)) ⌝ }
-{
-    let more = sat(units, depth);
-    let at = place(letters, units, tab);
-    let end = place(letters, more, tab);
-    space(out, at, end);
-    more
+    mem[LETTERS] = wrapping_add_u64(letters, piece.len() as u64);
 }
 
 // An indent at a depth.
-pub fn indent_at(out: &mut [u8], st: St, tab: u32, depth: u64) -> St
-    ensures { λ r. ⌜ Indented tab depth st (now (out .entry)) r (now (out .exit)) ⌝ }
+pub fn indent_at(out: &mut [u8], mem: &mut [u64; 68], depth: u64)
+    ensures { λ _. ⌜ Indented depth (now (mem .entry)) (now (out .entry)) (now (mem .exit)) (now (out .exit)) ⌝ }
 {
-    let units = put_indent(out, st.letters, st.units, tab, depth);
-    St {
-        at: st.at,
-        deepest: st.deepest,
-        letters: st.letters,
-        units,
-    }
+    let letters = mem[LETTERS];
+    let units = mem[UNITS];
+    let tab = mem[TAB];
+    let more = wrapping_add_u64(units, depth);
+    let at = place(letters, units, tab);
+    let end = place(letters, more, tab);
+    space(out, at, end);
+    mem[UNITS] = more;
 }
 
 fn larger(a: u64, b: u64) -> u64
@@ -171,15 +145,10 @@ fn larger(a: u64, b: u64) -> u64
 }
 
 // A depth that `indented` forms.
-pub fn formed(st: St, depth: u64) -> St
-    ensures { λ r. ⌜ r ≡ withDepth depth st ⌝ }
+pub fn formed(mem: &mut [u64; 68], depth: u64)
+    ensures { λ _. ⌜ now (mem .exit) ≡ deepened depth (now (mem .entry)) ⌝ }
 {
-    St {
-        at: st.at,
-        deepest: larger(st.deepest, depth),
-        letters: st.letters,
-        units: st.units,
-    }
+    mem[DEEPEST] = larger(mem[DEEPEST], depth);
 }
 
 // ---- pieces
@@ -221,31 +190,11 @@ fn word_piece(w: usize) -> Piece
     Piece::Word(w / 16, w % 16)
 }
 
-// Writes a fixed word: the letters behind it.
-pub fn put_word(text: &[u8], out: &mut [u8], letters: u64, units: u64, tab: u32, w: usize) -> u64
-    ensures { λ r. ⌜ Put tab (bytes (wordOf w)) letters units (now (out .entry)) r (now (out .exit)) ⌝ }
-{
-    let run = words::RUN;
-    put(
-        out,
-        letters,
-        units,
-        tab,
-        piece_of(&run, text, word_piece(w)),
-    )
-}
-
 // A fixed word, by its place.
-pub fn word(text: &[u8], out: &mut [u8], st: St, tab: u32, w: usize) -> St
-    ensures { λ r. ⌜ Sure tab (word (wordOf w)) st (now (out .entry)) r (now (out .exit)) ⌝ }
+pub fn word<'a>(run: &'a [u8; 351], text: &'a [u8], out: &mut [u8], mem: &mut [u64; 68], w: usize)
+    ensures { λ _. ⌜ Sure (now (run .entry)) (word (wordOf w)) (now (mem .entry)) (now (out .entry)) (now (mem .exit)) (now (out .exit)) ⌝ }
 {
-    let letters = put_word(text, out, st.letters, st.units, tab, w);
-    St {
-        at: st.at,
-        deepest: st.deepest,
-        letters,
-        units: st.units,
-    }
+    put(out, mem, piece_of(run, text, word_piece(w)));
 }
 
 // The entry of a table, 0 past its end.
@@ -260,32 +209,30 @@ pub fn entry(table: &[u16], k: usize) -> usize
 }
 
 // The text of a token, by number.
-pub fn token(
-    text: &[u8],
+pub fn token<'a>(
+    run: &'a [u8; 351],
+    text: &'a [u8],
     starts: &[u16],
     lens: &[u16],
     out: &mut [u8],
-    st: St,
-    tab: u32,
+    mem: &mut [u64; 68],
     k: usize,
-) -> St
-    ensures { λ r. ⌜ Texted (now (text .entry)) (now (starts .entry)) (now (lens .entry)) tab k st (now (out .entry)) r (now (out .exit)) ⌝ }
+)
+    ensures { λ _. ⌜ Texted (now (text .entry)) (now (starts .entry)) (now (lens .entry)) k (now (mem .entry)) (now (out .entry)) (now (mem .exit)) (now (out .exit)) ⌝ }
 {
-    let run = words::RUN;
     let which = Piece::Text(entry(starts, k), entry(lens, k));
-    write(out, st, tab, piece_of(&run, text, which))
+    put(out, mem, piece_of(run, text, which));
 }
 
 // ---- comments
-// Strikes a token out of the set of comments left, whose words are lent.
-fn strike(left: &mut [u64; 64], k: usize)
-    ensures { λ _. ⌜ now (left .exit) ≡ struck (now (left .entry)) k ⌝ }
+// Strikes a token out of the set of comments left.
+fn strike(mem: &mut [u64; 68], k: usize)
+    ensures { λ _. ⌜ now (mem .exit) ≡ struck (now (mem .entry)) k ⌝ }
 {
-    let words = *left;
-    let set = Set { words };
-    let without = set.without(k);
-    let kept = without.words;
-    *left = kept;
+    let w = k / 64;
+    if w < 64 {
+        mem[SET + w] = cleared(mem[SET + w], k % 64);
+    }
 }
 
 // The trimmed text of a comment, by number; it is then not left any more.
@@ -294,14 +241,12 @@ pub fn comment(
     starts: &[u16],
     lens: &[u16],
     out: &mut [u8],
-    left: &mut [u64; 64],
-    st: St,
-    tab: u32,
+    mem: &mut [u64; 68],
     k: usize,
-) -> St
-    ensures { λ r. ⌜ Commented (now (text .entry)) (now (starts .entry)) (now (lens .entry)) tab k st (now (out .entry)) (now (left .entry)) r (now (out .exit)) (now (left .exit)) ⌝ }
+)
+    ensures { λ _. ⌜ Commented (now (text .entry)) (now (starts .entry)) (now (lens .entry)) k (now (mem .entry)) (now (out .entry)) (now (mem .exit)) (now (out .exit)) ⌝ }
 {
-    strike(left, k);
+    strike(mem, k);
     let n = entry(lens, k);
-    write(out, st, tab, trim(part(text, entry(starts, k), n)))
+    put(out, mem, trim(part(text, entry(starts, k), n)));
 }

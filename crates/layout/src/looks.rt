@@ -1,5 +1,4 @@
 // Questions about the form at an offset and about a token's text; what `AppExp` sees of its expressions.
-use crate::St;
 use crate::entry;
 use crate::fields::Read;
 use crate::fields::form;
@@ -70,10 +69,10 @@ pub fn alphanumeric(text: &[u8], starts: &[u16], lens: &[u16], k: usize) -> bool
 
 // ---- the form at an offset
 // The expression at the cursor, which is asked about before it is walked into.
-pub fn expression(rec: &[u8], st: St) -> Read
-    ensures { λ r. ⌜ FormRead Family.Exp (now (rec .entry)) st r ⌝ }
+pub fn expression(rec: &[u8], at: usize) -> Read
+    ensures { λ r. ⌜ FormRead Family.Exp (now (rec .entry)) at r ⌝ }
 {
-    form(rec, st, Family::Exp)
+    form(rec, at, Family::Exp)
 }
 
 pub fn is_if_exp(rec: &[u8], at: usize) -> bool

@@ -1,6 +1,8 @@
 -- `layout::comment` meets its contract.
-use mathlib.Core.Path.{ap, _∙_}
+use mathlib.Core.Path.{ap, ap₂, _∙_}
+use lib.ListN.{take, drop}
 use Rattle.text.specs.Bytes.{trim}
+use Rattle.layout.proofs.Pieces.{put-same, put-behind}
 use borrow.Author.Needs.{needs}
 use Rattle.layout.proofs.comment.Statement.{statement}
 use Rattle.layout.proofs.comment.Tie as tie
@@ -20,8 +22,8 @@ part-requires c κs = search needs
 trim-requires : tie.Need-trim-requires
 trim-requires c κs = search needs
 
-write-requires : tie.Need-write-requires
-write-requires c κs = search needs
+put-requires : tie.Need-put-requires
+put-requires c κs = search needs
 
 same-length : tie.Need-same-length
 same-length c = search needs
@@ -29,10 +31,11 @@ same-length c = search needs
 returns : tie.Need-returns
 returns c =
     let w = c .before .before in
-    let piece =
-    w .before .trim .ensures
-    ∙ ap trim (rw (w .before .before .before .before .before .entry .ensures, w .before .before .before .entry2 .ensures) at (w .before .before .part .ensures)) in
-    record { wrote = rw piece at (w .write .ensures); left = w .before .before .before .before .before .before .strike .ensures }
+    let e = w .before .before .before in
+    let l = e .before .before .before in
+    let text = l .before .before .before .before .before .before .before .args .text .now in
+    let piece = w .before .trim .ensures ∙ ap trim (w .before .before .part .ensures ∙ ap₂ (λ a n. take n (drop a text)) (e .entry2 .ensures) (l .entry .ensures)) in
+    record { is = put-behind (l .before .strike .ensures) (put-same piece (w .put .ensures)) }
 
 pub comment-spec : {M : Type 1} → statement M
 comment-spec =
@@ -43,6 +46,6 @@ comment-spec =
     entry-requires-2
     part-requires
     trim-requires
-    write-requires
+    put-requires
     same-length
     returns)

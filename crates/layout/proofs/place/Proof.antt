@@ -1,37 +1,23 @@
 -- `layout::place` meets its contract.
-use borrow.Author.Needs.{needs}
 use native.Mathlib.Omega.{arith}
 use native.Mathlib.Nat.{mul-le-mul}
-use Prim.Native.Nat.{_≤_}
-use mathlib.Core.Path.{refl}
-use Rattle.layout.specs.State.{cap}
+use Prim.Native.Nat.{_%_, _≤_}
+use borrow.Author.Needs.{needs}
 use Rattle.layout.proofs.place.Statement.{statement}
 use Rattle.layout.proofs.place.Tie as tie
 
-low-requires : tie.Need-low-requires
-low-requires c κs = search needs
-
-low-requires-2 : tie.Need-low-requires-2
-low-requires-2 c κs = search needs
-
-mul-result : tie.Need-mul-result
-mul-result c =
-    let t = c .before .before .args .tab in
-    let u = c .low2 .result in
-    let ht : t ≤ 4294967295 = omega arith in
-    let hu : u ≤ cap = omega (arith, c .low2 .ensures) in
+mul-wrapping-add-u64 : tie.Need-mul-wrapping-add-u64
+mul-wrapping-add-u64 c =
+    let a = c .args in
+    let ht : a .tab % 0x1_0000_0000 ≤ 0xFFFF_FFFF = omega arith in
+    let hu : a .units % 0x1_0000_0000 ≤ 0xFFFF_FFFF = omega arith in
     omega (arith, mul-le-mul ht hu)
 
-add-result : tie.Need-add-result
-add-result c =
-    let t = c .before .before .args .tab in
-    let u = c .low2 .result in
-    let ht : t ≤ 4294967295 = omega arith in
-    let hu : u ≤ cap = omega (arith, c .low2 .ensures) in
-    omega (arith, mul-le-mul ht hu, c .before .low .ensures)
+wrapping-add-u64-requires : tie.Need-wrapping-add-u64-requires
+wrapping-add-u64-requires c κs = search needs
 
 returns : tie.Need-returns
-returns c = rw (c .before .low .ensures, c .low2 .ensures) refl
+returns c = search needs
 
 pub place-spec : {M : Type 1} → statement M
-place-spec = tie.close (tie.spec low-requires low-requires-2 mul-result add-result returns)
+place-spec = tie.close (tie.spec mul-wrapping-add-u64 wrapping-add-u64-requires returns)

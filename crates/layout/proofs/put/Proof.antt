@@ -1,7 +1,17 @@
--- `put` meets its contract.
+-- `layout::put` meets its contract.
+use Rattle.layout.proofs.Placing.{put-is}
 use borrow.Author.Needs.{needs}
 use Rattle.layout.proofs.put.Statement.{statement}
 use Rattle.layout.proofs.put.Tie as tie
+
+element-copy-out-letters : tie.Need-element-copy-out-letters
+element-copy-out-letters c = search needs
+
+element-copy-out-place : tie.Need-element-copy-out-place
+element-copy-out-place c = search needs
+
+element-copy-out-place-2 : tie.Need-element-copy-out-place-2
+element-copy-out-place-2 c = search needs
 
 place-requires : tie.Need-place-requires
 place-requires c κs = search needs
@@ -9,14 +19,28 @@ place-requires c κs = search needs
 copy-in-requires : tie.Need-copy-in-requires
 copy-in-requires c κs = search needs
 
-sat-requires : tie.Need-sat-requires
-sat-requires c κs = search needs
+wrapping-add-u64-requires : tie.Need-wrapping-add-u64-requires
+wrapping-add-u64-requires c κs = search needs
+
+element-write-mem : tie.Need-element-write-mem
+element-write-mem c = search needs
 
 same-length : tie.Need-same-length
 same-length c = search needs
 
 returns : tie.Need-returns
-returns c = record { letters = cc; out = cc }
+returns c = put-is (c .before .before .before .before .before .place .ensures) (c .before .before .before .copy-in .ensures) (c .wrapping-add-u64 .ensures)
 
 pub put-spec : {M : Type 1} → statement M
-put-spec = tie.close (tie.spec place-requires copy-in-requires sat-requires same-length returns)
+put-spec =
+    tie.close
+    (tie.spec
+    element-copy-out-letters
+    element-copy-out-place
+    element-copy-out-place-2
+    place-requires
+    copy-in-requires
+    wrapping-add-u64-requires
+    element-write-mem
+    same-length
+    returns)

@@ -1,3 +1,4 @@
+-- `layout::helpers::alphanumeric_name` equals its definition.
 use Rattle.layout.proofs.NameLaws.{passes-name, passes-none}
 use borrow.Author.Needs.{needs}
 use Rattle.layout.proofs.helpers.alphanumeric_name.Statement.{statement}

@@ -13,7 +13,7 @@ same-length c = search needs
 
 returns : tie.Need-returns
 unfolding Helpers.indent
-returns c = sure-indent (c .before .before .indent-at .ensures)
+returns c = λ words. sure-indent (c .before .before .indent-at .ensures)
 
 pub indent-spec : {M : Type 1} → statement M
 indent-spec = tie.close (tie.spec indent-at-requires same-length returns)

@@ -16,7 +16,7 @@ same-length c = search needs
 
 returns : tie.Need-returns
 unfolding Helpers.indent-deeper Helpers.deepen
-returns c = sure-then (sure-formed (c .before .before .before .before .deepen .ensures)) (c .before .before .indent-in .ensures)
+returns c = λ words. sure-then (sure-formed (c .before .before .before .before .before .deepen .ensures)) (c .before .before .indent-in .ensures words)
 
 pub indent-deeper-spec : {M : Type 1} → statement M
 indent-deeper-spec = tie.close (tie.spec deepen-requires indent-in-requires same-length returns)

@@ -15,7 +15,7 @@ same-length : tie.Need-same-length
 same-length c = search needs
 
 returns : tie.Need-returns
-returns c = sure-in (c .before .before .before .before .indented .ensures) Helpers.indent (c .before .before .indent .ensures)
+returns c = λ words. sure-in (c .before .before .before .before .before .indented .ensures) Helpers.indent (c .before .before .indent .ensures words)
 
 pub indent-in-spec : {M : Type 1} → statement M
 indent-in-spec = tie.close (tie.spec indented-requires indent-requires same-length returns)

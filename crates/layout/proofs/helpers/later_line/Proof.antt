@@ -22,9 +22,7 @@ same-length c = search needs
 
 returns : tie.Need-returns
 unfolding Helpers.new-line
-returns c =
-    sure-then (c .before .before .before .before .before .before .before .before .before .before .before .before .before .before .word .ensures)
-    (sure-then (c .before .before .before .before .before .before .before .before .before .before .blank .ensures) (sure-then (c .before .before .before .before .before .before .indent .ensures) (c .before .before .word2 .ensures)))
+returns c = sure-then (c .before .before .before .before .before .before .before .before .before .before .before .before .before .before .before .before .before .word .ensures) (sure-then (c .before .before .before .before .before .before .before .before .before .before .before .before .blank .ensures) (sure-then (c .before .before .before .before .before .before .before .indent .ensures _) (c .before .before .word2 .ensures)))
 
 pub later-line-spec : {M : Type 1} → statement M
 later-line-spec =

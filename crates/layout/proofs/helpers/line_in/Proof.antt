@@ -14,7 +14,7 @@ same-length : tie.Need-same-length
 same-length c = search needs
 
 returns : tie.Need-returns
-returns c = sure-then (c .before .before .before .before .before .before .word .ensures) (c .before .before .indent-in .ensures)
+returns c = sure-then (c .before .before .before .before .before .before .before .word .ensures) (c .before .before .indent-in .ensures _)
 
 pub line-in-spec : {M : Type 1} → statement M
 line-in-spec = tie.close (tie.spec word-requires indent-in-requires same-length returns)

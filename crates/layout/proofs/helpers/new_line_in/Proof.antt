@@ -17,7 +17,7 @@ same-length : tie.Need-same-length
 same-length c = search needs
 
 returns : tie.Need-returns
-returns c = sure-in (c .before .before .before .before .indented .ensures) (λ new. joint (Helpers.new-line new (wordOf (c .before .before .before .before .before .before .before .args .w))) (c .before .before .before .before .before .before .before .args .i)) (c .before .before .new-line .ensures)
+returns c = sure-in (c .before .before .before .before .before .indented .ensures) (λ new. joint (Helpers.new-line new (wordOf (c .before .before .before .before .before .before .before .before .args .w))) (c .before .before .before .before .before .before .before .before .args .i)) (c .before .before .new-line .ensures)
 
 pub new-line-in-spec : {M : Type 1} → statement M
 new-line-in-spec = tie.close (tie.spec indented-requires new-line-requires same-length returns)

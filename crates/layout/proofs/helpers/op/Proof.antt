@@ -6,7 +6,7 @@ use Prim.Native.Nat.{_-_}
 use Rattle.layout.specs.Words.{wordOf}
 use Rattle.layout.specs.Layout as Layout
 use Rattle.layout.specs.Helpers as Helpers
-use Rattle.layout.proofs.Steps.{PlainTurn, from, plain, by-same, first-same, then-done, then-stop, then-sure, last-sure, last-skip, list-is, list-not, group-is, group-not, maybe-past, maybe-there, skip-same, items-all, from-more, from-none, text-is, text-not, present-there, present-gone, present-not, name-yes, name-no, name-not}
+use Rattle.layout.proofs.Steps.{PlainTurn, from, plain, by-same, first-same, then-done, then-stop, then-halt, then-sure, last-sure, last-skip, list-is, list-not, group-is, group-not, maybe-past, maybe-there, skip-same, items-all, from-more, from-none, text-is, text-not, present-there, present-gone, present-not, name-yes, name-no, name-not}
 use borrow.Author.Needs.{needs}
 use Rattle.layout.proofs.helpers.op.Statement.{statement}
 use Rattle.layout.proofs.helpers.op.Tie as tie
@@ -14,15 +14,18 @@ use Rattle.layout.proofs.helpers.op.Tie as tie
 group-requires : tie.Need-group-requires
 group-requires c κs = search needs
 
-enum-known-r1 : tie.Need-enum-known-r1
-enum-known-r1 c = search needs
+told-requires : tie.Need-told-requires
+told-requires c κs = search needs
+
+enum-known--s : tie.Need-enum-known--s
+enum-known--s c = search needs
 
 enum-told : tie.Need-enum-told
 enum-told c = search needs
 
 returns : tie.Need-returns
 unfolding Helpers.op
-returns c = record { is = λ kinds m. name-not (c .before .before .group .ensures) (c .enum-told .given .1) }
+returns c = record { is = λ kinds. name-not (c .before .before .before .group .ensures) (c .before .before .told .ensures) (c .enum-told .given .1) }
 
 word-requires : tie.Need-word-requires
 word-requires c κs = search needs
@@ -34,25 +37,26 @@ word-requires-2 : tie.Need-word-requires-2
 word-requires-2 c κs = search needs
 
 same-length : tie.Need-same-length
-same-length c = c .before .before .word2 .kept .1 .0 ∙ c .before .before .before .before .before .before .before .before .word .kept .1 .0
+same-length c = c .before .before .word2 .kept .1 .1 .0 ∙ c .before .before .before .before .before .before .before .before .before .word .kept .1 .1 .0
 
 returns-2 : tie.Need-returns-2
 unfolding Helpers.op
-returns-2 c = record { is = λ kinds m. by-same (name-yes (c .before .before .before .before .before .before .before .before .before .before .before .before .before .group .ensures) (c .before .before .before .before .before .before .before .before .before .before .before .r1 .given .1) (c .before .before .before .before .before .alphanumeric-name .ensures) (c .before .before .before .before .if1 .taken)) (then-sure (c .before .before .before .before .before .before .before .before .word .ensures) (last-sure (c .before .before .word2 .ensures))) }
+returns-2 c = record { is = λ kinds. by-same (name-yes (c .before .before .before .before .before .before .before .before .before .before .before .before .before .before .before .before .group .ensures) (c .before .before .before .before .before .before .before .before .before .before .before .before .before .before .before .told .ensures) (c .before .before .before .before .before .before .before .before .before .before .before .before .before .-s .given .1) (c .before .before .before .before .before .before .alphanumeric-name .ensures) (c .before .before .before .before .before .if1 .taken)) (then-sure (c .before .before .before .before .before .before .before .before .before .word .ensures) (last-sure (c .before .before .word2 .ensures))) }
 
 same-length-2 : tie.Need-same-length-2
-same-length-2 c = c .before .before .before .before .word .kept .1 .0
+same-length-2 c = c .before .before .before .before .word .kept .1 .1 .0
 
 returns-3 : tie.Need-returns-3
 unfolding Helpers.op
-returns-3 c = record { is = λ kinds m. by-same (name-no (c .before .before .before .before .before .before .before .before .before .group .ensures) (c .before .before .before .before .before .before .before .r1 .given .1) (c .before .alphanumeric-name .ensures) (c .if1 .left)) (last-sure (c .before .before .before .before .word .ensures)) }
+returns-3 c = record { is = λ kinds. by-same (name-no (c .before .before .before .before .before .before .before .before .before .before .before .group .ensures) (c .before .before .before .before .before .before .before .before .before .before .told .ensures) (c .before .before .before .before .before .before .before .before .-s .given .1) (c .before .alphanumeric-name .ensures) (c .if1 .left)) (last-sure (c .before .before .before .before .word .ensures)) }
 
 pub op-spec : {M : Type 1} → statement M
 op-spec =
     tie.close
     (tie.spec
     group-requires
-    enum-known-r1
+    told-requires
+    enum-known--s
     enum-told
     returns
     word-requires

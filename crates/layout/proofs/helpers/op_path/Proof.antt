@@ -6,7 +6,7 @@ use Prim.Native.Nat.{_-_}
 use Rattle.layout.specs.Words.{wordOf}
 use Rattle.layout.specs.Layout as Layout
 use Rattle.layout.specs.Helpers as Helpers
-use Rattle.layout.proofs.Steps.{PlainTurn, from, plain, by-same, first-same, then-done, then-stop, then-sure, last-sure, last-skip, list-is, list-not, group-is, group-not, maybe-past, maybe-there, skip-same, items-all, from-more, from-none, text-is, text-not, present-there, present-gone, present-not, name-yes, name-no, name-not}
+use Rattle.layout.proofs.Steps.{PlainTurn, from, plain, by-same, first-same, then-done, then-stop, then-halt, then-sure, last-sure, last-skip, list-is, list-not, group-is, group-not, maybe-past, maybe-there, skip-same, items-all, from-more, from-none, text-is, text-not, present-there, present-gone, present-not, name-yes, name-no, name-not}
 use borrow.Author.Needs.{needs}
 use Rattle.layout.proofs.helpers.op_path.Statement.{statement}
 use Rattle.layout.proofs.helpers.op_path.Tie as tie
@@ -33,22 +33,22 @@ stop-requires : tie.Need-stop-requires
 stop-requires c κs = search needs
 
 same-length : tie.Need-same-length
-same-length c = c .before .before .op-path-there .kept .1 .1 .1 .1 .0
+same-length c = c .before .before .op-path-there .kept .1 .1 .1 .1 .1 .0
 
 returns : tie.Need-returns
 unfolding Helpers.op-path
-returns c = record { is = λ kinds m. by-same (first-same (present-there (c .before .before .before .before .before .before .before .present .ensures) (c .before .before .before .before .before .given .given .1))) (plain (c .before .before .op-path-there .ensures)) }
+returns c = record { is = λ kinds. by-same (first-same (present-there (c .before .before .before .before .before .before .before .before .present .ensures) (c .before .before .before .before .before .before .given .given .1))) (plain (c .before .before .op-path-there .ensures)) }
 
 same-length-2 : tie.Need-same-length-2
-same-length-2 c = c .before .before .path .kept .1 .1 .1 .1 .0
+same-length-2 c = c .before .before .path .kept .1 .1 .1 .1 .1 .0
 
 returns-2 : tie.Need-returns-2
 unfolding Helpers.op-path
-returns-2 c = record { is = λ kinds m. by-same (first-same (present-gone (c .before .before .before .before .before .before .before .present .ensures) (c .before .before .before .before .before .given2 .given .1))) (by-same skip-same (plain (c .before .before .path .ensures))) }
+returns-2 c = record { is = λ kinds. by-same (first-same (present-gone (c .before .before .before .before .before .before .before .before .present .ensures) (c .before .before .before .before .before .before .given2 .given .1))) (by-same skip-same (plain (c .before .before .path .ensures))) }
 
 returns-3 : tie.Need-returns-3
 unfolding Helpers.op-path
-returns-3 c = record { is = λ kinds m. then-stop (present-not (c .stop .ensures) (c .before .before .before .present .ensures) (c .before .enum-told .given .1)) (c .stop .ensures) }
+returns-3 c = record { is = λ kinds. then-halt (present-not (c .stop .ensures) (c .before .before .before .present .ensures) (c .before .enum-told .given .1)) (c .stop .ensures) }
 
 pub op-path-spec : {M : Type 1} → statement M
 op-path-spec =

@@ -6,7 +6,7 @@ use Prim.Native.Nat.{_-_}
 use Rattle.layout.specs.Words.{wordOf}
 use Rattle.layout.specs.Layout as Layout
 use Rattle.layout.specs.Helpers as Helpers
-use Rattle.layout.proofs.Steps.{PlainTurn, from, plain, by-same, first-same, then-done, then-stop, then-sure, last-sure, last-skip, list-is, list-not, group-is, group-not, maybe-past, maybe-there, skip-same, items-all, from-more, from-none, text-is, text-not, present-there, present-gone, present-not, name-yes, name-no, name-not}
+use Rattle.layout.proofs.Steps.{PlainTurn, from, plain, by-same, first-same, then-done, then-stop, then-halt, then-sure, last-sure, last-skip, list-is, list-not, group-is, group-not, maybe-past, maybe-there, skip-same, items-all, from-more, from-none, text-is, text-not, present-there, present-gone, present-not, name-yes, name-no, name-not}
 use borrow.Author.Needs.{needs}
 use Rattle.layout.proofs.helpers.text_of.Statement.{statement}
 use Rattle.layout.proofs.helpers.text_of.Tie as tie
@@ -24,16 +24,16 @@ stop-requires : tie.Need-stop-requires
 stop-requires c κs = search needs
 
 returns : tie.Need-returns
-returns c = record { is = λ kinds m. text-not (c .stop .ensures) (c .before .before .before .token-no .ensures) (c .before .enum-told .given .1) }
+returns c = record { is = λ kinds. text-not (c .stop .ensures) (c .before .before .before .token-no .ensures) (c .before .enum-told .given .1) }
 
 token-requires : tie.Need-token-requires
 token-requires c κs = search needs
 
 same-length : tie.Need-same-length
-same-length c = c .before .before .token .kept .1 .1 .1 .0
+same-length c = c .before .before .token .kept .1 .1 .1 .1 .0
 
 returns-2 : tie.Need-returns-2
-returns-2 c = record { is = λ kinds m. text-is (c .before .before .before .before .before .before .before .token-no .ensures) (c .before .before .before .before .before .k .given .1) (c .before .before .token .ensures) }
+returns-2 c = record { is = λ kinds. text-is (c .before .before .before .before .before .before .before .before .token-no .ensures) (c .before .before .before .before .before .before .k .given .1) (c .before .before .token .ensures) }
 
 pub text-of-spec : {M : Type 1} → statement M
 text-of-spec =

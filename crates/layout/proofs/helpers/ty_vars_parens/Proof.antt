@@ -6,7 +6,7 @@ use Prim.Native.Nat.{_-_}
 use Rattle.layout.specs.Words.{wordOf}
 use Rattle.layout.specs.Layout as Layout
 use Rattle.layout.specs.Helpers as Helpers
-use Rattle.layout.proofs.Steps.{PlainTurn, from, plain, by-same, first-same, then-done, then-stop, then-sure, last-sure, last-skip, list-is, list-not, group-is, group-not, maybe-past, maybe-there, skip-same, items-all, from-more, from-none, text-is, text-not, present-there, present-gone, present-not, name-yes, name-no, name-not}
+use Rattle.layout.proofs.Steps.{PlainTurn, from, plain, by-same, first-same, then-done, then-stop, then-halt, then-sure, last-sure, last-skip, list-is, list-not, group-is, group-not, maybe-past, maybe-there, skip-same, items-all, from-more, from-none, text-is, text-not, present-there, present-gone, present-not, name-yes, name-no, name-not}
 use borrow.Author.Needs.{needs}
 use Rattle.layout.proofs.helpers.ty_vars_parens.Statement.{statement}
 use Rattle.layout.proofs.helpers.ty_vars_parens.Tie as tie
@@ -17,26 +17,29 @@ word-requires c κs = search needs
 ty-vars-requires : tie.Need-ty-vars-requires
 ty-vars-requires c κs = search needs
 
-enum-known-r2 : tie.Need-enum-known-r2
-enum-known-r2 c = search needs
+told-requires : tie.Need-told-requires
+told-requires c κs = search needs
+
+enum-known-s1 : tie.Need-enum-known-s1
+enum-known-s1 c = search needs
 
 enum-told : tie.Need-enum-told
 enum-told c = search needs
 
 same-length : tie.Need-same-length
-same-length c = c .before .before .before .before .ty-vars .kept .1 .1 .1 .1 .0 ∙ c .before .before .before .before .before .before .before .before .word .kept .1 .0
+same-length c = c .before .before .before .before .before .ty-vars .kept .1 .1 .1 .1 .1 .0 ∙ c .before .before .before .before .before .before .before .before .before .before .word .kept .1 .1 .0
 
 returns : tie.Need-returns
-returns c = record { is = λ kinds m. then-sure (c .before .before .before .before .before .before .before .before .word .ensures) (then-stop (plain (c .before .before .before .before .ty-vars .ensures)) (c .enum-told .given .1)) }
+returns c = record { is = λ kinds. then-sure (c .before .before .before .before .before .before .before .before .before .before .word .ensures) (then-stop (plain (c .before .before .before .before .before .ty-vars .ensures)) (c .before .before .told .ensures) (c .enum-told .given .1)) }
 
 word-requires-2 : tie.Need-word-requires-2
 word-requires-2 c κs = search needs
 
 same-length-2 : tie.Need-same-length-2
-same-length-2 c = c .before .before .word2 .kept .1 .0 ∙ c .before .before .before .before .before .before .before .before .before .ty-vars .kept .1 .1 .1 .1 .0 ∙ c .before .before .before .before .before .before .before .before .before .before .before .before .before .word .kept .1 .0
+same-length-2 c = c .before .before .word2 .kept .1 .1 .0 ∙ c .before .before .before .before .before .before .before .before .before .before .before .ty-vars .kept .1 .1 .1 .1 .1 .0 ∙ c .before .before .before .before .before .before .before .before .before .before .before .before .before .before .before .before .word .kept .1 .1 .0
 
 returns-2 : tie.Need-returns-2
-returns-2 c = record { is = λ kinds m. then-sure (c .before .before .before .before .before .before .before .before .before .before .before .before .before .word .ensures) (then-done (plain (c .before .before .before .before .before .before .before .before .before .ty-vars .ensures)) (c .before .before .before .before .before .r2 .given .1) (last-sure (c .before .before .word2 .ensures))) }
+returns-2 c = record { is = λ kinds. then-sure (c .before .before .before .before .before .before .before .before .before .before .before .before .before .before .before .before .word .ensures) (then-done (plain (c .before .before .before .before .before .before .before .before .before .before .before .ty-vars .ensures)) (c .before .before .before .before .before .before .before .before .told .ensures) (c .before .before .before .before .before .before .s1 .given .1) (last-sure (c .before .before .word2 .ensures))) }
 
 pub ty-vars-parens-spec : {M : Type 1} → statement M
 ty-vars-parens-spec =
@@ -44,7 +47,8 @@ ty-vars-parens-spec =
     (tie.spec
     word-requires
     ty-vars-requires
-    enum-known-r2
+    told-requires
+    enum-known-s1
     enum-told
     same-length
     returns
