@@ -1,12 +1,9 @@
 -- Laws of what AppExp writes between its expressions, and of its stop.
 use Prim.Native.Nat.{ℕ, _≤_, _<_}
-use mathlib.Core.Path.{_≡_, refl, sym, ap, _∙_}
+use mathlib.Core.Path.{_≡_, refl, sym, ap, _∙_, subst}
 use mathlib.Core.List.{List}
 use mathlib.Core.Bool.{Bool, true, false, not, and-true, and-false}
 use borrow.Author.Tests.{eq-eqb, ne-eqb, lt-ltb, le-ltb}
-use Rattle.layout.specs.declared.St.{St}
-use Rattle.layout.specs.declared.Answer.{Answer}
-use Rattle.layout.specs.declared.Answer.the-variants.{Stopped}
 use Rattle.layout.specs.declared.looks.Head as Looks
 use Rattle.layout.specs.declared.looks.BothSeen as Both
 use Rattle.layout.specs.Layout.{isBang, isAlphabetic, word, _⨾_}
@@ -14,8 +11,8 @@ use Rattle.layout.specs.Meaning.{Page, passes, funcIsBang, argIsSymbolic}
 use Rattle.layout.specs.Helpers.{Cfg, Walkers, when, indent-deeper, items, new-line}
 use Rattle.layout.specs.DecOne.{con-bind, con-binds}
 use Rattle.layout.specs.Exp.{app-space}
-use Rattle.layout.specs.State.{Run, page, headIn, TestedText, Walked, Sure, BangIs, SymbolicIs}
-use Rattle.leaves.specs.Heads.{missedOf}
+use Rattle.layout.specs.State.{Run, page, headIn, TestedText, Walked, Sure, Stops, BangIs, SymbolicIs}
+use Rattle.leaves.specs.Heads.{missedAt}
 
 module _ {x starts lens : List ℕ} where
   pub bang-other : {f : Looks.Head} → f ≡ Looks.Head.OtherExp → BangIs x starts lens (headIn f) false
@@ -40,26 +37,26 @@ module _ {x starts lens : List ℕ} where
   symbolic-named {f} e t = rw e (record { is = λ r kinds. ap not (t .is r kinds) })
 
 -- Behind `!` the space depends on what follows.
-module _ {tab : ℕ} {b : Bool} (c : Bool) {s s′ : St} {o o′ : List ℕ} where
-  pub app-banged : b ≡ true → Sure tab (when c (word " ")) s o s′ o′ → Sure tab (app-space b c) s o s′ o′
+module _ {words : List ℕ} {b : Bool} (c : Bool) {m o m′ o′ : List ℕ} where
+  pub app-banged : b ≡ true → Sure words (when c (word " ")) m o m′ o′ → Sure words (app-space b c) m o m′ o′
   unfolding app-space
   app-banged h w = rw h w
 
-  pub app-spaced : b ≡ false → Sure tab (word " ") s o s′ o′ → Sure tab (app-space b c) s o s′ o′
+  pub app-spaced : b ≡ false → Sure words (word " ") m o m′ o′ → Sure words (app-space b c) m o m′ o′
   unfolding app-space when
   app-spaced h w = rw h w
 
 -- Over one constructor, and up to one.
-module _ {p : Page} {tab n : ℕ} (ws : Walkers) (c : Cfg) {g : Run} {a : Answer} {o m : List ℕ} where
+module _ {words : List ℕ} {p : Page} {n : ℕ} (ws : Walkers) (c : Cfg) {g : Run} {a : ℕ} {m o : List ℕ} where
   pub con-over : 1 < n
-      → Walked p tab (word " =\n" ⨾ indent-deeper c ⨾ items n (con-bind ws) (new-line c "| " ⨾ con-bind ws)) g a o m → Walked p tab (con-binds ws c n) g a o m
+      → Walked words p (word " =\n" ⨾ indent-deeper c ⨾ items n (con-bind ws) (new-line c "| " ⨾ con-bind ws)) g a m o → Walked words p (con-binds ws c n) g a m o
   unfolding con-binds
   con-over h w = rw (lt-ltb 1 n h, con-binds) w
 
-  pub con-under : n ≤ 1 → Walked p tab (word " = " ⨾ items n (con-bind ws) (word " | " ⨾ con-bind ws)) g a o m → Walked p tab (con-binds ws c n) g a o m
+  pub con-under : n ≤ 1 → Walked words p (word " = " ⨾ items n (con-bind ws) (word " | " ⨾ con-bind ws)) g a m o → Walked words p (con-binds ws c n) g a m o
   unfolding con-binds
   con-under h w = rw (le-ltb 1 n h, con-binds) w
 
-pub missed : {s : St} {x : Both.BothSeen} {place : ℕ} {r : Answer} → r ≡ missedOf s x → x ≡ Both.BothSeen.Missing place → r ≡ Stopped s place false
-unfolding missedOf
-missed {s} e f = e ∙ ap (missedOf s) f
+pub missed : {x : Both.BothSeen} {place r : ℕ} → Stops (missedAt x) r → x ≡ Both.BothSeen.Missing place → Stops place r
+unfolding missedAt
+missed {r = r} e f = subst (λ y. Stops (missedAt y) r) f e

@@ -2,7 +2,6 @@
 // functions' cases, what stands between the expressions of an application.
 use layout::Answer;
 use layout::Cfg;
-use layout::St;
 use layout::fields::Given;
 use layout::fields::Gone;
 use layout::fields::Read;
@@ -27,6 +26,7 @@ use layout::looks::alphabetic;
 use layout::looks::is_bang;
 use layout::looks::is_pipe;
 use layout::token;
+use layout::told;
 use layout::word;
 use layout::words;
 use patterns::get_pat;
@@ -39,42 +39,54 @@ ghost use lib.Dec.{eqb};
 ghost use Rattle.layout.specs.Words.{wordOf};
 ghost use Rattle.layout.specs.Layout.{word as wordOf·, choice as choice·, _⨾_};
 ghost use Rattle.layout.specs.Helpers.{indent as indentOf, indent-deeper as indentDeeper, new-line, items, when};
-ghost use Rattle.layout.specs.State.{Plain, Sure, Operated, BangIs, SymbolicIs, cfgOf, headIn};
+ghost use Rattle.layout.specs.State.{Plain, Sure, Operated, BangIs, SymbolicIs, Stops, cfgOf, headIn};
 ghost use Rattle.layout.specs.Walk.{walks};
 ghost use Rattle.layout.specs.Exp.{item-semi, app-space, pipe, exp as exp·};
 ghost use Rattle.reader.specs.Forms.{SelectorExp};
 ghost use Rattle.layout.specs.GetDec.{sharing-tail, sharing-tails};
 ghost use Rattle.layout.specs.DecOne.{ty-bind, ty-binds, with-type, con-bind, con-binds, dat-bind, dat-binds, PrefixFunBindCaseHead, infix-head, InfixFunBindCaseHead, case-head, case-pats, ex-bind-of, int-lit, names-space, dec-one as dec-one·};
 ghost use Rattle.reader.specs.Forms.{TyDec, DatDec, DatCopyDec, OpenDec, NonfixDec};
-ghost use Rattle.leaves.specs.Heads.{missedOf};
+ghost use Rattle.leaves.specs.Heads.{missedAt};
 
 // ---- what a condition decides
 // A fixed word, where a condition holds.
-fn word_when(text: &[u8], out: &mut [u8], st: St, tab: u32, w: usize, b: bool) -> St
-    ensures { λ r. ⌜ Sure tab (when b (wordOf· (wordOf w))) st (now (out .entry)) r (now (out .exit)) ⌝ }
+fn word_when<'a>(
+    run: &'a [u8; 351],
+    text: &'a [u8],
+    out: &mut [u8],
+    mem: &mut [u64; 68],
+    w: usize,
+    b: bool,
+)
+    ensures { λ _. ⌜ Sure (now (run .entry)) (when b (wordOf· (wordOf w))) (now (mem .entry)) (now (out .entry)) (now (mem .exit)) (now (out .exit)) ⌝ }
 {
     if b {
-        return word(text, out, st, tab, w);
+        word(run, text, out, mem, w);
     }
-    st
 }
 
 // An indent, where a condition holds.
-fn indent_when(out: &mut [u8], st: St, cfg: Cfg, b: bool) -> St
-    ensures { λ r. ⌜ Sure (cfg .tab) (when b (indentOf (cfgOf cfg))) st (now (out .entry)) r (now (out .exit)) ⌝ }
+fn indent_when(out: &mut [u8], mem: &mut [u64; 68], cfg: Cfg, b: bool)
+    ensures { λ _. ⌜ ((words : List ℕ) → Sure words (when b (indentOf (cfgOf cfg))) (now (mem .entry)) (now (out .entry)) (now (mem .exit)) (now (out .exit))) ⌝ }
 {
     if b {
-        return indent(out, st, cfg);
+        indent(out, mem, cfg);
     }
-    st
 }
 
 // The closing parenthesis of `AppStrExp`, indented where an argument was a Dec.
-pub fn app_end(text: &[u8], out: &mut [u8], st: St, cfg: Cfg, needs: bool) -> St
-    ensures { λ r. ⌜ Sure (cfg .tab) (when needs (indentOf (cfgOf cfg)) ⨾ wordOf· ")") st (now (out .entry)) r (now (out .exit)) ⌝ }
+pub fn app_end<'a>(
+    run: &'a [u8; 351],
+    text: &'a [u8],
+    out: &mut [u8],
+    mem: &mut [u64; 68],
+    cfg: Cfg,
+    needs: bool,
+)
+    ensures { λ _. ⌜ Sure (now (run .entry)) (when needs (indentOf (cfgOf cfg)) ⨾ wordOf· ")") (now (mem .entry)) (now (out .entry)) (now (mem .exit)) (now (out .exit)) ⌝ }
 {
-    let s1 = indent_when(out, st, cfg, needs);
-    word(text, out, s1, cfg.tab, words::R_ROUND)
+    indent_when(out, mem, cfg, needs);
+    word(run, text, out, mem, words::R_ROUND);
 }
 
 // ---- between the expressions of an application
@@ -103,762 +115,834 @@ pub fn arg_is_symbolic(text: &[u8], starts: &[u16], lens: &[u16], arg: Head) -> 
 }
 
 // What `AppExp` writes between its expressions.
-pub fn app_space(text: &[u8], out: &mut [u8], st: St, tab: u32, bang: bool, symbolic: bool) -> St
-    ensures { λ r. ⌜ Sure tab (app-space bang symbolic) st (now (out .entry)) r (now (out .exit)) ⌝ }
+pub fn app_space<'a>(
+    run: &'a [u8; 351],
+    text: &'a [u8],
+    out: &mut [u8],
+    mem: &mut [u64; 68],
+    bang: bool,
+    symbolic: bool,
+)
+    ensures { λ _. ⌜ Sure (now (run .entry)) (app-space bang symbolic) (now (mem .entry)) (now (out .entry)) (now (mem .exit)) (now (out .exit)) ⌝ }
 {
     if bang {
-        return word_when(text, out, st, tab, words::SPACE, symbolic);
+        word_when(run, text, out, mem, words::SPACE, symbolic);
+        return;
     }
-    word(text, out, st, tab, words::SPACE)
+    word(run, text, out, mem, words::SPACE);
 }
 
 // A stop at the part that `AppExp` does not find.
-pub fn missing(st: St, seen: BothSeen) -> Answer
-    ensures { λ r. ⌜ r ≡ missedOf st seen ⌝ }
+pub fn missing(seen: BothSeen) -> usize
+    ensures { λ r. ⌜ Stops (missedAt seen) r ⌝ }
 {
     match seen {
-        BothSeen::Missing(place) => Answer::Stopped(st, place, false),
-        BothSeen::Are(_f, _a) => Answer::Stopped(st, 0, false),
+        BothSeen::Missing(place) => stop(place),
+        BothSeen::Are(_f, _a) => stop(0),
     }
 }
 
 // The semicolon of an item of a sequence, where it is there and written.
-pub fn item_semi(
-    text: &[u8],
+pub fn item_semi<'a>(
+    run: &'a [u8; 351],
+    text: &'a [u8],
     rec: &[u8],
     starts: &[u16],
     lens: &[u16],
     out: &mut [u8],
-    st: St,
-    cfg: Cfg,
+    mem: &mut [u64; 68],
+    at: usize,
     write: bool,
-) -> Answer
-    ensures { λ r. ⌜ Plain (now (text .entry)) (now (rec .entry)) (now (starts .entry)) (now (lens .entry)) (cfg .tab) (item-semi write) st (now (out .entry)) r (now (out .exit)) ⌝ }
+) -> usize
+    ensures { λ r. ⌜ Plain (now (run .entry)) (now (text .entry)) (now (rec .entry)) (now (starts .entry)) (now (lens .entry)) (item-semi write) at (now (mem .entry)) (now (out .entry)) r (now (mem .exit)) (now (out .exit)) ⌝ }
 {
-    let given = present(rec, starts.len(), st);
+    let given = present(rec, starts.len(), at);
     match given {
-        Given::There(s) => Answer::Done(word_when(text, out, s, cfg.tab, words::SEMICOLON, write)),
-        Given::Absent(s) => Answer::Done(s),
-        Given::Neither => stop(st),
+        Given::There(s) => {
+            word_when(run, text, out, mem, words::SEMICOLON, write);
+            s
+        }
+        Given::Absent(s) => s,
+        Given::Neither => stop(at),
     }
 }
 
 // `SelectorExp`.
-pub fn selector_exp(
-    text: &[u8],
+pub fn selector_exp<'a>(
+    run: &'a [u8; 351],
+    text: &'a [u8],
     rec: &[u8],
     starts: &[u16],
     lens: &[u16],
     out: &mut [u8],
-    st: St,
+    mem: &mut [u64; 68],
+    at: usize,
     cfg: Cfg,
-) -> Answer
-    ensures { λ r. ⌜ Plain (now (text .entry)) (now (rec .entry)) (now (starts .entry)) (now (lens .entry)) (cfg .tab) (exp· (walks (cfg .left)) (cfgOf cfg) SelectorExp) st (now (out .entry)) r (now (out .exit)) ⌝ }
+) -> usize
+    ensures { λ r. ⌜ Plain (now (run .entry)) (now (text .entry)) (now (rec .entry)) (now (starts .entry)) (now (lens .entry)) (exp· (walks (cfg .left)) (cfgOf cfg) SelectorExp) at (now (mem .entry)) (now (out .entry)) r (now (mem .exit)) (now (out .exit)) ⌝ }
 {
-    let s1 = word(text, out, st, cfg.tab, words::HASH);
-    text_of(text, rec, starts, lens, out, s1, cfg)
+    word(run, text, out, mem, words::HASH);
+    text_of(run, text, rec, starts, lens, out, mem, at)
 }
 
 // What `InfixExp` writes between its expressions.
-pub fn infix_operator(
-    text: &[u8],
+pub fn infix_operator<'a>(
+    run: &'a [u8; 351],
+    text: &'a [u8],
     rec: &[u8],
     starts: &[u16],
     lens: &[u16],
     out: &mut [u8],
-    st: St,
+    mem: &mut [u64; 68],
     cfg: Cfg,
     operator: usize,
-) -> St
+)
     requires { ⌜ cfg .depth + 1 ≤ 1000 ⌝ }
-    ensures { λ r. ⌜ Operated (now (text .entry)) (now (rec .entry)) (now (starts .entry)) (now (lens .entry)) (cfg .tab) operator (pipe (cfgOf cfg)) (wordOf· " ") st (now (out .entry)) r (now (out .exit)) ⌝ }
+    ensures { λ _. ⌜ Operated (now (run .entry)) (now (text .entry)) (now (rec .entry)) (now (starts .entry)) (now (lens .entry)) operator (pipe (cfgOf cfg)) (wordOf· " ") (now (mem .entry)) (now (out .entry)) (now (mem .exit)) (now (out .exit)) ⌝ }
 {
     if is_pipe(text, starts, lens, operator) {
-        let s1 = word(text, out, st, cfg.tab, words::LINE_FEED);
-        let s2 = indent_deeper(out, s1, cfg);
-        return word(text, out, s2, cfg.tab, words::PIPE);
+        word(run, text, out, mem, words::LINE_FEED);
+        indent_deeper(out, mem, cfg);
+        word(run, text, out, mem, words::PIPE);
+        return;
     }
-    let s3 = word(text, out, st, cfg.tab, words::SPACE);
-    let s4 = token(text, starts, lens, out, s3, cfg.tab, operator);
-    word(text, out, s4, cfg.tab, words::SPACE)
+    word(run, text, out, mem, words::SPACE);
+    token(run, text, starts, lens, out, mem, operator);
+    word(run, text, out, mem, words::SPACE);
 }
 
 // ---- declarations of types
 // A binding of `TyDec`.
-fn ty_bind(
-    text: &[u8],
+fn ty_bind<'a>(
+    run: &'a [u8; 351],
+    text: &'a [u8],
     rec: &[u8],
     starts: &[u16],
     lens: &[u16],
     out: &mut [u8],
-    st: St,
+    mem: &mut [u64; 68],
+    at: usize,
     cfg: Cfg,
-) -> Answer
-    ensures { λ r. ⌜ Plain (now (text .entry)) (now (rec .entry)) (now (starts .entry)) (now (lens .entry)) (cfg .tab) (ty-bind (walks (cfg .left))) st (now (out .entry)) r (now (out .exit)) ⌝ }
+) -> usize
+    ensures { λ r. ⌜ Plain (now (run .entry)) (now (text .entry)) (now (rec .entry)) (now (starts .entry)) (now (lens .entry)) (ty-bind (walks (cfg .left))) at (now (mem .entry)) (now (out .entry)) r (now (mem .exit)) (now (out .exit)) ⌝ }
 {
-    let r1 = group(rec, st);
-    let Answer::Done(s1) = r1 else {
+    let r1 = group(rec, at);
+    let Answer::Done(s1) = told(r1) else {
         return r1;
     };
-    let r2 = ty_var_seq(text, rec, starts, lens, out, s1, cfg);
-    let Answer::Done(s2) = r2 else {
+    let r2 = ty_var_seq(run, text, rec, starts, lens, out, mem, s1);
+    let Answer::Done(s2) = told(r2) else {
         return r2;
     };
-    let r3 = text_of(text, rec, starts, lens, out, s2, cfg);
-    let Answer::Done(s3) = r3 else {
+    let r3 = text_of(run, text, rec, starts, lens, out, mem, s2);
+    let Answer::Done(s3) = told(r3) else {
         return r3;
     };
     if let Gone::Past(s4) = absent(rec, s3) {
-        return Answer::Done(s4);
+        return s4;
     }
     let r5 = group(rec, s3);
-    let Answer::Done(s5) = r5 else {
+    let Answer::Done(s5) = told(r5) else {
         return r5;
     };
-    let s6 = word(text, out, s5, cfg.tab, words::EQ_SPACED);
-    get_ty(text, rec, starts, lens, out, s6, cfg)
+    word(run, text, out, mem, words::EQ_SPACED);
+    get_ty(run, text, rec, starts, lens, out, mem, s5, cfg)
 }
 
 // Bindings of types, a line each.
-fn ty_binds(
-    text: &[u8],
+fn ty_binds<'a>(
+    run: &'a [u8; 351],
+    text: &'a [u8],
     rec: &[u8],
     starts: &[u16],
     lens: &[u16],
     out: &mut [u8],
-    st: St,
+    mem: &mut [u64; 68],
+    at: usize,
     cfg: Cfg,
-) -> Answer
-    ensures { λ r. ⌜ Plain (now (text .entry)) (now (rec .entry)) (now (starts .entry)) (now (lens .entry)) (cfg .tab) (ty-binds (walks (cfg .left)) (cfgOf cfg)) st (now (out .entry)) r (now (out .exit)) ⌝ }
+) -> usize
+    ensures { λ r. ⌜ Plain (now (run .entry)) (now (text .entry)) (now (rec .entry)) (now (starts .entry)) (now (lens .entry)) (ty-binds (walks (cfg .left)) (cfgOf cfg)) at (now (mem .entry)) (now (out .entry)) r (now (mem .exit)) (now (out .exit)) ⌝ }
 {
-    let Read::Is(n, s0) = list(rec, st) else {
-        return stop(st);
+    let Read::Is(n, s0) = list(rec, at) else {
+        return stop(at);
     };
     let mut s = s0;
     let mut i = 0;
     while i < n {
-        let s1 = new_line(text, out, s, cfg, words::AND, i);
-        let r2 = ty_bind(text, rec, starts, lens, out, s1, cfg);
-        let Answer::Done(s2) = r2 else {
-            return r2;
+        new_line(run, text, out, mem, cfg, words::AND, i);
+        let r1 = ty_bind(run, text, rec, starts, lens, out, mem, s, cfg);
+        let Answer::Done(s1) = told(r1) else {
+            return r1;
         };
-        s = s2;
+        s = s1;
         i += 1;
     }
-    Answer::Done(s)
+    s
 }
 
 // `withtype` and its bindings, where there are any.
-pub fn with_type(
-    text: &[u8],
+pub fn with_type<'a>(
+    run: &'a [u8; 351],
+    text: &'a [u8],
     rec: &[u8],
     starts: &[u16],
     lens: &[u16],
     out: &mut [u8],
-    st: St,
+    mem: &mut [u64; 68],
+    at: usize,
     cfg: Cfg,
-) -> Answer
-    ensures { λ r. ⌜ Plain (now (text .entry)) (now (rec .entry)) (now (starts .entry)) (now (lens .entry)) (cfg .tab) (with-type (walks (cfg .left)) (cfgOf cfg)) st (now (out .entry)) r (now (out .exit)) ⌝ }
+) -> usize
+    ensures { λ r. ⌜ Plain (now (run .entry)) (now (text .entry)) (now (rec .entry)) (now (starts .entry)) (now (lens .entry)) (with-type (walks (cfg .left)) (cfgOf cfg)) at (now (mem .entry)) (now (out .entry)) r (now (mem .exit)) (now (out .exit)) ⌝ }
 {
-    if let Gone::Past(s0) = absent(rec, st) {
-        return Answer::Done(s0);
+    if let Gone::Past(s0) = absent(rec, at) {
+        return s0;
     }
-    let r1 = group(rec, st);
-    let Answer::Done(s1) = r1 else {
+    let r1 = group(rec, at);
+    let Answer::Done(s1) = told(r1) else {
         return r1;
     };
-    let s2 = line(text, out, s1, cfg);
-    let s3 = word(text, out, s2, cfg.tab, words::WITHTYPE);
-    ty_binds(text, rec, starts, lens, out, s3, cfg)
+    line(run, text, out, mem, cfg);
+    word(run, text, out, mem, words::WITHTYPE);
+    ty_binds(run, text, rec, starts, lens, out, mem, s1, cfg)
 }
 
 // A constructor.
-fn con_bind(
-    text: &[u8],
+fn con_bind<'a>(
+    run: &'a [u8; 351],
+    text: &'a [u8],
     rec: &[u8],
     starts: &[u16],
     lens: &[u16],
     out: &mut [u8],
-    st: St,
+    mem: &mut [u64; 68],
+    at: usize,
     cfg: Cfg,
-) -> Answer
-    ensures { λ r. ⌜ Plain (now (text .entry)) (now (rec .entry)) (now (starts .entry)) (now (lens .entry)) (cfg .tab) (con-bind (walks (cfg .left))) st (now (out .entry)) r (now (out .exit)) ⌝ }
+) -> usize
+    ensures { λ r. ⌜ Plain (now (run .entry)) (now (text .entry)) (now (rec .entry)) (now (starts .entry)) (now (lens .entry)) (con-bind (walks (cfg .left))) at (now (mem .entry)) (now (out .entry)) r (now (mem .exit)) (now (out .exit)) ⌝ }
 {
-    let r1 = group(rec, st);
-    let Answer::Done(s1) = r1 else {
+    let r1 = group(rec, at);
+    let Answer::Done(s1) = told(r1) else {
         return r1;
     };
-    let r2 = text_of(text, rec, starts, lens, out, s1, cfg);
-    let Answer::Done(s2) = r2 else {
+    let r2 = text_of(run, text, rec, starts, lens, out, mem, s1);
+    let Answer::Done(s2) = told(r2) else {
         return r2;
     };
     if let Gone::Past(s3) = absent(rec, s2) {
-        return Answer::Done(s3);
+        return s3;
     }
     let r4 = group(rec, s2);
-    let Answer::Done(s4) = r4 else {
+    let Answer::Done(s4) = told(r4) else {
         return r4;
     };
-    let s5 = word(text, out, s4, cfg.tab, words::OF);
-    get_ty(text, rec, starts, lens, out, s5, cfg)
+    word(run, text, out, mem, words::OF);
+    get_ty(run, text, rec, starts, lens, out, mem, s4, cfg)
 }
 
 // Constructors, a line each.
-fn con_lines(
-    text: &[u8],
+fn con_lines<'a>(
+    run: &'a [u8; 351],
+    text: &'a [u8],
     rec: &[u8],
     starts: &[u16],
     lens: &[u16],
     out: &mut [u8],
-    st: St,
+    mem: &mut [u64; 68],
+    at: usize,
     cfg: Cfg,
     n: usize,
-) -> Answer
+) -> usize
     requires { ⌜ cfg .depth + 1 ≤ 1000 ⌝ }
-    ensures { λ r. ⌜ Plain (now (text .entry)) (now (rec .entry)) (now (starts .entry)) (now (lens .entry)) (cfg .tab) (wordOf· " =\n" ⨾ indentDeeper (cfgOf cfg) ⨾ items n (con-bind (walks (cfg .left))) (new-line (cfgOf cfg) "| " ⨾ con-bind (walks (cfg .left)))) st (now (out .entry)) r (now (out .exit)) ⌝ }
+    ensures { λ r. ⌜ Plain (now (run .entry)) (now (text .entry)) (now (rec .entry)) (now (starts .entry)) (now (lens .entry)) (wordOf· " =\n" ⨾ indentDeeper (cfgOf cfg) ⨾ items n (con-bind (walks (cfg .left))) (new-line (cfgOf cfg) "| " ⨾ con-bind (walks (cfg .left)))) at (now (mem .entry)) (now (out .entry)) r (now (mem .exit)) (now (out .exit)) ⌝ }
 {
-    let s1 = word(text, out, st, cfg.tab, words::EQ_LINE);
-    let s2 = indent_deeper(out, s1, cfg);
-    let mut s = s2;
+    word(run, text, out, mem, words::EQ_LINE);
+    indent_deeper(out, mem, cfg);
+    let mut s = at;
     let mut i = 0;
     while i < n {
-        let s3 = new_line(text, out, s, cfg, words::BAR, i);
-        let r4 = con_bind(text, rec, starts, lens, out, s3, cfg);
-        let Answer::Done(s4) = r4 else {
-            return r4;
+        new_line(run, text, out, mem, cfg, words::BAR, i);
+        let r1 = con_bind(run, text, rec, starts, lens, out, mem, s, cfg);
+        let Answer::Done(s1) = told(r1) else {
+            return r1;
         };
-        s = s4;
+        s = s1;
         i += 1;
     }
-    Answer::Done(s)
+    s
 }
 
 // Constructors on the line.
-fn con_row(
-    text: &[u8],
+fn con_row<'a>(
+    run: &'a [u8; 351],
+    text: &'a [u8],
     rec: &[u8],
     starts: &[u16],
     lens: &[u16],
     out: &mut [u8],
-    st: St,
+    mem: &mut [u64; 68],
+    at: usize,
     cfg: Cfg,
     n: usize,
-) -> Answer
-    ensures { λ r. ⌜ Plain (now (text .entry)) (now (rec .entry)) (now (starts .entry)) (now (lens .entry)) (cfg .tab) (wordOf· " = " ⨾ items n (con-bind (walks (cfg .left))) (wordOf· " | " ⨾ con-bind (walks (cfg .left)))) st (now (out .entry)) r (now (out .exit)) ⌝ }
+) -> usize
+    ensures { λ r. ⌜ Plain (now (run .entry)) (now (text .entry)) (now (rec .entry)) (now (starts .entry)) (now (lens .entry)) (wordOf· " = " ⨾ items n (con-bind (walks (cfg .left))) (wordOf· " | " ⨾ con-bind (walks (cfg .left)))) at (now (mem .entry)) (now (out .entry)) r (now (mem .exit)) (now (out .exit)) ⌝ }
 {
-    let s1 = word(text, out, st, cfg.tab, words::EQ_SPACED);
-    let mut s = s1;
+    word(run, text, out, mem, words::EQ_SPACED);
+    let mut s = at;
     let mut i = 0;
     while i < n {
-        let s2 = between(text, out, s, cfg.tab, words::BAR_SPACED, i);
-        let r3 = con_bind(text, rec, starts, lens, out, s2, cfg);
-        let Answer::Done(s3) = r3 else {
-            return r3;
+        between(run, text, out, mem, words::BAR_SPACED, i);
+        let r1 = con_bind(run, text, rec, starts, lens, out, mem, s, cfg);
+        let Answer::Done(s1) = told(r1) else {
+            return r1;
         };
-        s = s3;
+        s = s1;
         i += 1;
     }
-    Answer::Done(s)
+    s
 }
 
 // The constructors of a datatype: over one, a line each.
-fn con_binds(
-    text: &[u8],
+fn con_binds<'a>(
+    run: &'a [u8; 351],
+    text: &'a [u8],
     rec: &[u8],
     starts: &[u16],
     lens: &[u16],
     out: &mut [u8],
-    st: St,
+    mem: &mut [u64; 68],
+    at: usize,
     cfg: Cfg,
     n: usize,
-) -> Answer
+) -> usize
     requires { ⌜ cfg .depth + 1 ≤ 1000 ⌝ }
-    ensures { λ r. ⌜ Plain (now (text .entry)) (now (rec .entry)) (now (starts .entry)) (now (lens .entry)) (cfg .tab) (con-binds (walks (cfg .left)) (cfgOf cfg) n) st (now (out .entry)) r (now (out .exit)) ⌝ }
+    ensures { λ r. ⌜ Plain (now (run .entry)) (now (text .entry)) (now (rec .entry)) (now (starts .entry)) (now (lens .entry)) (con-binds (walks (cfg .left)) (cfgOf cfg) n) at (now (mem .entry)) (now (out .entry)) r (now (mem .exit)) (now (out .exit)) ⌝ }
 {
     if 1 < n {
-        return con_lines(text, rec, starts, lens, out, st, cfg, n);
+        return con_lines(run, text, rec, starts, lens, out, mem, at, cfg, n);
     }
-    con_row(text, rec, starts, lens, out, st, cfg, n)
+    con_row(run, text, rec, starts, lens, out, mem, at, cfg, n)
 }
 
 // A binding of `DatDec`.
-fn dat_bind(
-    text: &[u8],
+fn dat_bind<'a>(
+    run: &'a [u8; 351],
+    text: &'a [u8],
     rec: &[u8],
     starts: &[u16],
     lens: &[u16],
     out: &mut [u8],
-    st: St,
+    mem: &mut [u64; 68],
+    at: usize,
     cfg: Cfg,
-) -> Answer
+) -> usize
     requires { ⌜ cfg .depth + 1 ≤ 1000 ⌝ }
-    ensures { λ r. ⌜ Plain (now (text .entry)) (now (rec .entry)) (now (starts .entry)) (now (lens .entry)) (cfg .tab) (dat-bind (walks (cfg .left)) (cfgOf cfg)) st (now (out .entry)) r (now (out .exit)) ⌝ }
+    ensures { λ r. ⌜ Plain (now (run .entry)) (now (text .entry)) (now (rec .entry)) (now (starts .entry)) (now (lens .entry)) (dat-bind (walks (cfg .left)) (cfgOf cfg)) at (now (mem .entry)) (now (out .entry)) r (now (mem .exit)) (now (out .exit)) ⌝ }
 {
-    let r1 = group(rec, st);
-    let Answer::Done(s1) = r1 else {
+    let r1 = group(rec, at);
+    let Answer::Done(s1) = told(r1) else {
         return r1;
     };
-    let r2 = ty_var_seq(text, rec, starts, lens, out, s1, cfg);
-    let Answer::Done(s2) = r2 else {
+    let r2 = ty_var_seq(run, text, rec, starts, lens, out, mem, s1);
+    let Answer::Done(s2) = told(r2) else {
         return r2;
     };
-    let r3 = text_of(text, rec, starts, lens, out, s2, cfg);
-    let Answer::Done(s3) = r3 else {
+    let r3 = text_of(run, text, rec, starts, lens, out, mem, s2);
+    let Answer::Done(s3) = told(r3) else {
         return r3;
     };
     let r4 = group(rec, s3);
-    let Answer::Done(s4) = r4 else {
+    let Answer::Done(s4) = told(r4) else {
         return r4;
     };
     let Read::Is(n, s5) = list(rec, s4) else {
         return stop(s4);
     };
-    con_binds(text, rec, starts, lens, out, s5, cfg, n)
+    con_binds(run, text, rec, starts, lens, out, mem, s5, cfg, n)
 }
 
 // Bindings of datatypes, a line each.
-pub fn dat_binds(
-    text: &[u8],
+pub fn dat_binds<'a>(
+    run: &'a [u8; 351],
+    text: &'a [u8],
     rec: &[u8],
     starts: &[u16],
     lens: &[u16],
     out: &mut [u8],
-    st: St,
+    mem: &mut [u64; 68],
+    at: usize,
     cfg: Cfg,
-) -> Answer
+) -> usize
     requires { ⌜ cfg .depth + 1 ≤ 1000 ⌝ }
-    ensures { λ r. ⌜ Plain (now (text .entry)) (now (rec .entry)) (now (starts .entry)) (now (lens .entry)) (cfg .tab) (dat-binds (walks (cfg .left)) (cfgOf cfg)) st (now (out .entry)) r (now (out .exit)) ⌝ }
+    ensures { λ r. ⌜ Plain (now (run .entry)) (now (text .entry)) (now (rec .entry)) (now (starts .entry)) (now (lens .entry)) (dat-binds (walks (cfg .left)) (cfgOf cfg)) at (now (mem .entry)) (now (out .entry)) r (now (mem .exit)) (now (out .exit)) ⌝ }
 {
-    let Read::Is(n, s0) = list(rec, st) else {
-        return stop(st);
+    let Read::Is(n, s0) = list(rec, at) else {
+        return stop(at);
     };
     let mut s = s0;
     let mut i = 0;
     while i < n {
-        let s1 = new_line(text, out, s, cfg, words::AND, i);
-        let r2 = dat_bind(text, rec, starts, lens, out, s1, cfg);
-        let Answer::Done(s2) = r2 else {
+        new_line(run, text, out, mem, cfg, words::AND, i);
+        let r1 = dat_bind(run, text, rec, starts, lens, out, mem, s, cfg);
+        let Answer::Done(s1) = told(r1) else {
+            return r1;
+        };
+        s = s1;
+        i += 1;
+    }
+    s
+}
+
+// `TyDec`.
+pub fn ty_dec<'a>(
+    run: &'a [u8; 351],
+    text: &'a [u8],
+    rec: &[u8],
+    starts: &[u16],
+    lens: &[u16],
+    out: &mut [u8],
+    mem: &mut [u64; 68],
+    at: usize,
+    cfg: Cfg,
+) -> usize
+    ensures { λ r. ⌜ Plain (now (run .entry)) (now (text .entry)) (now (rec .entry)) (now (starts .entry)) (now (lens .entry)) (dec-one· (walks (cfg .left)) (cfgOf cfg) TyDec) at (now (mem .entry)) (now (out .entry)) r (now (mem .exit)) (now (out .exit)) ⌝ }
+{
+    let r1 = text_of(run, text, rec, starts, lens, out, mem, at);
+    let Answer::Done(s1) = told(r1) else {
+        return r1;
+    };
+    word(run, text, out, mem, words::SPACE);
+    ty_binds(run, text, rec, starts, lens, out, mem, s1, cfg)
+}
+
+// `DatDec`.
+pub fn dat_dec<'a>(
+    run: &'a [u8; 351],
+    text: &'a [u8],
+    rec: &[u8],
+    starts: &[u16],
+    lens: &[u16],
+    out: &mut [u8],
+    mem: &mut [u64; 68],
+    at: usize,
+    cfg: Cfg,
+) -> usize
+    requires { ⌜ cfg .depth + 1 ≤ 1000 ⌝ }
+    ensures { λ r. ⌜ Plain (now (run .entry)) (now (text .entry)) (now (rec .entry)) (now (starts .entry)) (now (lens .entry)) (dec-one· (walks (cfg .left)) (cfgOf cfg) DatDec) at (now (mem .entry)) (now (out .entry)) r (now (mem .exit)) (now (out .exit)) ⌝ }
+{
+    word(run, text, out, mem, words::DATATYPE);
+    let r1 = dat_binds(run, text, rec, starts, lens, out, mem, at, cfg);
+    let Answer::Done(s1) = told(r1) else {
+        return r1;
+    };
+    with_type(run, text, rec, starts, lens, out, mem, s1, cfg)
+}
+
+// `DatCopyDec`.
+pub fn dat_copy_dec<'a>(
+    run: &'a [u8; 351],
+    text: &'a [u8],
+    rec: &[u8],
+    starts: &[u16],
+    lens: &[u16],
+    out: &mut [u8],
+    mem: &mut [u64; 68],
+    at: usize,
+    cfg: Cfg,
+) -> usize
+    ensures { λ r. ⌜ Plain (now (run .entry)) (now (text .entry)) (now (rec .entry)) (now (starts .entry)) (now (lens .entry)) (dec-one· (walks (cfg .left)) (cfgOf cfg) DatCopyDec) at (now (mem .entry)) (now (out .entry)) r (now (mem .exit)) (now (out .exit)) ⌝ }
+{
+    word(run, text, out, mem, words::DATATYPE);
+    let r1 = text_of(run, text, rec, starts, lens, out, mem, at);
+    let Answer::Done(s1) = told(r1) else {
+        return r1;
+    };
+    word(run, text, out, mem, words::EQ_DATATYPE);
+    path(run, text, rec, starts, lens, out, mem, s1)
+}
+
+// ---- names
+// `OpenDec`.
+pub fn open_dec<'a>(
+    run: &'a [u8; 351],
+    text: &'a [u8],
+    rec: &[u8],
+    starts: &[u16],
+    lens: &[u16],
+    out: &mut [u8],
+    mem: &mut [u64; 68],
+    at: usize,
+    cfg: Cfg,
+) -> usize
+    ensures { λ r. ⌜ Plain (now (run .entry)) (now (text .entry)) (now (rec .entry)) (now (starts .entry)) (now (lens .entry)) (dec-one· (walks (cfg .left)) (cfgOf cfg) OpenDec) at (now (mem .entry)) (now (out .entry)) r (now (mem .exit)) (now (out .exit)) ⌝ }
+{
+    word(run, text, out, mem, words::OPEN);
+    let Read::Is(n, s1) = list(rec, at) else {
+        return stop(at);
+    };
+    let mut s = s1;
+    let mut i = 0;
+    while i < n {
+        between(run, text, out, mem, words::SPACE, i);
+        let r2 = path(run, text, rec, starts, lens, out, mem, s);
+        let Answer::Done(s2) = told(r2) else {
             return r2;
         };
         s = s2;
         i += 1;
     }
-    Answer::Done(s)
+    s
 }
 
-// `TyDec`.
-pub fn ty_dec(
-    text: &[u8],
+// Names with a space between.
+fn names_space<'a>(
+    run: &'a [u8; 351],
+    text: &'a [u8],
     rec: &[u8],
     starts: &[u16],
     lens: &[u16],
     out: &mut [u8],
-    st: St,
+    mem: &mut [u64; 68],
+    at: usize,
     cfg: Cfg,
-) -> Answer
-    ensures { λ r. ⌜ Plain (now (text .entry)) (now (rec .entry)) (now (starts .entry)) (now (lens .entry)) (cfg .tab) (dec-one· (walks (cfg .left)) (cfgOf cfg) TyDec) st (now (out .entry)) r (now (out .exit)) ⌝ }
+) -> usize
+    ensures { λ r. ⌜ Plain (now (run .entry)) (now (text .entry)) (now (rec .entry)) (now (starts .entry)) (now (lens .entry)) (names-space (walks (cfg .left))) at (now (mem .entry)) (now (out .entry)) r (now (mem .exit)) (now (out .exit)) ⌝ }
 {
-    let r1 = text_of(text, rec, starts, lens, out, st, cfg);
-    let Answer::Done(s1) = r1 else {
+    let Read::Is(n, s0) = list(rec, at) else {
+        return stop(at);
+    };
+    let mut s = s0;
+    let mut i = 0;
+    while i < n {
+        between(run, text, out, mem, words::SPACE, i);
+        let r1 = text_of(run, text, rec, starts, lens, out, mem, s);
+        let Answer::Done(s1) = told(r1) else {
+            return r1;
+        };
+        s = s1;
+        i += 1;
+    }
+    s
+}
+
+// A precedence and a space, where there is one.
+fn int_lit<'a>(
+    run: &'a [u8; 351],
+    text: &'a [u8],
+    rec: &[u8],
+    starts: &[u16],
+    lens: &[u16],
+    out: &mut [u8],
+    mem: &mut [u64; 68],
+    at: usize,
+    cfg: Cfg,
+) -> usize
+    ensures { λ r. ⌜ Plain (now (run .entry)) (now (text .entry)) (now (rec .entry)) (now (starts .entry)) (now (lens .entry)) (int-lit (walks (cfg .left))) at (now (mem .entry)) (now (out .entry)) r (now (mem .exit)) (now (out .exit)) ⌝ }
+{
+    if let Gone::Past(s0) = absent(rec, at) {
+        return s0;
+    }
+    let r1 = text_of(run, text, rec, starts, lens, out, mem, at);
+    let Answer::Done(s1) = told(r1) else {
         return r1;
     };
-    let s2 = word(text, out, s1, cfg.tab, words::SPACE);
-    ty_binds(text, rec, starts, lens, out, s2, cfg)
+    word(run, text, out, mem, words::SPACE);
+    s1
 }
 
-// `DatDec`.
-pub fn dat_dec(
-    text: &[u8],
+// `InfixDec` and `InfixrDec`, by their word.
+pub fn infix_dec<'a>(
+    run: &'a [u8; 351],
+    text: &'a [u8],
     rec: &[u8],
     starts: &[u16],
     lens: &[u16],
     out: &mut [u8],
-    st: St,
+    mem: &mut [u64; 68],
+    at: usize,
     cfg: Cfg,
-) -> Answer
-    requires { ⌜ cfg .depth + 1 ≤ 1000 ⌝ }
-    ensures { λ r. ⌜ Plain (now (text .entry)) (now (rec .entry)) (now (starts .entry)) (now (lens .entry)) (cfg .tab) (dec-one· (walks (cfg .left)) (cfgOf cfg) DatDec) st (now (out .entry)) r (now (out .exit)) ⌝ }
+    w: usize,
+) -> usize
+    ensures { λ r. ⌜ Plain (now (run .entry)) (now (text .entry)) (now (rec .entry)) (now (starts .entry)) (now (lens .entry)) (wordOf· (wordOf w) ⨾ int-lit (walks (cfg .left)) ⨾ names-space (walks (cfg .left))) at (now (mem .entry)) (now (out .entry)) r (now (mem .exit)) (now (out .exit)) ⌝ }
 {
-    let s1 = word(text, out, st, cfg.tab, words::DATATYPE);
-    let r2 = dat_binds(text, rec, starts, lens, out, s1, cfg);
-    let Answer::Done(s2) = r2 else {
+    word(run, text, out, mem, w);
+    let r1 = int_lit(run, text, rec, starts, lens, out, mem, at, cfg);
+    let Answer::Done(s1) = told(r1) else {
+        return r1;
+    };
+    names_space(run, text, rec, starts, lens, out, mem, s1, cfg)
+}
+
+// `NonfixDec`.
+pub fn nonfix_dec<'a>(
+    run: &'a [u8; 351],
+    text: &'a [u8],
+    rec: &[u8],
+    starts: &[u16],
+    lens: &[u16],
+    out: &mut [u8],
+    mem: &mut [u64; 68],
+    at: usize,
+    cfg: Cfg,
+) -> usize
+    ensures { λ r. ⌜ Plain (now (run .entry)) (now (text .entry)) (now (rec .entry)) (now (starts .entry)) (now (lens .entry)) (dec-one· (walks (cfg .left)) (cfgOf cfg) NonfixDec) at (now (mem .entry)) (now (out .entry)) r (now (mem .exit)) (now (out .exit)) ⌝ }
+{
+    word(run, text, out, mem, words::NONFIX);
+    names_space(run, text, rec, starts, lens, out, mem, at, cfg)
+}
+
+// ---- cases of functions
+// `PrefixFunBindCaseHead`.
+fn prefix_head<'a>(
+    run: &'a [u8; 351],
+    text: &'a [u8],
+    rec: &[u8],
+    starts: &[u16],
+    lens: &[u16],
+    out: &mut [u8],
+    mem: &mut [u64; 68],
+    at: usize,
+    cfg: Cfg,
+) -> usize
+    ensures { λ r. ⌜ Plain (now (run .entry)) (now (text .entry)) (now (rec .entry)) (now (starts .entry)) (now (lens .entry)) (PrefixFunBindCaseHead (walks (cfg .left))) at (now (mem .entry)) (now (out .entry)) r (now (mem .exit)) (now (out .exit)) ⌝ }
+{
+    let r1 = word_if(run, text, rec, starts, lens, out, mem, at, words::OP_SPACE);
+    let Answer::Done(s1) = told(r1) else {
+        return r1;
+    };
+    text_of(run, text, rec, starts, lens, out, mem, s1)
+}
+
+// A name between two patterns.
+fn infix_pats<'a>(
+    run: &'a [u8; 351],
+    text: &'a [u8],
+    rec: &[u8],
+    starts: &[u16],
+    lens: &[u16],
+    out: &mut [u8],
+    mem: &mut [u64; 68],
+    at: usize,
+    cfg: Cfg,
+) -> usize
+    ensures { λ r. ⌜ Plain (now (run .entry)) (now (text .entry)) (now (rec .entry)) (now (starts .entry)) (now (lens .entry)) (infix-head (walks (cfg .left))) at (now (mem .entry)) (now (out .entry)) r (now (mem .exit)) (now (out .exit)) ⌝ }
+{
+    let r1 = get_pat(run, text, rec, starts, lens, out, mem, at, cfg);
+    let Answer::Done(s1) = told(r1) else {
+        return r1;
+    };
+    word(run, text, out, mem, words::SPACE);
+    let r2 = text_of(run, text, rec, starts, lens, out, mem, s1);
+    let Answer::Done(s2) = told(r2) else {
         return r2;
     };
-    with_type(text, rec, starts, lens, out, s2, cfg)
+    word(run, text, out, mem, words::SPACE);
+    get_pat(run, text, rec, starts, lens, out, mem, s2, cfg)
 }
 
-// `DatCopyDec`.
-pub fn dat_copy_dec(
-    text: &[u8],
+// The same in parentheses.
+fn infix_in_parens<'a>(
+    run: &'a [u8; 351],
+    text: &'a [u8],
     rec: &[u8],
     starts: &[u16],
     lens: &[u16],
     out: &mut [u8],
-    st: St,
+    mem: &mut [u64; 68],
+    at: usize,
     cfg: Cfg,
-) -> Answer
-    ensures { λ r. ⌜ Plain (now (text .entry)) (now (rec .entry)) (now (starts .entry)) (now (lens .entry)) (cfg .tab) (dec-one· (walks (cfg .left)) (cfgOf cfg) DatCopyDec) st (now (out .entry)) r (now (out .exit)) ⌝ }
+) -> usize
+    ensures { λ r. ⌜ Plain (now (run .entry)) (now (text .entry)) (now (rec .entry)) (now (starts .entry)) (now (lens .entry)) (wordOf· "(" ⨾ infix-head (walks (cfg .left)) ⨾ wordOf· ")") at (now (mem .entry)) (now (out .entry)) r (now (mem .exit)) (now (out .exit)) ⌝ }
 {
-    let s1 = word(text, out, st, cfg.tab, words::DATATYPE);
-    let r2 = text_of(text, rec, starts, lens, out, s1, cfg);
-    let Answer::Done(s2) = r2 else {
-        return r2;
+    word(run, text, out, mem, words::L_ROUND);
+    let r1 = infix_pats(run, text, rec, starts, lens, out, mem, at, cfg);
+    let Answer::Done(s1) = told(r1) else {
+        return r1;
     };
-    let s3 = word(text, out, s2, cfg.tab, words::EQ_DATATYPE);
-    path(text, rec, starts, lens, out, s3, cfg)
+    word(run, text, out, mem, words::R_ROUND);
+    s1
 }
 
-// ---- names
-// `OpenDec`.
-pub fn open_dec(
-    text: &[u8],
+// `InfixFunBindCaseHead`.
+fn infix_head<'a>(
+    run: &'a [u8; 351],
+    text: &'a [u8],
     rec: &[u8],
     starts: &[u16],
     lens: &[u16],
     out: &mut [u8],
-    st: St,
+    mem: &mut [u64; 68],
+    at: usize,
     cfg: Cfg,
-) -> Answer
-    ensures { λ r. ⌜ Plain (now (text .entry)) (now (rec .entry)) (now (starts .entry)) (now (lens .entry)) (cfg .tab) (dec-one· (walks (cfg .left)) (cfgOf cfg) OpenDec) st (now (out .entry)) r (now (out .exit)) ⌝ }
+) -> usize
+    ensures { λ r. ⌜ Plain (now (run .entry)) (now (text .entry)) (now (rec .entry)) (now (starts .entry)) (now (lens .entry)) (InfixFunBindCaseHead (walks (cfg .left))) at (now (mem .entry)) (now (out .entry)) r (now (mem .exit)) (now (out .exit)) ⌝ }
 {
-    let s1 = word(text, out, st, cfg.tab, words::OPEN);
+    let given = present(rec, starts.len(), at);
+    match given {
+        Given::There(s) => infix_in_parens(run, text, rec, starts, lens, out, mem, s, cfg),
+        Given::Absent(s) => infix_pats(run, text, rec, starts, lens, out, mem, s, cfg),
+        Given::Neither => stop(at),
+    }
+}
+
+// The head of a case, by its number.
+fn case_head_of<'a>(
+    run: &'a [u8; 351],
+    text: &'a [u8],
+    rec: &[u8],
+    starts: &[u16],
+    lens: &[u16],
+    out: &mut [u8],
+    mem: &mut [u64; 68],
+    at: usize,
+    cfg: Cfg,
+    which: usize,
+) -> usize
+    ensures { λ r. ⌜ Plain (now (run .entry)) (now (text .entry)) (now (rec .entry)) (now (starts .entry)) (now (lens .entry)) (case-head (walks (cfg .left)) which) at (now (mem .entry)) (now (out .entry)) r (now (mem .exit)) (now (out .exit)) ⌝ }
+{
+    match which {
+        0 => prefix_head(run, text, rec, starts, lens, out, mem, at, cfg),
+        1 => infix_head(run, text, rec, starts, lens, out, mem, at, cfg),
+        _ => stop(at),
+    }
+}
+
+// The head of a case of `FunDec`.
+pub fn case_head<'a>(
+    run: &'a [u8; 351],
+    text: &'a [u8],
+    rec: &[u8],
+    starts: &[u16],
+    lens: &[u16],
+    out: &mut [u8],
+    mem: &mut [u64; 68],
+    at: usize,
+    cfg: Cfg,
+) -> usize
+    ensures { λ r. ⌜ Plain (now (run .entry)) (now (text .entry)) (now (rec .entry)) (now (starts .entry)) (now (lens .entry)) (choice· (case-head (walks (cfg .left)))) at (now (mem .entry)) (now (out .entry)) r (now (mem .exit)) (now (out .exit)) ⌝ }
+{
+    let Read::Is(k, s1) = choice(rec, at) else {
+        return stop(at);
+    };
+    case_head_of(run, text, rec, starts, lens, out, mem, s1, cfg, k)
+}
+
+// The patterns of a case of `FunDec`, with a space before each.
+pub fn case_pats<'a>(
+    run: &'a [u8; 351],
+    text: &'a [u8],
+    rec: &[u8],
+    starts: &[u16],
+    lens: &[u16],
+    out: &mut [u8],
+    mem: &mut [u64; 68],
+    at: usize,
+    cfg: Cfg,
+) -> usize
+    ensures { λ r. ⌜ Plain (now (run .entry)) (now (text .entry)) (now (rec .entry)) (now (starts .entry)) (now (lens .entry)) (case-pats (walks (cfg .left))) at (now (mem .entry)) (now (out .entry)) r (now (mem .exit)) (now (out .exit)) ⌝ }
+{
+    let Read::Is(n, s0) = list(rec, at) else {
+        return stop(at);
+    };
+    let mut s = s0;
+    let mut i = 0;
+    while i < n {
+        word(run, text, out, mem, words::SPACE);
+        let r1 = get_pat(run, text, rec, starts, lens, out, mem, s, cfg);
+        let Answer::Done(s1) = told(r1) else {
+            return r1;
+        };
+        s = s1;
+        i += 1;
+    }
+    s
+}
+
+// ---- other parts
+// `of` and the type of an exception.
+pub fn ex_bind_of<'a>(
+    run: &'a [u8; 351],
+    text: &'a [u8],
+    rec: &[u8],
+    starts: &[u16],
+    lens: &[u16],
+    out: &mut [u8],
+    mem: &mut [u64; 68],
+    at: usize,
+    cfg: Cfg,
+) -> usize
+    ensures { λ r. ⌜ Plain (now (run .entry)) (now (text .entry)) (now (rec .entry)) (now (starts .entry)) (now (lens .entry)) (ex-bind-of (walks (cfg .left))) at (now (mem .entry)) (now (out .entry)) r (now (mem .exit)) (now (out .exit)) ⌝ }
+{
+    word(run, text, out, mem, words::OF);
+    get_ty(run, text, rec, starts, lens, out, mem, at, cfg)
+}
+
+// An item of `sharing_tails`.
+fn sharing_tail<'a>(
+    run: &'a [u8; 351],
+    text: &'a [u8],
+    rec: &[u8],
+    starts: &[u16],
+    lens: &[u16],
+    out: &mut [u8],
+    mem: &mut [u64; 68],
+    at: usize,
+    cfg: Cfg,
+) -> usize
+    ensures { λ r. ⌜ Plain (now (run .entry)) (now (text .entry)) (now (rec .entry)) (now (starts .entry)) (now (lens .entry)) (sharing-tail (walks (cfg .left)) (cfgOf cfg)) at (now (mem .entry)) (now (out .entry)) r (now (mem .exit)) (now (out .exit)) ⌝ }
+{
+    let r1 = group(rec, at);
+    let Answer::Done(s1) = told(r1) else {
+        return r1;
+    };
+    line(run, text, out, mem, cfg);
+    word(run, text, out, mem, words::SHARING_TYPE);
     let Read::Is(n, s2) = list(rec, s1) else {
         return stop(s1);
     };
     let mut s = s2;
     let mut i = 0;
     while i < n {
-        let s3 = between(text, out, s, cfg.tab, words::SPACE, i);
-        let r4 = path(text, rec, starts, lens, out, s3, cfg);
-        let Answer::Done(s4) = r4 else {
+        between(run, text, out, mem, words::EQ_SPACED, i);
+        let r3 = group(rec, s);
+        let Answer::Done(s3) = told(r3) else {
+            return r3;
+        };
+        let r4 = path(run, text, rec, starts, lens, out, mem, s3);
+        let Answer::Done(s4) = told(r4) else {
             return r4;
         };
         s = s4;
         i += 1;
     }
-    Answer::Done(s)
-}
-
-// Names with a space between.
-fn names_space(
-    text: &[u8],
-    rec: &[u8],
-    starts: &[u16],
-    lens: &[u16],
-    out: &mut [u8],
-    st: St,
-    cfg: Cfg,
-) -> Answer
-    ensures { λ r. ⌜ Plain (now (text .entry)) (now (rec .entry)) (now (starts .entry)) (now (lens .entry)) (cfg .tab) (names-space (walks (cfg .left))) st (now (out .entry)) r (now (out .exit)) ⌝ }
-{
-    let Read::Is(n, s0) = list(rec, st) else {
-        return stop(st);
-    };
-    let mut s = s0;
-    let mut i = 0;
-    while i < n {
-        let s1 = between(text, out, s, cfg.tab, words::SPACE, i);
-        let r2 = text_of(text, rec, starts, lens, out, s1, cfg);
-        let Answer::Done(s2) = r2 else {
-            return r2;
-        };
-        s = s2;
-        i += 1;
-    }
-    Answer::Done(s)
-}
-
-// A precedence and a space, where there is one.
-fn int_lit(
-    text: &[u8],
-    rec: &[u8],
-    starts: &[u16],
-    lens: &[u16],
-    out: &mut [u8],
-    st: St,
-    cfg: Cfg,
-) -> Answer
-    ensures { λ r. ⌜ Plain (now (text .entry)) (now (rec .entry)) (now (starts .entry)) (now (lens .entry)) (cfg .tab) (int-lit (walks (cfg .left))) st (now (out .entry)) r (now (out .exit)) ⌝ }
-{
-    if let Gone::Past(s0) = absent(rec, st) {
-        return Answer::Done(s0);
-    }
-    let r1 = text_of(text, rec, starts, lens, out, st, cfg);
-    let Answer::Done(s1) = r1 else {
-        return r1;
-    };
-    Answer::Done(word(text, out, s1, cfg.tab, words::SPACE))
-}
-
-// `InfixDec` and `InfixrDec`, by their word.
-pub fn infix_dec(
-    text: &[u8],
-    rec: &[u8],
-    starts: &[u16],
-    lens: &[u16],
-    out: &mut [u8],
-    st: St,
-    cfg: Cfg,
-    w: usize,
-) -> Answer
-    ensures { λ r. ⌜ Plain (now (text .entry)) (now (rec .entry)) (now (starts .entry)) (now (lens .entry)) (cfg .tab) (wordOf· (wordOf w) ⨾ int-lit (walks (cfg .left)) ⨾ names-space (walks (cfg .left))) st (now (out .entry)) r (now (out .exit)) ⌝ }
-{
-    let s1 = word(text, out, st, cfg.tab, w);
-    let r2 = int_lit(text, rec, starts, lens, out, s1, cfg);
-    let Answer::Done(s2) = r2 else {
-        return r2;
-    };
-    names_space(text, rec, starts, lens, out, s2, cfg)
-}
-
-// `NonfixDec`.
-pub fn nonfix_dec(
-    text: &[u8],
-    rec: &[u8],
-    starts: &[u16],
-    lens: &[u16],
-    out: &mut [u8],
-    st: St,
-    cfg: Cfg,
-) -> Answer
-    ensures { λ r. ⌜ Plain (now (text .entry)) (now (rec .entry)) (now (starts .entry)) (now (lens .entry)) (cfg .tab) (dec-one· (walks (cfg .left)) (cfgOf cfg) NonfixDec) st (now (out .entry)) r (now (out .exit)) ⌝ }
-{
-    let s1 = word(text, out, st, cfg.tab, words::NONFIX);
-    names_space(text, rec, starts, lens, out, s1, cfg)
-}
-
-// ---- cases of functions
-// `PrefixFunBindCaseHead`.
-fn prefix_head(
-    text: &[u8],
-    rec: &[u8],
-    starts: &[u16],
-    lens: &[u16],
-    out: &mut [u8],
-    st: St,
-    cfg: Cfg,
-) -> Answer
-    ensures { λ r. ⌜ Plain (now (text .entry)) (now (rec .entry)) (now (starts .entry)) (now (lens .entry)) (cfg .tab) (PrefixFunBindCaseHead (walks (cfg .left))) st (now (out .entry)) r (now (out .exit)) ⌝ }
-{
-    let r1 = word_if(text, rec, starts, lens, out, st, cfg, words::OP_SPACE);
-    let Answer::Done(s1) = r1 else {
-        return r1;
-    };
-    text_of(text, rec, starts, lens, out, s1, cfg)
-}
-
-// A name between two patterns.
-fn infix_pats(
-    text: &[u8],
-    rec: &[u8],
-    starts: &[u16],
-    lens: &[u16],
-    out: &mut [u8],
-    st: St,
-    cfg: Cfg,
-) -> Answer
-    ensures { λ r. ⌜ Plain (now (text .entry)) (now (rec .entry)) (now (starts .entry)) (now (lens .entry)) (cfg .tab) (infix-head (walks (cfg .left))) st (now (out .entry)) r (now (out .exit)) ⌝ }
-{
-    let r1 = get_pat(text, rec, starts, lens, out, st, cfg);
-    let Answer::Done(s1) = r1 else {
-        return r1;
-    };
-    let s2 = word(text, out, s1, cfg.tab, words::SPACE);
-    let r3 = text_of(text, rec, starts, lens, out, s2, cfg);
-    let Answer::Done(s3) = r3 else {
-        return r3;
-    };
-    let s4 = word(text, out, s3, cfg.tab, words::SPACE);
-    get_pat(text, rec, starts, lens, out, s4, cfg)
-}
-
-// The same in parentheses.
-fn infix_in_parens(
-    text: &[u8],
-    rec: &[u8],
-    starts: &[u16],
-    lens: &[u16],
-    out: &mut [u8],
-    st: St,
-    cfg: Cfg,
-) -> Answer
-    ensures { λ r. ⌜ Plain (now (text .entry)) (now (rec .entry)) (now (starts .entry)) (now (lens .entry)) (cfg .tab) (wordOf· "(" ⨾ infix-head (walks (cfg .left)) ⨾ wordOf· ")") st (now (out .entry)) r (now (out .exit)) ⌝ }
-{
-    let s1 = word(text, out, st, cfg.tab, words::L_ROUND);
-    let r2 = infix_pats(text, rec, starts, lens, out, s1, cfg);
-    let Answer::Done(s2) = r2 else {
-        return r2;
-    };
-    Answer::Done(word(text, out, s2, cfg.tab, words::R_ROUND))
-}
-
-// `InfixFunBindCaseHead`.
-fn infix_head(
-    text: &[u8],
-    rec: &[u8],
-    starts: &[u16],
-    lens: &[u16],
-    out: &mut [u8],
-    st: St,
-    cfg: Cfg,
-) -> Answer
-    ensures { λ r. ⌜ Plain (now (text .entry)) (now (rec .entry)) (now (starts .entry)) (now (lens .entry)) (cfg .tab) (InfixFunBindCaseHead (walks (cfg .left))) st (now (out .entry)) r (now (out .exit)) ⌝ }
-{
-    let given = present(rec, starts.len(), st);
-    match given {
-        Given::There(s) => infix_in_parens(text, rec, starts, lens, out, s, cfg),
-        Given::Absent(s) => infix_pats(text, rec, starts, lens, out, s, cfg),
-        Given::Neither => stop(st),
-    }
-}
-
-// The head of a case, by its number.
-fn case_head_of(
-    text: &[u8],
-    rec: &[u8],
-    starts: &[u16],
-    lens: &[u16],
-    out: &mut [u8],
-    st: St,
-    cfg: Cfg,
-    which: usize,
-) -> Answer
-    ensures { λ r. ⌜ Plain (now (text .entry)) (now (rec .entry)) (now (starts .entry)) (now (lens .entry)) (cfg .tab) (case-head (walks (cfg .left)) which) st (now (out .entry)) r (now (out .exit)) ⌝ }
-{
-    match which {
-        0 => prefix_head(text, rec, starts, lens, out, st, cfg),
-        1 => infix_head(text, rec, starts, lens, out, st, cfg),
-        _ => stop(st),
-    }
-}
-
-// The head of a case of `FunDec`.
-pub fn case_head(
-    text: &[u8],
-    rec: &[u8],
-    starts: &[u16],
-    lens: &[u16],
-    out: &mut [u8],
-    st: St,
-    cfg: Cfg,
-) -> Answer
-    ensures { λ r. ⌜ Plain (now (text .entry)) (now (rec .entry)) (now (starts .entry)) (now (lens .entry)) (cfg .tab) (choice· (case-head (walks (cfg .left)))) st (now (out .entry)) r (now (out .exit)) ⌝ }
-{
-    let Read::Is(k, s1) = choice(rec, st) else {
-        return stop(st);
-    };
-    case_head_of(text, rec, starts, lens, out, s1, cfg, k)
-}
-
-// The patterns of a case of `FunDec`, with a space before each.
-pub fn case_pats(
-    text: &[u8],
-    rec: &[u8],
-    starts: &[u16],
-    lens: &[u16],
-    out: &mut [u8],
-    st: St,
-    cfg: Cfg,
-) -> Answer
-    ensures { λ r. ⌜ Plain (now (text .entry)) (now (rec .entry)) (now (starts .entry)) (now (lens .entry)) (cfg .tab) (case-pats (walks (cfg .left))) st (now (out .entry)) r (now (out .exit)) ⌝ }
-{
-    let Read::Is(n, s0) = list(rec, st) else {
-        return stop(st);
-    };
-    let mut s = s0;
-    let mut i = 0;
-    while i < n {
-        let s1 = word(text, out, s, cfg.tab, words::SPACE);
-        let r2 = get_pat(text, rec, starts, lens, out, s1, cfg);
-        let Answer::Done(s2) = r2 else {
-            return r2;
-        };
-        s = s2;
-        i += 1;
-    }
-    Answer::Done(s)
-}
-
-// ---- other parts
-// `of` and the type of an exception.
-pub fn ex_bind_of(
-    text: &[u8],
-    rec: &[u8],
-    starts: &[u16],
-    lens: &[u16],
-    out: &mut [u8],
-    st: St,
-    cfg: Cfg,
-) -> Answer
-    ensures { λ r. ⌜ Plain (now (text .entry)) (now (rec .entry)) (now (starts .entry)) (now (lens .entry)) (cfg .tab) (ex-bind-of (walks (cfg .left))) st (now (out .entry)) r (now (out .exit)) ⌝ }
-{
-    let s1 = word(text, out, st, cfg.tab, words::OF);
-    get_ty(text, rec, starts, lens, out, s1, cfg)
-}
-
-// An item of `sharing_tails`.
-fn sharing_tail(
-    text: &[u8],
-    rec: &[u8],
-    starts: &[u16],
-    lens: &[u16],
-    out: &mut [u8],
-    st: St,
-    cfg: Cfg,
-) -> Answer
-    ensures { λ r. ⌜ Plain (now (text .entry)) (now (rec .entry)) (now (starts .entry)) (now (lens .entry)) (cfg .tab) (sharing-tail (walks (cfg .left)) (cfgOf cfg)) st (now (out .entry)) r (now (out .exit)) ⌝ }
-{
-    let r1 = group(rec, st);
-    let Answer::Done(s1) = r1 else {
-        return r1;
-    };
-    let s2 = line(text, out, s1, cfg);
-    let s3 = word(text, out, s2, cfg.tab, words::SHARING_TYPE);
-    let Read::Is(n, s4) = list(rec, s3) else {
-        return stop(s3);
-    };
-    let mut s = s4;
-    let mut i = 0;
-    while i < n {
-        let s5 = between(text, out, s, cfg.tab, words::EQ_SPACED, i);
-        let r6 = group(rec, s5);
-        let Answer::Done(s6) = r6 else {
-            return r6;
-        };
-        let r7 = path(text, rec, starts, lens, out, s6, cfg);
-        let Answer::Done(s7) = r7 else {
-            return r7;
-        };
-        s = s7;
-        i += 1;
-    }
-    Answer::Done(s)
+    s
 }
 
 // The tails of a Dec.
-pub fn sharing_tails(
-    text: &[u8],
+pub fn sharing_tails<'a>(
+    run: &'a [u8; 351],
+    text: &'a [u8],
     rec: &[u8],
     starts: &[u16],
     lens: &[u16],
     out: &mut [u8],
-    st: St,
+    mem: &mut [u64; 68],
+    at: usize,
     cfg: Cfg,
-) -> Answer
-    ensures { λ r. ⌜ Plain (now (text .entry)) (now (rec .entry)) (now (starts .entry)) (now (lens .entry)) (cfg .tab) (sharing-tails (walks (cfg .left)) (cfgOf cfg)) st (now (out .entry)) r (now (out .exit)) ⌝ }
+) -> usize
+    ensures { λ r. ⌜ Plain (now (run .entry)) (now (text .entry)) (now (rec .entry)) (now (starts .entry)) (now (lens .entry)) (sharing-tails (walks (cfg .left)) (cfgOf cfg)) at (now (mem .entry)) (now (out .entry)) r (now (mem .exit)) (now (out .exit)) ⌝ }
 {
-    let Read::Is(n, s0) = list(rec, st) else {
-        return stop(st);
+    let Read::Is(n, s0) = list(rec, at) else {
+        return stop(at);
     };
     let mut s = s0;
     let mut i = 0;
     while i < n {
-        let r1 = sharing_tail(text, rec, starts, lens, out, s, cfg);
-        let Answer::Done(s1) = r1 else {
+        let r1 = sharing_tail(run, text, rec, starts, lens, out, mem, s, cfg);
+        let Answer::Done(s1) = told(r1) else {
             return r1;
         };
         s = s1;
         i += 1;
     }
-    Answer::Done(s)
+    s
 }

@@ -1,7 +1,6 @@
 // `get_pat` of 000: the walk over patterns. A function for each arm, over configurations one form deeper.
 use layout::Answer;
 use layout::Cfg;
-use layout::St;
 use layout::fields::Gone;
 use layout::fields::Read;
 use layout::fields::absent;
@@ -13,6 +12,7 @@ use layout::fields::stop;
 use layout::helpers::between;
 use layout::helpers::op_path;
 use layout::helpers::text_of;
+use layout::told;
 use layout::word;
 use layout::words;
 use reader::commands::Family;
@@ -25,477 +25,529 @@ ghost use Rattle.layout.specs.Pat.{con-arg-there, con-arg, LabAndPatPatRow, as-
 ghost use Rattle.reader.specs.Forms.{ConPat, RecordPat, ParenPat, TuplePat, ListPat, VectorPat, InfixPat, TypedPat, AsPat, OrPat};
 
 // The argument of a constructor that is there.
-fn con_arg_there(
-    text: &[u8],
+fn con_arg_there<'a>(
+    run: &'a [u8; 351],
+    text: &'a [u8],
     rec: &[u8],
     starts: &[u16],
     lens: &[u16],
     out: &mut [u8],
-    st: St,
+    mem: &mut [u64; 68],
+    at: usize,
     cfg: Cfg,
-) -> Answer
-    ensures { λ r. ⌜ Plain (now (text .entry)) (now (rec .entry)) (now (starts .entry)) (now (lens .entry)) (cfg .tab) (con-arg-there (walks (cfg .left))) st (now (out .entry)) r (now (out .exit)) ⌝ }
+) -> usize
+    ensures { λ r. ⌜ Plain (now (run .entry)) (now (text .entry)) (now (rec .entry)) (now (starts .entry)) (now (lens .entry)) (con-arg-there (walks (cfg .left))) at (now (mem .entry)) (now (out .entry)) r (now (mem .exit)) (now (out .exit)) ⌝ }
 {
-    let s1 = word(text, out, st, cfg.tab, words::SPACE);
-    get_pat(text, rec, starts, lens, out, s1, cfg)
+    word(run, text, out, mem, words::SPACE);
+    get_pat(run, text, rec, starts, lens, out, mem, at, cfg)
 }
 
 // The argument of a constructor, where there is one.
-fn con_arg(
-    text: &[u8],
+fn con_arg<'a>(
+    run: &'a [u8; 351],
+    text: &'a [u8],
     rec: &[u8],
     starts: &[u16],
     lens: &[u16],
     out: &mut [u8],
-    st: St,
+    mem: &mut [u64; 68],
+    at: usize,
     cfg: Cfg,
-) -> Answer
-    ensures { λ r. ⌜ Plain (now (text .entry)) (now (rec .entry)) (now (starts .entry)) (now (lens .entry)) (cfg .tab) (con-arg (walks (cfg .left))) st (now (out .entry)) r (now (out .exit)) ⌝ }
+) -> usize
+    ensures { λ r. ⌜ Plain (now (run .entry)) (now (text .entry)) (now (rec .entry)) (now (starts .entry)) (now (lens .entry)) (con-arg (walks (cfg .left))) at (now (mem .entry)) (now (out .entry)) r (now (mem .exit)) (now (out .exit)) ⌝ }
 {
-    let gone = absent(rec, st);
+    let gone = absent(rec, at);
     match gone {
-        Gone::Past(s) => Answer::Done(s),
-        Gone::There => con_arg_there(text, rec, starts, lens, out, st, cfg),
+        Gone::Past(s) => s,
+        Gone::There => con_arg_there(run, text, rec, starts, lens, out, mem, at, cfg),
     }
 }
 
 // `ConPat`.
-fn con_pat(
-    text: &[u8],
+fn con_pat<'a>(
+    run: &'a [u8; 351],
+    text: &'a [u8],
     rec: &[u8],
     starts: &[u16],
     lens: &[u16],
     out: &mut [u8],
-    st: St,
+    mem: &mut [u64; 68],
+    at: usize,
     cfg: Cfg,
-) -> Answer
-    ensures { λ r. ⌜ Plain (now (text .entry)) (now (rec .entry)) (now (starts .entry)) (now (lens .entry)) (cfg .tab) (pat· (walks (cfg .left)) ConPat) st (now (out .entry)) r (now (out .exit)) ⌝ }
+) -> usize
+    ensures { λ r. ⌜ Plain (now (run .entry)) (now (text .entry)) (now (rec .entry)) (now (starts .entry)) (now (lens .entry)) (pat· (walks (cfg .left)) ConPat) at (now (mem .entry)) (now (out .entry)) r (now (mem .exit)) (now (out .exit)) ⌝ }
 {
-    let r1 = op_path(text, rec, starts, lens, out, st, cfg);
-    let Answer::Done(s1) = r1 else {
+    let r1 = op_path(run, text, rec, starts, lens, out, mem, at);
+    let Answer::Done(s1) = told(r1) else {
         return r1;
     };
-    con_arg(text, rec, starts, lens, out, s1, cfg)
+    con_arg(run, text, rec, starts, lens, out, mem, s1, cfg)
 }
 
 // `LabAndPatPatRow`.
-fn lab_and_pat(
-    text: &[u8],
+fn lab_and_pat<'a>(
+    run: &'a [u8; 351],
+    text: &'a [u8],
     rec: &[u8],
     starts: &[u16],
     lens: &[u16],
     out: &mut [u8],
-    st: St,
+    mem: &mut [u64; 68],
+    at: usize,
     cfg: Cfg,
-) -> Answer
-    ensures { λ r. ⌜ Plain (now (text .entry)) (now (rec .entry)) (now (starts .entry)) (now (lens .entry)) (cfg .tab) (LabAndPatPatRow (walks (cfg .left))) st (now (out .entry)) r (now (out .exit)) ⌝ }
+) -> usize
+    ensures { λ r. ⌜ Plain (now (run .entry)) (now (text .entry)) (now (rec .entry)) (now (starts .entry)) (now (lens .entry)) (LabAndPatPatRow (walks (cfg .left))) at (now (mem .entry)) (now (out .entry)) r (now (mem .exit)) (now (out .exit)) ⌝ }
 {
-    let r1 = text_of(text, rec, starts, lens, out, st, cfg);
-    let Answer::Done(s1) = r1 else {
+    let r1 = text_of(run, text, rec, starts, lens, out, mem, at);
+    let Answer::Done(s1) = told(r1) else {
         return r1;
     };
-    let s2 = word(text, out, s1, cfg.tab, words::EQ_SPACED);
-    get_pat(text, rec, starts, lens, out, s2, cfg)
+    word(run, text, out, mem, words::EQ_SPACED);
+    get_pat(run, text, rec, starts, lens, out, mem, s1, cfg)
 }
 
 // A tail that is there.
-fn as_tail_there(
-    text: &[u8],
+fn as_tail_there<'a>(
+    run: &'a [u8; 351],
+    text: &'a [u8],
     rec: &[u8],
     starts: &[u16],
     lens: &[u16],
     out: &mut [u8],
-    st: St,
+    mem: &mut [u64; 68],
+    at: usize,
     cfg: Cfg,
-) -> Answer
-    ensures { λ r. ⌜ Plain (now (text .entry)) (now (rec .entry)) (now (starts .entry)) (now (lens .entry)) (cfg .tab) (as-tail-there (walks (cfg .left))) st (now (out .entry)) r (now (out .exit)) ⌝ }
+) -> usize
+    ensures { λ r. ⌜ Plain (now (run .entry)) (now (text .entry)) (now (rec .entry)) (now (starts .entry)) (now (lens .entry)) (as-tail-there (walks (cfg .left))) at (now (mem .entry)) (now (out .entry)) r (now (mem .exit)) (now (out .exit)) ⌝ }
 {
-    let r1 = group(rec, st);
-    let Answer::Done(s1) = r1 else {
+    let r1 = group(rec, at);
+    let Answer::Done(s1) = told(r1) else {
         return r1;
     };
-    let s2 = word(text, out, s1, cfg.tab, words::AS);
-    get_pat(text, rec, starts, lens, out, s2, cfg)
+    word(run, text, out, mem, words::AS);
+    get_pat(run, text, rec, starts, lens, out, mem, s1, cfg)
 }
 
 // `as` and a pattern, where there are any.
-fn as_tail(
-    text: &[u8],
+fn as_tail<'a>(
+    run: &'a [u8; 351],
+    text: &'a [u8],
     rec: &[u8],
     starts: &[u16],
     lens: &[u16],
     out: &mut [u8],
-    st: St,
+    mem: &mut [u64; 68],
+    at: usize,
     cfg: Cfg,
-) -> Answer
-    ensures { λ r. ⌜ Plain (now (text .entry)) (now (rec .entry)) (now (starts .entry)) (now (lens .entry)) (cfg .tab) (as-tail (walks (cfg .left))) st (now (out .entry)) r (now (out .exit)) ⌝ }
+) -> usize
+    ensures { λ r. ⌜ Plain (now (run .entry)) (now (text .entry)) (now (rec .entry)) (now (starts .entry)) (now (lens .entry)) (as-tail (walks (cfg .left))) at (now (mem .entry)) (now (out .entry)) r (now (mem .exit)) (now (out .exit)) ⌝ }
 {
-    let gone = absent(rec, st);
+    let gone = absent(rec, at);
     match gone {
-        Gone::Past(s) => Answer::Done(s),
-        Gone::There => as_tail_there(text, rec, starts, lens, out, st, cfg),
+        Gone::Past(s) => s,
+        Gone::There => as_tail_there(run, text, rec, starts, lens, out, mem, at, cfg),
     }
 }
 
 // `LabPatRow`.
-fn lab_pat(
-    text: &[u8],
+fn lab_pat<'a>(
+    run: &'a [u8; 351],
+    text: &'a [u8],
     rec: &[u8],
     starts: &[u16],
     lens: &[u16],
     out: &mut [u8],
-    st: St,
+    mem: &mut [u64; 68],
+    at: usize,
     cfg: Cfg,
-) -> Answer
-    ensures { λ r. ⌜ Plain (now (text .entry)) (now (rec .entry)) (now (starts .entry)) (now (lens .entry)) (cfg .tab) (LabPatRow (walks (cfg .left))) st (now (out .entry)) r (now (out .exit)) ⌝ }
+) -> usize
+    ensures { λ r. ⌜ Plain (now (run .entry)) (now (text .entry)) (now (rec .entry)) (now (starts .entry)) (now (lens .entry)) (LabPatRow (walks (cfg .left))) at (now (mem .entry)) (now (out .entry)) r (now (mem .exit)) (now (out .exit)) ⌝ }
 {
-    let r1 = text_of(text, rec, starts, lens, out, st, cfg);
-    let Answer::Done(s1) = r1 else {
+    let r1 = text_of(run, text, rec, starts, lens, out, mem, at);
+    let Answer::Done(s1) = told(r1) else {
         return r1;
     };
-    let r2 = ty_annotation(text, rec, starts, lens, out, s1, cfg);
-    let Answer::Done(s2) = r2 else {
+    let r2 = ty_annotation(run, text, rec, starts, lens, out, mem, s1, cfg);
+    let Answer::Done(s2) = told(r2) else {
         return r2;
     };
-    as_tail(text, rec, starts, lens, out, s2, cfg)
+    as_tail(run, text, rec, starts, lens, out, mem, s2, cfg)
 }
 
 // What a row holds, by its number.
-fn row_inner(
-    text: &[u8],
+fn row_inner<'a>(
+    run: &'a [u8; 351],
+    text: &'a [u8],
     rec: &[u8],
     starts: &[u16],
     lens: &[u16],
     out: &mut [u8],
-    st: St,
+    mem: &mut [u64; 68],
+    at: usize,
     cfg: Cfg,
     which: usize,
-) -> Answer
-    ensures { λ r. ⌜ Plain (now (text .entry)) (now (rec .entry)) (now (starts .entry)) (now (lens .entry)) (cfg .tab) (pat-row-inner (walks (cfg .left)) which) st (now (out .entry)) r (now (out .exit)) ⌝ }
+) -> usize
+    ensures { λ r. ⌜ Plain (now (run .entry)) (now (text .entry)) (now (rec .entry)) (now (starts .entry)) (now (lens .entry)) (pat-row-inner (walks (cfg .left)) which) at (now (mem .entry)) (now (out .entry)) r (now (mem .exit)) (now (out .exit)) ⌝ }
 {
     match which {
-        0 => Answer::Done(word(text, out, st, cfg.tab, words::DOT_DOT_DOT)),
-        1 => lab_and_pat(text, rec, starts, lens, out, st, cfg),
-        2 => lab_pat(text, rec, starts, lens, out, st, cfg),
-        _ => stop(st),
+        0 => {
+            word(run, text, out, mem, words::DOT_DOT_DOT);
+            at
+        }
+        1 => lab_and_pat(run, text, rec, starts, lens, out, mem, at, cfg),
+        2 => lab_pat(run, text, rec, starts, lens, out, mem, at, cfg),
+        _ => stop(at),
     }
 }
 
 // A row of a record pattern.
-fn row(
-    text: &[u8],
+fn row<'a>(
+    run: &'a [u8; 351],
+    text: &'a [u8],
     rec: &[u8],
     starts: &[u16],
     lens: &[u16],
     out: &mut [u8],
-    st: St,
+    mem: &mut [u64; 68],
+    at: usize,
     cfg: Cfg,
-) -> Answer
-    ensures { λ r. ⌜ Plain (now (text .entry)) (now (rec .entry)) (now (starts .entry)) (now (lens .entry)) (cfg .tab) (pat-row (walks (cfg .left))) st (now (out .entry)) r (now (out .exit)) ⌝ }
+) -> usize
+    ensures { λ r. ⌜ Plain (now (run .entry)) (now (text .entry)) (now (rec .entry)) (now (starts .entry)) (now (lens .entry)) (pat-row (walks (cfg .left))) at (now (mem .entry)) (now (out .entry)) r (now (mem .exit)) (now (out .exit)) ⌝ }
 {
-    let r1 = group(rec, st);
-    let Answer::Done(s1) = r1 else {
+    let r1 = group(rec, at);
+    let Answer::Done(s1) = told(r1) else {
         return r1;
     };
     let Read::Is(k, s2) = choice(rec, s1) else {
         return stop(s1);
     };
-    row_inner(text, rec, starts, lens, out, s2, cfg, k)
+    row_inner(run, text, rec, starts, lens, out, mem, s2, cfg, k)
 }
 
 // The rows of a record pattern.
-fn rows(
-    text: &[u8],
+fn rows<'a>(
+    run: &'a [u8; 351],
+    text: &'a [u8],
     rec: &[u8],
     starts: &[u16],
     lens: &[u16],
     out: &mut [u8],
-    st: St,
+    mem: &mut [u64; 68],
+    at: usize,
     cfg: Cfg,
-) -> Answer
-    ensures { λ r. ⌜ Plain (now (text .entry)) (now (rec .entry)) (now (starts .entry)) (now (lens .entry)) (cfg .tab) (pat-rows (walks (cfg .left))) st (now (out .entry)) r (now (out .exit)) ⌝ }
+) -> usize
+    ensures { λ r. ⌜ Plain (now (run .entry)) (now (text .entry)) (now (rec .entry)) (now (starts .entry)) (now (lens .entry)) (pat-rows (walks (cfg .left))) at (now (mem .entry)) (now (out .entry)) r (now (mem .exit)) (now (out .exit)) ⌝ }
 {
-    let Read::Is(n, s0) = list(rec, st) else {
-        return stop(st);
+    let Read::Is(n, s0) = list(rec, at) else {
+        return stop(at);
     };
     let mut s = s0;
     let mut i = 0;
     while i < n {
-        let s1 = between(text, out, s, cfg.tab, words::COMMA, i);
-        let r2 = row(text, rec, starts, lens, out, s1, cfg);
-        let Answer::Done(s2) = r2 else {
+        between(run, text, out, mem, words::COMMA, i);
+        let r1 = row(run, text, rec, starts, lens, out, mem, s, cfg);
+        let Answer::Done(s1) = told(r1) else {
+            return r1;
+        };
+        s = s1;
+        i += 1;
+    }
+    s
+}
+
+// `RecordPat`.
+fn record_pat<'a>(
+    run: &'a [u8; 351],
+    text: &'a [u8],
+    rec: &[u8],
+    starts: &[u16],
+    lens: &[u16],
+    out: &mut [u8],
+    mem: &mut [u64; 68],
+    at: usize,
+    cfg: Cfg,
+) -> usize
+    ensures { λ r. ⌜ Plain (now (run .entry)) (now (text .entry)) (now (rec .entry)) (now (starts .entry)) (now (lens .entry)) (pat· (walks (cfg .left)) RecordPat) at (now (mem .entry)) (now (out .entry)) r (now (mem .exit)) (now (out .exit)) ⌝ }
+{
+    word(run, text, out, mem, words::L_CURLY);
+    let r1 = rows(run, text, rec, starts, lens, out, mem, at, cfg);
+    let Answer::Done(s1) = told(r1) else {
+        return r1;
+    };
+    word(run, text, out, mem, words::R_CURLY);
+    s1
+}
+
+// `ParenPat`.
+fn paren_pat<'a>(
+    run: &'a [u8; 351],
+    text: &'a [u8],
+    rec: &[u8],
+    starts: &[u16],
+    lens: &[u16],
+    out: &mut [u8],
+    mem: &mut [u64; 68],
+    at: usize,
+    cfg: Cfg,
+) -> usize
+    ensures { λ r. ⌜ Plain (now (run .entry)) (now (text .entry)) (now (rec .entry)) (now (starts .entry)) (now (lens .entry)) (pat· (walks (cfg .left)) ParenPat) at (now (mem .entry)) (now (out .entry)) r (now (mem .exit)) (now (out .exit)) ⌝ }
+{
+    word(run, text, out, mem, words::L_ROUND);
+    let r1 = get_pat(run, text, rec, starts, lens, out, mem, at, cfg);
+    let Answer::Done(s1) = told(r1) else {
+        return r1;
+    };
+    word(run, text, out, mem, words::R_ROUND);
+    s1
+}
+
+// Patterns with a comma between.
+fn pat_args<'a>(
+    run: &'a [u8; 351],
+    text: &'a [u8],
+    rec: &[u8],
+    starts: &[u16],
+    lens: &[u16],
+    out: &mut [u8],
+    mem: &mut [u64; 68],
+    at: usize,
+    cfg: Cfg,
+) -> usize
+    ensures { λ r. ⌜ Plain (now (run .entry)) (now (text .entry)) (now (rec .entry)) (now (starts .entry)) (now (lens .entry)) (pat-args (walks (cfg .left))) at (now (mem .entry)) (now (out .entry)) r (now (mem .exit)) (now (out .exit)) ⌝ }
+{
+    let Read::Is(n, s0) = list(rec, at) else {
+        return stop(at);
+    };
+    let mut s = s0;
+    let mut i = 0;
+    while i < n {
+        between(run, text, out, mem, words::COMMA, i);
+        let r1 = group(rec, s);
+        let Answer::Done(s1) = told(r1) else {
+            return r1;
+        };
+        let r2 = get_pat(run, text, rec, starts, lens, out, mem, s1, cfg);
+        let Answer::Done(s2) = told(r2) else {
             return r2;
         };
         s = s2;
         i += 1;
     }
-    Answer::Done(s)
-}
-
-// `RecordPat`.
-fn record_pat(
-    text: &[u8],
-    rec: &[u8],
-    starts: &[u16],
-    lens: &[u16],
-    out: &mut [u8],
-    st: St,
-    cfg: Cfg,
-) -> Answer
-    ensures { λ r. ⌜ Plain (now (text .entry)) (now (rec .entry)) (now (starts .entry)) (now (lens .entry)) (cfg .tab) (pat· (walks (cfg .left)) RecordPat) st (now (out .entry)) r (now (out .exit)) ⌝ }
-{
-    let s1 = word(text, out, st, cfg.tab, words::L_CURLY);
-    let r2 = rows(text, rec, starts, lens, out, s1, cfg);
-    let Answer::Done(s2) = r2 else {
-        return r2;
-    };
-    Answer::Done(word(text, out, s2, cfg.tab, words::R_CURLY))
-}
-
-// `ParenPat`.
-fn paren_pat(
-    text: &[u8],
-    rec: &[u8],
-    starts: &[u16],
-    lens: &[u16],
-    out: &mut [u8],
-    st: St,
-    cfg: Cfg,
-) -> Answer
-    ensures { λ r. ⌜ Plain (now (text .entry)) (now (rec .entry)) (now (starts .entry)) (now (lens .entry)) (cfg .tab) (pat· (walks (cfg .left)) ParenPat) st (now (out .entry)) r (now (out .exit)) ⌝ }
-{
-    let s1 = word(text, out, st, cfg.tab, words::L_ROUND);
-    let r2 = get_pat(text, rec, starts, lens, out, s1, cfg);
-    let Answer::Done(s2) = r2 else {
-        return r2;
-    };
-    Answer::Done(word(text, out, s2, cfg.tab, words::R_ROUND))
-}
-
-// Patterns with a comma between.
-fn pat_args(
-    text: &[u8],
-    rec: &[u8],
-    starts: &[u16],
-    lens: &[u16],
-    out: &mut [u8],
-    st: St,
-    cfg: Cfg,
-) -> Answer
-    ensures { λ r. ⌜ Plain (now (text .entry)) (now (rec .entry)) (now (starts .entry)) (now (lens .entry)) (cfg .tab) (pat-args (walks (cfg .left))) st (now (out .entry)) r (now (out .exit)) ⌝ }
-{
-    let Read::Is(n, s0) = list(rec, st) else {
-        return stop(st);
-    };
-    let mut s = s0;
-    let mut i = 0;
-    while i < n {
-        let s1 = between(text, out, s, cfg.tab, words::COMMA, i);
-        let r2 = group(rec, s1);
-        let Answer::Done(s2) = r2 else {
-            return r2;
-        };
-        let r3 = get_pat(text, rec, starts, lens, out, s2, cfg);
-        let Answer::Done(s3) = r3 else {
-            return r3;
-        };
-        s = s3;
-        i += 1;
-    }
-    Answer::Done(s)
+    s
 }
 
 // `TuplePat`.
-fn tuple_pat(
-    text: &[u8],
+fn tuple_pat<'a>(
+    run: &'a [u8; 351],
+    text: &'a [u8],
     rec: &[u8],
     starts: &[u16],
     lens: &[u16],
     out: &mut [u8],
-    st: St,
+    mem: &mut [u64; 68],
+    at: usize,
     cfg: Cfg,
-) -> Answer
-    ensures { λ r. ⌜ Plain (now (text .entry)) (now (rec .entry)) (now (starts .entry)) (now (lens .entry)) (cfg .tab) (pat· (walks (cfg .left)) TuplePat) st (now (out .entry)) r (now (out .exit)) ⌝ }
+) -> usize
+    ensures { λ r. ⌜ Plain (now (run .entry)) (now (text .entry)) (now (rec .entry)) (now (starts .entry)) (now (lens .entry)) (pat· (walks (cfg .left)) TuplePat) at (now (mem .entry)) (now (out .entry)) r (now (mem .exit)) (now (out .exit)) ⌝ }
 {
-    let s1 = word(text, out, st, cfg.tab, words::L_ROUND);
-    let r2 = pat_args(text, rec, starts, lens, out, s1, cfg);
-    let Answer::Done(s2) = r2 else {
-        return r2;
+    word(run, text, out, mem, words::L_ROUND);
+    let r1 = pat_args(run, text, rec, starts, lens, out, mem, at, cfg);
+    let Answer::Done(s1) = told(r1) else {
+        return r1;
     };
-    Answer::Done(word(text, out, s2, cfg.tab, words::R_ROUND))
+    word(run, text, out, mem, words::R_ROUND);
+    s1
 }
 
 // `ListPat`.
-fn list_pat(
-    text: &[u8],
+fn list_pat<'a>(
+    run: &'a [u8; 351],
+    text: &'a [u8],
     rec: &[u8],
     starts: &[u16],
     lens: &[u16],
     out: &mut [u8],
-    st: St,
+    mem: &mut [u64; 68],
+    at: usize,
     cfg: Cfg,
-) -> Answer
-    ensures { λ r. ⌜ Plain (now (text .entry)) (now (rec .entry)) (now (starts .entry)) (now (lens .entry)) (cfg .tab) (pat· (walks (cfg .left)) ListPat) st (now (out .entry)) r (now (out .exit)) ⌝ }
+) -> usize
+    ensures { λ r. ⌜ Plain (now (run .entry)) (now (text .entry)) (now (rec .entry)) (now (starts .entry)) (now (lens .entry)) (pat· (walks (cfg .left)) ListPat) at (now (mem .entry)) (now (out .entry)) r (now (mem .exit)) (now (out .exit)) ⌝ }
 {
-    let s1 = word(text, out, st, cfg.tab, words::L_SQUARE);
-    let r2 = pat_args(text, rec, starts, lens, out, s1, cfg);
-    let Answer::Done(s2) = r2 else {
-        return r2;
+    word(run, text, out, mem, words::L_SQUARE);
+    let r1 = pat_args(run, text, rec, starts, lens, out, mem, at, cfg);
+    let Answer::Done(s1) = told(r1) else {
+        return r1;
     };
-    Answer::Done(word(text, out, s2, cfg.tab, words::R_SQUARE))
+    word(run, text, out, mem, words::R_SQUARE);
+    s1
 }
 
 // `VectorPat`.
-fn vector_pat(
-    text: &[u8],
+fn vector_pat<'a>(
+    run: &'a [u8; 351],
+    text: &'a [u8],
     rec: &[u8],
     starts: &[u16],
     lens: &[u16],
     out: &mut [u8],
-    st: St,
+    mem: &mut [u64; 68],
+    at: usize,
     cfg: Cfg,
-) -> Answer
-    ensures { λ r. ⌜ Plain (now (text .entry)) (now (rec .entry)) (now (starts .entry)) (now (lens .entry)) (cfg .tab) (pat· (walks (cfg .left)) VectorPat) st (now (out .entry)) r (now (out .exit)) ⌝ }
+) -> usize
+    ensures { λ r. ⌜ Plain (now (run .entry)) (now (text .entry)) (now (rec .entry)) (now (starts .entry)) (now (lens .entry)) (pat· (walks (cfg .left)) VectorPat) at (now (mem .entry)) (now (out .entry)) r (now (mem .exit)) (now (out .exit)) ⌝ }
 {
-    let s1 = word(text, out, st, cfg.tab, words::HASH_L_SQUARE);
-    let r2 = group(rec, s1);
-    let Answer::Done(s2) = r2 else {
+    word(run, text, out, mem, words::HASH_L_SQUARE);
+    let r1 = group(rec, at);
+    let Answer::Done(s1) = told(r1) else {
+        return r1;
+    };
+    let r2 = pat_args(run, text, rec, starts, lens, out, mem, s1, cfg);
+    let Answer::Done(s2) = told(r2) else {
         return r2;
     };
-    let r3 = pat_args(text, rec, starts, lens, out, s2, cfg);
-    let Answer::Done(s3) = r3 else {
-        return r3;
-    };
-    Answer::Done(word(text, out, s3, cfg.tab, words::R_SQUARE))
+    word(run, text, out, mem, words::R_SQUARE);
+    s2
 }
 
 // `InfixPat`.
-fn infix_pat(
-    text: &[u8],
+fn infix_pat<'a>(
+    run: &'a [u8; 351],
+    text: &'a [u8],
     rec: &[u8],
     starts: &[u16],
     lens: &[u16],
     out: &mut [u8],
-    st: St,
+    mem: &mut [u64; 68],
+    at: usize,
     cfg: Cfg,
-) -> Answer
-    ensures { λ r. ⌜ Plain (now (text .entry)) (now (rec .entry)) (now (starts .entry)) (now (lens .entry)) (cfg .tab) (pat· (walks (cfg .left)) InfixPat) st (now (out .entry)) r (now (out .exit)) ⌝ }
+) -> usize
+    ensures { λ r. ⌜ Plain (now (run .entry)) (now (text .entry)) (now (rec .entry)) (now (starts .entry)) (now (lens .entry)) (pat· (walks (cfg .left)) InfixPat) at (now (mem .entry)) (now (out .entry)) r (now (mem .exit)) (now (out .exit)) ⌝ }
 {
-    let r1 = get_pat(text, rec, starts, lens, out, st, cfg);
-    let Answer::Done(s1) = r1 else {
+    let r1 = get_pat(run, text, rec, starts, lens, out, mem, at, cfg);
+    let Answer::Done(s1) = told(r1) else {
         return r1;
     };
-    let s2 = word(text, out, s1, cfg.tab, words::SPACE);
-    let r3 = text_of(text, rec, starts, lens, out, s2, cfg);
-    let Answer::Done(s3) = r3 else {
-        return r3;
+    word(run, text, out, mem, words::SPACE);
+    let r2 = text_of(run, text, rec, starts, lens, out, mem, s1);
+    let Answer::Done(s2) = told(r2) else {
+        return r2;
     };
-    let s4 = word(text, out, s3, cfg.tab, words::SPACE);
-    get_pat(text, rec, starts, lens, out, s4, cfg)
+    word(run, text, out, mem, words::SPACE);
+    get_pat(run, text, rec, starts, lens, out, mem, s2, cfg)
 }
 
 // `TypedPat`.
-fn typed_pat(
-    text: &[u8],
+fn typed_pat<'a>(
+    run: &'a [u8; 351],
+    text: &'a [u8],
     rec: &[u8],
     starts: &[u16],
     lens: &[u16],
     out: &mut [u8],
-    st: St,
+    mem: &mut [u64; 68],
+    at: usize,
     cfg: Cfg,
-) -> Answer
-    ensures { λ r. ⌜ Plain (now (text .entry)) (now (rec .entry)) (now (starts .entry)) (now (lens .entry)) (cfg .tab) (pat· (walks (cfg .left)) TypedPat) st (now (out .entry)) r (now (out .exit)) ⌝ }
+) -> usize
+    ensures { λ r. ⌜ Plain (now (run .entry)) (now (text .entry)) (now (rec .entry)) (now (starts .entry)) (now (lens .entry)) (pat· (walks (cfg .left)) TypedPat) at (now (mem .entry)) (now (out .entry)) r (now (mem .exit)) (now (out .exit)) ⌝ }
 {
-    let r1 = get_pat(text, rec, starts, lens, out, st, cfg);
-    let Answer::Done(s1) = r1 else {
+    let r1 = get_pat(run, text, rec, starts, lens, out, mem, at, cfg);
+    let Answer::Done(s1) = told(r1) else {
         return r1;
     };
-    let s2 = word(text, out, s1, cfg.tab, words::COLON);
-    get_ty(text, rec, starts, lens, out, s2, cfg)
+    word(run, text, out, mem, words::COLON);
+    get_ty(run, text, rec, starts, lens, out, mem, s1, cfg)
 }
 
 // `AsPat`.
-fn as_pat(
-    text: &[u8],
+fn as_pat<'a>(
+    run: &'a [u8; 351],
+    text: &'a [u8],
     rec: &[u8],
     starts: &[u16],
     lens: &[u16],
     out: &mut [u8],
-    st: St,
+    mem: &mut [u64; 68],
+    at: usize,
     cfg: Cfg,
-) -> Answer
-    ensures { λ r. ⌜ Plain (now (text .entry)) (now (rec .entry)) (now (starts .entry)) (now (lens .entry)) (cfg .tab) (pat· (walks (cfg .left)) AsPat) st (now (out .entry)) r (now (out .exit)) ⌝ }
+) -> usize
+    ensures { λ r. ⌜ Plain (now (run .entry)) (now (text .entry)) (now (rec .entry)) (now (starts .entry)) (now (lens .entry)) (pat· (walks (cfg .left)) AsPat) at (now (mem .entry)) (now (out .entry)) r (now (mem .exit)) (now (out .exit)) ⌝ }
 {
-    let r1 = get_pat(text, rec, starts, lens, out, st, cfg);
-    let Answer::Done(s1) = r1 else {
+    let r1 = get_pat(run, text, rec, starts, lens, out, mem, at, cfg);
+    let Answer::Done(s1) = told(r1) else {
         return r1;
     };
-    let s2 = word(text, out, s1, cfg.tab, words::AS);
-    let r3 = group(rec, s2);
-    let Answer::Done(s3) = r3 else {
-        return r3;
+    word(run, text, out, mem, words::AS);
+    let r2 = group(rec, s1);
+    let Answer::Done(s2) = told(r2) else {
+        return r2;
     };
-    get_pat(text, rec, starts, lens, out, s3, cfg)
+    get_pat(run, text, rec, starts, lens, out, mem, s2, cfg)
 }
 
 // `OrPat`.
-fn or_pat(
-    text: &[u8],
+fn or_pat<'a>(
+    run: &'a [u8; 351],
+    text: &'a [u8],
     rec: &[u8],
     starts: &[u16],
     lens: &[u16],
     out: &mut [u8],
-    st: St,
+    mem: &mut [u64; 68],
+    at: usize,
     cfg: Cfg,
-) -> Answer
-    ensures { λ r. ⌜ Plain (now (text .entry)) (now (rec .entry)) (now (starts .entry)) (now (lens .entry)) (cfg .tab) (pat· (walks (cfg .left)) OrPat) st (now (out .entry)) r (now (out .exit)) ⌝ }
+) -> usize
+    ensures { λ r. ⌜ Plain (now (run .entry)) (now (text .entry)) (now (rec .entry)) (now (starts .entry)) (now (lens .entry)) (pat· (walks (cfg .left)) OrPat) at (now (mem .entry)) (now (out .entry)) r (now (mem .exit)) (now (out .exit)) ⌝ }
 {
-    let r1 = get_pat(text, rec, starts, lens, out, st, cfg);
-    let Answer::Done(s1) = r1 else {
+    let r1 = get_pat(run, text, rec, starts, lens, out, mem, at, cfg);
+    let Answer::Done(s1) = told(r1) else {
         return r1;
     };
-    let s2 = word(text, out, s1, cfg.tab, words::BAR_SPACED);
-    get_pat(text, rec, starts, lens, out, s2, cfg)
+    word(run, text, out, mem, words::BAR_SPACED);
+    get_pat(run, text, rec, starts, lens, out, mem, s1, cfg)
 }
 
 // A pattern.
-pub fn get_pat(
-    text: &[u8],
+pub fn get_pat<'a>(
+    run: &'a [u8; 351],
+    text: &'a [u8],
     rec: &[u8],
     starts: &[u16],
     lens: &[u16],
     out: &mut [u8],
-    st: St,
+    mem: &mut [u64; 68],
+    at: usize,
     cfg: Cfg,
-) -> Answer
-    ensures { λ r. ⌜ Plain (now (text .entry)) (now (rec .entry)) (now (starts .entry)) (now (lens .entry)) (cfg .tab) (walks (cfg .left) .get-pat) st (now (out .entry)) r (now (out .exit)) ⌝ }
+) -> usize
+    ensures { λ r. ⌜ Plain (now (run .entry)) (now (text .entry)) (now (rec .entry)) (now (starts .entry)) (now (lens .entry)) (walks (cfg .left) .get-pat) at (now (mem .entry)) (now (out .entry)) r (now (mem .exit)) (now (out .exit)) ⌝ }
 {
     let left = cfg.left;
     if left == 0 {
-        return stop(st);
+        return stop(at);
     }
-    let Read::Is(k, s) = form(rec, st, Family::Pat) else {
-        return stop(st);
+    let Read::Is(k, s) = form(rec, at, Family::Pat) else {
+        return stop(at);
     };
     let sub = Cfg {
         depth: cfg.depth,
-        tab: cfg.tab,
         blank: cfg.blank,
         left: left - 1,
     };
     match k {
-        0 => Answer::Done(word(text, out, s, cfg.tab, words::UNDERSCORE)),
-        1 => text_of(text, rec, starts, lens, out, s, cfg),
-        2 => con_pat(text, rec, starts, lens, out, s, sub),
-        3 => record_pat(text, rec, starts, lens, out, s, sub),
-        4 => paren_pat(text, rec, starts, lens, out, s, sub),
-        5 => tuple_pat(text, rec, starts, lens, out, s, sub),
-        6 => list_pat(text, rec, starts, lens, out, s, sub),
-        7 => vector_pat(text, rec, starts, lens, out, s, sub),
-        8 => infix_pat(text, rec, starts, lens, out, s, sub),
-        9 => typed_pat(text, rec, starts, lens, out, s, sub),
-        10 => as_pat(text, rec, starts, lens, out, s, sub),
-        11 => or_pat(text, rec, starts, lens, out, s, sub),
+        0 => {
+            word(run, text, out, mem, words::UNDERSCORE);
+            s
+        }
+        1 => text_of(run, text, rec, starts, lens, out, mem, s),
+        2 => con_pat(run, text, rec, starts, lens, out, mem, s, sub),
+        3 => record_pat(run, text, rec, starts, lens, out, mem, s, sub),
+        4 => paren_pat(run, text, rec, starts, lens, out, mem, s, sub),
+        5 => tuple_pat(run, text, rec, starts, lens, out, mem, s, sub),
+        6 => list_pat(run, text, rec, starts, lens, out, mem, s, sub),
+        7 => vector_pat(run, text, rec, starts, lens, out, mem, s, sub),
+        8 => infix_pat(run, text, rec, starts, lens, out, mem, s, sub),
+        9 => typed_pat(run, text, rec, starts, lens, out, mem, s, sub),
+        10 => as_pat(run, text, rec, starts, lens, out, mem, s, sub),
+        11 => or_pat(run, text, rec, starts, lens, out, mem, s, sub),
         _ => stop(s),
     }
 }

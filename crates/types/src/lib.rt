@@ -1,7 +1,6 @@
 // `get_ty` of 000: the walk over types. A function for each arm, over configurations one form deeper.
 use layout::Answer;
 use layout::Cfg;
-use layout::St;
 use layout::fields::Gone;
 use layout::fields::Read;
 use layout::fields::absent;
@@ -13,6 +12,7 @@ use layout::fields::stop;
 use layout::helpers::between;
 use layout::helpers::path;
 use layout::helpers::text_of;
+use layout::told;
 use layout::word;
 use layout::words;
 use reader::commands::Family;
@@ -25,377 +25,416 @@ ghost use Rattle.layout.specs.Ty.{ty-row, ty-rows, ty-seq, ty-seq-there, ty-arg
 ghost use Rattle.reader.specs.Forms.{RecordTy, ConTy, OneArgConTy, TupleTy, FnTy, ParenTy};
 
 // A row of a record type.
-fn ty_row(
-    text: &[u8],
+fn ty_row<'a>(
+    run: &'a [u8; 351],
+    text: &'a [u8],
     rec: &[u8],
     starts: &[u16],
     lens: &[u16],
     out: &mut [u8],
-    st: St,
+    mem: &mut [u64; 68],
+    at: usize,
     cfg: Cfg,
-) -> Answer
-    ensures { λ r. ⌜ Plain (now (text .entry)) (now (rec .entry)) (now (starts .entry)) (now (lens .entry)) (cfg .tab) (ty-row (walks (cfg .left))) st (now (out .entry)) r (now (out .exit)) ⌝ }
+) -> usize
+    ensures { λ r. ⌜ Plain (now (run .entry)) (now (text .entry)) (now (rec .entry)) (now (starts .entry)) (now (lens .entry)) (ty-row (walks (cfg .left))) at (now (mem .entry)) (now (out .entry)) r (now (mem .exit)) (now (out .exit)) ⌝ }
 {
-    let r1 = group(rec, st);
-    let Answer::Done(s1) = r1 else {
+    let r1 = group(rec, at);
+    let Answer::Done(s1) = told(r1) else {
         return r1;
     };
-    let r2 = text_of(text, rec, starts, lens, out, s1, cfg);
-    let Answer::Done(s2) = r2 else {
+    let r2 = text_of(run, text, rec, starts, lens, out, mem, s1);
+    let Answer::Done(s2) = told(r2) else {
         return r2;
     };
-    let s3 = word(text, out, s2, cfg.tab, words::COLON);
-    get_ty(text, rec, starts, lens, out, s3, cfg)
+    word(run, text, out, mem, words::COLON);
+    get_ty(run, text, rec, starts, lens, out, mem, s2, cfg)
 }
 
 // The rows of a record type.
-fn ty_rows(
-    text: &[u8],
+fn ty_rows<'a>(
+    run: &'a [u8; 351],
+    text: &'a [u8],
     rec: &[u8],
     starts: &[u16],
     lens: &[u16],
     out: &mut [u8],
-    st: St,
+    mem: &mut [u64; 68],
+    at: usize,
     cfg: Cfg,
-) -> Answer
-    ensures { λ r. ⌜ Plain (now (text .entry)) (now (rec .entry)) (now (starts .entry)) (now (lens .entry)) (cfg .tab) (ty-rows (walks (cfg .left))) st (now (out .entry)) r (now (out .exit)) ⌝ }
+) -> usize
+    ensures { λ r. ⌜ Plain (now (run .entry)) (now (text .entry)) (now (rec .entry)) (now (starts .entry)) (now (lens .entry)) (ty-rows (walks (cfg .left))) at (now (mem .entry)) (now (out .entry)) r (now (mem .exit)) (now (out .exit)) ⌝ }
 {
-    let Read::Is(n, s0) = list(rec, st) else {
-        return stop(st);
+    let Read::Is(n, s0) = list(rec, at) else {
+        return stop(at);
     };
     let mut s = s0;
     let mut i = 0;
     while i < n {
-        let s1 = between(text, out, s, cfg.tab, words::COMMA, i);
-        let r2 = ty_row(text, rec, starts, lens, out, s1, cfg);
-        let Answer::Done(s2) = r2 else {
-            return r2;
-        };
-        s = s2;
-        i += 1;
-    }
-    Answer::Done(s)
-}
-
-// `RecordTy`.
-fn record_ty(
-    text: &[u8],
-    rec: &[u8],
-    starts: &[u16],
-    lens: &[u16],
-    out: &mut [u8],
-    st: St,
-    cfg: Cfg,
-) -> Answer
-    ensures { λ r. ⌜ Plain (now (text .entry)) (now (rec .entry)) (now (starts .entry)) (now (lens .entry)) (cfg .tab) (ty· (walks (cfg .left)) RecordTy) st (now (out .entry)) r (now (out .exit)) ⌝ }
-{
-    let s1 = word(text, out, st, cfg.tab, words::L_CURLY);
-    let r2 = ty_rows(text, rec, starts, lens, out, s1, cfg);
-    let Answer::Done(s2) = r2 else {
-        return r2;
-    };
-    Answer::Done(word(text, out, s2, cfg.tab, words::R_CURLY))
-}
-
-// The arguments of a type constructor.
-fn ty_args(
-    text: &[u8],
-    rec: &[u8],
-    starts: &[u16],
-    lens: &[u16],
-    out: &mut [u8],
-    st: St,
-    cfg: Cfg,
-) -> Answer
-    ensures { λ r. ⌜ Plain (now (text .entry)) (now (rec .entry)) (now (starts .entry)) (now (lens .entry)) (cfg .tab) (ty-args (walks (cfg .left))) st (now (out .entry)) r (now (out .exit)) ⌝ }
-{
-    let Read::Is(n, s0) = list(rec, st) else {
-        return stop(st);
-    };
-    let mut s = s0;
-    let mut i = 0;
-    while i < n {
-        let s1 = between(text, out, s, cfg.tab, words::COMMA, i);
-        let r2 = group(rec, s1);
-        let Answer::Done(s2) = r2 else {
-            return r2;
-        };
-        let r3 = get_ty(text, rec, starts, lens, out, s2, cfg);
-        let Answer::Done(s3) = r3 else {
-            return r3;
-        };
-        s = s3;
-        i += 1;
-    }
-    Answer::Done(s)
-}
-
-// The arguments of a type constructor in parentheses, where there are any.
-fn ty_seq(
-    text: &[u8],
-    rec: &[u8],
-    starts: &[u16],
-    lens: &[u16],
-    out: &mut [u8],
-    st: St,
-    cfg: Cfg,
-) -> Answer
-    ensures { λ r. ⌜ Plain (now (text .entry)) (now (rec .entry)) (now (starts .entry)) (now (lens .entry)) (cfg .tab) (ty-seq (walks (cfg .left))) st (now (out .entry)) r (now (out .exit)) ⌝ }
-{
-    let gone = absent(rec, st);
-    match gone {
-        Gone::Past(s) => Answer::Done(s),
-        Gone::There => ty_seq_there(text, rec, starts, lens, out, st, cfg),
-    }
-}
-
-// The arguments that are there.
-fn ty_seq_there(
-    text: &[u8],
-    rec: &[u8],
-    starts: &[u16],
-    lens: &[u16],
-    out: &mut [u8],
-    st: St,
-    cfg: Cfg,
-) -> Answer
-    ensures { λ r. ⌜ Plain (now (text .entry)) (now (rec .entry)) (now (starts .entry)) (now (lens .entry)) (cfg .tab) (ty-seq-there (walks (cfg .left))) st (now (out .entry)) r (now (out .exit)) ⌝ }
-{
-    let r1 = group(rec, st);
-    let Answer::Done(s1) = r1 else {
-        return r1;
-    };
-    let s2 = word(text, out, s1, cfg.tab, words::L_ROUND);
-    let r3 = ty_args(text, rec, starts, lens, out, s2, cfg);
-    let Answer::Done(s3) = r3 else {
-        return r3;
-    };
-    Answer::Done(word(text, out, s3, cfg.tab, words::R_ROUND_SPACE))
-}
-
-// `ConTy`.
-fn con_ty(
-    text: &[u8],
-    rec: &[u8],
-    starts: &[u16],
-    lens: &[u16],
-    out: &mut [u8],
-    st: St,
-    cfg: Cfg,
-) -> Answer
-    ensures { λ r. ⌜ Plain (now (text .entry)) (now (rec .entry)) (now (starts .entry)) (now (lens .entry)) (cfg .tab) (ty· (walks (cfg .left)) ConTy) st (now (out .entry)) r (now (out .exit)) ⌝ }
-{
-    let r1 = ty_seq(text, rec, starts, lens, out, st, cfg);
-    let Answer::Done(s1) = r1 else {
-        return r1;
-    };
-    path(text, rec, starts, lens, out, s1, cfg)
-}
-
-// `OneArgConTy`.
-fn one_arg_con_ty(
-    text: &[u8],
-    rec: &[u8],
-    starts: &[u16],
-    lens: &[u16],
-    out: &mut [u8],
-    st: St,
-    cfg: Cfg,
-) -> Answer
-    ensures { λ r. ⌜ Plain (now (text .entry)) (now (rec .entry)) (now (starts .entry)) (now (lens .entry)) (cfg .tab) (ty· (walks (cfg .left)) OneArgConTy) st (now (out .entry)) r (now (out .exit)) ⌝ }
-{
-    let r1 = get_ty(text, rec, starts, lens, out, st, cfg);
-    let Answer::Done(s1) = r1 else {
-        return r1;
-    };
-    let s2 = word(text, out, s1, cfg.tab, words::SPACE);
-    path(text, rec, starts, lens, out, s2, cfg)
-}
-
-// A further part of a tuple type.
-fn star_ty(
-    text: &[u8],
-    rec: &[u8],
-    starts: &[u16],
-    lens: &[u16],
-    out: &mut [u8],
-    st: St,
-    cfg: Cfg,
-) -> Answer
-    ensures { λ r. ⌜ Plain (now (text .entry)) (now (rec .entry)) (now (starts .entry)) (now (lens .entry)) (cfg .tab) (star-ty (walks (cfg .left))) st (now (out .entry)) r (now (out .exit)) ⌝ }
-{
-    let r1 = group(rec, st);
-    let Answer::Done(s1) = r1 else {
-        return r1;
-    };
-    let s2 = word(text, out, s1, cfg.tab, words::STAR);
-    get_ty(text, rec, starts, lens, out, s2, cfg)
-}
-
-// The further parts of a tuple type.
-fn star_tys(
-    text: &[u8],
-    rec: &[u8],
-    starts: &[u16],
-    lens: &[u16],
-    out: &mut [u8],
-    st: St,
-    cfg: Cfg,
-) -> Answer
-    ensures { λ r. ⌜ Plain (now (text .entry)) (now (rec .entry)) (now (starts .entry)) (now (lens .entry)) (cfg .tab) (star-tys (walks (cfg .left))) st (now (out .entry)) r (now (out .exit)) ⌝ }
-{
-    let Read::Is(n, s0) = list(rec, st) else {
-        return stop(st);
-    };
-    let mut s = s0;
-    let mut i = 0;
-    while i < n {
-        let r1 = star_ty(text, rec, starts, lens, out, s, cfg);
-        let Answer::Done(s1) = r1 else {
+        between(run, text, out, mem, words::COMMA, i);
+        let r1 = ty_row(run, text, rec, starts, lens, out, mem, s, cfg);
+        let Answer::Done(s1) = told(r1) else {
             return r1;
         };
         s = s1;
         i += 1;
     }
-    Answer::Done(s)
+    s
+}
+
+// `RecordTy`.
+fn record_ty<'a>(
+    run: &'a [u8; 351],
+    text: &'a [u8],
+    rec: &[u8],
+    starts: &[u16],
+    lens: &[u16],
+    out: &mut [u8],
+    mem: &mut [u64; 68],
+    at: usize,
+    cfg: Cfg,
+) -> usize
+    ensures { λ r. ⌜ Plain (now (run .entry)) (now (text .entry)) (now (rec .entry)) (now (starts .entry)) (now (lens .entry)) (ty· (walks (cfg .left)) RecordTy) at (now (mem .entry)) (now (out .entry)) r (now (mem .exit)) (now (out .exit)) ⌝ }
+{
+    word(run, text, out, mem, words::L_CURLY);
+    let r1 = ty_rows(run, text, rec, starts, lens, out, mem, at, cfg);
+    let Answer::Done(s1) = told(r1) else {
+        return r1;
+    };
+    word(run, text, out, mem, words::R_CURLY);
+    s1
+}
+
+// The arguments of a type constructor.
+fn ty_args<'a>(
+    run: &'a [u8; 351],
+    text: &'a [u8],
+    rec: &[u8],
+    starts: &[u16],
+    lens: &[u16],
+    out: &mut [u8],
+    mem: &mut [u64; 68],
+    at: usize,
+    cfg: Cfg,
+) -> usize
+    ensures { λ r. ⌜ Plain (now (run .entry)) (now (text .entry)) (now (rec .entry)) (now (starts .entry)) (now (lens .entry)) (ty-args (walks (cfg .left))) at (now (mem .entry)) (now (out .entry)) r (now (mem .exit)) (now (out .exit)) ⌝ }
+{
+    let Read::Is(n, s0) = list(rec, at) else {
+        return stop(at);
+    };
+    let mut s = s0;
+    let mut i = 0;
+    while i < n {
+        between(run, text, out, mem, words::COMMA, i);
+        let r1 = group(rec, s);
+        let Answer::Done(s1) = told(r1) else {
+            return r1;
+        };
+        let r2 = get_ty(run, text, rec, starts, lens, out, mem, s1, cfg);
+        let Answer::Done(s2) = told(r2) else {
+            return r2;
+        };
+        s = s2;
+        i += 1;
+    }
+    s
+}
+
+// The arguments of a type constructor in parentheses, where there are any.
+fn ty_seq<'a>(
+    run: &'a [u8; 351],
+    text: &'a [u8],
+    rec: &[u8],
+    starts: &[u16],
+    lens: &[u16],
+    out: &mut [u8],
+    mem: &mut [u64; 68],
+    at: usize,
+    cfg: Cfg,
+) -> usize
+    ensures { λ r. ⌜ Plain (now (run .entry)) (now (text .entry)) (now (rec .entry)) (now (starts .entry)) (now (lens .entry)) (ty-seq (walks (cfg .left))) at (now (mem .entry)) (now (out .entry)) r (now (mem .exit)) (now (out .exit)) ⌝ }
+{
+    let gone = absent(rec, at);
+    match gone {
+        Gone::Past(s) => s,
+        Gone::There => ty_seq_there(run, text, rec, starts, lens, out, mem, at, cfg),
+    }
+}
+
+// The arguments that are there.
+fn ty_seq_there<'a>(
+    run: &'a [u8; 351],
+    text: &'a [u8],
+    rec: &[u8],
+    starts: &[u16],
+    lens: &[u16],
+    out: &mut [u8],
+    mem: &mut [u64; 68],
+    at: usize,
+    cfg: Cfg,
+) -> usize
+    ensures { λ r. ⌜ Plain (now (run .entry)) (now (text .entry)) (now (rec .entry)) (now (starts .entry)) (now (lens .entry)) (ty-seq-there (walks (cfg .left))) at (now (mem .entry)) (now (out .entry)) r (now (mem .exit)) (now (out .exit)) ⌝ }
+{
+    let r1 = group(rec, at);
+    let Answer::Done(s1) = told(r1) else {
+        return r1;
+    };
+    word(run, text, out, mem, words::L_ROUND);
+    let r2 = ty_args(run, text, rec, starts, lens, out, mem, s1, cfg);
+    let Answer::Done(s2) = told(r2) else {
+        return r2;
+    };
+    word(run, text, out, mem, words::R_ROUND_SPACE);
+    s2
+}
+
+// `ConTy`.
+fn con_ty<'a>(
+    run: &'a [u8; 351],
+    text: &'a [u8],
+    rec: &[u8],
+    starts: &[u16],
+    lens: &[u16],
+    out: &mut [u8],
+    mem: &mut [u64; 68],
+    at: usize,
+    cfg: Cfg,
+) -> usize
+    ensures { λ r. ⌜ Plain (now (run .entry)) (now (text .entry)) (now (rec .entry)) (now (starts .entry)) (now (lens .entry)) (ty· (walks (cfg .left)) ConTy) at (now (mem .entry)) (now (out .entry)) r (now (mem .exit)) (now (out .exit)) ⌝ }
+{
+    let r1 = ty_seq(run, text, rec, starts, lens, out, mem, at, cfg);
+    let Answer::Done(s1) = told(r1) else {
+        return r1;
+    };
+    path(run, text, rec, starts, lens, out, mem, s1)
+}
+
+// `OneArgConTy`.
+fn one_arg_con_ty<'a>(
+    run: &'a [u8; 351],
+    text: &'a [u8],
+    rec: &[u8],
+    starts: &[u16],
+    lens: &[u16],
+    out: &mut [u8],
+    mem: &mut [u64; 68],
+    at: usize,
+    cfg: Cfg,
+) -> usize
+    ensures { λ r. ⌜ Plain (now (run .entry)) (now (text .entry)) (now (rec .entry)) (now (starts .entry)) (now (lens .entry)) (ty· (walks (cfg .left)) OneArgConTy) at (now (mem .entry)) (now (out .entry)) r (now (mem .exit)) (now (out .exit)) ⌝ }
+{
+    let r1 = get_ty(run, text, rec, starts, lens, out, mem, at, cfg);
+    let Answer::Done(s1) = told(r1) else {
+        return r1;
+    };
+    word(run, text, out, mem, words::SPACE);
+    path(run, text, rec, starts, lens, out, mem, s1)
+}
+
+// A further part of a tuple type.
+fn star_ty<'a>(
+    run: &'a [u8; 351],
+    text: &'a [u8],
+    rec: &[u8],
+    starts: &[u16],
+    lens: &[u16],
+    out: &mut [u8],
+    mem: &mut [u64; 68],
+    at: usize,
+    cfg: Cfg,
+) -> usize
+    ensures { λ r. ⌜ Plain (now (run .entry)) (now (text .entry)) (now (rec .entry)) (now (starts .entry)) (now (lens .entry)) (star-ty (walks (cfg .left))) at (now (mem .entry)) (now (out .entry)) r (now (mem .exit)) (now (out .exit)) ⌝ }
+{
+    let r1 = group(rec, at);
+    let Answer::Done(s1) = told(r1) else {
+        return r1;
+    };
+    word(run, text, out, mem, words::STAR);
+    get_ty(run, text, rec, starts, lens, out, mem, s1, cfg)
+}
+
+// The further parts of a tuple type.
+fn star_tys<'a>(
+    run: &'a [u8; 351],
+    text: &'a [u8],
+    rec: &[u8],
+    starts: &[u16],
+    lens: &[u16],
+    out: &mut [u8],
+    mem: &mut [u64; 68],
+    at: usize,
+    cfg: Cfg,
+) -> usize
+    ensures { λ r. ⌜ Plain (now (run .entry)) (now (text .entry)) (now (rec .entry)) (now (starts .entry)) (now (lens .entry)) (star-tys (walks (cfg .left))) at (now (mem .entry)) (now (out .entry)) r (now (mem .exit)) (now (out .exit)) ⌝ }
+{
+    let Read::Is(n, s0) = list(rec, at) else {
+        return stop(at);
+    };
+    let mut s = s0;
+    let mut i = 0;
+    while i < n {
+        let r1 = star_ty(run, text, rec, starts, lens, out, mem, s, cfg);
+        let Answer::Done(s1) = told(r1) else {
+            return r1;
+        };
+        s = s1;
+        i += 1;
+    }
+    s
 }
 
 // `TupleTy`: the answer of the first part is dropped.
-fn tuple_ty(
-    text: &[u8],
+fn tuple_ty<'a>(
+    run: &'a [u8; 351],
+    text: &'a [u8],
     rec: &[u8],
     starts: &[u16],
     lens: &[u16],
     out: &mut [u8],
-    st: St,
+    mem: &mut [u64; 68],
+    at: usize,
     cfg: Cfg,
-) -> Answer
-    ensures { λ r. ⌜ Plain (now (text .entry)) (now (rec .entry)) (now (starts .entry)) (now (lens .entry)) (cfg .tab) (ty· (walks (cfg .left)) TupleTy) st (now (out .entry)) r (now (out .exit)) ⌝ }
+) -> usize
+    ensures { λ r. ⌜ Plain (now (run .entry)) (now (text .entry)) (now (rec .entry)) (now (starts .entry)) (now (lens .entry)) (ty· (walks (cfg .left)) TupleTy) at (now (mem .entry)) (now (out .entry)) r (now (mem .exit)) (now (out .exit)) ⌝ }
 {
-    let at = st.at;
     let count = starts.len();
-    let r0 = get_ty(text, rec, starts, lens, out, st, cfg);
+    let r0 = get_ty(run, text, rec, starts, lens, out, mem, at, cfg);
     let r1 = onwards(rec, count, cfg.left as usize, at, r0);
-    let Answer::Done(s1) = r1 else {
+    let Answer::Done(s1) = told(r1) else {
         return r1;
     };
-    star_tys(text, rec, starts, lens, out, s1, cfg)
+    star_tys(run, text, rec, starts, lens, out, mem, s1, cfg)
 }
 
 // `FnTy`.
-fn fn_ty(
-    text: &[u8],
+fn fn_ty<'a>(
+    run: &'a [u8; 351],
+    text: &'a [u8],
     rec: &[u8],
     starts: &[u16],
     lens: &[u16],
     out: &mut [u8],
-    st: St,
+    mem: &mut [u64; 68],
+    at: usize,
     cfg: Cfg,
-) -> Answer
-    ensures { λ r. ⌜ Plain (now (text .entry)) (now (rec .entry)) (now (starts .entry)) (now (lens .entry)) (cfg .tab) (ty· (walks (cfg .left)) FnTy) st (now (out .entry)) r (now (out .exit)) ⌝ }
+) -> usize
+    ensures { λ r. ⌜ Plain (now (run .entry)) (now (text .entry)) (now (rec .entry)) (now (starts .entry)) (now (lens .entry)) (ty· (walks (cfg .left)) FnTy) at (now (mem .entry)) (now (out .entry)) r (now (mem .exit)) (now (out .exit)) ⌝ }
 {
-    let r1 = get_ty(text, rec, starts, lens, out, st, cfg);
-    let Answer::Done(s1) = r1 else {
+    let r1 = get_ty(run, text, rec, starts, lens, out, mem, at, cfg);
+    let Answer::Done(s1) = told(r1) else {
         return r1;
     };
-    let s2 = word(text, out, s1, cfg.tab, words::ARROW);
-    get_ty(text, rec, starts, lens, out, s2, cfg)
+    word(run, text, out, mem, words::ARROW);
+    get_ty(run, text, rec, starts, lens, out, mem, s1, cfg)
 }
 
 // `ParenTy`.
-fn paren_ty(
-    text: &[u8],
+fn paren_ty<'a>(
+    run: &'a [u8; 351],
+    text: &'a [u8],
     rec: &[u8],
     starts: &[u16],
     lens: &[u16],
     out: &mut [u8],
-    st: St,
+    mem: &mut [u64; 68],
+    at: usize,
     cfg: Cfg,
-) -> Answer
-    ensures { λ r. ⌜ Plain (now (text .entry)) (now (rec .entry)) (now (starts .entry)) (now (lens .entry)) (cfg .tab) (ty· (walks (cfg .left)) ParenTy) st (now (out .entry)) r (now (out .exit)) ⌝ }
+) -> usize
+    ensures { λ r. ⌜ Plain (now (run .entry)) (now (text .entry)) (now (rec .entry)) (now (starts .entry)) (now (lens .entry)) (ty· (walks (cfg .left)) ParenTy) at (now (mem .entry)) (now (out .entry)) r (now (mem .exit)) (now (out .exit)) ⌝ }
 {
-    let s1 = word(text, out, st, cfg.tab, words::L_ROUND);
-    let r2 = get_ty(text, rec, starts, lens, out, s1, cfg);
-    let Answer::Done(s2) = r2 else {
-        return r2;
+    word(run, text, out, mem, words::L_ROUND);
+    let r1 = get_ty(run, text, rec, starts, lens, out, mem, at, cfg);
+    let Answer::Done(s1) = told(r1) else {
+        return r1;
     };
-    Answer::Done(word(text, out, s2, cfg.tab, words::R_ROUND))
+    word(run, text, out, mem, words::R_ROUND);
+    s1
 }
 
 // A type.
-pub fn get_ty(
-    text: &[u8],
+pub fn get_ty<'a>(
+    run: &'a [u8; 351],
+    text: &'a [u8],
     rec: &[u8],
     starts: &[u16],
     lens: &[u16],
     out: &mut [u8],
-    st: St,
+    mem: &mut [u64; 68],
+    at: usize,
     cfg: Cfg,
-) -> Answer
-    ensures { λ r. ⌜ Plain (now (text .entry)) (now (rec .entry)) (now (starts .entry)) (now (lens .entry)) (cfg .tab) (walks (cfg .left) .get-ty) st (now (out .entry)) r (now (out .exit)) ⌝ }
+) -> usize
+    ensures { λ r. ⌜ Plain (now (run .entry)) (now (text .entry)) (now (rec .entry)) (now (starts .entry)) (now (lens .entry)) (walks (cfg .left) .get-ty) at (now (mem .entry)) (now (out .entry)) r (now (mem .exit)) (now (out .exit)) ⌝ }
 {
     let left = cfg.left;
     if left == 0 {
-        return stop(st);
+        return stop(at);
     }
-    let Read::Is(k, s) = form(rec, st, Family::Ty) else {
-        return stop(st);
+    let Read::Is(k, s) = form(rec, at, Family::Ty) else {
+        return stop(at);
     };
     let sub = Cfg {
         depth: cfg.depth,
-        tab: cfg.tab,
         blank: cfg.blank,
         left: left - 1,
     };
     match k {
-        0 => Answer::Done(word(text, out, s, cfg.tab, words::DOT_DOT_DOT)),
-        1 => Answer::Done(word(text, out, s, cfg.tab, words::UNDERSCORE)),
-        2 => text_of(text, rec, starts, lens, out, s, cfg),
-        3 => record_ty(text, rec, starts, lens, out, s, sub),
-        4 => con_ty(text, rec, starts, lens, out, s, sub),
-        5 => one_arg_con_ty(text, rec, starts, lens, out, s, sub),
-        6 => tuple_ty(text, rec, starts, lens, out, s, sub),
-        7 => fn_ty(text, rec, starts, lens, out, s, sub),
-        8 => paren_ty(text, rec, starts, lens, out, s, sub),
+        0 => {
+            word(run, text, out, mem, words::DOT_DOT_DOT);
+            s
+        }
+        1 => {
+            word(run, text, out, mem, words::UNDERSCORE);
+            s
+        }
+        2 => text_of(run, text, rec, starts, lens, out, mem, s),
+        3 => record_ty(run, text, rec, starts, lens, out, mem, s, sub),
+        4 => con_ty(run, text, rec, starts, lens, out, mem, s, sub),
+        5 => one_arg_con_ty(run, text, rec, starts, lens, out, mem, s, sub),
+        6 => tuple_ty(run, text, rec, starts, lens, out, mem, s, sub),
+        7 => fn_ty(run, text, rec, starts, lens, out, mem, s, sub),
+        8 => paren_ty(run, text, rec, starts, lens, out, mem, s, sub),
         _ => stop(s),
     }
 }
 
 // An annotation that is there.
-fn ty_annotation_there(
-    text: &[u8],
+fn ty_annotation_there<'a>(
+    run: &'a [u8; 351],
+    text: &'a [u8],
     rec: &[u8],
     starts: &[u16],
     lens: &[u16],
     out: &mut [u8],
-    st: St,
+    mem: &mut [u64; 68],
+    at: usize,
     cfg: Cfg,
-) -> Answer
-    ensures { λ r. ⌜ Plain (now (text .entry)) (now (rec .entry)) (now (starts .entry)) (now (lens .entry)) (cfg .tab) (ty-annotation-there (walks (cfg .left))) st (now (out .entry)) r (now (out .exit)) ⌝ }
+) -> usize
+    ensures { λ r. ⌜ Plain (now (run .entry)) (now (text .entry)) (now (rec .entry)) (now (starts .entry)) (now (lens .entry)) (ty-annotation-there (walks (cfg .left))) at (now (mem .entry)) (now (out .entry)) r (now (mem .exit)) (now (out .exit)) ⌝ }
 {
-    let r1 = group(rec, st);
-    let Answer::Done(s1) = r1 else {
+    let r1 = group(rec, at);
+    let Answer::Done(s1) = told(r1) else {
         return r1;
     };
-    let s2 = word(text, out, s1, cfg.tab, words::COLON);
-    get_ty(text, rec, starts, lens, out, s2, cfg)
+    word(run, text, out, mem, words::COLON);
+    get_ty(run, text, rec, starts, lens, out, mem, s1, cfg)
 }
 
 // A colon and a type, where there are any.
-pub fn ty_annotation(
-    text: &[u8],
+pub fn ty_annotation<'a>(
+    run: &'a [u8; 351],
+    text: &'a [u8],
     rec: &[u8],
     starts: &[u16],
     lens: &[u16],
     out: &mut [u8],
-    st: St,
+    mem: &mut [u64; 68],
+    at: usize,
     cfg: Cfg,
-) -> Answer
-    ensures { λ r. ⌜ Plain (now (text .entry)) (now (rec .entry)) (now (starts .entry)) (now (lens .entry)) (cfg .tab) (ty-annotation (walks (cfg .left))) st (now (out .entry)) r (now (out .exit)) ⌝ }
+) -> usize
+    ensures { λ r. ⌜ Plain (now (run .entry)) (now (text .entry)) (now (rec .entry)) (now (starts .entry)) (now (lens .entry)) (ty-annotation (walks (cfg .left))) at (now (mem .entry)) (now (out .entry)) r (now (mem .exit)) (now (out .exit)) ⌝ }
 {
-    let gone = absent(rec, st);
+    let gone = absent(rec, at);
     match gone {
-        Gone::Past(s) => Answer::Done(s),
-        Gone::There => ty_annotation_there(text, rec, starts, lens, out, st, cfg),
+        Gone::Past(s) => s,
+        Gone::There => ty_annotation_there(run, text, rec, starts, lens, out, mem, at, cfg),
     }
 }

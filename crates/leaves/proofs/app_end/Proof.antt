@@ -14,7 +14,7 @@ same-length : tie.Need-same-length
 same-length c = search needs
 
 returns : tie.Need-returns
-returns c = sure-then (c .before .before .before .before .before .before .indent-when .ensures) (c .before .before .word .ensures)
+returns c = sure-then (c .before .before .before .before .before .before .before .indent-when .ensures _) (c .before .before .word .ensures)
 
 pub app-end-spec : {M : Type 1} → statement M
 app-end-spec = tie.close (tie.spec indent-when-requires word-requires same-length returns)

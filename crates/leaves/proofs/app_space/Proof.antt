@@ -11,7 +11,7 @@ same-length : tie.Need-same-length
 same-length c = search needs
 
 returns : tie.Need-returns
-returns c = app-banged _ (c .before .before .before .before .if1 .taken) (c .before .before .word-when .ensures)
+returns c = app-banged _ (c .before .before .before .before .before .if1 .taken) (c .before .before .word-when .ensures)
 
 word-requires : tie.Need-word-requires
 word-requires c κs = search needs
@@ -20,7 +20,7 @@ same-length-2 : tie.Need-same-length-2
 same-length-2 c = search needs
 
 returns-2 : tie.Need-returns-2
-returns-2 c = app-spaced _ (c .before .before .before .before .if1 .left) (c .before .before .word .ensures)
+returns-2 c = app-spaced _ (c .before .before .before .before .before .if1 .left) (c .before .before .word .ensures)
 
 pub app-space-spec : {M : Type 1} → statement M
 app-space-spec =

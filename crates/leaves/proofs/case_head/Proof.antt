@@ -13,10 +13,9 @@ use Rattle.layout.specs.State.{cfgOf}
 use Rattle.layout.specs.Exp as Exp
 use Rattle.layout.specs.GetDec as GetDec
 use Rattle.layout.specs.DecOne as DecOne
-use Rattle.layout.proofs.Steps.{PlainTurn, from, plain, by-same, first-same, then-done, then-stop, then-sure, last-sure, then-both, last-skip, skip-same, list-is, list-not, choice-is, choice-not, group-is, group-not, maybe-past, maybe-there, items-all, from-more, from-none, times-all, times-more, times-none, regroup, present-there, present-gone, present-not, operated-pipe, operated-gap, sure-then}
+use Rattle.layout.proofs.Steps.{PlainTurn, from, plain, by-same, first-same, then-done, then-stop, then-halt, then-sure, last-sure, then-both, last-skip, skip-same, list-is, list-not, choice-is, choice-not, group-is, group-not, maybe-past, maybe-there, items-all, from-more, from-none, times-all, times-more, times-none, regroup, present-there, present-gone, present-not, operated-pipe, operated-gap, sure-then}
 use Rattle.layout.proofs.Knot.{past, beyond, at-key}
 use Rattle.leaves.proofs.Laws.{con-over, con-under}
-use borrow.Author.Needs.{needs}
 use Rattle.leaves.proofs.case_head.Statement.{statement}
 use Rattle.leaves.proofs.case_head.Tie as tie
 
@@ -33,16 +32,16 @@ stop-requires : tie.Need-stop-requires
 stop-requires c κs = search needs
 
 returns : tie.Need-returns
-returns c = record { is = λ kinds m. choice-not (c .stop .ensures) (c .before .before .before .choice .ensures) (c .before .enum-told .given .1) }
+returns c = record { is = λ kinds. choice-not (c .stop .ensures) (c .before .before .before .choice .ensures) (c .before .enum-told .given .1) }
 
 case-head-of-requires : tie.Need-case-head-of-requires
 case-head-of-requires c κs = search needs
 
 same-length : tie.Need-same-length
-same-length c = c .before .before .case-head-of .kept .1 .1 .1 .1 .0
+same-length c = c .before .before .case-head-of .kept .1 .1 .1 .1 .1 .0
 
 returns-2 : tie.Need-returns-2
-returns-2 c = record { is = λ kinds m. by-same (choice-is (c .before .before .before .before .before .before .before .choice .ensures) (c .before .before .before .before .before .k .given .1)) (plain (c .before .before .case-head-of .ensures)) }
+returns-2 c = record { is = λ kinds. by-same (choice-is (c .before .before .before .before .before .before .before .before .choice .ensures) (c .before .before .before .before .before .before .k .given .1)) (plain (c .before .before .case-head-of .ensures)) }
 
 pub case-head-spec : {M : Type 1} → statement M
 case-head-spec =

@@ -13,41 +13,46 @@ use Rattle.layout.specs.State.{cfgOf}
 use Rattle.layout.specs.Exp as Exp
 use Rattle.layout.specs.GetDec as GetDec
 use Rattle.layout.specs.DecOne as DecOne
-use Rattle.layout.proofs.Steps.{PlainTurn, from, plain, by-same, first-same, then-done, then-stop, then-sure, last-sure, then-both, last-skip, skip-same, list-is, list-not, choice-is, choice-not, group-is, group-not, maybe-past, maybe-there, items-all, from-more, from-none, times-all, times-more, times-none, regroup, present-there, present-gone, present-not, operated-pipe, operated-gap, sure-then}
+use Rattle.layout.proofs.Steps.{PlainTurn, from, plain, by-same, first-same, then-done, then-stop, then-halt, then-sure, last-sure, then-both, last-skip, skip-same, list-is, list-not, choice-is, choice-not, group-is, group-not, maybe-past, maybe-there, items-all, from-more, from-none, times-all, times-more, times-none, regroup, present-there, present-gone, present-not, operated-pipe, operated-gap, sure-then}
 use Rattle.layout.proofs.Knot.{past, beyond, at-key}
 use Rattle.leaves.proofs.Laws.{con-over, con-under}
-use borrow.Author.Needs.{needs}
 use Rattle.leaves.proofs.con_bind.Statement.{statement}
 use Rattle.leaves.proofs.con_bind.Tie as tie
 
 group-requires : tie.Need-group-requires
 group-requires c κs = search needs
 
-enum-known-r1 : tie.Need-enum-known-r1
-enum-known-r1 c = search needs
+told-requires : tie.Need-told-requires
+told-requires c κs = search needs
+
+enum-known-s1 : tie.Need-enum-known-s1
+enum-known-s1 c = search needs
 
 enum-told : tie.Need-enum-told
 enum-told c = search needs
 
 returns : tie.Need-returns
 unfolding DecOne.con-bind
-returns c = record { is = λ kinds m. group-not (c .before .before .group .ensures) (c .enum-told .given .1) }
+returns c = record { is = λ kinds. group-not (c .before .before .before .group .ensures) (c .before .before .told .ensures) (c .enum-told .given .1) }
 
 text-of-requires : tie.Need-text-of-requires
 text-of-requires c κs = search needs
 
-enum-known-r2 : tie.Need-enum-known-r2
-enum-known-r2 c = search needs
+told-requires-2 : tie.Need-told-requires-2
+told-requires-2 c κs = search needs
+
+enum-known-s2 : tie.Need-enum-known-s2
+enum-known-s2 c = search needs
 
 enum-told-2 : tie.Need-enum-told-2
 enum-told-2 c = search needs
 
 same-length : tie.Need-same-length
-same-length c = c .before .before .before .before .text-of .kept .1 .1 .1 .1 .0
+same-length c = c .before .before .before .before .before .text-of .kept .1 .1 .1 .1 .1 .0
 
 returns-2 : tie.Need-returns-2
 unfolding DecOne.con-bind
-returns-2 c = record { is = λ kinds m. by-same (group-is (c .before .before .before .before .before .before .before .before .before .group .ensures) (c .before .before .before .before .before .before .before .r1 .given .1)) (then-stop (plain (c .before .before .before .before .text-of .ensures)) (c .enum-told2 .given .1)) }
+returns-2 c = record { is = λ kinds. by-same (group-is (c .before .before .before .before .before .before .before .before .before .before .before .before .group .ensures) (c .before .before .before .before .before .before .before .before .before .before .before .told .ensures) (c .before .before .before .before .before .before .before .before .before .s1 .given .1)) (then-stop (plain (c .before .before .before .before .before .text-of .ensures)) (c .before .before .told2 .ensures) (c .enum-told2 .given .1)) }
 
 absent-requires : tie.Need-absent-requires
 absent-requires c κs = search needs
@@ -56,11 +61,11 @@ enum-known-s3 : tie.Need-enum-known-s3
 enum-known-s3 c = search needs
 
 same-length-2 : tie.Need-same-length-2
-same-length-2 c = c .before .before .before .before .before .before .before .before .before .text-of .kept .1 .1 .1 .1 .0
+same-length-2 c = c .before .before .before .before .before .before .before .before .before .before .text-of .kept .1 .1 .1 .1 .1 .0
 
 returns-3 : tie.Need-returns-3
 unfolding DecOne.con-bind
-returns-3 c = record { is = λ kinds m. by-same (group-is (c .before .before .before .before .before .before .before .before .before .before .before .before .before .before .group .ensures) (c .before .before .before .before .before .before .before .before .before .before .before .before .r1 .given .1)) (then-done (plain (c .before .before .before .before .before .before .before .before .before .text-of .ensures)) (c .before .before .before .before .before .r2 .given .1) (maybe-past (c .before .before .before .absent .ensures) (c .before .s3 .given .1))) }
+returns-3 c = record { is = λ kinds. by-same (group-is (c .before .before .before .before .before .before .before .before .before .before .before .before .before .before .before .before .before .group .ensures) (c .before .before .before .before .before .before .before .before .before .before .before .before .before .before .before .before .told .ensures) (c .before .before .before .before .before .before .before .before .before .before .before .before .before .before .s1 .given .1)) (then-done (plain (c .before .before .before .before .before .before .before .before .before .before .text-of .ensures)) (c .before .before .before .before .before .before .before .told2 .ensures) (c .before .before .before .before .before .s2 .given .1) (maybe-past (c .before .before .before .absent .ensures) (c .before .s3 .given .1))) }
 
 enum-told-3 : tie.Need-enum-told-3
 enum-told-3 c = search needs
@@ -68,18 +73,21 @@ enum-told-3 c = search needs
 group-requires-2 : tie.Need-group-requires-2
 group-requires-2 c κs = search needs
 
-enum-known-r4 : tie.Need-enum-known-r4
-enum-known-r4 c = search needs
+told-requires-3 : tie.Need-told-requires-3
+told-requires-3 c κs = search needs
+
+enum-known-s4 : tie.Need-enum-known-s4
+enum-known-s4 c = search needs
 
 enum-told-4 : tie.Need-enum-told-4
 enum-told-4 c = search needs
 
 same-length-3 : tie.Need-same-length-3
-same-length-3 c = c .before .before .before .before .before .before .before .before .before .before .before .text-of .kept .1 .1 .1 .1 .0
+same-length-3 c = c .before .before .before .before .before .before .before .before .before .before .before .before .before .text-of .kept .1 .1 .1 .1 .1 .0
 
 returns-4 : tie.Need-returns-4
 unfolding DecOne.con-bind
-returns-4 c = record { is = λ kinds m. by-same (group-is (c .before .before .before .before .before .before .before .before .before .before .before .before .before .before .before .before .group .ensures) (c .before .before .before .before .before .before .before .before .before .before .before .before .before .before .r1 .given .1)) (then-done (plain (c .before .before .before .before .before .before .before .before .before .before .before .text-of .ensures)) (c .before .before .before .before .before .before .before .r2 .given .1) (by-same (maybe-there (c .before .before .before .before .before .absent .ensures) (c .before .before .before .enum-told3 .given .1)) (group-not (c .before .before .group2 .ensures) (c .enum-told4 .given .1)))) }
+returns-4 c = record { is = λ kinds. by-same (group-is (c .before .before .before .before .before .before .before .before .before .before .before .before .before .before .before .before .before .before .before .before .group .ensures) (c .before .before .before .before .before .before .before .before .before .before .before .before .before .before .before .before .before .before .before .told .ensures) (c .before .before .before .before .before .before .before .before .before .before .before .before .before .before .before .before .before .s1 .given .1)) (then-done (plain (c .before .before .before .before .before .before .before .before .before .before .before .before .before .text-of .ensures)) (c .before .before .before .before .before .before .before .before .before .before .told2 .ensures) (c .before .before .before .before .before .before .before .before .s2 .given .1) (by-same (maybe-there (c .before .before .before .before .before .before .absent .ensures) (c .before .before .before .before .enum-told3 .given .1)) (group-not (c .before .before .before .group2 .ensures) (c .before .before .told3 .ensures) (c .enum-told4 .given .1)))) }
 
 word-requires : tie.Need-word-requires
 word-requires c κs = search needs
@@ -88,22 +96,24 @@ get-ty-requires : tie.Need-get-ty-requires
 get-ty-requires c κs = search needs
 
 same-length-4 : tie.Need-same-length-4
-same-length-4 c = c .before .before .get-ty .kept .1 .1 .1 .1 .0 ∙ c .before .before .before .before .before .before .word .kept .1 .0 ∙ c .before .before .before .before .before .before .before .before .before .before .before .before .before .before .before .before .before .before .before .before .text-of .kept .1 .1 .1 .1 .0
+same-length-4 c = c .before .before .get-ty .kept .1 .1 .1 .1 .1 .0 ∙ c .before .before .before .before .before .before .before .word .kept .1 .1 .0 ∙ c .before .before .before .before .before .before .before .before .before .before .before .before .before .before .before .before .before .before .before .before .before .before .before .before .text-of .kept .1 .1 .1 .1 .1 .0
 
 returns-5 : tie.Need-returns-5
 unfolding DecOne.con-bind
-returns-5 c = record { is = λ kinds m. by-same (group-is (c .before .before .before .before .before .before .before .before .before .before .before .before .before .before .before .before .before .before .before .before .before .before .before .before .before .group .ensures) (c .before .before .before .before .before .before .before .before .before .before .before .before .before .before .before .before .before .before .before .before .before .before .before .r1 .given .1)) (then-done (plain (c .before .before .before .before .before .before .before .before .before .before .before .before .before .before .before .before .before .before .before .before .text-of .ensures)) (c .before .before .before .before .before .before .before .before .before .before .before .before .before .before .before .before .r2 .given .1) (by-same (maybe-there (c .before .before .before .before .before .before .before .before .before .before .before .before .before .before .absent .ensures) (c .before .before .before .before .before .before .before .before .before .before .before .before .enum-told3 .given .1)) (by-same (group-is (c .before .before .before .before .before .before .before .before .before .before .before .group2 .ensures) (c .before .before .before .before .before .before .before .before .before .r4 .given .1)) (then-sure (c .before .before .before .before .before .before .word .ensures) (plain (c .before .before .get-ty .ensures)))))) }
+returns-5 c = record { is = λ kinds. by-same (group-is (c .before .before .before .before .before .before .before .before .before .before .before .before .before .before .before .before .before .before .before .before .before .before .before .before .before .before .before .before .before .before .before .group .ensures) (c .before .before .before .before .before .before .before .before .before .before .before .before .before .before .before .before .before .before .before .before .before .before .before .before .before .before .before .before .before .before .told .ensures) (c .before .before .before .before .before .before .before .before .before .before .before .before .before .before .before .before .before .before .before .before .before .before .before .before .before .before .before .before .s1 .given .1)) (then-done (plain (c .before .before .before .before .before .before .before .before .before .before .before .before .before .before .before .before .before .before .before .before .before .before .before .before .text-of .ensures)) (c .before .before .before .before .before .before .before .before .before .before .before .before .before .before .before .before .before .before .before .before .before .told2 .ensures) (c .before .before .before .before .before .before .before .before .before .before .before .before .before .before .before .before .before .before .before .s2 .given .1) (by-same (maybe-there (c .before .before .before .before .before .before .before .before .before .before .before .before .before .before .before .before .before .absent .ensures) (c .before .before .before .before .before .before .before .before .before .before .before .before .before .before .before .enum-told3 .given .1)) (by-same (group-is (c .before .before .before .before .before .before .before .before .before .before .before .before .before .before .group2 .ensures) (c .before .before .before .before .before .before .before .before .before .before .before .before .before .told3 .ensures) (c .before .before .before .before .before .before .before .before .before .before .before .s4 .given .1)) (then-sure (c .before .before .before .before .before .before .before .word .ensures) (plain (c .before .before .get-ty .ensures)))))) }
 
 pub con-bind-spec : {M : Type 1} → statement M
 con-bind-spec =
     tie.close
     (tie.spec
     group-requires
-    enum-known-r1
+    told-requires
+    enum-known-s1
     enum-told
     returns
     text-of-requires
-    enum-known-r2
+    told-requires-2
+    enum-known-s2
     enum-told-2
     same-length
     returns-2
@@ -113,7 +123,8 @@ con-bind-spec =
     returns-3
     enum-told-3
     group-requires-2
-    enum-known-r4
+    told-requires-3
+    enum-known-s4
     enum-told-4
     same-length-3
     returns-4

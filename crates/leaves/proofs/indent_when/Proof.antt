@@ -11,10 +11,10 @@ same-length : tie.Need-same-length
 same-length c = search needs
 
 returns : tie.Need-returns
-returns c = sure-when (c .before .before .before .before .if1 .taken) (c .before .before .indent .ensures)
+returns c = λ words. sure-when (c .before .before .before .before .before .if1 .taken) (c .before .before .indent .ensures words)
 
 returns-2 : tie.Need-returns-2
-returns-2 c = sure-unless _ (c .if1 .left)
+returns-2 c = λ words. sure-unless _ (c .if1 .left)
 
 pub indent-when-spec : {M : Type 1} → statement M
 indent-when-spec = tie.close (tie.spec indent-requires same-length returns returns-2)

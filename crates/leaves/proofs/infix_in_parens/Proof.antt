@@ -13,10 +13,9 @@ use Rattle.layout.specs.State.{cfgOf}
 use Rattle.layout.specs.Exp as Exp
 use Rattle.layout.specs.GetDec as GetDec
 use Rattle.layout.specs.DecOne as DecOne
-use Rattle.layout.proofs.Steps.{PlainTurn, from, plain, by-same, first-same, then-done, then-stop, then-sure, last-sure, then-both, last-skip, skip-same, list-is, list-not, choice-is, choice-not, group-is, group-not, maybe-past, maybe-there, items-all, from-more, from-none, times-all, times-more, times-none, regroup, present-there, present-gone, present-not, operated-pipe, operated-gap, sure-then}
+use Rattle.layout.proofs.Steps.{PlainTurn, from, plain, by-same, first-same, then-done, then-stop, then-halt, then-sure, last-sure, then-both, last-skip, skip-same, list-is, list-not, choice-is, choice-not, group-is, group-not, maybe-past, maybe-there, items-all, from-more, from-none, times-all, times-more, times-none, regroup, present-there, present-gone, present-not, operated-pipe, operated-gap, sure-then}
 use Rattle.layout.proofs.Knot.{past, beyond, at-key}
 use Rattle.leaves.proofs.Laws.{con-over, con-under}
-use borrow.Author.Needs.{needs}
 use Rattle.leaves.proofs.infix_in_parens.Statement.{statement}
 use Rattle.leaves.proofs.infix_in_parens.Tie as tie
 
@@ -26,26 +25,29 @@ word-requires c κs = search needs
 infix-pats-requires : tie.Need-infix-pats-requires
 infix-pats-requires c κs = search needs
 
-enum-known-r2 : tie.Need-enum-known-r2
-enum-known-r2 c = search needs
+told-requires : tie.Need-told-requires
+told-requires c κs = search needs
+
+enum-known-s1 : tie.Need-enum-known-s1
+enum-known-s1 c = search needs
 
 enum-told : tie.Need-enum-told
 enum-told c = search needs
 
 same-length : tie.Need-same-length
-same-length c = c .before .before .before .before .infix-pats .kept .1 .1 .1 .1 .0 ∙ c .before .before .before .before .before .before .before .before .word .kept .1 .0
+same-length c = c .before .before .before .before .before .infix-pats .kept .1 .1 .1 .1 .1 .0 ∙ c .before .before .before .before .before .before .before .before .before .before .word .kept .1 .1 .0
 
 returns : tie.Need-returns
-returns c = record { is = λ kinds m. then-sure (c .before .before .before .before .before .before .before .before .word .ensures) (then-stop (plain (c .before .before .before .before .infix-pats .ensures)) (c .enum-told .given .1)) }
+returns c = record { is = λ kinds. then-sure (c .before .before .before .before .before .before .before .before .before .before .word .ensures) (then-stop (plain (c .before .before .before .before .before .infix-pats .ensures)) (c .before .before .told .ensures) (c .enum-told .given .1)) }
 
 word-requires-2 : tie.Need-word-requires-2
 word-requires-2 c κs = search needs
 
 same-length-2 : tie.Need-same-length-2
-same-length-2 c = c .before .before .word2 .kept .1 .0 ∙ c .before .before .before .before .before .before .before .before .before .infix-pats .kept .1 .1 .1 .1 .0 ∙ c .before .before .before .before .before .before .before .before .before .before .before .before .before .word .kept .1 .0
+same-length-2 c = c .before .before .word2 .kept .1 .1 .0 ∙ c .before .before .before .before .before .before .before .before .before .before .before .infix-pats .kept .1 .1 .1 .1 .1 .0 ∙ c .before .before .before .before .before .before .before .before .before .before .before .before .before .before .before .before .word .kept .1 .1 .0
 
 returns-2 : tie.Need-returns-2
-returns-2 c = record { is = λ kinds m. then-sure (c .before .before .before .before .before .before .before .before .before .before .before .before .before .word .ensures) (then-done (plain (c .before .before .before .before .before .before .before .before .before .infix-pats .ensures)) (c .before .before .before .before .before .r2 .given .1) (last-sure (c .before .before .word2 .ensures))) }
+returns-2 c = record { is = λ kinds. then-sure (c .before .before .before .before .before .before .before .before .before .before .before .before .before .before .before .before .word .ensures) (then-done (plain (c .before .before .before .before .before .before .before .before .before .before .before .infix-pats .ensures)) (c .before .before .before .before .before .before .before .before .told .ensures) (c .before .before .before .before .before .before .s1 .given .1) (last-sure (c .before .before .word2 .ensures))) }
 
 pub infix-in-parens-spec : {M : Type 1} → statement M
 infix-in-parens-spec =
@@ -53,7 +55,8 @@ infix-in-parens-spec =
     (tie.spec
     word-requires
     infix-pats-requires
-    enum-known-r2
+    told-requires
+    enum-known-s1
     enum-told
     same-length
     returns

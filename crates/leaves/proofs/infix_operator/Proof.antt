@@ -13,10 +13,9 @@ use Rattle.layout.specs.State.{cfgOf}
 use Rattle.layout.specs.Exp as Exp
 use Rattle.layout.specs.GetDec as GetDec
 use Rattle.layout.specs.DecOne as DecOne
-use Rattle.layout.proofs.Steps.{PlainTurn, from, plain, by-same, first-same, then-done, then-stop, then-sure, last-sure, then-both, last-skip, skip-same, list-is, list-not, choice-is, choice-not, group-is, group-not, maybe-past, maybe-there, items-all, from-more, from-none, times-all, times-more, times-none, regroup, present-there, present-gone, present-not, operated-pipe, operated-gap, sure-then}
+use Rattle.layout.proofs.Steps.{PlainTurn, from, plain, by-same, first-same, then-done, then-stop, then-halt, then-sure, last-sure, then-both, last-skip, skip-same, list-is, list-not, choice-is, choice-not, group-is, group-not, maybe-past, maybe-there, items-all, from-more, from-none, times-all, times-more, times-none, regroup, present-there, present-gone, present-not, operated-pipe, operated-gap, sure-then}
 use Rattle.layout.proofs.Knot.{past, beyond, at-key}
 use Rattle.leaves.proofs.Laws.{con-over, con-under}
-use borrow.Author.Needs.{needs}
 use Rattle.leaves.proofs.infix_operator.Statement.{statement}
 use Rattle.leaves.proofs.infix_operator.Tie as tie
 
@@ -27,17 +26,17 @@ word-requires : tie.Need-word-requires
 word-requires c κs = search needs
 
 indent-deeper-requires : tie.Need-indent-deeper-requires
-indent-deeper-requires c κs = omega (arith, c .before .before .before .before .before .before .before .before .before .before .before .before .pre)
+indent-deeper-requires c κs = omega (arith, c .before .before .before .before .before .before .before .before .before .before .before .before .before .before .pre)
 
 word-requires-2 : tie.Need-word-requires-2
 word-requires-2 c κs = search needs
 
 same-length : tie.Need-same-length
-same-length c = c .before .before .word2 .kept .1 .0 ∙ c .before .before .before .before .before .before .indent-deeper .kept .0 ∙ c .before .before .before .before .before .before .before .before .before .before .word .kept .1 .0
+same-length c = c .before .before .word2 .kept .1 .1 .0 ∙ c .before .before .before .before .before .before .before .indent-deeper .kept .0 ∙ c .before .before .before .before .before .before .before .before .before .before .before .before .word .kept .1 .1 .0
 
 returns : tie.Need-returns
 unfolding Exp.pipe
-returns c = operated-pipe (c .before .before .before .before .before .before .before .before .before .before .before .before .before .is-pipe .ensures) (c .before .before .before .before .before .before .before .before .before .before .before .before .if1 .taken) (sure-then (c .before .before .before .before .before .before .before .before .before .before .word .ensures) (sure-then (c .before .before .before .before .before .before .indent-deeper .ensures) (c .before .before .word2 .ensures)))
+returns c = operated-pipe (c .before .before .before .before .before .before .before .before .before .before .before .before .before .before .before .before .is-pipe .ensures) (c .before .before .before .before .before .before .before .before .before .before .before .before .before .before .before .if1 .taken) (sure-then (c .before .before .before .before .before .before .before .before .before .before .before .before .word .ensures) (sure-then (c .before .before .before .before .before .before .before .indent-deeper .ensures _) (c .before .before .word2 .ensures)))
 
 word-requires-3 : tie.Need-word-requires-3
 word-requires-3 c κs = search needs
@@ -49,11 +48,11 @@ word-requires-4 : tie.Need-word-requires-4
 word-requires-4 c κs = search needs
 
 same-length-2 : tie.Need-same-length-2
-same-length-2 c = c .before .before .word4 .kept .1 .0 ∙ c .before .before .before .before .before .before .token .kept .1 .1 .1 .0 ∙ c .before .before .before .before .before .before .before .before .before .before .word3 .kept .1 .0
+same-length-2 c = c .before .before .word4 .kept .1 .1 .0 ∙ c .before .before .before .before .before .before .before .token .kept .1 .1 .1 .1 .0 ∙ c .before .before .before .before .before .before .before .before .before .before .before .before .word3 .kept .1 .1 .0
 
 returns-2 : tie.Need-returns-2
 unfolding Exp.pipe
-returns-2 c = operated-gap (c .before .before .before .before .before .before .before .before .before .before .before .before .before .is-pipe .ensures) (c .before .before .before .before .before .before .before .before .before .before .before .before .if1 .left) (c .before .before .before .before .before .before .before .before .before .before .word3 .ensures) (c .before .before .before .before .before .before .token .ensures) (c .before .before .word4 .ensures)
+returns-2 c = operated-gap (c .before .before .before .before .before .before .before .before .before .before .before .before .before .before .before .before .is-pipe .ensures) (c .before .before .before .before .before .before .before .before .before .before .before .before .before .before .before .if1 .left) (c .before .before .before .before .before .before .before .before .before .before .before .before .word3 .ensures) (c .before .before .before .before .before .before .before .token .ensures) (c .before .before .word4 .ensures)
 
 pub infix-operator-spec : {M : Type 1} → statement M
 infix-operator-spec =

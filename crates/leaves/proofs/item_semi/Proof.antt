@@ -13,10 +13,9 @@ use Rattle.layout.specs.State.{cfgOf}
 use Rattle.layout.specs.Exp as Exp
 use Rattle.layout.specs.GetDec as GetDec
 use Rattle.layout.specs.DecOne as DecOne
-use Rattle.layout.proofs.Steps.{PlainTurn, from, plain, by-same, first-same, then-done, then-stop, then-sure, last-sure, then-both, last-skip, skip-same, list-is, list-not, choice-is, choice-not, group-is, group-not, maybe-past, maybe-there, items-all, from-more, from-none, times-all, times-more, times-none, regroup, present-there, present-gone, present-not, operated-pipe, operated-gap, sure-then}
+use Rattle.layout.proofs.Steps.{PlainTurn, from, plain, by-same, first-same, then-done, then-stop, then-halt, then-sure, last-sure, then-both, last-skip, skip-same, list-is, list-not, choice-is, choice-not, group-is, group-not, maybe-past, maybe-there, items-all, from-more, from-none, times-all, times-more, times-none, regroup, present-there, present-gone, present-not, operated-pipe, operated-gap, sure-then}
 use Rattle.layout.proofs.Knot.{past, beyond, at-key}
 use Rattle.leaves.proofs.Laws.{con-over, con-under}
-use borrow.Author.Needs.{needs}
 use Rattle.leaves.proofs.item_semi.Statement.{statement}
 use Rattle.leaves.proofs.item_semi.Tie as tie
 
@@ -39,19 +38,19 @@ stop-requires : tie.Need-stop-requires
 stop-requires c κs = search needs
 
 same-length : tie.Need-same-length
-same-length c = c .before .before .word-when .kept .1 .0
+same-length c = c .before .before .word-when .kept .1 .1 .0
 
 returns : tie.Need-returns
 unfolding Exp.item-semi
-returns c = record { is = λ kinds m. by-same (present-there (c .before .before .before .before .before .before .before .present .ensures) (c .before .before .before .before .before .given .given .1)) (last-sure (c .before .before .word-when .ensures)) }
+returns c = record { is = λ kinds. by-same (present-there (c .before .before .before .before .before .before .before .before .present .ensures) (c .before .before .before .before .before .before .given .given .1)) (last-sure (c .before .before .word-when .ensures)) }
 
 returns-2 : tie.Need-returns-2
 unfolding Exp.item-semi
-returns-2 c = record { is = λ kinds m. by-same (present-gone (c .before .before .before .present .ensures) (c .before .given2 .given .1)) last-skip }
+returns-2 c = record { is = λ kinds. by-same (present-gone (c .before .before .before .present .ensures) (c .before .given2 .given .1)) last-skip }
 
 returns-3 : tie.Need-returns-3
 unfolding Exp.item-semi
-returns-3 c = record { is = λ kinds m. present-not (c .stop .ensures) (c .before .before .before .present .ensures) (c .before .enum-told .given .1) }
+returns-3 c = record { is = λ kinds. present-not (c .stop .ensures) (c .before .before .before .present .ensures) (c .before .enum-told .given .1) }
 
 pub item-semi-spec : {M : Type 1} → statement M
 item-semi-spec =

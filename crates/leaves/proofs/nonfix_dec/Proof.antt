@@ -13,10 +13,9 @@ use Rattle.layout.specs.State.{cfgOf}
 use Rattle.layout.specs.Exp as Exp
 use Rattle.layout.specs.GetDec as GetDec
 use Rattle.layout.specs.DecOne as DecOne
-use Rattle.layout.proofs.Steps.{PlainTurn, from, plain, by-same, first-same, then-done, then-stop, then-sure, last-sure, then-both, last-skip, skip-same, list-is, list-not, choice-is, choice-not, group-is, group-not, maybe-past, maybe-there, items-all, from-more, from-none, times-all, times-more, times-none, regroup, present-there, present-gone, present-not, operated-pipe, operated-gap, sure-then}
+use Rattle.layout.proofs.Steps.{PlainTurn, from, plain, by-same, first-same, then-done, then-stop, then-halt, then-sure, last-sure, then-both, last-skip, skip-same, list-is, list-not, choice-is, choice-not, group-is, group-not, maybe-past, maybe-there, items-all, from-more, from-none, times-all, times-more, times-none, regroup, present-there, present-gone, present-not, operated-pipe, operated-gap, sure-then}
 use Rattle.layout.proofs.Knot.{past, beyond, at-key}
 use Rattle.leaves.proofs.Laws.{con-over, con-under}
-use borrow.Author.Needs.{needs}
 use Rattle.leaves.proofs.nonfix_dec.Statement.{statement}
 use Rattle.leaves.proofs.nonfix_dec.Tie as tie
 
@@ -27,11 +26,11 @@ names-space-requires : tie.Need-names-space-requires
 names-space-requires c κs = search needs
 
 same-length : tie.Need-same-length
-same-length c = c .before .before .names-space .kept .1 .1 .1 .1 .0 ∙ c .before .before .before .before .before .before .word .kept .1 .0
+same-length c = c .before .before .names-space .kept .1 .1 .1 .1 .1 .0 ∙ c .before .before .before .before .before .before .before .word .kept .1 .1 .0
 
 returns : tie.Need-returns
 unfolding DecOne.dec-one
-returns c = record { is = λ kinds m. then-sure (c .before .before .before .before .before .before .word .ensures) (plain (c .before .before .names-space .ensures)) }
+returns c = record { is = λ kinds. then-sure (c .before .before .before .before .before .before .before .word .ensures) (plain (c .before .before .names-space .ensures)) }
 
 pub nonfix-dec-spec : {M : Type 1} → statement M
 nonfix-dec-spec = tie.close (tie.spec word-requires names-space-requires same-length returns)

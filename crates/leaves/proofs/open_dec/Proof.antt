@@ -13,18 +13,18 @@ use Rattle.layout.specs.State.{cfgOf}
 use Rattle.layout.specs.Exp as Exp
 use Rattle.layout.specs.GetDec as GetDec
 use Rattle.layout.specs.DecOne as DecOne
-use Rattle.layout.proofs.Steps.{PlainTurn, from, plain, by-same, first-same, then-done, then-stop, then-sure, last-sure, then-both, last-skip, skip-same, list-is, list-not, choice-is, choice-not, group-is, group-not, maybe-past, maybe-there, items-all, from-more, from-none, times-all, times-more, times-none, regroup, present-there, present-gone, present-not, operated-pipe, operated-gap, sure-then}
+use Rattle.layout.proofs.Steps.{PlainTurn, from, plain, by-same, first-same, then-done, then-stop, then-halt, then-sure, last-sure, then-both, last-skip, skip-same, list-is, list-not, choice-is, choice-not, group-is, group-not, maybe-past, maybe-there, items-all, from-more, from-none, times-all, times-more, times-none, regroup, present-there, present-gone, present-not, operated-pipe, operated-gap, sure-then}
 use Rattle.layout.proofs.Knot.{past, beyond, at-key}
 use Rattle.leaves.proofs.Laws.{con-over, con-under}
 use Rattle.leaves.proofs.open_dec.Statement.{statement}
 use Rattle.leaves.proofs.open_dec.Tie as tie
 
 abbrev Inv-loop : tie.InvT-loop
-Inv-loop text rec starts lens out₀ cfg n s₀ i₀ out s i =
-    PlainTurn text rec starts lens (cfg .tab) (from (Layout.word " ") (Helpers.path)) n s₀ out₀ i s out
+Inv-loop run text rec starts lens out₀ mem₀ at n s1 s₀ i₀ out mem s i =
+    PlainTurn run text rec starts lens (from (Layout.word " ") (Helpers.path)) n s₀ mem₀ out₀ i s mem out
 
 abbrev μ-loop : tie.MeasureT-loop
-μ-loop text rec starts lens out₀ cfg n s₀ i₀ out s i = n - i
+μ-loop run text rec starts lens out₀ mem₀ at n s1 s₀ i₀ out mem s i = n - i
 
 word-requires : tie.Need-word-requires Inv-loop μ-loop
 word-requires c κs = search needs
@@ -42,14 +42,14 @@ stop-requires : tie.Need-stop-requires Inv-loop μ-loop
 stop-requires c κs = search needs
 
 same-length : tie.Need-same-length Inv-loop μ-loop
-same-length c = c .before .before .before .before .before .before .word .kept .1 .0
+same-length c = c .before .before .before .before .before .before .word .kept .1 .1 .0
 
 returns : tie.Need-returns Inv-loop μ-loop
 unfolding DecOne.dec-one Helpers.sep
-returns c = record { is = λ kinds m. then-sure (c .before .before .before .before .before .before .word .ensures) (list-not (c .stop .ensures) (c .before .before .before .list .ensures) (c .before .enum-told .given .1)) }
+returns c = record { is = λ kinds. then-sure (c .before .before .before .before .before .before .word .ensures) (list-not (c .stop .ensures) (c .before .before .before .list .ensures) (c .before .enum-told .given .1)) }
 
 loop-holds : tie.Need-loop-holds Inv-loop μ-loop
-loop-holds c = (omega arith, λ kinds m r o h. h, refl)
+loop-holds c = (omega arith, λ kinds r m o h. h, refl)
 
 between-requires : tie.Need-between-requires Inv-loop μ-loop
 between-requires c κs = search needs
@@ -57,35 +57,38 @@ between-requires c κs = search needs
 path-requires : tie.Need-path-requires Inv-loop μ-loop
 path-requires c κs = search needs
 
-enum-known-r4 : tie.Need-enum-known-r4 Inv-loop μ-loop
-enum-known-r4 c = search needs
+told-requires : tie.Need-told-requires Inv-loop μ-loop
+told-requires c κs = search needs
+
+enum-known-s2 : tie.Need-enum-known-s2 Inv-loop μ-loop
+enum-known-s2 c = search needs
 
 enum-told-2 : tie.Need-enum-told-2 Inv-loop μ-loop
 enum-told-2 c = search needs
 
 same-length-2 : tie.Need-same-length-2 Inv-loop μ-loop
-same-length-2 c = c .before .before .before .before .path .kept .1 .1 .1 .1 .0 ∙ c .before .before .before .before .before .before .before .before .between .kept .1 .0 ∙ c .before .before .before .before .before .before .before .before .before .before .before .loop .inv .2 ∙ c .before .before .before .before .before .before .before .before .before .before .before .before .before .before .before .before .before .before .word .kept .1 .0
+same-length-2 c = c .before .before .before .before .before .path .kept .1 .1 .1 .1 .1 .0 ∙ c .before .before .before .before .before .before .before .before .before .before .between .kept .1 .1 .0 ∙ c .before .before .before .before .before .before .before .before .before .before .before .before .before .before .loop .inv .2 ∙ c .before .before .before .before .before .before .before .before .before .before .before .before .before .before .before .before .before .before .before .before .before .word .kept .1 .1 .0
 
 returns-2 : tie.Need-returns-2 Inv-loop μ-loop
 unfolding DecOne.dec-one Helpers.sep
-returns-2 c = record { is = λ kinds m. then-sure (c .before .before .before .before .before .before .before .before .before .before .before .before .before .before .before .before .before .before .word .ensures) (by-same (list-is (c .before .before .before .before .before .before .before .before .before .before .before .before .before .before .before .list .ensures) (c .before .before .before .before .before .before .before .before .before .before .before .before .before .n .given .1)) (by-same (items-all _ _ _) (c .before .before .before .before .before .before .before .before .before .before .before .loop .inv .1 kinds m _ _ (from-more _ _ (c .before .before .before .before .before .before .before .before .before .before .loop-test .taken) (then-sure (c .before .before .before .before .before .before .before .before .between .ensures) (then-stop (plain (c .before .before .before .before .path .ensures)) (c .enum-told2 .given .1))))))) }
+returns-2 c = record { is = λ kinds. then-sure (c .before .before .before .before .before .before .before .before .before .before .before .before .before .before .before .before .before .before .before .before .before .word .ensures) (by-same (list-is (c .before .before .before .before .before .before .before .before .before .before .before .before .before .before .before .before .before .before .list .ensures) (c .before .before .before .before .before .before .before .before .before .before .before .before .before .before .before .before .n .given .1)) (by-same (items-all _ _ _) (c .before .before .before .before .before .before .before .before .before .before .before .before .before .before .loop .inv .1 kinds _ _ _ (from-more _ _ (c .before .before .before .before .before .before .before .before .before .before .before .before .before .loop-test .taken) (then-sure (c .before .before .before .before .before .before .before .before .before .before .between .ensures) (then-stop (plain (c .before .before .before .before .before .path .ensures)) (c .before .before .told .ensures) (c .enum-told2 .given .1))))))) }
 
 add-i : tie.Need-add-i Inv-loop μ-loop
-add-i c = omega (arith, c .before .before .before .before .before .before .before .before .before .before .before .loop-test .taken, c .before .before .before .before .before .before .before .before .before .before .before .before .before .known-told)
+add-i c = omega (arith, c .before .before .before .before .before .before .before .before .before .before .before .before .before .before .loop-test .taken, c .before .before .before .before .before .before .before .before .before .before .before .before .before .before .before .before .known-told)
 
 loop-less : tie.Need-loop-less Inv-loop μ-loop
 loop-less c = omega arith
 
 loop-again : tie.Need-loop-again Inv-loop μ-loop
 unfolding DecOne.dec-one Helpers.sep
-loop-again c = (omega (arith, c .before .before .before .before .before .before .before .before .before .before .before .before .loop .inv .0), λ kinds m r o h. c .before .before .before .before .before .before .before .before .before .before .before .before .loop .inv .1 kinds m r o (from-more _ _ (c .before .before .before .before .before .before .before .before .before .before .before .loop-test .taken) (then-sure (c .before .before .before .before .before .before .before .before .before .between .ensures) (then-done (plain (c .before .before .before .before .before .path .ensures)) (c .before .r4 .given .1) h))), c .before .before .before .before .before .path .kept .1 .1 .1 .1 .0 ∙ c .before .before .before .before .before .before .before .before .before .between .kept .1 .0 ∙ c .before .before .before .before .before .before .before .before .before .before .before .before .loop .inv .2)
+loop-again c = (omega (arith, c .before .before .before .before .before .before .before .before .before .before .before .before .before .before .before .loop .inv .0), λ kinds r m o h. c .before .before .before .before .before .before .before .before .before .before .before .before .before .before .before .loop .inv .1 kinds r m o (from-more _ _ (c .before .before .before .before .before .before .before .before .before .before .before .before .before .before .loop-test .taken) (then-sure (c .before .before .before .before .before .before .before .before .before .before .before .between .ensures) (then-done (plain (c .before .before .before .before .before .before .path .ensures)) (c .before .before .before .told .ensures) (c .before .s2 .given .1) h))), c .before .before .before .before .before .before .path .kept .1 .1 .1 .1 .1 .0 ∙ c .before .before .before .before .before .before .before .before .before .before .before .between .kept .1 .1 .0 ∙ c .before .before .before .before .before .before .before .before .before .before .before .before .before .before .before .loop .inv .2)
 
 same-length-3 : tie.Need-same-length-3 Inv-loop μ-loop
-same-length-3 c = c .before .loop .inv .2 ∙ c .before .before .before .before .before .before .before .before .word .kept .1 .0
+same-length-3 c = c .before .loop .inv .2 ∙ c .before .before .before .before .before .before .before .before .word .kept .1 .1 .0
 
 returns-3 : tie.Need-returns-3 Inv-loop μ-loop
 unfolding DecOne.dec-one Helpers.sep
-returns-3 c = record { is = λ kinds m. then-sure (c .before .before .before .before .before .before .before .before .word .ensures) (by-same (list-is (c .before .before .before .before .before .list .ensures) (c .before .before .before .n .given .1)) (by-same (items-all _ _ _) (c .before .loop .inv .1 kinds m _ _ (from-none _ _ (c .loop-test .left))))) }
+returns-3 c = record { is = λ kinds. then-sure (c .before .before .before .before .before .before .before .before .word .ensures) (by-same (list-is (c .before .before .before .before .before .list .ensures) (c .before .before .before .n .given .1)) (by-same (items-all _ _ _) (c .before .loop .inv .1 kinds _ _ _ (from-none _ _ (c .loop-test .left))))) }
 
 pub open-dec-spec : {M : Type 1} → statement M
 open-dec-spec =
@@ -103,7 +106,8 @@ open-dec-spec =
     loop-holds
     between-requires
     path-requires
-    enum-known-r4
+    told-requires
+    enum-known-s2
     enum-told-2
     same-length-2
     returns-2

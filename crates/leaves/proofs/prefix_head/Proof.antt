@@ -13,45 +13,48 @@ use Rattle.layout.specs.State.{cfgOf}
 use Rattle.layout.specs.Exp as Exp
 use Rattle.layout.specs.GetDec as GetDec
 use Rattle.layout.specs.DecOne as DecOne
-use Rattle.layout.proofs.Steps.{PlainTurn, from, plain, by-same, first-same, then-done, then-stop, then-sure, last-sure, then-both, last-skip, skip-same, list-is, list-not, choice-is, choice-not, group-is, group-not, maybe-past, maybe-there, items-all, from-more, from-none, times-all, times-more, times-none, regroup, present-there, present-gone, present-not, operated-pipe, operated-gap, sure-then}
+use Rattle.layout.proofs.Steps.{PlainTurn, from, plain, by-same, first-same, then-done, then-stop, then-halt, then-sure, last-sure, then-both, last-skip, skip-same, list-is, list-not, choice-is, choice-not, group-is, group-not, maybe-past, maybe-there, items-all, from-more, from-none, times-all, times-more, times-none, regroup, present-there, present-gone, present-not, operated-pipe, operated-gap, sure-then}
 use Rattle.layout.proofs.Knot.{past, beyond, at-key}
 use Rattle.leaves.proofs.Laws.{con-over, con-under}
-use borrow.Author.Needs.{needs}
 use Rattle.leaves.proofs.prefix_head.Statement.{statement}
 use Rattle.leaves.proofs.prefix_head.Tie as tie
 
 word-if-requires : tie.Need-word-if-requires
 word-if-requires c κs = search needs
 
-enum-known-r1 : tie.Need-enum-known-r1
-enum-known-r1 c = search needs
+told-requires : tie.Need-told-requires
+told-requires c κs = search needs
+
+enum-known-s1 : tie.Need-enum-known-s1
+enum-known-s1 c = search needs
 
 enum-told : tie.Need-enum-told
 enum-told c = search needs
 
 same-length : tie.Need-same-length
-same-length c = c .before .before .before .before .word-if .kept .1 .1 .1 .1 .0
+same-length c = c .before .before .before .before .before .word-if .kept .1 .1 .1 .1 .1 .0
 
 returns : tie.Need-returns
 unfolding DecOne.PrefixFunBindCaseHead
-returns c = record { is = λ kinds m. then-stop (plain (c .before .before .before .before .word-if .ensures)) (c .enum-told .given .1) }
+returns c = record { is = λ kinds. then-stop (plain (c .before .before .before .before .before .word-if .ensures)) (c .before .before .told .ensures) (c .enum-told .given .1) }
 
 text-of-requires : tie.Need-text-of-requires
 text-of-requires c κs = search needs
 
 same-length-2 : tie.Need-same-length-2
-same-length-2 c = c .before .before .text-of .kept .1 .1 .1 .1 .0 ∙ c .before .before .before .before .before .before .before .before .before .word-if .kept .1 .1 .1 .1 .0
+same-length-2 c = c .before .before .text-of .kept .1 .1 .1 .1 .1 .0 ∙ c .before .before .before .before .before .before .before .before .before .before .before .word-if .kept .1 .1 .1 .1 .1 .0
 
 returns-2 : tie.Need-returns-2
 unfolding DecOne.PrefixFunBindCaseHead
-returns-2 c = record { is = λ kinds m. then-done (plain (c .before .before .before .before .before .before .before .before .before .word-if .ensures)) (c .before .before .before .before .before .r1 .given .1) (plain (c .before .before .text-of .ensures)) }
+returns-2 c = record { is = λ kinds. then-done (plain (c .before .before .before .before .before .before .before .before .before .before .before .word-if .ensures)) (c .before .before .before .before .before .before .before .before .told .ensures) (c .before .before .before .before .before .before .s1 .given .1) (plain (c .before .before .text-of .ensures)) }
 
 pub prefix-head-spec : {M : Type 1} → statement M
 prefix-head-spec =
     tie.close
     (tie.spec
     word-if-requires
-    enum-known-r1
+    told-requires
+    enum-known-s1
     enum-told
     same-length
     returns

@@ -13,57 +13,65 @@ use Rattle.layout.specs.State.{cfgOf}
 use Rattle.layout.specs.Exp as Exp
 use Rattle.layout.specs.GetDec as GetDec
 use Rattle.layout.specs.DecOne as DecOne
-use Rattle.layout.proofs.Steps.{PlainTurn, from, plain, by-same, first-same, then-done, then-stop, then-sure, last-sure, then-both, last-skip, skip-same, list-is, list-not, choice-is, choice-not, group-is, group-not, maybe-past, maybe-there, items-all, from-more, from-none, times-all, times-more, times-none, regroup, present-there, present-gone, present-not, operated-pipe, operated-gap, sure-then}
+use Rattle.layout.proofs.Steps.{PlainTurn, from, plain, by-same, first-same, then-done, then-stop, then-halt, then-sure, last-sure, then-both, last-skip, skip-same, list-is, list-not, choice-is, choice-not, group-is, group-not, maybe-past, maybe-there, items-all, from-more, from-none, times-all, times-more, times-none, regroup, present-there, present-gone, present-not, operated-pipe, operated-gap, sure-then}
 use Rattle.layout.proofs.Knot.{past, beyond, at-key}
 use Rattle.leaves.proofs.Laws.{con-over, con-under}
-use borrow.Author.Needs.{needs}
 use Rattle.leaves.proofs.ty_bind.Statement.{statement}
 use Rattle.leaves.proofs.ty_bind.Tie as tie
 
 group-requires : tie.Need-group-requires
 group-requires c κs = search needs
 
-enum-known-r1 : tie.Need-enum-known-r1
-enum-known-r1 c = search needs
+told-requires : tie.Need-told-requires
+told-requires c κs = search needs
+
+enum-known-s1 : tie.Need-enum-known-s1
+enum-known-s1 c = search needs
 
 enum-told : tie.Need-enum-told
 enum-told c = search needs
 
 returns : tie.Need-returns
 unfolding DecOne.ty-bind
-returns c = record { is = λ kinds m. group-not (c .before .before .group .ensures) (c .enum-told .given .1) }
+returns c = record { is = λ kinds. group-not (c .before .before .before .group .ensures) (c .before .before .told .ensures) (c .enum-told .given .1) }
 
 ty-var-seq-requires : tie.Need-ty-var-seq-requires
 ty-var-seq-requires c κs = search needs
 
-enum-known-r2 : tie.Need-enum-known-r2
-enum-known-r2 c = search needs
+told-requires-2 : tie.Need-told-requires-2
+told-requires-2 c κs = search needs
+
+enum-known-s2 : tie.Need-enum-known-s2
+enum-known-s2 c = search needs
 
 enum-told-2 : tie.Need-enum-told-2
 enum-told-2 c = search needs
 
 same-length : tie.Need-same-length
-same-length c = c .before .before .before .before .ty-var-seq .kept .1 .1 .1 .1 .0
+same-length c = c .before .before .before .before .before .ty-var-seq .kept .1 .1 .1 .1 .1 .0
 
 returns-2 : tie.Need-returns-2
 unfolding DecOne.ty-bind
-returns-2 c = record { is = λ kinds m. by-same (group-is (c .before .before .before .before .before .before .before .before .before .group .ensures) (c .before .before .before .before .before .before .before .r1 .given .1)) (then-stop (plain (c .before .before .before .before .ty-var-seq .ensures)) (c .enum-told2 .given .1)) }
+returns-2 c = record { is = λ kinds. by-same (group-is (c .before .before .before .before .before .before .before .before .before .before .before .before .group .ensures) (c .before .before .before .before .before .before .before .before .before .before .before .told .ensures) (c .before .before .before .before .before .before .before .before .before .s1 .given .1)) (then-stop (plain (c .before .before .before .before .before .ty-var-seq .ensures)) (c .before .before .told2 .ensures) (c .enum-told2 .given .1)) }
 
 text-of-requires : tie.Need-text-of-requires
 text-of-requires c κs = search needs
 
-enum-known-r3 : tie.Need-enum-known-r3
-enum-known-r3 c = search needs
+told-requires-3 : tie.Need-told-requires-3
+told-requires-3 c κs = search needs
+
+enum-known-s3 : tie.Need-enum-known-s3
+enum-known-s3 c = search needs
 
 enum-told-3 : tie.Need-enum-told-3
 enum-told-3 c = search needs
 
 same-length-2 : tie.Need-same-length-2
-same-length-2 c = c .before .before .before .before .text-of .kept .1 .1 .1 .1 .0 ∙ c .before .before .before .before .before .before .before .before .before .before .before .ty-var-seq .kept .1 .1 .1 .1 .0
+same-length-2 c = c .before .before .before .before .before .text-of .kept .1 .1 .1 .1 .1 .0 ∙ c .before .before .before .before .before .before .before .before .before .before .before .before .before .before .ty-var-seq .kept .1 .1 .1 .1 .1 .0
 
 returns-3 : tie.Need-returns-3
 unfolding DecOne.ty-bind
-returns-3 c = record { is = λ kinds m. by-same (group-is (c .before .before .before .before .before .before .before .before .before .before .before .before .before .before .before .before .group .ensures) (c .before .before .before .before .before .before .before .before .before .before .before .before .before .before .r1 .given .1)) (then-done (plain (c .before .before .before .before .before .before .before .before .before .before .before .ty-var-seq .ensures)) (c .before .before .before .before .before .before .before .r2 .given .1) (then-stop (plain (c .before .before .before .before .text-of .ensures)) (c .enum-told3 .given .1))) }
+returns-3 c = record { is = λ kinds. by-same (group-is (c .before .before .before .before .before .before .before .before .before .before .before .before .before .before .before .before .before .before .before .before .before .group .ensures) (c .before .before .before .before .before .before .before .before .before .before .before .before .before .before .before .before .before .before .before .before .told .ensures) (c .before .before .before .before .before .before .before .before .before .before .before .before .before .before .before .before .before .before .s1 .given .1)) (then-done (plain (c .before .before .before .before .before .before .before .before .before .before .before .before .before .before .ty-var-seq .ensures)) (c .before .before .before .before .before .before .before .before .before .before .before .told2 .ensures) (c .before .before .before .before .before .before .before .before .before .s2 .given .1) (then-stop (plain (c .before .before .before .before .before .text-of .ensures)) (c .before .before .told3 .ensures) (c .enum-told3 .given .1))) }
 
 absent-requires : tie.Need-absent-requires
 absent-requires c κs = search needs
@@ -72,11 +80,11 @@ enum-known-s4 : tie.Need-enum-known-s4
 enum-known-s4 c = search needs
 
 same-length-3 : tie.Need-same-length-3
-same-length-3 c = c .before .before .before .before .before .before .before .before .before .text-of .kept .1 .1 .1 .1 .0 ∙ c .before .before .before .before .before .before .before .before .before .before .before .before .before .before .before .before .ty-var-seq .kept .1 .1 .1 .1 .0
+same-length-3 c = c .before .before .before .before .before .before .before .before .before .before .text-of .kept .1 .1 .1 .1 .1 .0 ∙ c .before .before .before .before .before .before .before .before .before .before .before .before .before .before .before .before .before .before .before .ty-var-seq .kept .1 .1 .1 .1 .1 .0
 
 returns-4 : tie.Need-returns-4
 unfolding DecOne.ty-bind
-returns-4 c = record { is = λ kinds m. by-same (group-is (c .before .before .before .before .before .before .before .before .before .before .before .before .before .before .before .before .before .before .before .before .before .group .ensures) (c .before .before .before .before .before .before .before .before .before .before .before .before .before .before .before .before .before .before .before .r1 .given .1)) (then-done (plain (c .before .before .before .before .before .before .before .before .before .before .before .before .before .before .before .before .ty-var-seq .ensures)) (c .before .before .before .before .before .before .before .before .before .before .before .before .r2 .given .1) (then-done (plain (c .before .before .before .before .before .before .before .before .before .text-of .ensures)) (c .before .before .before .before .before .r3 .given .1) (maybe-past (c .before .before .before .absent .ensures) (c .before .s4 .given .1)))) }
+returns-4 c = record { is = λ kinds. by-same (group-is (c .before .before .before .before .before .before .before .before .before .before .before .before .before .before .before .before .before .before .before .before .before .before .before .before .before .before .group .ensures) (c .before .before .before .before .before .before .before .before .before .before .before .before .before .before .before .before .before .before .before .before .before .before .before .before .before .told .ensures) (c .before .before .before .before .before .before .before .before .before .before .before .before .before .before .before .before .before .before .before .before .before .before .before .s1 .given .1)) (then-done (plain (c .before .before .before .before .before .before .before .before .before .before .before .before .before .before .before .before .before .before .before .ty-var-seq .ensures)) (c .before .before .before .before .before .before .before .before .before .before .before .before .before .before .before .before .told2 .ensures) (c .before .before .before .before .before .before .before .before .before .before .before .before .before .before .s2 .given .1) (then-done (plain (c .before .before .before .before .before .before .before .before .before .before .text-of .ensures)) (c .before .before .before .before .before .before .before .told3 .ensures) (c .before .before .before .before .before .s3 .given .1) (maybe-past (c .before .before .before .absent .ensures) (c .before .s4 .given .1)))) }
 
 enum-told-4 : tie.Need-enum-told-4
 enum-told-4 c = search needs
@@ -84,18 +92,21 @@ enum-told-4 c = search needs
 group-requires-2 : tie.Need-group-requires-2
 group-requires-2 c κs = search needs
 
-enum-known-r5 : tie.Need-enum-known-r5
-enum-known-r5 c = search needs
+told-requires-4 : tie.Need-told-requires-4
+told-requires-4 c κs = search needs
+
+enum-known-s5 : tie.Need-enum-known-s5
+enum-known-s5 c = search needs
 
 enum-told-5 : tie.Need-enum-told-5
 enum-told-5 c = search needs
 
 same-length-4 : tie.Need-same-length-4
-same-length-4 c = c .before .before .before .before .before .before .before .before .before .before .before .text-of .kept .1 .1 .1 .1 .0 ∙ c .before .before .before .before .before .before .before .before .before .before .before .before .before .before .before .before .before .before .ty-var-seq .kept .1 .1 .1 .1 .0
+same-length-4 c = c .before .before .before .before .before .before .before .before .before .before .before .before .before .text-of .kept .1 .1 .1 .1 .1 .0 ∙ c .before .before .before .before .before .before .before .before .before .before .before .before .before .before .before .before .before .before .before .before .before .before .ty-var-seq .kept .1 .1 .1 .1 .1 .0
 
 returns-5 : tie.Need-returns-5
 unfolding DecOne.ty-bind
-returns-5 c = record { is = λ kinds m. by-same (group-is (c .before .before .before .before .before .before .before .before .before .before .before .before .before .before .before .before .before .before .before .before .before .before .before .group .ensures) (c .before .before .before .before .before .before .before .before .before .before .before .before .before .before .before .before .before .before .before .before .before .r1 .given .1)) (then-done (plain (c .before .before .before .before .before .before .before .before .before .before .before .before .before .before .before .before .before .before .ty-var-seq .ensures)) (c .before .before .before .before .before .before .before .before .before .before .before .before .before .before .r2 .given .1) (then-done (plain (c .before .before .before .before .before .before .before .before .before .before .before .text-of .ensures)) (c .before .before .before .before .before .before .before .r3 .given .1) (by-same (maybe-there (c .before .before .before .before .before .absent .ensures) (c .before .before .before .enum-told4 .given .1)) (group-not (c .before .before .group2 .ensures) (c .enum-told5 .given .1))))) }
+returns-5 c = record { is = λ kinds. by-same (group-is (c .before .before .before .before .before .before .before .before .before .before .before .before .before .before .before .before .before .before .before .before .before .before .before .before .before .before .before .before .before .group .ensures) (c .before .before .before .before .before .before .before .before .before .before .before .before .before .before .before .before .before .before .before .before .before .before .before .before .before .before .before .before .told .ensures) (c .before .before .before .before .before .before .before .before .before .before .before .before .before .before .before .before .before .before .before .before .before .before .before .before .before .before .s1 .given .1)) (then-done (plain (c .before .before .before .before .before .before .before .before .before .before .before .before .before .before .before .before .before .before .before .before .before .before .ty-var-seq .ensures)) (c .before .before .before .before .before .before .before .before .before .before .before .before .before .before .before .before .before .before .before .told2 .ensures) (c .before .before .before .before .before .before .before .before .before .before .before .before .before .before .before .before .before .s2 .given .1) (then-done (plain (c .before .before .before .before .before .before .before .before .before .before .before .before .before .text-of .ensures)) (c .before .before .before .before .before .before .before .before .before .before .told3 .ensures) (c .before .before .before .before .before .before .before .before .s3 .given .1) (by-same (maybe-there (c .before .before .before .before .before .before .absent .ensures) (c .before .before .before .before .enum-told4 .given .1)) (group-not (c .before .before .before .group2 .ensures) (c .before .before .told4 .ensures) (c .enum-told5 .given .1))))) }
 
 word-requires : tie.Need-word-requires
 word-requires c κs = search needs
@@ -104,27 +115,30 @@ get-ty-requires : tie.Need-get-ty-requires
 get-ty-requires c κs = search needs
 
 same-length-5 : tie.Need-same-length-5
-same-length-5 c = c .before .before .get-ty .kept .1 .1 .1 .1 .0 ∙ c .before .before .before .before .before .before .word .kept .1 .0 ∙ c .before .before .before .before .before .before .before .before .before .before .before .before .before .before .before .before .before .before .before .before .text-of .kept .1 .1 .1 .1 .0 ∙ c .before .before .before .before .before .before .before .before .before .before .before .before .before .before .before .before .before .before .before .before .before .before .before .before .before .before .before .ty-var-seq .kept .1 .1 .1 .1 .0
+same-length-5 c = c .before .before .get-ty .kept .1 .1 .1 .1 .1 .0 ∙ c .before .before .before .before .before .before .before .word .kept .1 .1 .0 ∙ c .before .before .before .before .before .before .before .before .before .before .before .before .before .before .before .before .before .before .before .before .before .before .before .before .text-of .kept .1 .1 .1 .1 .1 .0 ∙ c .before .before .before .before .before .before .before .before .before .before .before .before .before .before .before .before .before .before .before .before .before .before .before .before .before .before .before .before .before .before .before .before .before .ty-var-seq .kept .1 .1 .1 .1 .1 .0
 
 returns-6 : tie.Need-returns-6
 unfolding DecOne.ty-bind
-returns-6 c = record { is = λ kinds m. by-same (group-is (c .before .before .before .before .before .before .before .before .before .before .before .before .before .before .before .before .before .before .before .before .before .before .before .before .before .before .before .before .before .before .before .before .group .ensures) (c .before .before .before .before .before .before .before .before .before .before .before .before .before .before .before .before .before .before .before .before .before .before .before .before .before .before .before .before .before .before .r1 .given .1)) (then-done (plain (c .before .before .before .before .before .before .before .before .before .before .before .before .before .before .before .before .before .before .before .before .before .before .before .before .before .before .before .ty-var-seq .ensures)) (c .before .before .before .before .before .before .before .before .before .before .before .before .before .before .before .before .before .before .before .before .before .before .before .r2 .given .1) (then-done (plain (c .before .before .before .before .before .before .before .before .before .before .before .before .before .before .before .before .before .before .before .before .text-of .ensures)) (c .before .before .before .before .before .before .before .before .before .before .before .before .before .before .before .before .r3 .given .1) (by-same (maybe-there (c .before .before .before .before .before .before .before .before .before .before .before .before .before .before .absent .ensures) (c .before .before .before .before .before .before .before .before .before .before .before .before .enum-told4 .given .1)) (by-same (group-is (c .before .before .before .before .before .before .before .before .before .before .before .group2 .ensures) (c .before .before .before .before .before .before .before .before .before .r5 .given .1)) (then-sure (c .before .before .before .before .before .before .word .ensures) (plain (c .before .before .get-ty .ensures))))))) }
+returns-6 c = record { is = λ kinds. by-same (group-is (c .before .before .before .before .before .before .before .before .before .before .before .before .before .before .before .before .before .before .before .before .before .before .before .before .before .before .before .before .before .before .before .before .before .before .before .before .before .before .before .before .group .ensures) (c .before .before .before .before .before .before .before .before .before .before .before .before .before .before .before .before .before .before .before .before .before .before .before .before .before .before .before .before .before .before .before .before .before .before .before .before .before .before .before .told .ensures) (c .before .before .before .before .before .before .before .before .before .before .before .before .before .before .before .before .before .before .before .before .before .before .before .before .before .before .before .before .before .before .before .before .before .before .before .before .before .s1 .given .1)) (then-done (plain (c .before .before .before .before .before .before .before .before .before .before .before .before .before .before .before .before .before .before .before .before .before .before .before .before .before .before .before .before .before .before .before .before .before .ty-var-seq .ensures)) (c .before .before .before .before .before .before .before .before .before .before .before .before .before .before .before .before .before .before .before .before .before .before .before .before .before .before .before .before .before .before .told2 .ensures) (c .before .before .before .before .before .before .before .before .before .before .before .before .before .before .before .before .before .before .before .before .before .before .before .before .before .before .before .before .s2 .given .1) (then-done (plain (c .before .before .before .before .before .before .before .before .before .before .before .before .before .before .before .before .before .before .before .before .before .before .before .before .text-of .ensures)) (c .before .before .before .before .before .before .before .before .before .before .before .before .before .before .before .before .before .before .before .before .before .told3 .ensures) (c .before .before .before .before .before .before .before .before .before .before .before .before .before .before .before .before .before .before .before .s3 .given .1) (by-same (maybe-there (c .before .before .before .before .before .before .before .before .before .before .before .before .before .before .before .before .before .absent .ensures) (c .before .before .before .before .before .before .before .before .before .before .before .before .before .before .before .enum-told4 .given .1)) (by-same (group-is (c .before .before .before .before .before .before .before .before .before .before .before .before .before .before .group2 .ensures) (c .before .before .before .before .before .before .before .before .before .before .before .before .before .told4 .ensures) (c .before .before .before .before .before .before .before .before .before .before .before .s5 .given .1)) (then-sure (c .before .before .before .before .before .before .before .word .ensures) (plain (c .before .before .get-ty .ensures))))))) }
 
 pub ty-bind-spec : {M : Type 1} → statement M
 ty-bind-spec =
     tie.close
     (tie.spec
     group-requires
-    enum-known-r1
+    told-requires
+    enum-known-s1
     enum-told
     returns
     ty-var-seq-requires
-    enum-known-r2
+    told-requires-2
+    enum-known-s2
     enum-told-2
     same-length
     returns-2
     text-of-requires
-    enum-known-r3
+    told-requires-3
+    enum-known-s3
     enum-told-3
     same-length-2
     returns-3
@@ -134,7 +148,8 @@ ty-bind-spec =
     returns-4
     enum-told-4
     group-requires-2
-    enum-known-r5
+    told-requires-4
+    enum-known-s5
     enum-told-5
     same-length-4
     returns-5

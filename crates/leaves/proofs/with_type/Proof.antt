@@ -13,10 +13,9 @@ use Rattle.layout.specs.State.{cfgOf}
 use Rattle.layout.specs.Exp as Exp
 use Rattle.layout.specs.GetDec as GetDec
 use Rattle.layout.specs.DecOne as DecOne
-use Rattle.layout.proofs.Steps.{PlainTurn, from, plain, by-same, first-same, then-done, then-stop, then-sure, last-sure, then-both, last-skip, skip-same, list-is, list-not, choice-is, choice-not, group-is, group-not, maybe-past, maybe-there, items-all, from-more, from-none, times-all, times-more, times-none, regroup, present-there, present-gone, present-not, operated-pipe, operated-gap, sure-then}
+use Rattle.layout.proofs.Steps.{PlainTurn, from, plain, by-same, first-same, then-done, then-stop, then-halt, then-sure, last-sure, then-both, last-skip, skip-same, list-is, list-not, choice-is, choice-not, group-is, group-not, maybe-past, maybe-there, items-all, from-more, from-none, times-all, times-more, times-none, regroup, present-there, present-gone, present-not, operated-pipe, operated-gap, sure-then}
 use Rattle.layout.proofs.Knot.{past, beyond, at-key}
 use Rattle.leaves.proofs.Laws.{con-over, con-under}
-use borrow.Author.Needs.{needs}
 use Rattle.leaves.proofs.with_type.Statement.{statement}
 use Rattle.leaves.proofs.with_type.Tie as tie
 
@@ -28,7 +27,7 @@ enum-known-s0 c = search needs
 
 returns : tie.Need-returns
 unfolding DecOne.with-type
-returns c = record { is = λ kinds m. maybe-past (c .before .before .before .absent .ensures) (c .before .s0 .given .1) }
+returns c = record { is = λ kinds. maybe-past (c .before .before .before .absent .ensures) (c .before .s0 .given .1) }
 
 enum-told : tie.Need-enum-told
 enum-told c = search needs
@@ -36,15 +35,18 @@ enum-told c = search needs
 group-requires : tie.Need-group-requires
 group-requires c κs = search needs
 
-enum-known-r1 : tie.Need-enum-known-r1
-enum-known-r1 c = search needs
+told-requires : tie.Need-told-requires
+told-requires c κs = search needs
+
+enum-known-s1 : tie.Need-enum-known-s1
+enum-known-s1 c = search needs
 
 enum-told-2 : tie.Need-enum-told-2
 enum-told-2 c = search needs
 
 returns-2 : tie.Need-returns-2
 unfolding DecOne.with-type
-returns-2 c = record { is = λ kinds m. by-same (maybe-there (c .before .before .before .before .before .absent .ensures) (c .before .before .before .enum-told .given .1)) (group-not (c .before .before .group .ensures) (c .enum-told2 .given .1)) }
+returns-2 c = record { is = λ kinds. by-same (maybe-there (c .before .before .before .before .before .before .absent .ensures) (c .before .before .before .before .enum-told .given .1)) (group-not (c .before .before .before .group .ensures) (c .before .before .told .ensures) (c .enum-told2 .given .1)) }
 
 line-requires : tie.Need-line-requires
 line-requires c κs = search needs
@@ -56,11 +58,11 @@ ty-binds-requires : tie.Need-ty-binds-requires
 ty-binds-requires c κs = search needs
 
 same-length : tie.Need-same-length
-same-length c = c .before .before .ty-binds .kept .1 .1 .1 .1 .0 ∙ c .before .before .before .before .before .before .word .kept .1 .0 ∙ c .before .before .before .before .before .before .before .before .before .before .line .kept .1 .0
+same-length c = c .before .before .ty-binds .kept .1 .1 .1 .1 .1 .0 ∙ c .before .before .before .before .before .before .before .word .kept .1 .1 .0 ∙ c .before .before .before .before .before .before .before .before .before .before .before .before .line .kept .1 .1 .0
 
 returns-3 : tie.Need-returns-3
 unfolding DecOne.with-type
-returns-3 c = record { is = λ kinds m. by-same (maybe-there (c .before .before .before .before .before .before .before .before .before .before .before .before .before .before .before .before .before .before .absent .ensures) (c .before .before .before .before .before .before .before .before .before .before .before .before .before .before .before .before .enum-told .given .1)) (by-same (group-is (c .before .before .before .before .before .before .before .before .before .before .before .before .before .before .before .group .ensures) (c .before .before .before .before .before .before .before .before .before .before .before .before .before .r1 .given .1)) (then-both (c .before .before .before .before .before .before .before .before .before .before .line .ensures) (then-sure (c .before .before .before .before .before .before .word .ensures) (plain (c .before .before .ty-binds .ensures))))) }
+returns-3 c = record { is = λ kinds. by-same (maybe-there (c .before .before .before .before .before .before .before .before .before .before .before .before .before .before .before .before .before .before .before .before .before .before .absent .ensures) (c .before .before .before .before .before .before .before .before .before .before .before .before .before .before .before .before .before .before .before .before .enum-told .given .1)) (by-same (group-is (c .before .before .before .before .before .before .before .before .before .before .before .before .before .before .before .before .before .before .before .group .ensures) (c .before .before .before .before .before .before .before .before .before .before .before .before .before .before .before .before .before .before .told .ensures) (c .before .before .before .before .before .before .before .before .before .before .before .before .before .before .before .before .s1 .given .1)) (then-both (c .before .before .before .before .before .before .before .before .before .before .before .before .line .ensures) (then-sure (c .before .before .before .before .before .before .before .word .ensures) (plain (c .before .before .ty-binds .ensures))))) }
 
 pub with-type-spec : {M : Type 1} → statement M
 with-type-spec =
@@ -71,7 +73,8 @@ with-type-spec =
     returns
     enum-told
     group-requires
-    enum-known-r1
+    told-requires
+    enum-known-s1
     enum-told-2
     returns-2
     line-requires

@@ -11,7 +11,7 @@ same-length : tie.Need-same-length
 same-length c = search needs
 
 returns : tie.Need-returns
-returns c = sure-when (c .before .before .before .before .if1 .taken) (c .before .before .word .ensures)
+returns c = sure-when (c .before .before .before .before .before .if1 .taken) (c .before .before .word .ensures)
 
 returns-2 : tie.Need-returns-2
 returns-2 c = sure-unless _ (c .if1 .left)

@@ -9,7 +9,7 @@ use Rattle.layout.specs.Layout as Layout
 use Rattle.layout.specs.Helpers as Helpers
 use Rattle.layout.specs.Walk.{walks}
 use Rattle.layout.specs.Pat as Pat
-use Rattle.layout.proofs.Steps.{PlainTurn, from, plain, by-same, first-same, then-done, then-stop, then-sure, last-sure, last-skip, list-is, list-not, choice-is, choice-not, form-is, form-not, group-is, group-not, maybe-past, maybe-there, items-all, from-more, from-none, regroup}
+use Rattle.layout.proofs.Steps.{PlainTurn, from, plain, by-same, first-same, then-done, then-stop, then-halt, then-sure, last-sure, last-skip, list-is, list-not, choice-is, choice-not, form-is, form-not, group-is, group-not, maybe-past, maybe-there, items-all, from-more, from-none, regroup}
 use Rattle.layout.proofs.Knot.{past, beyond, form-key, pat-zero, pat-form, at-key}
 use Prim.Native.Nat.{ℕ, _<_}
 use borrow.Fn.Kinds.{In}
@@ -86,6 +86,7 @@ use Rattle.layout.proofs.fields.stop.Reads as stop-reads
 use Rattle.layout.proofs.helpers.between.Reads as between-reads
 use Rattle.layout.proofs.helpers.op_path.Reads as op-path-reads
 use Rattle.layout.proofs.helpers.text_of.Reads as text-of-reads
+use Rattle.layout.proofs.told.Reads as told-reads
 use Rattle.layout.proofs.word.Reads as word-reads
 use Rattle.types.proofs.get_ty.Reads as get-ty-reads
 use Rattle.types.proofs.ty_annotation.Reads as ty-annotation-reads
@@ -96,246 +97,265 @@ use Rattle.patterns.proofs.+as_pat+as_tail+as_tail_there+con_arg+con_ar
   close,
 }
 
-abbrev μ-as-pat : Measures 5 as-pat-kinds.ps ℕ
-μ-as-pat κs a = 16 * a .1 .1 .1 .1 .1 .1 .0 .left + 1
+abbrev μ-as-pat : Measures 6 as-pat-kinds.ps ℕ
+μ-as-pat κs a = 16 * a .1 .1 .1 .1 .1 .1 .1 .1 .0 .left + 1
 
-abbrev μ-as-tail : Measures 5 as-tail-kinds.ps ℕ
-μ-as-tail κs a = 16 * a .1 .1 .1 .1 .1 .1 .0 .left + 2
+abbrev μ-as-tail : Measures 6 as-tail-kinds.ps ℕ
+μ-as-tail κs a = 16 * a .1 .1 .1 .1 .1 .1 .1 .1 .0 .left + 2
 
-abbrev μ-as-tail-there : Measures 5 as-tail-there-kinds.ps ℕ
-μ-as-tail-there κs a = 16 * a .1 .1 .1 .1 .1 .1 .0 .left + 1
+abbrev μ-as-tail-there : Measures 6 as-tail-there-kinds.ps ℕ
+μ-as-tail-there κs a = 16 * a .1 .1 .1 .1 .1 .1 .1 .1 .0 .left + 1
 
-abbrev μ-con-arg : Measures 5 con-arg-kinds.ps ℕ
-μ-con-arg κs a = 16 * a .1 .1 .1 .1 .1 .1 .0 .left + 2
+abbrev μ-con-arg : Measures 6 con-arg-kinds.ps ℕ
+μ-con-arg κs a = 16 * a .1 .1 .1 .1 .1 .1 .1 .1 .0 .left + 2
 
-abbrev μ-con-arg-there : Measures 5 con-arg-there-kinds.ps ℕ
-μ-con-arg-there κs a = 16 * a .1 .1 .1 .1 .1 .1 .0 .left + 1
+abbrev μ-con-arg-there : Measures 6 con-arg-there-kinds.ps ℕ
+μ-con-arg-there κs a = 16 * a .1 .1 .1 .1 .1 .1 .1 .1 .0 .left + 1
 
-abbrev μ-con-pat : Measures 5 con-pat-kinds.ps ℕ
-μ-con-pat κs a = 16 * a .1 .1 .1 .1 .1 .1 .0 .left + 3
+abbrev μ-con-pat : Measures 6 con-pat-kinds.ps ℕ
+μ-con-pat κs a = 16 * a .1 .1 .1 .1 .1 .1 .1 .1 .0 .left + 3
 
-abbrev μ-get-pat : Measures 5 get-pat-kinds.ps ℕ
-μ-get-pat κs a = 16 * a .1 .1 .1 .1 .1 .1 .0 .left + 0
+abbrev μ-get-pat : Measures 6 get-pat-kinds.ps ℕ
+μ-get-pat κs a = 16 * a .1 .1 .1 .1 .1 .1 .1 .1 .0 .left + 0
 
-abbrev μ-infix-pat : Measures 5 infix-pat-kinds.ps ℕ
-μ-infix-pat κs a = 16 * a .1 .1 .1 .1 .1 .1 .0 .left + 1
+abbrev μ-infix-pat : Measures 6 infix-pat-kinds.ps ℕ
+μ-infix-pat κs a = 16 * a .1 .1 .1 .1 .1 .1 .1 .1 .0 .left + 1
 
-abbrev μ-lab-and-pat : Measures 5 lab-and-pat-kinds.ps ℕ
-μ-lab-and-pat κs a = 16 * a .1 .1 .1 .1 .1 .1 .0 .left + 1
+abbrev μ-lab-and-pat : Measures 6 lab-and-pat-kinds.ps ℕ
+μ-lab-and-pat κs a = 16 * a .1 .1 .1 .1 .1 .1 .1 .1 .0 .left + 1
 
-abbrev μ-lab-pat : Measures 5 lab-pat-kinds.ps ℕ
-μ-lab-pat κs a = 16 * a .1 .1 .1 .1 .1 .1 .0 .left + 3
+abbrev μ-lab-pat : Measures 6 lab-pat-kinds.ps ℕ
+μ-lab-pat κs a = 16 * a .1 .1 .1 .1 .1 .1 .1 .1 .0 .left + 3
 
-abbrev μ-list-pat : Measures 5 list-pat-kinds.ps ℕ
-μ-list-pat κs a = 16 * a .1 .1 .1 .1 .1 .1 .0 .left + 2
+abbrev μ-list-pat : Measures 6 list-pat-kinds.ps ℕ
+μ-list-pat κs a = 16 * a .1 .1 .1 .1 .1 .1 .1 .1 .0 .left + 2
 
-abbrev μ-or-pat : Measures 5 or-pat-kinds.ps ℕ
-μ-or-pat κs a = 16 * a .1 .1 .1 .1 .1 .1 .0 .left + 1
+abbrev μ-or-pat : Measures 6 or-pat-kinds.ps ℕ
+μ-or-pat κs a = 16 * a .1 .1 .1 .1 .1 .1 .1 .1 .0 .left + 1
 
-abbrev μ-paren-pat : Measures 5 paren-pat-kinds.ps ℕ
-μ-paren-pat κs a = 16 * a .1 .1 .1 .1 .1 .1 .0 .left + 1
+abbrev μ-paren-pat : Measures 6 paren-pat-kinds.ps ℕ
+μ-paren-pat κs a = 16 * a .1 .1 .1 .1 .1 .1 .1 .1 .0 .left + 1
 
-abbrev μ-pat-args : Measures 5 pat-args-kinds.ps ℕ
-μ-pat-args κs a = 16 * a .1 .1 .1 .1 .1 .1 .0 .left + 1
+abbrev μ-pat-args : Measures 6 pat-args-kinds.ps ℕ
+μ-pat-args κs a = 16 * a .1 .1 .1 .1 .1 .1 .1 .1 .0 .left + 1
 
-abbrev μ-record-pat : Measures 5 record-pat-kinds.ps ℕ
-μ-record-pat κs a = 16 * a .1 .1 .1 .1 .1 .1 .0 .left + 7
+abbrev μ-record-pat : Measures 6 record-pat-kinds.ps ℕ
+μ-record-pat κs a = 16 * a .1 .1 .1 .1 .1 .1 .1 .1 .0 .left + 7
 
-abbrev μ-row : Measures 5 row-kinds.ps ℕ
-μ-row κs a = 16 * a .1 .1 .1 .1 .1 .1 .0 .left + 5
+abbrev μ-row : Measures 6 row-kinds.ps ℕ
+μ-row κs a = 16 * a .1 .1 .1 .1 .1 .1 .1 .1 .0 .left + 5
 
-abbrev μ-row-inner : Measures 5 row-inner-kinds.ps ℕ
-μ-row-inner κs a = 16 * a .1 .1 .1 .1 .1 .1 .0 .left + 4
+abbrev μ-row-inner : Measures 6 row-inner-kinds.ps ℕ
+μ-row-inner κs a = 16 * a .1 .1 .1 .1 .1 .1 .1 .1 .0 .left + 4
 
-abbrev μ-rows : Measures 5 rows-kinds.ps ℕ
-μ-rows κs a = 16 * a .1 .1 .1 .1 .1 .1 .0 .left + 6
+abbrev μ-rows : Measures 6 rows-kinds.ps ℕ
+μ-rows κs a = 16 * a .1 .1 .1 .1 .1 .1 .1 .1 .0 .left + 6
 
-abbrev μ-tuple-pat : Measures 5 tuple-pat-kinds.ps ℕ
-μ-tuple-pat κs a = 16 * a .1 .1 .1 .1 .1 .1 .0 .left + 2
+abbrev μ-tuple-pat : Measures 6 tuple-pat-kinds.ps ℕ
+μ-tuple-pat κs a = 16 * a .1 .1 .1 .1 .1 .1 .1 .1 .0 .left + 2
 
-abbrev μ-typed-pat : Measures 5 typed-pat-kinds.ps ℕ
-μ-typed-pat κs a = 16 * a .1 .1 .1 .1 .1 .1 .0 .left + 1
+abbrev μ-typed-pat : Measures 6 typed-pat-kinds.ps ℕ
+μ-typed-pat κs a = 16 * a .1 .1 .1 .1 .1 .1 .1 .1 .0 .left + 1
 
-abbrev μ-vector-pat : Measures 5 vector-pat-kinds.ps ℕ
-μ-vector-pat κs a = 16 * a .1 .1 .1 .1 .1 .1 .0 .left + 2
+abbrev μ-vector-pat : Measures 6 vector-pat-kinds.ps ℕ
+μ-vector-pat κs a = 16 * a .1 .1 .1 .1 .1 .1 .1 .1 .0 .left + 2
 
-abbrev as-pat-at : ℕ → In 5 as-pat-kinds.ps
-as-pat-at t = and 5 as-pat-kinds.ps (is 5 as-pat-kinds.ps μ-as-pat t) as-pat.Pre
+abbrev as-pat-at : ℕ → In 6 as-pat-kinds.ps
+as-pat-at t = and 6 as-pat-kinds.ps (is 6 as-pat-kinds.ps μ-as-pat t) as-pat.Pre
 
-abbrev as-pat-below : ℕ → In 5 as-pat-kinds.ps
-as-pat-below t = and 5 as-pat-kinds.ps (falls 5 as-pat-kinds.ps _<_ μ-as-pat t) as-pat.Pre
+abbrev as-pat-below : ℕ → In 6 as-pat-kinds.ps
+as-pat-below t = and 6 as-pat-kinds.ps (falls 6 as-pat-kinds.ps _<_ μ-as-pat t) as-pat.Pre
 
-abbrev as-tail-at : ℕ → In 5 as-tail-kinds.ps
-as-tail-at t = and 5 as-tail-kinds.ps (is 5 as-tail-kinds.ps μ-as-tail t) as-tail.Pre
+abbrev as-tail-at : ℕ → In 6 as-tail-kinds.ps
+as-tail-at t = and 6 as-tail-kinds.ps (is 6 as-tail-kinds.ps μ-as-tail t) as-tail.Pre
 
-abbrev as-tail-below : ℕ → In 5 as-tail-kinds.ps
-as-tail-below t = and 5 as-tail-kinds.ps (falls 5 as-tail-kinds.ps _<_ μ-as-tail t) as-tail.Pre
+abbrev as-tail-below : ℕ → In 6 as-tail-kinds.ps
+as-tail-below t = and 6 as-tail-kinds.ps (falls 6 as-tail-kinds.ps _<_ μ-as-tail t) as-tail.Pre
 
-abbrev as-tail-there-at : ℕ → In 5 as-tail-there-kinds.ps
+abbrev as-tail-there-at : ℕ → In 6 as-tail-there-kinds.ps
 as-tail-there-at t =
-    and 5 as-tail-there-kinds.ps (is 5 as-tail-there-kinds.ps μ-as-tail-there t) as-tail-there.Pre
+    and 6 as-tail-there-kinds.ps (is 6 as-tail-there-kinds.ps μ-as-tail-there t) as-tail-there.Pre
 
-abbrev as-tail-there-below : ℕ → In 5 as-tail-there-kinds.ps
+abbrev as-tail-there-below : ℕ → In 6 as-tail-there-kinds.ps
 as-tail-there-below t =
     and
-    5
+    6
     as-tail-there-kinds.ps
-    (falls 5 as-tail-there-kinds.ps _<_ μ-as-tail-there t)
+    (falls 6 as-tail-there-kinds.ps _<_ μ-as-tail-there t)
     as-tail-there.Pre
 
-abbrev con-arg-at : ℕ → In 5 con-arg-kinds.ps
-con-arg-at t = and 5 con-arg-kinds.ps (is 5 con-arg-kinds.ps μ-con-arg t) con-arg.Pre
+abbrev con-arg-at : ℕ → In 6 con-arg-kinds.ps
+con-arg-at t = and 6 con-arg-kinds.ps (is 6 con-arg-kinds.ps μ-con-arg t) con-arg.Pre
 
-abbrev con-arg-below : ℕ → In 5 con-arg-kinds.ps
-con-arg-below t = and 5 con-arg-kinds.ps (falls 5 con-arg-kinds.ps _<_ μ-con-arg t) con-arg.Pre
+abbrev con-arg-below : ℕ → In 6 con-arg-kinds.ps
+con-arg-below t = and 6 con-arg-kinds.ps (falls 6 con-arg-kinds.ps _<_ μ-con-arg t) con-arg.Pre
 
-abbrev con-arg-there-at : ℕ → In 5 con-arg-there-kinds.ps
+abbrev con-arg-there-at : ℕ → In 6 con-arg-there-kinds.ps
 con-arg-there-at t =
-    and 5 con-arg-there-kinds.ps (is 5 con-arg-there-kinds.ps μ-con-arg-there t) con-arg-there.Pre
+    and 6 con-arg-there-kinds.ps (is 6 con-arg-there-kinds.ps μ-con-arg-there t) con-arg-there.Pre
 
-abbrev con-arg-there-below : ℕ → In 5 con-arg-there-kinds.ps
+abbrev con-arg-there-below : ℕ → In 6 con-arg-there-kinds.ps
 con-arg-there-below t =
     and
-    5
+    6
     con-arg-there-kinds.ps
-    (falls 5 con-arg-there-kinds.ps _<_ μ-con-arg-there t)
+    (falls 6 con-arg-there-kinds.ps _<_ μ-con-arg-there t)
     con-arg-there.Pre
 
-abbrev con-pat-at : ℕ → In 5 con-pat-kinds.ps
-con-pat-at t = and 5 con-pat-kinds.ps (is 5 con-pat-kinds.ps μ-con-pat t) con-pat.Pre
+abbrev con-pat-at : ℕ → In 6 con-pat-kinds.ps
+con-pat-at t = and 6 con-pat-kinds.ps (is 6 con-pat-kinds.ps μ-con-pat t) con-pat.Pre
 
-abbrev con-pat-below : ℕ → In 5 con-pat-kinds.ps
-con-pat-below t = and 5 con-pat-kinds.ps (falls 5 con-pat-kinds.ps _<_ μ-con-pat t) con-pat.Pre
+abbrev con-pat-below : ℕ → In 6 con-pat-kinds.ps
+con-pat-below t = and 6 con-pat-kinds.ps (falls 6 con-pat-kinds.ps _<_ μ-con-pat t) con-pat.Pre
 
-abbrev get-pat-at : ℕ → In 5 get-pat-kinds.ps
-get-pat-at t = and 5 get-pat-kinds.ps (is 5 get-pat-kinds.ps μ-get-pat t) get-pat.Pre
+abbrev get-pat-at : ℕ → In 6 get-pat-kinds.ps
+get-pat-at t = and 6 get-pat-kinds.ps (is 6 get-pat-kinds.ps μ-get-pat t) get-pat.Pre
 
-abbrev get-pat-below : ℕ → In 5 get-pat-kinds.ps
-get-pat-below t = and 5 get-pat-kinds.ps (falls 5 get-pat-kinds.ps _<_ μ-get-pat t) get-pat.Pre
+abbrev get-pat-below : ℕ → In 6 get-pat-kinds.ps
+get-pat-below t = and 6 get-pat-kinds.ps (falls 6 get-pat-kinds.ps _<_ μ-get-pat t) get-pat.Pre
 
-abbrev infix-pat-at : ℕ → In 5 infix-pat-kinds.ps
-infix-pat-at t = and 5 infix-pat-kinds.ps (is 5 infix-pat-kinds.ps μ-infix-pat t) infix-pat.Pre
+abbrev infix-pat-at : ℕ → In 6 infix-pat-kinds.ps
+infix-pat-at t = and 6 infix-pat-kinds.ps (is 6 infix-pat-kinds.ps μ-infix-pat t) infix-pat.Pre
 
-abbrev infix-pat-below : ℕ → In 5 infix-pat-kinds.ps
+abbrev infix-pat-below : ℕ → In 6 infix-pat-kinds.ps
 infix-pat-below t =
-    and 5 infix-pat-kinds.ps (falls 5 infix-pat-kinds.ps _<_ μ-infix-pat t) infix-pat.Pre
+    and 6 infix-pat-kinds.ps (falls 6 infix-pat-kinds.ps _<_ μ-infix-pat t) infix-pat.Pre
 
-abbrev lab-and-pat-at : ℕ → In 5 lab-and-pat-kinds.ps
+abbrev lab-and-pat-at : ℕ → In 6 lab-and-pat-kinds.ps
 lab-and-pat-at t =
-    and 5 lab-and-pat-kinds.ps (is 5 lab-and-pat-kinds.ps μ-lab-and-pat t) lab-and-pat.Pre
+    and 6 lab-and-pat-kinds.ps (is 6 lab-and-pat-kinds.ps μ-lab-and-pat t) lab-and-pat.Pre
 
-abbrev lab-and-pat-below : ℕ → In 5 lab-and-pat-kinds.ps
+abbrev lab-and-pat-below : ℕ → In 6 lab-and-pat-kinds.ps
 lab-and-pat-below t =
-    and 5 lab-and-pat-kinds.ps (falls 5 lab-and-pat-kinds.ps _<_ μ-lab-and-pat t) lab-and-pat.Pre
+    and 6 lab-and-pat-kinds.ps (falls 6 lab-and-pat-kinds.ps _<_ μ-lab-and-pat t) lab-and-pat.Pre
 
-abbrev lab-pat-at : ℕ → In 5 lab-pat-kinds.ps
-lab-pat-at t = and 5 lab-pat-kinds.ps (is 5 lab-pat-kinds.ps μ-lab-pat t) lab-pat.Pre
+abbrev lab-pat-at : ℕ → In 6 lab-pat-kinds.ps
+lab-pat-at t = and 6 lab-pat-kinds.ps (is 6 lab-pat-kinds.ps μ-lab-pat t) lab-pat.Pre
 
-abbrev lab-pat-below : ℕ → In 5 lab-pat-kinds.ps
-lab-pat-below t = and 5 lab-pat-kinds.ps (falls 5 lab-pat-kinds.ps _<_ μ-lab-pat t) lab-pat.Pre
+abbrev lab-pat-below : ℕ → In 6 lab-pat-kinds.ps
+lab-pat-below t = and 6 lab-pat-kinds.ps (falls 6 lab-pat-kinds.ps _<_ μ-lab-pat t) lab-pat.Pre
 
-abbrev list-pat-at : ℕ → In 5 list-pat-kinds.ps
-list-pat-at t = and 5 list-pat-kinds.ps (is 5 list-pat-kinds.ps μ-list-pat t) list-pat.Pre
+abbrev list-pat-at : ℕ → In 6 list-pat-kinds.ps
+list-pat-at t = and 6 list-pat-kinds.ps (is 6 list-pat-kinds.ps μ-list-pat t) list-pat.Pre
 
-abbrev list-pat-below : ℕ → In 5 list-pat-kinds.ps
+abbrev list-pat-below : ℕ → In 6 list-pat-kinds.ps
 list-pat-below t =
-    and 5 list-pat-kinds.ps (falls 5 list-pat-kinds.ps _<_ μ-list-pat t) list-pat.Pre
+    and 6 list-pat-kinds.ps (falls 6 list-pat-kinds.ps _<_ μ-list-pat t) list-pat.Pre
 
-abbrev or-pat-at : ℕ → In 5 or-pat-kinds.ps
-or-pat-at t = and 5 or-pat-kinds.ps (is 5 or-pat-kinds.ps μ-or-pat t) or-pat.Pre
+abbrev or-pat-at : ℕ → In 6 or-pat-kinds.ps
+or-pat-at t = and 6 or-pat-kinds.ps (is 6 or-pat-kinds.ps μ-or-pat t) or-pat.Pre
 
-abbrev or-pat-below : ℕ → In 5 or-pat-kinds.ps
-or-pat-below t = and 5 or-pat-kinds.ps (falls 5 or-pat-kinds.ps _<_ μ-or-pat t) or-pat.Pre
+abbrev or-pat-below : ℕ → In 6 or-pat-kinds.ps
+or-pat-below t = and 6 or-pat-kinds.ps (falls 6 or-pat-kinds.ps _<_ μ-or-pat t) or-pat.Pre
 
-abbrev paren-pat-at : ℕ → In 5 paren-pat-kinds.ps
-paren-pat-at t = and 5 paren-pat-kinds.ps (is 5 paren-pat-kinds.ps μ-paren-pat t) paren-pat.Pre
+abbrev paren-pat-at : ℕ → In 6 paren-pat-kinds.ps
+paren-pat-at t = and 6 paren-pat-kinds.ps (is 6 paren-pat-kinds.ps μ-paren-pat t) paren-pat.Pre
 
-abbrev paren-pat-below : ℕ → In 5 paren-pat-kinds.ps
+abbrev paren-pat-below : ℕ → In 6 paren-pat-kinds.ps
 paren-pat-below t =
-    and 5 paren-pat-kinds.ps (falls 5 paren-pat-kinds.ps _<_ μ-paren-pat t) paren-pat.Pre
+    and 6 paren-pat-kinds.ps (falls 6 paren-pat-kinds.ps _<_ μ-paren-pat t) paren-pat.Pre
 
-abbrev pat-args-at : ℕ → In 5 pat-args-kinds.ps
-pat-args-at t = and 5 pat-args-kinds.ps (is 5 pat-args-kinds.ps μ-pat-args t) pat-args.Pre
+abbrev pat-args-at : ℕ → In 6 pat-args-kinds.ps
+pat-args-at t = and 6 pat-args-kinds.ps (is 6 pat-args-kinds.ps μ-pat-args t) pat-args.Pre
 
-abbrev pat-args-below : ℕ → In 5 pat-args-kinds.ps
+abbrev pat-args-below : ℕ → In 6 pat-args-kinds.ps
 pat-args-below t =
-    and 5 pat-args-kinds.ps (falls 5 pat-args-kinds.ps _<_ μ-pat-args t) pat-args.Pre
+    and 6 pat-args-kinds.ps (falls 6 pat-args-kinds.ps _<_ μ-pat-args t) pat-args.Pre
 
-abbrev record-pat-at : ℕ → In 5 record-pat-kinds.ps
+abbrev record-pat-at : ℕ → In 6 record-pat-kinds.ps
 record-pat-at t =
-    and 5 record-pat-kinds.ps (is 5 record-pat-kinds.ps μ-record-pat t) record-pat.Pre
+    and 6 record-pat-kinds.ps (is 6 record-pat-kinds.ps μ-record-pat t) record-pat.Pre
 
-abbrev record-pat-below : ℕ → In 5 record-pat-kinds.ps
+abbrev record-pat-below : ℕ → In 6 record-pat-kinds.ps
 record-pat-below t =
-    and 5 record-pat-kinds.ps (falls 5 record-pat-kinds.ps _<_ μ-record-pat t) record-pat.Pre
+    and 6 record-pat-kinds.ps (falls 6 record-pat-kinds.ps _<_ μ-record-pat t) record-pat.Pre
 
-abbrev row-at : ℕ → In 5 row-kinds.ps
-row-at t = and 5 row-kinds.ps (is 5 row-kinds.ps μ-row t) row.Pre
+abbrev row-at : ℕ → In 6 row-kinds.ps
+row-at t = and 6 row-kinds.ps (is 6 row-kinds.ps μ-row t) row.Pre
 
-abbrev row-below : ℕ → In 5 row-kinds.ps
-row-below t = and 5 row-kinds.ps (falls 5 row-kinds.ps _<_ μ-row t) row.Pre
+abbrev row-below : ℕ → In 6 row-kinds.ps
+row-below t = and 6 row-kinds.ps (falls 6 row-kinds.ps _<_ μ-row t) row.Pre
 
-abbrev row-inner-at : ℕ → In 5 row-inner-kinds.ps
-row-inner-at t = and 5 row-inner-kinds.ps (is 5 row-inner-kinds.ps μ-row-inner t) row-inner.Pre
+abbrev row-inner-at : ℕ → In 6 row-inner-kinds.ps
+row-inner-at t = and 6 row-inner-kinds.ps (is 6 row-inner-kinds.ps μ-row-inner t) row-inner.Pre
 
-abbrev row-inner-below : ℕ → In 5 row-inner-kinds.ps
+abbrev row-inner-below : ℕ → In 6 row-inner-kinds.ps
 row-inner-below t =
-    and 5 row-inner-kinds.ps (falls 5 row-inner-kinds.ps _<_ μ-row-inner t) row-inner.Pre
+    and 6 row-inner-kinds.ps (falls 6 row-inner-kinds.ps _<_ μ-row-inner t) row-inner.Pre
 
-abbrev rows-at : ℕ → In 5 rows-kinds.ps
-rows-at t = and 5 rows-kinds.ps (is 5 rows-kinds.ps μ-rows t) rows.Pre
+abbrev rows-at : ℕ → In 6 rows-kinds.ps
+rows-at t = and 6 rows-kinds.ps (is 6 rows-kinds.ps μ-rows t) rows.Pre
 
-abbrev rows-below : ℕ → In 5 rows-kinds.ps
-rows-below t = and 5 rows-kinds.ps (falls 5 rows-kinds.ps _<_ μ-rows t) rows.Pre
+abbrev rows-below : ℕ → In 6 rows-kinds.ps
+rows-below t = and 6 rows-kinds.ps (falls 6 rows-kinds.ps _<_ μ-rows t) rows.Pre
 
-abbrev tuple-pat-at : ℕ → In 5 tuple-pat-kinds.ps
-tuple-pat-at t = and 5 tuple-pat-kinds.ps (is 5 tuple-pat-kinds.ps μ-tuple-pat t) tuple-pat.Pre
+abbrev tuple-pat-at : ℕ → In 6 tuple-pat-kinds.ps
+tuple-pat-at t = and 6 tuple-pat-kinds.ps (is 6 tuple-pat-kinds.ps μ-tuple-pat t) tuple-pat.Pre
 
-abbrev tuple-pat-below : ℕ → In 5 tuple-pat-kinds.ps
+abbrev tuple-pat-below : ℕ → In 6 tuple-pat-kinds.ps
 tuple-pat-below t =
-    and 5 tuple-pat-kinds.ps (falls 5 tuple-pat-kinds.ps _<_ μ-tuple-pat t) tuple-pat.Pre
+    and 6 tuple-pat-kinds.ps (falls 6 tuple-pat-kinds.ps _<_ μ-tuple-pat t) tuple-pat.Pre
 
-abbrev typed-pat-at : ℕ → In 5 typed-pat-kinds.ps
-typed-pat-at t = and 5 typed-pat-kinds.ps (is 5 typed-pat-kinds.ps μ-typed-pat t) typed-pat.Pre
+abbrev typed-pat-at : ℕ → In 6 typed-pat-kinds.ps
+typed-pat-at t = and 6 typed-pat-kinds.ps (is 6 typed-pat-kinds.ps μ-typed-pat t) typed-pat.Pre
 
-abbrev typed-pat-below : ℕ → In 5 typed-pat-kinds.ps
+abbrev typed-pat-below : ℕ → In 6 typed-pat-kinds.ps
 typed-pat-below t =
-    and 5 typed-pat-kinds.ps (falls 5 typed-pat-kinds.ps _<_ μ-typed-pat t) typed-pat.Pre
+    and 6 typed-pat-kinds.ps (falls 6 typed-pat-kinds.ps _<_ μ-typed-pat t) typed-pat.Pre
 
-abbrev vector-pat-at : ℕ → In 5 vector-pat-kinds.ps
+abbrev vector-pat-at : ℕ → In 6 vector-pat-kinds.ps
 vector-pat-at t =
-    and 5 vector-pat-kinds.ps (is 5 vector-pat-kinds.ps μ-vector-pat t) vector-pat.Pre
+    and 6 vector-pat-kinds.ps (is 6 vector-pat-kinds.ps μ-vector-pat t) vector-pat.Pre
 
-abbrev vector-pat-below : ℕ → In 5 vector-pat-kinds.ps
+abbrev vector-pat-below : ℕ → In 6 vector-pat-kinds.ps
 vector-pat-below t =
-    and 5 vector-pat-kinds.ps (falls 5 vector-pat-kinds.ps _<_ μ-vector-pat t) vector-pat.Pre
+    and 6 vector-pat-kinds.ps (falls 6 vector-pat-kinds.ps _<_ μ-vector-pat t) vector-pat.Pre
 
--- src/lib.rt:429:9
+-- src/lib.rt:475:9
 as-pat-get-pat-requires : (t : ℕ) → as-pat-lts.Need-get-pat-requires (
   get-pat-below t,
   get-pat.Post,
+  told-reads.Asked,
+  told-reads.Learnt,
   word-reads.Asked,
   word-reads.Learnt,
   group-reads.Asked,
   group-reads.Learnt,
 ) (as-pat-at t) as-pat.Post
-as-pat-get-pat-requires t c κs = omega (arith, c .before .before .before .before .before .before .pre .0)
+as-pat-get-pat-requires t c κs = omega (arith, c .before .before .before .before .before .before .before .pre .0)
 
--- src/lib.rt:430:22
-as-pat-enum-known-r1 : (t : ℕ) → as-pat-lts.Need-enum-known-r1 (
+-- src/lib.rt:476:28
+as-pat-told-requires : (t : ℕ) → as-pat-lts.Need-told-requires (
   get-pat-below t,
   get-pat.Post,
+  told-reads.Asked,
+  told-reads.Learnt,
   word-reads.Asked,
   word-reads.Learnt,
   group-reads.Asked,
   group-reads.Learnt,
 ) (as-pat-at t) as-pat.Post
-as-pat-enum-known-r1 t c = search needs
+as-pat-told-requires t c κs = search needs
 
--- src/lib.rt:431:9
+-- src/lib.rt:476:22
+as-pat-enum-known-s1 : (t : ℕ) → as-pat-lts.Need-enum-known-s1 (
+  get-pat-below t,
+  get-pat.Post,
+  told-reads.Asked,
+  told-reads.Learnt,
+  word-reads.Asked,
+  word-reads.Learnt,
+  group-reads.Asked,
+  group-reads.Learnt,
+) (as-pat-at t) as-pat.Post
+as-pat-enum-known-s1 t c = search needs
+
+-- src/lib.rt:477:9
 as-pat-enum-told : (t : ℕ) → as-pat-lts.Need-enum-told (
   get-pat-below t,
   get-pat.Post,
+  told-reads.Asked,
+  told-reads.Learnt,
   word-reads.Asked,
   word-reads.Learnt,
   group-reads.Asked,
@@ -343,33 +363,39 @@ as-pat-enum-told : (t : ℕ) → as-pat-lts.Need-enum-told (
 ) (as-pat-at t) as-pat.Post
 as-pat-enum-told t c = search needs
 
--- src/lib.rt:431:9
+-- src/lib.rt:477:9
 as-pat-same-length : (t : ℕ) → as-pat-lts.Need-same-length (
   get-pat-below t,
   get-pat.Post,
+  told-reads.Asked,
+  told-reads.Learnt,
   word-reads.Asked,
   word-reads.Learnt,
   group-reads.Asked,
   group-reads.Learnt,
 ) (as-pat-at t) as-pat.Post
-as-pat-same-length t c = c .before .before .before .before .get-pat .kept .1 .1 .1 .1 .0
+as-pat-same-length t c = c .before .before .before .before .before .get-pat .kept .1 .1 .1 .1 .1 .0
 
--- src/lib.rt:431:9
+-- src/lib.rt:477:9
 as-pat-returns : (t : ℕ) → as-pat-lts.Need-returns (
   get-pat-below t,
   get-pat.Post,
+  told-reads.Asked,
+  told-reads.Learnt,
   word-reads.Asked,
   word-reads.Learnt,
   group-reads.Asked,
   group-reads.Learnt,
 ) (as-pat-at t) as-pat.Post
 unfolding Pat.pat
-as-pat-returns t c = record { is = λ kinds m. then-stop (plain (c .before .before .before .before .get-pat .ensures)) (c .enum-told .given .1) }
+as-pat-returns t c = record { is = λ kinds. then-stop (plain (c .before .before .before .before .before .get-pat .ensures)) (c .before .before .told .ensures) (c .enum-told .given .1) }
 
--- src/lib.rt:433:9
+-- src/lib.rt:479:5
 as-pat-word-requires : (t : ℕ) → as-pat-lts.Need-word-requires (
   get-pat-below t,
   get-pat.Post,
+  told-reads.Asked,
+  told-reads.Learnt,
   word-reads.Asked,
   word-reads.Learnt,
   group-reads.Asked,
@@ -377,10 +403,12 @@ as-pat-word-requires : (t : ℕ) → as-pat-lts.Need-word-requires (
 ) (as-pat-at t) as-pat.Post
 as-pat-word-requires t c κs = search needs
 
--- src/lib.rt:434:9
+-- src/lib.rt:480:9
 as-pat-group-requires : (t : ℕ) → as-pat-lts.Need-group-requires (
   get-pat-below t,
   get-pat.Post,
+  told-reads.Asked,
+  told-reads.Learnt,
   word-reads.Asked,
   word-reads.Learnt,
   group-reads.Asked,
@@ -388,21 +416,38 @@ as-pat-group-requires : (t : ℕ) → as-pat-lts.Need-group-requires (
 ) (as-pat-at t) as-pat.Post
 as-pat-group-requires t c κs = search needs
 
--- src/lib.rt:435:22
-as-pat-enum-known-r3 : (t : ℕ) → as-pat-lts.Need-enum-known-r3 (
+-- src/lib.rt:481:28
+as-pat-told-requires-2 : (t : ℕ) → as-pat-lts.Need-told-requires-2 (
   get-pat-below t,
   get-pat.Post,
+  told-reads.Asked,
+  told-reads.Learnt,
   word-reads.Asked,
   word-reads.Learnt,
   group-reads.Asked,
   group-reads.Learnt,
 ) (as-pat-at t) as-pat.Post
-as-pat-enum-known-r3 t c = search needs
+as-pat-told-requires-2 t c κs = search needs
 
--- src/lib.rt:436:9
+-- src/lib.rt:481:22
+as-pat-enum-known-s2 : (t : ℕ) → as-pat-lts.Need-enum-known-s2 (
+  get-pat-below t,
+  get-pat.Post,
+  told-reads.Asked,
+  told-reads.Learnt,
+  word-reads.Asked,
+  word-reads.Learnt,
+  group-reads.Asked,
+  group-reads.Learnt,
+) (as-pat-at t) as-pat.Post
+as-pat-enum-known-s2 t c = search needs
+
+-- src/lib.rt:482:9
 as-pat-enum-told-2 : (t : ℕ) → as-pat-lts.Need-enum-told-2 (
   get-pat-below t,
   get-pat.Post,
+  told-reads.Asked,
+  told-reads.Learnt,
   word-reads.Asked,
   word-reads.Learnt,
   group-reads.Asked,
@@ -410,64 +455,74 @@ as-pat-enum-told-2 : (t : ℕ) → as-pat-lts.Need-enum-told-2 (
 ) (as-pat-at t) as-pat.Post
 as-pat-enum-told-2 t c = search needs
 
--- src/lib.rt:436:9
+-- src/lib.rt:482:9
 as-pat-same-length-2 : (t : ℕ) → as-pat-lts.Need-same-length-2 (
   get-pat-below t,
   get-pat.Post,
+  told-reads.Asked,
+  told-reads.Learnt,
   word-reads.Asked,
   word-reads.Learnt,
   group-reads.Asked,
   group-reads.Learnt,
 ) (as-pat-at t) as-pat.Post
-as-pat-same-length-2 t c = c .before .before .before .before .before .word .kept .1 .0 ∙ c .before .before .before .before .before .before .before .before .before .before .before .before .get-pat .kept .1 .1 .1 .1 .0
+as-pat-same-length-2 t c = c .before .before .before .before .before .before .word .kept .1 .1 .0 ∙ c .before .before .before .before .before .before .before .before .before .before .before .before .before .before .before .get-pat .kept .1 .1 .1 .1 .1 .0
 
--- src/lib.rt:436:9
+-- src/lib.rt:482:9
 as-pat-returns-2 : (t : ℕ) → as-pat-lts.Need-returns-2 (
   get-pat-below t,
   get-pat.Post,
+  told-reads.Asked,
+  told-reads.Learnt,
   word-reads.Asked,
   word-reads.Learnt,
   group-reads.Asked,
   group-reads.Learnt,
 ) (as-pat-at t) as-pat.Post
 unfolding Pat.pat
-as-pat-returns-2 t c = record { is = λ kinds m. then-done (plain (c .before .before .before .before .before .before .before .before .before .before .before .before .get-pat .ensures)) (c .before .before .before .before .before .before .before .before .r1 .given .1) (then-sure (c .before .before .before .before .before .word .ensures) (group-not (c .before .before .group .ensures) (c .enum-told2 .given .1))) }
+as-pat-returns-2 t c = record { is = λ kinds. then-done (plain (c .before .before .before .before .before .before .before .before .before .before .before .before .before .before .before .get-pat .ensures)) (c .before .before .before .before .before .before .before .before .before .before .before .before .told .ensures) (c .before .before .before .before .before .before .before .before .before .before .s1 .given .1) (then-sure (c .before .before .before .before .before .before .word .ensures) (group-not (c .before .before .before .group .ensures) (c .before .before .told2 .ensures) (c .enum-told2 .given .1))) }
 
--- src/lib.rt:438:5
+-- src/lib.rt:484:5
 as-pat-get-pat-requires-2 : (t : ℕ) → as-pat-lts.Need-get-pat-requires-2 (
   get-pat-below t,
   get-pat.Post,
+  told-reads.Asked,
+  told-reads.Learnt,
   word-reads.Asked,
   word-reads.Learnt,
   group-reads.Asked,
   group-reads.Learnt,
 ) (as-pat-at t) as-pat.Post
-as-pat-get-pat-requires-2 t c κs = omega (arith, c .before .before .before .before .before .before .before .before .before .before .before .before .before .before .before .before .before .before .before .before .before .pre .0)
+as-pat-get-pat-requires-2 t c κs = omega (arith, c .before .before .before .before .before .before .before .before .before .before .before .before .before .before .before .before .before .before .before .before .before .before .before .before .before .before .pre .0)
 
--- src/lib.rt:418:1
+-- src/lib.rt:462:1
 as-pat-same-length-3 : (t : ℕ) → as-pat-lts.Need-same-length-3 (
   get-pat-below t,
   get-pat.Post,
+  told-reads.Asked,
+  told-reads.Learnt,
   word-reads.Asked,
   word-reads.Learnt,
   group-reads.Asked,
   group-reads.Learnt,
 ) (as-pat-at t) as-pat.Post
-as-pat-same-length-3 t c = c .before .before .get-pat2 .kept .1 .1 .1 .1 .0 ∙ c .before .before .before .before .before .before .before .before .before .before .word .kept .1 .0 ∙ c .before .before .before .before .before .before .before .before .before .before .before .before .before .before .before .before .before .get-pat .kept .1 .1 .1 .1 .0
+as-pat-same-length-3 t c = c .before .before .get-pat2 .kept .1 .1 .1 .1 .1 .0 ∙ c .before .before .before .before .before .before .before .before .before .before .before .before .word .kept .1 .1 .0 ∙ c .before .before .before .before .before .before .before .before .before .before .before .before .before .before .before .before .before .before .before .before .before .get-pat .kept .1 .1 .1 .1 .1 .0
 
--- src/lib.rt:418:1
+-- src/lib.rt:462:1
 as-pat-returns-3 : (t : ℕ) → as-pat-lts.Need-returns-3 (
   get-pat-below t,
   get-pat.Post,
+  told-reads.Asked,
+  told-reads.Learnt,
   word-reads.Asked,
   word-reads.Learnt,
   group-reads.Asked,
   group-reads.Learnt,
 ) (as-pat-at t) as-pat.Post
 unfolding Pat.pat
-as-pat-returns-3 t c = record { is = λ kinds m. then-done (plain (c .before .before .before .before .before .before .before .before .before .before .before .before .before .before .before .before .before .get-pat .ensures)) (c .before .before .before .before .before .before .before .before .before .before .before .before .before .r1 .given .1) (then-sure (c .before .before .before .before .before .before .before .before .before .before .word .ensures) (by-same (group-is (c .before .before .before .before .before .before .before .group .ensures) (c .before .before .before .before .before .r3 .given .1)) (plain (c .before .before .get-pat2 .ensures)))) }
+as-pat-returns-3 t c = record { is = λ kinds. then-done (plain (c .before .before .before .before .before .before .before .before .before .before .before .before .before .before .before .before .before .before .before .before .before .get-pat .ensures)) (c .before .before .before .before .before .before .before .before .before .before .before .before .before .before .before .before .before .before .told .ensures) (c .before .before .before .before .before .before .before .before .before .before .before .before .before .before .before .before .s1 .given .1) (then-sure (c .before .before .before .before .before .before .before .before .before .before .before .before .word .ensures) (by-same (group-is (c .before .before .before .before .before .before .before .before .before .group .ensures) (c .before .before .before .before .before .before .before .before .told2 .ensures) (c .before .before .before .before .before .before .s2 .given .1)) (plain (c .before .before .get-pat2 .ensures)))) }
 
--- src/lib.rt:133:9
+-- src/lib.rt:145:9
 as-tail-absent-requires : (t : ℕ) → as-tail-lts.Need-absent-requires (
   absent-reads.Asked,
   absent-reads.Learnt,
@@ -476,7 +531,7 @@ as-tail-absent-requires : (t : ℕ) → as-tail-lts.Need-absent-requires (
 ) (as-tail-at t) as-tail.Post
 as-tail-absent-requires t c κs = search needs
 
--- src/lib.rt:135:20
+-- src/lib.rt:147:20
 as-tail-enum-known-gone : (t : ℕ) → as-tail-lts.Need-enum-known-gone (
   absent-reads.Asked,
   absent-reads.Learnt,
@@ -485,7 +540,7 @@ as-tail-enum-known-gone : (t : ℕ) → as-tail-lts.Need-enum-known-gone (
 ) (as-tail-at t) as-tail.Post
 as-tail-enum-known-gone t c = search needs
 
--- src/lib.rt:136:63
+-- src/lib.rt:148:68
 as-tail-enum-told : (t : ℕ) → as-tail-lts.Need-enum-told (
   absent-reads.Asked,
   absent-reads.Learnt,
@@ -494,16 +549,16 @@ as-tail-enum-told : (t : ℕ) → as-tail-lts.Need-enum-told (
 ) (as-tail-at t) as-tail.Post
 as-tail-enum-told t c = search needs
 
--- src/lib.rt:136:24
+-- src/lib.rt:148:24
 as-tail-as-tail-there-requires : (t : ℕ) → as-tail-lts.Need-as-tail-there-requires (
   absent-reads.Asked,
   absent-reads.Learnt,
   as-tail-there-below t,
   as-tail-there.Post,
 ) (as-tail-at t) as-tail.Post
-as-tail-as-tail-there-requires t c κs = omega (arith, c .before .before .before .before .before .before .before .before .before .pre .0)
+as-tail-as-tail-there-requires t c κs = omega (arith, c .before .before .before .before .before .before .before .before .before .before .pre .0)
 
--- src/lib.rt:122:1
+-- src/lib.rt:132:1
 as-tail-returns : (t : ℕ) → as-tail-lts.Need-returns (
   absent-reads.Asked,
   absent-reads.Learnt,
@@ -511,18 +566,18 @@ as-tail-returns : (t : ℕ) → as-tail-lts.Need-returns (
   as-tail-there.Post,
 ) (as-tail-at t) as-tail.Post
 unfolding Pat.as-tail
-as-tail-returns t c = record { is = λ kinds m. maybe-past (c .before .before .before .absent .ensures) (c .before .gone .given .1) }
+as-tail-returns t c = record { is = λ kinds. maybe-past (c .before .before .before .absent .ensures) (c .before .gone .given .1) }
 
--- src/lib.rt:122:1
+-- src/lib.rt:132:1
 as-tail-same-length : (t : ℕ) → as-tail-lts.Need-same-length (
   absent-reads.Asked,
   absent-reads.Learnt,
   as-tail-there-below t,
   as-tail-there.Post,
 ) (as-tail-at t) as-tail.Post
-as-tail-same-length t c = c .before .before .as-tail-there .kept .1 .1 .1 .1 .0
+as-tail-same-length t c = c .before .before .as-tail-there .kept .1 .1 .1 .1 .1 .0
 
--- src/lib.rt:122:1
+-- src/lib.rt:132:1
 as-tail-returns-2 : (t : ℕ) → as-tail-lts.Need-returns-2 (
   absent-reads.Asked,
   absent-reads.Learnt,
@@ -530,12 +585,14 @@ as-tail-returns-2 : (t : ℕ) → as-tail-lts.Need-returns-2 (
   as-tail-there.Post,
 ) (as-tail-at t) as-tail.Post
 unfolding Pat.as-tail
-as-tail-returns-2 t c = record { is = λ kinds m. by-same (maybe-there (c .before .before .before .before .before .before .absent .ensures) (c .before .before .before .before .enum-told .given .1)) (plain (c .before .before .as-tail-there .ensures)) }
+as-tail-returns-2 t c = record { is = λ kinds. by-same (maybe-there (c .before .before .before .before .before .before .before .absent .ensures) (c .before .before .before .before .before .enum-told .given .1)) (plain (c .before .before .as-tail-there .ensures)) }
 
--- src/lib.rt:113:9
+-- src/lib.rt:123:9
 as-tail-there-group-requires : (t : ℕ) → as-tail-there-lts.Need-group-requires (
   group-reads.Asked,
   group-reads.Learnt,
+  told-reads.Asked,
+  told-reads.Learnt,
   word-reads.Asked,
   word-reads.Learnt,
   get-pat-below t,
@@ -543,21 +600,38 @@ as-tail-there-group-requires : (t : ℕ) → as-tail-there-lts.Need-group-requir
 ) (as-tail-there-at t) as-tail-there.Post
 as-tail-there-group-requires t c κs = search needs
 
--- src/lib.rt:114:22
-as-tail-there-enum-known-r1 : (t : ℕ) → as-tail-there-lts.Need-enum-known-r1 (
+-- src/lib.rt:124:28
+as-tail-there-told-requires : (t : ℕ) → as-tail-there-lts.Need-told-requires (
   group-reads.Asked,
   group-reads.Learnt,
+  told-reads.Asked,
+  told-reads.Learnt,
   word-reads.Asked,
   word-reads.Learnt,
   get-pat-below t,
   get-pat.Post,
 ) (as-tail-there-at t) as-tail-there.Post
-as-tail-there-enum-known-r1 t c = search needs
+as-tail-there-told-requires t c κs = search needs
 
--- src/lib.rt:115:9
+-- src/lib.rt:124:22
+as-tail-there-enum-known-s1 : (t : ℕ) → as-tail-there-lts.Need-enum-known-s1 (
+  group-reads.Asked,
+  group-reads.Learnt,
+  told-reads.Asked,
+  told-reads.Learnt,
+  word-reads.Asked,
+  word-reads.Learnt,
+  get-pat-below t,
+  get-pat.Post,
+) (as-tail-there-at t) as-tail-there.Post
+as-tail-there-enum-known-s1 t c = search needs
+
+-- src/lib.rt:125:9
 as-tail-there-enum-told : (t : ℕ) → as-tail-there-lts.Need-enum-told (
   group-reads.Asked,
   group-reads.Learnt,
+  told-reads.Asked,
+  told-reads.Learnt,
   word-reads.Asked,
   word-reads.Learnt,
   get-pat-below t,
@@ -565,22 +639,26 @@ as-tail-there-enum-told : (t : ℕ) → as-tail-there-lts.Need-enum-told (
 ) (as-tail-there-at t) as-tail-there.Post
 as-tail-there-enum-told t c = search needs
 
--- src/lib.rt:115:9
+-- src/lib.rt:125:9
 as-tail-there-returns : (t : ℕ) → as-tail-there-lts.Need-returns (
   group-reads.Asked,
   group-reads.Learnt,
+  told-reads.Asked,
+  told-reads.Learnt,
   word-reads.Asked,
   word-reads.Learnt,
   get-pat-below t,
   get-pat.Post,
 ) (as-tail-there-at t) as-tail-there.Post
 unfolding Pat.as-tail-there
-as-tail-there-returns t c = record { is = λ kinds m. group-not (c .before .before .group .ensures) (c .enum-told .given .1) }
+as-tail-there-returns t c = record { is = λ kinds. group-not (c .before .before .before .group .ensures) (c .before .before .told .ensures) (c .enum-told .given .1) }
 
--- src/lib.rt:117:9
+-- src/lib.rt:127:5
 as-tail-there-word-requires : (t : ℕ) → as-tail-there-lts.Need-word-requires (
   group-reads.Asked,
   group-reads.Learnt,
+  told-reads.Asked,
+  told-reads.Learnt,
   word-reads.Asked,
   word-reads.Learnt,
   get-pat-below t,
@@ -588,41 +666,47 @@ as-tail-there-word-requires : (t : ℕ) → as-tail-there-lts.Need-word-requires
 ) (as-tail-there-at t) as-tail-there.Post
 as-tail-there-word-requires t c κs = search needs
 
--- src/lib.rt:118:5
+-- src/lib.rt:128:5
 as-tail-there-get-pat-requires : (t : ℕ) → as-tail-there-lts.Need-get-pat-requires (
   group-reads.Asked,
   group-reads.Learnt,
+  told-reads.Asked,
+  told-reads.Learnt,
   word-reads.Asked,
   word-reads.Learnt,
   get-pat-below t,
   get-pat.Post,
 ) (as-tail-there-at t) as-tail-there.Post
-as-tail-there-get-pat-requires t c κs = omega (arith, c .before .before .before .before .before .before .before .before .before .before .before .before .before .before .pre .0)
+as-tail-there-get-pat-requires t c κs = omega (arith, c .before .before .before .before .before .before .before .before .before .before .before .before .before .before .before .before .before .pre .0)
 
--- src/lib.rt:102:1
+-- src/lib.rt:110:1
 as-tail-there-same-length : (t : ℕ) → as-tail-there-lts.Need-same-length (
   group-reads.Asked,
   group-reads.Learnt,
+  told-reads.Asked,
+  told-reads.Learnt,
   word-reads.Asked,
   word-reads.Learnt,
   get-pat-below t,
   get-pat.Post,
 ) (as-tail-there-at t) as-tail-there.Post
-as-tail-there-same-length t c = c .before .before .get-pat .kept .1 .1 .1 .1 .0 ∙ c .before .before .before .before .before .before .word .kept .1 .0
+as-tail-there-same-length t c = c .before .before .get-pat .kept .1 .1 .1 .1 .1 .0 ∙ c .before .before .before .before .before .before .before .word .kept .1 .1 .0
 
--- src/lib.rt:102:1
+-- src/lib.rt:110:1
 as-tail-there-returns-2 : (t : ℕ) → as-tail-there-lts.Need-returns-2 (
   group-reads.Asked,
   group-reads.Learnt,
+  told-reads.Asked,
+  told-reads.Learnt,
   word-reads.Asked,
   word-reads.Learnt,
   get-pat-below t,
   get-pat.Post,
 ) (as-tail-there-at t) as-tail-there.Post
 unfolding Pat.as-tail-there
-as-tail-there-returns-2 t c = record { is = λ kinds m. by-same (group-is (c .before .before .before .before .before .before .before .before .before .before .before .group .ensures) (c .before .before .before .before .before .before .before .before .before .r1 .given .1)) (then-sure (c .before .before .before .before .before .before .word .ensures) (plain (c .before .before .get-pat .ensures))) }
+as-tail-there-returns-2 t c = record { is = λ kinds. by-same (group-is (c .before .before .before .before .before .before .before .before .before .before .before .before .before .before .group .ensures) (c .before .before .before .before .before .before .before .before .before .before .before .before .before .told .ensures) (c .before .before .before .before .before .before .before .before .before .before .before .s1 .given .1)) (then-sure (c .before .before .before .before .before .before .before .word .ensures) (plain (c .before .before .get-pat .ensures))) }
 
--- src/lib.rt:55:9
+-- src/lib.rt:59:9
 con-arg-absent-requires : (t : ℕ) → con-arg-lts.Need-absent-requires (
   absent-reads.Asked,
   absent-reads.Learnt,
@@ -631,7 +715,7 @@ con-arg-absent-requires : (t : ℕ) → con-arg-lts.Need-absent-requires (
 ) (con-arg-at t) con-arg.Post
 con-arg-absent-requires t c κs = search needs
 
--- src/lib.rt:57:20
+-- src/lib.rt:61:20
 con-arg-enum-known-gone : (t : ℕ) → con-arg-lts.Need-enum-known-gone (
   absent-reads.Asked,
   absent-reads.Learnt,
@@ -640,7 +724,7 @@ con-arg-enum-known-gone : (t : ℕ) → con-arg-lts.Need-enum-known-gone (
 ) (con-arg-at t) con-arg.Post
 con-arg-enum-known-gone t c = search needs
 
--- src/lib.rt:58:63
+-- src/lib.rt:62:68
 con-arg-enum-told : (t : ℕ) → con-arg-lts.Need-enum-told (
   absent-reads.Asked,
   absent-reads.Learnt,
@@ -649,16 +733,16 @@ con-arg-enum-told : (t : ℕ) → con-arg-lts.Need-enum-told (
 ) (con-arg-at t) con-arg.Post
 con-arg-enum-told t c = search needs
 
--- src/lib.rt:58:24
+-- src/lib.rt:62:24
 con-arg-con-arg-there-requires : (t : ℕ) → con-arg-lts.Need-con-arg-there-requires (
   absent-reads.Asked,
   absent-reads.Learnt,
   con-arg-there-below t,
   con-arg-there.Post,
 ) (con-arg-at t) con-arg.Post
-con-arg-con-arg-there-requires t c κs = omega (arith, c .before .before .before .before .before .before .before .before .before .pre .0)
+con-arg-con-arg-there-requires t c κs = omega (arith, c .before .before .before .before .before .before .before .before .before .before .pre .0)
 
--- src/lib.rt:44:1
+-- src/lib.rt:46:1
 con-arg-returns : (t : ℕ) → con-arg-lts.Need-returns (
   absent-reads.Asked,
   absent-reads.Learnt,
@@ -666,18 +750,18 @@ con-arg-returns : (t : ℕ) → con-arg-lts.Need-returns (
   con-arg-there.Post,
 ) (con-arg-at t) con-arg.Post
 unfolding Pat.con-arg
-con-arg-returns t c = record { is = λ kinds m. maybe-past (c .before .before .before .absent .ensures) (c .before .gone .given .1) }
+con-arg-returns t c = record { is = λ kinds. maybe-past (c .before .before .before .absent .ensures) (c .before .gone .given .1) }
 
--- src/lib.rt:44:1
+-- src/lib.rt:46:1
 con-arg-same-length : (t : ℕ) → con-arg-lts.Need-same-length (
   absent-reads.Asked,
   absent-reads.Learnt,
   con-arg-there-below t,
   con-arg-there.Post,
 ) (con-arg-at t) con-arg.Post
-con-arg-same-length t c = c .before .before .con-arg-there .kept .1 .1 .1 .1 .0
+con-arg-same-length t c = c .before .before .con-arg-there .kept .1 .1 .1 .1 .1 .0
 
--- src/lib.rt:44:1
+-- src/lib.rt:46:1
 con-arg-returns-2 : (t : ℕ) → con-arg-lts.Need-returns-2 (
   absent-reads.Asked,
   absent-reads.Learnt,
@@ -685,9 +769,9 @@ con-arg-returns-2 : (t : ℕ) → con-arg-lts.Need-returns-2 (
   con-arg-there.Post,
 ) (con-arg-at t) con-arg.Post
 unfolding Pat.con-arg
-con-arg-returns-2 t c = record { is = λ kinds m. by-same (maybe-there (c .before .before .before .before .before .before .absent .ensures) (c .before .before .before .before .enum-told .given .1)) (plain (c .before .before .con-arg-there .ensures)) }
+con-arg-returns-2 t c = record { is = λ kinds. by-same (maybe-there (c .before .before .before .before .before .before .before .absent .ensures) (c .before .before .before .before .before .enum-told .given .1)) (plain (c .before .before .con-arg-there .ensures)) }
 
--- src/lib.rt:39:9
+-- src/lib.rt:41:5
 con-arg-there-word-requires : (t : ℕ) → con-arg-there-lts.Need-word-requires (
   word-reads.Asked,
   word-reads.Learnt,
@@ -696,14 +780,14 @@ con-arg-there-word-requires : (t : ℕ) → con-arg-there-lts.Need-word-requires
 ) (con-arg-there-at t) con-arg-there.Post
 con-arg-there-word-requires t c κs = search needs
 
--- src/lib.rt:40:5
+-- src/lib.rt:42:5
 con-arg-there-get-pat-requires : (t : ℕ) → con-arg-there-lts.Need-get-pat-requires (
   word-reads.Asked,
   word-reads.Learnt,
   get-pat-below t,
   get-pat.Post,
 ) (con-arg-there-at t) con-arg-there.Post
-con-arg-there-get-pat-requires t c κs = omega (arith, c .before .before .before .before .before .before .before .before .before .before .pre .0)
+con-arg-there-get-pat-requires t c κs = omega (arith, c .before .before .before .before .before .before .before .before .before .before .before .before .pre .0)
 
 -- src/lib.rt:28:1
 con-arg-there-same-length : (t : ℕ) → con-arg-there-lts.Need-same-length (
@@ -712,7 +796,7 @@ con-arg-there-same-length : (t : ℕ) → con-arg-there-lts.Need-same-length (
   get-pat-below t,
   get-pat.Post,
 ) (con-arg-there-at t) con-arg-there.Post
-con-arg-there-same-length t c = c .before .before .get-pat .kept .1 .1 .1 .1 .0 ∙ c .before .before .before .before .before .before .word .kept .1 .0
+con-arg-there-same-length t c = c .before .before .get-pat .kept .1 .1 .1 .1 .1 .0 ∙ c .before .before .before .before .before .before .before .word .kept .1 .1 .0
 
 -- src/lib.rt:28:1
 con-arg-there-returns : (t : ℕ) → con-arg-there-lts.Need-returns (
@@ -722,83 +806,110 @@ con-arg-there-returns : (t : ℕ) → con-arg-there-lts.Need-returns (
   get-pat.Post,
 ) (con-arg-there-at t) con-arg-there.Post
 unfolding Pat.con-arg-there
-con-arg-there-returns t c = record { is = λ kinds m. then-sure (c .before .before .before .before .before .before .word .ensures) (plain (c .before .before .get-pat .ensures)) }
+con-arg-there-returns t c = record { is = λ kinds. then-sure (c .before .before .before .before .before .before .before .word .ensures) (plain (c .before .before .get-pat .ensures)) }
 
--- src/lib.rt:74:9
+-- src/lib.rt:80:9
 con-pat-op-path-requires : (t : ℕ) → con-pat-lts.Need-op-path-requires (
   op-path-reads.Asked,
   op-path-reads.Learnt,
+  told-reads.Asked,
+  told-reads.Learnt,
   con-arg-below t,
   con-arg.Post,
 ) (con-pat-at t) con-pat.Post
 con-pat-op-path-requires t c κs = search needs
 
--- src/lib.rt:75:22
-con-pat-enum-known-r1 : (t : ℕ) → con-pat-lts.Need-enum-known-r1 (
+-- src/lib.rt:81:28
+con-pat-told-requires : (t : ℕ) → con-pat-lts.Need-told-requires (
   op-path-reads.Asked,
   op-path-reads.Learnt,
+  told-reads.Asked,
+  told-reads.Learnt,
   con-arg-below t,
   con-arg.Post,
 ) (con-pat-at t) con-pat.Post
-con-pat-enum-known-r1 t c = search needs
+con-pat-told-requires t c κs = search needs
 
--- src/lib.rt:76:9
+-- src/lib.rt:81:22
+con-pat-enum-known-s1 : (t : ℕ) → con-pat-lts.Need-enum-known-s1 (
+  op-path-reads.Asked,
+  op-path-reads.Learnt,
+  told-reads.Asked,
+  told-reads.Learnt,
+  con-arg-below t,
+  con-arg.Post,
+) (con-pat-at t) con-pat.Post
+con-pat-enum-known-s1 t c = search needs
+
+-- src/lib.rt:82:9
 con-pat-enum-told : (t : ℕ) → con-pat-lts.Need-enum-told (
   op-path-reads.Asked,
   op-path-reads.Learnt,
+  told-reads.Asked,
+  told-reads.Learnt,
   con-arg-below t,
   con-arg.Post,
 ) (con-pat-at t) con-pat.Post
 con-pat-enum-told t c = search needs
 
--- src/lib.rt:76:9
+-- src/lib.rt:82:9
 con-pat-same-length : (t : ℕ) → con-pat-lts.Need-same-length (
   op-path-reads.Asked,
   op-path-reads.Learnt,
+  told-reads.Asked,
+  told-reads.Learnt,
   con-arg-below t,
   con-arg.Post,
 ) (con-pat-at t) con-pat.Post
-con-pat-same-length t c = c .before .before .before .before .op-path .kept .1 .1 .1 .1 .0
+con-pat-same-length t c = c .before .before .before .before .before .op-path .kept .1 .1 .1 .1 .1 .0
 
--- src/lib.rt:76:9
+-- src/lib.rt:82:9
 con-pat-returns : (t : ℕ) → con-pat-lts.Need-returns (
   op-path-reads.Asked,
   op-path-reads.Learnt,
+  told-reads.Asked,
+  told-reads.Learnt,
   con-arg-below t,
   con-arg.Post,
 ) (con-pat-at t) con-pat.Post
 unfolding Pat.pat
-con-pat-returns t c = record { is = λ kinds m. then-stop (plain (c .before .before .before .before .op-path .ensures)) (c .enum-told .given .1) }
+con-pat-returns t c = record { is = λ kinds. then-stop (plain (c .before .before .before .before .before .op-path .ensures)) (c .before .before .told .ensures) (c .enum-told .given .1) }
 
--- src/lib.rt:78:5
+-- src/lib.rt:84:5
 con-pat-con-arg-requires : (t : ℕ) → con-pat-lts.Need-con-arg-requires (
   op-path-reads.Asked,
   op-path-reads.Learnt,
+  told-reads.Asked,
+  told-reads.Learnt,
   con-arg-below t,
   con-arg.Post,
 ) (con-pat-at t) con-pat.Post
-con-pat-con-arg-requires t c κs = omega (arith, c .before .before .before .before .before .before .before .before .before .before .before .before .before .pre .0)
+con-pat-con-arg-requires t c κs = omega (arith, c .before .before .before .before .before .before .before .before .before .before .before .before .before .before .before .before .pre .0)
 
--- src/lib.rt:63:1
+-- src/lib.rt:67:1
 con-pat-same-length-2 : (t : ℕ) → con-pat-lts.Need-same-length-2 (
   op-path-reads.Asked,
   op-path-reads.Learnt,
+  told-reads.Asked,
+  told-reads.Learnt,
   con-arg-below t,
   con-arg.Post,
 ) (con-pat-at t) con-pat.Post
-con-pat-same-length-2 t c = c .before .before .con-arg .kept .1 .1 .1 .1 .0 ∙ c .before .before .before .before .before .before .before .before .before .op-path .kept .1 .1 .1 .1 .0
+con-pat-same-length-2 t c = c .before .before .con-arg .kept .1 .1 .1 .1 .1 .0 ∙ c .before .before .before .before .before .before .before .before .before .before .before .op-path .kept .1 .1 .1 .1 .1 .0
 
--- src/lib.rt:63:1
+-- src/lib.rt:67:1
 con-pat-returns-2 : (t : ℕ) → con-pat-lts.Need-returns-2 (
   op-path-reads.Asked,
   op-path-reads.Learnt,
+  told-reads.Asked,
+  told-reads.Learnt,
   con-arg-below t,
   con-arg.Post,
 ) (con-pat-at t) con-pat.Post
 unfolding Pat.pat
-con-pat-returns-2 t c = record { is = λ kinds m. then-done (plain (c .before .before .before .before .before .before .before .before .before .op-path .ensures)) (c .before .before .before .before .before .r1 .given .1) (plain (c .before .before .con-arg .ensures)) }
+con-pat-returns-2 t c = record { is = λ kinds. then-done (plain (c .before .before .before .before .before .before .before .before .before .before .before .op-path .ensures)) (c .before .before .before .before .before .before .before .before .told .ensures) (c .before .before .before .before .before .before .s1 .given .1) (plain (c .before .before .con-arg .ensures)) }
 
--- src/lib.rt:475:9
+-- src/lib.rt:525:9
 get-pat-stop-requires : (t : ℕ) → get-pat-lts.Need-stop-requires (
   stop-reads.Asked,
   stop-reads.Learnt,
@@ -831,7 +942,7 @@ get-pat-stop-requires : (t : ℕ) → get-pat-lts.Need-stop-requires (
 ) (get-pat-at t) get-pat.Post
 get-pat-stop-requires t c κs = search needs
 
--- src/lib.rt:475:9
+-- src/lib.rt:525:9
 get-pat-returns : (t : ℕ) → get-pat-lts.Need-returns (
   stop-reads.Asked,
   stop-reads.Learnt,
@@ -863,9 +974,9 @@ get-pat-returns : (t : ℕ) → get-pat-lts.Need-returns (
   or-pat.Post,
 ) (get-pat-at t) get-pat.Post
 unfolding Pat.pats Pat.pat
-get-pat-returns t c = record { is = λ kinds m. pat-zero _ (c .before .if1 .taken) (c .stop .ensures) }
+get-pat-returns t c = record { is = λ kinds. pat-zero _ (c .before .if1 .taken) (c .stop .ensures) }
 
--- src/lib.rt:477:26
+-- src/lib.rt:527:26
 get-pat-form-requires : (t : ℕ) → get-pat-lts.Need-form-requires (
   stop-reads.Asked,
   stop-reads.Learnt,
@@ -898,7 +1009,7 @@ get-pat-form-requires : (t : ℕ) → get-pat-lts.Need-form-requires (
 ) (get-pat-at t) get-pat.Post
 get-pat-form-requires t c κs = search needs
 
--- src/lib.rt:477:18
+-- src/lib.rt:527:18
 get-pat-enum-known-k : (t : ℕ) → get-pat-lts.Need-enum-known-k (
   stop-reads.Asked,
   stop-reads.Learnt,
@@ -931,7 +1042,7 @@ get-pat-enum-known-k : (t : ℕ) → get-pat-lts.Need-enum-known-k (
 ) (get-pat-at t) get-pat.Post
 get-pat-enum-known-k t c = search needs
 
--- src/lib.rt:478:9
+-- src/lib.rt:528:9
 get-pat-enum-told : (t : ℕ) → get-pat-lts.Need-enum-told (
   stop-reads.Asked,
   stop-reads.Learnt,
@@ -964,7 +1075,7 @@ get-pat-enum-told : (t : ℕ) → get-pat-lts.Need-enum-told (
 ) (get-pat-at t) get-pat.Post
 get-pat-enum-told t c = search needs
 
--- src/lib.rt:478:9
+-- src/lib.rt:528:9
 get-pat-stop-requires-2 : (t : ℕ) → get-pat-lts.Need-stop-requires-2 (
   stop-reads.Asked,
   stop-reads.Learnt,
@@ -997,7 +1108,7 @@ get-pat-stop-requires-2 : (t : ℕ) → get-pat-lts.Need-stop-requires-2 (
 ) (get-pat-at t) get-pat.Post
 get-pat-stop-requires-2 t c κs = search needs
 
--- src/lib.rt:478:9
+-- src/lib.rt:528:9
 get-pat-returns-2 : (t : ℕ) → get-pat-lts.Need-returns-2 (
   stop-reads.Asked,
   stop-reads.Learnt,
@@ -1029,10 +1140,10 @@ get-pat-returns-2 : (t : ℕ) → get-pat-lts.Need-returns-2 (
   or-pat.Post,
 ) (get-pat-at t) get-pat.Post
 unfolding Pat.pats Pat.pat
-get-pat-returns-2 t c = record { is = λ kinds m. pat-form _ (c .before .before .before .before .if1 .left) (form-not (c .stop2 .ensures) (c .before .before .before .form .ensures) (c .before .enum-told .given .1)) }
+get-pat-returns-2 t c = record { is = λ kinds. pat-form _ (c .before .before .before .before .if1 .left) (form-not (c .stop2 .ensures) (c .before .before .before .form .ensures) (c .before .enum-told .given .1)) }
 
--- src/lib.rt:484:15
-get-pat-sub-t15 : (t : ℕ) → get-pat-lts.Need-sub-t15 (
+-- src/lib.rt:533:15
+get-pat-sub-t17 : (t : ℕ) → get-pat-lts.Need-sub-t17 (
   stop-reads.Asked,
   stop-reads.Learnt,
   form-reads.Asked,
@@ -1062,9 +1173,9 @@ get-pat-sub-t15 : (t : ℕ) → get-pat-lts.Need-sub-t15 (
   or-pat-below t,
   or-pat.Post,
 ) (get-pat-at t) get-pat.Post
-get-pat-sub-t15 t c = search needs
+get-pat-sub-t17 t c = search needs
 
--- src/lib.rt:487:27
+-- src/lib.rt:537:13
 get-pat-word-requires : (t : ℕ) → get-pat-lts.Need-word-requires (
   stop-reads.Asked,
   stop-reads.Learnt,
@@ -1097,7 +1208,7 @@ get-pat-word-requires : (t : ℕ) → get-pat-lts.Need-word-requires (
 ) (get-pat-at t) get-pat.Post
 get-pat-word-requires t c κs = search needs
 
--- src/lib.rt:488:14
+-- src/lib.rt:540:14
 get-pat-text-of-requires : (t : ℕ) → get-pat-lts.Need-text-of-requires (
   stop-reads.Asked,
   stop-reads.Learnt,
@@ -1130,7 +1241,7 @@ get-pat-text-of-requires : (t : ℕ) → get-pat-lts.Need-text-of-requires (
 ) (get-pat-at t) get-pat.Post
 get-pat-text-of-requires t c κs = search needs
 
--- src/lib.rt:489:14
+-- src/lib.rt:541:14
 get-pat-con-pat-requires : (t : ℕ) → get-pat-lts.Need-con-pat-requires (
   stop-reads.Asked,
   stop-reads.Learnt,
@@ -1161,9 +1272,9 @@ get-pat-con-pat-requires : (t : ℕ) → get-pat-lts.Need-con-pat-requires (
   or-pat-below t,
   or-pat.Post,
 ) (get-pat-at t) get-pat.Post
-get-pat-con-pat-requires t c κs = omega (arith, c .before .before .before .before .before .before .before .before .before .before .before .before .pre .0, c .before .before .before .before .before .before .if1 .left)
+get-pat-con-pat-requires t c κs = omega (arith, c .before .before .before .before .before .before .before .before .before .before .before .before .before .pre .0, c .before .before .before .before .before .before .before .if1 .left)
 
--- src/lib.rt:490:14
+-- src/lib.rt:542:14
 get-pat-record-pat-requires : (t : ℕ) → get-pat-lts.Need-record-pat-requires (
   stop-reads.Asked,
   stop-reads.Learnt,
@@ -1194,9 +1305,9 @@ get-pat-record-pat-requires : (t : ℕ) → get-pat-lts.Need-record-pat-requires
   or-pat-below t,
   or-pat.Post,
 ) (get-pat-at t) get-pat.Post
-get-pat-record-pat-requires t c κs = omega (arith, c .before .before .before .before .before .before .before .before .before .before .before .before .pre .0, c .before .before .before .before .before .before .if1 .left)
+get-pat-record-pat-requires t c κs = omega (arith, c .before .before .before .before .before .before .before .before .before .before .before .before .before .pre .0, c .before .before .before .before .before .before .before .if1 .left)
 
--- src/lib.rt:491:14
+-- src/lib.rt:543:14
 get-pat-paren-pat-requires : (t : ℕ) → get-pat-lts.Need-paren-pat-requires (
   stop-reads.Asked,
   stop-reads.Learnt,
@@ -1227,9 +1338,9 @@ get-pat-paren-pat-requires : (t : ℕ) → get-pat-lts.Need-paren-pat-requires (
   or-pat-below t,
   or-pat.Post,
 ) (get-pat-at t) get-pat.Post
-get-pat-paren-pat-requires t c κs = omega (arith, c .before .before .before .before .before .before .before .before .before .before .before .before .pre .0, c .before .before .before .before .before .before .if1 .left)
+get-pat-paren-pat-requires t c κs = omega (arith, c .before .before .before .before .before .before .before .before .before .before .before .before .before .pre .0, c .before .before .before .before .before .before .before .if1 .left)
 
--- src/lib.rt:492:14
+-- src/lib.rt:544:14
 get-pat-tuple-pat-requires : (t : ℕ) → get-pat-lts.Need-tuple-pat-requires (
   stop-reads.Asked,
   stop-reads.Learnt,
@@ -1260,9 +1371,9 @@ get-pat-tuple-pat-requires : (t : ℕ) → get-pat-lts.Need-tuple-pat-requires (
   or-pat-below t,
   or-pat.Post,
 ) (get-pat-at t) get-pat.Post
-get-pat-tuple-pat-requires t c κs = omega (arith, c .before .before .before .before .before .before .before .before .before .before .before .before .pre .0, c .before .before .before .before .before .before .if1 .left)
+get-pat-tuple-pat-requires t c κs = omega (arith, c .before .before .before .before .before .before .before .before .before .before .before .before .before .pre .0, c .before .before .before .before .before .before .before .if1 .left)
 
--- src/lib.rt:493:14
+-- src/lib.rt:545:14
 get-pat-list-pat-requires : (t : ℕ) → get-pat-lts.Need-list-pat-requires (
   stop-reads.Asked,
   stop-reads.Learnt,
@@ -1293,9 +1404,9 @@ get-pat-list-pat-requires : (t : ℕ) → get-pat-lts.Need-list-pat-requires (
   or-pat-below t,
   or-pat.Post,
 ) (get-pat-at t) get-pat.Post
-get-pat-list-pat-requires t c κs = omega (arith, c .before .before .before .before .before .before .before .before .before .before .before .before .pre .0, c .before .before .before .before .before .before .if1 .left)
+get-pat-list-pat-requires t c κs = omega (arith, c .before .before .before .before .before .before .before .before .before .before .before .before .before .pre .0, c .before .before .before .before .before .before .before .if1 .left)
 
--- src/lib.rt:494:14
+-- src/lib.rt:546:14
 get-pat-vector-pat-requires : (t : ℕ) → get-pat-lts.Need-vector-pat-requires (
   stop-reads.Asked,
   stop-reads.Learnt,
@@ -1326,9 +1437,9 @@ get-pat-vector-pat-requires : (t : ℕ) → get-pat-lts.Need-vector-pat-requires
   or-pat-below t,
   or-pat.Post,
 ) (get-pat-at t) get-pat.Post
-get-pat-vector-pat-requires t c κs = omega (arith, c .before .before .before .before .before .before .before .before .before .before .before .before .pre .0, c .before .before .before .before .before .before .if1 .left)
+get-pat-vector-pat-requires t c κs = omega (arith, c .before .before .before .before .before .before .before .before .before .before .before .before .before .pre .0, c .before .before .before .before .before .before .before .if1 .left)
 
--- src/lib.rt:495:14
+-- src/lib.rt:547:14
 get-pat-infix-pat-requires : (t : ℕ) → get-pat-lts.Need-infix-pat-requires (
   stop-reads.Asked,
   stop-reads.Learnt,
@@ -1359,9 +1470,9 @@ get-pat-infix-pat-requires : (t : ℕ) → get-pat-lts.Need-infix-pat-requires (
   or-pat-below t,
   or-pat.Post,
 ) (get-pat-at t) get-pat.Post
-get-pat-infix-pat-requires t c κs = omega (arith, c .before .before .before .before .before .before .before .before .before .before .before .before .pre .0, c .before .before .before .before .before .before .if1 .left)
+get-pat-infix-pat-requires t c κs = omega (arith, c .before .before .before .before .before .before .before .before .before .before .before .before .before .pre .0, c .before .before .before .before .before .before .before .if1 .left)
 
--- src/lib.rt:496:14
+-- src/lib.rt:548:14
 get-pat-typed-pat-requires : (t : ℕ) → get-pat-lts.Need-typed-pat-requires (
   stop-reads.Asked,
   stop-reads.Learnt,
@@ -1392,9 +1503,9 @@ get-pat-typed-pat-requires : (t : ℕ) → get-pat-lts.Need-typed-pat-requires (
   or-pat-below t,
   or-pat.Post,
 ) (get-pat-at t) get-pat.Post
-get-pat-typed-pat-requires t c κs = omega (arith, c .before .before .before .before .before .before .before .before .before .before .before .before .pre .0, c .before .before .before .before .before .before .if1 .left)
+get-pat-typed-pat-requires t c κs = omega (arith, c .before .before .before .before .before .before .before .before .before .before .before .before .before .pre .0, c .before .before .before .before .before .before .before .if1 .left)
 
--- src/lib.rt:497:15
+-- src/lib.rt:549:15
 get-pat-as-pat-requires : (t : ℕ) → get-pat-lts.Need-as-pat-requires (
   stop-reads.Asked,
   stop-reads.Learnt,
@@ -1425,9 +1536,9 @@ get-pat-as-pat-requires : (t : ℕ) → get-pat-lts.Need-as-pat-requires (
   or-pat-below t,
   or-pat.Post,
 ) (get-pat-at t) get-pat.Post
-get-pat-as-pat-requires t c κs = omega (arith, c .before .before .before .before .before .before .before .before .before .before .before .before .pre .0, c .before .before .before .before .before .before .if1 .left)
+get-pat-as-pat-requires t c κs = omega (arith, c .before .before .before .before .before .before .before .before .before .before .before .before .before .pre .0, c .before .before .before .before .before .before .before .if1 .left)
 
--- src/lib.rt:498:15
+-- src/lib.rt:550:15
 get-pat-or-pat-requires : (t : ℕ) → get-pat-lts.Need-or-pat-requires (
   stop-reads.Asked,
   stop-reads.Learnt,
@@ -1458,9 +1569,9 @@ get-pat-or-pat-requires : (t : ℕ) → get-pat-lts.Need-or-pat-requires (
   or-pat-below t,
   or-pat.Post,
 ) (get-pat-at t) get-pat.Post
-get-pat-or-pat-requires t c κs = omega (arith, c .before .before .before .before .before .before .before .before .before .before .before .before .pre .0, c .before .before .before .before .before .before .if1 .left)
+get-pat-or-pat-requires t c κs = omega (arith, c .before .before .before .before .before .before .before .before .before .before .before .before .before .pre .0, c .before .before .before .before .before .before .before .if1 .left)
 
--- src/lib.rt:499:14
+-- src/lib.rt:551:14
 get-pat-stop-requires-3 : (t : ℕ) → get-pat-lts.Need-stop-requires-3 (
   stop-reads.Asked,
   stop-reads.Learnt,
@@ -1493,7 +1604,7 @@ get-pat-stop-requires-3 : (t : ℕ) → get-pat-lts.Need-stop-requires-3 (
 ) (get-pat-at t) get-pat.Post
 get-pat-stop-requires-3 t c κs = search needs
 
--- src/lib.rt:462:1
+-- src/lib.rt:510:1
 get-pat-same-length : (t : ℕ) → get-pat-lts.Need-same-length (
   stop-reads.Asked,
   stop-reads.Learnt,
@@ -1524,9 +1635,9 @@ get-pat-same-length : (t : ℕ) → get-pat-lts.Need-same-length (
   or-pat-below t,
   or-pat.Post,
 ) (get-pat-at t) get-pat.Post
-get-pat-same-length t c = c .before .before .word .kept .1 .0
+get-pat-same-length t c = c .before .before .word .kept .1 .1 .0
 
--- src/lib.rt:462:1
+-- src/lib.rt:510:1
 get-pat-returns-3 : (t : ℕ) → get-pat-lts.Need-returns-3 (
   stop-reads.Asked,
   stop-reads.Learnt,
@@ -1558,9 +1669,9 @@ get-pat-returns-3 : (t : ℕ) → get-pat-lts.Need-returns-3 (
   or-pat.Post,
 ) (get-pat-at t) get-pat.Post
 unfolding Pat.pats Pat.pat
-get-pat-returns-3 t c = record { is = λ kinds m. pat-form _ (c .before .before .before .before .before .before .before .before .before .if1 .left) (form-key (c .before .before .before .before .before .before .before .before .form .ensures) (c .before .before .before .before .before .before .k .given .1) (c .before .before .before .before .match2 .keys1) (last-sure (c .before .before .word .ensures))) }
+get-pat-returns-3 t c = record { is = λ kinds. pat-form _ (c .before .before .before .before .before .before .before .before .before .before .if1 .left) (form-key (c .before .before .before .before .before .before .before .before .before .form .ensures) (c .before .before .before .before .before .before .before .k .given .1) (c .before .before .before .before .before .match2 .keys1) (last-sure (c .before .before .word .ensures))) }
 
--- src/lib.rt:462:1
+-- src/lib.rt:510:1
 get-pat-same-length-2 : (t : ℕ) → get-pat-lts.Need-same-length-2 (
   stop-reads.Asked,
   stop-reads.Learnt,
@@ -1591,9 +1702,9 @@ get-pat-same-length-2 : (t : ℕ) → get-pat-lts.Need-same-length-2 (
   or-pat-below t,
   or-pat.Post,
 ) (get-pat-at t) get-pat.Post
-get-pat-same-length-2 t c = c .before .before .text-of .kept .1 .1 .1 .1 .0
+get-pat-same-length-2 t c = c .before .before .text-of .kept .1 .1 .1 .1 .1 .0
 
--- src/lib.rt:462:1
+-- src/lib.rt:510:1
 get-pat-returns-4 : (t : ℕ) → get-pat-lts.Need-returns-4 (
   stop-reads.Asked,
   stop-reads.Learnt,
@@ -1625,9 +1736,9 @@ get-pat-returns-4 : (t : ℕ) → get-pat-lts.Need-returns-4 (
   or-pat.Post,
 ) (get-pat-at t) get-pat.Post
 unfolding Pat.pats Pat.pat
-get-pat-returns-4 t c = record { is = λ kinds m. pat-form _ (c .before .before .before .before .before .before .before .before .before .if1 .left) (form-key (c .before .before .before .before .before .before .before .before .form .ensures) (c .before .before .before .before .before .before .k .given .1) (c .before .before .before .before .match2 .keys2) (plain (c .before .before .text-of .ensures))) }
+get-pat-returns-4 t c = record { is = λ kinds. pat-form _ (c .before .before .before .before .before .before .before .before .before .before .if1 .left) (form-key (c .before .before .before .before .before .before .before .before .before .form .ensures) (c .before .before .before .before .before .before .before .k .given .1) (c .before .before .before .before .before .match2 .keys2) (plain (c .before .before .text-of .ensures))) }
 
--- src/lib.rt:462:1
+-- src/lib.rt:510:1
 get-pat-same-length-3 : (t : ℕ) → get-pat-lts.Need-same-length-3 (
   stop-reads.Asked,
   stop-reads.Learnt,
@@ -1658,9 +1769,9 @@ get-pat-same-length-3 : (t : ℕ) → get-pat-lts.Need-same-length-3 (
   or-pat-below t,
   or-pat.Post,
 ) (get-pat-at t) get-pat.Post
-get-pat-same-length-3 t c = c .before .before .con-pat .kept .1 .1 .1 .1 .0
+get-pat-same-length-3 t c = c .before .before .con-pat .kept .1 .1 .1 .1 .1 .0
 
--- src/lib.rt:462:1
+-- src/lib.rt:510:1
 get-pat-returns-5 : (t : ℕ) → get-pat-lts.Need-returns-5 (
   stop-reads.Asked,
   stop-reads.Learnt,
@@ -1692,9 +1803,9 @@ get-pat-returns-5 : (t : ℕ) → get-pat-lts.Need-returns-5 (
   or-pat.Post,
 ) (get-pat-at t) get-pat.Post
 unfolding Pat.pats Pat.pat
-get-pat-returns-5 t c = record { is = λ kinds m. pat-form _ (c .before .before .before .before .before .before .before .before .before .if1 .left) (form-key (c .before .before .before .before .before .before .before .before .form .ensures) (c .before .before .before .before .before .before .k .given .1) (c .before .before .before .before .match2 .keys3) (plain (c .before .before .con-pat .ensures))) }
+get-pat-returns-5 t c = record { is = λ kinds. pat-form _ (c .before .before .before .before .before .before .before .before .before .before .if1 .left) (form-key (c .before .before .before .before .before .before .before .before .before .form .ensures) (c .before .before .before .before .before .before .before .k .given .1) (c .before .before .before .before .before .match2 .keys3) (plain (c .before .before .con-pat .ensures))) }
 
--- src/lib.rt:462:1
+-- src/lib.rt:510:1
 get-pat-same-length-4 : (t : ℕ) → get-pat-lts.Need-same-length-4 (
   stop-reads.Asked,
   stop-reads.Learnt,
@@ -1725,9 +1836,9 @@ get-pat-same-length-4 : (t : ℕ) → get-pat-lts.Need-same-length-4 (
   or-pat-below t,
   or-pat.Post,
 ) (get-pat-at t) get-pat.Post
-get-pat-same-length-4 t c = c .before .before .record-pat .kept .1 .1 .1 .1 .0
+get-pat-same-length-4 t c = c .before .before .record-pat .kept .1 .1 .1 .1 .1 .0
 
--- src/lib.rt:462:1
+-- src/lib.rt:510:1
 get-pat-returns-6 : (t : ℕ) → get-pat-lts.Need-returns-6 (
   stop-reads.Asked,
   stop-reads.Learnt,
@@ -1759,9 +1870,9 @@ get-pat-returns-6 : (t : ℕ) → get-pat-lts.Need-returns-6 (
   or-pat.Post,
 ) (get-pat-at t) get-pat.Post
 unfolding Pat.pats Pat.pat
-get-pat-returns-6 t c = record { is = λ kinds m. pat-form _ (c .before .before .before .before .before .before .before .before .before .if1 .left) (form-key (c .before .before .before .before .before .before .before .before .form .ensures) (c .before .before .before .before .before .before .k .given .1) (c .before .before .before .before .match2 .keys4) (plain (c .before .before .record-pat .ensures))) }
+get-pat-returns-6 t c = record { is = λ kinds. pat-form _ (c .before .before .before .before .before .before .before .before .before .before .if1 .left) (form-key (c .before .before .before .before .before .before .before .before .before .form .ensures) (c .before .before .before .before .before .before .before .k .given .1) (c .before .before .before .before .before .match2 .keys4) (plain (c .before .before .record-pat .ensures))) }
 
--- src/lib.rt:462:1
+-- src/lib.rt:510:1
 get-pat-same-length-5 : (t : ℕ) → get-pat-lts.Need-same-length-5 (
   stop-reads.Asked,
   stop-reads.Learnt,
@@ -1792,9 +1903,9 @@ get-pat-same-length-5 : (t : ℕ) → get-pat-lts.Need-same-length-5 (
   or-pat-below t,
   or-pat.Post,
 ) (get-pat-at t) get-pat.Post
-get-pat-same-length-5 t c = c .before .before .paren-pat .kept .1 .1 .1 .1 .0
+get-pat-same-length-5 t c = c .before .before .paren-pat .kept .1 .1 .1 .1 .1 .0
 
--- src/lib.rt:462:1
+-- src/lib.rt:510:1
 get-pat-returns-7 : (t : ℕ) → get-pat-lts.Need-returns-7 (
   stop-reads.Asked,
   stop-reads.Learnt,
@@ -1826,9 +1937,9 @@ get-pat-returns-7 : (t : ℕ) → get-pat-lts.Need-returns-7 (
   or-pat.Post,
 ) (get-pat-at t) get-pat.Post
 unfolding Pat.pats Pat.pat
-get-pat-returns-7 t c = record { is = λ kinds m. pat-form _ (c .before .before .before .before .before .before .before .before .before .if1 .left) (form-key (c .before .before .before .before .before .before .before .before .form .ensures) (c .before .before .before .before .before .before .k .given .1) (c .before .before .before .before .match2 .keys5) (plain (c .before .before .paren-pat .ensures))) }
+get-pat-returns-7 t c = record { is = λ kinds. pat-form _ (c .before .before .before .before .before .before .before .before .before .before .if1 .left) (form-key (c .before .before .before .before .before .before .before .before .before .form .ensures) (c .before .before .before .before .before .before .before .k .given .1) (c .before .before .before .before .before .match2 .keys5) (plain (c .before .before .paren-pat .ensures))) }
 
--- src/lib.rt:462:1
+-- src/lib.rt:510:1
 get-pat-same-length-6 : (t : ℕ) → get-pat-lts.Need-same-length-6 (
   stop-reads.Asked,
   stop-reads.Learnt,
@@ -1859,9 +1970,9 @@ get-pat-same-length-6 : (t : ℕ) → get-pat-lts.Need-same-length-6 (
   or-pat-below t,
   or-pat.Post,
 ) (get-pat-at t) get-pat.Post
-get-pat-same-length-6 t c = c .before .before .tuple-pat .kept .1 .1 .1 .1 .0
+get-pat-same-length-6 t c = c .before .before .tuple-pat .kept .1 .1 .1 .1 .1 .0
 
--- src/lib.rt:462:1
+-- src/lib.rt:510:1
 get-pat-returns-8 : (t : ℕ) → get-pat-lts.Need-returns-8 (
   stop-reads.Asked,
   stop-reads.Learnt,
@@ -1893,9 +2004,9 @@ get-pat-returns-8 : (t : ℕ) → get-pat-lts.Need-returns-8 (
   or-pat.Post,
 ) (get-pat-at t) get-pat.Post
 unfolding Pat.pats Pat.pat
-get-pat-returns-8 t c = record { is = λ kinds m. pat-form _ (c .before .before .before .before .before .before .before .before .before .if1 .left) (form-key (c .before .before .before .before .before .before .before .before .form .ensures) (c .before .before .before .before .before .before .k .given .1) (c .before .before .before .before .match2 .keys6) (plain (c .before .before .tuple-pat .ensures))) }
+get-pat-returns-8 t c = record { is = λ kinds. pat-form _ (c .before .before .before .before .before .before .before .before .before .before .if1 .left) (form-key (c .before .before .before .before .before .before .before .before .before .form .ensures) (c .before .before .before .before .before .before .before .k .given .1) (c .before .before .before .before .before .match2 .keys6) (plain (c .before .before .tuple-pat .ensures))) }
 
--- src/lib.rt:462:1
+-- src/lib.rt:510:1
 get-pat-same-length-7 : (t : ℕ) → get-pat-lts.Need-same-length-7 (
   stop-reads.Asked,
   stop-reads.Learnt,
@@ -1926,9 +2037,9 @@ get-pat-same-length-7 : (t : ℕ) → get-pat-lts.Need-same-length-7 (
   or-pat-below t,
   or-pat.Post,
 ) (get-pat-at t) get-pat.Post
-get-pat-same-length-7 t c = c .before .before .list-pat .kept .1 .1 .1 .1 .0
+get-pat-same-length-7 t c = c .before .before .list-pat .kept .1 .1 .1 .1 .1 .0
 
--- src/lib.rt:462:1
+-- src/lib.rt:510:1
 get-pat-returns-9 : (t : ℕ) → get-pat-lts.Need-returns-9 (
   stop-reads.Asked,
   stop-reads.Learnt,
@@ -1960,9 +2071,9 @@ get-pat-returns-9 : (t : ℕ) → get-pat-lts.Need-returns-9 (
   or-pat.Post,
 ) (get-pat-at t) get-pat.Post
 unfolding Pat.pats Pat.pat
-get-pat-returns-9 t c = record { is = λ kinds m. pat-form _ (c .before .before .before .before .before .before .before .before .before .if1 .left) (form-key (c .before .before .before .before .before .before .before .before .form .ensures) (c .before .before .before .before .before .before .k .given .1) (c .before .before .before .before .match2 .keys7) (plain (c .before .before .list-pat .ensures))) }
+get-pat-returns-9 t c = record { is = λ kinds. pat-form _ (c .before .before .before .before .before .before .before .before .before .before .if1 .left) (form-key (c .before .before .before .before .before .before .before .before .before .form .ensures) (c .before .before .before .before .before .before .before .k .given .1) (c .before .before .before .before .before .match2 .keys7) (plain (c .before .before .list-pat .ensures))) }
 
--- src/lib.rt:462:1
+-- src/lib.rt:510:1
 get-pat-same-length-8 : (t : ℕ) → get-pat-lts.Need-same-length-8 (
   stop-reads.Asked,
   stop-reads.Learnt,
@@ -1993,9 +2104,9 @@ get-pat-same-length-8 : (t : ℕ) → get-pat-lts.Need-same-length-8 (
   or-pat-below t,
   or-pat.Post,
 ) (get-pat-at t) get-pat.Post
-get-pat-same-length-8 t c = c .before .before .vector-pat .kept .1 .1 .1 .1 .0
+get-pat-same-length-8 t c = c .before .before .vector-pat .kept .1 .1 .1 .1 .1 .0
 
--- src/lib.rt:462:1
+-- src/lib.rt:510:1
 get-pat-returns-10 : (t : ℕ) → get-pat-lts.Need-returns-10 (
   stop-reads.Asked,
   stop-reads.Learnt,
@@ -2027,9 +2138,9 @@ get-pat-returns-10 : (t : ℕ) → get-pat-lts.Need-returns-10 (
   or-pat.Post,
 ) (get-pat-at t) get-pat.Post
 unfolding Pat.pats Pat.pat
-get-pat-returns-10 t c = record { is = λ kinds m. pat-form _ (c .before .before .before .before .before .before .before .before .before .if1 .left) (form-key (c .before .before .before .before .before .before .before .before .form .ensures) (c .before .before .before .before .before .before .k .given .1) (c .before .before .before .before .match2 .keys8) (plain (c .before .before .vector-pat .ensures))) }
+get-pat-returns-10 t c = record { is = λ kinds. pat-form _ (c .before .before .before .before .before .before .before .before .before .before .if1 .left) (form-key (c .before .before .before .before .before .before .before .before .before .form .ensures) (c .before .before .before .before .before .before .before .k .given .1) (c .before .before .before .before .before .match2 .keys8) (plain (c .before .before .vector-pat .ensures))) }
 
--- src/lib.rt:462:1
+-- src/lib.rt:510:1
 get-pat-same-length-9 : (t : ℕ) → get-pat-lts.Need-same-length-9 (
   stop-reads.Asked,
   stop-reads.Learnt,
@@ -2060,9 +2171,9 @@ get-pat-same-length-9 : (t : ℕ) → get-pat-lts.Need-same-length-9 (
   or-pat-below t,
   or-pat.Post,
 ) (get-pat-at t) get-pat.Post
-get-pat-same-length-9 t c = c .before .before .infix-pat .kept .1 .1 .1 .1 .0
+get-pat-same-length-9 t c = c .before .before .infix-pat .kept .1 .1 .1 .1 .1 .0
 
--- src/lib.rt:462:1
+-- src/lib.rt:510:1
 get-pat-returns-11 : (t : ℕ) → get-pat-lts.Need-returns-11 (
   stop-reads.Asked,
   stop-reads.Learnt,
@@ -2094,9 +2205,9 @@ get-pat-returns-11 : (t : ℕ) → get-pat-lts.Need-returns-11 (
   or-pat.Post,
 ) (get-pat-at t) get-pat.Post
 unfolding Pat.pats Pat.pat
-get-pat-returns-11 t c = record { is = λ kinds m. pat-form _ (c .before .before .before .before .before .before .before .before .before .if1 .left) (form-key (c .before .before .before .before .before .before .before .before .form .ensures) (c .before .before .before .before .before .before .k .given .1) (c .before .before .before .before .match2 .keys9) (plain (c .before .before .infix-pat .ensures))) }
+get-pat-returns-11 t c = record { is = λ kinds. pat-form _ (c .before .before .before .before .before .before .before .before .before .before .if1 .left) (form-key (c .before .before .before .before .before .before .before .before .before .form .ensures) (c .before .before .before .before .before .before .before .k .given .1) (c .before .before .before .before .before .match2 .keys9) (plain (c .before .before .infix-pat .ensures))) }
 
--- src/lib.rt:462:1
+-- src/lib.rt:510:1
 get-pat-same-length-10 : (t : ℕ) → get-pat-lts.Need-same-length-10 (
   stop-reads.Asked,
   stop-reads.Learnt,
@@ -2127,9 +2238,9 @@ get-pat-same-length-10 : (t : ℕ) → get-pat-lts.Need-same-length-10 (
   or-pat-below t,
   or-pat.Post,
 ) (get-pat-at t) get-pat.Post
-get-pat-same-length-10 t c = c .before .before .typed-pat .kept .1 .1 .1 .1 .0
+get-pat-same-length-10 t c = c .before .before .typed-pat .kept .1 .1 .1 .1 .1 .0
 
--- src/lib.rt:462:1
+-- src/lib.rt:510:1
 get-pat-returns-12 : (t : ℕ) → get-pat-lts.Need-returns-12 (
   stop-reads.Asked,
   stop-reads.Learnt,
@@ -2161,9 +2272,9 @@ get-pat-returns-12 : (t : ℕ) → get-pat-lts.Need-returns-12 (
   or-pat.Post,
 ) (get-pat-at t) get-pat.Post
 unfolding Pat.pats Pat.pat
-get-pat-returns-12 t c = record { is = λ kinds m. pat-form _ (c .before .before .before .before .before .before .before .before .before .if1 .left) (form-key (c .before .before .before .before .before .before .before .before .form .ensures) (c .before .before .before .before .before .before .k .given .1) (c .before .before .before .before .match2 .keys10) (plain (c .before .before .typed-pat .ensures))) }
+get-pat-returns-12 t c = record { is = λ kinds. pat-form _ (c .before .before .before .before .before .before .before .before .before .before .if1 .left) (form-key (c .before .before .before .before .before .before .before .before .before .form .ensures) (c .before .before .before .before .before .before .before .k .given .1) (c .before .before .before .before .before .match2 .keys10) (plain (c .before .before .typed-pat .ensures))) }
 
--- src/lib.rt:462:1
+-- src/lib.rt:510:1
 get-pat-same-length-11 : (t : ℕ) → get-pat-lts.Need-same-length-11 (
   stop-reads.Asked,
   stop-reads.Learnt,
@@ -2194,9 +2305,9 @@ get-pat-same-length-11 : (t : ℕ) → get-pat-lts.Need-same-length-11 (
   or-pat-below t,
   or-pat.Post,
 ) (get-pat-at t) get-pat.Post
-get-pat-same-length-11 t c = c .before .before .as-pat .kept .1 .1 .1 .1 .0
+get-pat-same-length-11 t c = c .before .before .as-pat .kept .1 .1 .1 .1 .1 .0
 
--- src/lib.rt:462:1
+-- src/lib.rt:510:1
 get-pat-returns-13 : (t : ℕ) → get-pat-lts.Need-returns-13 (
   stop-reads.Asked,
   stop-reads.Learnt,
@@ -2228,9 +2339,9 @@ get-pat-returns-13 : (t : ℕ) → get-pat-lts.Need-returns-13 (
   or-pat.Post,
 ) (get-pat-at t) get-pat.Post
 unfolding Pat.pats Pat.pat
-get-pat-returns-13 t c = record { is = λ kinds m. pat-form _ (c .before .before .before .before .before .before .before .before .before .if1 .left) (form-key (c .before .before .before .before .before .before .before .before .form .ensures) (c .before .before .before .before .before .before .k .given .1) (c .before .before .before .before .match2 .keys11) (plain (c .before .before .as-pat .ensures))) }
+get-pat-returns-13 t c = record { is = λ kinds. pat-form _ (c .before .before .before .before .before .before .before .before .before .before .if1 .left) (form-key (c .before .before .before .before .before .before .before .before .before .form .ensures) (c .before .before .before .before .before .before .before .k .given .1) (c .before .before .before .before .before .match2 .keys11) (plain (c .before .before .as-pat .ensures))) }
 
--- src/lib.rt:462:1
+-- src/lib.rt:510:1
 get-pat-same-length-12 : (t : ℕ) → get-pat-lts.Need-same-length-12 (
   stop-reads.Asked,
   stop-reads.Learnt,
@@ -2261,9 +2372,9 @@ get-pat-same-length-12 : (t : ℕ) → get-pat-lts.Need-same-length-12 (
   or-pat-below t,
   or-pat.Post,
 ) (get-pat-at t) get-pat.Post
-get-pat-same-length-12 t c = c .before .before .or-pat .kept .1 .1 .1 .1 .0
+get-pat-same-length-12 t c = c .before .before .or-pat .kept .1 .1 .1 .1 .1 .0
 
--- src/lib.rt:462:1
+-- src/lib.rt:510:1
 get-pat-returns-14 : (t : ℕ) → get-pat-lts.Need-returns-14 (
   stop-reads.Asked,
   stop-reads.Learnt,
@@ -2295,9 +2406,9 @@ get-pat-returns-14 : (t : ℕ) → get-pat-lts.Need-returns-14 (
   or-pat.Post,
 ) (get-pat-at t) get-pat.Post
 unfolding Pat.pats Pat.pat
-get-pat-returns-14 t c = record { is = λ kinds m. pat-form _ (c .before .before .before .before .before .before .before .before .before .if1 .left) (form-key (c .before .before .before .before .before .before .before .before .form .ensures) (c .before .before .before .before .before .before .k .given .1) (c .before .before .before .before .match2 .keys12) (plain (c .before .before .or-pat .ensures))) }
+get-pat-returns-14 t c = record { is = λ kinds. pat-form _ (c .before .before .before .before .before .before .before .before .before .before .if1 .left) (form-key (c .before .before .before .before .before .before .before .before .before .form .ensures) (c .before .before .before .before .before .before .before .k .given .1) (c .before .before .before .before .before .match2 .keys12) (plain (c .before .before .or-pat .ensures))) }
 
--- src/lib.rt:462:1
+-- src/lib.rt:510:1
 get-pat-returns-15 : (t : ℕ) → get-pat-lts.Need-returns-15 (
   stop-reads.Asked,
   stop-reads.Learnt,
@@ -2329,34 +2440,53 @@ get-pat-returns-15 : (t : ℕ) → get-pat-lts.Need-returns-15 (
   or-pat.Post,
 ) (get-pat-at t) get-pat.Post
 unfolding Pat.pats Pat.pat
-get-pat-returns-15 t c = record { is = λ kinds m. pat-form _ (c .before .before .before .before .before .before .if1 .left) (by-same (form-is (c .before .before .before .before .before .form .ensures) (c .before .before .before .k .given .1)) (beyond (Pat.pats (walks (c .before .before .before .before .before .before .before .before .before .before .before .before .args .cfg .left - 1))) (c .before .before .before .k .given .0 .0) 12 refl (past (past (past (past (past (past (past (past (past (past (past (past zero-le (c .before .match2 .rest .0 .0 .0 .0 .0 .0 .0 .0 .0 .0 .0 .1)) (c .before .match2 .rest .0 .0 .0 .0 .0 .0 .0 .0 .0 .0 .1)) (c .before .match2 .rest .0 .0 .0 .0 .0 .0 .0 .0 .0 .1)) (c .before .match2 .rest .0 .0 .0 .0 .0 .0 .0 .0 .1)) (c .before .match2 .rest .0 .0 .0 .0 .0 .0 .0 .1)) (c .before .match2 .rest .0 .0 .0 .0 .0 .0 .1)) (c .before .match2 .rest .0 .0 .0 .0 .0 .1)) (c .before .match2 .rest .0 .0 .0 .0 .1)) (c .before .match2 .rest .0 .0 .0 .1)) (c .before .match2 .rest .0 .0 .1)) (c .before .match2 .rest .0 .1)) (c .before .match2 .rest .1)) (c .stop3 .ensures))) }
+get-pat-returns-15 t c = record { is = λ kinds. pat-form _ (c .before .before .before .before .before .before .if1 .left) (by-same (form-is (c .before .before .before .before .before .form .ensures) (c .before .before .before .k .given .1)) (beyond (Pat.pats (walks (c .before .before .before .before .before .before .before .before .before .before .before .before .args .cfg .left - 1))) (c .before .before .before .k .given .0 .0) 12 refl (past (past (past (past (past (past (past (past (past (past (past (past zero-le (c .before .match2 .rest .0 .0 .0 .0 .0 .0 .0 .0 .0 .0 .0 .1)) (c .before .match2 .rest .0 .0 .0 .0 .0 .0 .0 .0 .0 .0 .1)) (c .before .match2 .rest .0 .0 .0 .0 .0 .0 .0 .0 .0 .1)) (c .before .match2 .rest .0 .0 .0 .0 .0 .0 .0 .0 .1)) (c .before .match2 .rest .0 .0 .0 .0 .0 .0 .0 .1)) (c .before .match2 .rest .0 .0 .0 .0 .0 .0 .1)) (c .before .match2 .rest .0 .0 .0 .0 .0 .1)) (c .before .match2 .rest .0 .0 .0 .0 .1)) (c .before .match2 .rest .0 .0 .0 .1)) (c .before .match2 .rest .0 .0 .1)) (c .before .match2 .rest .0 .1)) (c .before .match2 .rest .1)) (c .stop3 .ensures))) }
 
--- src/lib.rt:384:9
+-- src/lib.rt:426:9
 infix-pat-get-pat-requires : (t : ℕ) → infix-pat-lts.Need-get-pat-requires (
   get-pat-below t,
   get-pat.Post,
+  told-reads.Asked,
+  told-reads.Learnt,
   word-reads.Asked,
   word-reads.Learnt,
   text-of-reads.Asked,
   text-of-reads.Learnt,
 ) (infix-pat-at t) infix-pat.Post
-infix-pat-get-pat-requires t c κs = omega (arith, c .before .before .before .before .before .before .pre .0)
+infix-pat-get-pat-requires t c κs = omega (arith, c .before .before .before .before .before .before .before .pre .0)
 
--- src/lib.rt:385:22
-infix-pat-enum-known-r1 : (t : ℕ) → infix-pat-lts.Need-enum-known-r1 (
+-- src/lib.rt:427:28
+infix-pat-told-requires : (t : ℕ) → infix-pat-lts.Need-told-requires (
   get-pat-below t,
   get-pat.Post,
+  told-reads.Asked,
+  told-reads.Learnt,
   word-reads.Asked,
   word-reads.Learnt,
   text-of-reads.Asked,
   text-of-reads.Learnt,
 ) (infix-pat-at t) infix-pat.Post
-infix-pat-enum-known-r1 t c = search needs
+infix-pat-told-requires t c κs = search needs
 
--- src/lib.rt:386:9
+-- src/lib.rt:427:22
+infix-pat-enum-known-s1 : (t : ℕ) → infix-pat-lts.Need-enum-known-s1 (
+  get-pat-below t,
+  get-pat.Post,
+  told-reads.Asked,
+  told-reads.Learnt,
+  word-reads.Asked,
+  word-reads.Learnt,
+  text-of-reads.Asked,
+  text-of-reads.Learnt,
+) (infix-pat-at t) infix-pat.Post
+infix-pat-enum-known-s1 t c = search needs
+
+-- src/lib.rt:428:9
 infix-pat-enum-told : (t : ℕ) → infix-pat-lts.Need-enum-told (
   get-pat-below t,
   get-pat.Post,
+  told-reads.Asked,
+  told-reads.Learnt,
   word-reads.Asked,
   word-reads.Learnt,
   text-of-reads.Asked,
@@ -2364,33 +2494,39 @@ infix-pat-enum-told : (t : ℕ) → infix-pat-lts.Need-enum-told (
 ) (infix-pat-at t) infix-pat.Post
 infix-pat-enum-told t c = search needs
 
--- src/lib.rt:386:9
+-- src/lib.rt:428:9
 infix-pat-same-length : (t : ℕ) → infix-pat-lts.Need-same-length (
   get-pat-below t,
   get-pat.Post,
+  told-reads.Asked,
+  told-reads.Learnt,
   word-reads.Asked,
   word-reads.Learnt,
   text-of-reads.Asked,
   text-of-reads.Learnt,
 ) (infix-pat-at t) infix-pat.Post
-infix-pat-same-length t c = c .before .before .before .before .get-pat .kept .1 .1 .1 .1 .0
+infix-pat-same-length t c = c .before .before .before .before .before .get-pat .kept .1 .1 .1 .1 .1 .0
 
--- src/lib.rt:386:9
+-- src/lib.rt:428:9
 infix-pat-returns : (t : ℕ) → infix-pat-lts.Need-returns (
   get-pat-below t,
   get-pat.Post,
+  told-reads.Asked,
+  told-reads.Learnt,
   word-reads.Asked,
   word-reads.Learnt,
   text-of-reads.Asked,
   text-of-reads.Learnt,
 ) (infix-pat-at t) infix-pat.Post
 unfolding Pat.pat
-infix-pat-returns t c = record { is = λ kinds m. then-stop (plain (c .before .before .before .before .get-pat .ensures)) (c .enum-told .given .1) }
+infix-pat-returns t c = record { is = λ kinds. then-stop (plain (c .before .before .before .before .before .get-pat .ensures)) (c .before .before .told .ensures) (c .enum-told .given .1) }
 
--- src/lib.rt:388:9
+-- src/lib.rt:430:5
 infix-pat-word-requires : (t : ℕ) → infix-pat-lts.Need-word-requires (
   get-pat-below t,
   get-pat.Post,
+  told-reads.Asked,
+  told-reads.Learnt,
   word-reads.Asked,
   word-reads.Learnt,
   text-of-reads.Asked,
@@ -2398,10 +2534,12 @@ infix-pat-word-requires : (t : ℕ) → infix-pat-lts.Need-word-requires (
 ) (infix-pat-at t) infix-pat.Post
 infix-pat-word-requires t c κs = search needs
 
--- src/lib.rt:389:9
+-- src/lib.rt:431:9
 infix-pat-text-of-requires : (t : ℕ) → infix-pat-lts.Need-text-of-requires (
   get-pat-below t,
   get-pat.Post,
+  told-reads.Asked,
+  told-reads.Learnt,
   word-reads.Asked,
   word-reads.Learnt,
   text-of-reads.Asked,
@@ -2409,21 +2547,38 @@ infix-pat-text-of-requires : (t : ℕ) → infix-pat-lts.Need-text-of-requires (
 ) (infix-pat-at t) infix-pat.Post
 infix-pat-text-of-requires t c κs = search needs
 
--- src/lib.rt:390:22
-infix-pat-enum-known-r3 : (t : ℕ) → infix-pat-lts.Need-enum-known-r3 (
+-- src/lib.rt:432:28
+infix-pat-told-requires-2 : (t : ℕ) → infix-pat-lts.Need-told-requires-2 (
   get-pat-below t,
   get-pat.Post,
+  told-reads.Asked,
+  told-reads.Learnt,
   word-reads.Asked,
   word-reads.Learnt,
   text-of-reads.Asked,
   text-of-reads.Learnt,
 ) (infix-pat-at t) infix-pat.Post
-infix-pat-enum-known-r3 t c = search needs
+infix-pat-told-requires-2 t c κs = search needs
 
--- src/lib.rt:391:9
+-- src/lib.rt:432:22
+infix-pat-enum-known-s2 : (t : ℕ) → infix-pat-lts.Need-enum-known-s2 (
+  get-pat-below t,
+  get-pat.Post,
+  told-reads.Asked,
+  told-reads.Learnt,
+  word-reads.Asked,
+  word-reads.Learnt,
+  text-of-reads.Asked,
+  text-of-reads.Learnt,
+) (infix-pat-at t) infix-pat.Post
+infix-pat-enum-known-s2 t c = search needs
+
+-- src/lib.rt:433:9
 infix-pat-enum-told-2 : (t : ℕ) → infix-pat-lts.Need-enum-told-2 (
   get-pat-below t,
   get-pat.Post,
+  told-reads.Asked,
+  told-reads.Learnt,
   word-reads.Asked,
   word-reads.Learnt,
   text-of-reads.Asked,
@@ -2431,33 +2586,39 @@ infix-pat-enum-told-2 : (t : ℕ) → infix-pat-lts.Need-enum-told-2 (
 ) (infix-pat-at t) infix-pat.Post
 infix-pat-enum-told-2 t c = search needs
 
--- src/lib.rt:391:9
+-- src/lib.rt:433:9
 infix-pat-same-length-2 : (t : ℕ) → infix-pat-lts.Need-same-length-2 (
   get-pat-below t,
   get-pat.Post,
+  told-reads.Asked,
+  told-reads.Learnt,
   word-reads.Asked,
   word-reads.Learnt,
   text-of-reads.Asked,
   text-of-reads.Learnt,
 ) (infix-pat-at t) infix-pat.Post
-infix-pat-same-length-2 t c = c .before .before .before .before .text-of .kept .1 .1 .1 .1 .0 ∙ c .before .before .before .before .before .before .before .before .word .kept .1 .0 ∙ c .before .before .before .before .before .before .before .before .before .before .before .before .before .before .before .get-pat .kept .1 .1 .1 .1 .0
+infix-pat-same-length-2 t c = c .before .before .before .before .before .text-of .kept .1 .1 .1 .1 .1 .0 ∙ c .before .before .before .before .before .before .before .before .before .before .word .kept .1 .1 .0 ∙ c .before .before .before .before .before .before .before .before .before .before .before .before .before .before .before .before .before .before .before .get-pat .kept .1 .1 .1 .1 .1 .0
 
--- src/lib.rt:391:9
+-- src/lib.rt:433:9
 infix-pat-returns-2 : (t : ℕ) → infix-pat-lts.Need-returns-2 (
   get-pat-below t,
   get-pat.Post,
+  told-reads.Asked,
+  told-reads.Learnt,
   word-reads.Asked,
   word-reads.Learnt,
   text-of-reads.Asked,
   text-of-reads.Learnt,
 ) (infix-pat-at t) infix-pat.Post
 unfolding Pat.pat
-infix-pat-returns-2 t c = record { is = λ kinds m. then-done (plain (c .before .before .before .before .before .before .before .before .before .before .before .before .before .before .before .get-pat .ensures)) (c .before .before .before .before .before .before .before .before .before .before .before .r1 .given .1) (then-sure (c .before .before .before .before .before .before .before .before .word .ensures) (then-stop (plain (c .before .before .before .before .text-of .ensures)) (c .enum-told2 .given .1))) }
+infix-pat-returns-2 t c = record { is = λ kinds. then-done (plain (c .before .before .before .before .before .before .before .before .before .before .before .before .before .before .before .before .before .before .before .get-pat .ensures)) (c .before .before .before .before .before .before .before .before .before .before .before .before .before .before .before .before .told .ensures) (c .before .before .before .before .before .before .before .before .before .before .before .before .before .before .s1 .given .1) (then-sure (c .before .before .before .before .before .before .before .before .before .before .word .ensures) (then-stop (plain (c .before .before .before .before .before .text-of .ensures)) (c .before .before .told2 .ensures) (c .enum-told2 .given .1))) }
 
--- src/lib.rt:393:9
+-- src/lib.rt:435:5
 infix-pat-word-requires-2 : (t : ℕ) → infix-pat-lts.Need-word-requires-2 (
   get-pat-below t,
   get-pat.Post,
+  told-reads.Asked,
+  told-reads.Learnt,
   word-reads.Asked,
   word-reads.Learnt,
   text-of-reads.Asked,
@@ -2465,44 +2626,52 @@ infix-pat-word-requires-2 : (t : ℕ) → infix-pat-lts.Need-word-requires-2 (
 ) (infix-pat-at t) infix-pat.Post
 infix-pat-word-requires-2 t c κs = search needs
 
--- src/lib.rt:394:5
+-- src/lib.rt:436:5
 infix-pat-get-pat-requires-2 : (t : ℕ) → infix-pat-lts.Need-get-pat-requires-2 (
   get-pat-below t,
   get-pat.Post,
+  told-reads.Asked,
+  told-reads.Learnt,
   word-reads.Asked,
   word-reads.Learnt,
   text-of-reads.Asked,
   text-of-reads.Learnt,
 ) (infix-pat-at t) infix-pat.Post
-infix-pat-get-pat-requires-2 t c κs = omega (arith, c .before .before .before .before .before .before .before .before .before .before .before .before .before .before .before .before .before .before .before .before .before .before .before .before .before .before .before .before .pre .0)
+infix-pat-get-pat-requires-2 t c κs = omega (arith, c .before .before .before .before .before .before .before .before .before .before .before .before .before .before .before .before .before .before .before .before .before .before .before .before .before .before .before .before .before .before .before .before .before .before .before .pre .0)
 
--- src/lib.rt:373:1
+-- src/lib.rt:413:1
 infix-pat-same-length-3 : (t : ℕ) → infix-pat-lts.Need-same-length-3 (
   get-pat-below t,
   get-pat.Post,
+  told-reads.Asked,
+  told-reads.Learnt,
   word-reads.Asked,
   word-reads.Learnt,
   text-of-reads.Asked,
   text-of-reads.Learnt,
 ) (infix-pat-at t) infix-pat.Post
-infix-pat-same-length-3 t c = c .before .before .get-pat2 .kept .1 .1 .1 .1 .0 ∙ c .before .before .before .before .before .before .word2 .kept .1 .0 ∙ c .before .before .before .before .before .before .before .before .before .before .before .before .before .text-of .kept .1 .1 .1 .1 .0 ∙ c .before .before .before .before .before .before .before .before .before .before .before .before .before .before .before .before .before .word .kept .1 .0 ∙ c .before .before .before .before .before .before .before .before .before .before .before .before .before .before .before .before .before .before .before .before .before .before .before .before .get-pat .kept .1 .1 .1 .1 .0
+infix-pat-same-length-3 t c = c .before .before .get-pat2 .kept .1 .1 .1 .1 .1 .0 ∙ c .before .before .before .before .before .before .before .word2 .kept .1 .1 .0 ∙ c .before .before .before .before .before .before .before .before .before .before .before .before .before .before .before .before .text-of .kept .1 .1 .1 .1 .1 .0 ∙ c .before .before .before .before .before .before .before .before .before .before .before .before .before .before .before .before .before .before .before .before .before .word .kept .1 .1 .0 ∙ c .before .before .before .before .before .before .before .before .before .before .before .before .before .before .before .before .before .before .before .before .before .before .before .before .before .before .before .before .before .before .get-pat .kept .1 .1 .1 .1 .1 .0
 
--- src/lib.rt:373:1
+-- src/lib.rt:413:1
 infix-pat-returns-3 : (t : ℕ) → infix-pat-lts.Need-returns-3 (
   get-pat-below t,
   get-pat.Post,
+  told-reads.Asked,
+  told-reads.Learnt,
   word-reads.Asked,
   word-reads.Learnt,
   text-of-reads.Asked,
   text-of-reads.Learnt,
 ) (infix-pat-at t) infix-pat.Post
 unfolding Pat.pat
-infix-pat-returns-3 t c = record { is = λ kinds m. then-done (plain (c .before .before .before .before .before .before .before .before .before .before .before .before .before .before .before .before .before .before .before .before .before .before .before .before .get-pat .ensures)) (c .before .before .before .before .before .before .before .before .before .before .before .before .before .before .before .before .before .before .before .before .r1 .given .1) (then-sure (c .before .before .before .before .before .before .before .before .before .before .before .before .before .before .before .before .before .word .ensures) (then-done (plain (c .before .before .before .before .before .before .before .before .before .before .before .before .before .text-of .ensures)) (c .before .before .before .before .before .before .before .before .before .r3 .given .1) (then-sure (c .before .before .before .before .before .before .word2 .ensures) (plain (c .before .before .get-pat2 .ensures))))) }
+infix-pat-returns-3 t c = record { is = λ kinds. then-done (plain (c .before .before .before .before .before .before .before .before .before .before .before .before .before .before .before .before .before .before .before .before .before .before .before .before .before .before .before .before .before .before .get-pat .ensures)) (c .before .before .before .before .before .before .before .before .before .before .before .before .before .before .before .before .before .before .before .before .before .before .before .before .before .before .before .told .ensures) (c .before .before .before .before .before .before .before .before .before .before .before .before .before .before .before .before .before .before .before .before .before .before .before .before .before .s1 .given .1) (then-sure (c .before .before .before .before .before .before .before .before .before .before .before .before .before .before .before .before .before .before .before .before .before .word .ensures) (then-done (plain (c .before .before .before .before .before .before .before .before .before .before .before .before .before .before .before .before .text-of .ensures)) (c .before .before .before .before .before .before .before .before .before .before .before .before .before .told2 .ensures) (c .before .before .before .before .before .before .before .before .before .before .before .s2 .given .1) (then-sure (c .before .before .before .before .before .before .before .word2 .ensures) (plain (c .before .before .get-pat2 .ensures))))) }
 
--- src/lib.rt:93:9
+-- src/lib.rt:101:9
 lab-and-pat-text-of-requires : (t : ℕ) → lab-and-pat-lts.Need-text-of-requires (
   text-of-reads.Asked,
   text-of-reads.Learnt,
+  told-reads.Asked,
+  told-reads.Learnt,
   word-reads.Asked,
   word-reads.Learnt,
   get-pat-below t,
@@ -2510,21 +2679,38 @@ lab-and-pat-text-of-requires : (t : ℕ) → lab-and-pat-lts.Need-text-of-requir
 ) (lab-and-pat-at t) lab-and-pat.Post
 lab-and-pat-text-of-requires t c κs = search needs
 
--- src/lib.rt:94:22
-lab-and-pat-enum-known-r1 : (t : ℕ) → lab-and-pat-lts.Need-enum-known-r1 (
+-- src/lib.rt:102:28
+lab-and-pat-told-requires : (t : ℕ) → lab-and-pat-lts.Need-told-requires (
   text-of-reads.Asked,
   text-of-reads.Learnt,
+  told-reads.Asked,
+  told-reads.Learnt,
   word-reads.Asked,
   word-reads.Learnt,
   get-pat-below t,
   get-pat.Post,
 ) (lab-and-pat-at t) lab-and-pat.Post
-lab-and-pat-enum-known-r1 t c = search needs
+lab-and-pat-told-requires t c κs = search needs
 
--- src/lib.rt:95:9
+-- src/lib.rt:102:22
+lab-and-pat-enum-known-s1 : (t : ℕ) → lab-and-pat-lts.Need-enum-known-s1 (
+  text-of-reads.Asked,
+  text-of-reads.Learnt,
+  told-reads.Asked,
+  told-reads.Learnt,
+  word-reads.Asked,
+  word-reads.Learnt,
+  get-pat-below t,
+  get-pat.Post,
+) (lab-and-pat-at t) lab-and-pat.Post
+lab-and-pat-enum-known-s1 t c = search needs
+
+-- src/lib.rt:103:9
 lab-and-pat-enum-told : (t : ℕ) → lab-and-pat-lts.Need-enum-told (
   text-of-reads.Asked,
   text-of-reads.Learnt,
+  told-reads.Asked,
+  told-reads.Learnt,
   word-reads.Asked,
   word-reads.Learnt,
   get-pat-below t,
@@ -2532,33 +2718,39 @@ lab-and-pat-enum-told : (t : ℕ) → lab-and-pat-lts.Need-enum-told (
 ) (lab-and-pat-at t) lab-and-pat.Post
 lab-and-pat-enum-told t c = search needs
 
--- src/lib.rt:95:9
+-- src/lib.rt:103:9
 lab-and-pat-same-length : (t : ℕ) → lab-and-pat-lts.Need-same-length (
   text-of-reads.Asked,
   text-of-reads.Learnt,
+  told-reads.Asked,
+  told-reads.Learnt,
   word-reads.Asked,
   word-reads.Learnt,
   get-pat-below t,
   get-pat.Post,
 ) (lab-and-pat-at t) lab-and-pat.Post
-lab-and-pat-same-length t c = c .before .before .before .before .text-of .kept .1 .1 .1 .1 .0
+lab-and-pat-same-length t c = c .before .before .before .before .before .text-of .kept .1 .1 .1 .1 .1 .0
 
--- src/lib.rt:95:9
+-- src/lib.rt:103:9
 lab-and-pat-returns : (t : ℕ) → lab-and-pat-lts.Need-returns (
   text-of-reads.Asked,
   text-of-reads.Learnt,
+  told-reads.Asked,
+  told-reads.Learnt,
   word-reads.Asked,
   word-reads.Learnt,
   get-pat-below t,
   get-pat.Post,
 ) (lab-and-pat-at t) lab-and-pat.Post
 unfolding Pat.LabAndPatPatRow
-lab-and-pat-returns t c = record { is = λ kinds m. then-stop (plain (c .before .before .before .before .text-of .ensures)) (c .enum-told .given .1) }
+lab-and-pat-returns t c = record { is = λ kinds. then-stop (plain (c .before .before .before .before .before .text-of .ensures)) (c .before .before .told .ensures) (c .enum-told .given .1) }
 
--- src/lib.rt:97:9
+-- src/lib.rt:105:5
 lab-and-pat-word-requires : (t : ℕ) → lab-and-pat-lts.Need-word-requires (
   text-of-reads.Asked,
   text-of-reads.Learnt,
+  told-reads.Asked,
+  told-reads.Learnt,
   word-reads.Asked,
   word-reads.Learnt,
   get-pat-below t,
@@ -2566,44 +2758,52 @@ lab-and-pat-word-requires : (t : ℕ) → lab-and-pat-lts.Need-word-requires (
 ) (lab-and-pat-at t) lab-and-pat.Post
 lab-and-pat-word-requires t c κs = search needs
 
--- src/lib.rt:98:5
+-- src/lib.rt:106:5
 lab-and-pat-get-pat-requires : (t : ℕ) → lab-and-pat-lts.Need-get-pat-requires (
   text-of-reads.Asked,
   text-of-reads.Learnt,
+  told-reads.Asked,
+  told-reads.Learnt,
   word-reads.Asked,
   word-reads.Learnt,
   get-pat-below t,
   get-pat.Post,
 ) (lab-and-pat-at t) lab-and-pat.Post
-lab-and-pat-get-pat-requires t c κs = omega (arith, c .before .before .before .before .before .before .before .before .before .before .before .before .before .before .before .before .before .pre .0)
+lab-and-pat-get-pat-requires t c κs = omega (arith, c .before .before .before .before .before .before .before .before .before .before .before .before .before .before .before .before .before .before .before .before .before .pre .0)
 
--- src/lib.rt:82:1
+-- src/lib.rt:88:1
 lab-and-pat-same-length-2 : (t : ℕ) → lab-and-pat-lts.Need-same-length-2 (
   text-of-reads.Asked,
   text-of-reads.Learnt,
+  told-reads.Asked,
+  told-reads.Learnt,
   word-reads.Asked,
   word-reads.Learnt,
   get-pat-below t,
   get-pat.Post,
 ) (lab-and-pat-at t) lab-and-pat.Post
-lab-and-pat-same-length-2 t c = c .before .before .get-pat .kept .1 .1 .1 .1 .0 ∙ c .before .before .before .before .before .before .word .kept .1 .0 ∙ c .before .before .before .before .before .before .before .before .before .before .before .before .before .text-of .kept .1 .1 .1 .1 .0
+lab-and-pat-same-length-2 t c = c .before .before .get-pat .kept .1 .1 .1 .1 .1 .0 ∙ c .before .before .before .before .before .before .before .word .kept .1 .1 .0 ∙ c .before .before .before .before .before .before .before .before .before .before .before .before .before .before .before .before .text-of .kept .1 .1 .1 .1 .1 .0
 
--- src/lib.rt:82:1
+-- src/lib.rt:88:1
 lab-and-pat-returns-2 : (t : ℕ) → lab-and-pat-lts.Need-returns-2 (
   text-of-reads.Asked,
   text-of-reads.Learnt,
+  told-reads.Asked,
+  told-reads.Learnt,
   word-reads.Asked,
   word-reads.Learnt,
   get-pat-below t,
   get-pat.Post,
 ) (lab-and-pat-at t) lab-and-pat.Post
 unfolding Pat.LabAndPatPatRow
-lab-and-pat-returns-2 t c = record { is = λ kinds m. then-done (plain (c .before .before .before .before .before .before .before .before .before .before .before .before .before .text-of .ensures)) (c .before .before .before .before .before .before .before .before .before .r1 .given .1) (then-sure (c .before .before .before .before .before .before .word .ensures) (plain (c .before .before .get-pat .ensures))) }
+lab-and-pat-returns-2 t c = record { is = λ kinds. then-done (plain (c .before .before .before .before .before .before .before .before .before .before .before .before .before .before .before .before .text-of .ensures)) (c .before .before .before .before .before .before .before .before .before .before .before .before .before .told .ensures) (c .before .before .before .before .before .before .before .before .before .before .before .s1 .given .1) (then-sure (c .before .before .before .before .before .before .before .word .ensures) (plain (c .before .before .get-pat .ensures))) }
 
--- src/lib.rt:152:9
+-- src/lib.rt:166:9
 lab-pat-text-of-requires : (t : ℕ) → lab-pat-lts.Need-text-of-requires (
   text-of-reads.Asked,
   text-of-reads.Learnt,
+  told-reads.Asked,
+  told-reads.Learnt,
   ty-annotation-reads.Asked,
   ty-annotation-reads.Learnt,
   as-tail-below t,
@@ -2611,21 +2811,38 @@ lab-pat-text-of-requires : (t : ℕ) → lab-pat-lts.Need-text-of-requires (
 ) (lab-pat-at t) lab-pat.Post
 lab-pat-text-of-requires t c κs = search needs
 
--- src/lib.rt:153:22
-lab-pat-enum-known-r1 : (t : ℕ) → lab-pat-lts.Need-enum-known-r1 (
+-- src/lib.rt:167:28
+lab-pat-told-requires : (t : ℕ) → lab-pat-lts.Need-told-requires (
   text-of-reads.Asked,
   text-of-reads.Learnt,
+  told-reads.Asked,
+  told-reads.Learnt,
   ty-annotation-reads.Asked,
   ty-annotation-reads.Learnt,
   as-tail-below t,
   as-tail.Post,
 ) (lab-pat-at t) lab-pat.Post
-lab-pat-enum-known-r1 t c = search needs
+lab-pat-told-requires t c κs = search needs
 
--- src/lib.rt:154:9
+-- src/lib.rt:167:22
+lab-pat-enum-known-s1 : (t : ℕ) → lab-pat-lts.Need-enum-known-s1 (
+  text-of-reads.Asked,
+  text-of-reads.Learnt,
+  told-reads.Asked,
+  told-reads.Learnt,
+  ty-annotation-reads.Asked,
+  ty-annotation-reads.Learnt,
+  as-tail-below t,
+  as-tail.Post,
+) (lab-pat-at t) lab-pat.Post
+lab-pat-enum-known-s1 t c = search needs
+
+-- src/lib.rt:168:9
 lab-pat-enum-told : (t : ℕ) → lab-pat-lts.Need-enum-told (
   text-of-reads.Asked,
   text-of-reads.Learnt,
+  told-reads.Asked,
+  told-reads.Learnt,
   ty-annotation-reads.Asked,
   ty-annotation-reads.Learnt,
   as-tail-below t,
@@ -2633,33 +2850,39 @@ lab-pat-enum-told : (t : ℕ) → lab-pat-lts.Need-enum-told (
 ) (lab-pat-at t) lab-pat.Post
 lab-pat-enum-told t c = search needs
 
--- src/lib.rt:154:9
+-- src/lib.rt:168:9
 lab-pat-same-length : (t : ℕ) → lab-pat-lts.Need-same-length (
   text-of-reads.Asked,
   text-of-reads.Learnt,
+  told-reads.Asked,
+  told-reads.Learnt,
   ty-annotation-reads.Asked,
   ty-annotation-reads.Learnt,
   as-tail-below t,
   as-tail.Post,
 ) (lab-pat-at t) lab-pat.Post
-lab-pat-same-length t c = c .before .before .before .before .text-of .kept .1 .1 .1 .1 .0
+lab-pat-same-length t c = c .before .before .before .before .before .text-of .kept .1 .1 .1 .1 .1 .0
 
--- src/lib.rt:154:9
+-- src/lib.rt:168:9
 lab-pat-returns : (t : ℕ) → lab-pat-lts.Need-returns (
   text-of-reads.Asked,
   text-of-reads.Learnt,
+  told-reads.Asked,
+  told-reads.Learnt,
   ty-annotation-reads.Asked,
   ty-annotation-reads.Learnt,
   as-tail-below t,
   as-tail.Post,
 ) (lab-pat-at t) lab-pat.Post
 unfolding Pat.LabPatRow
-lab-pat-returns t c = record { is = λ kinds m. then-stop (plain (c .before .before .before .before .text-of .ensures)) (c .enum-told .given .1) }
+lab-pat-returns t c = record { is = λ kinds. then-stop (plain (c .before .before .before .before .before .text-of .ensures)) (c .before .before .told .ensures) (c .enum-told .given .1) }
 
--- src/lib.rt:156:9
+-- src/lib.rt:170:9
 lab-pat-ty-annotation-requires : (t : ℕ) → lab-pat-lts.Need-ty-annotation-requires (
   text-of-reads.Asked,
   text-of-reads.Learnt,
+  told-reads.Asked,
+  told-reads.Learnt,
   ty-annotation-reads.Asked,
   ty-annotation-reads.Learnt,
   as-tail-below t,
@@ -2667,21 +2890,38 @@ lab-pat-ty-annotation-requires : (t : ℕ) → lab-pat-lts.Need-ty-annotation-re
 ) (lab-pat-at t) lab-pat.Post
 lab-pat-ty-annotation-requires t c κs = search needs
 
--- src/lib.rt:157:22
-lab-pat-enum-known-r2 : (t : ℕ) → lab-pat-lts.Need-enum-known-r2 (
+-- src/lib.rt:171:28
+lab-pat-told-requires-2 : (t : ℕ) → lab-pat-lts.Need-told-requires-2 (
   text-of-reads.Asked,
   text-of-reads.Learnt,
+  told-reads.Asked,
+  told-reads.Learnt,
   ty-annotation-reads.Asked,
   ty-annotation-reads.Learnt,
   as-tail-below t,
   as-tail.Post,
 ) (lab-pat-at t) lab-pat.Post
-lab-pat-enum-known-r2 t c = search needs
+lab-pat-told-requires-2 t c κs = search needs
 
--- src/lib.rt:158:9
+-- src/lib.rt:171:22
+lab-pat-enum-known-s2 : (t : ℕ) → lab-pat-lts.Need-enum-known-s2 (
+  text-of-reads.Asked,
+  text-of-reads.Learnt,
+  told-reads.Asked,
+  told-reads.Learnt,
+  ty-annotation-reads.Asked,
+  ty-annotation-reads.Learnt,
+  as-tail-below t,
+  as-tail.Post,
+) (lab-pat-at t) lab-pat.Post
+lab-pat-enum-known-s2 t c = search needs
+
+-- src/lib.rt:172:9
 lab-pat-enum-told-2 : (t : ℕ) → lab-pat-lts.Need-enum-told-2 (
   text-of-reads.Asked,
   text-of-reads.Learnt,
+  told-reads.Asked,
+  told-reads.Learnt,
   ty-annotation-reads.Asked,
   ty-annotation-reads.Learnt,
   as-tail-below t,
@@ -2689,320 +2929,417 @@ lab-pat-enum-told-2 : (t : ℕ) → lab-pat-lts.Need-enum-told-2 (
 ) (lab-pat-at t) lab-pat.Post
 lab-pat-enum-told-2 t c = search needs
 
--- src/lib.rt:158:9
+-- src/lib.rt:172:9
 lab-pat-same-length-2 : (t : ℕ) → lab-pat-lts.Need-same-length-2 (
   text-of-reads.Asked,
   text-of-reads.Learnt,
+  told-reads.Asked,
+  told-reads.Learnt,
   ty-annotation-reads.Asked,
   ty-annotation-reads.Learnt,
   as-tail-below t,
   as-tail.Post,
 ) (lab-pat-at t) lab-pat.Post
-lab-pat-same-length-2 t c = c .before .before .before .before .ty-annotation .kept .1 .1 .1 .1 .0 ∙ c .before .before .before .before .before .before .before .before .before .before .before .text-of .kept .1 .1 .1 .1 .0
+lab-pat-same-length-2 t c = c .before .before .before .before .before .ty-annotation .kept .1 .1 .1 .1 .1 .0 ∙ c .before .before .before .before .before .before .before .before .before .before .before .before .before .before .text-of .kept .1 .1 .1 .1 .1 .0
 
--- src/lib.rt:158:9
+-- src/lib.rt:172:9
 lab-pat-returns-2 : (t : ℕ) → lab-pat-lts.Need-returns-2 (
   text-of-reads.Asked,
   text-of-reads.Learnt,
+  told-reads.Asked,
+  told-reads.Learnt,
   ty-annotation-reads.Asked,
   ty-annotation-reads.Learnt,
   as-tail-below t,
   as-tail.Post,
 ) (lab-pat-at t) lab-pat.Post
 unfolding Pat.LabPatRow
-lab-pat-returns-2 t c = record { is = λ kinds m. then-done (plain (c .before .before .before .before .before .before .before .before .before .before .before .text-of .ensures)) (c .before .before .before .before .before .before .before .r1 .given .1) (then-stop (plain (c .before .before .before .before .ty-annotation .ensures)) (c .enum-told2 .given .1)) }
+lab-pat-returns-2 t c = record { is = λ kinds. then-done (plain (c .before .before .before .before .before .before .before .before .before .before .before .before .before .before .text-of .ensures)) (c .before .before .before .before .before .before .before .before .before .before .before .told .ensures) (c .before .before .before .before .before .before .before .before .before .s1 .given .1) (then-stop (plain (c .before .before .before .before .before .ty-annotation .ensures)) (c .before .before .told2 .ensures) (c .enum-told2 .given .1)) }
 
--- src/lib.rt:160:5
+-- src/lib.rt:174:5
 lab-pat-as-tail-requires : (t : ℕ) → lab-pat-lts.Need-as-tail-requires (
   text-of-reads.Asked,
   text-of-reads.Learnt,
+  told-reads.Asked,
+  told-reads.Learnt,
   ty-annotation-reads.Asked,
   ty-annotation-reads.Learnt,
   as-tail-below t,
   as-tail.Post,
 ) (lab-pat-at t) lab-pat.Post
-lab-pat-as-tail-requires t c κs = omega (arith, c .before .before .before .before .before .before .before .before .before .before .before .before .before .before .before .before .before .before .before .before .pre .0)
+lab-pat-as-tail-requires t c κs = omega (arith, c .before .before .before .before .before .before .before .before .before .before .before .before .before .before .before .before .before .before .before .before .before .before .before .before .before .pre .0)
 
--- src/lib.rt:141:1
+-- src/lib.rt:153:1
 lab-pat-same-length-3 : (t : ℕ) → lab-pat-lts.Need-same-length-3 (
   text-of-reads.Asked,
   text-of-reads.Learnt,
+  told-reads.Asked,
+  told-reads.Learnt,
   ty-annotation-reads.Asked,
   ty-annotation-reads.Learnt,
   as-tail-below t,
   as-tail.Post,
 ) (lab-pat-at t) lab-pat.Post
-lab-pat-same-length-3 t c = c .before .before .as-tail .kept .1 .1 .1 .1 .0 ∙ c .before .before .before .before .before .before .before .before .before .ty-annotation .kept .1 .1 .1 .1 .0 ∙ c .before .before .before .before .before .before .before .before .before .before .before .before .before .before .before .before .text-of .kept .1 .1 .1 .1 .0
+lab-pat-same-length-3 t c = c .before .before .as-tail .kept .1 .1 .1 .1 .1 .0 ∙ c .before .before .before .before .before .before .before .before .before .before .before .ty-annotation .kept .1 .1 .1 .1 .1 .0 ∙ c .before .before .before .before .before .before .before .before .before .before .before .before .before .before .before .before .before .before .before .before .text-of .kept .1 .1 .1 .1 .1 .0
 
--- src/lib.rt:141:1
+-- src/lib.rt:153:1
 lab-pat-returns-3 : (t : ℕ) → lab-pat-lts.Need-returns-3 (
   text-of-reads.Asked,
   text-of-reads.Learnt,
+  told-reads.Asked,
+  told-reads.Learnt,
   ty-annotation-reads.Asked,
   ty-annotation-reads.Learnt,
   as-tail-below t,
   as-tail.Post,
 ) (lab-pat-at t) lab-pat.Post
 unfolding Pat.LabPatRow
-lab-pat-returns-3 t c = record { is = λ kinds m. then-done (plain (c .before .before .before .before .before .before .before .before .before .before .before .before .before .before .before .before .text-of .ensures)) (c .before .before .before .before .before .before .before .before .before .before .before .before .r1 .given .1) (then-done (plain (c .before .before .before .before .before .before .before .before .before .ty-annotation .ensures)) (c .before .before .before .before .before .r2 .given .1) (plain (c .before .before .as-tail .ensures))) }
+lab-pat-returns-3 t c = record { is = λ kinds. then-done (plain (c .before .before .before .before .before .before .before .before .before .before .before .before .before .before .before .before .before .before .before .before .text-of .ensures)) (c .before .before .before .before .before .before .before .before .before .before .before .before .before .before .before .before .before .told .ensures) (c .before .before .before .before .before .before .before .before .before .before .before .before .before .before .before .s1 .given .1) (then-done (plain (c .before .before .before .before .before .before .before .before .before .before .before .ty-annotation .ensures)) (c .before .before .before .before .before .before .before .before .told2 .ensures) (c .before .before .before .before .before .before .s2 .given .1) (plain (c .before .before .as-tail .ensures))) }
 
--- src/lib.rt:340:9
+-- src/lib.rt:376:5
 list-pat-word-requires : (t : ℕ) → list-pat-lts.Need-word-requires (
   word-reads.Asked,
   word-reads.Learnt,
   pat-args-below t,
   pat-args.Post,
+  told-reads.Asked,
+  told-reads.Learnt,
 ) (list-pat-at t) list-pat.Post
 list-pat-word-requires t c κs = search needs
 
--- src/lib.rt:341:9
+-- src/lib.rt:377:9
 list-pat-pat-args-requires : (t : ℕ) → list-pat-lts.Need-pat-args-requires (
   word-reads.Asked,
   word-reads.Learnt,
   pat-args-below t,
   pat-args.Post,
+  told-reads.Asked,
+  told-reads.Learnt,
 ) (list-pat-at t) list-pat.Post
-list-pat-pat-args-requires t c κs = omega (arith, c .before .before .before .before .before .before .before .before .before .before .pre .0)
+list-pat-pat-args-requires t c κs = omega (arith, c .before .before .before .before .before .before .before .before .before .before .before .before .pre .0)
 
--- src/lib.rt:342:22
-list-pat-enum-known-r2 : (t : ℕ) → list-pat-lts.Need-enum-known-r2 (
+-- src/lib.rt:378:28
+list-pat-told-requires : (t : ℕ) → list-pat-lts.Need-told-requires (
   word-reads.Asked,
   word-reads.Learnt,
   pat-args-below t,
   pat-args.Post,
+  told-reads.Asked,
+  told-reads.Learnt,
 ) (list-pat-at t) list-pat.Post
-list-pat-enum-known-r2 t c = search needs
+list-pat-told-requires t c κs = search needs
 
--- src/lib.rt:343:9
+-- src/lib.rt:378:22
+list-pat-enum-known-s1 : (t : ℕ) → list-pat-lts.Need-enum-known-s1 (
+  word-reads.Asked,
+  word-reads.Learnt,
+  pat-args-below t,
+  pat-args.Post,
+  told-reads.Asked,
+  told-reads.Learnt,
+) (list-pat-at t) list-pat.Post
+list-pat-enum-known-s1 t c = search needs
+
+-- src/lib.rt:379:9
 list-pat-enum-told : (t : ℕ) → list-pat-lts.Need-enum-told (
   word-reads.Asked,
   word-reads.Learnt,
   pat-args-below t,
   pat-args.Post,
+  told-reads.Asked,
+  told-reads.Learnt,
 ) (list-pat-at t) list-pat.Post
 list-pat-enum-told t c = search needs
 
--- src/lib.rt:343:9
+-- src/lib.rt:379:9
 list-pat-same-length : (t : ℕ) → list-pat-lts.Need-same-length (
   word-reads.Asked,
   word-reads.Learnt,
   pat-args-below t,
   pat-args.Post,
+  told-reads.Asked,
+  told-reads.Learnt,
 ) (list-pat-at t) list-pat.Post
-list-pat-same-length t c = c .before .before .before .before .pat-args .kept .1 .1 .1 .1 .0 ∙ c .before .before .before .before .before .before .before .before .word .kept .1 .0
+list-pat-same-length t c = c .before .before .before .before .before .pat-args .kept .1 .1 .1 .1 .1 .0 ∙ c .before .before .before .before .before .before .before .before .before .before .word .kept .1 .1 .0
 
--- src/lib.rt:343:9
+-- src/lib.rt:379:9
 list-pat-returns : (t : ℕ) → list-pat-lts.Need-returns (
   word-reads.Asked,
   word-reads.Learnt,
   pat-args-below t,
   pat-args.Post,
+  told-reads.Asked,
+  told-reads.Learnt,
 ) (list-pat-at t) list-pat.Post
 unfolding Pat.pat
-list-pat-returns t c = record { is = λ kinds m. then-sure (c .before .before .before .before .before .before .before .before .word .ensures) (then-stop (plain (c .before .before .before .before .pat-args .ensures)) (c .enum-told .given .1)) }
+list-pat-returns t c = record { is = λ kinds. then-sure (c .before .before .before .before .before .before .before .before .before .before .word .ensures) (then-stop (plain (c .before .before .before .before .before .pat-args .ensures)) (c .before .before .told .ensures) (c .enum-told .given .1)) }
 
--- src/lib.rt:345:18
+-- src/lib.rt:381:5
 list-pat-word-requires-2 : (t : ℕ) → list-pat-lts.Need-word-requires-2 (
   word-reads.Asked,
   word-reads.Learnt,
   pat-args-below t,
   pat-args.Post,
+  told-reads.Asked,
+  told-reads.Learnt,
 ) (list-pat-at t) list-pat.Post
 list-pat-word-requires-2 t c κs = search needs
 
--- src/lib.rt:329:1
+-- src/lib.rt:363:1
 list-pat-same-length-2 : (t : ℕ) → list-pat-lts.Need-same-length-2 (
   word-reads.Asked,
   word-reads.Learnt,
   pat-args-below t,
   pat-args.Post,
+  told-reads.Asked,
+  told-reads.Learnt,
 ) (list-pat-at t) list-pat.Post
-list-pat-same-length-2 t c = c .before .before .word2 .kept .1 .0 ∙ c .before .before .before .before .before .before .before .before .before .pat-args .kept .1 .1 .1 .1 .0 ∙ c .before .before .before .before .before .before .before .before .before .before .before .before .before .word .kept .1 .0
+list-pat-same-length-2 t c = c .before .before .word2 .kept .1 .1 .0 ∙ c .before .before .before .before .before .before .before .before .before .before .before .pat-args .kept .1 .1 .1 .1 .1 .0 ∙ c .before .before .before .before .before .before .before .before .before .before .before .before .before .before .before .before .word .kept .1 .1 .0
 
--- src/lib.rt:329:1
+-- src/lib.rt:363:1
 list-pat-returns-2 : (t : ℕ) → list-pat-lts.Need-returns-2 (
   word-reads.Asked,
   word-reads.Learnt,
   pat-args-below t,
   pat-args.Post,
+  told-reads.Asked,
+  told-reads.Learnt,
 ) (list-pat-at t) list-pat.Post
 unfolding Pat.pat
-list-pat-returns-2 t c = record { is = λ kinds m. then-sure (c .before .before .before .before .before .before .before .before .before .before .before .before .before .word .ensures) (then-done (plain (c .before .before .before .before .before .before .before .before .before .pat-args .ensures)) (c .before .before .before .before .before .r2 .given .1) (last-sure (c .before .before .word2 .ensures))) }
+list-pat-returns-2 t c = record { is = λ kinds. then-sure (c .before .before .before .before .before .before .before .before .before .before .before .before .before .before .before .before .word .ensures) (then-done (plain (c .before .before .before .before .before .before .before .before .before .before .before .pat-args .ensures)) (c .before .before .before .before .before .before .before .before .told .ensures) (c .before .before .before .before .before .before .s1 .given .1) (last-sure (c .before .before .word2 .ensures))) }
 
--- src/lib.rt:453:9
+-- src/lib.rt:501:9
 or-pat-get-pat-requires : (t : ℕ) → or-pat-lts.Need-get-pat-requires (
   get-pat-below t,
   get-pat.Post,
+  told-reads.Asked,
+  told-reads.Learnt,
   word-reads.Asked,
   word-reads.Learnt,
 ) (or-pat-at t) or-pat.Post
-or-pat-get-pat-requires t c κs = omega (arith, c .before .before .before .before .before .before .pre .0)
+or-pat-get-pat-requires t c κs = omega (arith, c .before .before .before .before .before .before .before .pre .0)
 
--- src/lib.rt:454:22
-or-pat-enum-known-r1 : (t : ℕ) → or-pat-lts.Need-enum-known-r1 (
+-- src/lib.rt:502:28
+or-pat-told-requires : (t : ℕ) → or-pat-lts.Need-told-requires (
   get-pat-below t,
   get-pat.Post,
+  told-reads.Asked,
+  told-reads.Learnt,
   word-reads.Asked,
   word-reads.Learnt,
 ) (or-pat-at t) or-pat.Post
-or-pat-enum-known-r1 t c = search needs
+or-pat-told-requires t c κs = search needs
 
--- src/lib.rt:455:9
+-- src/lib.rt:502:22
+or-pat-enum-known-s1 : (t : ℕ) → or-pat-lts.Need-enum-known-s1 (
+  get-pat-below t,
+  get-pat.Post,
+  told-reads.Asked,
+  told-reads.Learnt,
+  word-reads.Asked,
+  word-reads.Learnt,
+) (or-pat-at t) or-pat.Post
+or-pat-enum-known-s1 t c = search needs
+
+-- src/lib.rt:503:9
 or-pat-enum-told : (t : ℕ) → or-pat-lts.Need-enum-told (
   get-pat-below t,
   get-pat.Post,
+  told-reads.Asked,
+  told-reads.Learnt,
   word-reads.Asked,
   word-reads.Learnt,
 ) (or-pat-at t) or-pat.Post
 or-pat-enum-told t c = search needs
 
--- src/lib.rt:455:9
+-- src/lib.rt:503:9
 or-pat-same-length : (t : ℕ) → or-pat-lts.Need-same-length (
   get-pat-below t,
   get-pat.Post,
+  told-reads.Asked,
+  told-reads.Learnt,
   word-reads.Asked,
   word-reads.Learnt,
 ) (or-pat-at t) or-pat.Post
-or-pat-same-length t c = c .before .before .before .before .get-pat .kept .1 .1 .1 .1 .0
+or-pat-same-length t c = c .before .before .before .before .before .get-pat .kept .1 .1 .1 .1 .1 .0
 
--- src/lib.rt:455:9
+-- src/lib.rt:503:9
 or-pat-returns : (t : ℕ) → or-pat-lts.Need-returns (
   get-pat-below t,
   get-pat.Post,
+  told-reads.Asked,
+  told-reads.Learnt,
   word-reads.Asked,
   word-reads.Learnt,
 ) (or-pat-at t) or-pat.Post
 unfolding Pat.pat
-or-pat-returns t c = record { is = λ kinds m. then-stop (plain (c .before .before .before .before .get-pat .ensures)) (c .enum-told .given .1) }
+or-pat-returns t c = record { is = λ kinds. then-stop (plain (c .before .before .before .before .before .get-pat .ensures)) (c .before .before .told .ensures) (c .enum-told .given .1) }
 
--- src/lib.rt:457:9
+-- src/lib.rt:505:5
 or-pat-word-requires : (t : ℕ) → or-pat-lts.Need-word-requires (
   get-pat-below t,
   get-pat.Post,
+  told-reads.Asked,
+  told-reads.Learnt,
   word-reads.Asked,
   word-reads.Learnt,
 ) (or-pat-at t) or-pat.Post
 or-pat-word-requires t c κs = search needs
 
--- src/lib.rt:458:5
+-- src/lib.rt:506:5
 or-pat-get-pat-requires-2 : (t : ℕ) → or-pat-lts.Need-get-pat-requires-2 (
   get-pat-below t,
   get-pat.Post,
+  told-reads.Asked,
+  told-reads.Learnt,
   word-reads.Asked,
   word-reads.Learnt,
 ) (or-pat-at t) or-pat.Post
-or-pat-get-pat-requires-2 t c κs = omega (arith, c .before .before .before .before .before .before .before .before .before .before .before .before .before .before .before .before .before .pre .0)
+or-pat-get-pat-requires-2 t c κs = omega (arith, c .before .before .before .before .before .before .before .before .before .before .before .before .before .before .before .before .before .before .before .before .before .pre .0)
 
--- src/lib.rt:442:1
+-- src/lib.rt:488:1
 or-pat-same-length-2 : (t : ℕ) → or-pat-lts.Need-same-length-2 (
   get-pat-below t,
   get-pat.Post,
+  told-reads.Asked,
+  told-reads.Learnt,
   word-reads.Asked,
   word-reads.Learnt,
 ) (or-pat-at t) or-pat.Post
-or-pat-same-length-2 t c = c .before .before .get-pat2 .kept .1 .1 .1 .1 .0 ∙ c .before .before .before .before .before .before .word .kept .1 .0 ∙ c .before .before .before .before .before .before .before .before .before .before .before .before .before .get-pat .kept .1 .1 .1 .1 .0
+or-pat-same-length-2 t c = c .before .before .get-pat2 .kept .1 .1 .1 .1 .1 .0 ∙ c .before .before .before .before .before .before .before .word .kept .1 .1 .0 ∙ c .before .before .before .before .before .before .before .before .before .before .before .before .before .before .before .before .get-pat .kept .1 .1 .1 .1 .1 .0
 
--- src/lib.rt:442:1
+-- src/lib.rt:488:1
 or-pat-returns-2 : (t : ℕ) → or-pat-lts.Need-returns-2 (
   get-pat-below t,
   get-pat.Post,
+  told-reads.Asked,
+  told-reads.Learnt,
   word-reads.Asked,
   word-reads.Learnt,
 ) (or-pat-at t) or-pat.Post
 unfolding Pat.pat
-or-pat-returns-2 t c = record { is = λ kinds m. then-done (plain (c .before .before .before .before .before .before .before .before .before .before .before .before .before .get-pat .ensures)) (c .before .before .before .before .before .before .before .before .before .r1 .given .1) (then-sure (c .before .before .before .before .before .before .word .ensures) (plain (c .before .before .get-pat2 .ensures))) }
+or-pat-returns-2 t c = record { is = λ kinds. then-done (plain (c .before .before .before .before .before .before .before .before .before .before .before .before .before .before .before .before .get-pat .ensures)) (c .before .before .before .before .before .before .before .before .before .before .before .before .before .told .ensures) (c .before .before .before .before .before .before .before .before .before .before .before .s1 .given .1) (then-sure (c .before .before .before .before .before .before .before .word .ensures) (plain (c .before .before .get-pat2 .ensures))) }
 
--- src/lib.rt:267:9
+-- src/lib.rt:295:5
 paren-pat-word-requires : (t : ℕ) → paren-pat-lts.Need-word-requires (
   word-reads.Asked,
   word-reads.Learnt,
   get-pat-below t,
   get-pat.Post,
+  told-reads.Asked,
+  told-reads.Learnt,
 ) (paren-pat-at t) paren-pat.Post
 paren-pat-word-requires t c κs = search needs
 
--- src/lib.rt:268:9
+-- src/lib.rt:296:9
 paren-pat-get-pat-requires : (t : ℕ) → paren-pat-lts.Need-get-pat-requires (
   word-reads.Asked,
   word-reads.Learnt,
   get-pat-below t,
   get-pat.Post,
+  told-reads.Asked,
+  told-reads.Learnt,
 ) (paren-pat-at t) paren-pat.Post
-paren-pat-get-pat-requires t c κs = omega (arith, c .before .before .before .before .before .before .before .before .before .before .pre .0)
+paren-pat-get-pat-requires t c κs = omega (arith, c .before .before .before .before .before .before .before .before .before .before .before .before .pre .0)
 
--- src/lib.rt:269:22
-paren-pat-enum-known-r2 : (t : ℕ) → paren-pat-lts.Need-enum-known-r2 (
+-- src/lib.rt:297:28
+paren-pat-told-requires : (t : ℕ) → paren-pat-lts.Need-told-requires (
   word-reads.Asked,
   word-reads.Learnt,
   get-pat-below t,
   get-pat.Post,
+  told-reads.Asked,
+  told-reads.Learnt,
 ) (paren-pat-at t) paren-pat.Post
-paren-pat-enum-known-r2 t c = search needs
+paren-pat-told-requires t c κs = search needs
 
--- src/lib.rt:270:9
+-- src/lib.rt:297:22
+paren-pat-enum-known-s1 : (t : ℕ) → paren-pat-lts.Need-enum-known-s1 (
+  word-reads.Asked,
+  word-reads.Learnt,
+  get-pat-below t,
+  get-pat.Post,
+  told-reads.Asked,
+  told-reads.Learnt,
+) (paren-pat-at t) paren-pat.Post
+paren-pat-enum-known-s1 t c = search needs
+
+-- src/lib.rt:298:9
 paren-pat-enum-told : (t : ℕ) → paren-pat-lts.Need-enum-told (
   word-reads.Asked,
   word-reads.Learnt,
   get-pat-below t,
   get-pat.Post,
+  told-reads.Asked,
+  told-reads.Learnt,
 ) (paren-pat-at t) paren-pat.Post
 paren-pat-enum-told t c = search needs
 
--- src/lib.rt:270:9
+-- src/lib.rt:298:9
 paren-pat-same-length : (t : ℕ) → paren-pat-lts.Need-same-length (
   word-reads.Asked,
   word-reads.Learnt,
   get-pat-below t,
   get-pat.Post,
+  told-reads.Asked,
+  told-reads.Learnt,
 ) (paren-pat-at t) paren-pat.Post
-paren-pat-same-length t c = c .before .before .before .before .get-pat .kept .1 .1 .1 .1 .0 ∙ c .before .before .before .before .before .before .before .before .word .kept .1 .0
+paren-pat-same-length t c = c .before .before .before .before .before .get-pat .kept .1 .1 .1 .1 .1 .0 ∙ c .before .before .before .before .before .before .before .before .before .before .word .kept .1 .1 .0
 
--- src/lib.rt:270:9
+-- src/lib.rt:298:9
 paren-pat-returns : (t : ℕ) → paren-pat-lts.Need-returns (
   word-reads.Asked,
   word-reads.Learnt,
   get-pat-below t,
   get-pat.Post,
+  told-reads.Asked,
+  told-reads.Learnt,
 ) (paren-pat-at t) paren-pat.Post
 unfolding Pat.pat
-paren-pat-returns t c = record { is = λ kinds m. then-sure (c .before .before .before .before .before .before .before .before .word .ensures) (then-stop (plain (c .before .before .before .before .get-pat .ensures)) (c .enum-told .given .1)) }
+paren-pat-returns t c = record { is = λ kinds. then-sure (c .before .before .before .before .before .before .before .before .before .before .word .ensures) (then-stop (plain (c .before .before .before .before .before .get-pat .ensures)) (c .before .before .told .ensures) (c .enum-told .given .1)) }
 
--- src/lib.rt:272:18
+-- src/lib.rt:300:5
 paren-pat-word-requires-2 : (t : ℕ) → paren-pat-lts.Need-word-requires-2 (
   word-reads.Asked,
   word-reads.Learnt,
   get-pat-below t,
   get-pat.Post,
+  told-reads.Asked,
+  told-reads.Learnt,
 ) (paren-pat-at t) paren-pat.Post
 paren-pat-word-requires-2 t c κs = search needs
 
--- src/lib.rt:256:1
+-- src/lib.rt:282:1
 paren-pat-same-length-2 : (t : ℕ) → paren-pat-lts.Need-same-length-2 (
   word-reads.Asked,
   word-reads.Learnt,
   get-pat-below t,
   get-pat.Post,
+  told-reads.Asked,
+  told-reads.Learnt,
 ) (paren-pat-at t) paren-pat.Post
-paren-pat-same-length-2 t c = c .before .before .word2 .kept .1 .0 ∙ c .before .before .before .before .before .before .before .before .before .get-pat .kept .1 .1 .1 .1 .0 ∙ c .before .before .before .before .before .before .before .before .before .before .before .before .before .word .kept .1 .0
+paren-pat-same-length-2 t c = c .before .before .word2 .kept .1 .1 .0 ∙ c .before .before .before .before .before .before .before .before .before .before .before .get-pat .kept .1 .1 .1 .1 .1 .0 ∙ c .before .before .before .before .before .before .before .before .before .before .before .before .before .before .before .before .word .kept .1 .1 .0
 
--- src/lib.rt:256:1
+-- src/lib.rt:282:1
 paren-pat-returns-2 : (t : ℕ) → paren-pat-lts.Need-returns-2 (
   word-reads.Asked,
   word-reads.Learnt,
   get-pat-below t,
   get-pat.Post,
+  told-reads.Asked,
+  told-reads.Learnt,
 ) (paren-pat-at t) paren-pat.Post
 unfolding Pat.pat
-paren-pat-returns-2 t c = record { is = λ kinds m. then-sure (c .before .before .before .before .before .before .before .before .before .before .before .before .before .word .ensures) (then-done (plain (c .before .before .before .before .before .before .before .before .before .get-pat .ensures)) (c .before .before .before .before .before .r2 .given .1) (last-sure (c .before .before .word2 .ensures))) }
+paren-pat-returns-2 t c = record { is = λ kinds. then-sure (c .before .before .before .before .before .before .before .before .before .before .before .before .before .before .before .before .word .ensures) (then-done (plain (c .before .before .before .before .before .before .before .before .before .before .before .get-pat .ensures)) (c .before .before .before .before .before .before .before .before .told .ensures) (c .before .before .before .before .before .before .s1 .given .1) (last-sure (c .before .before .word2 .ensures))) }
 
 abbrev pat-args-Inv-loop : pat-args-lts.InvT-loop
-pat-args-Inv-loop text rec starts lens out₀ cfg n s₀ i₀ out s i =
-    PlainTurn text rec starts lens (cfg .tab) (from (Layout.word ", ") (Layout.group (walks (cfg .left) .get-pat))) n s₀ out₀ i s out
+pat-args-Inv-loop run text rec starts lens out₀ mem₀ at cfg n s0 s₀ i₀ out mem s i =
+    PlainTurn run text rec starts lens (from (Layout.word ", ") (Layout.group (walks (cfg .left) .get-pat))) n s₀ mem₀ out₀ i s mem out
 
 abbrev pat-args-μ-loop : pat-args-lts.MeasureT-loop
-pat-args-μ-loop text rec starts lens out₀ cfg n s₀ i₀ out s i = n - i
+pat-args-μ-loop run text rec starts lens out₀ mem₀ at cfg n s0 s₀ i₀ out mem s i = n - i
 
--- src/lib.rt:287:27
+-- src/lib.rt:318:27
 pat-args-list-requires : (t : ℕ) → pat-args-lts.Need-list-requires (
   list-reads.Asked,
   list-reads.Learnt,
@@ -3012,12 +3349,14 @@ pat-args-list-requires : (t : ℕ) → pat-args-lts.Need-list-requires (
   between-reads.Learnt,
   group-reads.Asked,
   group-reads.Learnt,
+  told-reads.Asked,
+  told-reads.Learnt,
   get-pat-below t,
   get-pat.Post,
 ) (pat-args-at t) pat-args.Post pat-args-Inv-loop pat-args-μ-loop
 pat-args-list-requires t c κs = search needs
 
--- src/lib.rt:287:18
+-- src/lib.rt:318:18
 pat-args-enum-known-n : (t : ℕ) → pat-args-lts.Need-enum-known-n (
   list-reads.Asked,
   list-reads.Learnt,
@@ -3027,12 +3366,14 @@ pat-args-enum-known-n : (t : ℕ) → pat-args-lts.Need-enum-known-n (
   between-reads.Learnt,
   group-reads.Asked,
   group-reads.Learnt,
+  told-reads.Asked,
+  told-reads.Learnt,
   get-pat-below t,
   get-pat.Post,
 ) (pat-args-at t) pat-args.Post pat-args-Inv-loop pat-args-μ-loop
 pat-args-enum-known-n t c = search needs
 
--- src/lib.rt:288:9
+-- src/lib.rt:319:9
 pat-args-enum-told : (t : ℕ) → pat-args-lts.Need-enum-told (
   list-reads.Asked,
   list-reads.Learnt,
@@ -3042,12 +3383,14 @@ pat-args-enum-told : (t : ℕ) → pat-args-lts.Need-enum-told (
   between-reads.Learnt,
   group-reads.Asked,
   group-reads.Learnt,
+  told-reads.Asked,
+  told-reads.Learnt,
   get-pat-below t,
   get-pat.Post,
 ) (pat-args-at t) pat-args.Post pat-args-Inv-loop pat-args-μ-loop
 pat-args-enum-told t c = search needs
 
--- src/lib.rt:288:9
+-- src/lib.rt:319:9
 pat-args-stop-requires : (t : ℕ) → pat-args-lts.Need-stop-requires (
   list-reads.Asked,
   list-reads.Learnt,
@@ -3057,12 +3400,14 @@ pat-args-stop-requires : (t : ℕ) → pat-args-lts.Need-stop-requires (
   between-reads.Learnt,
   group-reads.Asked,
   group-reads.Learnt,
+  told-reads.Asked,
+  told-reads.Learnt,
   get-pat-below t,
   get-pat.Post,
 ) (pat-args-at t) pat-args.Post pat-args-Inv-loop pat-args-μ-loop
 pat-args-stop-requires t c κs = search needs
 
--- src/lib.rt:288:9
+-- src/lib.rt:319:9
 pat-args-returns : (t : ℕ) → pat-args-lts.Need-returns (
   list-reads.Asked,
   list-reads.Learnt,
@@ -3072,13 +3417,15 @@ pat-args-returns : (t : ℕ) → pat-args-lts.Need-returns (
   between-reads.Learnt,
   group-reads.Asked,
   group-reads.Learnt,
+  told-reads.Asked,
+  told-reads.Learnt,
   get-pat-below t,
   get-pat.Post,
 ) (pat-args-at t) pat-args.Post pat-args-Inv-loop pat-args-μ-loop
 unfolding Pat.pat-args Helpers.sep
-pat-args-returns t c = record { is = λ kinds m. list-not (c .stop .ensures) (c .before .before .before .list .ensures) (c .before .enum-told .given .1) }
+pat-args-returns t c = record { is = λ kinds. list-not (c .stop .ensures) (c .before .before .before .list .ensures) (c .before .enum-told .given .1) }
 
--- src/lib.rt:292:5
+-- src/lib.rt:323:5
 pat-args-loop-holds : (t : ℕ) → pat-args-lts.Need-loop-holds (
   list-reads.Asked,
   list-reads.Learnt,
@@ -3088,12 +3435,14 @@ pat-args-loop-holds : (t : ℕ) → pat-args-lts.Need-loop-holds (
   between-reads.Learnt,
   group-reads.Asked,
   group-reads.Learnt,
+  told-reads.Asked,
+  told-reads.Learnt,
   get-pat-below t,
   get-pat.Post,
 ) (pat-args-at t) pat-args.Post pat-args-Inv-loop pat-args-μ-loop
-pat-args-loop-holds t c = (omega arith, λ kinds m r o h. h, refl)
+pat-args-loop-holds t c = (omega arith, λ kinds r m o h. h, refl)
 
--- src/lib.rt:293:13
+-- src/lib.rt:324:9
 pat-args-between-requires : (t : ℕ) → pat-args-lts.Need-between-requires (
   list-reads.Asked,
   list-reads.Learnt,
@@ -3103,12 +3452,14 @@ pat-args-between-requires : (t : ℕ) → pat-args-lts.Need-between-requires (
   between-reads.Learnt,
   group-reads.Asked,
   group-reads.Learnt,
+  told-reads.Asked,
+  told-reads.Learnt,
   get-pat-below t,
   get-pat.Post,
 ) (pat-args-at t) pat-args.Post pat-args-Inv-loop pat-args-μ-loop
 pat-args-between-requires t c κs = search needs
 
--- src/lib.rt:294:13
+-- src/lib.rt:325:13
 pat-args-group-requires : (t : ℕ) → pat-args-lts.Need-group-requires (
   list-reads.Asked,
   list-reads.Learnt,
@@ -3118,13 +3469,15 @@ pat-args-group-requires : (t : ℕ) → pat-args-lts.Need-group-requires (
   between-reads.Learnt,
   group-reads.Asked,
   group-reads.Learnt,
+  told-reads.Asked,
+  told-reads.Learnt,
   get-pat-below t,
   get-pat.Post,
 ) (pat-args-at t) pat-args.Post pat-args-Inv-loop pat-args-μ-loop
 pat-args-group-requires t c κs = search needs
 
--- src/lib.rt:295:26
-pat-args-enum-known-r2 : (t : ℕ) → pat-args-lts.Need-enum-known-r2 (
+-- src/lib.rt:326:32
+pat-args-told-requires : (t : ℕ) → pat-args-lts.Need-told-requires (
   list-reads.Asked,
   list-reads.Learnt,
   stop-reads.Asked,
@@ -3133,12 +3486,31 @@ pat-args-enum-known-r2 : (t : ℕ) → pat-args-lts.Need-enum-known-r2 (
   between-reads.Learnt,
   group-reads.Asked,
   group-reads.Learnt,
+  told-reads.Asked,
+  told-reads.Learnt,
   get-pat-below t,
   get-pat.Post,
 ) (pat-args-at t) pat-args.Post pat-args-Inv-loop pat-args-μ-loop
-pat-args-enum-known-r2 t c = search needs
+pat-args-told-requires t c κs = search needs
 
--- src/lib.rt:296:13
+-- src/lib.rt:326:26
+pat-args-enum-known-s1 : (t : ℕ) → pat-args-lts.Need-enum-known-s1 (
+  list-reads.Asked,
+  list-reads.Learnt,
+  stop-reads.Asked,
+  stop-reads.Learnt,
+  between-reads.Asked,
+  between-reads.Learnt,
+  group-reads.Asked,
+  group-reads.Learnt,
+  told-reads.Asked,
+  told-reads.Learnt,
+  get-pat-below t,
+  get-pat.Post,
+) (pat-args-at t) pat-args.Post pat-args-Inv-loop pat-args-μ-loop
+pat-args-enum-known-s1 t c = search needs
+
+-- src/lib.rt:327:13
 pat-args-enum-told-2 : (t : ℕ) → pat-args-lts.Need-enum-told-2 (
   list-reads.Asked,
   list-reads.Learnt,
@@ -3148,12 +3520,14 @@ pat-args-enum-told-2 : (t : ℕ) → pat-args-lts.Need-enum-told-2 (
   between-reads.Learnt,
   group-reads.Asked,
   group-reads.Learnt,
+  told-reads.Asked,
+  told-reads.Learnt,
   get-pat-below t,
   get-pat.Post,
 ) (pat-args-at t) pat-args.Post pat-args-Inv-loop pat-args-μ-loop
 pat-args-enum-told-2 t c = search needs
 
--- src/lib.rt:296:13
+-- src/lib.rt:327:13
 pat-args-same-length : (t : ℕ) → pat-args-lts.Need-same-length (
   list-reads.Asked,
   list-reads.Learnt,
@@ -3163,12 +3537,14 @@ pat-args-same-length : (t : ℕ) → pat-args-lts.Need-same-length (
   between-reads.Learnt,
   group-reads.Asked,
   group-reads.Learnt,
+  told-reads.Asked,
+  told-reads.Learnt,
   get-pat-below t,
   get-pat.Post,
 ) (pat-args-at t) pat-args.Post pat-args-Inv-loop pat-args-μ-loop
-pat-args-same-length t c = c .before .before .before .before .before .between .kept .1 .0 ∙ c .before .before .before .before .before .before .before .before .loop .inv .2
+pat-args-same-length t c = c .before .before .before .before .before .before .between .kept .1 .1 .0 ∙ c .before .before .before .before .before .before .before .before .before .before .loop .inv .2
 
--- src/lib.rt:296:13
+-- src/lib.rt:327:13
 pat-args-returns-2 : (t : ℕ) → pat-args-lts.Need-returns-2 (
   list-reads.Asked,
   list-reads.Learnt,
@@ -3178,13 +3554,15 @@ pat-args-returns-2 : (t : ℕ) → pat-args-lts.Need-returns-2 (
   between-reads.Learnt,
   group-reads.Asked,
   group-reads.Learnt,
+  told-reads.Asked,
+  told-reads.Learnt,
   get-pat-below t,
   get-pat.Post,
 ) (pat-args-at t) pat-args.Post pat-args-Inv-loop pat-args-μ-loop
 unfolding Pat.pat-args Helpers.sep
-pat-args-returns-2 t c = record { is = λ kinds m. by-same (list-is (c .before .before .before .before .before .before .before .before .before .before .before .before .list .ensures) (c .before .before .before .before .before .before .before .before .before .before .n .given .1)) (by-same (items-all _ _ _) (c .before .before .before .before .before .before .before .before .loop .inv .1 kinds m _ _ (from-more _ _ (c .before .before .before .before .before .before .before .loop-test .taken) (then-sure (c .before .before .before .before .before .between .ensures) (then-stop (group-not (c .before .before .group .ensures) (c .enum-told2 .given .1)) (c .enum-told2 .given .1)))))) }
+pat-args-returns-2 t c = record { is = λ kinds. by-same (list-is (c .before .before .before .before .before .before .before .before .before .before .before .before .before .before .list .ensures) (c .before .before .before .before .before .before .before .before .before .before .before .before .n .given .1)) (by-same (items-all _ _ _) (c .before .before .before .before .before .before .before .before .before .before .loop .inv .1 kinds _ _ _ (from-more _ _ (c .before .before .before .before .before .before .before .before .before .loop-test .taken) (then-sure (c .before .before .before .before .before .before .between .ensures) (then-stop (group-not (c .before .before .before .group .ensures) (c .before .before .told .ensures) (c .enum-told2 .given .1)) (c .before .before .told .ensures) (c .enum-told2 .given .1)))))) }
 
--- src/lib.rt:298:13
+-- src/lib.rt:329:13
 pat-args-get-pat-requires : (t : ℕ) → pat-args-lts.Need-get-pat-requires (
   list-reads.Asked,
   list-reads.Learnt,
@@ -3194,13 +3572,15 @@ pat-args-get-pat-requires : (t : ℕ) → pat-args-lts.Need-get-pat-requires (
   between-reads.Learnt,
   group-reads.Asked,
   group-reads.Learnt,
+  told-reads.Asked,
+  told-reads.Learnt,
   get-pat-below t,
   get-pat.Post,
 ) (pat-args-at t) pat-args.Post pat-args-Inv-loop pat-args-μ-loop
-pat-args-get-pat-requires t c κs = omega (arith, c .before .before .before .before .before .before .before .before .before .before .before .before .before .before .before .before .before .before .before .before .pre .0)
+pat-args-get-pat-requires t c κs = omega (arith, c .before .before .before .before .before .before .before .before .before .before .before .before .before .before .before .before .before .before .before .before .before .before .before .pre .0)
 
--- src/lib.rt:299:26
-pat-args-enum-known-r3 : (t : ℕ) → pat-args-lts.Need-enum-known-r3 (
+-- src/lib.rt:330:32
+pat-args-told-requires-2 : (t : ℕ) → pat-args-lts.Need-told-requires-2 (
   list-reads.Asked,
   list-reads.Learnt,
   stop-reads.Asked,
@@ -3209,12 +3589,31 @@ pat-args-enum-known-r3 : (t : ℕ) → pat-args-lts.Need-enum-known-r3 (
   between-reads.Learnt,
   group-reads.Asked,
   group-reads.Learnt,
+  told-reads.Asked,
+  told-reads.Learnt,
   get-pat-below t,
   get-pat.Post,
 ) (pat-args-at t) pat-args.Post pat-args-Inv-loop pat-args-μ-loop
-pat-args-enum-known-r3 t c = search needs
+pat-args-told-requires-2 t c κs = search needs
 
--- src/lib.rt:300:13
+-- src/lib.rt:330:26
+pat-args-enum-known-s2 : (t : ℕ) → pat-args-lts.Need-enum-known-s2 (
+  list-reads.Asked,
+  list-reads.Learnt,
+  stop-reads.Asked,
+  stop-reads.Learnt,
+  between-reads.Asked,
+  between-reads.Learnt,
+  group-reads.Asked,
+  group-reads.Learnt,
+  told-reads.Asked,
+  told-reads.Learnt,
+  get-pat-below t,
+  get-pat.Post,
+) (pat-args-at t) pat-args.Post pat-args-Inv-loop pat-args-μ-loop
+pat-args-enum-known-s2 t c = search needs
+
+-- src/lib.rt:331:13
 pat-args-enum-told-3 : (t : ℕ) → pat-args-lts.Need-enum-told-3 (
   list-reads.Asked,
   list-reads.Learnt,
@@ -3224,12 +3623,14 @@ pat-args-enum-told-3 : (t : ℕ) → pat-args-lts.Need-enum-told-3 (
   between-reads.Learnt,
   group-reads.Asked,
   group-reads.Learnt,
+  told-reads.Asked,
+  told-reads.Learnt,
   get-pat-below t,
   get-pat.Post,
 ) (pat-args-at t) pat-args.Post pat-args-Inv-loop pat-args-μ-loop
 pat-args-enum-told-3 t c = search needs
 
--- src/lib.rt:300:13
+-- src/lib.rt:331:13
 pat-args-same-length-2 : (t : ℕ) → pat-args-lts.Need-same-length-2 (
   list-reads.Asked,
   list-reads.Learnt,
@@ -3239,12 +3640,14 @@ pat-args-same-length-2 : (t : ℕ) → pat-args-lts.Need-same-length-2 (
   between-reads.Learnt,
   group-reads.Asked,
   group-reads.Learnt,
+  told-reads.Asked,
+  told-reads.Learnt,
   get-pat-below t,
   get-pat.Post,
 ) (pat-args-at t) pat-args.Post pat-args-Inv-loop pat-args-μ-loop
-pat-args-same-length-2 t c = c .before .before .before .before .get-pat .kept .1 .1 .1 .1 .0 ∙ c .before .before .before .before .before .before .before .before .before .before .before .before .between .kept .1 .0 ∙ c .before .before .before .before .before .before .before .before .before .before .before .before .before .before .before .loop .inv .2
+pat-args-same-length-2 t c = c .before .before .before .before .before .get-pat .kept .1 .1 .1 .1 .1 .0 ∙ c .before .before .before .before .before .before .before .before .before .before .before .before .before .before .before .between .kept .1 .1 .0 ∙ c .before .before .before .before .before .before .before .before .before .before .before .before .before .before .before .before .before .before .before .loop .inv .2
 
--- src/lib.rt:300:13
+-- src/lib.rt:331:13
 pat-args-returns-3 : (t : ℕ) → pat-args-lts.Need-returns-3 (
   list-reads.Asked,
   list-reads.Learnt,
@@ -3254,13 +3657,15 @@ pat-args-returns-3 : (t : ℕ) → pat-args-lts.Need-returns-3 (
   between-reads.Learnt,
   group-reads.Asked,
   group-reads.Learnt,
+  told-reads.Asked,
+  told-reads.Learnt,
   get-pat-below t,
   get-pat.Post,
 ) (pat-args-at t) pat-args.Post pat-args-Inv-loop pat-args-μ-loop
 unfolding Pat.pat-args Helpers.sep
-pat-args-returns-3 t c = record { is = λ kinds m. by-same (list-is (c .before .before .before .before .before .before .before .before .before .before .before .before .before .before .before .before .before .before .before .list .ensures) (c .before .before .before .before .before .before .before .before .before .before .before .before .before .before .before .before .before .n .given .1)) (by-same (items-all _ _ _) (c .before .before .before .before .before .before .before .before .before .before .before .before .before .before .before .loop .inv .1 kinds m _ _ (from-more _ _ (c .before .before .before .before .before .before .before .before .before .before .before .before .before .before .loop-test .taken) (then-sure (c .before .before .before .before .before .before .before .before .before .before .before .before .between .ensures) (by-same (first-same (group-is (c .before .before .before .before .before .before .before .before .before .group .ensures) (c .before .before .before .before .before .before .before .r2 .given .1))) (then-stop (plain (c .before .before .before .before .get-pat .ensures)) (c .enum-told3 .given .1))))))) }
+pat-args-returns-3 t c = record { is = λ kinds. by-same (list-is (c .before .before .before .before .before .before .before .before .before .before .before .before .before .before .before .before .before .before .before .before .before .before .before .list .ensures) (c .before .before .before .before .before .before .before .before .before .before .before .before .before .before .before .before .before .before .before .before .before .n .given .1)) (by-same (items-all _ _ _) (c .before .before .before .before .before .before .before .before .before .before .before .before .before .before .before .before .before .before .before .loop .inv .1 kinds _ _ _ (from-more _ _ (c .before .before .before .before .before .before .before .before .before .before .before .before .before .before .before .before .before .before .loop-test .taken) (then-sure (c .before .before .before .before .before .before .before .before .before .before .before .before .before .before .before .between .ensures) (by-same (first-same (group-is (c .before .before .before .before .before .before .before .before .before .before .before .before .group .ensures) (c .before .before .before .before .before .before .before .before .before .before .before .told .ensures) (c .before .before .before .before .before .before .before .before .before .s1 .given .1))) (then-stop (plain (c .before .before .before .before .before .get-pat .ensures)) (c .before .before .told2 .ensures) (c .enum-told3 .given .1))))))) }
 
--- src/lib.rt:303:9
+-- src/lib.rt:334:9
 pat-args-add-i : (t : ℕ) → pat-args-lts.Need-add-i (
   list-reads.Asked,
   list-reads.Learnt,
@@ -3270,12 +3675,14 @@ pat-args-add-i : (t : ℕ) → pat-args-lts.Need-add-i (
   between-reads.Learnt,
   group-reads.Asked,
   group-reads.Learnt,
+  told-reads.Asked,
+  told-reads.Learnt,
   get-pat-below t,
   get-pat.Post,
 ) (pat-args-at t) pat-args.Post pat-args-Inv-loop pat-args-μ-loop
-pat-args-add-i t c = omega (arith, c .before .before .before .before .before .before .before .before .before .before .before .before .before .before .before .loop-test .taken, c .before .before .before .before .before .before .before .before .before .before .before .before .before .before .before .before .before .known-told)
+pat-args-add-i t c = omega (arith, c .before .before .before .before .before .before .before .before .before .before .before .before .before .before .before .before .before .before .before .loop-test .taken, c .before .before .before .before .before .before .before .before .before .before .before .before .before .before .before .before .before .before .before .before .before .known-told)
 
--- src/lib.rt:292:5
+-- src/lib.rt:323:5
 pat-args-loop-less : (t : ℕ) → pat-args-lts.Need-loop-less (
   list-reads.Asked,
   list-reads.Learnt,
@@ -3285,12 +3692,14 @@ pat-args-loop-less : (t : ℕ) → pat-args-lts.Need-loop-less (
   between-reads.Learnt,
   group-reads.Asked,
   group-reads.Learnt,
+  told-reads.Asked,
+  told-reads.Learnt,
   get-pat-below t,
   get-pat.Post,
 ) (pat-args-at t) pat-args.Post pat-args-Inv-loop pat-args-μ-loop
 pat-args-loop-less t c = omega arith
 
--- src/lib.rt:292:5
+-- src/lib.rt:323:5
 pat-args-loop-again : (t : ℕ) → pat-args-lts.Need-loop-again (
   list-reads.Asked,
   list-reads.Learnt,
@@ -3300,13 +3709,15 @@ pat-args-loop-again : (t : ℕ) → pat-args-lts.Need-loop-again (
   between-reads.Learnt,
   group-reads.Asked,
   group-reads.Learnt,
+  told-reads.Asked,
+  told-reads.Learnt,
   get-pat-below t,
   get-pat.Post,
 ) (pat-args-at t) pat-args.Post pat-args-Inv-loop pat-args-μ-loop
 unfolding Pat.pat-args Helpers.sep
-pat-args-loop-again t c = (omega (arith, c .before .before .before .before .before .before .before .before .before .before .before .before .before .before .before .before .loop .inv .0), λ kinds m r o h. c .before .before .before .before .before .before .before .before .before .before .before .before .before .before .before .before .loop .inv .1 kinds m r o (from-more _ _ (c .before .before .before .before .before .before .before .before .before .before .before .before .before .before .before .loop-test .taken) (then-sure (c .before .before .before .before .before .before .before .before .before .before .before .before .before .between .ensures) (by-same (first-same (group-is (c .before .before .before .before .before .before .before .before .before .before .group .ensures) (c .before .before .before .before .before .before .before .before .r2 .given .1))) (then-done (plain (c .before .before .before .before .before .get-pat .ensures)) (c .before .r3 .given .1) h)))), c .before .before .before .before .before .get-pat .kept .1 .1 .1 .1 .0 ∙ c .before .before .before .before .before .before .before .before .before .before .before .before .before .between .kept .1 .0 ∙ c .before .before .before .before .before .before .before .before .before .before .before .before .before .before .before .before .loop .inv .2)
+pat-args-loop-again t c = (omega (arith, c .before .before .before .before .before .before .before .before .before .before .before .before .before .before .before .before .before .before .before .before .loop .inv .0), λ kinds r m o h. c .before .before .before .before .before .before .before .before .before .before .before .before .before .before .before .before .before .before .before .before .loop .inv .1 kinds r m o (from-more _ _ (c .before .before .before .before .before .before .before .before .before .before .before .before .before .before .before .before .before .before .before .loop-test .taken) (then-sure (c .before .before .before .before .before .before .before .before .before .before .before .before .before .before .before .before .between .ensures) (by-same (first-same (group-is (c .before .before .before .before .before .before .before .before .before .before .before .before .before .group .ensures) (c .before .before .before .before .before .before .before .before .before .before .before .before .told .ensures) (c .before .before .before .before .before .before .before .before .before .before .s1 .given .1))) (then-done (plain (c .before .before .before .before .before .before .get-pat .ensures)) (c .before .before .before .told2 .ensures) (c .before .s2 .given .1) h)))), c .before .before .before .before .before .before .get-pat .kept .1 .1 .1 .1 .1 .0 ∙ c .before .before .before .before .before .before .before .before .before .before .before .before .before .before .before .before .between .kept .1 .1 .0 ∙ c .before .before .before .before .before .before .before .before .before .before .before .before .before .before .before .before .before .before .before .before .loop .inv .2)
 
--- src/lib.rt:276:1
+-- src/lib.rt:305:1
 pat-args-same-length-3 : (t : ℕ) → pat-args-lts.Need-same-length-3 (
   list-reads.Asked,
   list-reads.Learnt,
@@ -3316,12 +3727,14 @@ pat-args-same-length-3 : (t : ℕ) → pat-args-lts.Need-same-length-3 (
   between-reads.Learnt,
   group-reads.Asked,
   group-reads.Learnt,
+  told-reads.Asked,
+  told-reads.Learnt,
   get-pat-below t,
   get-pat.Post,
 ) (pat-args-at t) pat-args.Post pat-args-Inv-loop pat-args-μ-loop
 pat-args-same-length-3 t c = c .before .loop .inv .2
 
--- src/lib.rt:276:1
+-- src/lib.rt:305:1
 pat-args-returns-4 : (t : ℕ) → pat-args-lts.Need-returns-4 (
   list-reads.Asked,
   list-reads.Learnt,
@@ -3331,99 +3744,132 @@ pat-args-returns-4 : (t : ℕ) → pat-args-lts.Need-returns-4 (
   between-reads.Learnt,
   group-reads.Asked,
   group-reads.Learnt,
+  told-reads.Asked,
+  told-reads.Learnt,
   get-pat-below t,
   get-pat.Post,
 ) (pat-args-at t) pat-args.Post pat-args-Inv-loop pat-args-μ-loop
 unfolding Pat.pat-args Helpers.sep
-pat-args-returns-4 t c = record { is = λ kinds m. by-same (list-is (c .before .before .before .before .before .list .ensures) (c .before .before .before .n .given .1)) (by-same (items-all _ _ _) (c .before .loop .inv .1 kinds m _ _ (from-none _ _ (c .loop-test .left)))) }
+pat-args-returns-4 t c = record { is = λ kinds. by-same (list-is (c .before .before .before .before .before .list .ensures) (c .before .before .before .n .given .1)) (by-same (items-all _ _ _) (c .before .loop .inv .1 kinds _ _ _ (from-none _ _ (c .loop-test .left)))) }
 
--- src/lib.rt:247:9
+-- src/lib.rt:272:5
 record-pat-word-requires : (t : ℕ) → record-pat-lts.Need-word-requires (
   word-reads.Asked,
   word-reads.Learnt,
   rows-below t,
   rows.Post,
+  told-reads.Asked,
+  told-reads.Learnt,
 ) (record-pat-at t) record-pat.Post
 record-pat-word-requires t c κs = search needs
 
--- src/lib.rt:248:9
+-- src/lib.rt:273:9
 record-pat-rows-requires : (t : ℕ) → record-pat-lts.Need-rows-requires (
   word-reads.Asked,
   word-reads.Learnt,
   rows-below t,
   rows.Post,
+  told-reads.Asked,
+  told-reads.Learnt,
 ) (record-pat-at t) record-pat.Post
-record-pat-rows-requires t c κs = omega (arith, c .before .before .before .before .before .before .before .before .before .before .pre .0)
+record-pat-rows-requires t c κs = omega (arith, c .before .before .before .before .before .before .before .before .before .before .before .before .pre .0)
 
--- src/lib.rt:249:22
-record-pat-enum-known-r2 : (t : ℕ) → record-pat-lts.Need-enum-known-r2 (
+-- src/lib.rt:274:28
+record-pat-told-requires : (t : ℕ) → record-pat-lts.Need-told-requires (
   word-reads.Asked,
   word-reads.Learnt,
   rows-below t,
   rows.Post,
+  told-reads.Asked,
+  told-reads.Learnt,
 ) (record-pat-at t) record-pat.Post
-record-pat-enum-known-r2 t c = search needs
+record-pat-told-requires t c κs = search needs
 
--- src/lib.rt:250:9
+-- src/lib.rt:274:22
+record-pat-enum-known-s1 : (t : ℕ) → record-pat-lts.Need-enum-known-s1 (
+  word-reads.Asked,
+  word-reads.Learnt,
+  rows-below t,
+  rows.Post,
+  told-reads.Asked,
+  told-reads.Learnt,
+) (record-pat-at t) record-pat.Post
+record-pat-enum-known-s1 t c = search needs
+
+-- src/lib.rt:275:9
 record-pat-enum-told : (t : ℕ) → record-pat-lts.Need-enum-told (
   word-reads.Asked,
   word-reads.Learnt,
   rows-below t,
   rows.Post,
+  told-reads.Asked,
+  told-reads.Learnt,
 ) (record-pat-at t) record-pat.Post
 record-pat-enum-told t c = search needs
 
--- src/lib.rt:250:9
+-- src/lib.rt:275:9
 record-pat-same-length : (t : ℕ) → record-pat-lts.Need-same-length (
   word-reads.Asked,
   word-reads.Learnt,
   rows-below t,
   rows.Post,
+  told-reads.Asked,
+  told-reads.Learnt,
 ) (record-pat-at t) record-pat.Post
-record-pat-same-length t c = c .before .before .before .before .rows .kept .1 .1 .1 .1 .0 ∙ c .before .before .before .before .before .before .before .before .word .kept .1 .0
+record-pat-same-length t c = c .before .before .before .before .before .rows .kept .1 .1 .1 .1 .1 .0 ∙ c .before .before .before .before .before .before .before .before .before .before .word .kept .1 .1 .0
 
--- src/lib.rt:250:9
+-- src/lib.rt:275:9
 record-pat-returns : (t : ℕ) → record-pat-lts.Need-returns (
   word-reads.Asked,
   word-reads.Learnt,
   rows-below t,
   rows.Post,
+  told-reads.Asked,
+  told-reads.Learnt,
 ) (record-pat-at t) record-pat.Post
 unfolding Pat.pat
-record-pat-returns t c = record { is = λ kinds m. then-sure (c .before .before .before .before .before .before .before .before .word .ensures) (then-stop (plain (c .before .before .before .before .rows .ensures)) (c .enum-told .given .1)) }
+record-pat-returns t c = record { is = λ kinds. then-sure (c .before .before .before .before .before .before .before .before .before .before .word .ensures) (then-stop (plain (c .before .before .before .before .before .rows .ensures)) (c .before .before .told .ensures) (c .enum-told .given .1)) }
 
--- src/lib.rt:252:18
+-- src/lib.rt:277:5
 record-pat-word-requires-2 : (t : ℕ) → record-pat-lts.Need-word-requires-2 (
   word-reads.Asked,
   word-reads.Learnt,
   rows-below t,
   rows.Post,
+  told-reads.Asked,
+  told-reads.Learnt,
 ) (record-pat-at t) record-pat.Post
 record-pat-word-requires-2 t c κs = search needs
 
--- src/lib.rt:236:1
+-- src/lib.rt:259:1
 record-pat-same-length-2 : (t : ℕ) → record-pat-lts.Need-same-length-2 (
   word-reads.Asked,
   word-reads.Learnt,
   rows-below t,
   rows.Post,
+  told-reads.Asked,
+  told-reads.Learnt,
 ) (record-pat-at t) record-pat.Post
-record-pat-same-length-2 t c = c .before .before .word2 .kept .1 .0 ∙ c .before .before .before .before .before .before .before .before .before .rows .kept .1 .1 .1 .1 .0 ∙ c .before .before .before .before .before .before .before .before .before .before .before .before .before .word .kept .1 .0
+record-pat-same-length-2 t c = c .before .before .word2 .kept .1 .1 .0 ∙ c .before .before .before .before .before .before .before .before .before .before .before .rows .kept .1 .1 .1 .1 .1 .0 ∙ c .before .before .before .before .before .before .before .before .before .before .before .before .before .before .before .before .word .kept .1 .1 .0
 
--- src/lib.rt:236:1
+-- src/lib.rt:259:1
 record-pat-returns-2 : (t : ℕ) → record-pat-lts.Need-returns-2 (
   word-reads.Asked,
   word-reads.Learnt,
   rows-below t,
   rows.Post,
+  told-reads.Asked,
+  told-reads.Learnt,
 ) (record-pat-at t) record-pat.Post
 unfolding Pat.pat
-record-pat-returns-2 t c = record { is = λ kinds m. then-sure (c .before .before .before .before .before .before .before .before .before .before .before .before .before .word .ensures) (then-done (plain (c .before .before .before .before .before .before .before .before .before .rows .ensures)) (c .before .before .before .before .before .r2 .given .1) (last-sure (c .before .before .word2 .ensures))) }
+record-pat-returns-2 t c = record { is = λ kinds. then-sure (c .before .before .before .before .before .before .before .before .before .before .before .before .before .before .before .before .word .ensures) (then-done (plain (c .before .before .before .before .before .before .before .before .before .before .before .rows .ensures)) (c .before .before .before .before .before .before .before .before .told .ensures) (c .before .before .before .before .before .before .s1 .given .1) (last-sure (c .before .before .word2 .ensures))) }
 
--- src/lib.rt:196:9
+-- src/lib.rt:217:9
 row-group-requires : (t : ℕ) → row-lts.Need-group-requires (
   group-reads.Asked,
   group-reads.Learnt,
+  told-reads.Asked,
+  told-reads.Learnt,
   choice-reads.Asked,
   choice-reads.Learnt,
   stop-reads.Asked,
@@ -3433,10 +3879,12 @@ row-group-requires : (t : ℕ) → row-lts.Need-group-requires (
 ) (row-at t) row.Post
 row-group-requires t c κs = search needs
 
--- src/lib.rt:197:22
-row-enum-known-r1 : (t : ℕ) → row-lts.Need-enum-known-r1 (
+-- src/lib.rt:218:28
+row-told-requires : (t : ℕ) → row-lts.Need-told-requires (
   group-reads.Asked,
   group-reads.Learnt,
+  told-reads.Asked,
+  told-reads.Learnt,
   choice-reads.Asked,
   choice-reads.Learnt,
   stop-reads.Asked,
@@ -3444,12 +3892,29 @@ row-enum-known-r1 : (t : ℕ) → row-lts.Need-enum-known-r1 (
   row-inner-below t,
   row-inner.Post,
 ) (row-at t) row.Post
-row-enum-known-r1 t c = search needs
+row-told-requires t c κs = search needs
 
--- src/lib.rt:198:9
+-- src/lib.rt:218:22
+row-enum-known-s1 : (t : ℕ) → row-lts.Need-enum-known-s1 (
+  group-reads.Asked,
+  group-reads.Learnt,
+  told-reads.Asked,
+  told-reads.Learnt,
+  choice-reads.Asked,
+  choice-reads.Learnt,
+  stop-reads.Asked,
+  stop-reads.Learnt,
+  row-inner-below t,
+  row-inner.Post,
+) (row-at t) row.Post
+row-enum-known-s1 t c = search needs
+
+-- src/lib.rt:219:9
 row-enum-told : (t : ℕ) → row-lts.Need-enum-told (
   group-reads.Asked,
   group-reads.Learnt,
+  told-reads.Asked,
+  told-reads.Learnt,
   choice-reads.Asked,
   choice-reads.Learnt,
   stop-reads.Asked,
@@ -3459,10 +3924,12 @@ row-enum-told : (t : ℕ) → row-lts.Need-enum-told (
 ) (row-at t) row.Post
 row-enum-told t c = search needs
 
--- src/lib.rt:198:9
+-- src/lib.rt:219:9
 row-returns : (t : ℕ) → row-lts.Need-returns (
   group-reads.Asked,
   group-reads.Learnt,
+  told-reads.Asked,
+  told-reads.Learnt,
   choice-reads.Asked,
   choice-reads.Learnt,
   stop-reads.Asked,
@@ -3471,12 +3938,14 @@ row-returns : (t : ℕ) → row-lts.Need-returns (
   row-inner.Post,
 ) (row-at t) row.Post
 unfolding Pat.pat-row
-row-returns t c = record { is = λ kinds m. group-not (c .before .before .group .ensures) (c .enum-told .given .1) }
+row-returns t c = record { is = λ kinds. group-not (c .before .before .before .group .ensures) (c .before .before .told .ensures) (c .enum-told .given .1) }
 
--- src/lib.rt:200:27
+-- src/lib.rt:221:27
 row-choice-requires : (t : ℕ) → row-lts.Need-choice-requires (
   group-reads.Asked,
   group-reads.Learnt,
+  told-reads.Asked,
+  told-reads.Learnt,
   choice-reads.Asked,
   choice-reads.Learnt,
   stop-reads.Asked,
@@ -3486,10 +3955,12 @@ row-choice-requires : (t : ℕ) → row-lts.Need-choice-requires (
 ) (row-at t) row.Post
 row-choice-requires t c κs = search needs
 
--- src/lib.rt:200:18
+-- src/lib.rt:221:18
 row-enum-known-k : (t : ℕ) → row-lts.Need-enum-known-k (
   group-reads.Asked,
   group-reads.Learnt,
+  told-reads.Asked,
+  told-reads.Learnt,
   choice-reads.Asked,
   choice-reads.Learnt,
   stop-reads.Asked,
@@ -3499,10 +3970,12 @@ row-enum-known-k : (t : ℕ) → row-lts.Need-enum-known-k (
 ) (row-at t) row.Post
 row-enum-known-k t c = search needs
 
--- src/lib.rt:201:9
+-- src/lib.rt:222:9
 row-enum-told-2 : (t : ℕ) → row-lts.Need-enum-told-2 (
   group-reads.Asked,
   group-reads.Learnt,
+  told-reads.Asked,
+  told-reads.Learnt,
   choice-reads.Asked,
   choice-reads.Learnt,
   stop-reads.Asked,
@@ -3512,10 +3985,12 @@ row-enum-told-2 : (t : ℕ) → row-lts.Need-enum-told-2 (
 ) (row-at t) row.Post
 row-enum-told-2 t c = search needs
 
--- src/lib.rt:201:9
+-- src/lib.rt:222:9
 row-stop-requires : (t : ℕ) → row-lts.Need-stop-requires (
   group-reads.Asked,
   group-reads.Learnt,
+  told-reads.Asked,
+  told-reads.Learnt,
   choice-reads.Asked,
   choice-reads.Learnt,
   stop-reads.Asked,
@@ -3525,10 +4000,12 @@ row-stop-requires : (t : ℕ) → row-lts.Need-stop-requires (
 ) (row-at t) row.Post
 row-stop-requires t c κs = search needs
 
--- src/lib.rt:201:9
+-- src/lib.rt:222:9
 row-returns-2 : (t : ℕ) → row-lts.Need-returns-2 (
   group-reads.Asked,
   group-reads.Learnt,
+  told-reads.Asked,
+  told-reads.Learnt,
   choice-reads.Asked,
   choice-reads.Learnt,
   stop-reads.Asked,
@@ -3537,12 +4014,14 @@ row-returns-2 : (t : ℕ) → row-lts.Need-returns-2 (
   row-inner.Post,
 ) (row-at t) row.Post
 unfolding Pat.pat-row
-row-returns-2 t c = record { is = λ kinds m. by-same (group-is (c .before .before .before .before .before .before .before .group .ensures) (c .before .before .before .before .before .r1 .given .1)) (choice-not (c .stop .ensures) (c .before .before .before .choice .ensures) (c .before .enum-told2 .given .1)) }
+row-returns-2 t c = record { is = λ kinds. by-same (group-is (c .before .before .before .before .before .before .before .before .group .ensures) (c .before .before .before .before .before .before .before .told .ensures) (c .before .before .before .before .before .s1 .given .1)) (choice-not (c .stop .ensures) (c .before .before .before .choice .ensures) (c .before .enum-told2 .given .1)) }
 
--- src/lib.rt:203:5
+-- src/lib.rt:224:5
 row-row-inner-requires : (t : ℕ) → row-lts.Need-row-inner-requires (
   group-reads.Asked,
   group-reads.Learnt,
+  told-reads.Asked,
+  told-reads.Learnt,
   choice-reads.Asked,
   choice-reads.Learnt,
   stop-reads.Asked,
@@ -3550,12 +4029,14 @@ row-row-inner-requires : (t : ℕ) → row-lts.Need-row-inner-requires (
   row-inner-below t,
   row-inner.Post,
 ) (row-at t) row.Post
-row-row-inner-requires t c κs = omega (arith, c .before .before .before .before .before .before .before .before .before .before .before .before .before .before .pre .0)
+row-row-inner-requires t c κs = omega (arith, c .before .before .before .before .before .before .before .before .before .before .before .before .before .before .before .before .pre .0)
 
--- src/lib.rt:185:1
+-- src/lib.rt:204:1
 row-same-length : (t : ℕ) → row-lts.Need-same-length (
   group-reads.Asked,
   group-reads.Learnt,
+  told-reads.Asked,
+  told-reads.Learnt,
   choice-reads.Asked,
   choice-reads.Learnt,
   stop-reads.Asked,
@@ -3563,12 +4044,14 @@ row-same-length : (t : ℕ) → row-lts.Need-same-length (
   row-inner-below t,
   row-inner.Post,
 ) (row-at t) row.Post
-row-same-length t c = c .before .before .row-inner .kept .1 .1 .1 .1 .0
+row-same-length t c = c .before .before .row-inner .kept .1 .1 .1 .1 .1 .0
 
--- src/lib.rt:185:1
+-- src/lib.rt:204:1
 row-returns-3 : (t : ℕ) → row-lts.Need-returns-3 (
   group-reads.Asked,
   group-reads.Learnt,
+  told-reads.Asked,
+  told-reads.Learnt,
   choice-reads.Asked,
   choice-reads.Learnt,
   stop-reads.Asked,
@@ -3577,9 +4060,9 @@ row-returns-3 : (t : ℕ) → row-lts.Need-returns-3 (
   row-inner.Post,
 ) (row-at t) row.Post
 unfolding Pat.pat-row
-row-returns-3 t c = record { is = λ kinds m. by-same (group-is (c .before .before .before .before .before .before .before .before .before .before .before .group .ensures) (c .before .before .before .before .before .before .before .before .before .r1 .given .1)) (by-same (choice-is (c .before .before .before .before .before .before .before .choice .ensures) (c .before .before .before .before .before .k .given .1)) (plain (c .before .before .row-inner .ensures))) }
+row-returns-3 t c = record { is = λ kinds. by-same (group-is (c .before .before .before .before .before .before .before .before .before .before .before .before .before .group .ensures) (c .before .before .before .before .before .before .before .before .before .before .before .before .told .ensures) (c .before .before .before .before .before .before .before .before .before .before .s1 .given .1)) (by-same (choice-is (c .before .before .before .before .before .before .before .before .choice .ensures) (c .before .before .before .before .before .before .k .given .1)) (plain (c .before .before .row-inner .ensures))) }
 
--- src/lib.rt:177:27
+-- src/lib.rt:194:13
 row-inner-word-requires : (t : ℕ) → row-inner-lts.Need-word-requires (
   word-reads.Asked,
   word-reads.Learnt,
@@ -3592,7 +4075,7 @@ row-inner-word-requires : (t : ℕ) → row-inner-lts.Need-word-requires (
 ) (row-inner-at t) row-inner.Post
 row-inner-word-requires t c κs = search needs
 
--- src/lib.rt:178:14
+-- src/lib.rt:197:14
 row-inner-lab-and-pat-requires : (t : ℕ) → row-inner-lts.Need-lab-and-pat-requires (
   word-reads.Asked,
   word-reads.Learnt,
@@ -3603,9 +4086,9 @@ row-inner-lab-and-pat-requires : (t : ℕ) → row-inner-lts.Need-lab-and-pat-re
   stop-reads.Asked,
   stop-reads.Learnt,
 ) (row-inner-at t) row-inner.Post
-row-inner-lab-and-pat-requires t c κs = omega (arith, c .before .before .before .before .before .before .before .pre .0)
+row-inner-lab-and-pat-requires t c κs = omega (arith, c .before .before .before .before .before .before .before .before .pre .0)
 
--- src/lib.rt:179:14
+-- src/lib.rt:198:14
 row-inner-lab-pat-requires : (t : ℕ) → row-inner-lts.Need-lab-pat-requires (
   word-reads.Asked,
   word-reads.Learnt,
@@ -3616,9 +4099,9 @@ row-inner-lab-pat-requires : (t : ℕ) → row-inner-lts.Need-lab-pat-requires (
   stop-reads.Asked,
   stop-reads.Learnt,
 ) (row-inner-at t) row-inner.Post
-row-inner-lab-pat-requires t c κs = omega (arith, c .before .before .before .before .before .before .before .pre .0)
+row-inner-lab-pat-requires t c κs = omega (arith, c .before .before .before .before .before .before .before .before .pre .0)
 
--- src/lib.rt:180:14
+-- src/lib.rt:199:14
 row-inner-stop-requires : (t : ℕ) → row-inner-lts.Need-stop-requires (
   word-reads.Asked,
   word-reads.Learnt,
@@ -3631,7 +4114,7 @@ row-inner-stop-requires : (t : ℕ) → row-inner-lts.Need-stop-requires (
 ) (row-inner-at t) row-inner.Post
 row-inner-stop-requires t c κs = search needs
 
--- src/lib.rt:164:1
+-- src/lib.rt:178:1
 row-inner-same-length : (t : ℕ) → row-inner-lts.Need-same-length (
   word-reads.Asked,
   word-reads.Learnt,
@@ -3642,9 +4125,9 @@ row-inner-same-length : (t : ℕ) → row-inner-lts.Need-same-length (
   stop-reads.Asked,
   stop-reads.Learnt,
 ) (row-inner-at t) row-inner.Post
-row-inner-same-length t c = c .before .before .word .kept .1 .0
+row-inner-same-length t c = c .before .before .word .kept .1 .1 .0
 
--- src/lib.rt:164:1
+-- src/lib.rt:178:1
 row-inner-returns : (t : ℕ) → row-inner-lts.Need-returns (
   word-reads.Asked,
   word-reads.Learnt,
@@ -3656,9 +4139,9 @@ row-inner-returns : (t : ℕ) → row-inner-lts.Need-returns (
   stop-reads.Learnt,
 ) (row-inner-at t) row-inner.Post
 unfolding Pat.pat-row-inner Pat.RestPatRow
-row-inner-returns t c = record { is = λ kinds m. at-key (Pat.pat-row-inner (walks (c .before .before .before .before .before .before .before .before .before .before .args .cfg .left))) (c .before .before .before .before .match .keys1) (last-sure (c .before .before .word .ensures)) }
+row-inner-returns t c = record { is = λ kinds. at-key (Pat.pat-row-inner (walks (c .before .before .before .before .before .before .before .before .before .before .before .args .cfg .left))) (c .before .before .before .before .before .match .keys1) (last-sure (c .before .before .word .ensures)) }
 
--- src/lib.rt:164:1
+-- src/lib.rt:178:1
 row-inner-same-length-2 : (t : ℕ) → row-inner-lts.Need-same-length-2 (
   word-reads.Asked,
   word-reads.Learnt,
@@ -3669,9 +4152,9 @@ row-inner-same-length-2 : (t : ℕ) → row-inner-lts.Need-same-length-2 (
   stop-reads.Asked,
   stop-reads.Learnt,
 ) (row-inner-at t) row-inner.Post
-row-inner-same-length-2 t c = c .before .before .lab-and-pat .kept .1 .1 .1 .1 .0
+row-inner-same-length-2 t c = c .before .before .lab-and-pat .kept .1 .1 .1 .1 .1 .0
 
--- src/lib.rt:164:1
+-- src/lib.rt:178:1
 row-inner-returns-2 : (t : ℕ) → row-inner-lts.Need-returns-2 (
   word-reads.Asked,
   word-reads.Learnt,
@@ -3683,9 +4166,9 @@ row-inner-returns-2 : (t : ℕ) → row-inner-lts.Need-returns-2 (
   stop-reads.Learnt,
 ) (row-inner-at t) row-inner.Post
 unfolding Pat.pat-row-inner Pat.RestPatRow
-row-inner-returns-2 t c = record { is = λ kinds m. at-key (Pat.pat-row-inner (walks (c .before .before .before .before .before .before .before .before .before .before .args .cfg .left))) (c .before .before .before .before .match .keys2) (plain (c .before .before .lab-and-pat .ensures)) }
+row-inner-returns-2 t c = record { is = λ kinds. at-key (Pat.pat-row-inner (walks (c .before .before .before .before .before .before .before .before .before .before .before .args .cfg .left))) (c .before .before .before .before .before .match .keys2) (plain (c .before .before .lab-and-pat .ensures)) }
 
--- src/lib.rt:164:1
+-- src/lib.rt:178:1
 row-inner-same-length-3 : (t : ℕ) → row-inner-lts.Need-same-length-3 (
   word-reads.Asked,
   word-reads.Learnt,
@@ -3696,9 +4179,9 @@ row-inner-same-length-3 : (t : ℕ) → row-inner-lts.Need-same-length-3 (
   stop-reads.Asked,
   stop-reads.Learnt,
 ) (row-inner-at t) row-inner.Post
-row-inner-same-length-3 t c = c .before .before .lab-pat .kept .1 .1 .1 .1 .0
+row-inner-same-length-3 t c = c .before .before .lab-pat .kept .1 .1 .1 .1 .1 .0
 
--- src/lib.rt:164:1
+-- src/lib.rt:178:1
 row-inner-returns-3 : (t : ℕ) → row-inner-lts.Need-returns-3 (
   word-reads.Asked,
   word-reads.Learnt,
@@ -3710,9 +4193,9 @@ row-inner-returns-3 : (t : ℕ) → row-inner-lts.Need-returns-3 (
   stop-reads.Learnt,
 ) (row-inner-at t) row-inner.Post
 unfolding Pat.pat-row-inner Pat.RestPatRow
-row-inner-returns-3 t c = record { is = λ kinds m. at-key (Pat.pat-row-inner (walks (c .before .before .before .before .before .before .before .before .before .before .args .cfg .left))) (c .before .before .before .before .match .keys3) (plain (c .before .before .lab-pat .ensures)) }
+row-inner-returns-3 t c = record { is = λ kinds. at-key (Pat.pat-row-inner (walks (c .before .before .before .before .before .before .before .before .before .before .before .args .cfg .left))) (c .before .before .before .before .before .match .keys3) (plain (c .before .before .lab-pat .ensures)) }
 
--- src/lib.rt:164:1
+-- src/lib.rt:178:1
 row-inner-returns-4 : (t : ℕ) → row-inner-lts.Need-returns-4 (
   word-reads.Asked,
   word-reads.Learnt,
@@ -3724,16 +4207,16 @@ row-inner-returns-4 : (t : ℕ) → row-inner-lts.Need-returns-4 (
   stop-reads.Learnt,
 ) (row-inner-at t) row-inner.Post
 unfolding Pat.pat-row-inner Pat.RestPatRow
-row-inner-returns-4 t c = record { is = λ kinds m. beyond (Pat.RestPatRow (walks (c .before .before .before .before .before .before .before .args .cfg .left)) ∷ Pat.LabAndPatPatRow (walks (c .before .before .before .before .before .before .before .args .cfg .left)) ∷ Pat.LabPatRow (walks (c .before .before .before .before .before .before .before .args .cfg .left)) ∷ []) (c .before .before .before .before .before .before .before .args .which) 3 refl (past (past (past zero-le (c .before .match .rest .0 .0 .1)) (c .before .match .rest .0 .1)) (c .before .match .rest .1)) (c .stop .ensures) }
+row-inner-returns-4 t c = record { is = λ kinds. beyond (Pat.RestPatRow (walks (c .before .before .before .before .before .before .before .args .cfg .left)) ∷ Pat.LabAndPatPatRow (walks (c .before .before .before .before .before .before .before .args .cfg .left)) ∷ Pat.LabPatRow (walks (c .before .before .before .before .before .before .before .args .cfg .left)) ∷ []) (c .before .before .before .before .before .before .before .args .which) 3 refl (past (past (past zero-le (c .before .match .rest .0 .0 .1)) (c .before .match .rest .0 .1)) (c .before .match .rest .1)) (c .stop .ensures) }
 
 abbrev rows-Inv-loop : rows-lts.InvT-loop
-rows-Inv-loop text rec starts lens out₀ cfg n s₀ i₀ out s i =
-    PlainTurn text rec starts lens (cfg .tab) (from (Layout.word ", ") (Pat.pat-row (walks (cfg .left)))) n s₀ out₀ i s out
+rows-Inv-loop run text rec starts lens out₀ mem₀ at cfg n s0 s₀ i₀ out mem s i =
+    PlainTurn run text rec starts lens (from (Layout.word ", ") (Pat.pat-row (walks (cfg .left)))) n s₀ mem₀ out₀ i s mem out
 
 abbrev rows-μ-loop : rows-lts.MeasureT-loop
-rows-μ-loop text rec starts lens out₀ cfg n s₀ i₀ out s i = n - i
+rows-μ-loop run text rec starts lens out₀ mem₀ at cfg n s0 s₀ i₀ out mem s i = n - i
 
--- src/lib.rt:218:27
+-- src/lib.rt:241:27
 rows-list-requires : (t : ℕ) → rows-lts.Need-list-requires (
   list-reads.Asked,
   list-reads.Learnt,
@@ -3743,10 +4226,12 @@ rows-list-requires : (t : ℕ) → rows-lts.Need-list-requires (
   between-reads.Learnt,
   row-below t,
   row.Post,
+  told-reads.Asked,
+  told-reads.Learnt,
 ) (rows-at t) rows.Post rows-Inv-loop rows-μ-loop
 rows-list-requires t c κs = search needs
 
--- src/lib.rt:218:18
+-- src/lib.rt:241:18
 rows-enum-known-n : (t : ℕ) → rows-lts.Need-enum-known-n (
   list-reads.Asked,
   list-reads.Learnt,
@@ -3756,10 +4241,12 @@ rows-enum-known-n : (t : ℕ) → rows-lts.Need-enum-known-n (
   between-reads.Learnt,
   row-below t,
   row.Post,
+  told-reads.Asked,
+  told-reads.Learnt,
 ) (rows-at t) rows.Post rows-Inv-loop rows-μ-loop
 rows-enum-known-n t c = search needs
 
--- src/lib.rt:219:9
+-- src/lib.rt:242:9
 rows-enum-told : (t : ℕ) → rows-lts.Need-enum-told (
   list-reads.Asked,
   list-reads.Learnt,
@@ -3769,10 +4256,12 @@ rows-enum-told : (t : ℕ) → rows-lts.Need-enum-told (
   between-reads.Learnt,
   row-below t,
   row.Post,
+  told-reads.Asked,
+  told-reads.Learnt,
 ) (rows-at t) rows.Post rows-Inv-loop rows-μ-loop
 rows-enum-told t c = search needs
 
--- src/lib.rt:219:9
+-- src/lib.rt:242:9
 rows-stop-requires : (t : ℕ) → rows-lts.Need-stop-requires (
   list-reads.Asked,
   list-reads.Learnt,
@@ -3782,10 +4271,12 @@ rows-stop-requires : (t : ℕ) → rows-lts.Need-stop-requires (
   between-reads.Learnt,
   row-below t,
   row.Post,
+  told-reads.Asked,
+  told-reads.Learnt,
 ) (rows-at t) rows.Post rows-Inv-loop rows-μ-loop
 rows-stop-requires t c κs = search needs
 
--- src/lib.rt:219:9
+-- src/lib.rt:242:9
 rows-returns : (t : ℕ) → rows-lts.Need-returns (
   list-reads.Asked,
   list-reads.Learnt,
@@ -3795,11 +4286,13 @@ rows-returns : (t : ℕ) → rows-lts.Need-returns (
   between-reads.Learnt,
   row-below t,
   row.Post,
+  told-reads.Asked,
+  told-reads.Learnt,
 ) (rows-at t) rows.Post rows-Inv-loop rows-μ-loop
 unfolding Pat.pat-rows Helpers.sep
-rows-returns t c = record { is = λ kinds m. list-not (c .stop .ensures) (c .before .before .before .list .ensures) (c .before .enum-told .given .1) }
+rows-returns t c = record { is = λ kinds. list-not (c .stop .ensures) (c .before .before .before .list .ensures) (c .before .enum-told .given .1) }
 
--- src/lib.rt:223:5
+-- src/lib.rt:246:5
 rows-loop-holds : (t : ℕ) → rows-lts.Need-loop-holds (
   list-reads.Asked,
   list-reads.Learnt,
@@ -3809,10 +4302,12 @@ rows-loop-holds : (t : ℕ) → rows-lts.Need-loop-holds (
   between-reads.Learnt,
   row-below t,
   row.Post,
+  told-reads.Asked,
+  told-reads.Learnt,
 ) (rows-at t) rows.Post rows-Inv-loop rows-μ-loop
-rows-loop-holds t c = (omega arith, λ kinds m r o h. h, refl)
+rows-loop-holds t c = (omega arith, λ kinds r m o h. h, refl)
 
--- src/lib.rt:224:13
+-- src/lib.rt:247:9
 rows-between-requires : (t : ℕ) → rows-lts.Need-between-requires (
   list-reads.Asked,
   list-reads.Learnt,
@@ -3822,10 +4317,12 @@ rows-between-requires : (t : ℕ) → rows-lts.Need-between-requires (
   between-reads.Learnt,
   row-below t,
   row.Post,
+  told-reads.Asked,
+  told-reads.Learnt,
 ) (rows-at t) rows.Post rows-Inv-loop rows-μ-loop
 rows-between-requires t c κs = search needs
 
--- src/lib.rt:225:13
+-- src/lib.rt:248:13
 rows-row-requires : (t : ℕ) → rows-lts.Need-row-requires (
   list-reads.Asked,
   list-reads.Learnt,
@@ -3835,11 +4332,13 @@ rows-row-requires : (t : ℕ) → rows-lts.Need-row-requires (
   between-reads.Learnt,
   row-below t,
   row.Post,
+  told-reads.Asked,
+  told-reads.Learnt,
 ) (rows-at t) rows.Post rows-Inv-loop rows-μ-loop
-rows-row-requires t c κs = omega (arith, c .before .before .before .before .before .before .before .before .before .before .before .before .before .before .before .before .pre .0)
+rows-row-requires t c κs = omega (arith, c .before .before .before .before .before .before .before .before .before .before .before .before .before .before .before .before .before .before .pre .0)
 
--- src/lib.rt:226:26
-rows-enum-known-r2 : (t : ℕ) → rows-lts.Need-enum-known-r2 (
+-- src/lib.rt:249:32
+rows-told-requires : (t : ℕ) → rows-lts.Need-told-requires (
   list-reads.Asked,
   list-reads.Learnt,
   stop-reads.Asked,
@@ -3848,10 +4347,27 @@ rows-enum-known-r2 : (t : ℕ) → rows-lts.Need-enum-known-r2 (
   between-reads.Learnt,
   row-below t,
   row.Post,
+  told-reads.Asked,
+  told-reads.Learnt,
 ) (rows-at t) rows.Post rows-Inv-loop rows-μ-loop
-rows-enum-known-r2 t c = search needs
+rows-told-requires t c κs = search needs
 
--- src/lib.rt:227:13
+-- src/lib.rt:249:26
+rows-enum-known-s1 : (t : ℕ) → rows-lts.Need-enum-known-s1 (
+  list-reads.Asked,
+  list-reads.Learnt,
+  stop-reads.Asked,
+  stop-reads.Learnt,
+  between-reads.Asked,
+  between-reads.Learnt,
+  row-below t,
+  row.Post,
+  told-reads.Asked,
+  told-reads.Learnt,
+) (rows-at t) rows.Post rows-Inv-loop rows-μ-loop
+rows-enum-known-s1 t c = search needs
+
+-- src/lib.rt:250:13
 rows-enum-told-2 : (t : ℕ) → rows-lts.Need-enum-told-2 (
   list-reads.Asked,
   list-reads.Learnt,
@@ -3861,10 +4377,12 @@ rows-enum-told-2 : (t : ℕ) → rows-lts.Need-enum-told-2 (
   between-reads.Learnt,
   row-below t,
   row.Post,
+  told-reads.Asked,
+  told-reads.Learnt,
 ) (rows-at t) rows.Post rows-Inv-loop rows-μ-loop
 rows-enum-told-2 t c = search needs
 
--- src/lib.rt:227:13
+-- src/lib.rt:250:13
 rows-same-length : (t : ℕ) → rows-lts.Need-same-length (
   list-reads.Asked,
   list-reads.Learnt,
@@ -3874,10 +4392,12 @@ rows-same-length : (t : ℕ) → rows-lts.Need-same-length (
   between-reads.Learnt,
   row-below t,
   row.Post,
+  told-reads.Asked,
+  told-reads.Learnt,
 ) (rows-at t) rows.Post rows-Inv-loop rows-μ-loop
-rows-same-length t c = c .before .before .before .before .row .kept .1 .1 .1 .1 .0 ∙ c .before .before .before .before .before .before .before .before .between .kept .1 .0 ∙ c .before .before .before .before .before .before .before .before .before .before .before .loop .inv .2
+rows-same-length t c = c .before .before .before .before .before .row .kept .1 .1 .1 .1 .1 .0 ∙ c .before .before .before .before .before .before .before .before .before .before .between .kept .1 .1 .0 ∙ c .before .before .before .before .before .before .before .before .before .before .before .before .before .before .loop .inv .2
 
--- src/lib.rt:227:13
+-- src/lib.rt:250:13
 rows-returns-2 : (t : ℕ) → rows-lts.Need-returns-2 (
   list-reads.Asked,
   list-reads.Learnt,
@@ -3887,11 +4407,13 @@ rows-returns-2 : (t : ℕ) → rows-lts.Need-returns-2 (
   between-reads.Learnt,
   row-below t,
   row.Post,
+  told-reads.Asked,
+  told-reads.Learnt,
 ) (rows-at t) rows.Post rows-Inv-loop rows-μ-loop
 unfolding Pat.pat-rows Helpers.sep
-rows-returns-2 t c = record { is = λ kinds m. by-same (list-is (c .before .before .before .before .before .before .before .before .before .before .before .before .before .before .before .list .ensures) (c .before .before .before .before .before .before .before .before .before .before .before .before .before .n .given .1)) (by-same (items-all _ _ _) (c .before .before .before .before .before .before .before .before .before .before .before .loop .inv .1 kinds m _ _ (from-more _ _ (c .before .before .before .before .before .before .before .before .before .before .loop-test .taken) (then-sure (c .before .before .before .before .before .before .before .before .between .ensures) (then-stop (plain (c .before .before .before .before .row .ensures)) (c .enum-told2 .given .1)))))) }
+rows-returns-2 t c = record { is = λ kinds. by-same (list-is (c .before .before .before .before .before .before .before .before .before .before .before .before .before .before .before .before .before .before .list .ensures) (c .before .before .before .before .before .before .before .before .before .before .before .before .before .before .before .before .n .given .1)) (by-same (items-all _ _ _) (c .before .before .before .before .before .before .before .before .before .before .before .before .before .before .loop .inv .1 kinds _ _ _ (from-more _ _ (c .before .before .before .before .before .before .before .before .before .before .before .before .before .loop-test .taken) (then-sure (c .before .before .before .before .before .before .before .before .before .before .between .ensures) (then-stop (plain (c .before .before .before .before .before .row .ensures)) (c .before .before .told .ensures) (c .enum-told2 .given .1)))))) }
 
--- src/lib.rt:230:9
+-- src/lib.rt:253:9
 rows-add-i : (t : ℕ) → rows-lts.Need-add-i (
   list-reads.Asked,
   list-reads.Learnt,
@@ -3901,10 +4423,12 @@ rows-add-i : (t : ℕ) → rows-lts.Need-add-i (
   between-reads.Learnt,
   row-below t,
   row.Post,
+  told-reads.Asked,
+  told-reads.Learnt,
 ) (rows-at t) rows.Post rows-Inv-loop rows-μ-loop
-rows-add-i t c = omega (arith, c .before .before .before .before .before .before .before .before .before .before .before .loop-test .taken, c .before .before .before .before .before .before .before .before .before .before .before .before .before .known-told)
+rows-add-i t c = omega (arith, c .before .before .before .before .before .before .before .before .before .before .before .before .before .before .loop-test .taken, c .before .before .before .before .before .before .before .before .before .before .before .before .before .before .before .before .known-told)
 
--- src/lib.rt:223:5
+-- src/lib.rt:246:5
 rows-loop-less : (t : ℕ) → rows-lts.Need-loop-less (
   list-reads.Asked,
   list-reads.Learnt,
@@ -3914,10 +4438,12 @@ rows-loop-less : (t : ℕ) → rows-lts.Need-loop-less (
   between-reads.Learnt,
   row-below t,
   row.Post,
+  told-reads.Asked,
+  told-reads.Learnt,
 ) (rows-at t) rows.Post rows-Inv-loop rows-μ-loop
 rows-loop-less t c = omega arith
 
--- src/lib.rt:223:5
+-- src/lib.rt:246:5
 rows-loop-again : (t : ℕ) → rows-lts.Need-loop-again (
   list-reads.Asked,
   list-reads.Learnt,
@@ -3927,11 +4453,13 @@ rows-loop-again : (t : ℕ) → rows-lts.Need-loop-again (
   between-reads.Learnt,
   row-below t,
   row.Post,
+  told-reads.Asked,
+  told-reads.Learnt,
 ) (rows-at t) rows.Post rows-Inv-loop rows-μ-loop
 unfolding Pat.pat-rows Helpers.sep
-rows-loop-again t c = (omega (arith, c .before .before .before .before .before .before .before .before .before .before .before .before .loop .inv .0), λ kinds m r o h. c .before .before .before .before .before .before .before .before .before .before .before .before .loop .inv .1 kinds m r o (from-more _ _ (c .before .before .before .before .before .before .before .before .before .before .before .loop-test .taken) (then-sure (c .before .before .before .before .before .before .before .before .before .between .ensures) (then-done (plain (c .before .before .before .before .before .row .ensures)) (c .before .r2 .given .1) h))), c .before .before .before .before .before .row .kept .1 .1 .1 .1 .0 ∙ c .before .before .before .before .before .before .before .before .before .between .kept .1 .0 ∙ c .before .before .before .before .before .before .before .before .before .before .before .before .loop .inv .2)
+rows-loop-again t c = (omega (arith, c .before .before .before .before .before .before .before .before .before .before .before .before .before .before .before .loop .inv .0), λ kinds r m o h. c .before .before .before .before .before .before .before .before .before .before .before .before .before .before .before .loop .inv .1 kinds r m o (from-more _ _ (c .before .before .before .before .before .before .before .before .before .before .before .before .before .before .loop-test .taken) (then-sure (c .before .before .before .before .before .before .before .before .before .before .before .between .ensures) (then-done (plain (c .before .before .before .before .before .before .row .ensures)) (c .before .before .before .told .ensures) (c .before .s1 .given .1) h))), c .before .before .before .before .before .before .row .kept .1 .1 .1 .1 .1 .0 ∙ c .before .before .before .before .before .before .before .before .before .before .before .between .kept .1 .1 .0 ∙ c .before .before .before .before .before .before .before .before .before .before .before .before .before .before .before .loop .inv .2)
 
--- src/lib.rt:207:1
+-- src/lib.rt:228:1
 rows-same-length-2 : (t : ℕ) → rows-lts.Need-same-length-2 (
   list-reads.Asked,
   list-reads.Learnt,
@@ -3941,10 +4469,12 @@ rows-same-length-2 : (t : ℕ) → rows-lts.Need-same-length-2 (
   between-reads.Learnt,
   row-below t,
   row.Post,
+  told-reads.Asked,
+  told-reads.Learnt,
 ) (rows-at t) rows.Post rows-Inv-loop rows-μ-loop
 rows-same-length-2 t c = c .before .loop .inv .2
 
--- src/lib.rt:207:1
+-- src/lib.rt:228:1
 rows-returns-3 : (t : ℕ) → rows-lts.Need-returns-3 (
   list-reads.Asked,
   list-reads.Learnt,
@@ -3954,119 +4484,169 @@ rows-returns-3 : (t : ℕ) → rows-lts.Need-returns-3 (
   between-reads.Learnt,
   row-below t,
   row.Post,
+  told-reads.Asked,
+  told-reads.Learnt,
 ) (rows-at t) rows.Post rows-Inv-loop rows-μ-loop
 unfolding Pat.pat-rows Helpers.sep
-rows-returns-3 t c = record { is = λ kinds m. by-same (list-is (c .before .before .before .before .before .list .ensures) (c .before .before .before .n .given .1)) (by-same (items-all _ _ _) (c .before .loop .inv .1 kinds m _ _ (from-none _ _ (c .loop-test .left)))) }
+rows-returns-3 t c = record { is = λ kinds. by-same (list-is (c .before .before .before .before .before .list .ensures) (c .before .before .before .n .given .1)) (by-same (items-all _ _ _) (c .before .loop .inv .1 kinds _ _ _ (from-none _ _ (c .loop-test .left)))) }
 
--- src/lib.rt:320:9
+-- src/lib.rt:353:5
 tuple-pat-word-requires : (t : ℕ) → tuple-pat-lts.Need-word-requires (
   word-reads.Asked,
   word-reads.Learnt,
   pat-args-below t,
   pat-args.Post,
+  told-reads.Asked,
+  told-reads.Learnt,
 ) (tuple-pat-at t) tuple-pat.Post
 tuple-pat-word-requires t c κs = search needs
 
--- src/lib.rt:321:9
+-- src/lib.rt:354:9
 tuple-pat-pat-args-requires : (t : ℕ) → tuple-pat-lts.Need-pat-args-requires (
   word-reads.Asked,
   word-reads.Learnt,
   pat-args-below t,
   pat-args.Post,
+  told-reads.Asked,
+  told-reads.Learnt,
 ) (tuple-pat-at t) tuple-pat.Post
-tuple-pat-pat-args-requires t c κs = omega (arith, c .before .before .before .before .before .before .before .before .before .before .pre .0)
+tuple-pat-pat-args-requires t c κs = omega (arith, c .before .before .before .before .before .before .before .before .before .before .before .before .pre .0)
 
--- src/lib.rt:322:22
-tuple-pat-enum-known-r2 : (t : ℕ) → tuple-pat-lts.Need-enum-known-r2 (
+-- src/lib.rt:355:28
+tuple-pat-told-requires : (t : ℕ) → tuple-pat-lts.Need-told-requires (
   word-reads.Asked,
   word-reads.Learnt,
   pat-args-below t,
   pat-args.Post,
+  told-reads.Asked,
+  told-reads.Learnt,
 ) (tuple-pat-at t) tuple-pat.Post
-tuple-pat-enum-known-r2 t c = search needs
+tuple-pat-told-requires t c κs = search needs
 
--- src/lib.rt:323:9
+-- src/lib.rt:355:22
+tuple-pat-enum-known-s1 : (t : ℕ) → tuple-pat-lts.Need-enum-known-s1 (
+  word-reads.Asked,
+  word-reads.Learnt,
+  pat-args-below t,
+  pat-args.Post,
+  told-reads.Asked,
+  told-reads.Learnt,
+) (tuple-pat-at t) tuple-pat.Post
+tuple-pat-enum-known-s1 t c = search needs
+
+-- src/lib.rt:356:9
 tuple-pat-enum-told : (t : ℕ) → tuple-pat-lts.Need-enum-told (
   word-reads.Asked,
   word-reads.Learnt,
   pat-args-below t,
   pat-args.Post,
+  told-reads.Asked,
+  told-reads.Learnt,
 ) (tuple-pat-at t) tuple-pat.Post
 tuple-pat-enum-told t c = search needs
 
--- src/lib.rt:323:9
+-- src/lib.rt:356:9
 tuple-pat-same-length : (t : ℕ) → tuple-pat-lts.Need-same-length (
   word-reads.Asked,
   word-reads.Learnt,
   pat-args-below t,
   pat-args.Post,
+  told-reads.Asked,
+  told-reads.Learnt,
 ) (tuple-pat-at t) tuple-pat.Post
-tuple-pat-same-length t c = c .before .before .before .before .pat-args .kept .1 .1 .1 .1 .0 ∙ c .before .before .before .before .before .before .before .before .word .kept .1 .0
+tuple-pat-same-length t c = c .before .before .before .before .before .pat-args .kept .1 .1 .1 .1 .1 .0 ∙ c .before .before .before .before .before .before .before .before .before .before .word .kept .1 .1 .0
 
--- src/lib.rt:323:9
+-- src/lib.rt:356:9
 tuple-pat-returns : (t : ℕ) → tuple-pat-lts.Need-returns (
   word-reads.Asked,
   word-reads.Learnt,
   pat-args-below t,
   pat-args.Post,
+  told-reads.Asked,
+  told-reads.Learnt,
 ) (tuple-pat-at t) tuple-pat.Post
 unfolding Pat.pat
-tuple-pat-returns t c = record { is = λ kinds m. then-sure (c .before .before .before .before .before .before .before .before .word .ensures) (then-stop (plain (c .before .before .before .before .pat-args .ensures)) (c .enum-told .given .1)) }
+tuple-pat-returns t c = record { is = λ kinds. then-sure (c .before .before .before .before .before .before .before .before .before .before .word .ensures) (then-stop (plain (c .before .before .before .before .before .pat-args .ensures)) (c .before .before .told .ensures) (c .enum-told .given .1)) }
 
--- src/lib.rt:325:18
+-- src/lib.rt:358:5
 tuple-pat-word-requires-2 : (t : ℕ) → tuple-pat-lts.Need-word-requires-2 (
   word-reads.Asked,
   word-reads.Learnt,
   pat-args-below t,
   pat-args.Post,
+  told-reads.Asked,
+  told-reads.Learnt,
 ) (tuple-pat-at t) tuple-pat.Post
 tuple-pat-word-requires-2 t c κs = search needs
 
--- src/lib.rt:309:1
+-- src/lib.rt:340:1
 tuple-pat-same-length-2 : (t : ℕ) → tuple-pat-lts.Need-same-length-2 (
   word-reads.Asked,
   word-reads.Learnt,
   pat-args-below t,
   pat-args.Post,
+  told-reads.Asked,
+  told-reads.Learnt,
 ) (tuple-pat-at t) tuple-pat.Post
-tuple-pat-same-length-2 t c = c .before .before .word2 .kept .1 .0 ∙ c .before .before .before .before .before .before .before .before .before .pat-args .kept .1 .1 .1 .1 .0 ∙ c .before .before .before .before .before .before .before .before .before .before .before .before .before .word .kept .1 .0
+tuple-pat-same-length-2 t c = c .before .before .word2 .kept .1 .1 .0 ∙ c .before .before .before .before .before .before .before .before .before .before .before .pat-args .kept .1 .1 .1 .1 .1 .0 ∙ c .before .before .before .before .before .before .before .before .before .before .before .before .before .before .before .before .word .kept .1 .1 .0
 
--- src/lib.rt:309:1
+-- src/lib.rt:340:1
 tuple-pat-returns-2 : (t : ℕ) → tuple-pat-lts.Need-returns-2 (
   word-reads.Asked,
   word-reads.Learnt,
   pat-args-below t,
   pat-args.Post,
+  told-reads.Asked,
+  told-reads.Learnt,
 ) (tuple-pat-at t) tuple-pat.Post
 unfolding Pat.pat
-tuple-pat-returns-2 t c = record { is = λ kinds m. then-sure (c .before .before .before .before .before .before .before .before .before .before .before .before .before .word .ensures) (then-done (plain (c .before .before .before .before .before .before .before .before .before .pat-args .ensures)) (c .before .before .before .before .before .r2 .given .1) (last-sure (c .before .before .word2 .ensures))) }
+tuple-pat-returns-2 t c = record { is = λ kinds. then-sure (c .before .before .before .before .before .before .before .before .before .before .before .before .before .before .before .before .word .ensures) (then-done (plain (c .before .before .before .before .before .before .before .before .before .before .before .pat-args .ensures)) (c .before .before .before .before .before .before .before .before .told .ensures) (c .before .before .before .before .before .before .s1 .given .1) (last-sure (c .before .before .word2 .ensures))) }
 
--- src/lib.rt:409:9
+-- src/lib.rt:453:9
 typed-pat-get-pat-requires : (t : ℕ) → typed-pat-lts.Need-get-pat-requires (
   get-pat-below t,
   get-pat.Post,
+  told-reads.Asked,
+  told-reads.Learnt,
   word-reads.Asked,
   word-reads.Learnt,
   get-ty-reads.Asked,
   get-ty-reads.Learnt,
 ) (typed-pat-at t) typed-pat.Post
-typed-pat-get-pat-requires t c κs = omega (arith, c .before .before .before .before .before .before .pre .0)
+typed-pat-get-pat-requires t c κs = omega (arith, c .before .before .before .before .before .before .before .pre .0)
 
--- src/lib.rt:410:22
-typed-pat-enum-known-r1 : (t : ℕ) → typed-pat-lts.Need-enum-known-r1 (
+-- src/lib.rt:454:28
+typed-pat-told-requires : (t : ℕ) → typed-pat-lts.Need-told-requires (
   get-pat-below t,
   get-pat.Post,
+  told-reads.Asked,
+  told-reads.Learnt,
   word-reads.Asked,
   word-reads.Learnt,
   get-ty-reads.Asked,
   get-ty-reads.Learnt,
 ) (typed-pat-at t) typed-pat.Post
-typed-pat-enum-known-r1 t c = search needs
+typed-pat-told-requires t c κs = search needs
 
--- src/lib.rt:411:9
+-- src/lib.rt:454:22
+typed-pat-enum-known-s1 : (t : ℕ) → typed-pat-lts.Need-enum-known-s1 (
+  get-pat-below t,
+  get-pat.Post,
+  told-reads.Asked,
+  told-reads.Learnt,
+  word-reads.Asked,
+  word-reads.Learnt,
+  get-ty-reads.Asked,
+  get-ty-reads.Learnt,
+) (typed-pat-at t) typed-pat.Post
+typed-pat-enum-known-s1 t c = search needs
+
+-- src/lib.rt:455:9
 typed-pat-enum-told : (t : ℕ) → typed-pat-lts.Need-enum-told (
   get-pat-below t,
   get-pat.Post,
+  told-reads.Asked,
+  told-reads.Learnt,
   word-reads.Asked,
   word-reads.Learnt,
   get-ty-reads.Asked,
@@ -4074,33 +4654,39 @@ typed-pat-enum-told : (t : ℕ) → typed-pat-lts.Need-enum-told (
 ) (typed-pat-at t) typed-pat.Post
 typed-pat-enum-told t c = search needs
 
--- src/lib.rt:411:9
+-- src/lib.rt:455:9
 typed-pat-same-length : (t : ℕ) → typed-pat-lts.Need-same-length (
   get-pat-below t,
   get-pat.Post,
+  told-reads.Asked,
+  told-reads.Learnt,
   word-reads.Asked,
   word-reads.Learnt,
   get-ty-reads.Asked,
   get-ty-reads.Learnt,
 ) (typed-pat-at t) typed-pat.Post
-typed-pat-same-length t c = c .before .before .before .before .get-pat .kept .1 .1 .1 .1 .0
+typed-pat-same-length t c = c .before .before .before .before .before .get-pat .kept .1 .1 .1 .1 .1 .0
 
--- src/lib.rt:411:9
+-- src/lib.rt:455:9
 typed-pat-returns : (t : ℕ) → typed-pat-lts.Need-returns (
   get-pat-below t,
   get-pat.Post,
+  told-reads.Asked,
+  told-reads.Learnt,
   word-reads.Asked,
   word-reads.Learnt,
   get-ty-reads.Asked,
   get-ty-reads.Learnt,
 ) (typed-pat-at t) typed-pat.Post
 unfolding Pat.pat
-typed-pat-returns t c = record { is = λ kinds m. then-stop (plain (c .before .before .before .before .get-pat .ensures)) (c .enum-told .given .1) }
+typed-pat-returns t c = record { is = λ kinds. then-stop (plain (c .before .before .before .before .before .get-pat .ensures)) (c .before .before .told .ensures) (c .enum-told .given .1) }
 
--- src/lib.rt:413:9
+-- src/lib.rt:457:5
 typed-pat-word-requires : (t : ℕ) → typed-pat-lts.Need-word-requires (
   get-pat-below t,
   get-pat.Post,
+  told-reads.Asked,
+  told-reads.Learnt,
   word-reads.Asked,
   word-reads.Learnt,
   get-ty-reads.Asked,
@@ -4108,10 +4694,12 @@ typed-pat-word-requires : (t : ℕ) → typed-pat-lts.Need-word-requires (
 ) (typed-pat-at t) typed-pat.Post
 typed-pat-word-requires t c κs = search needs
 
--- src/lib.rt:414:5
+-- src/lib.rt:458:5
 typed-pat-get-ty-requires : (t : ℕ) → typed-pat-lts.Need-get-ty-requires (
   get-pat-below t,
   get-pat.Post,
+  told-reads.Asked,
+  told-reads.Learnt,
   word-reads.Asked,
   word-reads.Learnt,
   get-ty-reads.Asked,
@@ -4119,185 +4707,243 @@ typed-pat-get-ty-requires : (t : ℕ) → typed-pat-lts.Need-get-ty-requires (
 ) (typed-pat-at t) typed-pat.Post
 typed-pat-get-ty-requires t c κs = search needs
 
--- src/lib.rt:398:1
+-- src/lib.rt:440:1
 typed-pat-same-length-2 : (t : ℕ) → typed-pat-lts.Need-same-length-2 (
   get-pat-below t,
   get-pat.Post,
+  told-reads.Asked,
+  told-reads.Learnt,
   word-reads.Asked,
   word-reads.Learnt,
   get-ty-reads.Asked,
   get-ty-reads.Learnt,
 ) (typed-pat-at t) typed-pat.Post
-typed-pat-same-length-2 t c = c .before .before .get-ty .kept .1 .1 .1 .1 .0 ∙ c .before .before .before .before .before .before .word .kept .1 .0 ∙ c .before .before .before .before .before .before .before .before .before .before .before .before .before .get-pat .kept .1 .1 .1 .1 .0
+typed-pat-same-length-2 t c = c .before .before .get-ty .kept .1 .1 .1 .1 .1 .0 ∙ c .before .before .before .before .before .before .before .word .kept .1 .1 .0 ∙ c .before .before .before .before .before .before .before .before .before .before .before .before .before .before .before .before .get-pat .kept .1 .1 .1 .1 .1 .0
 
--- src/lib.rt:398:1
+-- src/lib.rt:440:1
 typed-pat-returns-2 : (t : ℕ) → typed-pat-lts.Need-returns-2 (
   get-pat-below t,
   get-pat.Post,
+  told-reads.Asked,
+  told-reads.Learnt,
   word-reads.Asked,
   word-reads.Learnt,
   get-ty-reads.Asked,
   get-ty-reads.Learnt,
 ) (typed-pat-at t) typed-pat.Post
 unfolding Pat.pat
-typed-pat-returns-2 t c = record { is = λ kinds m. then-done (plain (c .before .before .before .before .before .before .before .before .before .before .before .before .before .get-pat .ensures)) (c .before .before .before .before .before .before .before .before .before .r1 .given .1) (then-sure (c .before .before .before .before .before .before .word .ensures) (plain (c .before .before .get-ty .ensures))) }
+typed-pat-returns-2 t c = record { is = λ kinds. then-done (plain (c .before .before .before .before .before .before .before .before .before .before .before .before .before .before .before .before .get-pat .ensures)) (c .before .before .before .before .before .before .before .before .before .before .before .before .before .told .ensures) (c .before .before .before .before .before .before .before .before .before .before .before .s1 .given .1) (then-sure (c .before .before .before .before .before .before .before .word .ensures) (plain (c .before .before .get-ty .ensures))) }
 
--- src/lib.rt:360:9
+-- src/lib.rt:399:5
 vector-pat-word-requires : (t : ℕ) → vector-pat-lts.Need-word-requires (
   word-reads.Asked,
   word-reads.Learnt,
   group-reads.Asked,
   group-reads.Learnt,
+  told-reads.Asked,
+  told-reads.Learnt,
   pat-args-below t,
   pat-args.Post,
 ) (vector-pat-at t) vector-pat.Post
 vector-pat-word-requires t c κs = search needs
 
--- src/lib.rt:361:9
+-- src/lib.rt:400:9
 vector-pat-group-requires : (t : ℕ) → vector-pat-lts.Need-group-requires (
   word-reads.Asked,
   word-reads.Learnt,
   group-reads.Asked,
   group-reads.Learnt,
+  told-reads.Asked,
+  told-reads.Learnt,
   pat-args-below t,
   pat-args.Post,
 ) (vector-pat-at t) vector-pat.Post
 vector-pat-group-requires t c κs = search needs
 
--- src/lib.rt:362:22
-vector-pat-enum-known-r2 : (t : ℕ) → vector-pat-lts.Need-enum-known-r2 (
+-- src/lib.rt:401:28
+vector-pat-told-requires : (t : ℕ) → vector-pat-lts.Need-told-requires (
   word-reads.Asked,
   word-reads.Learnt,
   group-reads.Asked,
   group-reads.Learnt,
+  told-reads.Asked,
+  told-reads.Learnt,
   pat-args-below t,
   pat-args.Post,
 ) (vector-pat-at t) vector-pat.Post
-vector-pat-enum-known-r2 t c = search needs
+vector-pat-told-requires t c κs = search needs
 
--- src/lib.rt:363:9
+-- src/lib.rt:401:22
+vector-pat-enum-known-s1 : (t : ℕ) → vector-pat-lts.Need-enum-known-s1 (
+  word-reads.Asked,
+  word-reads.Learnt,
+  group-reads.Asked,
+  group-reads.Learnt,
+  told-reads.Asked,
+  told-reads.Learnt,
+  pat-args-below t,
+  pat-args.Post,
+) (vector-pat-at t) vector-pat.Post
+vector-pat-enum-known-s1 t c = search needs
+
+-- src/lib.rt:402:9
 vector-pat-enum-told : (t : ℕ) → vector-pat-lts.Need-enum-told (
   word-reads.Asked,
   word-reads.Learnt,
   group-reads.Asked,
   group-reads.Learnt,
+  told-reads.Asked,
+  told-reads.Learnt,
   pat-args-below t,
   pat-args.Post,
 ) (vector-pat-at t) vector-pat.Post
 vector-pat-enum-told t c = search needs
 
--- src/lib.rt:363:9
+-- src/lib.rt:402:9
 vector-pat-same-length : (t : ℕ) → vector-pat-lts.Need-same-length (
   word-reads.Asked,
   word-reads.Learnt,
   group-reads.Asked,
   group-reads.Learnt,
+  told-reads.Asked,
+  told-reads.Learnt,
   pat-args-below t,
   pat-args.Post,
 ) (vector-pat-at t) vector-pat.Post
-vector-pat-same-length t c = c .before .before .before .before .before .word .kept .1 .0
+vector-pat-same-length t c = c .before .before .before .before .before .before .word .kept .1 .1 .0
 
--- src/lib.rt:363:9
+-- src/lib.rt:402:9
 vector-pat-returns : (t : ℕ) → vector-pat-lts.Need-returns (
   word-reads.Asked,
   word-reads.Learnt,
   group-reads.Asked,
   group-reads.Learnt,
+  told-reads.Asked,
+  told-reads.Learnt,
   pat-args-below t,
   pat-args.Post,
 ) (vector-pat-at t) vector-pat.Post
 unfolding Pat.pat
-vector-pat-returns t c = record { is = λ kinds m. then-sure (c .before .before .before .before .before .word .ensures) (then-stop (group-not (c .before .before .group .ensures) (c .enum-told .given .1)) (c .enum-told .given .1)) }
+vector-pat-returns t c = record { is = λ kinds. then-sure (c .before .before .before .before .before .before .word .ensures) (then-stop (group-not (c .before .before .before .group .ensures) (c .before .before .told .ensures) (c .enum-told .given .1)) (c .before .before .told .ensures) (c .enum-told .given .1)) }
 
--- src/lib.rt:365:9
+-- src/lib.rt:404:9
 vector-pat-pat-args-requires : (t : ℕ) → vector-pat-lts.Need-pat-args-requires (
   word-reads.Asked,
   word-reads.Learnt,
   group-reads.Asked,
   group-reads.Learnt,
+  told-reads.Asked,
+  told-reads.Learnt,
   pat-args-below t,
   pat-args.Post,
 ) (vector-pat-at t) vector-pat.Post
-vector-pat-pat-args-requires t c κs = omega (arith, c .before .before .before .before .before .before .before .before .before .before .before .before .before .before .pre .0)
+vector-pat-pat-args-requires t c κs = omega (arith, c .before .before .before .before .before .before .before .before .before .before .before .before .before .before .before .before .before .pre .0)
 
--- src/lib.rt:366:22
-vector-pat-enum-known-r3 : (t : ℕ) → vector-pat-lts.Need-enum-known-r3 (
+-- src/lib.rt:405:28
+vector-pat-told-requires-2 : (t : ℕ) → vector-pat-lts.Need-told-requires-2 (
   word-reads.Asked,
   word-reads.Learnt,
   group-reads.Asked,
   group-reads.Learnt,
+  told-reads.Asked,
+  told-reads.Learnt,
   pat-args-below t,
   pat-args.Post,
 ) (vector-pat-at t) vector-pat.Post
-vector-pat-enum-known-r3 t c = search needs
+vector-pat-told-requires-2 t c κs = search needs
 
--- src/lib.rt:367:9
+-- src/lib.rt:405:22
+vector-pat-enum-known-s2 : (t : ℕ) → vector-pat-lts.Need-enum-known-s2 (
+  word-reads.Asked,
+  word-reads.Learnt,
+  group-reads.Asked,
+  group-reads.Learnt,
+  told-reads.Asked,
+  told-reads.Learnt,
+  pat-args-below t,
+  pat-args.Post,
+) (vector-pat-at t) vector-pat.Post
+vector-pat-enum-known-s2 t c = search needs
+
+-- src/lib.rt:406:9
 vector-pat-enum-told-2 : (t : ℕ) → vector-pat-lts.Need-enum-told-2 (
   word-reads.Asked,
   word-reads.Learnt,
   group-reads.Asked,
   group-reads.Learnt,
+  told-reads.Asked,
+  told-reads.Learnt,
   pat-args-below t,
   pat-args.Post,
 ) (vector-pat-at t) vector-pat.Post
 vector-pat-enum-told-2 t c = search needs
 
--- src/lib.rt:367:9
+-- src/lib.rt:406:9
 vector-pat-same-length-2 : (t : ℕ) → vector-pat-lts.Need-same-length-2 (
   word-reads.Asked,
   word-reads.Learnt,
   group-reads.Asked,
   group-reads.Learnt,
+  told-reads.Asked,
+  told-reads.Learnt,
   pat-args-below t,
   pat-args.Post,
 ) (vector-pat-at t) vector-pat.Post
-vector-pat-same-length-2 t c = c .before .before .before .before .pat-args .kept .1 .1 .1 .1 .0 ∙ c .before .before .before .before .before .before .before .before .before .before .before .before .word .kept .1 .0
+vector-pat-same-length-2 t c = c .before .before .before .before .before .pat-args .kept .1 .1 .1 .1 .1 .0 ∙ c .before .before .before .before .before .before .before .before .before .before .before .before .before .before .before .word .kept .1 .1 .0
 
--- src/lib.rt:367:9
+-- src/lib.rt:406:9
 vector-pat-returns-2 : (t : ℕ) → vector-pat-lts.Need-returns-2 (
   word-reads.Asked,
   word-reads.Learnt,
   group-reads.Asked,
   group-reads.Learnt,
+  told-reads.Asked,
+  told-reads.Learnt,
   pat-args-below t,
   pat-args.Post,
 ) (vector-pat-at t) vector-pat.Post
 unfolding Pat.pat
-vector-pat-returns-2 t c = record { is = λ kinds m. then-sure (c .before .before .before .before .before .before .before .before .before .before .before .before .word .ensures) (by-same (first-same (group-is (c .before .before .before .before .before .before .before .before .before .group .ensures) (c .before .before .before .before .before .before .before .r2 .given .1))) (then-stop (plain (c .before .before .before .before .pat-args .ensures)) (c .enum-told2 .given .1))) }
+vector-pat-returns-2 t c = record { is = λ kinds. then-sure (c .before .before .before .before .before .before .before .before .before .before .before .before .before .before .before .word .ensures) (by-same (first-same (group-is (c .before .before .before .before .before .before .before .before .before .before .before .before .group .ensures) (c .before .before .before .before .before .before .before .before .before .before .before .told .ensures) (c .before .before .before .before .before .before .before .before .before .s1 .given .1))) (then-stop (plain (c .before .before .before .before .before .pat-args .ensures)) (c .before .before .told2 .ensures) (c .enum-told2 .given .1))) }
 
--- src/lib.rt:369:18
+-- src/lib.rt:408:5
 vector-pat-word-requires-2 : (t : ℕ) → vector-pat-lts.Need-word-requires-2 (
   word-reads.Asked,
   word-reads.Learnt,
   group-reads.Asked,
   group-reads.Learnt,
+  told-reads.Asked,
+  told-reads.Learnt,
   pat-args-below t,
   pat-args.Post,
 ) (vector-pat-at t) vector-pat.Post
 vector-pat-word-requires-2 t c κs = search needs
 
--- src/lib.rt:349:1
+-- src/lib.rt:386:1
 vector-pat-same-length-3 : (t : ℕ) → vector-pat-lts.Need-same-length-3 (
   word-reads.Asked,
   word-reads.Learnt,
   group-reads.Asked,
   group-reads.Learnt,
+  told-reads.Asked,
+  told-reads.Learnt,
   pat-args-below t,
   pat-args.Post,
 ) (vector-pat-at t) vector-pat.Post
-vector-pat-same-length-3 t c = c .before .before .word2 .kept .1 .0 ∙ c .before .before .before .before .before .before .before .before .before .pat-args .kept .1 .1 .1 .1 .0 ∙ c .before .before .before .before .before .before .before .before .before .before .before .before .before .before .before .before .before .word .kept .1 .0
+vector-pat-same-length-3 t c = c .before .before .word2 .kept .1 .1 .0 ∙ c .before .before .before .before .before .before .before .before .before .before .before .pat-args .kept .1 .1 .1 .1 .1 .0 ∙ c .before .before .before .before .before .before .before .before .before .before .before .before .before .before .before .before .before .before .before .before .before .word .kept .1 .1 .0
 
--- src/lib.rt:349:1
+-- src/lib.rt:386:1
 vector-pat-returns-3 : (t : ℕ) → vector-pat-lts.Need-returns-3 (
   word-reads.Asked,
   word-reads.Learnt,
   group-reads.Asked,
   group-reads.Learnt,
+  told-reads.Asked,
+  told-reads.Learnt,
   pat-args-below t,
   pat-args.Post,
 ) (vector-pat-at t) vector-pat.Post
 unfolding Pat.pat
-vector-pat-returns-3 t c = record { is = λ kinds m. then-sure (c .before .before .before .before .before .before .before .before .before .before .before .before .before .before .before .before .before .word .ensures) (by-same (first-same (group-is (c .before .before .before .before .before .before .before .before .before .before .before .before .before .before .group .ensures) (c .before .before .before .before .before .before .before .before .before .before .before .before .r2 .given .1))) (then-done (plain (c .before .before .before .before .before .before .before .before .before .pat-args .ensures)) (c .before .before .before .before .before .r3 .given .1) (last-sure (c .before .before .word2 .ensures)))) }
+vector-pat-returns-3 t c = record { is = λ kinds. then-sure (c .before .before .before .before .before .before .before .before .before .before .before .before .before .before .before .before .before .before .before .before .before .word .ensures) (by-same (first-same (group-is (c .before .before .before .before .before .before .before .before .before .before .before .before .before .before .before .before .before .before .group .ensures) (c .before .before .before .before .before .before .before .before .before .before .before .before .before .before .before .before .before .told .ensures) (c .before .before .before .before .before .before .before .before .before .before .before .before .before .before .before .s1 .given .1))) (then-done (plain (c .before .before .before .before .before .before .before .before .before .before .before .pat-args .ensures)) (c .before .before .before .before .before .before .before .before .told2 .ensures) (c .before .before .before .before .before .before .s2 .given .1) (last-sure (c .before .before .word2 .ensures)))) }
 
 pub +as-pat+as-tail+as-tail-there+con-arg+con-arg-there+con-pat+get-pat+infix-pat+lab-and-pat+lab-pat+list-pat+or-pat+paren-pat+pat-args+record-pat+row+row-inner+rows+tuple-pat+typed-pat+vector-pat-spec :
     {M : Type 1} → statement M
@@ -4327,6 +4973,8 @@ pub +as-pat+as-tail+as-tail-there+con-arg+con-arg-there+con-pat+get-pat+infix-pa
     (λ t. as-pat-lts.spec (
       get-pat-below t,
       get-pat.Post,
+      told-reads.Asked,
+      told-reads.Learnt,
       word-reads.Asked,
       word-reads.Learnt,
       group-reads.Asked,
@@ -4335,13 +4983,15 @@ pub +as-pat+as-tail+as-tail-there+con-arg+con-arg-there+con-pat+get-pat+infix-pa
     (as-pat-at t)
     as-pat.Post
     (as-pat-get-pat-requires t)
-    (as-pat-enum-known-r1 t)
+    (as-pat-told-requires t)
+    (as-pat-enum-known-s1 t)
     (as-pat-enum-told t)
     (as-pat-same-length t)
     (as-pat-returns t)
     (as-pat-word-requires t)
     (as-pat-group-requires t)
-    (as-pat-enum-known-r3 t)
+    (as-pat-told-requires-2 t)
+    (as-pat-enum-known-s2 t)
     (as-pat-enum-told-2 t)
     (as-pat-same-length-2 t)
     (as-pat-returns-2 t)
@@ -4366,6 +5016,8 @@ pub +as-pat+as-tail+as-tail-there+con-arg+con-arg-there+con-pat+get-pat+infix-pa
     (λ t. as-tail-there-lts.spec (
       group-reads.Asked,
       group-reads.Learnt,
+      told-reads.Asked,
+      told-reads.Learnt,
       word-reads.Asked,
       word-reads.Learnt,
       get-pat-below t,
@@ -4374,7 +5026,8 @@ pub +as-pat+as-tail+as-tail-there+con-arg+con-arg-there+con-pat+get-pat+infix-pa
     (as-tail-there-at t)
     as-tail-there.Post
     (as-tail-there-group-requires t)
-    (as-tail-there-enum-known-r1 t)
+    (as-tail-there-told-requires t)
+    (as-tail-there-enum-known-s1 t)
     (as-tail-there-enum-told t)
     (as-tail-there-returns t)
     (as-tail-there-word-requires t)
@@ -4411,13 +5064,16 @@ pub +as-pat+as-tail+as-tail-there+con-arg+con-arg-there+con-pat+get-pat+infix-pa
     (λ t. con-pat-lts.spec (
       op-path-reads.Asked,
       op-path-reads.Learnt,
+      told-reads.Asked,
+      told-reads.Learnt,
       con-arg-below t,
       con-arg.Post,
     )
     (con-pat-at t)
     con-pat.Post
     (con-pat-op-path-requires t)
-    (con-pat-enum-known-r1 t)
+    (con-pat-told-requires t)
+    (con-pat-enum-known-s1 t)
     (con-pat-enum-told t)
     (con-pat-same-length t)
     (con-pat-returns t)
@@ -4463,7 +5119,7 @@ pub +as-pat+as-tail+as-tail-there+con-arg+con-arg-there+con-pat+get-pat+infix-pa
     (get-pat-enum-told t)
     (get-pat-stop-requires-2 t)
     (get-pat-returns-2 t)
-    (get-pat-sub-t15 t)
+    (get-pat-sub-t17 t)
     (get-pat-word-requires t)
     (get-pat-text-of-requires t)
     (get-pat-con-pat-requires t)
@@ -4505,6 +5161,8 @@ pub +as-pat+as-tail+as-tail-there+con-arg+con-arg-there+con-pat+get-pat+infix-pa
     (λ t. infix-pat-lts.spec (
       get-pat-below t,
       get-pat.Post,
+      told-reads.Asked,
+      told-reads.Learnt,
       word-reads.Asked,
       word-reads.Learnt,
       text-of-reads.Asked,
@@ -4513,13 +5171,15 @@ pub +as-pat+as-tail+as-tail-there+con-arg+con-arg-there+con-pat+get-pat+infix-pa
     (infix-pat-at t)
     infix-pat.Post
     (infix-pat-get-pat-requires t)
-    (infix-pat-enum-known-r1 t)
+    (infix-pat-told-requires t)
+    (infix-pat-enum-known-s1 t)
     (infix-pat-enum-told t)
     (infix-pat-same-length t)
     (infix-pat-returns t)
     (infix-pat-word-requires t)
     (infix-pat-text-of-requires t)
-    (infix-pat-enum-known-r3 t)
+    (infix-pat-told-requires-2 t)
+    (infix-pat-enum-known-s2 t)
     (infix-pat-enum-told-2 t)
     (infix-pat-same-length-2 t)
     (infix-pat-returns-2 t)
@@ -4530,6 +5190,8 @@ pub +as-pat+as-tail+as-tail-there+con-arg+con-arg-there+con-pat+get-pat+infix-pa
     (λ t. lab-and-pat-lts.spec (
       text-of-reads.Asked,
       text-of-reads.Learnt,
+      told-reads.Asked,
+      told-reads.Learnt,
       word-reads.Asked,
       word-reads.Learnt,
       get-pat-below t,
@@ -4538,7 +5200,8 @@ pub +as-pat+as-tail+as-tail-there+con-arg+con-arg-there+con-pat+get-pat+infix-pa
     (lab-and-pat-at t)
     lab-and-pat.Post
     (lab-and-pat-text-of-requires t)
-    (lab-and-pat-enum-known-r1 t)
+    (lab-and-pat-told-requires t)
+    (lab-and-pat-enum-known-s1 t)
     (lab-and-pat-enum-told t)
     (lab-and-pat-same-length t)
     (lab-and-pat-returns t)
@@ -4549,6 +5212,8 @@ pub +as-pat+as-tail+as-tail-there+con-arg+con-arg-there+con-pat+get-pat+infix-pa
     (λ t. lab-pat-lts.spec (
       text-of-reads.Asked,
       text-of-reads.Learnt,
+      told-reads.Asked,
+      told-reads.Learnt,
       ty-annotation-reads.Asked,
       ty-annotation-reads.Learnt,
       as-tail-below t,
@@ -4557,37 +5222,53 @@ pub +as-pat+as-tail+as-tail-there+con-arg+con-arg-there+con-pat+get-pat+infix-pa
     (lab-pat-at t)
     lab-pat.Post
     (lab-pat-text-of-requires t)
-    (lab-pat-enum-known-r1 t)
+    (lab-pat-told-requires t)
+    (lab-pat-enum-known-s1 t)
     (lab-pat-enum-told t)
     (lab-pat-same-length t)
     (lab-pat-returns t)
     (lab-pat-ty-annotation-requires t)
-    (lab-pat-enum-known-r2 t)
+    (lab-pat-told-requires-2 t)
+    (lab-pat-enum-known-s2 t)
     (lab-pat-enum-told-2 t)
     (lab-pat-same-length-2 t)
     (lab-pat-returns-2 t)
     (lab-pat-as-tail-requires t)
     (lab-pat-same-length-3 t)
     (lab-pat-returns-3 t))
-    (λ t. list-pat-lts.spec
-    (word-reads.Asked, word-reads.Learnt, pat-args-below t, pat-args.Post)
+    (λ t. list-pat-lts.spec (
+      word-reads.Asked,
+      word-reads.Learnt,
+      pat-args-below t,
+      pat-args.Post,
+      told-reads.Asked,
+      told-reads.Learnt,
+    )
     (list-pat-at t)
     list-pat.Post
     (list-pat-word-requires t)
     (list-pat-pat-args-requires t)
-    (list-pat-enum-known-r2 t)
+    (list-pat-told-requires t)
+    (list-pat-enum-known-s1 t)
     (list-pat-enum-told t)
     (list-pat-same-length t)
     (list-pat-returns t)
     (list-pat-word-requires-2 t)
     (list-pat-same-length-2 t)
     (list-pat-returns-2 t))
-    (λ t. or-pat-lts.spec
-    (get-pat-below t, get-pat.Post, word-reads.Asked, word-reads.Learnt)
+    (λ t. or-pat-lts.spec (
+      get-pat-below t,
+      get-pat.Post,
+      told-reads.Asked,
+      told-reads.Learnt,
+      word-reads.Asked,
+      word-reads.Learnt,
+    )
     (or-pat-at t)
     or-pat.Post
     (or-pat-get-pat-requires t)
-    (or-pat-enum-known-r1 t)
+    (or-pat-told-requires t)
+    (or-pat-enum-known-s1 t)
     (or-pat-enum-told t)
     (or-pat-same-length t)
     (or-pat-returns t)
@@ -4595,13 +5276,20 @@ pub +as-pat+as-tail+as-tail-there+con-arg+con-arg-there+con-pat+get-pat+infix-pa
     (or-pat-get-pat-requires-2 t)
     (or-pat-same-length-2 t)
     (or-pat-returns-2 t))
-    (λ t. paren-pat-lts.spec
-    (word-reads.Asked, word-reads.Learnt, get-pat-below t, get-pat.Post)
+    (λ t. paren-pat-lts.spec (
+      word-reads.Asked,
+      word-reads.Learnt,
+      get-pat-below t,
+      get-pat.Post,
+      told-reads.Asked,
+      told-reads.Learnt,
+    )
     (paren-pat-at t)
     paren-pat.Post
     (paren-pat-word-requires t)
     (paren-pat-get-pat-requires t)
-    (paren-pat-enum-known-r2 t)
+    (paren-pat-told-requires t)
+    (paren-pat-enum-known-s1 t)
     (paren-pat-enum-told t)
     (paren-pat-same-length t)
     (paren-pat-returns t)
@@ -4617,6 +5305,8 @@ pub +as-pat+as-tail+as-tail-there+con-arg+con-arg-there+con-pat+get-pat+infix-pa
       between-reads.Learnt,
       group-reads.Asked,
       group-reads.Learnt,
+      told-reads.Asked,
+      told-reads.Learnt,
       get-pat-below t,
       get-pat.Post,
     )
@@ -4632,12 +5322,14 @@ pub +as-pat+as-tail+as-tail-there+con-arg+con-arg-there+con-pat+get-pat+infix-pa
     (pat-args-loop-holds t)
     (pat-args-between-requires t)
     (pat-args-group-requires t)
-    (pat-args-enum-known-r2 t)
+    (pat-args-told-requires t)
+    (pat-args-enum-known-s1 t)
     (pat-args-enum-told-2 t)
     (pat-args-same-length t)
     (pat-args-returns-2 t)
     (pat-args-get-pat-requires t)
-    (pat-args-enum-known-r3 t)
+    (pat-args-told-requires-2 t)
+    (pat-args-enum-known-s2 t)
     (pat-args-enum-told-3 t)
     (pat-args-same-length-2 t)
     (pat-args-returns-3 t)
@@ -4646,13 +5338,20 @@ pub +as-pat+as-tail+as-tail-there+con-arg+con-arg-there+con-pat+get-pat+infix-pa
     (pat-args-loop-again t)
     (pat-args-same-length-3 t)
     (pat-args-returns-4 t))
-    (λ t. record-pat-lts.spec
-    (word-reads.Asked, word-reads.Learnt, rows-below t, rows.Post)
+    (λ t. record-pat-lts.spec (
+      word-reads.Asked,
+      word-reads.Learnt,
+      rows-below t,
+      rows.Post,
+      told-reads.Asked,
+      told-reads.Learnt,
+    )
     (record-pat-at t)
     record-pat.Post
     (record-pat-word-requires t)
     (record-pat-rows-requires t)
-    (record-pat-enum-known-r2 t)
+    (record-pat-told-requires t)
+    (record-pat-enum-known-s1 t)
     (record-pat-enum-told t)
     (record-pat-same-length t)
     (record-pat-returns t)
@@ -4662,6 +5361,8 @@ pub +as-pat+as-tail+as-tail-there+con-arg+con-arg-there+con-pat+get-pat+infix-pa
     (λ t. row-lts.spec (
       group-reads.Asked,
       group-reads.Learnt,
+      told-reads.Asked,
+      told-reads.Learnt,
       choice-reads.Asked,
       choice-reads.Learnt,
       stop-reads.Asked,
@@ -4672,7 +5373,8 @@ pub +as-pat+as-tail+as-tail-there+con-arg+con-arg-there+con-pat+get-pat+infix-pa
     (row-at t)
     row.Post
     (row-group-requires t)
-    (row-enum-known-r1 t)
+    (row-told-requires t)
+    (row-enum-known-s1 t)
     (row-enum-told t)
     (row-returns t)
     (row-choice-requires t)
@@ -4715,6 +5417,8 @@ pub +as-pat+as-tail+as-tail-there+con-arg+con-arg-there+con-pat+get-pat+infix-pa
       between-reads.Learnt,
       row-below t,
       row.Post,
+      told-reads.Asked,
+      told-reads.Learnt,
     )
     (rows-at t)
     rows.Post
@@ -4728,7 +5432,8 @@ pub +as-pat+as-tail+as-tail-there+con-arg+con-arg-there+con-pat+get-pat+infix-pa
     (rows-loop-holds t)
     (rows-between-requires t)
     (rows-row-requires t)
-    (rows-enum-known-r2 t)
+    (rows-told-requires t)
+    (rows-enum-known-s1 t)
     (rows-enum-told-2 t)
     (rows-same-length t)
     (rows-returns-2 t)
@@ -4742,12 +5447,15 @@ pub +as-pat+as-tail+as-tail-there+con-arg+con-arg-there+con-pat+get-pat+infix-pa
       word-reads.Learnt,
       pat-args-below t,
       pat-args.Post,
+      told-reads.Asked,
+      told-reads.Learnt,
     )
     (tuple-pat-at t)
     tuple-pat.Post
     (tuple-pat-word-requires t)
     (tuple-pat-pat-args-requires t)
-    (tuple-pat-enum-known-r2 t)
+    (tuple-pat-told-requires t)
+    (tuple-pat-enum-known-s1 t)
     (tuple-pat-enum-told t)
     (tuple-pat-same-length t)
     (tuple-pat-returns t)
@@ -4757,6 +5465,8 @@ pub +as-pat+as-tail+as-tail-there+con-arg+con-arg-there+con-pat+get-pat+infix-pa
     (λ t. typed-pat-lts.spec (
       get-pat-below t,
       get-pat.Post,
+      told-reads.Asked,
+      told-reads.Learnt,
       word-reads.Asked,
       word-reads.Learnt,
       get-ty-reads.Asked,
@@ -4765,7 +5475,8 @@ pub +as-pat+as-tail+as-tail-there+con-arg+con-arg-there+con-pat+get-pat+infix-pa
     (typed-pat-at t)
     typed-pat.Post
     (typed-pat-get-pat-requires t)
-    (typed-pat-enum-known-r1 t)
+    (typed-pat-told-requires t)
+    (typed-pat-enum-known-s1 t)
     (typed-pat-enum-told t)
     (typed-pat-same-length t)
     (typed-pat-returns t)
@@ -4778,6 +5489,8 @@ pub +as-pat+as-tail+as-tail-there+con-arg+con-arg-there+con-pat+get-pat+infix-pa
       word-reads.Learnt,
       group-reads.Asked,
       group-reads.Learnt,
+      told-reads.Asked,
+      told-reads.Learnt,
       pat-args-below t,
       pat-args.Post,
     )
@@ -4785,12 +5498,14 @@ pub +as-pat+as-tail+as-tail-there+con-arg+con-arg-there+con-pat+get-pat+infix-pa
     vector-pat.Post
     (vector-pat-word-requires t)
     (vector-pat-group-requires t)
-    (vector-pat-enum-known-r2 t)
+    (vector-pat-told-requires t)
+    (vector-pat-enum-known-s1 t)
     (vector-pat-enum-told t)
     (vector-pat-same-length t)
     (vector-pat-returns t)
     (vector-pat-pat-args-requires t)
-    (vector-pat-enum-known-r3 t)
+    (vector-pat-told-requires-2 t)
+    (vector-pat-enum-known-s2 t)
     (vector-pat-enum-told-2 t)
     (vector-pat-same-length-2 t)
     (vector-pat-returns-2 t)

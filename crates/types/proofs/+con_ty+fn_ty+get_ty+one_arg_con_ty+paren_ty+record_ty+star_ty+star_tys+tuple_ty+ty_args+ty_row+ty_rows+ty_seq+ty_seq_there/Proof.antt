@@ -9,7 +9,7 @@ use Rattle.layout.specs.Helpers as Helpers
 use Rattle.layout.specs.Helpers.{times}
 use Rattle.layout.specs.Walk.{walks}
 use Rattle.layout.specs.Ty as Ty
-use Rattle.layout.proofs.Steps.{PlainTurn, from, plain, by-same, first-same, then-done, then-stop, then-sure, last-sure, last-skip, list-is, list-not, form-is, form-not, group-is, group-not, maybe-past, maybe-there, items-all, from-more, from-none, times-all, times-more, times-none}
+use Rattle.layout.proofs.Steps.{PlainTurn, from, plain, by-same, first-same, then-done, then-stop, then-halt, then-sure, last-sure, last-skip, list-is, list-not, form-is, form-not, group-is, group-not, maybe-past, maybe-there, items-all, from-more, from-none, times-all, times-more, times-none}
 use Rattle.layout.proofs.Dropping.{dropped-by}
 use Rattle.layout.proofs.Knot.{past, beyond, form-key, ty-zero, ty-form}
 use Prim.Native.Nat.{ℕ, _<_}
@@ -66,6 +66,7 @@ use Rattle.layout.proofs.fields.stop.Reads as stop-reads
 use Rattle.layout.proofs.helpers.between.Reads as between-reads
 use Rattle.layout.proofs.helpers.path.Reads as path-reads
 use Rattle.layout.proofs.helpers.text_of.Reads as text-of-reads
+use Rattle.layout.proofs.told.Reads as told-reads
 use Rattle.layout.proofs.word.Reads as word-reads
 use Rattle.types.proofs.+con_ty+fn_ty+get_ty+one_arg_con_ty+paren_ty+record_ty+star_ty+star_tys+tuple_ty+ty_args+ty_row+ty_rows+ty_seq+ty_seq_there.{
   statement,
@@ -74,310 +75,366 @@ use Rattle.types.proofs.+con_ty+fn_ty+get_ty+one_arg_con_ty+paren_ty+re
   close,
 }
 
-abbrev μ-con-ty : Measures 5 con-ty-kinds.ps ℕ
-μ-con-ty κs a = 16 * a .1 .1 .1 .1 .1 .1 .0 .left + 4
+abbrev μ-con-ty : Measures 6 con-ty-kinds.ps ℕ
+μ-con-ty κs a = 16 * a .1 .1 .1 .1 .1 .1 .1 .1 .0 .left + 4
 
-abbrev μ-fn-ty : Measures 5 fn-ty-kinds.ps ℕ
-μ-fn-ty κs a = 16 * a .1 .1 .1 .1 .1 .1 .0 .left + 1
+abbrev μ-fn-ty : Measures 6 fn-ty-kinds.ps ℕ
+μ-fn-ty κs a = 16 * a .1 .1 .1 .1 .1 .1 .1 .1 .0 .left + 1
 
-abbrev μ-get-ty : Measures 5 get-ty-kinds.ps ℕ
-μ-get-ty κs a = 16 * a .1 .1 .1 .1 .1 .1 .0 .left + 0
+abbrev μ-get-ty : Measures 6 get-ty-kinds.ps ℕ
+μ-get-ty κs a = 16 * a .1 .1 .1 .1 .1 .1 .1 .1 .0 .left + 0
 
-abbrev μ-one-arg-con-ty : Measures 5 one-arg-con-ty-kinds.ps ℕ
-μ-one-arg-con-ty κs a = 16 * a .1 .1 .1 .1 .1 .1 .0 .left + 1
+abbrev μ-one-arg-con-ty : Measures 6 one-arg-con-ty-kinds.ps ℕ
+μ-one-arg-con-ty κs a = 16 * a .1 .1 .1 .1 .1 .1 .1 .1 .0 .left + 1
 
-abbrev μ-paren-ty : Measures 5 paren-ty-kinds.ps ℕ
-μ-paren-ty κs a = 16 * a .1 .1 .1 .1 .1 .1 .0 .left + 1
+abbrev μ-paren-ty : Measures 6 paren-ty-kinds.ps ℕ
+μ-paren-ty κs a = 16 * a .1 .1 .1 .1 .1 .1 .1 .1 .0 .left + 1
 
-abbrev μ-record-ty : Measures 5 record-ty-kinds.ps ℕ
-μ-record-ty κs a = 16 * a .1 .1 .1 .1 .1 .1 .0 .left + 3
+abbrev μ-record-ty : Measures 6 record-ty-kinds.ps ℕ
+μ-record-ty κs a = 16 * a .1 .1 .1 .1 .1 .1 .1 .1 .0 .left + 3
 
-abbrev μ-star-ty : Measures 5 star-ty-kinds.ps ℕ
-μ-star-ty κs a = 16 * a .1 .1 .1 .1 .1 .1 .0 .left + 1
+abbrev μ-star-ty : Measures 6 star-ty-kinds.ps ℕ
+μ-star-ty κs a = 16 * a .1 .1 .1 .1 .1 .1 .1 .1 .0 .left + 1
 
-abbrev μ-star-tys : Measures 5 star-tys-kinds.ps ℕ
-μ-star-tys κs a = 16 * a .1 .1 .1 .1 .1 .1 .0 .left + 2
+abbrev μ-star-tys : Measures 6 star-tys-kinds.ps ℕ
+μ-star-tys κs a = 16 * a .1 .1 .1 .1 .1 .1 .1 .1 .0 .left + 2
 
-abbrev μ-tuple-ty : Measures 5 tuple-ty-kinds.ps ℕ
-μ-tuple-ty κs a = 16 * a .1 .1 .1 .1 .1 .1 .0 .left + 3
+abbrev μ-tuple-ty : Measures 6 tuple-ty-kinds.ps ℕ
+μ-tuple-ty κs a = 16 * a .1 .1 .1 .1 .1 .1 .1 .1 .0 .left + 3
 
-abbrev μ-ty-args : Measures 5 ty-args-kinds.ps ℕ
-μ-ty-args κs a = 16 * a .1 .1 .1 .1 .1 .1 .0 .left + 1
+abbrev μ-ty-args : Measures 6 ty-args-kinds.ps ℕ
+μ-ty-args κs a = 16 * a .1 .1 .1 .1 .1 .1 .1 .1 .0 .left + 1
 
-abbrev μ-ty-row : Measures 5 ty-row-kinds.ps ℕ
-μ-ty-row κs a = 16 * a .1 .1 .1 .1 .1 .1 .0 .left + 1
+abbrev μ-ty-row : Measures 6 ty-row-kinds.ps ℕ
+μ-ty-row κs a = 16 * a .1 .1 .1 .1 .1 .1 .1 .1 .0 .left + 1
 
-abbrev μ-ty-rows : Measures 5 ty-rows-kinds.ps ℕ
-μ-ty-rows κs a = 16 * a .1 .1 .1 .1 .1 .1 .0 .left + 2
+abbrev μ-ty-rows : Measures 6 ty-rows-kinds.ps ℕ
+μ-ty-rows κs a = 16 * a .1 .1 .1 .1 .1 .1 .1 .1 .0 .left + 2
 
-abbrev μ-ty-seq : Measures 5 ty-seq-kinds.ps ℕ
-μ-ty-seq κs a = 16 * a .1 .1 .1 .1 .1 .1 .0 .left + 3
+abbrev μ-ty-seq : Measures 6 ty-seq-kinds.ps ℕ
+μ-ty-seq κs a = 16 * a .1 .1 .1 .1 .1 .1 .1 .1 .0 .left + 3
 
-abbrev μ-ty-seq-there : Measures 5 ty-seq-there-kinds.ps ℕ
-μ-ty-seq-there κs a = 16 * a .1 .1 .1 .1 .1 .1 .0 .left + 2
+abbrev μ-ty-seq-there : Measures 6 ty-seq-there-kinds.ps ℕ
+μ-ty-seq-there κs a = 16 * a .1 .1 .1 .1 .1 .1 .1 .1 .0 .left + 2
 
-abbrev con-ty-at : ℕ → In 5 con-ty-kinds.ps
-con-ty-at t = and 5 con-ty-kinds.ps (is 5 con-ty-kinds.ps μ-con-ty t) con-ty.Pre
+abbrev con-ty-at : ℕ → In 6 con-ty-kinds.ps
+con-ty-at t = and 6 con-ty-kinds.ps (is 6 con-ty-kinds.ps μ-con-ty t) con-ty.Pre
 
-abbrev con-ty-below : ℕ → In 5 con-ty-kinds.ps
-con-ty-below t = and 5 con-ty-kinds.ps (falls 5 con-ty-kinds.ps _<_ μ-con-ty t) con-ty.Pre
+abbrev con-ty-below : ℕ → In 6 con-ty-kinds.ps
+con-ty-below t = and 6 con-ty-kinds.ps (falls 6 con-ty-kinds.ps _<_ μ-con-ty t) con-ty.Pre
 
-abbrev fn-ty-at : ℕ → In 5 fn-ty-kinds.ps
-fn-ty-at t = and 5 fn-ty-kinds.ps (is 5 fn-ty-kinds.ps μ-fn-ty t) fn-ty.Pre
+abbrev fn-ty-at : ℕ → In 6 fn-ty-kinds.ps
+fn-ty-at t = and 6 fn-ty-kinds.ps (is 6 fn-ty-kinds.ps μ-fn-ty t) fn-ty.Pre
 
-abbrev fn-ty-below : ℕ → In 5 fn-ty-kinds.ps
-fn-ty-below t = and 5 fn-ty-kinds.ps (falls 5 fn-ty-kinds.ps _<_ μ-fn-ty t) fn-ty.Pre
+abbrev fn-ty-below : ℕ → In 6 fn-ty-kinds.ps
+fn-ty-below t = and 6 fn-ty-kinds.ps (falls 6 fn-ty-kinds.ps _<_ μ-fn-ty t) fn-ty.Pre
 
-abbrev get-ty-at : ℕ → In 5 get-ty-kinds.ps
-get-ty-at t = and 5 get-ty-kinds.ps (is 5 get-ty-kinds.ps μ-get-ty t) get-ty.Pre
+abbrev get-ty-at : ℕ → In 6 get-ty-kinds.ps
+get-ty-at t = and 6 get-ty-kinds.ps (is 6 get-ty-kinds.ps μ-get-ty t) get-ty.Pre
 
-abbrev get-ty-below : ℕ → In 5 get-ty-kinds.ps
-get-ty-below t = and 5 get-ty-kinds.ps (falls 5 get-ty-kinds.ps _<_ μ-get-ty t) get-ty.Pre
+abbrev get-ty-below : ℕ → In 6 get-ty-kinds.ps
+get-ty-below t = and 6 get-ty-kinds.ps (falls 6 get-ty-kinds.ps _<_ μ-get-ty t) get-ty.Pre
 
-abbrev one-arg-con-ty-at : ℕ → In 5 one-arg-con-ty-kinds.ps
+abbrev one-arg-con-ty-at : ℕ → In 6 one-arg-con-ty-kinds.ps
 one-arg-con-ty-at t =
     and
-    5
+    6
     one-arg-con-ty-kinds.ps
-    (is 5 one-arg-con-ty-kinds.ps μ-one-arg-con-ty t)
+    (is 6 one-arg-con-ty-kinds.ps μ-one-arg-con-ty t)
     one-arg-con-ty.Pre
 
-abbrev one-arg-con-ty-below : ℕ → In 5 one-arg-con-ty-kinds.ps
+abbrev one-arg-con-ty-below : ℕ → In 6 one-arg-con-ty-kinds.ps
 one-arg-con-ty-below t =
     and
-    5
+    6
     one-arg-con-ty-kinds.ps
-    (falls 5 one-arg-con-ty-kinds.ps _<_ μ-one-arg-con-ty t)
+    (falls 6 one-arg-con-ty-kinds.ps _<_ μ-one-arg-con-ty t)
     one-arg-con-ty.Pre
 
-abbrev paren-ty-at : ℕ → In 5 paren-ty-kinds.ps
-paren-ty-at t = and 5 paren-ty-kinds.ps (is 5 paren-ty-kinds.ps μ-paren-ty t) paren-ty.Pre
+abbrev paren-ty-at : ℕ → In 6 paren-ty-kinds.ps
+paren-ty-at t = and 6 paren-ty-kinds.ps (is 6 paren-ty-kinds.ps μ-paren-ty t) paren-ty.Pre
 
-abbrev paren-ty-below : ℕ → In 5 paren-ty-kinds.ps
+abbrev paren-ty-below : ℕ → In 6 paren-ty-kinds.ps
 paren-ty-below t =
-    and 5 paren-ty-kinds.ps (falls 5 paren-ty-kinds.ps _<_ μ-paren-ty t) paren-ty.Pre
+    and 6 paren-ty-kinds.ps (falls 6 paren-ty-kinds.ps _<_ μ-paren-ty t) paren-ty.Pre
 
-abbrev record-ty-at : ℕ → In 5 record-ty-kinds.ps
-record-ty-at t = and 5 record-ty-kinds.ps (is 5 record-ty-kinds.ps μ-record-ty t) record-ty.Pre
+abbrev record-ty-at : ℕ → In 6 record-ty-kinds.ps
+record-ty-at t = and 6 record-ty-kinds.ps (is 6 record-ty-kinds.ps μ-record-ty t) record-ty.Pre
 
-abbrev record-ty-below : ℕ → In 5 record-ty-kinds.ps
+abbrev record-ty-below : ℕ → In 6 record-ty-kinds.ps
 record-ty-below t =
-    and 5 record-ty-kinds.ps (falls 5 record-ty-kinds.ps _<_ μ-record-ty t) record-ty.Pre
+    and 6 record-ty-kinds.ps (falls 6 record-ty-kinds.ps _<_ μ-record-ty t) record-ty.Pre
 
-abbrev star-ty-at : ℕ → In 5 star-ty-kinds.ps
-star-ty-at t = and 5 star-ty-kinds.ps (is 5 star-ty-kinds.ps μ-star-ty t) star-ty.Pre
+abbrev star-ty-at : ℕ → In 6 star-ty-kinds.ps
+star-ty-at t = and 6 star-ty-kinds.ps (is 6 star-ty-kinds.ps μ-star-ty t) star-ty.Pre
 
-abbrev star-ty-below : ℕ → In 5 star-ty-kinds.ps
-star-ty-below t = and 5 star-ty-kinds.ps (falls 5 star-ty-kinds.ps _<_ μ-star-ty t) star-ty.Pre
+abbrev star-ty-below : ℕ → In 6 star-ty-kinds.ps
+star-ty-below t = and 6 star-ty-kinds.ps (falls 6 star-ty-kinds.ps _<_ μ-star-ty t) star-ty.Pre
 
-abbrev star-tys-at : ℕ → In 5 star-tys-kinds.ps
-star-tys-at t = and 5 star-tys-kinds.ps (is 5 star-tys-kinds.ps μ-star-tys t) star-tys.Pre
+abbrev star-tys-at : ℕ → In 6 star-tys-kinds.ps
+star-tys-at t = and 6 star-tys-kinds.ps (is 6 star-tys-kinds.ps μ-star-tys t) star-tys.Pre
 
-abbrev star-tys-below : ℕ → In 5 star-tys-kinds.ps
+abbrev star-tys-below : ℕ → In 6 star-tys-kinds.ps
 star-tys-below t =
-    and 5 star-tys-kinds.ps (falls 5 star-tys-kinds.ps _<_ μ-star-tys t) star-tys.Pre
+    and 6 star-tys-kinds.ps (falls 6 star-tys-kinds.ps _<_ μ-star-tys t) star-tys.Pre
 
-abbrev tuple-ty-at : ℕ → In 5 tuple-ty-kinds.ps
-tuple-ty-at t = and 5 tuple-ty-kinds.ps (is 5 tuple-ty-kinds.ps μ-tuple-ty t) tuple-ty.Pre
+abbrev tuple-ty-at : ℕ → In 6 tuple-ty-kinds.ps
+tuple-ty-at t = and 6 tuple-ty-kinds.ps (is 6 tuple-ty-kinds.ps μ-tuple-ty t) tuple-ty.Pre
 
-abbrev tuple-ty-below : ℕ → In 5 tuple-ty-kinds.ps
+abbrev tuple-ty-below : ℕ → In 6 tuple-ty-kinds.ps
 tuple-ty-below t =
-    and 5 tuple-ty-kinds.ps (falls 5 tuple-ty-kinds.ps _<_ μ-tuple-ty t) tuple-ty.Pre
+    and 6 tuple-ty-kinds.ps (falls 6 tuple-ty-kinds.ps _<_ μ-tuple-ty t) tuple-ty.Pre
 
-abbrev ty-args-at : ℕ → In 5 ty-args-kinds.ps
-ty-args-at t = and 5 ty-args-kinds.ps (is 5 ty-args-kinds.ps μ-ty-args t) ty-args.Pre
+abbrev ty-args-at : ℕ → In 6 ty-args-kinds.ps
+ty-args-at t = and 6 ty-args-kinds.ps (is 6 ty-args-kinds.ps μ-ty-args t) ty-args.Pre
 
-abbrev ty-args-below : ℕ → In 5 ty-args-kinds.ps
-ty-args-below t = and 5 ty-args-kinds.ps (falls 5 ty-args-kinds.ps _<_ μ-ty-args t) ty-args.Pre
+abbrev ty-args-below : ℕ → In 6 ty-args-kinds.ps
+ty-args-below t = and 6 ty-args-kinds.ps (falls 6 ty-args-kinds.ps _<_ μ-ty-args t) ty-args.Pre
 
-abbrev ty-row-at : ℕ → In 5 ty-row-kinds.ps
-ty-row-at t = and 5 ty-row-kinds.ps (is 5 ty-row-kinds.ps μ-ty-row t) ty-row.Pre
+abbrev ty-row-at : ℕ → In 6 ty-row-kinds.ps
+ty-row-at t = and 6 ty-row-kinds.ps (is 6 ty-row-kinds.ps μ-ty-row t) ty-row.Pre
 
-abbrev ty-row-below : ℕ → In 5 ty-row-kinds.ps
-ty-row-below t = and 5 ty-row-kinds.ps (falls 5 ty-row-kinds.ps _<_ μ-ty-row t) ty-row.Pre
+abbrev ty-row-below : ℕ → In 6 ty-row-kinds.ps
+ty-row-below t = and 6 ty-row-kinds.ps (falls 6 ty-row-kinds.ps _<_ μ-ty-row t) ty-row.Pre
 
-abbrev ty-rows-at : ℕ → In 5 ty-rows-kinds.ps
-ty-rows-at t = and 5 ty-rows-kinds.ps (is 5 ty-rows-kinds.ps μ-ty-rows t) ty-rows.Pre
+abbrev ty-rows-at : ℕ → In 6 ty-rows-kinds.ps
+ty-rows-at t = and 6 ty-rows-kinds.ps (is 6 ty-rows-kinds.ps μ-ty-rows t) ty-rows.Pre
 
-abbrev ty-rows-below : ℕ → In 5 ty-rows-kinds.ps
-ty-rows-below t = and 5 ty-rows-kinds.ps (falls 5 ty-rows-kinds.ps _<_ μ-ty-rows t) ty-rows.Pre
+abbrev ty-rows-below : ℕ → In 6 ty-rows-kinds.ps
+ty-rows-below t = and 6 ty-rows-kinds.ps (falls 6 ty-rows-kinds.ps _<_ μ-ty-rows t) ty-rows.Pre
 
-abbrev ty-seq-at : ℕ → In 5 ty-seq-kinds.ps
-ty-seq-at t = and 5 ty-seq-kinds.ps (is 5 ty-seq-kinds.ps μ-ty-seq t) ty-seq.Pre
+abbrev ty-seq-at : ℕ → In 6 ty-seq-kinds.ps
+ty-seq-at t = and 6 ty-seq-kinds.ps (is 6 ty-seq-kinds.ps μ-ty-seq t) ty-seq.Pre
 
-abbrev ty-seq-below : ℕ → In 5 ty-seq-kinds.ps
-ty-seq-below t = and 5 ty-seq-kinds.ps (falls 5 ty-seq-kinds.ps _<_ μ-ty-seq t) ty-seq.Pre
+abbrev ty-seq-below : ℕ → In 6 ty-seq-kinds.ps
+ty-seq-below t = and 6 ty-seq-kinds.ps (falls 6 ty-seq-kinds.ps _<_ μ-ty-seq t) ty-seq.Pre
 
-abbrev ty-seq-there-at : ℕ → In 5 ty-seq-there-kinds.ps
+abbrev ty-seq-there-at : ℕ → In 6 ty-seq-there-kinds.ps
 ty-seq-there-at t =
-    and 5 ty-seq-there-kinds.ps (is 5 ty-seq-there-kinds.ps μ-ty-seq-there t) ty-seq-there.Pre
+    and 6 ty-seq-there-kinds.ps (is 6 ty-seq-there-kinds.ps μ-ty-seq-there t) ty-seq-there.Pre
 
-abbrev ty-seq-there-below : ℕ → In 5 ty-seq-there-kinds.ps
+abbrev ty-seq-there-below : ℕ → In 6 ty-seq-there-kinds.ps
 ty-seq-there-below t =
     and
-    5
+    6
     ty-seq-there-kinds.ps
-    (falls 5 ty-seq-there-kinds.ps _<_ μ-ty-seq-there t)
+    (falls 6 ty-seq-there-kinds.ps _<_ μ-ty-seq-there t)
     ty-seq-there.Pre
 
--- src/lib.rt:188:9
+-- src/lib.rt:204:9
 con-ty-ty-seq-requires : (t : ℕ) → con-ty-lts.Need-ty-seq-requires (
   ty-seq-below t,
   ty-seq.Post,
+  told-reads.Asked,
+  told-reads.Learnt,
   path-reads.Asked,
   path-reads.Learnt,
 ) (con-ty-at t) con-ty.Post
-con-ty-ty-seq-requires t c κs = omega (arith, c .before .before .before .before .before .before .pre .0)
+con-ty-ty-seq-requires t c κs = omega (arith, c .before .before .before .before .before .before .before .pre .0)
 
--- src/lib.rt:189:22
-con-ty-enum-known-r1 : (t : ℕ) → con-ty-lts.Need-enum-known-r1 (
+-- src/lib.rt:205:28
+con-ty-told-requires : (t : ℕ) → con-ty-lts.Need-told-requires (
   ty-seq-below t,
   ty-seq.Post,
+  told-reads.Asked,
+  told-reads.Learnt,
   path-reads.Asked,
   path-reads.Learnt,
 ) (con-ty-at t) con-ty.Post
-con-ty-enum-known-r1 t c = search needs
+con-ty-told-requires t c κs = search needs
 
--- src/lib.rt:190:9
+-- src/lib.rt:205:22
+con-ty-enum-known-s1 : (t : ℕ) → con-ty-lts.Need-enum-known-s1 (
+  ty-seq-below t,
+  ty-seq.Post,
+  told-reads.Asked,
+  told-reads.Learnt,
+  path-reads.Asked,
+  path-reads.Learnt,
+) (con-ty-at t) con-ty.Post
+con-ty-enum-known-s1 t c = search needs
+
+-- src/lib.rt:206:9
 con-ty-enum-told : (t : ℕ) → con-ty-lts.Need-enum-told (
   ty-seq-below t,
   ty-seq.Post,
+  told-reads.Asked,
+  told-reads.Learnt,
   path-reads.Asked,
   path-reads.Learnt,
 ) (con-ty-at t) con-ty.Post
 con-ty-enum-told t c = search needs
 
--- src/lib.rt:190:9
+-- src/lib.rt:206:9
 con-ty-same-length : (t : ℕ) → con-ty-lts.Need-same-length (
   ty-seq-below t,
   ty-seq.Post,
+  told-reads.Asked,
+  told-reads.Learnt,
   path-reads.Asked,
   path-reads.Learnt,
 ) (con-ty-at t) con-ty.Post
-con-ty-same-length t c = c .before .before .before .before .ty-seq .kept .1 .1 .1 .1 .0
+con-ty-same-length t c = c .before .before .before .before .before .ty-seq .kept .1 .1 .1 .1 .1 .0
 
--- src/lib.rt:190:9
+-- src/lib.rt:206:9
 con-ty-returns : (t : ℕ) → con-ty-lts.Need-returns (
   ty-seq-below t,
   ty-seq.Post,
+  told-reads.Asked,
+  told-reads.Learnt,
   path-reads.Asked,
   path-reads.Learnt,
 ) (con-ty-at t) con-ty.Post
 unfolding Ty.ty
-con-ty-returns t c = record { is = λ kinds m. then-stop (plain (c .before .before .before .before .ty-seq .ensures)) (c .enum-told .given .1) }
+con-ty-returns t c = record { is = λ kinds. then-stop (plain (c .before .before .before .before .before .ty-seq .ensures)) (c .before .before .told .ensures) (c .enum-told .given .1) }
 
--- src/lib.rt:192:5
+-- src/lib.rt:208:5
 con-ty-path-requires : (t : ℕ) → con-ty-lts.Need-path-requires (
   ty-seq-below t,
   ty-seq.Post,
+  told-reads.Asked,
+  told-reads.Learnt,
   path-reads.Asked,
   path-reads.Learnt,
 ) (con-ty-at t) con-ty.Post
 con-ty-path-requires t c κs = search needs
 
--- src/lib.rt:177:1
+-- src/lib.rt:191:1
 con-ty-same-length-2 : (t : ℕ) → con-ty-lts.Need-same-length-2 (
   ty-seq-below t,
   ty-seq.Post,
+  told-reads.Asked,
+  told-reads.Learnt,
   path-reads.Asked,
   path-reads.Learnt,
 ) (con-ty-at t) con-ty.Post
-con-ty-same-length-2 t c = c .before .before .path .kept .1 .1 .1 .1 .0 ∙ c .before .before .before .before .before .before .before .before .before .ty-seq .kept .1 .1 .1 .1 .0
+con-ty-same-length-2 t c = c .before .before .path .kept .1 .1 .1 .1 .1 .0 ∙ c .before .before .before .before .before .before .before .before .before .before .before .ty-seq .kept .1 .1 .1 .1 .1 .0
 
--- src/lib.rt:177:1
+-- src/lib.rt:191:1
 con-ty-returns-2 : (t : ℕ) → con-ty-lts.Need-returns-2 (
   ty-seq-below t,
   ty-seq.Post,
+  told-reads.Asked,
+  told-reads.Learnt,
   path-reads.Asked,
   path-reads.Learnt,
 ) (con-ty-at t) con-ty.Post
 unfolding Ty.ty
-con-ty-returns-2 t c = record { is = λ kinds m. then-done (plain (c .before .before .before .before .before .before .before .before .before .ty-seq .ensures)) (c .before .before .before .before .before .r1 .given .1) (plain (c .before .before .path .ensures)) }
+con-ty-returns-2 t c = record { is = λ kinds. then-done (plain (c .before .before .before .before .before .before .before .before .before .before .before .ty-seq .ensures)) (c .before .before .before .before .before .before .before .before .told .ensures) (c .before .before .before .before .before .before .s1 .given .1) (plain (c .before .before .path .ensures)) }
 
--- src/lib.rt:297:9
+-- src/lib.rt:322:9
 fn-ty-get-ty-requires : (t : ℕ) → fn-ty-lts.Need-get-ty-requires (
   get-ty-below t,
   get-ty.Post,
+  told-reads.Asked,
+  told-reads.Learnt,
   word-reads.Asked,
   word-reads.Learnt,
 ) (fn-ty-at t) fn-ty.Post
-fn-ty-get-ty-requires t c κs = omega (arith, c .before .before .before .before .before .before .pre .0)
+fn-ty-get-ty-requires t c κs = omega (arith, c .before .before .before .before .before .before .before .pre .0)
 
--- src/lib.rt:298:22
-fn-ty-enum-known-r1 : (t : ℕ) → fn-ty-lts.Need-enum-known-r1 (
+-- src/lib.rt:323:28
+fn-ty-told-requires : (t : ℕ) → fn-ty-lts.Need-told-requires (
   get-ty-below t,
   get-ty.Post,
+  told-reads.Asked,
+  told-reads.Learnt,
   word-reads.Asked,
   word-reads.Learnt,
 ) (fn-ty-at t) fn-ty.Post
-fn-ty-enum-known-r1 t c = search needs
+fn-ty-told-requires t c κs = search needs
 
--- src/lib.rt:299:9
+-- src/lib.rt:323:22
+fn-ty-enum-known-s1 : (t : ℕ) → fn-ty-lts.Need-enum-known-s1 (
+  get-ty-below t,
+  get-ty.Post,
+  told-reads.Asked,
+  told-reads.Learnt,
+  word-reads.Asked,
+  word-reads.Learnt,
+) (fn-ty-at t) fn-ty.Post
+fn-ty-enum-known-s1 t c = search needs
+
+-- src/lib.rt:324:9
 fn-ty-enum-told : (t : ℕ) → fn-ty-lts.Need-enum-told (
   get-ty-below t,
   get-ty.Post,
+  told-reads.Asked,
+  told-reads.Learnt,
   word-reads.Asked,
   word-reads.Learnt,
 ) (fn-ty-at t) fn-ty.Post
 fn-ty-enum-told t c = search needs
 
--- src/lib.rt:299:9
+-- src/lib.rt:324:9
 fn-ty-same-length : (t : ℕ) → fn-ty-lts.Need-same-length (
   get-ty-below t,
   get-ty.Post,
+  told-reads.Asked,
+  told-reads.Learnt,
   word-reads.Asked,
   word-reads.Learnt,
 ) (fn-ty-at t) fn-ty.Post
-fn-ty-same-length t c = c .before .before .before .before .get-ty .kept .1 .1 .1 .1 .0
+fn-ty-same-length t c = c .before .before .before .before .before .get-ty .kept .1 .1 .1 .1 .1 .0
 
--- src/lib.rt:299:9
+-- src/lib.rt:324:9
 fn-ty-returns : (t : ℕ) → fn-ty-lts.Need-returns (
   get-ty-below t,
   get-ty.Post,
+  told-reads.Asked,
+  told-reads.Learnt,
   word-reads.Asked,
   word-reads.Learnt,
 ) (fn-ty-at t) fn-ty.Post
 unfolding Ty.ty
-fn-ty-returns t c = record { is = λ kinds m. then-stop (plain (c .before .before .before .before .get-ty .ensures)) (c .enum-told .given .1) }
+fn-ty-returns t c = record { is = λ kinds. then-stop (plain (c .before .before .before .before .before .get-ty .ensures)) (c .before .before .told .ensures) (c .enum-told .given .1) }
 
--- src/lib.rt:301:9
+-- src/lib.rt:326:5
 fn-ty-word-requires : (t : ℕ) → fn-ty-lts.Need-word-requires (
   get-ty-below t,
   get-ty.Post,
+  told-reads.Asked,
+  told-reads.Learnt,
   word-reads.Asked,
   word-reads.Learnt,
 ) (fn-ty-at t) fn-ty.Post
 fn-ty-word-requires t c κs = search needs
 
--- src/lib.rt:302:5
+-- src/lib.rt:327:5
 fn-ty-get-ty-requires-2 : (t : ℕ) → fn-ty-lts.Need-get-ty-requires-2 (
   get-ty-below t,
   get-ty.Post,
+  told-reads.Asked,
+  told-reads.Learnt,
   word-reads.Asked,
   word-reads.Learnt,
 ) (fn-ty-at t) fn-ty.Post
-fn-ty-get-ty-requires-2 t c κs = omega (arith, c .before .before .before .before .before .before .before .before .before .before .before .before .before .before .before .before .before .pre .0)
+fn-ty-get-ty-requires-2 t c κs = omega (arith, c .before .before .before .before .before .before .before .before .before .before .before .before .before .before .before .before .before .before .before .before .before .pre .0)
 
--- src/lib.rt:286:1
+-- src/lib.rt:309:1
 fn-ty-same-length-2 : (t : ℕ) → fn-ty-lts.Need-same-length-2 (
   get-ty-below t,
   get-ty.Post,
+  told-reads.Asked,
+  told-reads.Learnt,
   word-reads.Asked,
   word-reads.Learnt,
 ) (fn-ty-at t) fn-ty.Post
-fn-ty-same-length-2 t c = c .before .before .get-ty2 .kept .1 .1 .1 .1 .0 ∙ c .before .before .before .before .before .before .word .kept .1 .0 ∙ c .before .before .before .before .before .before .before .before .before .before .before .before .before .get-ty .kept .1 .1 .1 .1 .0
+fn-ty-same-length-2 t c = c .before .before .get-ty2 .kept .1 .1 .1 .1 .1 .0 ∙ c .before .before .before .before .before .before .before .word .kept .1 .1 .0 ∙ c .before .before .before .before .before .before .before .before .before .before .before .before .before .before .before .before .get-ty .kept .1 .1 .1 .1 .1 .0
 
--- src/lib.rt:286:1
+-- src/lib.rt:309:1
 fn-ty-returns-2 : (t : ℕ) → fn-ty-lts.Need-returns-2 (
   get-ty-below t,
   get-ty.Post,
+  told-reads.Asked,
+  told-reads.Learnt,
   word-reads.Asked,
   word-reads.Learnt,
 ) (fn-ty-at t) fn-ty.Post
 unfolding Ty.ty
-fn-ty-returns-2 t c = record { is = λ kinds m. then-done (plain (c .before .before .before .before .before .before .before .before .before .before .before .before .before .get-ty .ensures)) (c .before .before .before .before .before .before .before .before .before .r1 .given .1) (then-sure (c .before .before .before .before .before .before .word .ensures) (plain (c .before .before .get-ty2 .ensures))) }
+fn-ty-returns-2 t c = record { is = λ kinds. then-done (plain (c .before .before .before .before .before .before .before .before .before .before .before .before .before .before .before .before .get-ty .ensures)) (c .before .before .before .before .before .before .before .before .before .before .before .before .before .told .ensures) (c .before .before .before .before .before .before .before .before .before .before .before .s1 .given .1) (then-sure (c .before .before .before .before .before .before .before .word .ensures) (plain (c .before .before .get-ty2 .ensures))) }
 
--- src/lib.rt:339:9
+-- src/lib.rt:369:9
 get-ty-stop-requires : (t : ℕ) → get-ty-lts.Need-stop-requires (
   stop-reads.Asked,
   stop-reads.Learnt,
@@ -402,7 +459,7 @@ get-ty-stop-requires : (t : ℕ) → get-ty-lts.Need-stop-requires (
 ) (get-ty-at t) get-ty.Post
 get-ty-stop-requires t c κs = search needs
 
--- src/lib.rt:339:9
+-- src/lib.rt:369:9
 get-ty-returns : (t : ℕ) → get-ty-lts.Need-returns (
   stop-reads.Asked,
   stop-reads.Learnt,
@@ -426,9 +483,9 @@ get-ty-returns : (t : ℕ) → get-ty-lts.Need-returns (
   paren-ty.Post,
 ) (get-ty-at t) get-ty.Post
 unfolding Ty.tys Ty.ty
-get-ty-returns t c = record { is = λ kinds m. ty-zero _ (c .before .if1 .taken) (c .stop .ensures) }
+get-ty-returns t c = record { is = λ kinds. ty-zero _ (c .before .if1 .taken) (c .stop .ensures) }
 
--- src/lib.rt:341:26
+-- src/lib.rt:371:26
 get-ty-form-requires : (t : ℕ) → get-ty-lts.Need-form-requires (
   stop-reads.Asked,
   stop-reads.Learnt,
@@ -453,7 +510,7 @@ get-ty-form-requires : (t : ℕ) → get-ty-lts.Need-form-requires (
 ) (get-ty-at t) get-ty.Post
 get-ty-form-requires t c κs = search needs
 
--- src/lib.rt:341:18
+-- src/lib.rt:371:18
 get-ty-enum-known-k : (t : ℕ) → get-ty-lts.Need-enum-known-k (
   stop-reads.Asked,
   stop-reads.Learnt,
@@ -478,7 +535,7 @@ get-ty-enum-known-k : (t : ℕ) → get-ty-lts.Need-enum-known-k (
 ) (get-ty-at t) get-ty.Post
 get-ty-enum-known-k t c = search needs
 
--- src/lib.rt:342:9
+-- src/lib.rt:372:9
 get-ty-enum-told : (t : ℕ) → get-ty-lts.Need-enum-told (
   stop-reads.Asked,
   stop-reads.Learnt,
@@ -503,7 +560,7 @@ get-ty-enum-told : (t : ℕ) → get-ty-lts.Need-enum-told (
 ) (get-ty-at t) get-ty.Post
 get-ty-enum-told t c = search needs
 
--- src/lib.rt:342:9
+-- src/lib.rt:372:9
 get-ty-stop-requires-2 : (t : ℕ) → get-ty-lts.Need-stop-requires-2 (
   stop-reads.Asked,
   stop-reads.Learnt,
@@ -528,7 +585,7 @@ get-ty-stop-requires-2 : (t : ℕ) → get-ty-lts.Need-stop-requires-2 (
 ) (get-ty-at t) get-ty.Post
 get-ty-stop-requires-2 t c κs = search needs
 
--- src/lib.rt:342:9
+-- src/lib.rt:372:9
 get-ty-returns-2 : (t : ℕ) → get-ty-lts.Need-returns-2 (
   stop-reads.Asked,
   stop-reads.Learnt,
@@ -552,10 +609,10 @@ get-ty-returns-2 : (t : ℕ) → get-ty-lts.Need-returns-2 (
   paren-ty.Post,
 ) (get-ty-at t) get-ty.Post
 unfolding Ty.tys Ty.ty
-get-ty-returns-2 t c = record { is = λ kinds m. ty-form _ (c .before .before .before .before .if1 .left) (form-not (c .stop2 .ensures) (c .before .before .before .form .ensures) (c .before .enum-told .given .1)) }
+get-ty-returns-2 t c = record { is = λ kinds. ty-form _ (c .before .before .before .before .if1 .left) (form-not (c .stop2 .ensures) (c .before .before .before .form .ensures) (c .before .enum-told .given .1)) }
 
--- src/lib.rt:348:15
-get-ty-sub-t15 : (t : ℕ) → get-ty-lts.Need-sub-t15 (
+-- src/lib.rt:377:15
+get-ty-sub-t17 : (t : ℕ) → get-ty-lts.Need-sub-t17 (
   stop-reads.Asked,
   stop-reads.Learnt,
   form-reads.Asked,
@@ -577,9 +634,9 @@ get-ty-sub-t15 : (t : ℕ) → get-ty-lts.Need-sub-t15 (
   paren-ty-below t,
   paren-ty.Post,
 ) (get-ty-at t) get-ty.Post
-get-ty-sub-t15 t c = search needs
+get-ty-sub-t17 t c = search needs
 
--- src/lib.rt:351:27
+-- src/lib.rt:381:13
 get-ty-word-requires : (t : ℕ) → get-ty-lts.Need-word-requires (
   stop-reads.Asked,
   stop-reads.Learnt,
@@ -604,7 +661,7 @@ get-ty-word-requires : (t : ℕ) → get-ty-lts.Need-word-requires (
 ) (get-ty-at t) get-ty.Post
 get-ty-word-requires t c κs = search needs
 
--- src/lib.rt:352:27
+-- src/lib.rt:385:13
 get-ty-word-requires-2 : (t : ℕ) → get-ty-lts.Need-word-requires-2 (
   stop-reads.Asked,
   stop-reads.Learnt,
@@ -629,7 +686,7 @@ get-ty-word-requires-2 : (t : ℕ) → get-ty-lts.Need-word-requires-2 (
 ) (get-ty-at t) get-ty.Post
 get-ty-word-requires-2 t c κs = search needs
 
--- src/lib.rt:353:14
+-- src/lib.rt:388:14
 get-ty-text-of-requires : (t : ℕ) → get-ty-lts.Need-text-of-requires (
   stop-reads.Asked,
   stop-reads.Learnt,
@@ -654,7 +711,7 @@ get-ty-text-of-requires : (t : ℕ) → get-ty-lts.Need-text-of-requires (
 ) (get-ty-at t) get-ty.Post
 get-ty-text-of-requires t c κs = search needs
 
--- src/lib.rt:354:14
+-- src/lib.rt:389:14
 get-ty-record-ty-requires : (t : ℕ) → get-ty-lts.Need-record-ty-requires (
   stop-reads.Asked,
   stop-reads.Learnt,
@@ -677,9 +734,9 @@ get-ty-record-ty-requires : (t : ℕ) → get-ty-lts.Need-record-ty-requires (
   paren-ty-below t,
   paren-ty.Post,
 ) (get-ty-at t) get-ty.Post
-get-ty-record-ty-requires t c κs = omega (arith, c .before .before .before .before .before .before .before .before .before .before .before .before .pre .0, c .before .before .before .before .before .before .if1 .left)
+get-ty-record-ty-requires t c κs = omega (arith, c .before .before .before .before .before .before .before .before .before .before .before .before .before .pre .0, c .before .before .before .before .before .before .before .if1 .left)
 
--- src/lib.rt:355:14
+-- src/lib.rt:390:14
 get-ty-con-ty-requires : (t : ℕ) → get-ty-lts.Need-con-ty-requires (
   stop-reads.Asked,
   stop-reads.Learnt,
@@ -702,9 +759,9 @@ get-ty-con-ty-requires : (t : ℕ) → get-ty-lts.Need-con-ty-requires (
   paren-ty-below t,
   paren-ty.Post,
 ) (get-ty-at t) get-ty.Post
-get-ty-con-ty-requires t c κs = omega (arith, c .before .before .before .before .before .before .before .before .before .before .before .before .pre .0, c .before .before .before .before .before .before .if1 .left)
+get-ty-con-ty-requires t c κs = omega (arith, c .before .before .before .before .before .before .before .before .before .before .before .before .before .pre .0, c .before .before .before .before .before .before .before .if1 .left)
 
--- src/lib.rt:356:14
+-- src/lib.rt:391:14
 get-ty-one-arg-con-ty-requires : (t : ℕ) → get-ty-lts.Need-one-arg-con-ty-requires (
   stop-reads.Asked,
   stop-reads.Learnt,
@@ -727,9 +784,9 @@ get-ty-one-arg-con-ty-requires : (t : ℕ) → get-ty-lts.Need-one-arg-con-ty-re
   paren-ty-below t,
   paren-ty.Post,
 ) (get-ty-at t) get-ty.Post
-get-ty-one-arg-con-ty-requires t c κs = omega (arith, c .before .before .before .before .before .before .before .before .before .before .before .before .pre .0, c .before .before .before .before .before .before .if1 .left)
+get-ty-one-arg-con-ty-requires t c κs = omega (arith, c .before .before .before .before .before .before .before .before .before .before .before .before .before .pre .0, c .before .before .before .before .before .before .before .if1 .left)
 
--- src/lib.rt:357:14
+-- src/lib.rt:392:14
 get-ty-tuple-ty-requires : (t : ℕ) → get-ty-lts.Need-tuple-ty-requires (
   stop-reads.Asked,
   stop-reads.Learnt,
@@ -752,9 +809,9 @@ get-ty-tuple-ty-requires : (t : ℕ) → get-ty-lts.Need-tuple-ty-requires (
   paren-ty-below t,
   paren-ty.Post,
 ) (get-ty-at t) get-ty.Post
-get-ty-tuple-ty-requires t c κs = omega (arith, c .before .before .before .before .before .before .before .before .before .before .before .before .pre .0, c .before .before .before .before .before .before .if1 .left)
+get-ty-tuple-ty-requires t c κs = omega (arith, c .before .before .before .before .before .before .before .before .before .before .before .before .before .pre .0, c .before .before .before .before .before .before .before .if1 .left)
 
--- src/lib.rt:358:14
+-- src/lib.rt:393:14
 get-ty-fn-ty-requires : (t : ℕ) → get-ty-lts.Need-fn-ty-requires (
   stop-reads.Asked,
   stop-reads.Learnt,
@@ -777,9 +834,9 @@ get-ty-fn-ty-requires : (t : ℕ) → get-ty-lts.Need-fn-ty-requires (
   paren-ty-below t,
   paren-ty.Post,
 ) (get-ty-at t) get-ty.Post
-get-ty-fn-ty-requires t c κs = omega (arith, c .before .before .before .before .before .before .before .before .before .before .before .before .pre .0, c .before .before .before .before .before .before .if1 .left)
+get-ty-fn-ty-requires t c κs = omega (arith, c .before .before .before .before .before .before .before .before .before .before .before .before .before .pre .0, c .before .before .before .before .before .before .before .if1 .left)
 
--- src/lib.rt:359:14
+-- src/lib.rt:394:14
 get-ty-paren-ty-requires : (t : ℕ) → get-ty-lts.Need-paren-ty-requires (
   stop-reads.Asked,
   stop-reads.Learnt,
@@ -802,9 +859,9 @@ get-ty-paren-ty-requires : (t : ℕ) → get-ty-lts.Need-paren-ty-requires (
   paren-ty-below t,
   paren-ty.Post,
 ) (get-ty-at t) get-ty.Post
-get-ty-paren-ty-requires t c κs = omega (arith, c .before .before .before .before .before .before .before .before .before .before .before .before .pre .0, c .before .before .before .before .before .before .if1 .left)
+get-ty-paren-ty-requires t c κs = omega (arith, c .before .before .before .before .before .before .before .before .before .before .before .before .before .pre .0, c .before .before .before .before .before .before .before .if1 .left)
 
--- src/lib.rt:360:14
+-- src/lib.rt:395:14
 get-ty-stop-requires-3 : (t : ℕ) → get-ty-lts.Need-stop-requires-3 (
   stop-reads.Asked,
   stop-reads.Learnt,
@@ -829,7 +886,7 @@ get-ty-stop-requires-3 : (t : ℕ) → get-ty-lts.Need-stop-requires-3 (
 ) (get-ty-at t) get-ty.Post
 get-ty-stop-requires-3 t c κs = search needs
 
--- src/lib.rt:326:1
+-- src/lib.rt:354:1
 get-ty-same-length : (t : ℕ) → get-ty-lts.Need-same-length (
   stop-reads.Asked,
   stop-reads.Learnt,
@@ -852,9 +909,9 @@ get-ty-same-length : (t : ℕ) → get-ty-lts.Need-same-length (
   paren-ty-below t,
   paren-ty.Post,
 ) (get-ty-at t) get-ty.Post
-get-ty-same-length t c = c .before .before .word .kept .1 .0
+get-ty-same-length t c = c .before .before .word .kept .1 .1 .0
 
--- src/lib.rt:326:1
+-- src/lib.rt:354:1
 get-ty-returns-3 : (t : ℕ) → get-ty-lts.Need-returns-3 (
   stop-reads.Asked,
   stop-reads.Learnt,
@@ -878,9 +935,9 @@ get-ty-returns-3 : (t : ℕ) → get-ty-lts.Need-returns-3 (
   paren-ty.Post,
 ) (get-ty-at t) get-ty.Post
 unfolding Ty.tys Ty.ty
-get-ty-returns-3 t c = record { is = λ kinds m. ty-form _ (c .before .before .before .before .before .before .before .before .before .if1 .left) (form-key (c .before .before .before .before .before .before .before .before .form .ensures) (c .before .before .before .before .before .before .k .given .1) (c .before .before .before .before .match2 .keys1) (last-sure (c .before .before .word .ensures))) }
+get-ty-returns-3 t c = record { is = λ kinds. ty-form _ (c .before .before .before .before .before .before .before .before .before .before .if1 .left) (form-key (c .before .before .before .before .before .before .before .before .before .form .ensures) (c .before .before .before .before .before .before .before .k .given .1) (c .before .before .before .before .before .match2 .keys1) (last-sure (c .before .before .word .ensures))) }
 
--- src/lib.rt:326:1
+-- src/lib.rt:354:1
 get-ty-same-length-2 : (t : ℕ) → get-ty-lts.Need-same-length-2 (
   stop-reads.Asked,
   stop-reads.Learnt,
@@ -903,9 +960,9 @@ get-ty-same-length-2 : (t : ℕ) → get-ty-lts.Need-same-length-2 (
   paren-ty-below t,
   paren-ty.Post,
 ) (get-ty-at t) get-ty.Post
-get-ty-same-length-2 t c = c .before .before .word2 .kept .1 .0
+get-ty-same-length-2 t c = c .before .before .word2 .kept .1 .1 .0
 
--- src/lib.rt:326:1
+-- src/lib.rt:354:1
 get-ty-returns-4 : (t : ℕ) → get-ty-lts.Need-returns-4 (
   stop-reads.Asked,
   stop-reads.Learnt,
@@ -929,9 +986,9 @@ get-ty-returns-4 : (t : ℕ) → get-ty-lts.Need-returns-4 (
   paren-ty.Post,
 ) (get-ty-at t) get-ty.Post
 unfolding Ty.tys Ty.ty
-get-ty-returns-4 t c = record { is = λ kinds m. ty-form _ (c .before .before .before .before .before .before .before .before .before .if1 .left) (form-key (c .before .before .before .before .before .before .before .before .form .ensures) (c .before .before .before .before .before .before .k .given .1) (c .before .before .before .before .match2 .keys2) (last-sure (c .before .before .word2 .ensures))) }
+get-ty-returns-4 t c = record { is = λ kinds. ty-form _ (c .before .before .before .before .before .before .before .before .before .before .if1 .left) (form-key (c .before .before .before .before .before .before .before .before .before .form .ensures) (c .before .before .before .before .before .before .before .k .given .1) (c .before .before .before .before .before .match2 .keys2) (last-sure (c .before .before .word2 .ensures))) }
 
--- src/lib.rt:326:1
+-- src/lib.rt:354:1
 get-ty-same-length-3 : (t : ℕ) → get-ty-lts.Need-same-length-3 (
   stop-reads.Asked,
   stop-reads.Learnt,
@@ -954,9 +1011,9 @@ get-ty-same-length-3 : (t : ℕ) → get-ty-lts.Need-same-length-3 (
   paren-ty-below t,
   paren-ty.Post,
 ) (get-ty-at t) get-ty.Post
-get-ty-same-length-3 t c = c .before .before .text-of .kept .1 .1 .1 .1 .0
+get-ty-same-length-3 t c = c .before .before .text-of .kept .1 .1 .1 .1 .1 .0
 
--- src/lib.rt:326:1
+-- src/lib.rt:354:1
 get-ty-returns-5 : (t : ℕ) → get-ty-lts.Need-returns-5 (
   stop-reads.Asked,
   stop-reads.Learnt,
@@ -980,9 +1037,9 @@ get-ty-returns-5 : (t : ℕ) → get-ty-lts.Need-returns-5 (
   paren-ty.Post,
 ) (get-ty-at t) get-ty.Post
 unfolding Ty.tys Ty.ty
-get-ty-returns-5 t c = record { is = λ kinds m. ty-form _ (c .before .before .before .before .before .before .before .before .before .if1 .left) (form-key (c .before .before .before .before .before .before .before .before .form .ensures) (c .before .before .before .before .before .before .k .given .1) (c .before .before .before .before .match2 .keys3) (plain (c .before .before .text-of .ensures))) }
+get-ty-returns-5 t c = record { is = λ kinds. ty-form _ (c .before .before .before .before .before .before .before .before .before .before .if1 .left) (form-key (c .before .before .before .before .before .before .before .before .before .form .ensures) (c .before .before .before .before .before .before .before .k .given .1) (c .before .before .before .before .before .match2 .keys3) (plain (c .before .before .text-of .ensures))) }
 
--- src/lib.rt:326:1
+-- src/lib.rt:354:1
 get-ty-same-length-4 : (t : ℕ) → get-ty-lts.Need-same-length-4 (
   stop-reads.Asked,
   stop-reads.Learnt,
@@ -1005,9 +1062,9 @@ get-ty-same-length-4 : (t : ℕ) → get-ty-lts.Need-same-length-4 (
   paren-ty-below t,
   paren-ty.Post,
 ) (get-ty-at t) get-ty.Post
-get-ty-same-length-4 t c = c .before .before .record-ty .kept .1 .1 .1 .1 .0
+get-ty-same-length-4 t c = c .before .before .record-ty .kept .1 .1 .1 .1 .1 .0
 
--- src/lib.rt:326:1
+-- src/lib.rt:354:1
 get-ty-returns-6 : (t : ℕ) → get-ty-lts.Need-returns-6 (
   stop-reads.Asked,
   stop-reads.Learnt,
@@ -1031,9 +1088,9 @@ get-ty-returns-6 : (t : ℕ) → get-ty-lts.Need-returns-6 (
   paren-ty.Post,
 ) (get-ty-at t) get-ty.Post
 unfolding Ty.tys Ty.ty
-get-ty-returns-6 t c = record { is = λ kinds m. ty-form _ (c .before .before .before .before .before .before .before .before .before .if1 .left) (form-key (c .before .before .before .before .before .before .before .before .form .ensures) (c .before .before .before .before .before .before .k .given .1) (c .before .before .before .before .match2 .keys4) (plain (c .before .before .record-ty .ensures))) }
+get-ty-returns-6 t c = record { is = λ kinds. ty-form _ (c .before .before .before .before .before .before .before .before .before .before .if1 .left) (form-key (c .before .before .before .before .before .before .before .before .before .form .ensures) (c .before .before .before .before .before .before .before .k .given .1) (c .before .before .before .before .before .match2 .keys4) (plain (c .before .before .record-ty .ensures))) }
 
--- src/lib.rt:326:1
+-- src/lib.rt:354:1
 get-ty-same-length-5 : (t : ℕ) → get-ty-lts.Need-same-length-5 (
   stop-reads.Asked,
   stop-reads.Learnt,
@@ -1056,9 +1113,9 @@ get-ty-same-length-5 : (t : ℕ) → get-ty-lts.Need-same-length-5 (
   paren-ty-below t,
   paren-ty.Post,
 ) (get-ty-at t) get-ty.Post
-get-ty-same-length-5 t c = c .before .before .con-ty .kept .1 .1 .1 .1 .0
+get-ty-same-length-5 t c = c .before .before .con-ty .kept .1 .1 .1 .1 .1 .0
 
--- src/lib.rt:326:1
+-- src/lib.rt:354:1
 get-ty-returns-7 : (t : ℕ) → get-ty-lts.Need-returns-7 (
   stop-reads.Asked,
   stop-reads.Learnt,
@@ -1082,9 +1139,9 @@ get-ty-returns-7 : (t : ℕ) → get-ty-lts.Need-returns-7 (
   paren-ty.Post,
 ) (get-ty-at t) get-ty.Post
 unfolding Ty.tys Ty.ty
-get-ty-returns-7 t c = record { is = λ kinds m. ty-form _ (c .before .before .before .before .before .before .before .before .before .if1 .left) (form-key (c .before .before .before .before .before .before .before .before .form .ensures) (c .before .before .before .before .before .before .k .given .1) (c .before .before .before .before .match2 .keys5) (plain (c .before .before .con-ty .ensures))) }
+get-ty-returns-7 t c = record { is = λ kinds. ty-form _ (c .before .before .before .before .before .before .before .before .before .before .if1 .left) (form-key (c .before .before .before .before .before .before .before .before .before .form .ensures) (c .before .before .before .before .before .before .before .k .given .1) (c .before .before .before .before .before .match2 .keys5) (plain (c .before .before .con-ty .ensures))) }
 
--- src/lib.rt:326:1
+-- src/lib.rt:354:1
 get-ty-same-length-6 : (t : ℕ) → get-ty-lts.Need-same-length-6 (
   stop-reads.Asked,
   stop-reads.Learnt,
@@ -1107,9 +1164,9 @@ get-ty-same-length-6 : (t : ℕ) → get-ty-lts.Need-same-length-6 (
   paren-ty-below t,
   paren-ty.Post,
 ) (get-ty-at t) get-ty.Post
-get-ty-same-length-6 t c = c .before .before .one-arg-con-ty .kept .1 .1 .1 .1 .0
+get-ty-same-length-6 t c = c .before .before .one-arg-con-ty .kept .1 .1 .1 .1 .1 .0
 
--- src/lib.rt:326:1
+-- src/lib.rt:354:1
 get-ty-returns-8 : (t : ℕ) → get-ty-lts.Need-returns-8 (
   stop-reads.Asked,
   stop-reads.Learnt,
@@ -1133,9 +1190,9 @@ get-ty-returns-8 : (t : ℕ) → get-ty-lts.Need-returns-8 (
   paren-ty.Post,
 ) (get-ty-at t) get-ty.Post
 unfolding Ty.tys Ty.ty
-get-ty-returns-8 t c = record { is = λ kinds m. ty-form _ (c .before .before .before .before .before .before .before .before .before .if1 .left) (form-key (c .before .before .before .before .before .before .before .before .form .ensures) (c .before .before .before .before .before .before .k .given .1) (c .before .before .before .before .match2 .keys6) (plain (c .before .before .one-arg-con-ty .ensures))) }
+get-ty-returns-8 t c = record { is = λ kinds. ty-form _ (c .before .before .before .before .before .before .before .before .before .before .if1 .left) (form-key (c .before .before .before .before .before .before .before .before .before .form .ensures) (c .before .before .before .before .before .before .before .k .given .1) (c .before .before .before .before .before .match2 .keys6) (plain (c .before .before .one-arg-con-ty .ensures))) }
 
--- src/lib.rt:326:1
+-- src/lib.rt:354:1
 get-ty-same-length-7 : (t : ℕ) → get-ty-lts.Need-same-length-7 (
   stop-reads.Asked,
   stop-reads.Learnt,
@@ -1158,9 +1215,9 @@ get-ty-same-length-7 : (t : ℕ) → get-ty-lts.Need-same-length-7 (
   paren-ty-below t,
   paren-ty.Post,
 ) (get-ty-at t) get-ty.Post
-get-ty-same-length-7 t c = c .before .before .tuple-ty .kept .1 .1 .1 .1 .0
+get-ty-same-length-7 t c = c .before .before .tuple-ty .kept .1 .1 .1 .1 .1 .0
 
--- src/lib.rt:326:1
+-- src/lib.rt:354:1
 get-ty-returns-9 : (t : ℕ) → get-ty-lts.Need-returns-9 (
   stop-reads.Asked,
   stop-reads.Learnt,
@@ -1184,9 +1241,9 @@ get-ty-returns-9 : (t : ℕ) → get-ty-lts.Need-returns-9 (
   paren-ty.Post,
 ) (get-ty-at t) get-ty.Post
 unfolding Ty.tys Ty.ty
-get-ty-returns-9 t c = record { is = λ kinds m. ty-form _ (c .before .before .before .before .before .before .before .before .before .if1 .left) (form-key (c .before .before .before .before .before .before .before .before .form .ensures) (c .before .before .before .before .before .before .k .given .1) (c .before .before .before .before .match2 .keys7) (plain (c .before .before .tuple-ty .ensures))) }
+get-ty-returns-9 t c = record { is = λ kinds. ty-form _ (c .before .before .before .before .before .before .before .before .before .before .if1 .left) (form-key (c .before .before .before .before .before .before .before .before .before .form .ensures) (c .before .before .before .before .before .before .before .k .given .1) (c .before .before .before .before .before .match2 .keys7) (plain (c .before .before .tuple-ty .ensures))) }
 
--- src/lib.rt:326:1
+-- src/lib.rt:354:1
 get-ty-same-length-8 : (t : ℕ) → get-ty-lts.Need-same-length-8 (
   stop-reads.Asked,
   stop-reads.Learnt,
@@ -1209,9 +1266,9 @@ get-ty-same-length-8 : (t : ℕ) → get-ty-lts.Need-same-length-8 (
   paren-ty-below t,
   paren-ty.Post,
 ) (get-ty-at t) get-ty.Post
-get-ty-same-length-8 t c = c .before .before .fn-ty .kept .1 .1 .1 .1 .0
+get-ty-same-length-8 t c = c .before .before .fn-ty .kept .1 .1 .1 .1 .1 .0
 
--- src/lib.rt:326:1
+-- src/lib.rt:354:1
 get-ty-returns-10 : (t : ℕ) → get-ty-lts.Need-returns-10 (
   stop-reads.Asked,
   stop-reads.Learnt,
@@ -1235,9 +1292,9 @@ get-ty-returns-10 : (t : ℕ) → get-ty-lts.Need-returns-10 (
   paren-ty.Post,
 ) (get-ty-at t) get-ty.Post
 unfolding Ty.tys Ty.ty
-get-ty-returns-10 t c = record { is = λ kinds m. ty-form _ (c .before .before .before .before .before .before .before .before .before .if1 .left) (form-key (c .before .before .before .before .before .before .before .before .form .ensures) (c .before .before .before .before .before .before .k .given .1) (c .before .before .before .before .match2 .keys8) (plain (c .before .before .fn-ty .ensures))) }
+get-ty-returns-10 t c = record { is = λ kinds. ty-form _ (c .before .before .before .before .before .before .before .before .before .before .if1 .left) (form-key (c .before .before .before .before .before .before .before .before .before .form .ensures) (c .before .before .before .before .before .before .before .k .given .1) (c .before .before .before .before .before .match2 .keys8) (plain (c .before .before .fn-ty .ensures))) }
 
--- src/lib.rt:326:1
+-- src/lib.rt:354:1
 get-ty-same-length-9 : (t : ℕ) → get-ty-lts.Need-same-length-9 (
   stop-reads.Asked,
   stop-reads.Learnt,
@@ -1260,9 +1317,9 @@ get-ty-same-length-9 : (t : ℕ) → get-ty-lts.Need-same-length-9 (
   paren-ty-below t,
   paren-ty.Post,
 ) (get-ty-at t) get-ty.Post
-get-ty-same-length-9 t c = c .before .before .paren-ty .kept .1 .1 .1 .1 .0
+get-ty-same-length-9 t c = c .before .before .paren-ty .kept .1 .1 .1 .1 .1 .0
 
--- src/lib.rt:326:1
+-- src/lib.rt:354:1
 get-ty-returns-11 : (t : ℕ) → get-ty-lts.Need-returns-11 (
   stop-reads.Asked,
   stop-reads.Learnt,
@@ -1286,9 +1343,9 @@ get-ty-returns-11 : (t : ℕ) → get-ty-lts.Need-returns-11 (
   paren-ty.Post,
 ) (get-ty-at t) get-ty.Post
 unfolding Ty.tys Ty.ty
-get-ty-returns-11 t c = record { is = λ kinds m. ty-form _ (c .before .before .before .before .before .before .before .before .before .if1 .left) (form-key (c .before .before .before .before .before .before .before .before .form .ensures) (c .before .before .before .before .before .before .k .given .1) (c .before .before .before .before .match2 .keys9) (plain (c .before .before .paren-ty .ensures))) }
+get-ty-returns-11 t c = record { is = λ kinds. ty-form _ (c .before .before .before .before .before .before .before .before .before .before .if1 .left) (form-key (c .before .before .before .before .before .before .before .before .before .form .ensures) (c .before .before .before .before .before .before .before .k .given .1) (c .before .before .before .before .before .match2 .keys9) (plain (c .before .before .paren-ty .ensures))) }
 
--- src/lib.rt:326:1
+-- src/lib.rt:354:1
 get-ty-returns-12 : (t : ℕ) → get-ty-lts.Need-returns-12 (
   stop-reads.Asked,
   stop-reads.Learnt,
@@ -1312,34 +1369,53 @@ get-ty-returns-12 : (t : ℕ) → get-ty-lts.Need-returns-12 (
   paren-ty.Post,
 ) (get-ty-at t) get-ty.Post
 unfolding Ty.tys Ty.ty
-get-ty-returns-12 t c = record { is = λ kinds m. ty-form _ (c .before .before .before .before .before .before .if1 .left) (by-same (form-is (c .before .before .before .before .before .form .ensures) (c .before .before .before .k .given .1)) (beyond (Ty.tys (walks (c .before .before .before .before .before .before .before .before .before .before .before .before .args .cfg .left - 1))) (c .before .before .before .k .given .0 .0) 9 refl (past (past (past (past (past (past (past (past (past zero-le (c .before .match2 .rest .0 .0 .0 .0 .0 .0 .0 .0 .1)) (c .before .match2 .rest .0 .0 .0 .0 .0 .0 .0 .1)) (c .before .match2 .rest .0 .0 .0 .0 .0 .0 .1)) (c .before .match2 .rest .0 .0 .0 .0 .0 .1)) (c .before .match2 .rest .0 .0 .0 .0 .1)) (c .before .match2 .rest .0 .0 .0 .1)) (c .before .match2 .rest .0 .0 .1)) (c .before .match2 .rest .0 .1)) (c .before .match2 .rest .1)) (c .stop3 .ensures))) }
+get-ty-returns-12 t c = record { is = λ kinds. ty-form _ (c .before .before .before .before .before .before .if1 .left) (by-same (form-is (c .before .before .before .before .before .form .ensures) (c .before .before .before .k .given .1)) (beyond (Ty.tys (walks (c .before .before .before .before .before .before .before .before .before .before .before .before .args .cfg .left - 1))) (c .before .before .before .k .given .0 .0) 9 refl (past (past (past (past (past (past (past (past (past zero-le (c .before .match2 .rest .0 .0 .0 .0 .0 .0 .0 .0 .1)) (c .before .match2 .rest .0 .0 .0 .0 .0 .0 .0 .1)) (c .before .match2 .rest .0 .0 .0 .0 .0 .0 .1)) (c .before .match2 .rest .0 .0 .0 .0 .0 .1)) (c .before .match2 .rest .0 .0 .0 .0 .1)) (c .before .match2 .rest .0 .0 .0 .1)) (c .before .match2 .rest .0 .0 .1)) (c .before .match2 .rest .0 .1)) (c .before .match2 .rest .1)) (c .stop3 .ensures))) }
 
--- src/lib.rt:207:9
+-- src/lib.rt:225:9
 one-arg-con-ty-get-ty-requires : (t : ℕ) → one-arg-con-ty-lts.Need-get-ty-requires (
   get-ty-below t,
   get-ty.Post,
+  told-reads.Asked,
+  told-reads.Learnt,
   word-reads.Asked,
   word-reads.Learnt,
   path-reads.Asked,
   path-reads.Learnt,
 ) (one-arg-con-ty-at t) one-arg-con-ty.Post
-one-arg-con-ty-get-ty-requires t c κs = omega (arith, c .before .before .before .before .before .before .pre .0)
+one-arg-con-ty-get-ty-requires t c κs = omega (arith, c .before .before .before .before .before .before .before .pre .0)
 
--- src/lib.rt:208:22
-one-arg-con-ty-enum-known-r1 : (t : ℕ) → one-arg-con-ty-lts.Need-enum-known-r1 (
+-- src/lib.rt:226:28
+one-arg-con-ty-told-requires : (t : ℕ) → one-arg-con-ty-lts.Need-told-requires (
   get-ty-below t,
   get-ty.Post,
+  told-reads.Asked,
+  told-reads.Learnt,
   word-reads.Asked,
   word-reads.Learnt,
   path-reads.Asked,
   path-reads.Learnt,
 ) (one-arg-con-ty-at t) one-arg-con-ty.Post
-one-arg-con-ty-enum-known-r1 t c = search needs
+one-arg-con-ty-told-requires t c κs = search needs
 
--- src/lib.rt:209:9
+-- src/lib.rt:226:22
+one-arg-con-ty-enum-known-s1 : (t : ℕ) → one-arg-con-ty-lts.Need-enum-known-s1 (
+  get-ty-below t,
+  get-ty.Post,
+  told-reads.Asked,
+  told-reads.Learnt,
+  word-reads.Asked,
+  word-reads.Learnt,
+  path-reads.Asked,
+  path-reads.Learnt,
+) (one-arg-con-ty-at t) one-arg-con-ty.Post
+one-arg-con-ty-enum-known-s1 t c = search needs
+
+-- src/lib.rt:227:9
 one-arg-con-ty-enum-told : (t : ℕ) → one-arg-con-ty-lts.Need-enum-told (
   get-ty-below t,
   get-ty.Post,
+  told-reads.Asked,
+  told-reads.Learnt,
   word-reads.Asked,
   word-reads.Learnt,
   path-reads.Asked,
@@ -1347,33 +1423,39 @@ one-arg-con-ty-enum-told : (t : ℕ) → one-arg-con-ty-lts.Need-enum-told (
 ) (one-arg-con-ty-at t) one-arg-con-ty.Post
 one-arg-con-ty-enum-told t c = search needs
 
--- src/lib.rt:209:9
+-- src/lib.rt:227:9
 one-arg-con-ty-same-length : (t : ℕ) → one-arg-con-ty-lts.Need-same-length (
   get-ty-below t,
   get-ty.Post,
+  told-reads.Asked,
+  told-reads.Learnt,
   word-reads.Asked,
   word-reads.Learnt,
   path-reads.Asked,
   path-reads.Learnt,
 ) (one-arg-con-ty-at t) one-arg-con-ty.Post
-one-arg-con-ty-same-length t c = c .before .before .before .before .get-ty .kept .1 .1 .1 .1 .0
+one-arg-con-ty-same-length t c = c .before .before .before .before .before .get-ty .kept .1 .1 .1 .1 .1 .0
 
--- src/lib.rt:209:9
+-- src/lib.rt:227:9
 one-arg-con-ty-returns : (t : ℕ) → one-arg-con-ty-lts.Need-returns (
   get-ty-below t,
   get-ty.Post,
+  told-reads.Asked,
+  told-reads.Learnt,
   word-reads.Asked,
   word-reads.Learnt,
   path-reads.Asked,
   path-reads.Learnt,
 ) (one-arg-con-ty-at t) one-arg-con-ty.Post
 unfolding Ty.ty
-one-arg-con-ty-returns t c = record { is = λ kinds m. then-stop (plain (c .before .before .before .before .get-ty .ensures)) (c .enum-told .given .1) }
+one-arg-con-ty-returns t c = record { is = λ kinds. then-stop (plain (c .before .before .before .before .before .get-ty .ensures)) (c .before .before .told .ensures) (c .enum-told .given .1) }
 
--- src/lib.rt:211:9
+-- src/lib.rt:229:5
 one-arg-con-ty-word-requires : (t : ℕ) → one-arg-con-ty-lts.Need-word-requires (
   get-ty-below t,
   get-ty.Post,
+  told-reads.Asked,
+  told-reads.Learnt,
   word-reads.Asked,
   word-reads.Learnt,
   path-reads.Asked,
@@ -1381,10 +1463,12 @@ one-arg-con-ty-word-requires : (t : ℕ) → one-arg-con-ty-lts.Need-word-requir
 ) (one-arg-con-ty-at t) one-arg-con-ty.Post
 one-arg-con-ty-word-requires t c κs = search needs
 
--- src/lib.rt:212:5
+-- src/lib.rt:230:5
 one-arg-con-ty-path-requires : (t : ℕ) → one-arg-con-ty-lts.Need-path-requires (
   get-ty-below t,
   get-ty.Post,
+  told-reads.Asked,
+  told-reads.Learnt,
   word-reads.Asked,
   word-reads.Learnt,
   path-reads.Asked,
@@ -1392,199 +1476,263 @@ one-arg-con-ty-path-requires : (t : ℕ) → one-arg-con-ty-lts.Need-path-requir
 ) (one-arg-con-ty-at t) one-arg-con-ty.Post
 one-arg-con-ty-path-requires t c κs = search needs
 
--- src/lib.rt:196:1
+-- src/lib.rt:212:1
 one-arg-con-ty-same-length-2 : (t : ℕ) → one-arg-con-ty-lts.Need-same-length-2 (
   get-ty-below t,
   get-ty.Post,
+  told-reads.Asked,
+  told-reads.Learnt,
   word-reads.Asked,
   word-reads.Learnt,
   path-reads.Asked,
   path-reads.Learnt,
 ) (one-arg-con-ty-at t) one-arg-con-ty.Post
-one-arg-con-ty-same-length-2 t c = c .before .before .path .kept .1 .1 .1 .1 .0 ∙ c .before .before .before .before .before .before .word .kept .1 .0 ∙ c .before .before .before .before .before .before .before .before .before .before .before .before .before .get-ty .kept .1 .1 .1 .1 .0
+one-arg-con-ty-same-length-2 t c = c .before .before .path .kept .1 .1 .1 .1 .1 .0 ∙ c .before .before .before .before .before .before .before .word .kept .1 .1 .0 ∙ c .before .before .before .before .before .before .before .before .before .before .before .before .before .before .before .before .get-ty .kept .1 .1 .1 .1 .1 .0
 
--- src/lib.rt:196:1
+-- src/lib.rt:212:1
 one-arg-con-ty-returns-2 : (t : ℕ) → one-arg-con-ty-lts.Need-returns-2 (
   get-ty-below t,
   get-ty.Post,
+  told-reads.Asked,
+  told-reads.Learnt,
   word-reads.Asked,
   word-reads.Learnt,
   path-reads.Asked,
   path-reads.Learnt,
 ) (one-arg-con-ty-at t) one-arg-con-ty.Post
 unfolding Ty.ty
-one-arg-con-ty-returns-2 t c = record { is = λ kinds m. then-done (plain (c .before .before .before .before .before .before .before .before .before .before .before .before .before .get-ty .ensures)) (c .before .before .before .before .before .before .before .before .before .r1 .given .1) (then-sure (c .before .before .before .before .before .before .word .ensures) (plain (c .before .before .path .ensures))) }
+one-arg-con-ty-returns-2 t c = record { is = λ kinds. then-done (plain (c .before .before .before .before .before .before .before .before .before .before .before .before .before .before .before .before .get-ty .ensures)) (c .before .before .before .before .before .before .before .before .before .before .before .before .before .told .ensures) (c .before .before .before .before .before .before .before .before .before .before .before .s1 .given .1) (then-sure (c .before .before .before .before .before .before .before .word .ensures) (plain (c .before .before .path .ensures))) }
 
--- src/lib.rt:317:9
+-- src/lib.rt:344:5
 paren-ty-word-requires : (t : ℕ) → paren-ty-lts.Need-word-requires (
   word-reads.Asked,
   word-reads.Learnt,
   get-ty-below t,
   get-ty.Post,
+  told-reads.Asked,
+  told-reads.Learnt,
 ) (paren-ty-at t) paren-ty.Post
 paren-ty-word-requires t c κs = search needs
 
--- src/lib.rt:318:9
+-- src/lib.rt:345:9
 paren-ty-get-ty-requires : (t : ℕ) → paren-ty-lts.Need-get-ty-requires (
   word-reads.Asked,
   word-reads.Learnt,
   get-ty-below t,
   get-ty.Post,
+  told-reads.Asked,
+  told-reads.Learnt,
 ) (paren-ty-at t) paren-ty.Post
-paren-ty-get-ty-requires t c κs = omega (arith, c .before .before .before .before .before .before .before .before .before .before .pre .0)
+paren-ty-get-ty-requires t c κs = omega (arith, c .before .before .before .before .before .before .before .before .before .before .before .before .pre .0)
 
--- src/lib.rt:319:22
-paren-ty-enum-known-r2 : (t : ℕ) → paren-ty-lts.Need-enum-known-r2 (
+-- src/lib.rt:346:28
+paren-ty-told-requires : (t : ℕ) → paren-ty-lts.Need-told-requires (
   word-reads.Asked,
   word-reads.Learnt,
   get-ty-below t,
   get-ty.Post,
+  told-reads.Asked,
+  told-reads.Learnt,
 ) (paren-ty-at t) paren-ty.Post
-paren-ty-enum-known-r2 t c = search needs
+paren-ty-told-requires t c κs = search needs
 
--- src/lib.rt:320:9
+-- src/lib.rt:346:22
+paren-ty-enum-known-s1 : (t : ℕ) → paren-ty-lts.Need-enum-known-s1 (
+  word-reads.Asked,
+  word-reads.Learnt,
+  get-ty-below t,
+  get-ty.Post,
+  told-reads.Asked,
+  told-reads.Learnt,
+) (paren-ty-at t) paren-ty.Post
+paren-ty-enum-known-s1 t c = search needs
+
+-- src/lib.rt:347:9
 paren-ty-enum-told : (t : ℕ) → paren-ty-lts.Need-enum-told (
   word-reads.Asked,
   word-reads.Learnt,
   get-ty-below t,
   get-ty.Post,
+  told-reads.Asked,
+  told-reads.Learnt,
 ) (paren-ty-at t) paren-ty.Post
 paren-ty-enum-told t c = search needs
 
--- src/lib.rt:320:9
+-- src/lib.rt:347:9
 paren-ty-same-length : (t : ℕ) → paren-ty-lts.Need-same-length (
   word-reads.Asked,
   word-reads.Learnt,
   get-ty-below t,
   get-ty.Post,
+  told-reads.Asked,
+  told-reads.Learnt,
 ) (paren-ty-at t) paren-ty.Post
-paren-ty-same-length t c = c .before .before .before .before .get-ty .kept .1 .1 .1 .1 .0 ∙ c .before .before .before .before .before .before .before .before .word .kept .1 .0
+paren-ty-same-length t c = c .before .before .before .before .before .get-ty .kept .1 .1 .1 .1 .1 .0 ∙ c .before .before .before .before .before .before .before .before .before .before .word .kept .1 .1 .0
 
--- src/lib.rt:320:9
+-- src/lib.rt:347:9
 paren-ty-returns : (t : ℕ) → paren-ty-lts.Need-returns (
   word-reads.Asked,
   word-reads.Learnt,
   get-ty-below t,
   get-ty.Post,
+  told-reads.Asked,
+  told-reads.Learnt,
 ) (paren-ty-at t) paren-ty.Post
 unfolding Ty.ty
-paren-ty-returns t c = record { is = λ kinds m. then-sure (c .before .before .before .before .before .before .before .before .word .ensures) (then-stop (plain (c .before .before .before .before .get-ty .ensures)) (c .enum-told .given .1)) }
+paren-ty-returns t c = record { is = λ kinds. then-sure (c .before .before .before .before .before .before .before .before .before .before .word .ensures) (then-stop (plain (c .before .before .before .before .before .get-ty .ensures)) (c .before .before .told .ensures) (c .enum-told .given .1)) }
 
--- src/lib.rt:322:18
+-- src/lib.rt:349:5
 paren-ty-word-requires-2 : (t : ℕ) → paren-ty-lts.Need-word-requires-2 (
   word-reads.Asked,
   word-reads.Learnt,
   get-ty-below t,
   get-ty.Post,
+  told-reads.Asked,
+  told-reads.Learnt,
 ) (paren-ty-at t) paren-ty.Post
 paren-ty-word-requires-2 t c κs = search needs
 
--- src/lib.rt:306:1
+-- src/lib.rt:331:1
 paren-ty-same-length-2 : (t : ℕ) → paren-ty-lts.Need-same-length-2 (
   word-reads.Asked,
   word-reads.Learnt,
   get-ty-below t,
   get-ty.Post,
+  told-reads.Asked,
+  told-reads.Learnt,
 ) (paren-ty-at t) paren-ty.Post
-paren-ty-same-length-2 t c = c .before .before .word2 .kept .1 .0 ∙ c .before .before .before .before .before .before .before .before .before .get-ty .kept .1 .1 .1 .1 .0 ∙ c .before .before .before .before .before .before .before .before .before .before .before .before .before .word .kept .1 .0
+paren-ty-same-length-2 t c = c .before .before .word2 .kept .1 .1 .0 ∙ c .before .before .before .before .before .before .before .before .before .before .before .get-ty .kept .1 .1 .1 .1 .1 .0 ∙ c .before .before .before .before .before .before .before .before .before .before .before .before .before .before .before .before .word .kept .1 .1 .0
 
--- src/lib.rt:306:1
+-- src/lib.rt:331:1
 paren-ty-returns-2 : (t : ℕ) → paren-ty-lts.Need-returns-2 (
   word-reads.Asked,
   word-reads.Learnt,
   get-ty-below t,
   get-ty.Post,
+  told-reads.Asked,
+  told-reads.Learnt,
 ) (paren-ty-at t) paren-ty.Post
 unfolding Ty.ty
-paren-ty-returns-2 t c = record { is = λ kinds m. then-sure (c .before .before .before .before .before .before .before .before .before .before .before .before .before .word .ensures) (then-done (plain (c .before .before .before .before .before .before .before .before .before .get-ty .ensures)) (c .before .before .before .before .before .r2 .given .1) (last-sure (c .before .before .word2 .ensures))) }
+paren-ty-returns-2 t c = record { is = λ kinds. then-sure (c .before .before .before .before .before .before .before .before .before .before .before .before .before .before .before .before .word .ensures) (then-done (plain (c .before .before .before .before .before .before .before .before .before .before .before .get-ty .ensures)) (c .before .before .before .before .before .before .before .before .told .ensures) (c .before .before .before .before .before .before .s1 .given .1) (last-sure (c .before .before .word2 .ensures))) }
 
--- src/lib.rt:92:9
+-- src/lib.rt:98:5
 record-ty-word-requires : (t : ℕ) → record-ty-lts.Need-word-requires (
   word-reads.Asked,
   word-reads.Learnt,
   ty-rows-below t,
   ty-rows.Post,
+  told-reads.Asked,
+  told-reads.Learnt,
 ) (record-ty-at t) record-ty.Post
 record-ty-word-requires t c κs = search needs
 
--- src/lib.rt:93:9
+-- src/lib.rt:99:9
 record-ty-ty-rows-requires : (t : ℕ) → record-ty-lts.Need-ty-rows-requires (
   word-reads.Asked,
   word-reads.Learnt,
   ty-rows-below t,
   ty-rows.Post,
+  told-reads.Asked,
+  told-reads.Learnt,
 ) (record-ty-at t) record-ty.Post
-record-ty-ty-rows-requires t c κs = omega (arith, c .before .before .before .before .before .before .before .before .before .before .pre .0)
+record-ty-ty-rows-requires t c κs = omega (arith, c .before .before .before .before .before .before .before .before .before .before .before .before .pre .0)
 
--- src/lib.rt:94:22
-record-ty-enum-known-r2 : (t : ℕ) → record-ty-lts.Need-enum-known-r2 (
+-- src/lib.rt:100:28
+record-ty-told-requires : (t : ℕ) → record-ty-lts.Need-told-requires (
   word-reads.Asked,
   word-reads.Learnt,
   ty-rows-below t,
   ty-rows.Post,
+  told-reads.Asked,
+  told-reads.Learnt,
 ) (record-ty-at t) record-ty.Post
-record-ty-enum-known-r2 t c = search needs
+record-ty-told-requires t c κs = search needs
 
--- src/lib.rt:95:9
+-- src/lib.rt:100:22
+record-ty-enum-known-s1 : (t : ℕ) → record-ty-lts.Need-enum-known-s1 (
+  word-reads.Asked,
+  word-reads.Learnt,
+  ty-rows-below t,
+  ty-rows.Post,
+  told-reads.Asked,
+  told-reads.Learnt,
+) (record-ty-at t) record-ty.Post
+record-ty-enum-known-s1 t c = search needs
+
+-- src/lib.rt:101:9
 record-ty-enum-told : (t : ℕ) → record-ty-lts.Need-enum-told (
   word-reads.Asked,
   word-reads.Learnt,
   ty-rows-below t,
   ty-rows.Post,
+  told-reads.Asked,
+  told-reads.Learnt,
 ) (record-ty-at t) record-ty.Post
 record-ty-enum-told t c = search needs
 
--- src/lib.rt:95:9
+-- src/lib.rt:101:9
 record-ty-same-length : (t : ℕ) → record-ty-lts.Need-same-length (
   word-reads.Asked,
   word-reads.Learnt,
   ty-rows-below t,
   ty-rows.Post,
+  told-reads.Asked,
+  told-reads.Learnt,
 ) (record-ty-at t) record-ty.Post
-record-ty-same-length t c = c .before .before .before .before .ty-rows .kept .1 .1 .1 .1 .0 ∙ c .before .before .before .before .before .before .before .before .word .kept .1 .0
+record-ty-same-length t c = c .before .before .before .before .before .ty-rows .kept .1 .1 .1 .1 .1 .0 ∙ c .before .before .before .before .before .before .before .before .before .before .word .kept .1 .1 .0
 
--- src/lib.rt:95:9
+-- src/lib.rt:101:9
 record-ty-returns : (t : ℕ) → record-ty-lts.Need-returns (
   word-reads.Asked,
   word-reads.Learnt,
   ty-rows-below t,
   ty-rows.Post,
+  told-reads.Asked,
+  told-reads.Learnt,
 ) (record-ty-at t) record-ty.Post
 unfolding Ty.ty
-record-ty-returns t c = record { is = λ kinds m. then-sure (c .before .before .before .before .before .before .before .before .word .ensures) (then-stop (plain (c .before .before .before .before .ty-rows .ensures)) (c .enum-told .given .1)) }
+record-ty-returns t c = record { is = λ kinds. then-sure (c .before .before .before .before .before .before .before .before .before .before .word .ensures) (then-stop (plain (c .before .before .before .before .before .ty-rows .ensures)) (c .before .before .told .ensures) (c .enum-told .given .1)) }
 
--- src/lib.rt:97:18
+-- src/lib.rt:103:5
 record-ty-word-requires-2 : (t : ℕ) → record-ty-lts.Need-word-requires-2 (
   word-reads.Asked,
   word-reads.Learnt,
   ty-rows-below t,
   ty-rows.Post,
+  told-reads.Asked,
+  told-reads.Learnt,
 ) (record-ty-at t) record-ty.Post
 record-ty-word-requires-2 t c κs = search needs
 
--- src/lib.rt:81:1
+-- src/lib.rt:85:1
 record-ty-same-length-2 : (t : ℕ) → record-ty-lts.Need-same-length-2 (
   word-reads.Asked,
   word-reads.Learnt,
   ty-rows-below t,
   ty-rows.Post,
+  told-reads.Asked,
+  told-reads.Learnt,
 ) (record-ty-at t) record-ty.Post
-record-ty-same-length-2 t c = c .before .before .word2 .kept .1 .0 ∙ c .before .before .before .before .before .before .before .before .before .ty-rows .kept .1 .1 .1 .1 .0 ∙ c .before .before .before .before .before .before .before .before .before .before .before .before .before .word .kept .1 .0
+record-ty-same-length-2 t c = c .before .before .word2 .kept .1 .1 .0 ∙ c .before .before .before .before .before .before .before .before .before .before .before .ty-rows .kept .1 .1 .1 .1 .1 .0 ∙ c .before .before .before .before .before .before .before .before .before .before .before .before .before .before .before .before .word .kept .1 .1 .0
 
--- src/lib.rt:81:1
+-- src/lib.rt:85:1
 record-ty-returns-2 : (t : ℕ) → record-ty-lts.Need-returns-2 (
   word-reads.Asked,
   word-reads.Learnt,
   ty-rows-below t,
   ty-rows.Post,
+  told-reads.Asked,
+  told-reads.Learnt,
 ) (record-ty-at t) record-ty.Post
 unfolding Ty.ty
-record-ty-returns-2 t c = record { is = λ kinds m. then-sure (c .before .before .before .before .before .before .before .before .before .before .before .before .before .word .ensures) (then-done (plain (c .before .before .before .before .before .before .before .before .before .ty-rows .ensures)) (c .before .before .before .before .before .r2 .given .1) (last-sure (c .before .before .word2 .ensures))) }
+record-ty-returns-2 t c = record { is = λ kinds. then-sure (c .before .before .before .before .before .before .before .before .before .before .before .before .before .before .before .before .word .ensures) (then-done (plain (c .before .before .before .before .before .before .before .before .before .before .before .ty-rows .ensures)) (c .before .before .before .before .before .before .before .before .told .ensures) (c .before .before .before .before .before .before .s1 .given .1) (last-sure (c .before .before .word2 .ensures))) }
 
--- src/lib.rt:227:9
+-- src/lib.rt:247:9
 star-ty-group-requires : (t : ℕ) → star-ty-lts.Need-group-requires (
   group-reads.Asked,
   group-reads.Learnt,
+  told-reads.Asked,
+  told-reads.Learnt,
   word-reads.Asked,
   word-reads.Learnt,
   get-ty-below t,
@@ -1592,21 +1740,38 @@ star-ty-group-requires : (t : ℕ) → star-ty-lts.Need-group-requires (
 ) (star-ty-at t) star-ty.Post
 star-ty-group-requires t c κs = search needs
 
--- src/lib.rt:228:22
-star-ty-enum-known-r1 : (t : ℕ) → star-ty-lts.Need-enum-known-r1 (
+-- src/lib.rt:248:28
+star-ty-told-requires : (t : ℕ) → star-ty-lts.Need-told-requires (
   group-reads.Asked,
   group-reads.Learnt,
+  told-reads.Asked,
+  told-reads.Learnt,
   word-reads.Asked,
   word-reads.Learnt,
   get-ty-below t,
   get-ty.Post,
 ) (star-ty-at t) star-ty.Post
-star-ty-enum-known-r1 t c = search needs
+star-ty-told-requires t c κs = search needs
 
--- src/lib.rt:229:9
+-- src/lib.rt:248:22
+star-ty-enum-known-s1 : (t : ℕ) → star-ty-lts.Need-enum-known-s1 (
+  group-reads.Asked,
+  group-reads.Learnt,
+  told-reads.Asked,
+  told-reads.Learnt,
+  word-reads.Asked,
+  word-reads.Learnt,
+  get-ty-below t,
+  get-ty.Post,
+) (star-ty-at t) star-ty.Post
+star-ty-enum-known-s1 t c = search needs
+
+-- src/lib.rt:249:9
 star-ty-enum-told : (t : ℕ) → star-ty-lts.Need-enum-told (
   group-reads.Asked,
   group-reads.Learnt,
+  told-reads.Asked,
+  told-reads.Learnt,
   word-reads.Asked,
   word-reads.Learnt,
   get-ty-below t,
@@ -1614,22 +1779,26 @@ star-ty-enum-told : (t : ℕ) → star-ty-lts.Need-enum-told (
 ) (star-ty-at t) star-ty.Post
 star-ty-enum-told t c = search needs
 
--- src/lib.rt:229:9
+-- src/lib.rt:249:9
 star-ty-returns : (t : ℕ) → star-ty-lts.Need-returns (
   group-reads.Asked,
   group-reads.Learnt,
+  told-reads.Asked,
+  told-reads.Learnt,
   word-reads.Asked,
   word-reads.Learnt,
   get-ty-below t,
   get-ty.Post,
 ) (star-ty-at t) star-ty.Post
 unfolding Ty.star-ty
-star-ty-returns t c = record { is = λ kinds m. group-not (c .before .before .group .ensures) (c .enum-told .given .1) }
+star-ty-returns t c = record { is = λ kinds. group-not (c .before .before .before .group .ensures) (c .before .before .told .ensures) (c .enum-told .given .1) }
 
--- src/lib.rt:231:9
+-- src/lib.rt:251:5
 star-ty-word-requires : (t : ℕ) → star-ty-lts.Need-word-requires (
   group-reads.Asked,
   group-reads.Learnt,
+  told-reads.Asked,
+  told-reads.Learnt,
   word-reads.Asked,
   word-reads.Learnt,
   get-ty-below t,
@@ -1637,48 +1806,54 @@ star-ty-word-requires : (t : ℕ) → star-ty-lts.Need-word-requires (
 ) (star-ty-at t) star-ty.Post
 star-ty-word-requires t c κs = search needs
 
--- src/lib.rt:232:5
+-- src/lib.rt:252:5
 star-ty-get-ty-requires : (t : ℕ) → star-ty-lts.Need-get-ty-requires (
   group-reads.Asked,
   group-reads.Learnt,
+  told-reads.Asked,
+  told-reads.Learnt,
   word-reads.Asked,
   word-reads.Learnt,
   get-ty-below t,
   get-ty.Post,
 ) (star-ty-at t) star-ty.Post
-star-ty-get-ty-requires t c κs = omega (arith, c .before .before .before .before .before .before .before .before .before .before .before .before .before .before .pre .0)
+star-ty-get-ty-requires t c κs = omega (arith, c .before .before .before .before .before .before .before .before .before .before .before .before .before .before .before .before .before .pre .0)
 
--- src/lib.rt:216:1
+-- src/lib.rt:234:1
 star-ty-same-length : (t : ℕ) → star-ty-lts.Need-same-length (
   group-reads.Asked,
   group-reads.Learnt,
+  told-reads.Asked,
+  told-reads.Learnt,
   word-reads.Asked,
   word-reads.Learnt,
   get-ty-below t,
   get-ty.Post,
 ) (star-ty-at t) star-ty.Post
-star-ty-same-length t c = c .before .before .get-ty .kept .1 .1 .1 .1 .0 ∙ c .before .before .before .before .before .before .word .kept .1 .0
+star-ty-same-length t c = c .before .before .get-ty .kept .1 .1 .1 .1 .1 .0 ∙ c .before .before .before .before .before .before .before .word .kept .1 .1 .0
 
--- src/lib.rt:216:1
+-- src/lib.rt:234:1
 star-ty-returns-2 : (t : ℕ) → star-ty-lts.Need-returns-2 (
   group-reads.Asked,
   group-reads.Learnt,
+  told-reads.Asked,
+  told-reads.Learnt,
   word-reads.Asked,
   word-reads.Learnt,
   get-ty-below t,
   get-ty.Post,
 ) (star-ty-at t) star-ty.Post
 unfolding Ty.star-ty
-star-ty-returns-2 t c = record { is = λ kinds m. by-same (group-is (c .before .before .before .before .before .before .before .before .before .before .before .group .ensures) (c .before .before .before .before .before .before .before .before .before .r1 .given .1)) (then-sure (c .before .before .before .before .before .before .word .ensures) (plain (c .before .before .get-ty .ensures))) }
+star-ty-returns-2 t c = record { is = λ kinds. by-same (group-is (c .before .before .before .before .before .before .before .before .before .before .before .before .before .before .group .ensures) (c .before .before .before .before .before .before .before .before .before .before .before .before .before .told .ensures) (c .before .before .before .before .before .before .before .before .before .before .before .s1 .given .1)) (then-sure (c .before .before .before .before .before .before .before .word .ensures) (plain (c .before .before .get-ty .ensures))) }
 
 abbrev star-tys-Inv-loop : star-tys-lts.InvT-loop
-star-tys-Inv-loop text rec starts lens out₀ cfg n s₀ i₀ out s i =
-    PlainTurn text rec starts lens (cfg .tab) (λ i k. times k (Ty.star-ty (walks (cfg .left)))) n s₀ out₀ i s out
+star-tys-Inv-loop run text rec starts lens out₀ mem₀ at cfg n s0 s₀ i₀ out mem s i =
+    PlainTurn run text rec starts lens (λ i k. times k (Ty.star-ty (walks (cfg .left)))) n s₀ mem₀ out₀ i s mem out
 
 abbrev star-tys-μ-loop : star-tys-lts.MeasureT-loop
-star-tys-μ-loop text rec starts lens out₀ cfg n s₀ i₀ out s i = n - i
+star-tys-μ-loop run text rec starts lens out₀ mem₀ at cfg n s0 s₀ i₀ out mem s i = n - i
 
--- src/lib.rt:247:27
+-- src/lib.rt:269:27
 star-tys-list-requires : (t : ℕ) → star-tys-lts.Need-list-requires (
   list-reads.Asked,
   list-reads.Learnt,
@@ -1686,10 +1861,12 @@ star-tys-list-requires : (t : ℕ) → star-tys-lts.Need-list-requires (
   stop-reads.Learnt,
   star-ty-below t,
   star-ty.Post,
+  told-reads.Asked,
+  told-reads.Learnt,
 ) (star-tys-at t) star-tys.Post star-tys-Inv-loop star-tys-μ-loop
 star-tys-list-requires t c κs = search needs
 
--- src/lib.rt:247:18
+-- src/lib.rt:269:18
 star-tys-enum-known-n : (t : ℕ) → star-tys-lts.Need-enum-known-n (
   list-reads.Asked,
   list-reads.Learnt,
@@ -1697,10 +1874,12 @@ star-tys-enum-known-n : (t : ℕ) → star-tys-lts.Need-enum-known-n (
   stop-reads.Learnt,
   star-ty-below t,
   star-ty.Post,
+  told-reads.Asked,
+  told-reads.Learnt,
 ) (star-tys-at t) star-tys.Post star-tys-Inv-loop star-tys-μ-loop
 star-tys-enum-known-n t c = search needs
 
--- src/lib.rt:248:9
+-- src/lib.rt:270:9
 star-tys-enum-told : (t : ℕ) → star-tys-lts.Need-enum-told (
   list-reads.Asked,
   list-reads.Learnt,
@@ -1708,10 +1887,12 @@ star-tys-enum-told : (t : ℕ) → star-tys-lts.Need-enum-told (
   stop-reads.Learnt,
   star-ty-below t,
   star-ty.Post,
+  told-reads.Asked,
+  told-reads.Learnt,
 ) (star-tys-at t) star-tys.Post star-tys-Inv-loop star-tys-μ-loop
 star-tys-enum-told t c = search needs
 
--- src/lib.rt:248:9
+-- src/lib.rt:270:9
 star-tys-stop-requires : (t : ℕ) → star-tys-lts.Need-stop-requires (
   list-reads.Asked,
   list-reads.Learnt,
@@ -1719,10 +1900,12 @@ star-tys-stop-requires : (t : ℕ) → star-tys-lts.Need-stop-requires (
   stop-reads.Learnt,
   star-ty-below t,
   star-ty.Post,
+  told-reads.Asked,
+  told-reads.Learnt,
 ) (star-tys-at t) star-tys.Post star-tys-Inv-loop star-tys-μ-loop
 star-tys-stop-requires t c κs = search needs
 
--- src/lib.rt:248:9
+-- src/lib.rt:270:9
 star-tys-returns : (t : ℕ) → star-tys-lts.Need-returns (
   list-reads.Asked,
   list-reads.Learnt,
@@ -1730,11 +1913,13 @@ star-tys-returns : (t : ℕ) → star-tys-lts.Need-returns (
   stop-reads.Learnt,
   star-ty-below t,
   star-ty.Post,
+  told-reads.Asked,
+  told-reads.Learnt,
 ) (star-tys-at t) star-tys.Post star-tys-Inv-loop star-tys-μ-loop
 unfolding Ty.star-tys Helpers.for-each
-star-tys-returns t c = record { is = λ kinds m. list-not (c .stop .ensures) (c .before .before .before .list .ensures) (c .before .enum-told .given .1) }
+star-tys-returns t c = record { is = λ kinds. list-not (c .stop .ensures) (c .before .before .before .list .ensures) (c .before .enum-told .given .1) }
 
--- src/lib.rt:252:5
+-- src/lib.rt:274:5
 star-tys-loop-holds : (t : ℕ) → star-tys-lts.Need-loop-holds (
   list-reads.Asked,
   list-reads.Learnt,
@@ -1742,10 +1927,12 @@ star-tys-loop-holds : (t : ℕ) → star-tys-lts.Need-loop-holds (
   stop-reads.Learnt,
   star-ty-below t,
   star-ty.Post,
+  told-reads.Asked,
+  told-reads.Learnt,
 ) (star-tys-at t) star-tys.Post star-tys-Inv-loop star-tys-μ-loop
-star-tys-loop-holds t c = (omega arith, λ kinds m r o h. h, refl)
+star-tys-loop-holds t c = (omega arith, λ kinds r m o h. h, refl)
 
--- src/lib.rt:253:13
+-- src/lib.rt:275:13
 star-tys-star-ty-requires : (t : ℕ) → star-tys-lts.Need-star-ty-requires (
   list-reads.Asked,
   list-reads.Learnt,
@@ -1753,21 +1940,38 @@ star-tys-star-ty-requires : (t : ℕ) → star-tys-lts.Need-star-ty-requires (
   stop-reads.Learnt,
   star-ty-below t,
   star-ty.Post,
+  told-reads.Asked,
+  told-reads.Learnt,
 ) (star-tys-at t) star-tys.Post star-tys-Inv-loop star-tys-μ-loop
-star-tys-star-ty-requires t c κs = omega (arith, c .before .before .before .before .before .before .before .before .before .before .before .before .pre .0)
+star-tys-star-ty-requires t c κs = omega (arith, c .before .before .before .before .before .before .before .before .before .before .before .before .before .pre .0)
 
--- src/lib.rt:254:26
-star-tys-enum-known-r1 : (t : ℕ) → star-tys-lts.Need-enum-known-r1 (
+-- src/lib.rt:276:32
+star-tys-told-requires : (t : ℕ) → star-tys-lts.Need-told-requires (
   list-reads.Asked,
   list-reads.Learnt,
   stop-reads.Asked,
   stop-reads.Learnt,
   star-ty-below t,
   star-ty.Post,
+  told-reads.Asked,
+  told-reads.Learnt,
 ) (star-tys-at t) star-tys.Post star-tys-Inv-loop star-tys-μ-loop
-star-tys-enum-known-r1 t c = search needs
+star-tys-told-requires t c κs = search needs
 
--- src/lib.rt:255:13
+-- src/lib.rt:276:26
+star-tys-enum-known-s1 : (t : ℕ) → star-tys-lts.Need-enum-known-s1 (
+  list-reads.Asked,
+  list-reads.Learnt,
+  stop-reads.Asked,
+  stop-reads.Learnt,
+  star-ty-below t,
+  star-ty.Post,
+  told-reads.Asked,
+  told-reads.Learnt,
+) (star-tys-at t) star-tys.Post star-tys-Inv-loop star-tys-μ-loop
+star-tys-enum-known-s1 t c = search needs
+
+-- src/lib.rt:277:13
 star-tys-enum-told-2 : (t : ℕ) → star-tys-lts.Need-enum-told-2 (
   list-reads.Asked,
   list-reads.Learnt,
@@ -1775,10 +1979,12 @@ star-tys-enum-told-2 : (t : ℕ) → star-tys-lts.Need-enum-told-2 (
   stop-reads.Learnt,
   star-ty-below t,
   star-ty.Post,
+  told-reads.Asked,
+  told-reads.Learnt,
 ) (star-tys-at t) star-tys.Post star-tys-Inv-loop star-tys-μ-loop
 star-tys-enum-told-2 t c = search needs
 
--- src/lib.rt:255:13
+-- src/lib.rt:277:13
 star-tys-same-length : (t : ℕ) → star-tys-lts.Need-same-length (
   list-reads.Asked,
   list-reads.Learnt,
@@ -1786,10 +1992,12 @@ star-tys-same-length : (t : ℕ) → star-tys-lts.Need-same-length (
   stop-reads.Learnt,
   star-ty-below t,
   star-ty.Post,
+  told-reads.Asked,
+  told-reads.Learnt,
 ) (star-tys-at t) star-tys.Post star-tys-Inv-loop star-tys-μ-loop
-star-tys-same-length t c = c .before .before .before .before .star-ty .kept .1 .1 .1 .1 .0 ∙ c .before .before .before .before .before .before .before .loop .inv .2
+star-tys-same-length t c = c .before .before .before .before .before .star-ty .kept .1 .1 .1 .1 .1 .0 ∙ c .before .before .before .before .before .before .before .before .before .loop .inv .2
 
--- src/lib.rt:255:13
+-- src/lib.rt:277:13
 star-tys-returns-2 : (t : ℕ) → star-tys-lts.Need-returns-2 (
   list-reads.Asked,
   list-reads.Learnt,
@@ -1797,11 +2005,13 @@ star-tys-returns-2 : (t : ℕ) → star-tys-lts.Need-returns-2 (
   stop-reads.Learnt,
   star-ty-below t,
   star-ty.Post,
+  told-reads.Asked,
+  told-reads.Learnt,
 ) (star-tys-at t) star-tys.Post star-tys-Inv-loop star-tys-μ-loop
 unfolding Ty.star-tys Helpers.for-each
-star-tys-returns-2 t c = record { is = λ kinds m. by-same (list-is (c .before .before .before .before .before .before .before .before .before .before .before .list .ensures) (c .before .before .before .before .before .before .before .before .before .n .given .1)) (by-same (times-all _ _) (c .before .before .before .before .before .before .before .loop .inv .1 kinds m _ _ (times-more _ (c .before .before .before .before .before .before .loop-test .taken) (then-stop (plain (c .before .before .before .before .star-ty .ensures)) (c .enum-told2 .given .1))))) }
+star-tys-returns-2 t c = record { is = λ kinds. by-same (list-is (c .before .before .before .before .before .before .before .before .before .before .before .before .before .list .ensures) (c .before .before .before .before .before .before .before .before .before .before .before .n .given .1)) (by-same (times-all _ _) (c .before .before .before .before .before .before .before .before .before .loop .inv .1 kinds _ _ _ (times-more _ (c .before .before .before .before .before .before .before .before .loop-test .taken) (then-stop (plain (c .before .before .before .before .before .star-ty .ensures)) (c .before .before .told .ensures) (c .enum-told2 .given .1))))) }
 
--- src/lib.rt:258:9
+-- src/lib.rt:280:9
 star-tys-add-i : (t : ℕ) → star-tys-lts.Need-add-i (
   list-reads.Asked,
   list-reads.Learnt,
@@ -1809,10 +2019,12 @@ star-tys-add-i : (t : ℕ) → star-tys-lts.Need-add-i (
   stop-reads.Learnt,
   star-ty-below t,
   star-ty.Post,
+  told-reads.Asked,
+  told-reads.Learnt,
 ) (star-tys-at t) star-tys.Post star-tys-Inv-loop star-tys-μ-loop
-star-tys-add-i t c = omega (arith, c .before .before .before .before .before .before .before .loop-test .taken, c .before .before .before .before .before .before .before .before .before .known-told)
+star-tys-add-i t c = omega (arith, c .before .before .before .before .before .before .before .before .before .loop-test .taken, c .before .before .before .before .before .before .before .before .before .before .before .known-told)
 
--- src/lib.rt:252:5
+-- src/lib.rt:274:5
 star-tys-loop-less : (t : ℕ) → star-tys-lts.Need-loop-less (
   list-reads.Asked,
   list-reads.Learnt,
@@ -1820,10 +2032,12 @@ star-tys-loop-less : (t : ℕ) → star-tys-lts.Need-loop-less (
   stop-reads.Learnt,
   star-ty-below t,
   star-ty.Post,
+  told-reads.Asked,
+  told-reads.Learnt,
 ) (star-tys-at t) star-tys.Post star-tys-Inv-loop star-tys-μ-loop
 star-tys-loop-less t c = omega arith
 
--- src/lib.rt:252:5
+-- src/lib.rt:274:5
 star-tys-loop-again : (t : ℕ) → star-tys-lts.Need-loop-again (
   list-reads.Asked,
   list-reads.Learnt,
@@ -1831,11 +2045,13 @@ star-tys-loop-again : (t : ℕ) → star-tys-lts.Need-loop-again (
   stop-reads.Learnt,
   star-ty-below t,
   star-ty.Post,
+  told-reads.Asked,
+  told-reads.Learnt,
 ) (star-tys-at t) star-tys.Post star-tys-Inv-loop star-tys-μ-loop
 unfolding Ty.star-tys Helpers.for-each
-star-tys-loop-again t c = (omega (arith, c .before .before .before .before .before .before .before .before .loop .inv .0), λ kinds m r o h. c .before .before .before .before .before .before .before .before .loop .inv .1 kinds m r o (times-more _ (c .before .before .before .before .before .before .before .loop-test .taken) (then-done (plain (c .before .before .before .before .before .star-ty .ensures)) (c .before .r1 .given .1) h)), c .before .before .before .before .before .star-ty .kept .1 .1 .1 .1 .0 ∙ c .before .before .before .before .before .before .before .before .loop .inv .2)
+star-tys-loop-again t c = (omega (arith, c .before .before .before .before .before .before .before .before .before .before .loop .inv .0), λ kinds r m o h. c .before .before .before .before .before .before .before .before .before .before .loop .inv .1 kinds r m o (times-more _ (c .before .before .before .before .before .before .before .before .before .loop-test .taken) (then-done (plain (c .before .before .before .before .before .before .star-ty .ensures)) (c .before .before .before .told .ensures) (c .before .s1 .given .1) h)), c .before .before .before .before .before .before .star-ty .kept .1 .1 .1 .1 .1 .0 ∙ c .before .before .before .before .before .before .before .before .before .before .loop .inv .2)
 
--- src/lib.rt:236:1
+-- src/lib.rt:256:1
 star-tys-same-length-2 : (t : ℕ) → star-tys-lts.Need-same-length-2 (
   list-reads.Asked,
   list-reads.Learnt,
@@ -1843,10 +2059,12 @@ star-tys-same-length-2 : (t : ℕ) → star-tys-lts.Need-same-length-2 (
   stop-reads.Learnt,
   star-ty-below t,
   star-ty.Post,
+  told-reads.Asked,
+  told-reads.Learnt,
 ) (star-tys-at t) star-tys.Post star-tys-Inv-loop star-tys-μ-loop
 star-tys-same-length-2 t c = c .before .loop .inv .2
 
--- src/lib.rt:236:1
+-- src/lib.rt:256:1
 star-tys-returns-3 : (t : ℕ) → star-tys-lts.Need-returns-3 (
   list-reads.Asked,
   list-reads.Learnt,
@@ -1854,119 +2072,152 @@ star-tys-returns-3 : (t : ℕ) → star-tys-lts.Need-returns-3 (
   stop-reads.Learnt,
   star-ty-below t,
   star-ty.Post,
+  told-reads.Asked,
+  told-reads.Learnt,
 ) (star-tys-at t) star-tys.Post star-tys-Inv-loop star-tys-μ-loop
 unfolding Ty.star-tys Helpers.for-each
-star-tys-returns-3 t c = record { is = λ kinds m. by-same (list-is (c .before .before .before .before .before .list .ensures) (c .before .before .before .n .given .1)) (by-same (times-all _ _) (c .before .loop .inv .1 kinds m _ _ (times-none _ (c .loop-test .left)))) }
+star-tys-returns-3 t c = record { is = λ kinds. by-same (list-is (c .before .before .before .before .before .list .ensures) (c .before .before .before .n .given .1)) (by-same (times-all _ _) (c .before .loop .inv .1 kinds _ _ _ (times-none _ (c .loop-test .left)))) }
 
--- src/lib.rt:277:9
+-- src/lib.rt:300:9
 tuple-ty-get-ty-requires : (t : ℕ) → tuple-ty-lts.Need-get-ty-requires (
   get-ty-below t,
   get-ty.Post,
   onwards-reads.Asked,
   onwards-reads.Learnt,
+  told-reads.Asked,
+  told-reads.Learnt,
   star-tys-below t,
   star-tys.Post,
 ) (tuple-ty-at t) tuple-ty.Post
-tuple-ty-get-ty-requires t c κs = omega (arith, c .before .before .before .before .before .before .pre .0)
+tuple-ty-get-ty-requires t c κs = omega (arith, c .before .before .before .before .before .before .before .pre .0)
 
--- src/lib.rt:278:9
+-- src/lib.rt:301:9
 tuple-ty-onwards-requires : (t : ℕ) → tuple-ty-lts.Need-onwards-requires (
   get-ty-below t,
   get-ty.Post,
   onwards-reads.Asked,
   onwards-reads.Learnt,
+  told-reads.Asked,
+  told-reads.Learnt,
   star-tys-below t,
   star-tys.Post,
 ) (tuple-ty-at t) tuple-ty.Post
 tuple-ty-onwards-requires t c κs = search needs
 
--- src/lib.rt:279:22
-tuple-ty-enum-known-r1 : (t : ℕ) → tuple-ty-lts.Need-enum-known-r1 (
+-- src/lib.rt:302:28
+tuple-ty-told-requires : (t : ℕ) → tuple-ty-lts.Need-told-requires (
   get-ty-below t,
   get-ty.Post,
   onwards-reads.Asked,
   onwards-reads.Learnt,
+  told-reads.Asked,
+  told-reads.Learnt,
   star-tys-below t,
   star-tys.Post,
 ) (tuple-ty-at t) tuple-ty.Post
-tuple-ty-enum-known-r1 t c = search needs
+tuple-ty-told-requires t c κs = search needs
 
--- src/lib.rt:280:9
+-- src/lib.rt:302:22
+tuple-ty-enum-known-s1 : (t : ℕ) → tuple-ty-lts.Need-enum-known-s1 (
+  get-ty-below t,
+  get-ty.Post,
+  onwards-reads.Asked,
+  onwards-reads.Learnt,
+  told-reads.Asked,
+  told-reads.Learnt,
+  star-tys-below t,
+  star-tys.Post,
+) (tuple-ty-at t) tuple-ty.Post
+tuple-ty-enum-known-s1 t c = search needs
+
+-- src/lib.rt:303:9
 tuple-ty-enum-told : (t : ℕ) → tuple-ty-lts.Need-enum-told (
   get-ty-below t,
   get-ty.Post,
   onwards-reads.Asked,
   onwards-reads.Learnt,
+  told-reads.Asked,
+  told-reads.Learnt,
   star-tys-below t,
   star-tys.Post,
 ) (tuple-ty-at t) tuple-ty.Post
 tuple-ty-enum-told t c = search needs
 
--- src/lib.rt:280:9
+-- src/lib.rt:303:9
 tuple-ty-same-length : (t : ℕ) → tuple-ty-lts.Need-same-length (
   get-ty-below t,
   get-ty.Post,
   onwards-reads.Asked,
   onwards-reads.Learnt,
+  told-reads.Asked,
+  told-reads.Learnt,
   star-tys-below t,
   star-tys.Post,
 ) (tuple-ty-at t) tuple-ty.Post
-tuple-ty-same-length t c = c .before .before .before .before .before .get-ty .kept .1 .1 .1 .1 .0
+tuple-ty-same-length t c = c .before .before .before .before .before .before .get-ty .kept .1 .1 .1 .1 .1 .0
 
--- src/lib.rt:280:9
+-- src/lib.rt:303:9
 tuple-ty-returns : (t : ℕ) → tuple-ty-lts.Need-returns (
   get-ty-below t,
   get-ty.Post,
   onwards-reads.Asked,
   onwards-reads.Learnt,
+  told-reads.Asked,
+  told-reads.Learnt,
   star-tys-below t,
   star-tys.Post,
 ) (tuple-ty-at t) tuple-ty.Post
 unfolding Ty.ty
-tuple-ty-returns t c = record { is = λ kinds m. then-stop (dropped-by (plain (c .before .before .before .before .before .get-ty .ensures)) (c .before .before .onwards .ensures)) (c .enum-told .given .1) }
+tuple-ty-returns t c = record { is = λ kinds. then-stop (dropped-by (plain (c .before .before .before .before .before .before .get-ty .ensures)) (c .before .before .before .onwards .ensures)) (c .before .before .told .ensures) (c .enum-told .given .1) }
 
--- src/lib.rt:282:5
+-- src/lib.rt:305:5
 tuple-ty-star-tys-requires : (t : ℕ) → tuple-ty-lts.Need-star-tys-requires (
   get-ty-below t,
   get-ty.Post,
   onwards-reads.Asked,
   onwards-reads.Learnt,
+  told-reads.Asked,
+  told-reads.Learnt,
   star-tys-below t,
   star-tys.Post,
 ) (tuple-ty-at t) tuple-ty.Post
-tuple-ty-star-tys-requires t c κs = omega (arith, c .before .before .before .before .before .before .before .before .before .before .before .before .before .before .pre .0)
+tuple-ty-star-tys-requires t c κs = omega (arith, c .before .before .before .before .before .before .before .before .before .before .before .before .before .before .before .before .before .pre .0)
 
--- src/lib.rt:264:1
+-- src/lib.rt:286:1
 tuple-ty-same-length-2 : (t : ℕ) → tuple-ty-lts.Need-same-length-2 (
   get-ty-below t,
   get-ty.Post,
   onwards-reads.Asked,
   onwards-reads.Learnt,
+  told-reads.Asked,
+  told-reads.Learnt,
   star-tys-below t,
   star-tys.Post,
 ) (tuple-ty-at t) tuple-ty.Post
-tuple-ty-same-length-2 t c = c .before .before .star-tys .kept .1 .1 .1 .1 .0 ∙ c .before .before .before .before .before .before .before .before .before .before .get-ty .kept .1 .1 .1 .1 .0
+tuple-ty-same-length-2 t c = c .before .before .star-tys .kept .1 .1 .1 .1 .1 .0 ∙ c .before .before .before .before .before .before .before .before .before .before .before .before .get-ty .kept .1 .1 .1 .1 .1 .0
 
--- src/lib.rt:264:1
+-- src/lib.rt:286:1
 tuple-ty-returns-2 : (t : ℕ) → tuple-ty-lts.Need-returns-2 (
   get-ty-below t,
   get-ty.Post,
   onwards-reads.Asked,
   onwards-reads.Learnt,
+  told-reads.Asked,
+  told-reads.Learnt,
   star-tys-below t,
   star-tys.Post,
 ) (tuple-ty-at t) tuple-ty.Post
 unfolding Ty.ty
-tuple-ty-returns-2 t c = record { is = λ kinds m. then-done (dropped-by (plain (c .before .before .before .before .before .before .before .before .before .before .get-ty .ensures)) (c .before .before .before .before .before .before .before .onwards .ensures)) (c .before .before .before .before .before .r1 .given .1) (plain (c .before .before .star-tys .ensures)) }
+tuple-ty-returns-2 t c = record { is = λ kinds. then-done (dropped-by (plain (c .before .before .before .before .before .before .before .before .before .before .before .before .get-ty .ensures)) (c .before .before .before .before .before .before .before .before .before .onwards .ensures)) (c .before .before .before .before .before .before .before .before .told .ensures) (c .before .before .before .before .before .before .s1 .given .1) (plain (c .before .before .star-tys .ensures)) }
 
 abbrev ty-args-Inv-loop : ty-args-lts.InvT-loop
-ty-args-Inv-loop text rec starts lens out₀ cfg n s₀ i₀ out s i =
-    PlainTurn text rec starts lens (cfg .tab) (from (Layout.word ", ") (Layout.group (walks (cfg .left) .get-ty))) n s₀ out₀ i s out
+ty-args-Inv-loop run text rec starts lens out₀ mem₀ at cfg n s0 s₀ i₀ out mem s i =
+    PlainTurn run text rec starts lens (from (Layout.word ", ") (Layout.group (walks (cfg .left) .get-ty))) n s₀ mem₀ out₀ i s mem out
 
 abbrev ty-args-μ-loop : ty-args-lts.MeasureT-loop
-ty-args-μ-loop text rec starts lens out₀ cfg n s₀ i₀ out s i = n - i
+ty-args-μ-loop run text rec starts lens out₀ mem₀ at cfg n s0 s₀ i₀ out mem s i = n - i
 
--- src/lib.rt:112:27
+-- src/lib.rt:121:27
 ty-args-list-requires : (t : ℕ) → ty-args-lts.Need-list-requires (
   list-reads.Asked,
   list-reads.Learnt,
@@ -1976,12 +2227,14 @@ ty-args-list-requires : (t : ℕ) → ty-args-lts.Need-list-requires (
   between-reads.Learnt,
   group-reads.Asked,
   group-reads.Learnt,
+  told-reads.Asked,
+  told-reads.Learnt,
   get-ty-below t,
   get-ty.Post,
 ) (ty-args-at t) ty-args.Post ty-args-Inv-loop ty-args-μ-loop
 ty-args-list-requires t c κs = search needs
 
--- src/lib.rt:112:18
+-- src/lib.rt:121:18
 ty-args-enum-known-n : (t : ℕ) → ty-args-lts.Need-enum-known-n (
   list-reads.Asked,
   list-reads.Learnt,
@@ -1991,12 +2244,14 @@ ty-args-enum-known-n : (t : ℕ) → ty-args-lts.Need-enum-known-n (
   between-reads.Learnt,
   group-reads.Asked,
   group-reads.Learnt,
+  told-reads.Asked,
+  told-reads.Learnt,
   get-ty-below t,
   get-ty.Post,
 ) (ty-args-at t) ty-args.Post ty-args-Inv-loop ty-args-μ-loop
 ty-args-enum-known-n t c = search needs
 
--- src/lib.rt:113:9
+-- src/lib.rt:122:9
 ty-args-enum-told : (t : ℕ) → ty-args-lts.Need-enum-told (
   list-reads.Asked,
   list-reads.Learnt,
@@ -2006,12 +2261,14 @@ ty-args-enum-told : (t : ℕ) → ty-args-lts.Need-enum-told (
   between-reads.Learnt,
   group-reads.Asked,
   group-reads.Learnt,
+  told-reads.Asked,
+  told-reads.Learnt,
   get-ty-below t,
   get-ty.Post,
 ) (ty-args-at t) ty-args.Post ty-args-Inv-loop ty-args-μ-loop
 ty-args-enum-told t c = search needs
 
--- src/lib.rt:113:9
+-- src/lib.rt:122:9
 ty-args-stop-requires : (t : ℕ) → ty-args-lts.Need-stop-requires (
   list-reads.Asked,
   list-reads.Learnt,
@@ -2021,12 +2278,14 @@ ty-args-stop-requires : (t : ℕ) → ty-args-lts.Need-stop-requires (
   between-reads.Learnt,
   group-reads.Asked,
   group-reads.Learnt,
+  told-reads.Asked,
+  told-reads.Learnt,
   get-ty-below t,
   get-ty.Post,
 ) (ty-args-at t) ty-args.Post ty-args-Inv-loop ty-args-μ-loop
 ty-args-stop-requires t c κs = search needs
 
--- src/lib.rt:113:9
+-- src/lib.rt:122:9
 ty-args-returns : (t : ℕ) → ty-args-lts.Need-returns (
   list-reads.Asked,
   list-reads.Learnt,
@@ -2036,13 +2295,15 @@ ty-args-returns : (t : ℕ) → ty-args-lts.Need-returns (
   between-reads.Learnt,
   group-reads.Asked,
   group-reads.Learnt,
+  told-reads.Asked,
+  told-reads.Learnt,
   get-ty-below t,
   get-ty.Post,
 ) (ty-args-at t) ty-args.Post ty-args-Inv-loop ty-args-μ-loop
 unfolding Ty.ty-args Helpers.sep
-ty-args-returns t c = record { is = λ kinds m. list-not (c .stop .ensures) (c .before .before .before .list .ensures) (c .before .enum-told .given .1) }
+ty-args-returns t c = record { is = λ kinds. list-not (c .stop .ensures) (c .before .before .before .list .ensures) (c .before .enum-told .given .1) }
 
--- src/lib.rt:117:5
+-- src/lib.rt:126:5
 ty-args-loop-holds : (t : ℕ) → ty-args-lts.Need-loop-holds (
   list-reads.Asked,
   list-reads.Learnt,
@@ -2052,12 +2313,14 @@ ty-args-loop-holds : (t : ℕ) → ty-args-lts.Need-loop-holds (
   between-reads.Learnt,
   group-reads.Asked,
   group-reads.Learnt,
+  told-reads.Asked,
+  told-reads.Learnt,
   get-ty-below t,
   get-ty.Post,
 ) (ty-args-at t) ty-args.Post ty-args-Inv-loop ty-args-μ-loop
-ty-args-loop-holds t c = (omega arith, λ kinds m r o h. h, refl)
+ty-args-loop-holds t c = (omega arith, λ kinds r m o h. h, refl)
 
--- src/lib.rt:118:13
+-- src/lib.rt:127:9
 ty-args-between-requires : (t : ℕ) → ty-args-lts.Need-between-requires (
   list-reads.Asked,
   list-reads.Learnt,
@@ -2067,12 +2330,14 @@ ty-args-between-requires : (t : ℕ) → ty-args-lts.Need-between-requires (
   between-reads.Learnt,
   group-reads.Asked,
   group-reads.Learnt,
+  told-reads.Asked,
+  told-reads.Learnt,
   get-ty-below t,
   get-ty.Post,
 ) (ty-args-at t) ty-args.Post ty-args-Inv-loop ty-args-μ-loop
 ty-args-between-requires t c κs = search needs
 
--- src/lib.rt:119:13
+-- src/lib.rt:128:13
 ty-args-group-requires : (t : ℕ) → ty-args-lts.Need-group-requires (
   list-reads.Asked,
   list-reads.Learnt,
@@ -2082,13 +2347,15 @@ ty-args-group-requires : (t : ℕ) → ty-args-lts.Need-group-requires (
   between-reads.Learnt,
   group-reads.Asked,
   group-reads.Learnt,
+  told-reads.Asked,
+  told-reads.Learnt,
   get-ty-below t,
   get-ty.Post,
 ) (ty-args-at t) ty-args.Post ty-args-Inv-loop ty-args-μ-loop
 ty-args-group-requires t c κs = search needs
 
--- src/lib.rt:120:26
-ty-args-enum-known-r2 : (t : ℕ) → ty-args-lts.Need-enum-known-r2 (
+-- src/lib.rt:129:32
+ty-args-told-requires : (t : ℕ) → ty-args-lts.Need-told-requires (
   list-reads.Asked,
   list-reads.Learnt,
   stop-reads.Asked,
@@ -2097,12 +2364,31 @@ ty-args-enum-known-r2 : (t : ℕ) → ty-args-lts.Need-enum-known-r2 (
   between-reads.Learnt,
   group-reads.Asked,
   group-reads.Learnt,
+  told-reads.Asked,
+  told-reads.Learnt,
   get-ty-below t,
   get-ty.Post,
 ) (ty-args-at t) ty-args.Post ty-args-Inv-loop ty-args-μ-loop
-ty-args-enum-known-r2 t c = search needs
+ty-args-told-requires t c κs = search needs
 
--- src/lib.rt:121:13
+-- src/lib.rt:129:26
+ty-args-enum-known-s1 : (t : ℕ) → ty-args-lts.Need-enum-known-s1 (
+  list-reads.Asked,
+  list-reads.Learnt,
+  stop-reads.Asked,
+  stop-reads.Learnt,
+  between-reads.Asked,
+  between-reads.Learnt,
+  group-reads.Asked,
+  group-reads.Learnt,
+  told-reads.Asked,
+  told-reads.Learnt,
+  get-ty-below t,
+  get-ty.Post,
+) (ty-args-at t) ty-args.Post ty-args-Inv-loop ty-args-μ-loop
+ty-args-enum-known-s1 t c = search needs
+
+-- src/lib.rt:130:13
 ty-args-enum-told-2 : (t : ℕ) → ty-args-lts.Need-enum-told-2 (
   list-reads.Asked,
   list-reads.Learnt,
@@ -2112,12 +2398,14 @@ ty-args-enum-told-2 : (t : ℕ) → ty-args-lts.Need-enum-told-2 (
   between-reads.Learnt,
   group-reads.Asked,
   group-reads.Learnt,
+  told-reads.Asked,
+  told-reads.Learnt,
   get-ty-below t,
   get-ty.Post,
 ) (ty-args-at t) ty-args.Post ty-args-Inv-loop ty-args-μ-loop
 ty-args-enum-told-2 t c = search needs
 
--- src/lib.rt:121:13
+-- src/lib.rt:130:13
 ty-args-same-length : (t : ℕ) → ty-args-lts.Need-same-length (
   list-reads.Asked,
   list-reads.Learnt,
@@ -2127,12 +2415,14 @@ ty-args-same-length : (t : ℕ) → ty-args-lts.Need-same-length (
   between-reads.Learnt,
   group-reads.Asked,
   group-reads.Learnt,
+  told-reads.Asked,
+  told-reads.Learnt,
   get-ty-below t,
   get-ty.Post,
 ) (ty-args-at t) ty-args.Post ty-args-Inv-loop ty-args-μ-loop
-ty-args-same-length t c = c .before .before .before .before .before .between .kept .1 .0 ∙ c .before .before .before .before .before .before .before .before .loop .inv .2
+ty-args-same-length t c = c .before .before .before .before .before .before .between .kept .1 .1 .0 ∙ c .before .before .before .before .before .before .before .before .before .before .loop .inv .2
 
--- src/lib.rt:121:13
+-- src/lib.rt:130:13
 ty-args-returns-2 : (t : ℕ) → ty-args-lts.Need-returns-2 (
   list-reads.Asked,
   list-reads.Learnt,
@@ -2142,13 +2432,15 @@ ty-args-returns-2 : (t : ℕ) → ty-args-lts.Need-returns-2 (
   between-reads.Learnt,
   group-reads.Asked,
   group-reads.Learnt,
+  told-reads.Asked,
+  told-reads.Learnt,
   get-ty-below t,
   get-ty.Post,
 ) (ty-args-at t) ty-args.Post ty-args-Inv-loop ty-args-μ-loop
 unfolding Ty.ty-args Helpers.sep
-ty-args-returns-2 t c = record { is = λ kinds m. by-same (list-is (c .before .before .before .before .before .before .before .before .before .before .before .before .list .ensures) (c .before .before .before .before .before .before .before .before .before .before .n .given .1)) (by-same (items-all _ _ _) (c .before .before .before .before .before .before .before .before .loop .inv .1 kinds m _ _ (from-more _ _ (c .before .before .before .before .before .before .before .loop-test .taken) (then-sure (c .before .before .before .before .before .between .ensures) (then-stop (group-not (c .before .before .group .ensures) (c .enum-told2 .given .1)) (c .enum-told2 .given .1)))))) }
+ty-args-returns-2 t c = record { is = λ kinds. by-same (list-is (c .before .before .before .before .before .before .before .before .before .before .before .before .before .before .list .ensures) (c .before .before .before .before .before .before .before .before .before .before .before .before .n .given .1)) (by-same (items-all _ _ _) (c .before .before .before .before .before .before .before .before .before .before .loop .inv .1 kinds _ _ _ (from-more _ _ (c .before .before .before .before .before .before .before .before .before .loop-test .taken) (then-sure (c .before .before .before .before .before .before .between .ensures) (then-stop (group-not (c .before .before .before .group .ensures) (c .before .before .told .ensures) (c .enum-told2 .given .1)) (c .before .before .told .ensures) (c .enum-told2 .given .1)))))) }
 
--- src/lib.rt:123:13
+-- src/lib.rt:132:13
 ty-args-get-ty-requires : (t : ℕ) → ty-args-lts.Need-get-ty-requires (
   list-reads.Asked,
   list-reads.Learnt,
@@ -2158,13 +2450,15 @@ ty-args-get-ty-requires : (t : ℕ) → ty-args-lts.Need-get-ty-requires (
   between-reads.Learnt,
   group-reads.Asked,
   group-reads.Learnt,
+  told-reads.Asked,
+  told-reads.Learnt,
   get-ty-below t,
   get-ty.Post,
 ) (ty-args-at t) ty-args.Post ty-args-Inv-loop ty-args-μ-loop
-ty-args-get-ty-requires t c κs = omega (arith, c .before .before .before .before .before .before .before .before .before .before .before .before .before .before .before .before .before .before .before .before .pre .0)
+ty-args-get-ty-requires t c κs = omega (arith, c .before .before .before .before .before .before .before .before .before .before .before .before .before .before .before .before .before .before .before .before .before .before .before .pre .0)
 
--- src/lib.rt:124:26
-ty-args-enum-known-r3 : (t : ℕ) → ty-args-lts.Need-enum-known-r3 (
+-- src/lib.rt:133:32
+ty-args-told-requires-2 : (t : ℕ) → ty-args-lts.Need-told-requires-2 (
   list-reads.Asked,
   list-reads.Learnt,
   stop-reads.Asked,
@@ -2173,12 +2467,31 @@ ty-args-enum-known-r3 : (t : ℕ) → ty-args-lts.Need-enum-known-r3 (
   between-reads.Learnt,
   group-reads.Asked,
   group-reads.Learnt,
+  told-reads.Asked,
+  told-reads.Learnt,
   get-ty-below t,
   get-ty.Post,
 ) (ty-args-at t) ty-args.Post ty-args-Inv-loop ty-args-μ-loop
-ty-args-enum-known-r3 t c = search needs
+ty-args-told-requires-2 t c κs = search needs
 
--- src/lib.rt:125:13
+-- src/lib.rt:133:26
+ty-args-enum-known-s2 : (t : ℕ) → ty-args-lts.Need-enum-known-s2 (
+  list-reads.Asked,
+  list-reads.Learnt,
+  stop-reads.Asked,
+  stop-reads.Learnt,
+  between-reads.Asked,
+  between-reads.Learnt,
+  group-reads.Asked,
+  group-reads.Learnt,
+  told-reads.Asked,
+  told-reads.Learnt,
+  get-ty-below t,
+  get-ty.Post,
+) (ty-args-at t) ty-args.Post ty-args-Inv-loop ty-args-μ-loop
+ty-args-enum-known-s2 t c = search needs
+
+-- src/lib.rt:134:13
 ty-args-enum-told-3 : (t : ℕ) → ty-args-lts.Need-enum-told-3 (
   list-reads.Asked,
   list-reads.Learnt,
@@ -2188,12 +2501,14 @@ ty-args-enum-told-3 : (t : ℕ) → ty-args-lts.Need-enum-told-3 (
   between-reads.Learnt,
   group-reads.Asked,
   group-reads.Learnt,
+  told-reads.Asked,
+  told-reads.Learnt,
   get-ty-below t,
   get-ty.Post,
 ) (ty-args-at t) ty-args.Post ty-args-Inv-loop ty-args-μ-loop
 ty-args-enum-told-3 t c = search needs
 
--- src/lib.rt:125:13
+-- src/lib.rt:134:13
 ty-args-same-length-2 : (t : ℕ) → ty-args-lts.Need-same-length-2 (
   list-reads.Asked,
   list-reads.Learnt,
@@ -2203,12 +2518,14 @@ ty-args-same-length-2 : (t : ℕ) → ty-args-lts.Need-same-length-2 (
   between-reads.Learnt,
   group-reads.Asked,
   group-reads.Learnt,
+  told-reads.Asked,
+  told-reads.Learnt,
   get-ty-below t,
   get-ty.Post,
 ) (ty-args-at t) ty-args.Post ty-args-Inv-loop ty-args-μ-loop
-ty-args-same-length-2 t c = c .before .before .before .before .get-ty .kept .1 .1 .1 .1 .0 ∙ c .before .before .before .before .before .before .before .before .before .before .before .before .between .kept .1 .0 ∙ c .before .before .before .before .before .before .before .before .before .before .before .before .before .before .before .loop .inv .2
+ty-args-same-length-2 t c = c .before .before .before .before .before .get-ty .kept .1 .1 .1 .1 .1 .0 ∙ c .before .before .before .before .before .before .before .before .before .before .before .before .before .before .before .between .kept .1 .1 .0 ∙ c .before .before .before .before .before .before .before .before .before .before .before .before .before .before .before .before .before .before .before .loop .inv .2
 
--- src/lib.rt:125:13
+-- src/lib.rt:134:13
 ty-args-returns-3 : (t : ℕ) → ty-args-lts.Need-returns-3 (
   list-reads.Asked,
   list-reads.Learnt,
@@ -2218,13 +2535,15 @@ ty-args-returns-3 : (t : ℕ) → ty-args-lts.Need-returns-3 (
   between-reads.Learnt,
   group-reads.Asked,
   group-reads.Learnt,
+  told-reads.Asked,
+  told-reads.Learnt,
   get-ty-below t,
   get-ty.Post,
 ) (ty-args-at t) ty-args.Post ty-args-Inv-loop ty-args-μ-loop
 unfolding Ty.ty-args Helpers.sep
-ty-args-returns-3 t c = record { is = λ kinds m. by-same (list-is (c .before .before .before .before .before .before .before .before .before .before .before .before .before .before .before .before .before .before .before .list .ensures) (c .before .before .before .before .before .before .before .before .before .before .before .before .before .before .before .before .before .n .given .1)) (by-same (items-all _ _ _) (c .before .before .before .before .before .before .before .before .before .before .before .before .before .before .before .loop .inv .1 kinds m _ _ (from-more _ _ (c .before .before .before .before .before .before .before .before .before .before .before .before .before .before .loop-test .taken) (then-sure (c .before .before .before .before .before .before .before .before .before .before .before .before .between .ensures) (by-same (first-same (group-is (c .before .before .before .before .before .before .before .before .before .group .ensures) (c .before .before .before .before .before .before .before .r2 .given .1))) (then-stop (plain (c .before .before .before .before .get-ty .ensures)) (c .enum-told3 .given .1))))))) }
+ty-args-returns-3 t c = record { is = λ kinds. by-same (list-is (c .before .before .before .before .before .before .before .before .before .before .before .before .before .before .before .before .before .before .before .before .before .before .before .list .ensures) (c .before .before .before .before .before .before .before .before .before .before .before .before .before .before .before .before .before .before .before .before .before .n .given .1)) (by-same (items-all _ _ _) (c .before .before .before .before .before .before .before .before .before .before .before .before .before .before .before .before .before .before .before .loop .inv .1 kinds _ _ _ (from-more _ _ (c .before .before .before .before .before .before .before .before .before .before .before .before .before .before .before .before .before .before .loop-test .taken) (then-sure (c .before .before .before .before .before .before .before .before .before .before .before .before .before .before .before .between .ensures) (by-same (first-same (group-is (c .before .before .before .before .before .before .before .before .before .before .before .before .group .ensures) (c .before .before .before .before .before .before .before .before .before .before .before .told .ensures) (c .before .before .before .before .before .before .before .before .before .s1 .given .1))) (then-stop (plain (c .before .before .before .before .before .get-ty .ensures)) (c .before .before .told2 .ensures) (c .enum-told3 .given .1))))))) }
 
--- src/lib.rt:128:9
+-- src/lib.rt:137:9
 ty-args-add-i : (t : ℕ) → ty-args-lts.Need-add-i (
   list-reads.Asked,
   list-reads.Learnt,
@@ -2234,12 +2553,14 @@ ty-args-add-i : (t : ℕ) → ty-args-lts.Need-add-i (
   between-reads.Learnt,
   group-reads.Asked,
   group-reads.Learnt,
+  told-reads.Asked,
+  told-reads.Learnt,
   get-ty-below t,
   get-ty.Post,
 ) (ty-args-at t) ty-args.Post ty-args-Inv-loop ty-args-μ-loop
-ty-args-add-i t c = omega (arith, c .before .before .before .before .before .before .before .before .before .before .before .before .before .before .before .loop-test .taken, c .before .before .before .before .before .before .before .before .before .before .before .before .before .before .before .before .before .known-told)
+ty-args-add-i t c = omega (arith, c .before .before .before .before .before .before .before .before .before .before .before .before .before .before .before .before .before .before .before .loop-test .taken, c .before .before .before .before .before .before .before .before .before .before .before .before .before .before .before .before .before .before .before .before .before .known-told)
 
--- src/lib.rt:117:5
+-- src/lib.rt:126:5
 ty-args-loop-less : (t : ℕ) → ty-args-lts.Need-loop-less (
   list-reads.Asked,
   list-reads.Learnt,
@@ -2249,12 +2570,14 @@ ty-args-loop-less : (t : ℕ) → ty-args-lts.Need-loop-less (
   between-reads.Learnt,
   group-reads.Asked,
   group-reads.Learnt,
+  told-reads.Asked,
+  told-reads.Learnt,
   get-ty-below t,
   get-ty.Post,
 ) (ty-args-at t) ty-args.Post ty-args-Inv-loop ty-args-μ-loop
 ty-args-loop-less t c = omega arith
 
--- src/lib.rt:117:5
+-- src/lib.rt:126:5
 ty-args-loop-again : (t : ℕ) → ty-args-lts.Need-loop-again (
   list-reads.Asked,
   list-reads.Learnt,
@@ -2264,13 +2587,15 @@ ty-args-loop-again : (t : ℕ) → ty-args-lts.Need-loop-again (
   between-reads.Learnt,
   group-reads.Asked,
   group-reads.Learnt,
+  told-reads.Asked,
+  told-reads.Learnt,
   get-ty-below t,
   get-ty.Post,
 ) (ty-args-at t) ty-args.Post ty-args-Inv-loop ty-args-μ-loop
 unfolding Ty.ty-args Helpers.sep
-ty-args-loop-again t c = (omega (arith, c .before .before .before .before .before .before .before .before .before .before .before .before .before .before .before .before .loop .inv .0), λ kinds m r o h. c .before .before .before .before .before .before .before .before .before .before .before .before .before .before .before .before .loop .inv .1 kinds m r o (from-more _ _ (c .before .before .before .before .before .before .before .before .before .before .before .before .before .before .before .loop-test .taken) (then-sure (c .before .before .before .before .before .before .before .before .before .before .before .before .before .between .ensures) (by-same (first-same (group-is (c .before .before .before .before .before .before .before .before .before .before .group .ensures) (c .before .before .before .before .before .before .before .before .r2 .given .1))) (then-done (plain (c .before .before .before .before .before .get-ty .ensures)) (c .before .r3 .given .1) h)))), c .before .before .before .before .before .get-ty .kept .1 .1 .1 .1 .0 ∙ c .before .before .before .before .before .before .before .before .before .before .before .before .before .between .kept .1 .0 ∙ c .before .before .before .before .before .before .before .before .before .before .before .before .before .before .before .before .loop .inv .2)
+ty-args-loop-again t c = (omega (arith, c .before .before .before .before .before .before .before .before .before .before .before .before .before .before .before .before .before .before .before .before .loop .inv .0), λ kinds r m o h. c .before .before .before .before .before .before .before .before .before .before .before .before .before .before .before .before .before .before .before .before .loop .inv .1 kinds r m o (from-more _ _ (c .before .before .before .before .before .before .before .before .before .before .before .before .before .before .before .before .before .before .before .loop-test .taken) (then-sure (c .before .before .before .before .before .before .before .before .before .before .before .before .before .before .before .before .between .ensures) (by-same (first-same (group-is (c .before .before .before .before .before .before .before .before .before .before .before .before .before .group .ensures) (c .before .before .before .before .before .before .before .before .before .before .before .before .told .ensures) (c .before .before .before .before .before .before .before .before .before .before .s1 .given .1))) (then-done (plain (c .before .before .before .before .before .before .get-ty .ensures)) (c .before .before .before .told2 .ensures) (c .before .s2 .given .1) h)))), c .before .before .before .before .before .before .get-ty .kept .1 .1 .1 .1 .1 .0 ∙ c .before .before .before .before .before .before .before .before .before .before .before .before .before .before .before .before .between .kept .1 .1 .0 ∙ c .before .before .before .before .before .before .before .before .before .before .before .before .before .before .before .before .before .before .before .before .loop .inv .2)
 
--- src/lib.rt:101:1
+-- src/lib.rt:108:1
 ty-args-same-length-3 : (t : ℕ) → ty-args-lts.Need-same-length-3 (
   list-reads.Asked,
   list-reads.Learnt,
@@ -2280,12 +2605,14 @@ ty-args-same-length-3 : (t : ℕ) → ty-args-lts.Need-same-length-3 (
   between-reads.Learnt,
   group-reads.Asked,
   group-reads.Learnt,
+  told-reads.Asked,
+  told-reads.Learnt,
   get-ty-below t,
   get-ty.Post,
 ) (ty-args-at t) ty-args.Post ty-args-Inv-loop ty-args-μ-loop
 ty-args-same-length-3 t c = c .before .loop .inv .2
 
--- src/lib.rt:101:1
+-- src/lib.rt:108:1
 ty-args-returns-4 : (t : ℕ) → ty-args-lts.Need-returns-4 (
   list-reads.Asked,
   list-reads.Learnt,
@@ -2295,16 +2622,20 @@ ty-args-returns-4 : (t : ℕ) → ty-args-lts.Need-returns-4 (
   between-reads.Learnt,
   group-reads.Asked,
   group-reads.Learnt,
+  told-reads.Asked,
+  told-reads.Learnt,
   get-ty-below t,
   get-ty.Post,
 ) (ty-args-at t) ty-args.Post ty-args-Inv-loop ty-args-μ-loop
 unfolding Ty.ty-args Helpers.sep
-ty-args-returns-4 t c = record { is = λ kinds m. by-same (list-is (c .before .before .before .before .before .list .ensures) (c .before .before .before .n .given .1)) (by-same (items-all _ _ _) (c .before .loop .inv .1 kinds m _ _ (from-none _ _ (c .loop-test .left)))) }
+ty-args-returns-4 t c = record { is = λ kinds. by-same (list-is (c .before .before .before .before .before .list .ensures) (c .before .before .before .n .given .1)) (by-same (items-all _ _ _) (c .before .loop .inv .1 kinds _ _ _ (from-none _ _ (c .loop-test .left)))) }
 
--- src/lib.rt:39:9
+-- src/lib.rt:41:9
 ty-row-group-requires : (t : ℕ) → ty-row-lts.Need-group-requires (
   group-reads.Asked,
   group-reads.Learnt,
+  told-reads.Asked,
+  told-reads.Learnt,
   text-of-reads.Asked,
   text-of-reads.Learnt,
   word-reads.Asked,
@@ -2314,10 +2645,12 @@ ty-row-group-requires : (t : ℕ) → ty-row-lts.Need-group-requires (
 ) (ty-row-at t) ty-row.Post
 ty-row-group-requires t c κs = search needs
 
--- src/lib.rt:40:22
-ty-row-enum-known-r1 : (t : ℕ) → ty-row-lts.Need-enum-known-r1 (
+-- src/lib.rt:42:28
+ty-row-told-requires : (t : ℕ) → ty-row-lts.Need-told-requires (
   group-reads.Asked,
   group-reads.Learnt,
+  told-reads.Asked,
+  told-reads.Learnt,
   text-of-reads.Asked,
   text-of-reads.Learnt,
   word-reads.Asked,
@@ -2325,12 +2658,29 @@ ty-row-enum-known-r1 : (t : ℕ) → ty-row-lts.Need-enum-known-r1 (
   get-ty-below t,
   get-ty.Post,
 ) (ty-row-at t) ty-row.Post
-ty-row-enum-known-r1 t c = search needs
+ty-row-told-requires t c κs = search needs
 
--- src/lib.rt:41:9
+-- src/lib.rt:42:22
+ty-row-enum-known-s1 : (t : ℕ) → ty-row-lts.Need-enum-known-s1 (
+  group-reads.Asked,
+  group-reads.Learnt,
+  told-reads.Asked,
+  told-reads.Learnt,
+  text-of-reads.Asked,
+  text-of-reads.Learnt,
+  word-reads.Asked,
+  word-reads.Learnt,
+  get-ty-below t,
+  get-ty.Post,
+) (ty-row-at t) ty-row.Post
+ty-row-enum-known-s1 t c = search needs
+
+-- src/lib.rt:43:9
 ty-row-enum-told : (t : ℕ) → ty-row-lts.Need-enum-told (
   group-reads.Asked,
   group-reads.Learnt,
+  told-reads.Asked,
+  told-reads.Learnt,
   text-of-reads.Asked,
   text-of-reads.Learnt,
   word-reads.Asked,
@@ -2340,10 +2690,12 @@ ty-row-enum-told : (t : ℕ) → ty-row-lts.Need-enum-told (
 ) (ty-row-at t) ty-row.Post
 ty-row-enum-told t c = search needs
 
--- src/lib.rt:41:9
+-- src/lib.rt:43:9
 ty-row-returns : (t : ℕ) → ty-row-lts.Need-returns (
   group-reads.Asked,
   group-reads.Learnt,
+  told-reads.Asked,
+  told-reads.Learnt,
   text-of-reads.Asked,
   text-of-reads.Learnt,
   word-reads.Asked,
@@ -2352,12 +2704,14 @@ ty-row-returns : (t : ℕ) → ty-row-lts.Need-returns (
   get-ty.Post,
 ) (ty-row-at t) ty-row.Post
 unfolding Ty.ty-row
-ty-row-returns t c = record { is = λ kinds m. group-not (c .before .before .group .ensures) (c .enum-told .given .1) }
+ty-row-returns t c = record { is = λ kinds. group-not (c .before .before .before .group .ensures) (c .before .before .told .ensures) (c .enum-told .given .1) }
 
--- src/lib.rt:43:9
+-- src/lib.rt:45:9
 ty-row-text-of-requires : (t : ℕ) → ty-row-lts.Need-text-of-requires (
   group-reads.Asked,
   group-reads.Learnt,
+  told-reads.Asked,
+  told-reads.Learnt,
   text-of-reads.Asked,
   text-of-reads.Learnt,
   word-reads.Asked,
@@ -2367,10 +2721,12 @@ ty-row-text-of-requires : (t : ℕ) → ty-row-lts.Need-text-of-requires (
 ) (ty-row-at t) ty-row.Post
 ty-row-text-of-requires t c κs = search needs
 
--- src/lib.rt:44:22
-ty-row-enum-known-r2 : (t : ℕ) → ty-row-lts.Need-enum-known-r2 (
+-- src/lib.rt:46:28
+ty-row-told-requires-2 : (t : ℕ) → ty-row-lts.Need-told-requires-2 (
   group-reads.Asked,
   group-reads.Learnt,
+  told-reads.Asked,
+  told-reads.Learnt,
   text-of-reads.Asked,
   text-of-reads.Learnt,
   word-reads.Asked,
@@ -2378,12 +2734,29 @@ ty-row-enum-known-r2 : (t : ℕ) → ty-row-lts.Need-enum-known-r2 (
   get-ty-below t,
   get-ty.Post,
 ) (ty-row-at t) ty-row.Post
-ty-row-enum-known-r2 t c = search needs
+ty-row-told-requires-2 t c κs = search needs
 
--- src/lib.rt:45:9
+-- src/lib.rt:46:22
+ty-row-enum-known-s2 : (t : ℕ) → ty-row-lts.Need-enum-known-s2 (
+  group-reads.Asked,
+  group-reads.Learnt,
+  told-reads.Asked,
+  told-reads.Learnt,
+  text-of-reads.Asked,
+  text-of-reads.Learnt,
+  word-reads.Asked,
+  word-reads.Learnt,
+  get-ty-below t,
+  get-ty.Post,
+) (ty-row-at t) ty-row.Post
+ty-row-enum-known-s2 t c = search needs
+
+-- src/lib.rt:47:9
 ty-row-enum-told-2 : (t : ℕ) → ty-row-lts.Need-enum-told-2 (
   group-reads.Asked,
   group-reads.Learnt,
+  told-reads.Asked,
+  told-reads.Learnt,
   text-of-reads.Asked,
   text-of-reads.Learnt,
   word-reads.Asked,
@@ -2393,10 +2766,12 @@ ty-row-enum-told-2 : (t : ℕ) → ty-row-lts.Need-enum-told-2 (
 ) (ty-row-at t) ty-row.Post
 ty-row-enum-told-2 t c = search needs
 
--- src/lib.rt:45:9
+-- src/lib.rt:47:9
 ty-row-same-length : (t : ℕ) → ty-row-lts.Need-same-length (
   group-reads.Asked,
   group-reads.Learnt,
+  told-reads.Asked,
+  told-reads.Learnt,
   text-of-reads.Asked,
   text-of-reads.Learnt,
   word-reads.Asked,
@@ -2404,12 +2779,14 @@ ty-row-same-length : (t : ℕ) → ty-row-lts.Need-same-length (
   get-ty-below t,
   get-ty.Post,
 ) (ty-row-at t) ty-row.Post
-ty-row-same-length t c = c .before .before .before .before .text-of .kept .1 .1 .1 .1 .0
+ty-row-same-length t c = c .before .before .before .before .before .text-of .kept .1 .1 .1 .1 .1 .0
 
--- src/lib.rt:45:9
+-- src/lib.rt:47:9
 ty-row-returns-2 : (t : ℕ) → ty-row-lts.Need-returns-2 (
   group-reads.Asked,
   group-reads.Learnt,
+  told-reads.Asked,
+  told-reads.Learnt,
   text-of-reads.Asked,
   text-of-reads.Learnt,
   word-reads.Asked,
@@ -2418,12 +2795,14 @@ ty-row-returns-2 : (t : ℕ) → ty-row-lts.Need-returns-2 (
   get-ty.Post,
 ) (ty-row-at t) ty-row.Post
 unfolding Ty.ty-row
-ty-row-returns-2 t c = record { is = λ kinds m. by-same (group-is (c .before .before .before .before .before .before .before .before .before .group .ensures) (c .before .before .before .before .before .before .before .r1 .given .1)) (then-stop (plain (c .before .before .before .before .text-of .ensures)) (c .enum-told2 .given .1)) }
+ty-row-returns-2 t c = record { is = λ kinds. by-same (group-is (c .before .before .before .before .before .before .before .before .before .before .before .before .group .ensures) (c .before .before .before .before .before .before .before .before .before .before .before .told .ensures) (c .before .before .before .before .before .before .before .before .before .s1 .given .1)) (then-stop (plain (c .before .before .before .before .before .text-of .ensures)) (c .before .before .told2 .ensures) (c .enum-told2 .given .1)) }
 
--- src/lib.rt:47:9
+-- src/lib.rt:49:5
 ty-row-word-requires : (t : ℕ) → ty-row-lts.Need-word-requires (
   group-reads.Asked,
   group-reads.Learnt,
+  told-reads.Asked,
+  told-reads.Learnt,
   text-of-reads.Asked,
   text-of-reads.Learnt,
   word-reads.Asked,
@@ -2433,10 +2812,12 @@ ty-row-word-requires : (t : ℕ) → ty-row-lts.Need-word-requires (
 ) (ty-row-at t) ty-row.Post
 ty-row-word-requires t c κs = search needs
 
--- src/lib.rt:48:5
+-- src/lib.rt:50:5
 ty-row-get-ty-requires : (t : ℕ) → ty-row-lts.Need-get-ty-requires (
   group-reads.Asked,
   group-reads.Learnt,
+  told-reads.Asked,
+  told-reads.Learnt,
   text-of-reads.Asked,
   text-of-reads.Learnt,
   word-reads.Asked,
@@ -2444,12 +2825,14 @@ ty-row-get-ty-requires : (t : ℕ) → ty-row-lts.Need-get-ty-requires (
   get-ty-below t,
   get-ty.Post,
 ) (ty-row-at t) ty-row.Post
-ty-row-get-ty-requires t c κs = omega (arith, c .before .before .before .before .before .before .before .before .before .before .before .before .before .before .before .before .before .before .before .before .before .pre .0)
+ty-row-get-ty-requires t c κs = omega (arith, c .before .before .before .before .before .before .before .before .before .before .before .before .before .before .before .before .before .before .before .before .before .before .before .before .before .before .pre .0)
 
 -- src/lib.rt:28:1
 ty-row-same-length-2 : (t : ℕ) → ty-row-lts.Need-same-length-2 (
   group-reads.Asked,
   group-reads.Learnt,
+  told-reads.Asked,
+  told-reads.Learnt,
   text-of-reads.Asked,
   text-of-reads.Learnt,
   word-reads.Asked,
@@ -2457,12 +2840,14 @@ ty-row-same-length-2 : (t : ℕ) → ty-row-lts.Need-same-length-2 (
   get-ty-below t,
   get-ty.Post,
 ) (ty-row-at t) ty-row.Post
-ty-row-same-length-2 t c = c .before .before .get-ty .kept .1 .1 .1 .1 .0 ∙ c .before .before .before .before .before .before .word .kept .1 .0 ∙ c .before .before .before .before .before .before .before .before .before .before .before .before .before .text-of .kept .1 .1 .1 .1 .0
+ty-row-same-length-2 t c = c .before .before .get-ty .kept .1 .1 .1 .1 .1 .0 ∙ c .before .before .before .before .before .before .before .word .kept .1 .1 .0 ∙ c .before .before .before .before .before .before .before .before .before .before .before .before .before .before .before .before .text-of .kept .1 .1 .1 .1 .1 .0
 
 -- src/lib.rt:28:1
 ty-row-returns-3 : (t : ℕ) → ty-row-lts.Need-returns-3 (
   group-reads.Asked,
   group-reads.Learnt,
+  told-reads.Asked,
+  told-reads.Learnt,
   text-of-reads.Asked,
   text-of-reads.Learnt,
   word-reads.Asked,
@@ -2471,16 +2856,16 @@ ty-row-returns-3 : (t : ℕ) → ty-row-lts.Need-returns-3 (
   get-ty.Post,
 ) (ty-row-at t) ty-row.Post
 unfolding Ty.ty-row
-ty-row-returns-3 t c = record { is = λ kinds m. by-same (group-is (c .before .before .before .before .before .before .before .before .before .before .before .before .before .before .before .before .before .before .group .ensures) (c .before .before .before .before .before .before .before .before .before .before .before .before .before .before .before .before .r1 .given .1)) (then-done (plain (c .before .before .before .before .before .before .before .before .before .before .before .before .before .text-of .ensures)) (c .before .before .before .before .before .before .before .before .before .r2 .given .1) (then-sure (c .before .before .before .before .before .before .word .ensures) (plain (c .before .before .get-ty .ensures)))) }
+ty-row-returns-3 t c = record { is = λ kinds. by-same (group-is (c .before .before .before .before .before .before .before .before .before .before .before .before .before .before .before .before .before .before .before .before .before .before .before .group .ensures) (c .before .before .before .before .before .before .before .before .before .before .before .before .before .before .before .before .before .before .before .before .before .before .told .ensures) (c .before .before .before .before .before .before .before .before .before .before .before .before .before .before .before .before .before .before .before .before .s1 .given .1)) (then-done (plain (c .before .before .before .before .before .before .before .before .before .before .before .before .before .before .before .before .text-of .ensures)) (c .before .before .before .before .before .before .before .before .before .before .before .before .before .told2 .ensures) (c .before .before .before .before .before .before .before .before .before .before .before .s2 .given .1) (then-sure (c .before .before .before .before .before .before .before .word .ensures) (plain (c .before .before .get-ty .ensures)))) }
 
 abbrev ty-rows-Inv-loop : ty-rows-lts.InvT-loop
-ty-rows-Inv-loop text rec starts lens out₀ cfg n s₀ i₀ out s i =
-    PlainTurn text rec starts lens (cfg .tab) (from (Layout.word ", ") (Ty.ty-row (walks (cfg .left)))) n s₀ out₀ i s out
+ty-rows-Inv-loop run text rec starts lens out₀ mem₀ at cfg n s0 s₀ i₀ out mem s i =
+    PlainTurn run text rec starts lens (from (Layout.word ", ") (Ty.ty-row (walks (cfg .left)))) n s₀ mem₀ out₀ i s mem out
 
 abbrev ty-rows-μ-loop : ty-rows-lts.MeasureT-loop
-ty-rows-μ-loop text rec starts lens out₀ cfg n s₀ i₀ out s i = n - i
+ty-rows-μ-loop run text rec starts lens out₀ mem₀ at cfg n s0 s₀ i₀ out mem s i = n - i
 
--- src/lib.rt:63:27
+-- src/lib.rt:67:27
 ty-rows-list-requires : (t : ℕ) → ty-rows-lts.Need-list-requires (
   list-reads.Asked,
   list-reads.Learnt,
@@ -2490,10 +2875,12 @@ ty-rows-list-requires : (t : ℕ) → ty-rows-lts.Need-list-requires (
   between-reads.Learnt,
   ty-row-below t,
   ty-row.Post,
+  told-reads.Asked,
+  told-reads.Learnt,
 ) (ty-rows-at t) ty-rows.Post ty-rows-Inv-loop ty-rows-μ-loop
 ty-rows-list-requires t c κs = search needs
 
--- src/lib.rt:63:18
+-- src/lib.rt:67:18
 ty-rows-enum-known-n : (t : ℕ) → ty-rows-lts.Need-enum-known-n (
   list-reads.Asked,
   list-reads.Learnt,
@@ -2503,10 +2890,12 @@ ty-rows-enum-known-n : (t : ℕ) → ty-rows-lts.Need-enum-known-n (
   between-reads.Learnt,
   ty-row-below t,
   ty-row.Post,
+  told-reads.Asked,
+  told-reads.Learnt,
 ) (ty-rows-at t) ty-rows.Post ty-rows-Inv-loop ty-rows-μ-loop
 ty-rows-enum-known-n t c = search needs
 
--- src/lib.rt:64:9
+-- src/lib.rt:68:9
 ty-rows-enum-told : (t : ℕ) → ty-rows-lts.Need-enum-told (
   list-reads.Asked,
   list-reads.Learnt,
@@ -2516,10 +2905,12 @@ ty-rows-enum-told : (t : ℕ) → ty-rows-lts.Need-enum-told (
   between-reads.Learnt,
   ty-row-below t,
   ty-row.Post,
+  told-reads.Asked,
+  told-reads.Learnt,
 ) (ty-rows-at t) ty-rows.Post ty-rows-Inv-loop ty-rows-μ-loop
 ty-rows-enum-told t c = search needs
 
--- src/lib.rt:64:9
+-- src/lib.rt:68:9
 ty-rows-stop-requires : (t : ℕ) → ty-rows-lts.Need-stop-requires (
   list-reads.Asked,
   list-reads.Learnt,
@@ -2529,10 +2920,12 @@ ty-rows-stop-requires : (t : ℕ) → ty-rows-lts.Need-stop-requires (
   between-reads.Learnt,
   ty-row-below t,
   ty-row.Post,
+  told-reads.Asked,
+  told-reads.Learnt,
 ) (ty-rows-at t) ty-rows.Post ty-rows-Inv-loop ty-rows-μ-loop
 ty-rows-stop-requires t c κs = search needs
 
--- src/lib.rt:64:9
+-- src/lib.rt:68:9
 ty-rows-returns : (t : ℕ) → ty-rows-lts.Need-returns (
   list-reads.Asked,
   list-reads.Learnt,
@@ -2542,11 +2935,13 @@ ty-rows-returns : (t : ℕ) → ty-rows-lts.Need-returns (
   between-reads.Learnt,
   ty-row-below t,
   ty-row.Post,
+  told-reads.Asked,
+  told-reads.Learnt,
 ) (ty-rows-at t) ty-rows.Post ty-rows-Inv-loop ty-rows-μ-loop
 unfolding Ty.ty-rows Helpers.sep
-ty-rows-returns t c = record { is = λ kinds m. list-not (c .stop .ensures) (c .before .before .before .list .ensures) (c .before .enum-told .given .1) }
+ty-rows-returns t c = record { is = λ kinds. list-not (c .stop .ensures) (c .before .before .before .list .ensures) (c .before .enum-told .given .1) }
 
--- src/lib.rt:68:5
+-- src/lib.rt:72:5
 ty-rows-loop-holds : (t : ℕ) → ty-rows-lts.Need-loop-holds (
   list-reads.Asked,
   list-reads.Learnt,
@@ -2556,10 +2951,12 @@ ty-rows-loop-holds : (t : ℕ) → ty-rows-lts.Need-loop-holds (
   between-reads.Learnt,
   ty-row-below t,
   ty-row.Post,
+  told-reads.Asked,
+  told-reads.Learnt,
 ) (ty-rows-at t) ty-rows.Post ty-rows-Inv-loop ty-rows-μ-loop
-ty-rows-loop-holds t c = (omega arith, λ kinds m r o h. h, refl)
+ty-rows-loop-holds t c = (omega arith, λ kinds r m o h. h, refl)
 
--- src/lib.rt:69:13
+-- src/lib.rt:73:9
 ty-rows-between-requires : (t : ℕ) → ty-rows-lts.Need-between-requires (
   list-reads.Asked,
   list-reads.Learnt,
@@ -2569,10 +2966,12 @@ ty-rows-between-requires : (t : ℕ) → ty-rows-lts.Need-between-requires (
   between-reads.Learnt,
   ty-row-below t,
   ty-row.Post,
+  told-reads.Asked,
+  told-reads.Learnt,
 ) (ty-rows-at t) ty-rows.Post ty-rows-Inv-loop ty-rows-μ-loop
 ty-rows-between-requires t c κs = search needs
 
--- src/lib.rt:70:13
+-- src/lib.rt:74:13
 ty-rows-ty-row-requires : (t : ℕ) → ty-rows-lts.Need-ty-row-requires (
   list-reads.Asked,
   list-reads.Learnt,
@@ -2582,11 +2981,13 @@ ty-rows-ty-row-requires : (t : ℕ) → ty-rows-lts.Need-ty-row-requires (
   between-reads.Learnt,
   ty-row-below t,
   ty-row.Post,
+  told-reads.Asked,
+  told-reads.Learnt,
 ) (ty-rows-at t) ty-rows.Post ty-rows-Inv-loop ty-rows-μ-loop
-ty-rows-ty-row-requires t c κs = omega (arith, c .before .before .before .before .before .before .before .before .before .before .before .before .before .before .before .before .pre .0)
+ty-rows-ty-row-requires t c κs = omega (arith, c .before .before .before .before .before .before .before .before .before .before .before .before .before .before .before .before .before .before .pre .0)
 
--- src/lib.rt:71:26
-ty-rows-enum-known-r2 : (t : ℕ) → ty-rows-lts.Need-enum-known-r2 (
+-- src/lib.rt:75:32
+ty-rows-told-requires : (t : ℕ) → ty-rows-lts.Need-told-requires (
   list-reads.Asked,
   list-reads.Learnt,
   stop-reads.Asked,
@@ -2595,10 +2996,27 @@ ty-rows-enum-known-r2 : (t : ℕ) → ty-rows-lts.Need-enum-known-r2 (
   between-reads.Learnt,
   ty-row-below t,
   ty-row.Post,
+  told-reads.Asked,
+  told-reads.Learnt,
 ) (ty-rows-at t) ty-rows.Post ty-rows-Inv-loop ty-rows-μ-loop
-ty-rows-enum-known-r2 t c = search needs
+ty-rows-told-requires t c κs = search needs
 
--- src/lib.rt:72:13
+-- src/lib.rt:75:26
+ty-rows-enum-known-s1 : (t : ℕ) → ty-rows-lts.Need-enum-known-s1 (
+  list-reads.Asked,
+  list-reads.Learnt,
+  stop-reads.Asked,
+  stop-reads.Learnt,
+  between-reads.Asked,
+  between-reads.Learnt,
+  ty-row-below t,
+  ty-row.Post,
+  told-reads.Asked,
+  told-reads.Learnt,
+) (ty-rows-at t) ty-rows.Post ty-rows-Inv-loop ty-rows-μ-loop
+ty-rows-enum-known-s1 t c = search needs
+
+-- src/lib.rt:76:13
 ty-rows-enum-told-2 : (t : ℕ) → ty-rows-lts.Need-enum-told-2 (
   list-reads.Asked,
   list-reads.Learnt,
@@ -2608,10 +3026,12 @@ ty-rows-enum-told-2 : (t : ℕ) → ty-rows-lts.Need-enum-told-2 (
   between-reads.Learnt,
   ty-row-below t,
   ty-row.Post,
+  told-reads.Asked,
+  told-reads.Learnt,
 ) (ty-rows-at t) ty-rows.Post ty-rows-Inv-loop ty-rows-μ-loop
 ty-rows-enum-told-2 t c = search needs
 
--- src/lib.rt:72:13
+-- src/lib.rt:76:13
 ty-rows-same-length : (t : ℕ) → ty-rows-lts.Need-same-length (
   list-reads.Asked,
   list-reads.Learnt,
@@ -2621,10 +3041,12 @@ ty-rows-same-length : (t : ℕ) → ty-rows-lts.Need-same-length (
   between-reads.Learnt,
   ty-row-below t,
   ty-row.Post,
+  told-reads.Asked,
+  told-reads.Learnt,
 ) (ty-rows-at t) ty-rows.Post ty-rows-Inv-loop ty-rows-μ-loop
-ty-rows-same-length t c = c .before .before .before .before .ty-row .kept .1 .1 .1 .1 .0 ∙ c .before .before .before .before .before .before .before .before .between .kept .1 .0 ∙ c .before .before .before .before .before .before .before .before .before .before .before .loop .inv .2
+ty-rows-same-length t c = c .before .before .before .before .before .ty-row .kept .1 .1 .1 .1 .1 .0 ∙ c .before .before .before .before .before .before .before .before .before .before .between .kept .1 .1 .0 ∙ c .before .before .before .before .before .before .before .before .before .before .before .before .before .before .loop .inv .2
 
--- src/lib.rt:72:13
+-- src/lib.rt:76:13
 ty-rows-returns-2 : (t : ℕ) → ty-rows-lts.Need-returns-2 (
   list-reads.Asked,
   list-reads.Learnt,
@@ -2634,11 +3056,13 @@ ty-rows-returns-2 : (t : ℕ) → ty-rows-lts.Need-returns-2 (
   between-reads.Learnt,
   ty-row-below t,
   ty-row.Post,
+  told-reads.Asked,
+  told-reads.Learnt,
 ) (ty-rows-at t) ty-rows.Post ty-rows-Inv-loop ty-rows-μ-loop
 unfolding Ty.ty-rows Helpers.sep
-ty-rows-returns-2 t c = record { is = λ kinds m. by-same (list-is (c .before .before .before .before .before .before .before .before .before .before .before .before .before .before .before .list .ensures) (c .before .before .before .before .before .before .before .before .before .before .before .before .before .n .given .1)) (by-same (items-all _ _ _) (c .before .before .before .before .before .before .before .before .before .before .before .loop .inv .1 kinds m _ _ (from-more _ _ (c .before .before .before .before .before .before .before .before .before .before .loop-test .taken) (then-sure (c .before .before .before .before .before .before .before .before .between .ensures) (then-stop (plain (c .before .before .before .before .ty-row .ensures)) (c .enum-told2 .given .1)))))) }
+ty-rows-returns-2 t c = record { is = λ kinds. by-same (list-is (c .before .before .before .before .before .before .before .before .before .before .before .before .before .before .before .before .before .before .list .ensures) (c .before .before .before .before .before .before .before .before .before .before .before .before .before .before .before .before .n .given .1)) (by-same (items-all _ _ _) (c .before .before .before .before .before .before .before .before .before .before .before .before .before .before .loop .inv .1 kinds _ _ _ (from-more _ _ (c .before .before .before .before .before .before .before .before .before .before .before .before .before .loop-test .taken) (then-sure (c .before .before .before .before .before .before .before .before .before .before .between .ensures) (then-stop (plain (c .before .before .before .before .before .ty-row .ensures)) (c .before .before .told .ensures) (c .enum-told2 .given .1)))))) }
 
--- src/lib.rt:75:9
+-- src/lib.rt:79:9
 ty-rows-add-i : (t : ℕ) → ty-rows-lts.Need-add-i (
   list-reads.Asked,
   list-reads.Learnt,
@@ -2648,10 +3072,12 @@ ty-rows-add-i : (t : ℕ) → ty-rows-lts.Need-add-i (
   between-reads.Learnt,
   ty-row-below t,
   ty-row.Post,
+  told-reads.Asked,
+  told-reads.Learnt,
 ) (ty-rows-at t) ty-rows.Post ty-rows-Inv-loop ty-rows-μ-loop
-ty-rows-add-i t c = omega (arith, c .before .before .before .before .before .before .before .before .before .before .before .loop-test .taken, c .before .before .before .before .before .before .before .before .before .before .before .before .before .known-told)
+ty-rows-add-i t c = omega (arith, c .before .before .before .before .before .before .before .before .before .before .before .before .before .before .loop-test .taken, c .before .before .before .before .before .before .before .before .before .before .before .before .before .before .before .before .known-told)
 
--- src/lib.rt:68:5
+-- src/lib.rt:72:5
 ty-rows-loop-less : (t : ℕ) → ty-rows-lts.Need-loop-less (
   list-reads.Asked,
   list-reads.Learnt,
@@ -2661,10 +3087,12 @@ ty-rows-loop-less : (t : ℕ) → ty-rows-lts.Need-loop-less (
   between-reads.Learnt,
   ty-row-below t,
   ty-row.Post,
+  told-reads.Asked,
+  told-reads.Learnt,
 ) (ty-rows-at t) ty-rows.Post ty-rows-Inv-loop ty-rows-μ-loop
 ty-rows-loop-less t c = omega arith
 
--- src/lib.rt:68:5
+-- src/lib.rt:72:5
 ty-rows-loop-again : (t : ℕ) → ty-rows-lts.Need-loop-again (
   list-reads.Asked,
   list-reads.Learnt,
@@ -2674,11 +3102,13 @@ ty-rows-loop-again : (t : ℕ) → ty-rows-lts.Need-loop-again (
   between-reads.Learnt,
   ty-row-below t,
   ty-row.Post,
+  told-reads.Asked,
+  told-reads.Learnt,
 ) (ty-rows-at t) ty-rows.Post ty-rows-Inv-loop ty-rows-μ-loop
 unfolding Ty.ty-rows Helpers.sep
-ty-rows-loop-again t c = (omega (arith, c .before .before .before .before .before .before .before .before .before .before .before .before .loop .inv .0), λ kinds m r o h. c .before .before .before .before .before .before .before .before .before .before .before .before .loop .inv .1 kinds m r o (from-more _ _ (c .before .before .before .before .before .before .before .before .before .before .before .loop-test .taken) (then-sure (c .before .before .before .before .before .before .before .before .before .between .ensures) (then-done (plain (c .before .before .before .before .before .ty-row .ensures)) (c .before .r2 .given .1) h))), c .before .before .before .before .before .ty-row .kept .1 .1 .1 .1 .0 ∙ c .before .before .before .before .before .before .before .before .before .between .kept .1 .0 ∙ c .before .before .before .before .before .before .before .before .before .before .before .before .loop .inv .2)
+ty-rows-loop-again t c = (omega (arith, c .before .before .before .before .before .before .before .before .before .before .before .before .before .before .before .loop .inv .0), λ kinds r m o h. c .before .before .before .before .before .before .before .before .before .before .before .before .before .before .before .loop .inv .1 kinds r m o (from-more _ _ (c .before .before .before .before .before .before .before .before .before .before .before .before .before .before .loop-test .taken) (then-sure (c .before .before .before .before .before .before .before .before .before .before .before .between .ensures) (then-done (plain (c .before .before .before .before .before .before .ty-row .ensures)) (c .before .before .before .told .ensures) (c .before .s1 .given .1) h))), c .before .before .before .before .before .before .ty-row .kept .1 .1 .1 .1 .1 .0 ∙ c .before .before .before .before .before .before .before .before .before .before .before .between .kept .1 .1 .0 ∙ c .before .before .before .before .before .before .before .before .before .before .before .before .before .before .before .loop .inv .2)
 
--- src/lib.rt:52:1
+-- src/lib.rt:54:1
 ty-rows-same-length-2 : (t : ℕ) → ty-rows-lts.Need-same-length-2 (
   list-reads.Asked,
   list-reads.Learnt,
@@ -2688,10 +3118,12 @@ ty-rows-same-length-2 : (t : ℕ) → ty-rows-lts.Need-same-length-2 (
   between-reads.Learnt,
   ty-row-below t,
   ty-row.Post,
+  told-reads.Asked,
+  told-reads.Learnt,
 ) (ty-rows-at t) ty-rows.Post ty-rows-Inv-loop ty-rows-μ-loop
 ty-rows-same-length-2 t c = c .before .loop .inv .2
 
--- src/lib.rt:52:1
+-- src/lib.rt:54:1
 ty-rows-returns-3 : (t : ℕ) → ty-rows-lts.Need-returns-3 (
   list-reads.Asked,
   list-reads.Learnt,
@@ -2701,11 +3133,13 @@ ty-rows-returns-3 : (t : ℕ) → ty-rows-lts.Need-returns-3 (
   between-reads.Learnt,
   ty-row-below t,
   ty-row.Post,
+  told-reads.Asked,
+  told-reads.Learnt,
 ) (ty-rows-at t) ty-rows.Post ty-rows-Inv-loop ty-rows-μ-loop
 unfolding Ty.ty-rows Helpers.sep
-ty-rows-returns-3 t c = record { is = λ kinds m. by-same (list-is (c .before .before .before .before .before .list .ensures) (c .before .before .before .n .given .1)) (by-same (items-all _ _ _) (c .before .loop .inv .1 kinds m _ _ (from-none _ _ (c .loop-test .left)))) }
+ty-rows-returns-3 t c = record { is = λ kinds. by-same (list-is (c .before .before .before .before .before .list .ensures) (c .before .before .before .n .given .1)) (by-same (items-all _ _ _) (c .before .loop .inv .1 kinds _ _ _ (from-none _ _ (c .loop-test .left)))) }
 
--- src/lib.rt:145:9
+-- src/lib.rt:156:9
 ty-seq-absent-requires : (t : ℕ) → ty-seq-lts.Need-absent-requires (
   absent-reads.Asked,
   absent-reads.Learnt,
@@ -2714,7 +3148,7 @@ ty-seq-absent-requires : (t : ℕ) → ty-seq-lts.Need-absent-requires (
 ) (ty-seq-at t) ty-seq.Post
 ty-seq-absent-requires t c κs = search needs
 
--- src/lib.rt:147:20
+-- src/lib.rt:158:20
 ty-seq-enum-known-gone : (t : ℕ) → ty-seq-lts.Need-enum-known-gone (
   absent-reads.Asked,
   absent-reads.Learnt,
@@ -2723,7 +3157,7 @@ ty-seq-enum-known-gone : (t : ℕ) → ty-seq-lts.Need-enum-known-gone (
 ) (ty-seq-at t) ty-seq.Post
 ty-seq-enum-known-gone t c = search needs
 
--- src/lib.rt:148:62
+-- src/lib.rt:159:67
 ty-seq-enum-told : (t : ℕ) → ty-seq-lts.Need-enum-told (
   absent-reads.Asked,
   absent-reads.Learnt,
@@ -2732,16 +3166,16 @@ ty-seq-enum-told : (t : ℕ) → ty-seq-lts.Need-enum-told (
 ) (ty-seq-at t) ty-seq.Post
 ty-seq-enum-told t c = search needs
 
--- src/lib.rt:148:24
+-- src/lib.rt:159:24
 ty-seq-ty-seq-there-requires : (t : ℕ) → ty-seq-lts.Need-ty-seq-there-requires (
   absent-reads.Asked,
   absent-reads.Learnt,
   ty-seq-there-below t,
   ty-seq-there.Post,
 ) (ty-seq-at t) ty-seq.Post
-ty-seq-ty-seq-there-requires t c κs = omega (arith, c .before .before .before .before .before .before .before .before .before .pre .0)
+ty-seq-ty-seq-there-requires t c κs = omega (arith, c .before .before .before .before .before .before .before .before .before .before .pre .0)
 
--- src/lib.rt:134:1
+-- src/lib.rt:143:1
 ty-seq-returns : (t : ℕ) → ty-seq-lts.Need-returns (
   absent-reads.Asked,
   absent-reads.Learnt,
@@ -2749,18 +3183,18 @@ ty-seq-returns : (t : ℕ) → ty-seq-lts.Need-returns (
   ty-seq-there.Post,
 ) (ty-seq-at t) ty-seq.Post
 unfolding Ty.ty-seq
-ty-seq-returns t c = record { is = λ kinds m. maybe-past (c .before .before .before .absent .ensures) (c .before .gone .given .1) }
+ty-seq-returns t c = record { is = λ kinds. maybe-past (c .before .before .before .absent .ensures) (c .before .gone .given .1) }
 
--- src/lib.rt:134:1
+-- src/lib.rt:143:1
 ty-seq-same-length : (t : ℕ) → ty-seq-lts.Need-same-length (
   absent-reads.Asked,
   absent-reads.Learnt,
   ty-seq-there-below t,
   ty-seq-there.Post,
 ) (ty-seq-at t) ty-seq.Post
-ty-seq-same-length t c = c .before .before .ty-seq-there .kept .1 .1 .1 .1 .0
+ty-seq-same-length t c = c .before .before .ty-seq-there .kept .1 .1 .1 .1 .1 .0
 
--- src/lib.rt:134:1
+-- src/lib.rt:143:1
 ty-seq-returns-2 : (t : ℕ) → ty-seq-lts.Need-returns-2 (
   absent-reads.Asked,
   absent-reads.Learnt,
@@ -2768,12 +3202,14 @@ ty-seq-returns-2 : (t : ℕ) → ty-seq-lts.Need-returns-2 (
   ty-seq-there.Post,
 ) (ty-seq-at t) ty-seq.Post
 unfolding Ty.ty-seq
-ty-seq-returns-2 t c = record { is = λ kinds m. by-same (maybe-there (c .before .before .before .before .before .before .absent .ensures) (c .before .before .before .before .enum-told .given .1)) (plain (c .before .before .ty-seq-there .ensures)) }
+ty-seq-returns-2 t c = record { is = λ kinds. by-same (maybe-there (c .before .before .before .before .before .before .before .absent .ensures) (c .before .before .before .before .before .enum-told .given .1)) (plain (c .before .before .ty-seq-there .ensures)) }
 
--- src/lib.rt:164:9
+-- src/lib.rt:177:9
 ty-seq-there-group-requires : (t : ℕ) → ty-seq-there-lts.Need-group-requires (
   group-reads.Asked,
   group-reads.Learnt,
+  told-reads.Asked,
+  told-reads.Learnt,
   word-reads.Asked,
   word-reads.Learnt,
   ty-args-below t,
@@ -2781,21 +3217,38 @@ ty-seq-there-group-requires : (t : ℕ) → ty-seq-there-lts.Need-group-requires
 ) (ty-seq-there-at t) ty-seq-there.Post
 ty-seq-there-group-requires t c κs = search needs
 
--- src/lib.rt:165:22
-ty-seq-there-enum-known-r1 : (t : ℕ) → ty-seq-there-lts.Need-enum-known-r1 (
+-- src/lib.rt:178:28
+ty-seq-there-told-requires : (t : ℕ) → ty-seq-there-lts.Need-told-requires (
   group-reads.Asked,
   group-reads.Learnt,
+  told-reads.Asked,
+  told-reads.Learnt,
   word-reads.Asked,
   word-reads.Learnt,
   ty-args-below t,
   ty-args.Post,
 ) (ty-seq-there-at t) ty-seq-there.Post
-ty-seq-there-enum-known-r1 t c = search needs
+ty-seq-there-told-requires t c κs = search needs
 
--- src/lib.rt:166:9
+-- src/lib.rt:178:22
+ty-seq-there-enum-known-s1 : (t : ℕ) → ty-seq-there-lts.Need-enum-known-s1 (
+  group-reads.Asked,
+  group-reads.Learnt,
+  told-reads.Asked,
+  told-reads.Learnt,
+  word-reads.Asked,
+  word-reads.Learnt,
+  ty-args-below t,
+  ty-args.Post,
+) (ty-seq-there-at t) ty-seq-there.Post
+ty-seq-there-enum-known-s1 t c = search needs
+
+-- src/lib.rt:179:9
 ty-seq-there-enum-told : (t : ℕ) → ty-seq-there-lts.Need-enum-told (
   group-reads.Asked,
   group-reads.Learnt,
+  told-reads.Asked,
+  told-reads.Learnt,
   word-reads.Asked,
   word-reads.Learnt,
   ty-args-below t,
@@ -2803,22 +3256,26 @@ ty-seq-there-enum-told : (t : ℕ) → ty-seq-there-lts.Need-enum-told (
 ) (ty-seq-there-at t) ty-seq-there.Post
 ty-seq-there-enum-told t c = search needs
 
--- src/lib.rt:166:9
+-- src/lib.rt:179:9
 ty-seq-there-returns : (t : ℕ) → ty-seq-there-lts.Need-returns (
   group-reads.Asked,
   group-reads.Learnt,
+  told-reads.Asked,
+  told-reads.Learnt,
   word-reads.Asked,
   word-reads.Learnt,
   ty-args-below t,
   ty-args.Post,
 ) (ty-seq-there-at t) ty-seq-there.Post
 unfolding Ty.ty-seq-there
-ty-seq-there-returns t c = record { is = λ kinds m. group-not (c .before .before .group .ensures) (c .enum-told .given .1) }
+ty-seq-there-returns t c = record { is = λ kinds. group-not (c .before .before .before .group .ensures) (c .before .before .told .ensures) (c .enum-told .given .1) }
 
--- src/lib.rt:168:9
+-- src/lib.rt:181:5
 ty-seq-there-word-requires : (t : ℕ) → ty-seq-there-lts.Need-word-requires (
   group-reads.Asked,
   group-reads.Learnt,
+  told-reads.Asked,
+  told-reads.Learnt,
   word-reads.Asked,
   word-reads.Learnt,
   ty-args-below t,
@@ -2826,32 +3283,51 @@ ty-seq-there-word-requires : (t : ℕ) → ty-seq-there-lts.Need-word-requires (
 ) (ty-seq-there-at t) ty-seq-there.Post
 ty-seq-there-word-requires t c κs = search needs
 
--- src/lib.rt:169:9
+-- src/lib.rt:182:9
 ty-seq-there-ty-args-requires : (t : ℕ) → ty-seq-there-lts.Need-ty-args-requires (
   group-reads.Asked,
   group-reads.Learnt,
+  told-reads.Asked,
+  told-reads.Learnt,
   word-reads.Asked,
   word-reads.Learnt,
   ty-args-below t,
   ty-args.Post,
 ) (ty-seq-there-at t) ty-seq-there.Post
-ty-seq-there-ty-args-requires t c κs = omega (arith, c .before .before .before .before .before .before .before .before .before .before .before .before .before .before .pre .0)
+ty-seq-there-ty-args-requires t c κs = omega (arith, c .before .before .before .before .before .before .before .before .before .before .before .before .before .before .before .before .before .pre .0)
 
--- src/lib.rt:170:22
-ty-seq-there-enum-known-r3 : (t : ℕ) → ty-seq-there-lts.Need-enum-known-r3 (
+-- src/lib.rt:183:28
+ty-seq-there-told-requires-2 : (t : ℕ) → ty-seq-there-lts.Need-told-requires-2 (
   group-reads.Asked,
   group-reads.Learnt,
+  told-reads.Asked,
+  told-reads.Learnt,
   word-reads.Asked,
   word-reads.Learnt,
   ty-args-below t,
   ty-args.Post,
 ) (ty-seq-there-at t) ty-seq-there.Post
-ty-seq-there-enum-known-r3 t c = search needs
+ty-seq-there-told-requires-2 t c κs = search needs
 
--- src/lib.rt:171:9
+-- src/lib.rt:183:22
+ty-seq-there-enum-known-s2 : (t : ℕ) → ty-seq-there-lts.Need-enum-known-s2 (
+  group-reads.Asked,
+  group-reads.Learnt,
+  told-reads.Asked,
+  told-reads.Learnt,
+  word-reads.Asked,
+  word-reads.Learnt,
+  ty-args-below t,
+  ty-args.Post,
+) (ty-seq-there-at t) ty-seq-there.Post
+ty-seq-there-enum-known-s2 t c = search needs
+
+-- src/lib.rt:184:9
 ty-seq-there-enum-told-2 : (t : ℕ) → ty-seq-there-lts.Need-enum-told-2 (
   group-reads.Asked,
   group-reads.Learnt,
+  told-reads.Asked,
+  told-reads.Learnt,
   word-reads.Asked,
   word-reads.Learnt,
   ty-args-below t,
@@ -2859,33 +3335,39 @@ ty-seq-there-enum-told-2 : (t : ℕ) → ty-seq-there-lts.Need-enum-told-2 (
 ) (ty-seq-there-at t) ty-seq-there.Post
 ty-seq-there-enum-told-2 t c = search needs
 
--- src/lib.rt:171:9
+-- src/lib.rt:184:9
 ty-seq-there-same-length : (t : ℕ) → ty-seq-there-lts.Need-same-length (
   group-reads.Asked,
   group-reads.Learnt,
+  told-reads.Asked,
+  told-reads.Learnt,
   word-reads.Asked,
   word-reads.Learnt,
   ty-args-below t,
   ty-args.Post,
 ) (ty-seq-there-at t) ty-seq-there.Post
-ty-seq-there-same-length t c = c .before .before .before .before .ty-args .kept .1 .1 .1 .1 .0 ∙ c .before .before .before .before .before .before .before .before .word .kept .1 .0
+ty-seq-there-same-length t c = c .before .before .before .before .before .ty-args .kept .1 .1 .1 .1 .1 .0 ∙ c .before .before .before .before .before .before .before .before .before .before .word .kept .1 .1 .0
 
--- src/lib.rt:171:9
+-- src/lib.rt:184:9
 ty-seq-there-returns-2 : (t : ℕ) → ty-seq-there-lts.Need-returns-2 (
   group-reads.Asked,
   group-reads.Learnt,
+  told-reads.Asked,
+  told-reads.Learnt,
   word-reads.Asked,
   word-reads.Learnt,
   ty-args-below t,
   ty-args.Post,
 ) (ty-seq-there-at t) ty-seq-there.Post
 unfolding Ty.ty-seq-there
-ty-seq-there-returns-2 t c = record { is = λ kinds m. by-same (group-is (c .before .before .before .before .before .before .before .before .before .before .before .before .before .group .ensures) (c .before .before .before .before .before .before .before .before .before .before .before .r1 .given .1)) (then-sure (c .before .before .before .before .before .before .before .before .word .ensures) (then-stop (plain (c .before .before .before .before .ty-args .ensures)) (c .enum-told2 .given .1))) }
+ty-seq-there-returns-2 t c = record { is = λ kinds. by-same (group-is (c .before .before .before .before .before .before .before .before .before .before .before .before .before .before .before .before .before .group .ensures) (c .before .before .before .before .before .before .before .before .before .before .before .before .before .before .before .before .told .ensures) (c .before .before .before .before .before .before .before .before .before .before .before .before .before .before .s1 .given .1)) (then-sure (c .before .before .before .before .before .before .before .before .before .before .word .ensures) (then-stop (plain (c .before .before .before .before .before .ty-args .ensures)) (c .before .before .told2 .ensures) (c .enum-told2 .given .1))) }
 
--- src/lib.rt:173:18
+-- src/lib.rt:186:5
 ty-seq-there-word-requires-2 : (t : ℕ) → ty-seq-there-lts.Need-word-requires-2 (
   group-reads.Asked,
   group-reads.Learnt,
+  told-reads.Asked,
+  told-reads.Learnt,
   word-reads.Asked,
   word-reads.Learnt,
   ty-args-below t,
@@ -2893,28 +3375,32 @@ ty-seq-there-word-requires-2 : (t : ℕ) → ty-seq-there-lts.Need-word-requires
 ) (ty-seq-there-at t) ty-seq-there.Post
 ty-seq-there-word-requires-2 t c κs = search needs
 
--- src/lib.rt:153:1
+-- src/lib.rt:164:1
 ty-seq-there-same-length-2 : (t : ℕ) → ty-seq-there-lts.Need-same-length-2 (
   group-reads.Asked,
   group-reads.Learnt,
+  told-reads.Asked,
+  told-reads.Learnt,
   word-reads.Asked,
   word-reads.Learnt,
   ty-args-below t,
   ty-args.Post,
 ) (ty-seq-there-at t) ty-seq-there.Post
-ty-seq-there-same-length-2 t c = c .before .before .word2 .kept .1 .0 ∙ c .before .before .before .before .before .before .before .before .before .ty-args .kept .1 .1 .1 .1 .0 ∙ c .before .before .before .before .before .before .before .before .before .before .before .before .before .word .kept .1 .0
+ty-seq-there-same-length-2 t c = c .before .before .word2 .kept .1 .1 .0 ∙ c .before .before .before .before .before .before .before .before .before .before .before .ty-args .kept .1 .1 .1 .1 .1 .0 ∙ c .before .before .before .before .before .before .before .before .before .before .before .before .before .before .before .before .word .kept .1 .1 .0
 
--- src/lib.rt:153:1
+-- src/lib.rt:164:1
 ty-seq-there-returns-3 : (t : ℕ) → ty-seq-there-lts.Need-returns-3 (
   group-reads.Asked,
   group-reads.Learnt,
+  told-reads.Asked,
+  told-reads.Learnt,
   word-reads.Asked,
   word-reads.Learnt,
   ty-args-below t,
   ty-args.Post,
 ) (ty-seq-there-at t) ty-seq-there.Post
 unfolding Ty.ty-seq-there
-ty-seq-there-returns-3 t c = record { is = λ kinds m. by-same (group-is (c .before .before .before .before .before .before .before .before .before .before .before .before .before .before .before .before .before .before .group .ensures) (c .before .before .before .before .before .before .before .before .before .before .before .before .before .before .before .before .r1 .given .1)) (then-sure (c .before .before .before .before .before .before .before .before .before .before .before .before .before .word .ensures) (then-done (plain (c .before .before .before .before .before .before .before .before .before .ty-args .ensures)) (c .before .before .before .before .before .r3 .given .1) (last-sure (c .before .before .word2 .ensures)))) }
+ty-seq-there-returns-3 t c = record { is = λ kinds. by-same (group-is (c .before .before .before .before .before .before .before .before .before .before .before .before .before .before .before .before .before .before .before .before .before .before .before .group .ensures) (c .before .before .before .before .before .before .before .before .before .before .before .before .before .before .before .before .before .before .before .before .before .before .told .ensures) (c .before .before .before .before .before .before .before .before .before .before .before .before .before .before .before .before .before .before .before .before .s1 .given .1)) (then-sure (c .before .before .before .before .before .before .before .before .before .before .before .before .before .before .before .before .word .ensures) (then-done (plain (c .before .before .before .before .before .before .before .before .before .before .before .ty-args .ensures)) (c .before .before .before .before .before .before .before .before .told2 .ensures) (c .before .before .before .before .before .before .s2 .given .1) (last-sure (c .before .before .word2 .ensures)))) }
 
 pub +con-ty+fn-ty+get-ty+one-arg-con-ty+paren-ty+record-ty+star-ty+star-tys+tuple-ty+ty-args+ty-row+ty-rows+ty-seq+ty-seq-there-spec :
     {M : Type 1} → statement M
@@ -2934,24 +3420,38 @@ pub +con-ty+fn-ty+get-ty+one-arg-con-ty+paren-ty+record-ty+star-ty+star-tys+tupl
     μ-ty-rows
     μ-ty-seq
     μ-ty-seq-there
-    (λ t. con-ty-lts.spec
-    (ty-seq-below t, ty-seq.Post, path-reads.Asked, path-reads.Learnt)
+    (λ t. con-ty-lts.spec (
+      ty-seq-below t,
+      ty-seq.Post,
+      told-reads.Asked,
+      told-reads.Learnt,
+      path-reads.Asked,
+      path-reads.Learnt,
+    )
     (con-ty-at t)
     con-ty.Post
     (con-ty-ty-seq-requires t)
-    (con-ty-enum-known-r1 t)
+    (con-ty-told-requires t)
+    (con-ty-enum-known-s1 t)
     (con-ty-enum-told t)
     (con-ty-same-length t)
     (con-ty-returns t)
     (con-ty-path-requires t)
     (con-ty-same-length-2 t)
     (con-ty-returns-2 t))
-    (λ t. fn-ty-lts.spec
-    (get-ty-below t, get-ty.Post, word-reads.Asked, word-reads.Learnt)
+    (λ t. fn-ty-lts.spec (
+      get-ty-below t,
+      get-ty.Post,
+      told-reads.Asked,
+      told-reads.Learnt,
+      word-reads.Asked,
+      word-reads.Learnt,
+    )
     (fn-ty-at t)
     fn-ty.Post
     (fn-ty-get-ty-requires t)
-    (fn-ty-enum-known-r1 t)
+    (fn-ty-told-requires t)
+    (fn-ty-enum-known-s1 t)
     (fn-ty-enum-told t)
     (fn-ty-same-length t)
     (fn-ty-returns t)
@@ -2990,7 +3490,7 @@ pub +con-ty+fn-ty+get-ty+one-arg-con-ty+paren-ty+record-ty+star-ty+star-tys+tupl
     (get-ty-enum-told t)
     (get-ty-stop-requires-2 t)
     (get-ty-returns-2 t)
-    (get-ty-sub-t15 t)
+    (get-ty-sub-t17 t)
     (get-ty-word-requires t)
     (get-ty-word-requires-2 t)
     (get-ty-text-of-requires t)
@@ -3023,6 +3523,8 @@ pub +con-ty+fn-ty+get-ty+one-arg-con-ty+paren-ty+record-ty+star-ty+star-tys+tupl
     (λ t. one-arg-con-ty-lts.spec (
       get-ty-below t,
       get-ty.Post,
+      told-reads.Asked,
+      told-reads.Learnt,
       word-reads.Asked,
       word-reads.Learnt,
       path-reads.Asked,
@@ -3031,7 +3533,8 @@ pub +con-ty+fn-ty+get-ty+one-arg-con-ty+paren-ty+record-ty+star-ty+star-tys+tupl
     (one-arg-con-ty-at t)
     one-arg-con-ty.Post
     (one-arg-con-ty-get-ty-requires t)
-    (one-arg-con-ty-enum-known-r1 t)
+    (one-arg-con-ty-told-requires t)
+    (one-arg-con-ty-enum-known-s1 t)
     (one-arg-con-ty-enum-told t)
     (one-arg-con-ty-same-length t)
     (one-arg-con-ty-returns t)
@@ -3039,26 +3542,40 @@ pub +con-ty+fn-ty+get-ty+one-arg-con-ty+paren-ty+record-ty+star-ty+star-tys+tupl
     (one-arg-con-ty-path-requires t)
     (one-arg-con-ty-same-length-2 t)
     (one-arg-con-ty-returns-2 t))
-    (λ t. paren-ty-lts.spec
-    (word-reads.Asked, word-reads.Learnt, get-ty-below t, get-ty.Post)
+    (λ t. paren-ty-lts.spec (
+      word-reads.Asked,
+      word-reads.Learnt,
+      get-ty-below t,
+      get-ty.Post,
+      told-reads.Asked,
+      told-reads.Learnt,
+    )
     (paren-ty-at t)
     paren-ty.Post
     (paren-ty-word-requires t)
     (paren-ty-get-ty-requires t)
-    (paren-ty-enum-known-r2 t)
+    (paren-ty-told-requires t)
+    (paren-ty-enum-known-s1 t)
     (paren-ty-enum-told t)
     (paren-ty-same-length t)
     (paren-ty-returns t)
     (paren-ty-word-requires-2 t)
     (paren-ty-same-length-2 t)
     (paren-ty-returns-2 t))
-    (λ t. record-ty-lts.spec
-    (word-reads.Asked, word-reads.Learnt, ty-rows-below t, ty-rows.Post)
+    (λ t. record-ty-lts.spec (
+      word-reads.Asked,
+      word-reads.Learnt,
+      ty-rows-below t,
+      ty-rows.Post,
+      told-reads.Asked,
+      told-reads.Learnt,
+    )
     (record-ty-at t)
     record-ty.Post
     (record-ty-word-requires t)
     (record-ty-ty-rows-requires t)
-    (record-ty-enum-known-r2 t)
+    (record-ty-told-requires t)
+    (record-ty-enum-known-s1 t)
     (record-ty-enum-told t)
     (record-ty-same-length t)
     (record-ty-returns t)
@@ -3068,6 +3585,8 @@ pub +con-ty+fn-ty+get-ty+one-arg-con-ty+paren-ty+record-ty+star-ty+star-tys+tupl
     (λ t. star-ty-lts.spec (
       group-reads.Asked,
       group-reads.Learnt,
+      told-reads.Asked,
+      told-reads.Learnt,
       word-reads.Asked,
       word-reads.Learnt,
       get-ty-below t,
@@ -3076,7 +3595,8 @@ pub +con-ty+fn-ty+get-ty+one-arg-con-ty+paren-ty+record-ty+star-ty+star-tys+tupl
     (star-ty-at t)
     star-ty.Post
     (star-ty-group-requires t)
-    (star-ty-enum-known-r1 t)
+    (star-ty-told-requires t)
+    (star-ty-enum-known-s1 t)
     (star-ty-enum-told t)
     (star-ty-returns t)
     (star-ty-word-requires t)
@@ -3090,6 +3610,8 @@ pub +con-ty+fn-ty+get-ty+one-arg-con-ty+paren-ty+record-ty+star-ty+star-tys+tupl
       stop-reads.Learnt,
       star-ty-below t,
       star-ty.Post,
+      told-reads.Asked,
+      told-reads.Learnt,
     )
     (star-tys-at t)
     star-tys.Post
@@ -3102,7 +3624,8 @@ pub +con-ty+fn-ty+get-ty+one-arg-con-ty+paren-ty+record-ty+star-ty+star-tys+tupl
     (star-tys-returns t)
     (star-tys-loop-holds t)
     (star-tys-star-ty-requires t)
-    (star-tys-enum-known-r1 t)
+    (star-tys-told-requires t)
+    (star-tys-enum-known-s1 t)
     (star-tys-enum-told-2 t)
     (star-tys-same-length t)
     (star-tys-returns-2 t)
@@ -3116,6 +3639,8 @@ pub +con-ty+fn-ty+get-ty+one-arg-con-ty+paren-ty+record-ty+star-ty+star-tys+tupl
       get-ty.Post,
       onwards-reads.Asked,
       onwards-reads.Learnt,
+      told-reads.Asked,
+      told-reads.Learnt,
       star-tys-below t,
       star-tys.Post,
     )
@@ -3123,7 +3648,8 @@ pub +con-ty+fn-ty+get-ty+one-arg-con-ty+paren-ty+record-ty+star-ty+star-tys+tupl
     tuple-ty.Post
     (tuple-ty-get-ty-requires t)
     (tuple-ty-onwards-requires t)
-    (tuple-ty-enum-known-r1 t)
+    (tuple-ty-told-requires t)
+    (tuple-ty-enum-known-s1 t)
     (tuple-ty-enum-told t)
     (tuple-ty-same-length t)
     (tuple-ty-returns t)
@@ -3139,6 +3665,8 @@ pub +con-ty+fn-ty+get-ty+one-arg-con-ty+paren-ty+record-ty+star-ty+star-tys+tupl
       between-reads.Learnt,
       group-reads.Asked,
       group-reads.Learnt,
+      told-reads.Asked,
+      told-reads.Learnt,
       get-ty-below t,
       get-ty.Post,
     )
@@ -3154,12 +3682,14 @@ pub +con-ty+fn-ty+get-ty+one-arg-con-ty+paren-ty+record-ty+star-ty+star-tys+tupl
     (ty-args-loop-holds t)
     (ty-args-between-requires t)
     (ty-args-group-requires t)
-    (ty-args-enum-known-r2 t)
+    (ty-args-told-requires t)
+    (ty-args-enum-known-s1 t)
     (ty-args-enum-told-2 t)
     (ty-args-same-length t)
     (ty-args-returns-2 t)
     (ty-args-get-ty-requires t)
-    (ty-args-enum-known-r3 t)
+    (ty-args-told-requires-2 t)
+    (ty-args-enum-known-s2 t)
     (ty-args-enum-told-3 t)
     (ty-args-same-length-2 t)
     (ty-args-returns-3 t)
@@ -3171,6 +3701,8 @@ pub +con-ty+fn-ty+get-ty+one-arg-con-ty+paren-ty+record-ty+star-ty+star-tys+tupl
     (λ t. ty-row-lts.spec (
       group-reads.Asked,
       group-reads.Learnt,
+      told-reads.Asked,
+      told-reads.Learnt,
       text-of-reads.Asked,
       text-of-reads.Learnt,
       word-reads.Asked,
@@ -3181,11 +3713,13 @@ pub +con-ty+fn-ty+get-ty+one-arg-con-ty+paren-ty+record-ty+star-ty+star-tys+tupl
     (ty-row-at t)
     ty-row.Post
     (ty-row-group-requires t)
-    (ty-row-enum-known-r1 t)
+    (ty-row-told-requires t)
+    (ty-row-enum-known-s1 t)
     (ty-row-enum-told t)
     (ty-row-returns t)
     (ty-row-text-of-requires t)
-    (ty-row-enum-known-r2 t)
+    (ty-row-told-requires-2 t)
+    (ty-row-enum-known-s2 t)
     (ty-row-enum-told-2 t)
     (ty-row-same-length t)
     (ty-row-returns-2 t)
@@ -3202,6 +3736,8 @@ pub +con-ty+fn-ty+get-ty+one-arg-con-ty+paren-ty+record-ty+star-ty+star-tys+tupl
       between-reads.Learnt,
       ty-row-below t,
       ty-row.Post,
+      told-reads.Asked,
+      told-reads.Learnt,
     )
     (ty-rows-at t)
     ty-rows.Post
@@ -3215,7 +3751,8 @@ pub +con-ty+fn-ty+get-ty+one-arg-con-ty+paren-ty+record-ty+star-ty+star-tys+tupl
     (ty-rows-loop-holds t)
     (ty-rows-between-requires t)
     (ty-rows-ty-row-requires t)
-    (ty-rows-enum-known-r2 t)
+    (ty-rows-told-requires t)
+    (ty-rows-enum-known-s1 t)
     (ty-rows-enum-told-2 t)
     (ty-rows-same-length t)
     (ty-rows-returns-2 t)
@@ -3242,6 +3779,8 @@ pub +con-ty+fn-ty+get-ty+one-arg-con-ty+paren-ty+record-ty+star-ty+star-tys+tupl
     λ t. ty-seq-there-lts.spec (
       group-reads.Asked,
       group-reads.Learnt,
+      told-reads.Asked,
+      told-reads.Learnt,
       word-reads.Asked,
       word-reads.Learnt,
       ty-args-below t,
@@ -3250,12 +3789,14 @@ pub +con-ty+fn-ty+get-ty+one-arg-con-ty+paren-ty+record-ty+star-ty+star-tys+tupl
     (ty-seq-there-at t)
     ty-seq-there.Post
     (ty-seq-there-group-requires t)
-    (ty-seq-there-enum-known-r1 t)
+    (ty-seq-there-told-requires t)
+    (ty-seq-there-enum-known-s1 t)
     (ty-seq-there-enum-told t)
     (ty-seq-there-returns t)
     (ty-seq-there-word-requires t)
     (ty-seq-there-ty-args-requires t)
-    (ty-seq-there-enum-known-r3 t)
+    (ty-seq-there-told-requires-2 t)
+    (ty-seq-there-enum-known-s2 t)
     (ty-seq-there-enum-told-2 t)
     (ty-seq-there-same-length t)
     (ty-seq-there-returns-2 t)

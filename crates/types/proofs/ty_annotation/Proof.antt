@@ -9,7 +9,7 @@ use Rattle.layout.specs.Helpers as Helpers
 use Rattle.layout.specs.Helpers.{times}
 use Rattle.layout.specs.Walk.{walks}
 use Rattle.layout.specs.Ty as Ty
-use Rattle.layout.proofs.Steps.{PlainTurn, from, plain, by-same, first-same, then-done, then-stop, then-sure, last-sure, last-skip, list-is, list-not, form-is, form-not, group-is, group-not, maybe-past, maybe-there, items-all, from-more, from-none, times-all, times-more, times-none}
+use Rattle.layout.proofs.Steps.{PlainTurn, from, plain, by-same, first-same, then-done, then-stop, then-halt, then-sure, last-sure, last-skip, list-is, list-not, form-is, form-not, group-is, group-not, maybe-past, maybe-there, items-all, from-more, from-none, times-all, times-more, times-none}
 use Rattle.layout.proofs.Dropping.{dropped-by}
 use Rattle.layout.proofs.Knot.{past, beyond, form-key, ty-zero, ty-form}
 use borrow.Author.Needs.{needs}
@@ -30,14 +30,14 @@ ty-annotation-there-requires c κs = search needs
 
 returns : tie.Need-returns
 unfolding Ty.ty-annotation
-returns c = record { is = λ kinds m. maybe-past (c .before .before .before .absent .ensures) (c .before .gone .given .1) }
+returns c = record { is = λ kinds. maybe-past (c .before .before .before .absent .ensures) (c .before .gone .given .1) }
 
 same-length : tie.Need-same-length
-same-length c = c .before .before .ty-annotation-there .kept .1 .1 .1 .1 .0
+same-length c = c .before .before .ty-annotation-there .kept .1 .1 .1 .1 .1 .0
 
 returns-2 : tie.Need-returns-2
 unfolding Ty.ty-annotation
-returns-2 c = record { is = λ kinds m. by-same (maybe-there (c .before .before .before .before .before .before .absent .ensures) (c .before .before .before .before .enum-told .given .1)) (plain (c .before .before .ty-annotation-there .ensures)) }
+returns-2 c = record { is = λ kinds. by-same (maybe-there (c .before .before .before .before .before .before .before .absent .ensures) (c .before .before .before .before .before .enum-told .given .1)) (plain (c .before .before .ty-annotation-there .ensures)) }
 
 pub ty-annotation-spec : {M : Type 1} → statement M
 ty-annotation-spec =
