@@ -1,15 +1,15 @@
 -- From what the walk's code leaves to the verdicts of `check` and `get`. Assumes nothing.
-use Prim.Native.Nat.{ℕ, _+_, _-_, _*_, _≤_, _<_}
+use Prim.Native.Nat.{ℕ, _+_, _-_, _*_, _/_, _%_, _≤_, _<_}
 use native.Mathlib.Nat.{mul-comm, mul-le-mul, zero-add}
 use native.Mathlib.Omega.{arith}
 use mathlib.Core.Path.{_≡_, refl, sym, ap, ap₂, _∙_, subst}
-use mathlib.Core.Bool.{Bool, true, false}
-use mathlib.Core.List.{List, _++_}
+use mathlib.Core.Bool.{Bool, true, false, cond}
+use mathlib.Core.List.{List, _∷_, _++_}
 use mathlib.Core.Option.{none}
 use lib.ListN.{length, getD, take, drop, length-take}
 use lib.Seq.{paste, take-append-seam, take-length}
-use lib.Dec.{eqb}
-use borrow.Author.Tests.{eq-eqb, ne-eqb, eqb-true, le-leb, lt-leb}
+use lib.Dec.{eqb, ltb}
+use borrow.Author.Tests.{eq-eqb, ne-eqb, eqb-true, le-leb, lt-leb, lt-ltb, le-ltb, ltb-true, ltb-false}
 use Rattle.text.proofs.Laws.{never}
 use Rattle.reader.specs.Commands.{formWidth}
 use Rattle.reader.specs.Check.{Checked, maxForms, treeCheck}
@@ -24,15 +24,13 @@ use Rattle.reader.specs.declared.tokens.Tiled.the-variants as Tiled
 use Rattle.comments.specs.declared.First.{First}
 use Rattle.comments.specs.declared.First.the-variants as Seen
 use Rattle.comments.specs.Set.{isComment, holds, wordsOf, room, count, first, firstAt}
-use Rattle.layout.specs.declared.St.{St}
-use Rattle.layout.specs.declared.Answer as Walking
-use Rattle.layout.specs.declared.Answer.the-variants.{Done, Stopped}
 use Rattle.layout.specs.Meaning.{Page, Event, Outcome, done, stopped, Stop, absent, imported}
+use Rattle.layout.specs.Words.{wordRun}
 use Rattle.layout.specs.Walk.{walks, top, walk}
 use Rattle.layout.specs.GetDec.{get-dec}
 use Rattle.layout.specs.Events.{deepest, letters, units, formatted, isLeft}
-use Rattle.layout.specs.State.{Run, runOf, at, effects, Ran, went, fell, run, runs, packed, stopOf, Walked, page}
-use Rattle.layout.proofs.Exact.{exact-letters, exact-units, exact-deepest}
+use Rattle.layout.specs.State.{Run, runOf, at, effects, Ran, went, fell, run, runs, packed, stopNo, stopOf, Fair, Walked, page}
+use Rattle.layout.proofs.Exact.{cap, Sums, lent, steps, exact, exact-letters, exact-units, exact-deepest}
 use Rattle.agreement.specs.Agreement.{EndsAt, Proper}
 use Rattle.agreement.proofs.Knot.{passes-walks}
 use Rattle.measures.specs.Small.{Small}
@@ -50,6 +48,7 @@ use Rattle.formatter.proofs.RunLaws.{out-is, left-comments, empty-left,
 use Rattle.formatter.proofs.VerdictLaws.{format-wide, format-short, format-fits, check-declined, get-declined, check-accepted, get-accepted}
 use Rattle.formatter.proofs.InStep.{walk-first}
 use Rattle.reader.proofs.EvenLaws.{tiled-even}
+use Rattle.reader.proofs.TreePlace.{tree-near}
 
 measures-same : {d d′ l l′ u u′ : ℕ} → d ≡ d′ → l ≡ l′ → u ≡ u′
     → _≡_ {A = Measures} (record { deepest = d; letters = l; units = u }) (record { deepest = d′; letters = l′; units = u′ })
@@ -60,161 +59,210 @@ abbrev outOf : Ran → List ℕ
 outOf (went g) = g .out
 outOf (fell why g) = g .out
 
-abbrev leftOf : Ran → List ℕ
-leftOf (went g) = g .left
-leftOf (fell why g) = g .left
+abbrev memOf : Ran → List ℕ
+memOf (went g) = g .mem
+memOf (fell why g) = g .mem
 
-abbrev stOf : Ran → St
-stOf (went g) = g .st
-stOf (fell why g) = g .st
-
-abbrev ends : Outcome → ℕ
-ends (done end es) = 0
-ends (stopped why es) = 1
+abbrev atOf : Ran → ℕ
+atOf (went g) = g .at
+atOf (fell why g) = g .at
 
 abbrev falls : Ran → ℕ
 falls (went g) = 0
 falls (fell why g) = 1
-
-packed-out : (r : Walking.Answer) (o m : List ℕ) → outOf (packed r o m) ≡ o
-packed-out (Done s) o m = refl
-packed-out (Stopped s place import) o m = refl
-
-packed-left : (r : Walking.Answer) (o m : List ℕ) → leftOf (packed r o m) ≡ m
-packed-left (Done s) o m = refl
-packed-left (Stopped s place import) o m = refl
-
-run-falls : (p : Page) (tab : ℕ) (x : Outcome) (g : Run) → falls (run p tab x g) ≡ ends x
-unfolding run
-run-falls p tab (done end es) g = refl
-run-falls p tab (stopped why es) g = refl
-
-done-is : (x : Outcome) → ends x ≡ 0 → (end : ℕ) × (es : List Event) × (x ≡ done end es)
-done-is (done end es) e = (end, es, refl)
-done-is (stopped why es) e = never (sym e)
 
 -- Where a run fell.
 abbrev stopIn : Ran → Stop
 stopIn (went g) = absent 0
 stopIn (fell why g) = why
 
-stopped-is : (p : Page) (tab : ℕ) (x : Outcome) (g : Run) {why : Stop} {h : Run} → run p tab x g ≡ fell why h
-    → (es : List Event) × (x ≡ stopped why es)
-unfolding run
-stopped-is p tab (done end es) g e = never (ap falls e)
-stopped-is p tab (stopped why es) g e = (es, ap (λ w. stopped w es) (ap stopIn e))
+abbrev packing : Bool → ℕ → List ℕ → List ℕ → Ran
+packing b r m o = cond b (went (runOf r m o)) (fell (stopOf (r - stopNo)) (runOf 0 m o))
+
+packed-out : (r : ℕ) (m o : List ℕ) → outOf (packed r m o) ≡ o
+unfolding packed
+packed-out r m o = go (ltb r stopNo)
+  where
+    go : (b : Bool) → outOf (packing b r m o) ≡ o
+    go true = refl
+    go false = refl
+
+packed-mem : (r : ℕ) (m o : List ℕ) → memOf (packed r m o) ≡ m
+unfolding packed
+packed-mem r m o = go (ltb r stopNo)
+  where
+    go : (b : Bool) → memOf (packing b r m o) ≡ m
+    go true = refl
+    go false = refl
+
+-- The number of a walk that ended is its cursor, that of one that fell says why.
+packed-at : (r : ℕ) (m o : List ℕ) {g : Run} → packed r m o ≡ went g → (r ≡ g .at) × (r < stopNo)
+unfolding packed
+packed-at r m o {g} e = go (ltb r stopNo) refl e
+  where
+    go : (b : Bool) → ltb r stopNo ≡ b → packing b r m o ≡ went g → (r ≡ g .at) × (r < stopNo)
+    go true f e = (ap atOf e, ltb-true r stopNo f)
+    go false f e = never (sym (ap falls e))
+
+packed-why : (r : ℕ) (m o : List ℕ) {why : Stop} {g : Run} → packed r m o ≡ fell why g → (stopNo ≤ r) × (stopOf (r - stopNo) ≡ why)
+unfolding packed
+packed-why r m o {why} {g} e = go (ltb r stopNo) refl e
+  where
+    go : (b : Bool) → ltb r stopNo ≡ b → packing b r m o ≡ fell why g → (stopNo ≤ r) × (stopOf (r - stopNo) ≡ why)
+    go true f e = never (ap falls e)
+    go false f e = (ltb-false r stopNo f, ap stopIn e)
+
+-- The sort of a stop and its offset.
+abbrev sort : Stop → ℕ
+sort (absent place) = 0
+sort (imported place) = 1
+
+abbrev offset : Stop → ℕ
+offset (absent place) = place
+offset (imported place) = place
 
 -- What the record check decides, where it passes by the verdict of the walk.
-abbrev checked : Walking.Answer → Page → ℕ → Judged
+abbrev checked : ℕ → Page → ℕ → Judged
 checked r p tree = byCheck (otherwise r) (treeCheck (p .rec) (countOf (p .tokens)) tree)
 
 pub weigh-checked : {p : Page} {count tree tab : ℕ} {draft left : List ℕ} {j : Code.Judged} {a : Answer} {x : Judged} → byWalk p tree ≡ x
     → declined (verdictOf a emptySet) ≡ x → (j ≡ Says.Declined a) × (left ≡ emptySet) → Weighs p count tree tab draft left j
 weigh-checked e q h = record { is = rw (h .0, h .1) (e ∙ sym q) }
 
--- The walk over a sheet, from its start.
-abbrev begin : ℕ → St
-begin tree = record { at = tree; deepest = 0; letters = 0; units = 0 }
+-- ---- the walk over a sheet, from its start
+abbrev begin : List ℕ → List ℕ → Sums
+begin words o = record { letters = 0; units = 0; deepest = 0; left = words; out = o }
 
-abbrev Whole : Page → ℕ → ℕ → List ℕ → List ℕ → Walking.Answer → List ℕ → List ℕ → Type 0
-Whole p tree tab o m r o′ m′ = Walked p tab (get-dec (walks maxForms) top) (runOf (begin tree) o m) r o′ m′
+-- What a walk is lent: the fixed words, a record that is short, a cursor that is no stop; no measures yet.
+pub record Starts (run : List ℕ) (p : Page) (tree tab : ℕ) (words m : List ℕ) : Type 0 where
+  pub fair : Fair run p tree
+  pub tab-fits : tab < 0x1_0000_0000
+  pub mem : m ≡ 0 ∷ 0 ∷ 0 ∷ tab ∷ words
 
-module _ {p : Page} {tree tab : ℕ} {o m : List ℕ} {r : Walking.Answer} {o′ m′ : List ℕ} (w : Whole p tree tab o m r o′ m′) where
-  whole : packed r o′ m′ ≡ run p tab (walk p tree) (runOf (begin tree) o m)
+pub starts : {run· : List ℕ} {p : Page} {tree tab : ℕ} {words m : List ℕ} → run· ≡ wordRun → length (p .rec) ≤ maxRecord → tree < stopNo → tab ≤ 0xFFFF_FFFF
+    → m ≡ 0 ∷ 0 ∷ 0 ∷ tab ∷ words → Starts run· p tree tab words m
+starts e short near t m =
+    record { fair = record { words-are = e; short = omega (arith, short); cursor = near }; tab-fits = omega (arith, t); mem = m }
+
+abbrev Whole : List ℕ → Page → ℕ → List ℕ → List ℕ → ℕ → List ℕ → List ℕ → Type 0
+Whole run p tree m o r m′ o′ = Walked run p (get-dec (walks maxForms) top) (runOf tree m o) r m′ o′
+
+module _ {run· : List ℕ} {p : Page} {tree tab : ℕ} {words m o : List ℕ} {r : ℕ} {m′ o′ : List ℕ} (w : Whole run· p tree m o r m′ o′) (s : Starts run· p tree tab words m) where
+  abbrev start : Run
+  start = runOf tree (lent tab (begin words o)) o
+
+  whole : packed r m′ o′ ≡ run p (walk p tree) start
   unfolding runs walk
-  whole = w .is
+  whole = w .is (s .fair) ∙ ap (λ x. run p (walk p tree) (runOf tree x o)) (s .mem)
 
-  module _ {end : ℕ} {es : List Event} (e : walk p tree ≡ done end es) where
-    whole-done : packed r o′ m′ ≡ went (at end (effects p tab es (runOf (begin tree) o m)))
+  module _ {end : ℕ} {es : List Event} (e : walk p tree ≡ done end es) (few : letters p es ≤ cap) (low : units es ≤ cap) where
+    abbrev sums : Sums
+    sums = steps p tab es (begin words o)
+
+    whole-done : packed r m′ o′ ≡ went (runOf end (lent tab sums) (sums .out))
     unfolding run
-    whole-done = whole ∙ ap (λ x. run p tab x (runOf (begin tree) o m)) e
+    whole-done =
+        whole
+        ∙ ap (λ x. run p x start) e
+        ∙ ap (λ g. went (at end g)) (exact p tab tree (s .tab-fits) es (begin words o) (omega (arith, few)) (omega (arith, low)))
 
-    whole-out : o′ ≡ effects p tab es (runOf (begin tree) o m) .out
-    whole-out = sym (packed-out r o′ m′) ∙ ap outOf whole-done
+    whole-out : o′ ≡ sums .out
+    whole-out = sym (packed-out r m′ o′) ∙ ap outOf whole-done
 
-    whole-left : m′ ≡ effects p tab es (runOf (begin tree) o m) .left
-    whole-left = sym (packed-left r o′ m′) ∙ ap leftOf whole-done
+    whole-mem : m′ ≡ lent tab sums
+    whole-mem = sym (packed-mem r m′ o′) ∙ ap memOf whole-done
 
-    whole-st : {s : St} → r ≡ Done s → s ≡ at end (effects p tab es (runOf (begin tree) o m)) .st
-    whole-st f = ap stOf (sym (ap (λ x. packed x o′ m′) f) ∙ whole-done)
+  -- Where the walk's number says that it ended.
+  falling : (x : Outcome) → packed r m′ o′ ≡ run p x start → r < stopNo → (es : List Event) × (x ≡ done r es)
+  unfolding run
+  falling (done end es) e h = (es, ap (λ n. done n es) (sym (packed-at r m′ o′ e .0)))
+  falling (stopped why es) e h = absurd (omega (arith, packed-why r m′ o′ e .0))
 
-  whole-ends : {s : St} → r ≡ Done s → (end : ℕ) × (es : List Event) × (walk p tree ≡ done end es)
-  whole-ends f =
-      done-is (walk p tree)
-      (sym (run-falls p tab (walk p tree) (runOf (begin tree) o m)) ∙ ap falls (sym whole ∙ ap (λ x. packed x o′ m′) f))
+  whole-ends : r < stopNo → (es : List Event) × (walk p tree ≡ done r es)
+  whole-ends h = falling (walk p tree) whole h
 
   -- ---- 3, 4, 13 and 14
-  whole-stops : {s : St} {place : ℕ} {import : Bool} → r ≡ Stopped s place import
-      → (es : List Event) × (walk p tree ≡ stopped (stopOf place import) es)
-  whole-stops f = stopped-is p tab (walk p tree) (runOf (begin tree) o m) (sym whole ∙ ap (λ x. packed x o′ m′) f)
+  -- A walk that did not end at the record's end.
+  elsewhere : (x : Outcome) → walk p tree ≡ x → packed r m′ o′ ≡ run p x start → (r ≡ length (p .rec) → ⊥) → byWalk p tree ≡ checked r p tree
+  unfolding run byWalk otherwise
+  elsewhere (done end es) d e ne =
+      let q = packed-at r m′ o′ e in
+      let d′ : walk p tree ≡ done r es = d ∙ ap (λ n. done n es) (sym (q .0)) in
+      rw (d′, byWalk, ne-eqb r (length (p .rec)) ne, lt-ltb r stopNo (q .1)) refl
+  elsewhere (stopped why es) d e ne =
+      let q = packed-why r m′ o′ e in
+      rw (d, byWalk, le-ltb r stopNo (q .0), q .1) refl
 
-  -- A walk that stopped.
-  pub stopped-checked : {s : St} {place : ℕ} {import : Bool} → r ≡ Stopped s place import → byWalk p tree ≡ checked r p tree
-  unfolding byWalk otherwise
-  stopped-checked f = rw (whole-stops f .1, byWalk, f, otherwise) refl
+  pub other-checked : (r ≡ length (p .rec) → ⊥) → byWalk p tree ≡ checked r p tree
+  other-checked ne = elsewhere (walk p tree) refl whole ne
 
   -- On a record that passes, an import stops the walk behind its command.
-  pub behind : BehindWhere (treeCheck (p .rec) (countOf (p .tokens)) tree) r
-  unfolding stopOf
-  behind =
+  importing : (x : Outcome) → EndsAt p (length (p .rec)) x → packed r m′ o′ ≡ run p x start → BehindCommand r
+  unfolding run stopOf formWidth
+  importing (done end es) a e = record { is = λ h i. absurd (omega (arith, packed-at r m′ o′ e .1)) }
+  importing (stopped (absent place) es) a e =
       record {
-        is = λ end e. record {
-          is = λ s place f.
-              let at-import : Proper p (imported place) = subst (λ x. EndsAt p (length (p .rec)) x) (whole-stops f .1) (passes-walks p tree end e) in
-              omega (arith, at-import .1);
-        };
+        is = λ h i.
+            let odd : stopOf (r - stopNo) ≡ imported ((r - stopNo) / 2) = rw i refl in
+            never (ap sort (sym (packed-why r m′ o′ e .1) ∙ odd));
+      }
+  importing (stopped (imported place) es) a e =
+      record {
+        is = λ h i.
+            let odd : stopOf (r - stopNo) ≡ imported ((r - stopNo) / 2) = rw i refl in
+            let at-place : (r - stopNo) / 2 ≡ place = ap offset (sym odd ∙ packed-why r m′ o′ e .1) in
+            omega (arith, a .1, at-place);
       }
 
-  module _ {s : St} (f : r ≡ Done s) where
-    ended : walk p tree ≡ done (s .at) (whole-ends f .1)
-    ended =
-        let e = whole-ends f .2 in
-        e ∙ ap (λ n. done n (whole-ends f .1)) (sym (ap (λ x. x .at) (whole-st e f)))
+  pub behind : BehindWhere (treeCheck (p .rec) (countOf (p .tokens)) tree) r
+  behind = record { is = λ end e. importing (walk p tree) (passes-walks p tree end e) whole }
 
-    -- A walk that ended elsewhere than at the record's end.
-    pub short-checked : (s .at ≡ length (p .rec) → ⊥) → byWalk p tree ≡ checked (Done s) p tree
-    unfolding byWalk otherwise
-    short-checked ne = rw (ended, byWalk, ne-eqb (s .at) (length (p .rec)) ne) refl
-
-    whole-is : s .at ≡ length (p .rec) → byWalk p tree ≡ comments p (whole-ends f .1)
-    unfolding byWalk
-    whole-is e = rw (ended, byWalk, eq-eqb (s .at) (length (p .rec)) e) refl
-
--- A walk that ended is not behind an import.
-pub behind-done : {c : Checked} {s : St} → BehindWhere c (Done s)
-behind-done = record { is = λ end e. record { is = λ t place f. never (cc) } }
-
--- The verdict of the walk's answer.
-module _ {r : Walking.Answer} {s : St} where
-  pub told-ended : r ≡ Done s → verdictOf (Case.Malformed (s .at)) emptySet ≡ otherwise r
+-- The verdict of the walk's number.
+module _ {n : ℕ} where
+  pub told-ended : n < stopNo → verdictOf (Case.Malformed n) emptySet ≡ otherwise n
   unfolding otherwise verdictOf numberOf placeOf givenMeasures
-  told-ended e = ap otherwise (sym e)
+  told-ended h = rw (lt-ltb n stopNo h) refl
 
-  module _ {place : ℕ} {import : Bool} (e : r ≡ Stopped s place import) where
-    pub told-missing : import ≡ false → verdictOf (Case.Missing place) emptySet ≡ otherwise r
+  module _ (h : stopNo ≤ n) where
+    pub told-missing : (n - stopNo) % 2 ≡ 0 → verdictOf (Case.Missing ((n - stopNo) / 2)) emptySet ≡ otherwise n
     unfolding otherwise stopOf stopVerdict verdictOf numberOf placeOf givenMeasures
-    told-missing f = ap otherwise (sym (e ∙ ap (Stopped s place) f))
+    told-missing e = rw (le-ltb n stopNo h, e) refl
 
-    pub told-import : import ≡ true → verdictOf (Case.Import (place - 3)) emptySet ≡ otherwise r
+    odd : ((n - stopNo) % 2 ≡ 0 → ⊥) → (n - stopNo) % 2 ≡ 1
+    odd e = omega (arith, e)
+
+    pub told-import : ((n - stopNo) % 2 ≡ 0 → ⊥) → verdictOf (Case.Import ((n - stopNo) / 2 - 3)) emptySet ≡ otherwise n
     unfolding otherwise stopOf stopVerdict formWidth verdictOf numberOf placeOf givenMeasures
-    told-import t = ap otherwise (sym (e ∙ ap (Stopped s place) t))
+    told-import e = rw (le-ltb n stopNo h, odd e) refl
 
-    pub command-before : BehindCommand r → import ≡ true → 3 ≤ place
+    pub command-before : BehindCommand n → ((n - stopNo) % 2 ≡ 0 → ⊥) → 3 ≤ (n - stopNo) / 2
     unfolding formWidth
-    command-before b t = b .is s place (e ∙ ap (Stopped s place) t)
+    command-before b e = b .is h (odd e)
 
 -- ---- 6, and what is accepted
-module _ {p : Page} {tree tab : ℕ} {o m : List ℕ} {r : Walking.Answer} {o′ m′ : List ℕ} {s : St} (w : Whole p tree tab o m r o′ m′) (f : r ≡ Done s)
+module _ {run· : List ℕ} {p : Page} {tree tab : ℕ} {words m o : List ℕ} {r : ℕ} {m₁ o′ : List ℕ} (w : Whole run· p tree m o r m₁ o′) (s : Starts run· p tree tab words m)
     (text-fits : length (p .text) ≤ 32768) (rec-fits : length (p .rec) ≤ 65536) (few : length (p .tokens .kinds) ≤ room)
-    (all : m ≡ wordsOf (isComment (p .tokens .kinds))) (whole-read : s .at ≡ length (p .rec)) where
-  abbrev es : List Event
-  es = whole-ends w f .1
+    (all : words ≡ wordsOf (isComment (p .tokens .kinds))) (whole-read : r ≡ length (p .rec)) {m′ : List ℕ} (kept : m′ ≡ drop 4 m₁) where
+  no-stop : r < stopNo
+  no-stop = omega (arith, whole-read, rec-fits)
 
-  walk-is : walk p tree ≡ done (whole-ends w f .0) es
-  walk-is = whole-ends w f .2
+  abbrev es : List Event
+  es = whole-ends w s no-stop .0
+
+  walk-is : walk p tree ≡ done r es
+  walk-is = whole-ends w s no-stop .1
+
+  is-small : Small p es
+  is-small = small-done p tree text-fits rec-fits walk-is
+
+  abbrev all-sums : Sums
+  all-sums = steps p tab es (begin words o)
+
+  mem-is : m₁ ≡ lent tab all-sums
+  mem-is = whole-mem w s walk-is (omega (arith, is-small .both)) (omega (arith, is-small .both))
 
   words-are : m′ ≡ wordsOf (isLeft (p .tokens .kinds) es)
-  words-are = whole-left w walk-is ∙ left-comments p tab (p .tokens .kinds) es (runOf (begin tree) o m) all
+  words-are = kept ∙ ap (drop 4) mem-is ∙ left-comments p tab (p .tokens .kinds) es (begin words o) all
 
   -- The text stands in the output, where it fits.
   drafts : length o′ ≡ length o → Drafts p tree tab o′
@@ -223,25 +271,22 @@ module _ {p : Page} {tree tab : ℕ} {o m : List ℕ} {r : Walking.Answer} {o′
         is = λ end fs e fits.
             let small : Small p fs = small-done p tree text-fits rec-fits e in
             let room : letters p fs + tab * units fs ≤ length o = omega (arith, length-formatted p tab fs) in
-            rw (whole-out w e ∙ out-is p tab fs (runOf (begin tree) o m) refl refl (omega (arith, small .both)) (omega (arith, small .both)) room)
+            rw (whole-out w s e (omega (arith, small .both)) (omega (arith, small .both)) ∙ out-is p tab fs (begin words o) refl refl room)
             (take-append-seam (formatted p tab fs) (drop (length (formatted p tab fs)) o));
       }
 
-  is-small : Small p es
-  is-small = small-done p tree text-fits rec-fits walk-is
-
-  weight : Weight p tree (record { deepest = s .deepest; letters = s .letters; units = s .units })
+  weight : Weight p tree (record { deepest = getD m₁ 2 0; letters = getD m₁ 0 0; units = getD m₁ 1 0 })
   unfolding measuresOf
   weight =
-      let g : Run = runOf (begin tree) o m in
       let small : Small p es = is-small in
-      let st : s ≡ at (whole-ends w f .0) (effects p tab es g) .st = whole-st w walk-is f in
-      let l : s .letters ≡ letters p es = ap (λ x. x .letters) st ∙ exact-letters p tab es g (omega (arith, small .both)) ∙ omega arith in
-      let u : s .units ≡ units es = ap (λ x. x .units) st ∙ exact-units p tab es g (omega (arith, small .both)) ∙ omega arith in
-      let d : s .deepest ≡ deepest es = ap (λ x. x .deepest) st ∙ exact-deepest p tab es g ∙ omega arith in
+      let l : getD m₁ 0 0 ≡ letters p es = ap (λ x. getD x 0 0) mem-is ∙ exact-letters p tab es (begin words o) ∙ omega arith in
+      let u : getD m₁ 1 0 ≡ units es = ap (λ x. getD x 1 0) mem-is ∙ exact-units p tab es (begin words o) ∙ omega arith in
+      let d : getD m₁ 2 0 ≡ deepest es = ap (λ x. getD x 2 0) mem-is ∙ exact-deepest p tab es (begin words o) ∙ omega arith in
       record {
+        short = rec-fits;
+        near = s .fair .cursor;
         events = es;
-        end = whole-ends w f .0;
+        end = r;
         walks = walk-is;
         measures = measures-same d l u;
         deep = small .deep;
@@ -250,11 +295,12 @@ module _ {p : Page} {tree tab : ℕ} {o m : List ℕ} {r : Walking.Answer} {o′
       }
 
   walked-is : byWalk p tree ≡ comments p es
-  walked-is = whole-is w f whole-read
+  unfolding byWalk
+  walked-is = rw (walk-is, byWalk, eq-eqb r (length (p .rec)) whole-read) refl
 
   module _ {b : Bool} (h : b ≡ eqb (count (holds m′) 0 room) 0) where
     pub weigh-accepts : {count : ℕ} → length o′ ≡ length o → b ≡ true
-        → Weighs p count tree tab o′ m′ (Says.Accepted count tree (record { deepest = s .deepest; letters = s .letters; units = s .units }))
+        → Weighs p count tree tab o′ m′ (Says.Accepted count tree (record { deepest = getD m₁ 2 0; letters = getD m₁ 0 0; units = getD m₁ 1 0 }))
     unfolding weight
     weigh-accepts long e =
         let z : count (holds m′) 0 room ≡ 0 = eqb-true (count (holds m′) 0 room) 0 (sym h ∙ e) in
@@ -342,11 +388,11 @@ module _ {p : Page} {tree : ℕ} (tab : ℕ) {m : Measures} (w : Weight p tree m
           (e ∙ ap (λ l. paste out 0 l (length l)) piece ∙ ap₂ (λ x n. x ++ drop n out) (take-length text) (zero-add (length text)))
 
       -- By a second walk.
-      pub put-walked : {r : Walking.Answer} {spent out′ spent′ : List ℕ} → Whole p tree tab out spent r out′ spent′ → Puts p tree tab out (Case.Accepted m) out′
-      put-walked {spent = spent} x =
+      pub put-walked : {run· spent mem : List ℕ} {r : ℕ} {mem′ out′ : List ℕ} → Whole run· p tree mem out r mem′ out′ → Starts run· p tree tab spent mem
+          → Puts p tree tab out (Case.Accepted m) out′
+      put-walked {spent = spent} x s =
           put-text
-          (whole-out x (w .walks)
-          ∙ out-is p tab (w .events) (runOf (begin tree) out spent) refl refl (omega (arith, w .few)) (omega (arith, w .low)) (rw (← size-is) fits))
+          (whole-out x s (w .walks) (omega (arith, w .few)) (omega (arith, w .low)) ∙ out-is p tab (w .events) (begin spent out) refl refl (rw (← size-is) fits))
 
 -- ---- the calls
 -- The first entries of a table.
@@ -356,7 +402,7 @@ taken n l h = omega (arith, length-take n l)
 pub taken-fits : {n k : ℕ} (l : List ℕ) → n ≤ length l → n ≤ k → 0 + length (take n l) ≤ k
 taken-fits {n} l h k = omega (arith, length-take n l)
 
-pub kinds-few : {text rec kinds starts lens : List ℕ} {count : ℕ} → Limits text rec kinds starts lens count → length (take count kinds) ≤ room
+pub kinds-few : {text rec kinds starts lens : List ℕ} {count tree : ℕ} → Limits text rec kinds starts lens count tree → length (take count kinds) ≤ room
 kinds-few {kinds = kinds} {count = count} f = omega (arith, length-take count kinds, f .few)
 
 -- 1 to 3, with the walk before the record check.
@@ -396,7 +442,7 @@ module _ (text rec : List ℕ) where
             abbrev sheetPage : Page
             sheetPage = page text rec (take count kinds) (take count starts) (take count lens)
 
-            pub sheet-limits : Limits text rec kinds starts lens count
+            pub sheet-limits : Limits text rec kinds starts lens count tree
             sheet-limits =
                 let c : (length (take count kinds) ≡ count) × (count ≤ maxTokens) = rw f at (u .counts) in
                 let even = tiled-even (boundary text) (length text) rec (tokensIn count kinds starts lens) tree (tiling-is f) in
@@ -405,7 +451,8 @@ module _ (text rec : List ℕ) where
                   omega (arith, c .0, even .0, length-take count starts),
                   omega (arith, c .0, even .1, length-take count lens),
                 ) in
-                record { text-fits = a; rec-fits = b; few = c .1; within = long }
+                let near = tree-near (boundary text) (length text) rec (tokensIn count kinds starts lens) tree (tiling-is f) in
+                record { text-fits = a; rec-fits = b; few = c .1; near = omega (arith, near); within = long }
 
             judge-is : judge text rec ≡ byWalk sheetPage tree
             unfolding recordFirst

@@ -1,9 +1,10 @@
 -- Contracts of the functions behind `check` and `get`: what they know of the walk over a sheet.
-use Prim.Native.Nat.{ℕ, _≤_}
+use Prim.Native.Nat.{ℕ, _-_, _/_, _%_, _≤_, _<_}
 use mathlib.Core.Path.{_≡_}
-use mathlib.Core.Bool.{true}
+use mathlib.Core.Bool.{cond}
 use mathlib.Core.List.{List}
 use lib.ListN.{length, take}
+use lib.Dec.{ltb}
 use Rattle.reader.specs.Fields.{DecOne}
 use Rattle.reader.specs.Commands.{formWidth}
 use Rattle.reader.specs.Tokens.{maxTokens}
@@ -12,10 +13,7 @@ use Rattle.reader.specs.Reading.{maxText, maxRecord}
 use Rattle.layout.specs.Meaning.{Page, Event, done}
 use Rattle.layout.specs.Walk.{walk}
 use Rattle.layout.specs.Events.{deepest, letters, units, formatted}
-use Rattle.layout.specs.State.{page, stopOf}
-use Rattle.layout.specs.declared.St.{St}
-use Rattle.layout.specs.declared.Answer as Walking
-use Rattle.layout.specs.declared.Answer.the-variants.{Done, Stopped}
+use Rattle.layout.specs.State.{page, stopNo, stopOf}
 use Rattle.formatter.specs.declared.Measures.{Measures}
 use Rattle.formatter.specs.declared.Answer.{Answer}
 use Rattle.formatter.specs.declared.Judged as Code
@@ -23,20 +21,21 @@ use Rattle.formatter.specs.declared.Judged.the-variants as Case
 use Rattle.formatter.specs.WalkFirst.{byWalk}
 use Rattle.formatter.specs.Verdict.{Verdict, verdict, noMeasures, stopVerdict, Result, Judged, declined, accepted, judge, measuresOf, emptySet, verdictOf, format}
 
--- The verdict of a walk that did not end at the record's end, where the record passes the check.
-unfoldable pub otherwise : Walking.Answer → Verdict
-otherwise (Done s) = verdict 3 (s .at) noMeasures
-otherwise (Stopped s place import) = stopVerdict (stopOf place import)
+-- The verdict of a walk that did not end at the record's end, by its number, where the record passes the check.
+unfoldable pub otherwise : ℕ → Verdict
+otherwise n = cond (ltb n stopNo) (verdict 3 n noMeasures) (stopVerdict (stopOf (n - stopNo)))
 
 -- A walk that stopped at an import did so behind a declaration's command; so it is where the check passes.
-pub record BehindCommand (r : Walking.Answer) : Type 0 where
-  pub is : (s : St) (place : ℕ) → r ≡ Stopped s place true → formWidth DecOne ≤ place
+pub record BehindCommand (n : ℕ) : Type 0 where
+  pub is : stopNo ≤ n → (n - stopNo) % 2 ≡ 1 → formWidth DecOne ≤ (n - stopNo) / 2
 
-pub record BehindWhere (c : Checked) (r : Walking.Answer) : Type 0 where
-  pub is : (end : ℕ) → c ≡ ok end → BehindCommand r
+pub record BehindWhere (c : Checked) (n : ℕ) : Type 0 where
+  pub is : (end : ℕ) → c ≡ ok end → BehindCommand n
 
 -- The walk over a sheet ends, with these measures, none of which is large.
 pub record Weight (p : Page) (tree : ℕ) (m : Measures) : Type 0 where
+  pub short : length (p .rec) ≤ maxRecord
+  pub near : tree < stopNo
   pub events : List Event
   pub end : ℕ
   pub walks : walk p tree ≡ done end events
@@ -62,10 +61,11 @@ abbrev pub Within : ℕ → List ℕ → List ℕ → List ℕ → Type 0
 Within count kinds starts lens = (count ≤ length kinds) × (count ≤ length starts) × (count ≤ length lens)
 
 -- 01's limits, with the tokens in the tables.
-pub record Limits (text rec kinds starts lens : List ℕ) (count : ℕ) : Type 0 where
+pub record Limits (text rec kinds starts lens : List ℕ) (count tree : ℕ) : Type 0 where
   pub text-fits : length text ≤ maxText
   pub rec-fits : length rec ≤ maxRecord
   pub few : count ≤ maxTokens
+  pub near : tree < stopNo
   pub within : Within count kinds starts lens
 
 -- What an answer says of a page: 3, 4, 13, 14 and 6.

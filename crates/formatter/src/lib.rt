@@ -3,7 +3,14 @@ use comments::Above;
 use comments::First;
 use comments::Passed;
 use comments::Set;
+use layout::DEEPEST;
+use layout::LETTERS;
+use layout::SET;
+use layout::STOP;
+use layout::TAB;
+use layout::UNITS;
 use layout::entry;
+use layout::words;
 use reader::MAX_RECORD;
 use reader::MAX_TEXT;
 use reader::Reading;
@@ -16,7 +23,8 @@ use text::copy;
 use text::first_broken;
 ghost use mathlib.Core.Path.{_≡_};
 ghost use Prim.Native.Nat.{_*_, _≤_};
-ghost use lib.ListN.{length, take};
+ghost use mathlib.Core.List.{_∷_};
+ghost use lib.ListN.{length, take, drop};
 ghost use Rattle.reader.specs.Check.{treeCheck};
 ghost use Rattle.layout.specs.State.{page};
 ghost use Rattle.formatter.specs.Lookup.{Asks, lookedOf, lookup};
@@ -94,8 +102,12 @@ pub enum Judged {
 // ---- check and get
 const MAX_WIDTH: u64 = 0xFFFF_FFFF;
 
-// A text of this length is written in one walk.
+// A text of this length is written in one walk; of a short record, which takes a smaller draft, one of that length.
 const DRAFT: usize = 65536;
+
+const SHORT_DRAFT: usize = 16384;
+
+const SHORT_RECORD: usize = 8192;
 
 // A declaration's command, with its operand.
 const DECLARATION: usize = 3;
@@ -108,24 +120,24 @@ fn refused(left: &mut [u64; 64], answer: Answer) -> Judged
     Judged::Declined(answer)
 }
 
-// 13 and 14. An import stops the walk behind its command.
-fn stop(walked: layout::Answer) -> Answer
+// 13 and 14, by the number of a walk over a record that passes the check. An import stops it behind its command.
+// One that ended elsewhere than at the record's end left bytes over, which no record that passes has.
+fn stop(walked: usize) -> Answer
     requires { ⌜ BehindCommand walked ⌝ }
     ensures { λ r. ⌜ verdictOf r emptySet ≡ otherwise walked ⌝ }
 {
-    match walked {
-        layout::Answer::Done(s) => Answer::Malformed(s.at),
-        layout::Answer::Stopped(_, place, import) => {
-            if import {
-                return Answer::Import(place - DECLARATION);
-            }
-            Answer::Missing(place)
-        }
+    if walked < STOP {
+        return Answer::Malformed(walked);
     }
+    let place = (walked - STOP) / 2;
+    if (walked - STOP) % 2 == 0 {
+        return Answer::Missing(place);
+    }
+    Answer::Import(place - DECLARATION)
 }
 
 // 3 and 4 of a record whose walk did not end at its end; where the check passes, 13 and 14.
-fn by_check(rec: &[u8], count: usize, tree: usize, walked: layout::Answer) -> Answer
+fn by_check(rec: &[u8], count: usize, tree: usize, walked: usize) -> Answer
     requires { ⌜ BehindWhere (treeCheck (now rec) count tree) walked ⌝ }
     ensures { λ r. ⌜ declined (verdictOf r emptySet) ≡ byCheck (otherwise walked) (treeCheck (now (rec .entry)) count tree) ⌝ }
 {
@@ -135,6 +147,34 @@ fn by_check(rec: &[u8], count: usize, tree: usize, walked: layout::Answer) -> An
         Checked::Malformed(place) => Answer::Malformed(place),
         Checked::TooDeep(place) => Answer::TooDeep(place),
     }
+}
+
+// The words that are lent to the walk: no measures yet, the tab size, and the words of a set.
+fn lent(tab: u32, set: Set) -> [u64; 68]
+    ensures { λ r. ⌜ r ≡ 0 ∷ 0 ∷ 0 ∷ tab ∷ set .words ⌝ }
+{
+    let words = set.words;
+    let mut mem = [0u64; 68];
+    mem[TAB] = tab as u64;
+    let mut i = 0;
+    while i < 64 {
+        mem[SET + i] = words[i];
+        i += 1;
+    }
+    mem
+}
+
+// The set of the comments left, by the words that were lent.
+fn left_in(mem: [u64; 68]) -> Set
+    ensures { λ r. ⌜ r .words ≡ drop 4 mem ⌝ }
+{
+    let mut words = [0u64; 64];
+    let mut i = 0;
+    while i < 64 {
+        words[i] = mem[SET + i];
+        i += 1;
+    }
+    Set { words }
 }
 
 // 3, 4, 13, 14 and 6 of a sheet whose tokens stand in the tables: the walk at a tab size over a draft of the output.
@@ -151,29 +191,26 @@ fn weigh(
     tree: usize,
     tab: u32,
 ) -> Judged
-    requires { ⌜ Limits (now text) (now rec) (now kinds) (now starts) (now lens) count ⌝ }
+    requires { ⌜ Limits (now text) (now rec) (now kinds) (now starts) (now lens) count tree ⌝ }
     ensures { λ r. ⌜ Weighs (page (now (text .entry)) (now (rec .entry)) (take count (now (kinds .entry))) (take count (now (starts .entry))) (take count (now (lens .entry)))) count tree tab (now (draft .exit)) (now (left .exit)) r ⌝ }
 {
     let kinds = &kinds[..count];
     let starts = &starts[..count];
     let lens = &lens[..count];
-    let all = Set::all(kinds);
-    let words = all.words;
-    *left = words;
-    let walked = walk::walk(text, rec, kinds, starts, lens, draft, left, tree, tab);
-    let layout::Answer::Done(s) = walked else {
-        return refused(left, by_check(rec, starts.len(), tree, walked));
-    };
-    if s.at != rec.len() {
+    let run = words::RUN;
+    let mut mem = lent(tab, Set::all(kinds));
+    let walked = walk::walk(&run, text, rec, kinds, starts, lens, draft, &mut mem, tree);
+    if walked != rec.len() {
         return refused(left, by_check(rec, starts.len(), tree, walked));
     }
-    let unwritten = *left;
-    let set = Set { words: unwritten };
+    let set = left_in(mem);
+    let unwritten = set.words;
+    *left = unwritten;
     if set.is_empty() {
         let measures = Measures {
-            deepest: s.deepest,
-            letters: s.letters,
-            units: s.units,
+            deepest: mem[DEEPEST],
+            letters: mem[LETTERS],
+            units: mem[UNITS],
         };
         return Judged::Accepted {
             count,
@@ -296,26 +333,33 @@ fn put(
         copy(out, 0, &draft[..size as usize]);
         return Answer::Accepted(measures);
     }
-    let mut spent = [0u64; 64];
-    let _walked = walk::walk(text, rec, kinds, starts, lens, out, &mut spent, tree, tab);
+    let run = words::RUN;
+    let mut mem = lent(tab, Set { words: [0u64; 64] });
+    let _walked = walk::walk(&run, text, rec, kinds, starts, lens, out, &mut mem, tree);
     Answer::Accepted(measures)
 }
 
-// Formats the sheet at a tab size into the output's first bytes. Unless the answer is `Accepted`, the output is as it was.
-pub fn get(text: &[u8], rec: &[u8], tab: u32, out: &mut [u8], left: &mut [u64; 64]) -> Answer
+// Formats the sheet at a tab size over a draft, whatever its length.
+fn drafted(
+    text: &[u8],
+    rec: &[u8],
+    tab: u32,
+    draft: &mut [u8],
+    out: &mut [u8],
+    left: &mut [u64; 64],
+) -> Answer
     ensures { λ r. ⌜ record { verdict = verdictOf r (now (left .exit)); out = now (out .exit) } ≡ get· (now (text .entry)) (now (rec .entry)) tab (now (out .entry)) ⌝ }
 {
     let mut kinds = [0u8; 4096];
     let mut starts = [0u16; 4096];
     let mut lens = [0u16; 4096];
-    let mut draft = [0u8; DRAFT];
     let judged = judge(
         text,
         rec,
         &mut kinds,
         &mut starts,
         &mut lens,
-        &mut draft,
+        draft,
         left,
         tab,
     );
@@ -330,7 +374,7 @@ pub fn get(text: &[u8], rec: &[u8], tab: u32, out: &mut [u8], left: &mut [u64; 6
             &kinds[..count],
             &starts[..count],
             &lens[..count],
-            &draft,
+            draft,
             out,
             tree,
             tab,
@@ -338,6 +382,18 @@ pub fn get(text: &[u8], rec: &[u8], tab: u32, out: &mut [u8], left: &mut [u64; 6
         ),
         Judged::Declined(answer) => answer,
     }
+}
+
+// Formats the sheet at a tab size into the output's first bytes. Unless the answer is `Accepted`, the output is as it was.
+pub fn get(text: &[u8], rec: &[u8], tab: u32, out: &mut [u8], left: &mut [u64; 64]) -> Answer
+    ensures { λ r. ⌜ record { verdict = verdictOf r (now (left .exit)); out = now (out .exit) } ≡ get· (now (text .entry)) (now (rec .entry)) tab (now (out .entry)) ⌝ }
+{
+    if rec.len() <= SHORT_RECORD {
+        let mut draft = [0u8; SHORT_DRAFT];
+        return drafted(text, rec, tab, &mut draft, out, left);
+    }
+    let mut draft = [0u8; DRAFT];
+    drafted(text, rec, tab, &mut draft, out, left)
 }
 
 // ---- lookups

@@ -23,7 +23,7 @@ use Rattle.layout.specs.Helpers.{Cfg, Walkers, sep-with-lines}
 use Rattle.layout.specs.GetDec.{get-dec}
 use Rattle.layout.specs.DecOne.{comment-line}
 use Rattle.layout.specs.Walk.{walks, top, walk}
-use Rattle.layout.specs.State.{cap}
+use Rattle.layout.proofs.Exact.{cap}
 use Rattle.measures.specs.Small.{eventsOf, Small}
 use Rattle.measures.proofs.Credit.{size, Within}
 use Rattle.measures.proofs.Paying.{Paid, Short, eased, halts, fixed, _then_, families, declarations}

@@ -75,7 +75,7 @@ unfolding Reading.readTree Reading.readRecord Reading.readText Reading.read Read
 runReading = tt
 
 unfoldable pub runSet : Unit {0}
-unfolding Set.isComment Set.bit Set.holds Set.bits Set.wordsFrom Set.wordsOf Set.without Set.count Set.first Set.firstAt
+unfolding Set.isComment Set.bit Set.clear Set.holds Set.bits Set.wordsFrom Set.wordsOf Set.without Set.count Set.first Set.firstAt
 runSet = tt
 
 unfoldable pub runAbove : Unit {0}

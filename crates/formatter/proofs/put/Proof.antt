@@ -1,10 +1,16 @@
 -- `formatter::put` meets its contract: 7, then 8, then the text from the draft, or by the walk over the output.
 use native.Mathlib.Omega.{arith}
 use mathlib.Core.Path.{refl}
-use Rattle.formatter.proofs.JudgeLaws.{taken, taken-fits, weight-deep, weight-letters, weight-units, put-wide, put-short, put-copied, put-walked}
+use Prim.Native.Nat.{_≤_}
+use Rattle.text.specs.Bytes.{bytes}
+use Rattle.layout.specs.Words.{wordRun}
+use Rattle.formatter.proofs.JudgeLaws.{taken, taken-fits, starts, weight-deep, weight-letters, weight-units, put-wide, put-short, put-copied, put-walked}
 use borrow.Author.Needs.{needs}
 use Rattle.formatter.proofs.put.Statement.{statement}
 use Rattle.formatter.proofs.put.Tie as tie
+
+tab-fits : (c : tie.Start) → c .args .tab ≤ 0xFFFF_FFFF
+tab-fits c = omega arith
 
 scaled-requires : tie.Need-scaled-requires
 scaled-requires c κs = weight-deep (c .before .before .before .before .before .before .before .pre .0)
@@ -33,6 +39,9 @@ same-length c = search needs
 returns-3 : tie.Need-returns-3
 returns-3 c = put-copied (c .before .before .before .before .before .before .before .before .before .before .before .before .before .before .before .before .before .args .tab) (c .before .before .before .before .before .before .before .before .before .before .before .before .before .before .before .before .before .pre .0) _ (c .before .before .before .before .before .before .before .before .before .scaled .ensures .0) (c .before .before .before .before .before .before .before .before .if1 .left) (c .before .before .before .before .before .before .before .scaled2 .ensures .0) refl (c .before .before .before .before .before .before .if2 .left) (c .before .before .before .before .before .before .before .before .before .before .before .before .before .before .before .before .before .pre .1) (c .before .before .before .before .before .if3 .taken) (c .before .before .copy .ensures)
 
+lent-requires : tie.Need-lent-requires
+lent-requires c κs = search needs
+
 walk-requires : tie.Need-walk-requires
 walk-requires c κs = search needs
 
@@ -40,7 +49,8 @@ same-length-2 : tie.Need-same-length-2
 same-length-2 c = search needs
 
 returns-4 : tie.Need-returns-4
-returns-4 c = put-walked (c .before .before .before .before .before .before .before .before .before .before .before .before .before .before .before .before .before .args .tab) (c .before .before .before .before .before .before .before .before .before .before .before .before .before .before .before .before .before .pre .0) _ (c .before .before .before .before .before .before .before .before .before .scaled .ensures .0) (c .before .before .before .before .before .before .before .before .if1 .left) (c .before .before .before .before .before .before .before .scaled2 .ensures .0) refl (c .before .before .before .before .before .before .if2 .left) (c .before .before .walk .ensures)
+unfolding wordRun bytes
+returns-4 c = put-walked (c .before .before .before .before .before .before .before .before .before .before .before .before .before .before .before .before .before .before .before .args .tab) (c .before .before .before .before .before .before .before .before .before .before .before .before .before .before .before .before .before .before .before .pre .0) _ (c .before .before .before .before .before .before .before .before .before .before .before .scaled .ensures .0) (c .before .before .before .before .before .before .before .before .before .before .if1 .left) (c .before .before .before .before .before .before .before .before .before .scaled2 .ensures .0) refl (c .before .before .before .before .before .before .before .before .if2 .left) (c .before .before .walk .ensures) (starts refl (c .before .before .before .before .before .before .before .before .before .before .before .before .before .before .before .before .before .before .before .pre .0 .short) (c .before .before .before .before .before .before .before .before .before .before .before .before .before .before .before .before .before .before .before .pre .0 .near) (tab-fits (c .before .before .before .before .before .before .before .before .before .before .before .before .before .before .before .before .before .before .before)) (c .before .before .before .before .before .before .lent .ensures))
 
 pub put-spec : {M : Type 1} → statement M
 put-spec =
@@ -55,6 +65,7 @@ put-spec =
     copy-requires
     same-length
     returns-3
+    lent-requires
     walk-requires
     same-length-2
     returns-4)

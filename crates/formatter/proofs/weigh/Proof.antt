@@ -1,8 +1,16 @@
 -- `formatter::weigh` meets its contract: the walk over a draft; the record check where it did not end at the record's end.
-use Rattle.formatter.proofs.JudgeLaws.{taken, kinds-few, weigh-checked, stopped-checked, short-checked, behind, behind-done, weigh-accepts, weigh-never, weigh-comments}
+use native.Mathlib.Omega.{arith}
+use mathlib.Core.Path.{refl}
+use Prim.Native.Nat.{_≤_}
+use Rattle.text.specs.Bytes.{bytes}
+use Rattle.layout.specs.Words.{wordRun}
+use Rattle.formatter.proofs.JudgeLaws.{taken, kinds-few, starts, weigh-checked, other-checked, behind, weigh-accepts, weigh-never, weigh-comments}
 use borrow.Author.Needs.{needs}
 use Rattle.formatter.proofs.weigh.Statement.{statement}
 use Rattle.formatter.proofs.weigh.Tie as tie
+
+tab-fits : (c : tie.Start) → c .args .tab ≤ 0xFFFF_FFFF
+tab-fits c = omega arith
 
 slice-aggregate-kinds : tie.Need-slice-aggregate-kinds
 slice-aggregate-kinds c = taken _ _ (c .before .before .before .before .before .before .before .pre .within .0)
@@ -16,17 +24,15 @@ slice-aggregate-lens c = taken _ _ (c .before .before .before .before .before .b
 all-requires : tie.Need-all-requires
 all-requires c κs = search needs
 
+lent-requires : tie.Need-lent-requires
+lent-requires c κs = search needs
+
 walk-requires : tie.Need-walk-requires
 walk-requires c κs = search needs
 
-enum-known-walked : tie.Need-enum-known-walked
-enum-known-walked c = search needs
-
-enum-told : tie.Need-enum-told
-enum-told c = search needs
-
 by-check-requires : tie.Need-by-check-requires
-by-check-requires c κs = behind (c .before .before .before .before .before .walk .ensures)
+unfolding wordRun bytes
+by-check-requires c κs = behind (c .before .before .before .before .walk .ensures) (starts refl (c .before .before .before .before .before .before .before .before .before .before .before .before .before .before .before .before .before .before .before .pre .rec-fits) (c .before .before .before .before .before .before .before .before .before .before .before .before .before .before .before .before .before .before .before .pre .near) (tab-fits (c .before .before .before .before .before .before .before .before .before .before .before .before .before .before .before .before .before .before .before)) (c .before .before .before .before .before .before .before .before .lent .ensures))
 
 refused-requires : tie.Need-refused-requires
 refused-requires c κs = search needs
@@ -35,28 +41,30 @@ same-length : tie.Need-same-length
 same-length c = search needs
 
 returns : tie.Need-returns
-returns c = weigh-checked (stopped-checked (c .before .before .before .before .before .before .before .walk .ensures) (c .before .before .before .enum-told .given .1)) (c .before .by-check .ensures) (c .refused .ensures)
+unfolding wordRun bytes
+returns c = weigh-checked (other-checked (c .before .before .before .before .before .before .walk .ensures) (starts refl (c .before .before .before .before .before .before .before .before .before .before .before .before .before .before .before .before .before .before .before .before .before .pre .rec-fits) (c .before .before .before .before .before .before .before .before .before .before .before .before .before .before .before .before .before .before .before .before .before .pre .near) (tab-fits (c .before .before .before .before .before .before .before .before .before .before .before .before .before .before .before .before .before .before .before .before .before)) (c .before .before .before .before .before .before .before .before .before .before .lent .ensures)) (c .before .before .before .if1 .taken)) (c .before .by-check .ensures) (c .refused .ensures)
 
-by-check-requires-2 : tie.Need-by-check-requires-2
-by-check-requires-2 c κs = behind-done
+left-in-requires : tie.Need-left-in-requires
+left-in-requires c κs = search needs
 
-refused-requires-2 : tie.Need-refused-requires-2
-refused-requires-2 c κs = search needs
+is-empty-requires : tie.Need-is-empty-requires
+is-empty-requires c κs = search needs
+
+array-read-t39 : tie.Need-array-read-t39
+array-read-t39 c = search needs
+
+array-read-t42 : tie.Need-array-read-t42
+array-read-t42 c = search needs
+
+array-read-t45 : tie.Need-array-read-t45
+array-read-t45 c = search needs
 
 same-length-2 : tie.Need-same-length-2
 same-length-2 c = search needs
 
 returns-2 : tie.Need-returns-2
-returns-2 c = weigh-checked (short-checked (c .before .before .before .before .before .before .before .before .before .before .walk .ensures) (c .before .before .before .before .before .before .walked .given .1) (c .before .before .before .if1 .taken)) (c .before .by-check2 .ensures) (c .refused2 .ensures)
-
-is-empty-requires : tie.Need-is-empty-requires
-is-empty-requires c κs = search needs
-
-same-length-3 : tie.Need-same-length-3
-same-length-3 c = search needs
-
-returns-3 : tie.Need-returns-3
-returns-3 c = weigh-accepts (c .before .before .before .before .before .before .before .before .before .before .walk .ensures) (c .before .before .before .before .before .before .walked .given .1) (c .before .before .before .before .before .before .before .before .before .before .before .before .before .before .before .before .before .before .before .before .before .before .before .before .pre .text-fits) (c .before .before .before .before .before .before .before .before .before .before .before .before .before .before .before .before .before .before .before .before .before .before .before .before .pre .rec-fits) (kinds-few (c .before .before .before .before .before .before .before .before .before .before .before .before .before .before .before .before .before .before .before .before .before .before .before .before .pre)) (c .before .before .before .before .before .before .before .before .before .before .before .before .before .before .all .ensures) (c .before .before .before .if1 .left) (c .before .is-empty .ensures) (c .before .before .before .before .before .before .before .before .before .before .walk .kept .1 .1 .1 .1 .1 .0) (c .if2 .taken)
+unfolding wordRun bytes
+returns-2 c = weigh-accepts (c .before .before .before .before .before .before .before .walk .ensures) (starts refl (c .before .before .before .before .before .before .before .before .before .before .before .before .before .before .before .before .before .before .before .before .before .before .pre .rec-fits) (c .before .before .before .before .before .before .before .before .before .before .before .before .before .before .before .before .before .before .before .before .before .before .pre .near) (tab-fits (c .before .before .before .before .before .before .before .before .before .before .before .before .before .before .before .before .before .before .before .before .before .before)) (c .before .before .before .before .before .before .before .before .before .before .before .lent .ensures)) (c .before .before .before .before .before .before .before .before .before .before .before .before .before .before .before .before .before .before .before .before .before .before .pre .text-fits) (c .before .before .before .before .before .before .before .before .before .before .before .before .before .before .before .before .before .before .before .before .before .before .pre .rec-fits) (kinds-few (c .before .before .before .before .before .before .before .before .before .before .before .before .before .before .before .before .before .before .before .before .before .before .pre)) (c .before .before .before .before .before .before .before .before .before .before .before .before .all .ensures) (c .before .before .before .before .if1 .left) (c .before .before .before .left-in .ensures) (c .before .is-empty .ensures) (c .before .before .before .before .before .before .before .walk .kept .1 .1 .1 .1 .1 .1 .0) (c .if2 .taken)
 
 first-requires : tie.Need-first-requires
 first-requires c κs = search needs
@@ -64,23 +72,25 @@ first-requires c κs = search needs
 enum-known-k : tie.Need-enum-known-k
 enum-known-k c = search needs
 
-enum-told-2 : tie.Need-enum-told-2
-enum-told-2 c = search needs
+enum-told : tie.Need-enum-told
+enum-told c = search needs
+
+same-length-3 : tie.Need-same-length-3
+same-length-3 c = search needs
+
+returns-3 : tie.Need-returns-3
+unfolding wordRun bytes
+returns-3 c = weigh-never (c .before .before .before .before .before .before .before .before .before .before .walk .ensures) (starts refl (c .before .before .before .before .before .before .before .before .before .before .before .before .before .before .before .before .before .before .before .before .before .before .before .before .before .pre .rec-fits) (c .before .before .before .before .before .before .before .before .before .before .before .before .before .before .before .before .before .before .before .before .before .before .before .before .before .pre .near) (tab-fits (c .before .before .before .before .before .before .before .before .before .before .before .before .before .before .before .before .before .before .before .before .before .before .before .before .before)) (c .before .before .before .before .before .before .before .before .before .before .before .before .before .before .lent .ensures)) (c .before .before .before .before .before .before .before .before .before .before .before .before .before .before .before .before .before .before .before .before .before .before .before .before .before .pre .text-fits) (c .before .before .before .before .before .before .before .before .before .before .before .before .before .before .before .before .before .before .before .before .before .before .before .before .before .pre .rec-fits) (kinds-few (c .before .before .before .before .before .before .before .before .before .before .before .before .before .before .before .before .before .before .before .before .before .before .before .before .before .pre)) (c .before .before .before .before .before .before .before .before .before .before .before .before .before .before .before .all .ensures) (c .before .before .before .before .before .before .before .if1 .left) (c .before .before .before .before .before .before .left-in .ensures) (c .before .before .before .before .is-empty .ensures) (c .before .before .first .ensures) (c .before .before .before .if2 .left) (c .enum-told .given .1)
+
+entry-requires : tie.Need-entry-requires
+entry-requires c κs = search needs
 
 same-length-4 : tie.Need-same-length-4
 same-length-4 c = search needs
 
 returns-4 : tie.Need-returns-4
-returns-4 c = weigh-never (c .before .before .before .before .before .before .before .before .before .before .before .before .before .walk .ensures) (c .before .before .before .before .before .before .before .before .before .walked .given .1) (c .before .before .before .before .before .before .before .before .before .before .before .before .before .before .before .before .before .before .before .before .before .before .before .before .before .before .before .pre .text-fits) (c .before .before .before .before .before .before .before .before .before .before .before .before .before .before .before .before .before .before .before .before .before .before .before .before .before .before .before .pre .rec-fits) (kinds-few (c .before .before .before .before .before .before .before .before .before .before .before .before .before .before .before .before .before .before .before .before .before .before .before .before .before .before .before .pre)) (c .before .before .before .before .before .before .before .before .before .before .before .before .before .before .before .before .before .all .ensures) (c .before .before .before .before .before .before .if1 .left) (c .before .before .before .before .is-empty .ensures) (c .before .before .first .ensures) (c .before .before .before .if2 .left) (c .enum-told2 .given .1)
-
-entry-requires : tie.Need-entry-requires
-entry-requires c κs = search needs
-
-same-length-5 : tie.Need-same-length-5
-same-length-5 c = search needs
-
-returns-5 : tie.Need-returns-5
-returns-5 c = weigh-comments (c .before .before .before .before .before .before .before .before .before .before .before .before .before .before .before .walk .ensures) (c .before .before .before .before .before .before .before .before .before .before .before .walked .given .1) (c .before .before .before .before .before .before .before .before .before .before .before .before .before .before .before .before .before .before .before .before .before .before .before .before .before .before .before .before .before .pre .text-fits) (c .before .before .before .before .before .before .before .before .before .before .before .before .before .before .before .before .before .before .before .before .before .before .before .before .before .before .before .before .before .pre .rec-fits) (kinds-few (c .before .before .before .before .before .before .before .before .before .before .before .before .before .before .before .before .before .before .before .before .before .before .before .before .before .before .before .before .before .pre)) (c .before .before .before .before .before .before .before .before .before .before .before .before .before .before .before .before .before .before .before .all .ensures) (c .before .before .before .before .before .before .before .before .if1 .left) (c .before .before .before .before .before .before .is-empty .ensures) (c .before .before .before .before .first .ensures) (c .before .before .k .given .1) (c .entry .ensures)
+unfolding wordRun bytes
+returns-4 c = weigh-comments (c .before .before .before .before .before .before .before .before .before .before .before .before .walk .ensures) (starts refl (c .before .before .before .before .before .before .before .before .before .before .before .before .before .before .before .before .before .before .before .before .before .before .before .before .before .before .before .pre .rec-fits) (c .before .before .before .before .before .before .before .before .before .before .before .before .before .before .before .before .before .before .before .before .before .before .before .before .before .before .before .pre .near) (tab-fits (c .before .before .before .before .before .before .before .before .before .before .before .before .before .before .before .before .before .before .before .before .before .before .before .before .before .before .before)) (c .before .before .before .before .before .before .before .before .before .before .before .before .before .before .before .before .lent .ensures)) (c .before .before .before .before .before .before .before .before .before .before .before .before .before .before .before .before .before .before .before .before .before .before .before .before .before .before .before .pre .text-fits) (c .before .before .before .before .before .before .before .before .before .before .before .before .before .before .before .before .before .before .before .before .before .before .before .before .before .before .before .pre .rec-fits) (kinds-few (c .before .before .before .before .before .before .before .before .before .before .before .before .before .before .before .before .before .before .before .before .before .before .before .before .before .before .before .pre)) (c .before .before .before .before .before .before .before .before .before .before .before .before .before .before .before .before .before .all .ensures) (c .before .before .before .before .before .before .before .before .before .if1 .left) (c .before .before .before .before .before .before .before .before .left-in .ensures) (c .before .before .before .before .before .before .is-empty .ensures) (c .before .before .before .before .first .ensures) (c .before .before .k .given .1) (c .entry .ensures)
 
 pub weigh-spec : {M : Type 1} → statement M
 weigh-spec =
@@ -90,25 +100,24 @@ weigh-spec =
     slice-aggregate-starts
     slice-aggregate-lens
     all-requires
+    lent-requires
     walk-requires
-    enum-known-walked
-    enum-told
     by-check-requires
     refused-requires
     same-length
     returns
-    by-check-requires-2
-    refused-requires-2
+    left-in-requires
+    is-empty-requires
+    array-read-t39
+    array-read-t42
+    array-read-t45
     same-length-2
     returns-2
-    is-empty-requires
-    same-length-3
-    returns-3
     first-requires
     enum-known-k
-    enum-told-2
-    same-length-4
-    returns-4
+    enum-told
+    same-length-3
+    returns-3
     entry-requires
-    same-length-5
-    returns-5)
+    same-length-4
+    returns-4)

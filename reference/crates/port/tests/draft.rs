@@ -1,11 +1,14 @@
-//! Texts about as long as the draft that `get` writes before it accepts the sheet.
+//! Texts about as long as the drafts that `get` writes before it accepts the sheet.
 
 use answers::Reference;
 use diverplume::{check, get};
 use sheet::{lettered, Sheet};
 
-/// The draft's length: `DRAFT` in crates/formatter/src/lib.rt.
-const DRAFT: usize = 65_536;
+/// The lengths of the drafts: `SHORT_DRAFT` and `DRAFT` in crates/formatter/src/lib.rt.
+const DRAFTS: [usize; 2] = [16_384, 65_536];
+
+/// A record of this length has the shorter draft: `SHORT_RECORD` there.
+const SHORT_RECORD: usize = 8192;
 
 /// What an output holds where nothing is written.
 const BLANK: u8 = b'.';
@@ -25,17 +28,33 @@ fn written(sheet: &Sheet, reference: &Reference, tab_size: u32, length: usize) -
     formatted.text.is_some()
 }
 
-#[test]
-fn texts_about_as_long_as_the_draft() {
-    // One indent of depth 1, so that every length has a tab size.
-    let sheet = lettered::e();
+/// Compares texts about as long as either draft. `sheet` has one indent of depth 1, so that every length has a tab size.
+fn compare(sheet: &Sheet) {
     let measures = check(&sheet.text, &sheet.record).measures;
     assert_eq!(measures.units, 1);
-    let reference = Reference::new(&sheet);
-    for length in DRAFT - 2..=DRAFT + 2 {
+    let reference = Reference::new(sheet);
+    for length in DRAFTS.into_iter().flat_map(|draft| draft - 2..=draft + 2) {
         let tab_size = (length as u64 - measures.letters).try_into().expect("a tab size");
-        assert!(!written(&sheet, &reference, tab_size, length - 1));
-        assert!(written(&sheet, &reference, tab_size, length));
-        assert!(written(&sheet, &reference, tab_size, length + 1));
+        assert!(!written(sheet, &reference, tab_size, length - 1));
+        assert!(written(sheet, &reference, tab_size, length));
+        assert!(written(sheet, &reference, tab_size, length + 1));
+    }
+}
+
+#[test]
+fn texts_about_as_long_as_a_draft() {
+    compare(&lettered::e());
+}
+
+/// Tokens of one space behind the others, four bytes of the record each, make the record as long as the shorter draft allows, and longer.
+#[test]
+fn records_about_as_long_as_the_shorter_draft_allows() {
+    let sheet = lettered::e();
+    let tokens = sheet.record.iter().step_by(4).take_while(|&&byte| byte == 5).count();
+    for spaces in [(SHORT_RECORD - sheet.record.len()) / 4, SHORT_RECORD / 4] {
+        let mut longer = sheet.clone();
+        longer.text.extend(vec![b' '; spaces]);
+        longer.record.splice(4 * tokens..4 * tokens, [5, 0, 1, 0].repeat(spaces));
+        compare(&longer);
     }
 }
