@@ -39,7 +39,7 @@ impl Readme {
     }
 
     fn text(&self, tables: &str) -> String {
-        format!("{}{BEGIN}\n{tables}{END}{}", self.before, self.behind)
+        format!("{}{BEGIN}\n\n{tables}\n{END}{}", self.before, self.behind)
     }
 }
 
@@ -53,7 +53,7 @@ mod tests {
     fn tables_replace_those_between_the_comments() {
         let readme = Readme::around(&format!("a\n{BEGIN}\nold\n{END}\nb\n")).expect("the place");
         let new = readme.text("new\n");
-        assert_eq!(new, format!("a\n{BEGIN}\nnew\n{END}\nb\n"));
+        assert_eq!(new, format!("a\n{BEGIN}\n\nnew\n\n{END}\nb\n"));
         assert_eq!(Readme::around(&new).expect("the place").text("new\n"), new);
         assert!(Readme::around("a\nb\n").is_none());
     }

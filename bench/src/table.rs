@@ -1,7 +1,7 @@
 //! The times as tables in Markdown. A cell has the least of the turns, and in brackets the median.
 
 use crate::calls::{Measured, Timed};
-use crate::time::{Times, AGAINST_RUST};
+use crate::time::{Halves, Plan, Times, AGAINST_RUST};
 use std::fs;
 use std::thread::available_parallelism;
 
@@ -79,16 +79,17 @@ fn ratio(port: Times, rust: Times) -> String {
     format!("{} ({})", digits(port.least / rust.least), digits(port.median / rust.median))
 }
 
-/// How far the halves of the turns are apart, of all times of these calls the most.
+/// How far the halves of the turns are apart, for that time of these calls that moved most.
 fn halves(calls: &[Timed]) -> String {
-    let (least, median) = apart(calls);
+    let Halves { least, median } = apart(calls);
     format!("{least:.2} ({median:.2})")
 }
 
-fn apart(calls: &[Timed]) -> (f64, f64) {
+fn apart(calls: &[Timed]) -> Halves {
     let times = calls.iter().flat_map(|call| [call.port, call.at_hand, call.decoded]);
-    times.fold((1.0, 1.0), |(least, median), Times { halves, .. }| {
-        (least.max(halves.least), median.max(halves.median))
+    times.fold(Halves { least: 1.0, median: 1.0 }, |most, Times { halves, .. }| Halves {
+        least: most.least.max(halves.least),
+        median: most.median.max(halves.median),
     })
 }
 
@@ -112,25 +113,25 @@ fn thousands(digits: &str) -> String {
 
 /// How the times were taken, and how far a time moved by itself.
 fn taken(rows: &[Measured]) -> String {
-    let mut apart: Vec<_> =
-        rows.iter().flat_map(|row| row.calls().map(|(_, call)| apart(&[call]))).collect();
-    let mut of = |part: fn(&(f64, f64)) -> f64| {
-        apart.sort_by(|one, other| part(one).total_cmp(&part(other)));
-        let at = |index: usize| apart.get(index).map_or(1.0, part);
-        (at(apart.len() / 2), at(apart.len().saturating_sub(1)))
-    };
-    let (least, median) = (of(|apart| apart.0), of(|apart| apart.1));
+    let Plan { repeats, turn } = AGAINST_RUST;
+    let calls = rows.iter().flat_map(Measured::calls);
+    let halves: Vec<_> = calls.map(|(_, call)| apart(&[call])).collect();
     format!(
-        "Of {} turns of at least {} ms{}. The halves of the turns differ by {:.2} for the middle call and {:.2} \
-         for the worst; their medians by {:.2} and {:.2}.\n",
-        AGAINST_RUST.repeats,
-        AGAINST_RUST.turn.as_millis(),
+        "Of {repeats} turns of at least {} ms{}, by the processor's time of the thread. \
+         The halves of the turns differ by a factor of {}, their medians by {}.\n",
+        turn.as_millis(),
         machine(),
-        least.0,
-        least.1,
-        median.0,
-        median.1
+        middle_and_worst(halves.iter().map(|halves| halves.least)),
+        middle_and_worst(halves.iter().map(|halves| halves.median))
     )
+}
+
+fn middle_and_worst(factors: impl Iterator<Item = f64>) -> String {
+    let mut factors: Vec<_> = factors.collect();
+    factors.sort_by(f64::total_cmp);
+    let [middle, worst] = [factors.len() / 2, factors.len().saturating_sub(1)]
+        .map(|at| factors.get(at).copied().unwrap_or(1.0));
+    format!("{middle:.2} for the middle call and {worst:.2} for the worst")
 }
 
 /// The processor, where the system tells it.
@@ -138,7 +139,7 @@ fn machine() -> String {
     let told = fs::read_to_string("/proc/cpuinfo").unwrap_or_default();
     let name = told.lines().find_map(|line| line.strip_prefix("model name")?.split_once(": "));
     let count = available_parallelism().map_or(1, usize::from);
-    name.map_or_else(String::new, |(_, name)| format!(" on {count} processors {name}"))
+    name.map_or_else(String::new, |(_, name)| format!(" on {count} processors ({name})"))
 }
 
 #[cfg(test)]
