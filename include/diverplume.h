@@ -2,7 +2,7 @@
  *
  * The functions stand in the archive target/staticlib/libexports.a, which `rt staticlib exports`
  * makes. They need nothing but memset and memcpy, keep no state and may be called from any thread; a stack of
- * 1 MiB is enough.
+ * 512 KiB is enough.
  *
  * A sheet is a text and a record of its tokens and syntax tree. Any bytes may be handed in. Every
  * call ends, refuses by number what it cannot take, and changes the lent output only where it

@@ -7,7 +7,7 @@ use sheet::{lettered, worst, Sheet};
 use std::thread;
 
 /// The stack of a thread.
-const STACK: usize = 1 << 20;
+const STACK: usize = 1 << 19;
 
 /// The generated sheets.
 const GENERATED: usize = 200;
@@ -22,7 +22,7 @@ fn deep_sheets() -> Vec<Sheet> {
 }
 
 #[test]
-fn calls_run_in_a_stack_of_1_mib() {
+fn calls_run_in_a_stack_of_512_kib() {
     for sheet in deep_sheets() {
         let Sheet { text, record } = sheet;
         let call = move || {
