@@ -3,6 +3,7 @@ use native.Mathlib.Omega.{arith}
 use mathlib.Core.Path.{_≡_, refl, sym, ap, _∙_, subst}
 use mathlib.Core.List.{List}
 use mathlib.Core.Bool.{true}
+use mathlib.Core.Option.{Option, none, some}
 use Prim.Native.Nat.{ℕ, zero, suc, _≤_}
 use lib.ListN.{length, getD}
 use lib.Dec.{eqb}
@@ -10,9 +11,13 @@ use borrow.Author.Tests.{eq-eqb, eqb-true}
 use Rattle.reader.specs.Fields as Fields
 use Rattle.reader.specs.Fields.{StrExp, SigExp, Exp, Pat, Ty, Dec}
 use Rattle.reader.specs.Forms.{EsImportDec, decNumber}
-use Rattle.reader.specs.Check.{Checked, ok, andThen, maxForms, operandFits, endWithin, treeCheck}
+use Rattle.reader.specs.Commands.{formAt}
+use Rattle.reader.specs.Check.{Checked, ok, malformed, tooDeep, andThen, maxForms, operandFits, endWithin, fieldEnd, treeCheck}
+use Rattle.reader.proofs.CommandLaws.{form-fits}
+use Rattle.reader.proofs.Ends.{ends-more}
 use Rattle.reader.proofs.FieldLaws.{then-parts, if-parts}
-use Rattle.layout.specs.Meaning.{Page, Event, Outcome, done, stopped}
+use Rattle.layout.specs.Meaning.{Page, Event, Outcome, done, stopped, outcome, Heads, missing, headsFrom, headsAt}
+use Rattle.layout.specs.State.{headsBehind}
 use Rattle.layout.specs.Layout.{halt, import}
 use Rattle.layout.specs.Helpers.{Cfg, Walkers}
 use Rattle.layout.specs.GetDec.{get-dec}
@@ -20,7 +25,7 @@ use Rattle.layout.specs.DecOne.{comment-line, dec-one, decs}
 use Rattle.layout.specs.Walk.{walks, top, walk}
 use Rattle.agreement.specs.Agreement.{Agree, EndsAt}
 use Rattle.agreement.specs.Unbounded as Unbounded
-use Rattle.agreement.proofs.Layouts.{InStep, Agrees, count, fixed, before, pick, families, declarations, halted, drops}
+use Rattle.agreement.proofs.Layouts.{ends, InStep, Agrees, count, fixed, before, pick, families, declarations, halted, drops}
 use Rattle.agreement.proofs.Helpers.{Walks, at-depth, get-decs}
 use Rattle.agreement.proofs.Rows.{ty-pairs, pat-pairs, exp-pairs, sig-pairs, str-pairs, dec-pairs}
 
@@ -57,6 +62,31 @@ walks-agree {p} (suc n) h =
       sig-exp = λ c. families SigExp (λ at. refl) (λ k. pick k (sig-pairs low go k c));
       dec-one = λ c. declarations (comment-lines c) (import-arm (walks n) c) (λ k l other. pick k (dec-pairs low go k c other) .agrees l);
     }
+
+-- ---- AppExp
+-- Where the walk of the first expression ended stands the second: what is seen before that walk is seen behind it.
+pub heads-behind : (p : Page) (n : ℕ) → n ≤ 200 → (c : Cfg) (func arg : ℕ) (es : List Event) → outcome p (walks n .get-exp c) func ≡ done arg es
+    → headsBehind (p .rec) func arg ≡ headsAt (p .rec) (count p) func
+unfolding headsAt headsBehind fieldEnd
+heads-behind p n low c func arg es e = go (formAt (p .rec) Exp func) refl
+  where
+    passes : ends p n true (Fields.form Exp) func ≡ ok arg
+    passes =
+        let x : Agrees p n true (Fields.form Exp) (walks n .get-exp c) = walks-agree n low .exp c in
+        subst (λ (o : Outcome). Agree p (ends p n true (Fields.form Exp) func) o) e (x .step .agrees func)
+
+    go : (o : Option ℕ) → formAt (p .rec) Exp func ≡ o
+        → _≡_ {A = Heads} (elim o [ some k ↦ headsFrom (p .rec) k func arg | none ↦ missing func ])
+        (elim o [
+          | some k ↦ elim (fieldEnd (p .rec) (count p) (Fields.form Exp) func)
+              [ ok next ↦ headsFrom (p .rec) k func next | malformed place ↦ missing place | tooDeep place ↦ missing place ]
+          | none ↦ missing func
+        ])
+    go (some k) f =
+        let w = form-fits (p .rec) func Exp k f in
+        let q : fieldEnd (p .rec) (count p) (Fields.form Exp) func ≡ ok arg = ends-more (p .rec) (count p) n 200 low true (Fields.form Exp) func (omega (arith, w)) arg passes .0 in
+        rw q refl
+    go none f = refl
 
 -- ---- the whole record
 module _ (p : Page) (tree : ℕ) where

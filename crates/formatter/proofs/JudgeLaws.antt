@@ -29,8 +29,9 @@ use Rattle.layout.specs.Words.{wordRun}
 use Rattle.layout.specs.Walk.{walks, top, walk}
 use Rattle.layout.specs.GetDec.{get-dec}
 use Rattle.layout.specs.Events.{deepest, letters, units, formatted, isLeft}
-use Rattle.layout.specs.State.{Run, runOf, at, effects, Ran, went, fell, run, runs, packed, stopNo, stopOf, Fair, Walked, page}
+use Rattle.layout.specs.State.{Run, runOf, at, effects, Ran, went, fell, run, runs, packed, shown, stopNo, stopOf, Fair, Walked, page}
 use Rattle.layout.proofs.Exact.{cap, Sums, lent, steps, exact, exact-letters, exact-units, exact-deepest}
+use Rattle.layout.proofs.Steps.{shown-went}
 use Rattle.agreement.specs.Agreement.{EndsAt, Proper}
 use Rattle.agreement.proofs.Knot.{passes-walks}
 use Rattle.measures.specs.Small.{Small}
@@ -96,19 +97,19 @@ packed-mem r m o = go (ltb r stopNo)
     go false = refl
 
 -- The number of a walk that ended is its cursor, that of one that fell says why.
-packed-at : (r : ℕ) (m o : List ℕ) {g : Run} → packed r m o ≡ went g → (r ≡ g .at) × (r < stopNo)
-unfolding packed
-packed-at r m o {g} e = go (ltb r stopNo) refl e
+packed-at : (r : ℕ) (m o : List ℕ) (g : Run) → shown false (packed r m o) ≡ shown false (went g) → (r ≡ g .at) × (r < stopNo)
+unfolding packed shown
+packed-at r m o g e = go (ltb r stopNo) refl e
   where
-    go : (b : Bool) → ltb r stopNo ≡ b → packing b r m o ≡ went g → (r ≡ g .at) × (r < stopNo)
+    go : (b : Bool) → ltb r stopNo ≡ b → shown false (packing b r m o) ≡ went g → (r ≡ g .at) × (r < stopNo)
     go true f e = (ap atOf e, ltb-true r stopNo f)
     go false f e = never (sym (ap falls e))
 
-packed-why : (r : ℕ) (m o : List ℕ) {why : Stop} {g : Run} → packed r m o ≡ fell why g → (stopNo ≤ r) × (stopOf (r - stopNo) ≡ why)
-unfolding packed
-packed-why r m o {why} {g} e = go (ltb r stopNo) refl e
+packed-why : (r : ℕ) (m o : List ℕ) (why : Stop) (g : Run) → shown false (packed r m o) ≡ shown false (fell why g) → (stopNo ≤ r) × (stopOf (r - stopNo) ≡ why)
+unfolding packed shown
+packed-why r m o why g e = go (ltb r stopNo) refl e
   where
-    go : (b : Bool) → ltb r stopNo ≡ b → packing b r m o ≡ fell why g → (stopNo ≤ r) × (stopOf (r - stopNo) ≡ why)
+    go : (b : Bool) → ltb r stopNo ≡ b → shown false (packing b r m o) ≡ shown false (fell why g) → (stopNo ≤ r) × (stopOf (r - stopNo) ≡ why)
     go true f e = never (ap falls e)
     go false f e = (ltb-false r stopNo f, ap stopIn e)
 
@@ -145,15 +146,15 @@ starts e short near t m =
     record { fair = record { words-are = e; short = omega (arith, short); cursor = near }; tab-fits = omega (arith, t); mem = m }
 
 abbrev Whole : List ℕ → Page → ℕ → List ℕ → List ℕ → ℕ → List ℕ → List ℕ → Type 0
-Whole run p tree m o r m′ o′ = Walked run p (get-dec (walks maxForms) top) (runOf tree m o) r m′ o′
+Whole run p tree m o r m′ o′ = Walked false run p (get-dec (walks maxForms) top) (runOf tree m o) r m′ o′
 
 module _ {run· : List ℕ} {p : Page} {tree tab : ℕ} {words m o : List ℕ} {r : ℕ} {m′ o′ : List ℕ} (w : Whole run· p tree m o r m′ o′) (s : Starts run· p tree tab words m) where
   abbrev start : Run
   start = runOf tree (lent tab (begin words o)) o
 
-  whole : packed r m′ o′ ≡ run p (walk p tree) start
+  whole : shown false (packed r m′ o′) ≡ shown false (run p (walk p tree) start)
   unfolding runs walk
-  whole = w .is (s .fair) ∙ ap (λ x. run p (walk p tree) (runOf tree x o)) (s .mem)
+  whole = w .is (s .fair) ∙ ap (λ x. shown false (run p (walk p tree) (runOf tree x o))) (s .mem)
 
   module _ {end : ℕ} {es : List Event} (e : walk p tree ≡ done end es) (few : letters p es ≤ cap) (low : units es ≤ cap) where
     abbrev sums : Sums
@@ -162,9 +163,9 @@ module _ {run· : List ℕ} {p : Page} {tree tab : ℕ} {words m o : List ℕ} {
     whole-done : packed r m′ o′ ≡ went (runOf end (lent tab sums) (sums .out))
     unfolding run
     whole-done =
-        whole
-        ∙ ap (λ x. run p x start) e
-        ∙ ap (λ g. went (at end g)) (exact p tab tree (s .tab-fits) es (begin words o) (omega (arith, few)) (omega (arith, low)))
+        shown-went false (packed r m′ o′)
+        (sym (whole ∙ ap (shown false)
+        (ap (λ x. run p x start) e ∙ ap (λ g. went (at end g)) (exact p tab tree (s .tab-fits) es (begin words o) (omega (arith, few)) (omega (arith, low))))))
 
     whole-out : o′ ≡ sums .out
     whole-out = sym (packed-out r m′ o′) ∙ ap outOf whole-done
@@ -173,44 +174,44 @@ module _ {run· : List ℕ} {p : Page} {tree tab : ℕ} {words m o : List ℕ} {
     whole-mem = sym (packed-mem r m′ o′) ∙ ap memOf whole-done
 
   -- Where the walk's number says that it ended.
-  falling : (x : Outcome) → packed r m′ o′ ≡ run p x start → r < stopNo → (es : List Event) × (x ≡ done r es)
+  falling : (x : Outcome) → shown false (packed r m′ o′) ≡ shown false (run p x start) → r < stopNo → (es : List Event) × (x ≡ done r es)
   unfolding run
-  falling (done end es) e h = (es, ap (λ n. done n es) (sym (packed-at r m′ o′ e .0)))
-  falling (stopped why es) e h = absurd (omega (arith, packed-why r m′ o′ e .0))
+  falling (done end es) e h = (es, ap (λ n. done n es) (sym (packed-at r m′ o′ _ e .0)))
+  falling (stopped why es) e h = absurd (omega (arith, packed-why r m′ o′ why _ e .0))
 
   whole-ends : r < stopNo → (es : List Event) × (walk p tree ≡ done r es)
   whole-ends h = falling (walk p tree) whole h
 
   -- ---- 3, 4, 13 and 14
   -- A walk that did not end at the record's end.
-  elsewhere : (x : Outcome) → walk p tree ≡ x → packed r m′ o′ ≡ run p x start → (r ≡ length (p .rec) → ⊥) → byWalk p tree ≡ checked r p tree
+  elsewhere : (x : Outcome) → walk p tree ≡ x → shown false (packed r m′ o′) ≡ shown false (run p x start) → (r ≡ length (p .rec) → ⊥) → byWalk p tree ≡ checked r p tree
   unfolding run byWalk otherwise
   elsewhere (done end es) d e ne =
-      let q = packed-at r m′ o′ e in
+      let q = packed-at r m′ o′ _ e in
       let d′ : walk p tree ≡ done r es = d ∙ ap (λ n. done n es) (sym (q .0)) in
       rw (d′, byWalk, ne-eqb r (length (p .rec)) ne, lt-ltb r stopNo (q .1)) refl
   elsewhere (stopped why es) d e ne =
-      let q = packed-why r m′ o′ e in
+      let q = packed-why r m′ o′ why _ e in
       rw (d, byWalk, le-ltb r stopNo (q .0), q .1) refl
 
   pub other-checked : (r ≡ length (p .rec) → ⊥) → byWalk p tree ≡ checked r p tree
   other-checked ne = elsewhere (walk p tree) refl whole ne
 
   -- On a record that passes, an import stops the walk behind its command.
-  importing : (x : Outcome) → EndsAt p (length (p .rec)) x → packed r m′ o′ ≡ run p x start → BehindCommand r
+  importing : (x : Outcome) → EndsAt p (length (p .rec)) x → shown false (packed r m′ o′) ≡ shown false (run p x start) → BehindCommand r
   unfolding run stopOf formWidth
-  importing (done end es) a e = record { is = λ h i. absurd (omega (arith, packed-at r m′ o′ e .1)) }
+  importing (done end es) a e = record { is = λ h i. absurd (omega (arith, packed-at r m′ o′ _ e .1)) }
   importing (stopped (absent place) es) a e =
       record {
         is = λ h i.
             let odd : stopOf (r - stopNo) ≡ imported ((r - stopNo) / 2) = rw i refl in
-            never (ap sort (sym (packed-why r m′ o′ e .1) ∙ odd));
+            never (ap sort (sym (packed-why r m′ o′ (absent place) _ e .1) ∙ odd));
       }
   importing (stopped (imported place) es) a e =
       record {
         is = λ h i.
             let odd : stopOf (r - stopNo) ≡ imported ((r - stopNo) / 2) = rw i refl in
-            let at-place : (r - stopNo) / 2 ≡ place = ap offset (sym odd ∙ packed-why r m′ o′ e .1) in
+            let at-place : (r - stopNo) / 2 ≡ place = ap offset (sym odd ∙ packed-why r m′ o′ (imported place) _ e .1) in
             omega (arith, a .1, at-place);
       }
 

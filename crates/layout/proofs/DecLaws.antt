@@ -3,6 +3,7 @@ use mathlib.Core.Path.{_≡_, refl, sym, ap, ap₂, _∙_}
 use native.Mathlib.Omega.{arith}
 use mathlib.Core.Option.{Option, none, some}
 use mathlib.Core.List.{List, [], _∷_}
+use mathlib.Core.Bool.{Bool}
 use Prim.Native.Nat.{ℕ, _+_}
 use Rattle.text.proofs.Laws.{never}
 use Rattle.reader.specs.Fields.{DecOne}
@@ -17,8 +18,8 @@ use Rattle.reader.proofs.FieldLaws.{fits-parts}
 use Rattle.layout.specs.Layout.{Layout, declaration}
 use Rattle.layout.specs.Meaning.{Page, Comment, Outcome, bind, orStop, outcome, commented, aboveFirst, tokenText}
 use Rattle.layout.specs.Events.{trimmed}
-use Rattle.layout.specs.State.{runOf, run, runs, effect, effects, page, Walked, Sure, Stops, Commented, CommentedAbove, declaredAt, DeclaredAt}
-use Rattle.layout.proofs.Steps.{run-at, packed-absent, wrote-then, wrote-after}
+use Rattle.layout.specs.State.{runOf, run, runs, effect, effects, page, shown, Walked, Sure, Stops, Commented, CommentedAbove, declaredAt, DeclaredAt}
+use Rattle.layout.proofs.Steps.{run-at, packed-absent, exactly, wrote-then, wrote-after}
 use Rattle.reader.specs.Tokens.{textOf}
 use Rattle.comments.specs.Above.{commentAbove}
 
@@ -46,28 +47,29 @@ abbrev declaring : Page → Layout → Layout → Option ℕ → ℕ → Outcome
 declaring p line arm first next = bind (commented (aboveFirst p first) (λ a. outcome p line a) next) (λ a. outcome p arm a)
 
 module _ {words : List ℕ} {p : Page} {a : ℕ} {m o : List ℕ} {line : Layout} {arm : ℕ → Layout} {x : Declaration} where
-  pub declaration-is : {n next r : ℕ} {first : Number} {m′ o′ m″ o″ : List ℕ} → DeclaredAt (length (p .tokens .starts)) (p .rec) a x → x ≡ Whole.Is n first next
+  pub declaration-is : {n next r : ℕ} {first : Number} {m′ o′ m″ o″ : List ℕ} {keep : Bool} → DeclaredAt (length (p .tokens .starts)) (p .rec) a x → x ≡ Whole.Is n first next
       → CommentedAbove words (p .text) (p .tokens .kinds) (p .tokens .starts) (p .tokens .lengths) (numberIn first) line m o m′ o′
-      → Walked words p (arm n) (runOf next m′ o′) r m″ o″ → Walked words p (declaration line arm) (runOf a m o) r m″ o″
+      → Walked keep words p (arm n) (runOf next m′ o′) r m″ o″ → Walked keep words p (declaration line arm) (runOf a m o) r m″ o″
   unfolding runs outcome declaredAt declarationIn orStop
-  declaration-is {n} {next} {first = first} {m′} {o′} e f h w =
+  declaration-is {n} {next} {first = first} {m′} {o′} {keep = keep} e f h w =
       let q = is-there (formFits (p .rec) (length (p .tokens .starts)) DecOne a) (firstToken (p .rec) a) (a + formWidth DecOne) n (numberIn first) next
       (sym (ap declarationIn f) ∙ e .is) in
       let fits = form-fits (p .rec) a DecOne n (fits-parts (p .rec) (length (p .tokens .starts)) DecOne a n (q .0) .0) in
       record {
         is = λ fair.
-            wrote-then p (commented (aboveFirst p (numberIn first)) (outcome p line)) next m o (λ b. outcome p (arm n) b) (h .is (fair .words-are) (p .rec) next)
-            (w .is (record { words-are = fair .words-are; short = fair .short; cursor = omega (arith, fits, q .2, fair .short) }))
+            w .is (record { words-are = fair .words-are; short = fair .short; cursor = omega (arith, fits, q .2, fair .short) })
+            ∙ ap (shown keep)
+            (wrote-then p (commented (aboveFirst p (numberIn first)) (outcome p line)) next m o (λ b. outcome p (arm n) b) (h .is (fair .words-are) (p .rec) next) refl
             ∙ run-at p (declaring p line (arm n) (numberIn first) next) next (runOf a m o)
-            ∙ sym (rw (q .0, ← q .1, ← q .2) refl);
+            ∙ sym (rw (q .0, ← q .1, ← q .2) refl));
       }
 
-  pub declaration-not : {r : ℕ} → Stops a r → DeclaredAt (length (p .tokens .starts)) (p .rec) a x → x ≡ Whole.Not
-      → Walked words p (declaration line arm) (runOf a m o) r m o
+  pub declaration-not : {r : ℕ} {keep : Bool} → Stops a r → DeclaredAt (length (p .tokens .starts)) (p .rec) a x → x ≡ Whole.Not
+      → Walked keep words p (declaration line arm) (runOf a m o) r m o
   unfolding runs outcome run effects declaredAt declarationIn orStop
   declaration-not {r} h e f =
       let q = is-gone (formFits (p .rec) (length (p .tokens .starts)) DecOne a) (firstToken (p .rec) a) (a + formWidth DecOne) (sym (ap declarationIn f) ∙ e .is) in
-      record { is = λ fair. packed-absent a r m o (h .is (fair .cursor)) ∙ rw q refl }
+      exactly (λ fair. packed-absent a r m o (h .is (fair .cursor)) ∙ rw q refl)
 
 -- ---- the comment above a declaration
 module _ {words x kinds starts lens : List ℕ} {line : Layout} {m o : List ℕ} where

@@ -18,7 +18,7 @@ use Rattle.reader.proofs.CommandLaws.{form-not, form-read, form-fits}
 use Rattle.layout.specs.Layout.{Layout, dropped}
 use Rattle.layout.specs.Meaning.{Page, Event, Outcome, done, stopped, Stop, absent, outcome, onwards}
 use Rattle.layout.specs.State.{Run, runOf, at, effects, Ran, went, fell, run, runs, stopNo, packed, Walked, Stops, Onwards, onwardsOf}
-use Rattle.layout.proofs.Steps.{packed-done, packed-stop, packed-absent}
+use Rattle.layout.proofs.Steps.{packed-done, packed-stop, packed-absent, shown-all, exactly}
 use Rattle.reader.proofs.Bounded.{Below, end-below}
 use borrow.Author.Tests.{lt-ltb, le-ltb, ltb-true, ltb-false}
 use native.Mathlib.Omega.{arith}
@@ -110,11 +110,10 @@ unfolding walks
 left-is zero = refl
 left-is (suc n) = refl
 
-pub dropped-by : {words : List ℕ} {p : Page} {n : ℕ} {w : Layout} {a r s : ℕ} {m o m′ o′ : List ℕ} → Walked words p w (runOf a m o) r m′ o′
-    → Onwards (p .rec) (length (p .tokens .starts)) n a r s → Walked words p (dropped (walks n .left) w) (runOf a m o) s m′ o′
+pub dropped-by : {words : List ℕ} {p : Page} {n : ℕ} {w : Layout} {a r s : ℕ} {m o m′ o′ : List ℕ} → Walked true words p w (runOf a m o) r m′ o′
+    → Onwards (p .rec) (length (p .tokens .starts)) n a r s → Walked true words p (dropped (walks n .left) w) (runOf a m o) s m′ o′
 unfolding runs outcome
 dropped-by {words} {p} {n} {w} {a} {r} {s} {m} {o} {m′} {o′} e f =
-    subst (λ (l : ℕ). Walked words p (dropped l w) (runOf a m o) s m′ o′) (sym (left-is n))
-    (record {
-      is = λ fair. ap (λ x. packed x m′ o′) (f .is (fair .short)) ∙ dropped-run p n a (fair .short) r (outcome p w a) m′ o′ (runOf a m o) (fair .cursor) (e .is fair);
-    })
+    subst (λ (l : ℕ). Walked true words p (dropped l w) (runOf a m o) s m′ o′) (sym (left-is n))
+    (exactly (λ fair. ap (λ x. packed x m′ o′) (f .is (fair .short))
+    ∙ dropped-run p n a (fair .short) r (outcome p w a) m′ o′ (runOf a m o) (fair .cursor) (sym (shown-all _) ∙ e .is fair ∙ shown-all _)))

@@ -1,6 +1,6 @@
 -- Laws of what AppExp sees of its expressions.
 use mathlib.Core.Path.{_≡_, refl, sym, ap, _∙_}
-use mathlib.Core.Bool.{Bool}
+use mathlib.Core.Bool.{Bool, false}
 use mathlib.Core.List.{List}
 use Prim.Native.Nat.{ℕ, _+_}
 use lib.ListN.{length}
@@ -14,13 +14,15 @@ use Rattle.reader.specs.declared.tree.Checked as Tree
 use Rattle.reader.specs.Commands.{FormAt}
 use Rattle.reader.specs.Tree.{checkedIn, Ends}
 use Rattle.reader.proofs.CommandLaws.{form-not, form-read}
+use Rattle.layout.specs.declared.Answer.{Answer}
+use Rattle.layout.specs.declared.Answer.the-variants.{Stopped}
 use Rattle.layout.specs.declared.names.Name as Code
 use Rattle.layout.specs.declared.looks.Head as Looks
 use Rattle.layout.specs.declared.looks.BothSeen as Both
-use Rattle.layout.specs.Layout.{Layout, application}
-use Rattle.layout.specs.Meaning.{Page, opPathName, Head, pathExp, otherExp, Seen, seen, unseen, headOf, Heads, missing, bothSeen, headsFrom, headsAt, funcIsBang, argIsSymbolic, outcome}
-use Rattle.layout.specs.State.{runOf, run, runs, effects, page, Walked, Stops, nameIn, headIn, headsIn, BangIs, SymbolicIs}
-use Rattle.layout.proofs.Steps.{Same, packed-absent}
+use Rattle.layout.specs.Layout.{Layout, _⨾_, application}
+use Rattle.layout.specs.Meaning.{Page, opPathName, Head, pathExp, otherExp, Seen, seen, unseen, headOf, Heads, both, missing, bothSeen, headsFrom, headsAt, funcIsBang, argIsSymbolic, outcome}
+use Rattle.layout.specs.State.{runOf, run, runs, effects, page, packed, shown, toldOf, Fair, Walked, Stops, nameIn, headIn, headsIn, headsBehind, askedFirst, AskedFirst, BangIs, SymbolicIs}
+use Rattle.layout.proofs.Steps.{Same, packed-absent, then-stop}
 use Rattle.layout.proofs.HeadPlaces.{missing-below}
 
 -- ---- one expression
@@ -70,20 +72,67 @@ module _ {rec : List ℕ} {func : ℕ} {x : Number} (e : FormAt Case.Exp rec fun
     unfolding headsAt
     at-deep i = rw (form-read e f, headsAt, sym (h .is) ∙ ap checkedIn i) refl
 
+-- ---- where the first one's walk ended
+module _ {rec : List ℕ} {func : ℕ} (arg : ℕ) {x : Number} (e : FormAt Case.Exp rec func x) where
+  pub behind-missing : x ≡ Number.Not → missing func ≡ headsBehind rec func arg
+  unfolding headsBehind
+  behind-missing f = rw (form-not e f, headsBehind) refl
+
+  pub behind-both : {n : ℕ} {z : Heads} → x ≡ Number.Is n → z ≡ headsFrom rec n func arg → z ≡ headsBehind rec func arg
+  unfolding headsBehind
+  behind-both f j = rw (form-read e f, headsBehind) j
+
+-- ---- where it stopped
+module _ {rec : List ℕ} {count func n : ℕ} {y : Both.BothSeen} (e : headsIn y ≡ headsAt rec count func) where
+  pub asked-both : {f a : Looks.Head} → y ≡ Both.BothSeen.Are f a → AskedFirst rec count func n n
+  unfolding askedFirst
+  asked-both f = record { is = λ short near. let q = sym e ∙ ap headsIn f in sym (rw (q, askedFirst) refl) }
+
+  pub asked-missing : {place b : ℕ} → y ≡ Both.BothSeen.Missing place → Stops place b → AskedFirst rec count func n b
+  unfolding askedFirst
+  asked-missing f h =
+      record {
+        is = λ short near.
+            let q = sym e ∙ ap headsIn f in
+            h .is (missing-below rec count short near q) ∙ sym (rw (q, askedFirst) refl);
+      }
+
 -- ---- the walk
-module _ {words x r kinds starts lens : List ℕ} {a : ℕ} {m o : List ℕ} {k : Bool → Bool → Layout} {y : Both.BothSeen} (e : headsIn y ≡ headsAt r (length starts) a) where
+module _ {words x r kinds starts lens : List ℕ} {a : ℕ} {m o : List ℕ} {k : Bool → Bool → Layout} {y : Both.BothSeen}
+    (e : Fair words (page x r kinds starts lens) a → headsIn y ≡ headsAt r (length starts) a) where
   pub application-is : {f g : Looks.Head} {b c : Bool} → y ≡ Both.BothSeen.Are f g → BangIs x starts lens (headIn f) b → SymbolicIs x starts lens (headIn g) c
       → Same words (page x r kinds starts lens) (application k) (runOf a m o) (k b c) (runOf a m o)
   unfolding runs outcome
   application-is {f} {g} {b} {c} h i j =
-      let q = sym e ∙ ap headsIn h in
-      record { on = λ fair. fair .cursor; is = λ fair. rw (q, outcome, ← i .is r kinds, ← j .is r kinds) refl }
-
-  pub application-missing : {place n : ℕ} → y ≡ Both.BothSeen.Missing place → Stops place n
-      → Walked words (page x r kinds starts lens) (application k) (runOf a m o) n m o
-  unfolding runs outcome run effects
-  application-missing {place} {n} f h =
-      let q = sym e ∙ ap headsIn f in
       record {
-        is = λ fair. packed-absent place n m o (h .is (missing-below r (length starts) (fair .short) (fair .cursor) q)) ∙ rw (q, outcome) refl;
+        on = λ fair. fair .cursor;
+        is = λ fair.
+            let q = sym (e fair) ∙ ap headsIn h in
+            rw (q, outcome, ← i .is r kinds, ← j .is r kinds) refl;
       }
+
+  pub application-missing : {place n : ℕ} {m′ o′ : List ℕ} → y ≡ Both.BothSeen.Missing place → Stops place n
+      → Walked false words (page x r kinds starts lens) (application k) (runOf a m o) n m′ o′
+  unfolding runs outcome run effects shown
+  application-missing {place} {n} {m′} {o′} f h =
+      record {
+        is = λ fair.
+            let q = sym (e fair) ∙ ap headsIn f in
+            ap (shown false) (packed-absent place n m′ o′ (h .is (missing-below r (length starts) (fair .short) (fair .cursor) q))) ∙ rw (q, outcome) refl;
+      }
+
+-- The first expression stopped.
+module _ {words : List ℕ} {p : Page} {a n r : ℕ} {m o m′ o′ : List ℕ} {v : Layout} {w : Bool → Bool → Layout} {y : Answer} where
+  pub application-stop : Walked false words p v (runOf a m o) n m′ o′ → y ≡ toldOf n → y ≡ Stopped → AskedFirst (p .rec) (length (p .tokens .starts)) a n r
+      → Walked false words p (application (λ b c. v ⨾ w b c)) (runOf a m o) r m′ o′
+  unfolding runs outcome run effects shown askedFirst
+  application-stop e t f h = record { is = λ fair. go fair (headsAt (p .rec) (length (p .tokens .starts)) a) refl }
+    where
+      go : Fair words p a → (x : Heads) → headsAt (p .rec) (length (p .tokens .starts)) a ≡ x
+          → shown false (packed r m′ o′) ≡ shown false (runs p (application (λ b c. v ⨾ w b c)) (runOf a m o))
+      go fair (both func arg) q =
+          ap (λ z. shown false (packed z m′ o′)) (h .is (fair .short) (fair .cursor) ∙ rw (q, askedFirst) refl)
+          ∙ then-stop {w = w (funcIsBang p func) (argIsSymbolic p arg)} e t f .is fair
+          ∙ rw (q, outcome) refl
+      go fair (missing place) q =
+          ap (shown false) (packed-absent place r m′ o′ (h .is (fair .short) (fair .cursor) ∙ rw (q, askedFirst) refl)) ∙ rw (q, outcome) refl

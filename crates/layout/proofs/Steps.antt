@@ -16,7 +16,7 @@ use Rattle.layout.specs.declared.Answer.the-variants.{Done, Stopped}
 use Rattle.layout.specs.Layout.{Layout, skip, _⨾_, word, output-indent, formed, text, group, choice, form, list, maybe, present, Look, look, Test, isPipe, firstName, operator, halt}
 use Rattle.layout.specs.Meaning.{Page, Event, Word, Token, Comment, Formed, Indent, Outcome, done, stopped, Stop, absent, imported, after, bind, orStop, outcome, operated, tokenText, namePasses, sees, passes}
 use Rattle.layout.specs.Words.{wordRun}
-use Rattle.layout.specs.State.{Run, runOf, at, effect, effects, Ran, went, fell, run, runs, stopNo, stopOf, toldOf, packed, page, Fair, Walked, Ended, Plain, Put, Sure, Texted, Indented, deepened, Stops, readOf, ReadAt, FormRead, groupOf, GroupRead, goneOf, GoneRead, presentOf, PresentRead, joint, TestedText, TestedName, Looked, Operated, cfgOf, Deeper, Does}
+use Rattle.layout.specs.State.{Run, runOf, at, effect, effects, Ran, went, fell, run, runs, stopNo, stopOf, toldOf, packed, shown, page, Fair, Walked, Ended, Plain, Put, Sure, Texted, Indented, deepened, Stops, readOf, ReadAt, FormRead, groupOf, GroupRead, goneOf, GoneRead, presentOf, PresentRead, joint, TestedText, TestedName, Looked, Operated, cfgOf, Deeper, Does}
 use Rattle.reader.specs.Tokens.{textOf}
 use Rattle.reader.specs.declared.commands.Family as Code
 use Rattle.reader.specs.declared.commands.Family.the-variants as Case
@@ -87,6 +87,13 @@ module _ (p : Page) where
   unfolding runs outcome
   runs-seq v w g = run-bind (outcome p v (g .at)) (λ next. outcome p w next) g
 
+  regrouped : (g : Run) (u v w : Layout) → runs p (u ⨾ v ⨾ w) g ≡ runs p ((u ⨾ v) ⨾ w) g
+  regrouped g u v w =
+      runs-seq u (v ⨾ w) g
+      ∙ andThen-same (runs p u g) (runs p (v ⨾ w)) (λ x. andThen (runs p v x) (runs p w)) (runs-seq v w)
+      ∙ sym (runs-seq (u ⨾ v) w g ∙ ap (λ x. andThen x (runs p w)) (runs-seq u v g)
+      ∙ andThen-assoc (runs p u g) (runs p v) (runs p w))
+
 -- ---- a walk's number
 pub packed-done : (r : ℕ) (m o : List ℕ) → r < stopNo → packed r m o ≡ went (runOf r m o)
 unfolding packed
@@ -129,31 +136,64 @@ told-stop r e = go (ltb r stopNo) refl e
     go true f e = never (cc)
     go false f e = ltb-false r stopNo f
 
+-- ---- what counts of a run
+pub shown-went : (keep : Bool) (x : Ran) {g : Run} → shown keep (went g) ≡ shown keep x → x ≡ went g
+unfolding shown
+shown-went keep (went h) e = sym e
+shown-went keep (fell why h) e = never (cc)
+
+shown-fell : (keep : Bool) (x : Ran) (k : Run → Ran) (why : Stop) (g : Run) → shown keep (fell why g) ≡ shown keep x → shown keep (fell why g) ≡ shown keep (andThen x k)
+unfolding shown
+shown-fell keep (went h) k why g e = never (cc)
+shown-fell keep (fell why′ h) k why g e = e
+
+-- Where all is kept, all counts.
+pub shown-all : (x : Ran) → shown true x ≡ x
+unfolding shown
+shown-all (went g) = refl
+shown-all (fell why g) = refl
+
+pub exactly : {words : List ℕ} {p : Page} {w : Layout} {g : Run} {r : ℕ} {m o : List ℕ} {keep : Bool} → (Fair words p (g .at) → packed r m o ≡ runs p w g) → Walked keep words p w g r m o
+exactly {keep = keep} e = record { is = λ fair. ap (shown keep) (e fair) }
+
+-- A run that ended, by its number.
+pub ended-at : (keep : Bool) {x : Ran} (r : ℕ) {s : ℕ} {m o : List ℕ} {a : Answer} → shown keep (packed r m o) ≡ shown keep x → a ≡ toldOf r → a ≡ Done s → x ≡ went (runOf s m o)
+ended-at keep {x} r {s} {m} {o} e t f =
+    let q = told-done r s (sym t ∙ f) in
+    let d : packed r m o ≡ went (runOf s m o) = packed-done r m o (q .1) ∙ ap (λ a. went (runOf a m o)) (q .0) in
+    shown-went keep x (ap (shown keep) (sym d) ∙ e)
+
+-- A run that stopped, and whatever stands behind it.
+stopped-at : (keep : Bool) (x : Ran) (k : Run → Ran) (r : ℕ) (m o : List ℕ) → shown keep (packed r m o) ≡ shown keep x → stopNo ≤ r → shown keep (packed r m o) ≡ shown keep (andThen x k)
+stopped-at keep x k r m o e h =
+    let q = packed-stop r m o h in
+    ap (shown keep) q ∙ shown-fell keep x k _ _ (ap (shown keep) (sym q) ∙ e)
+
 fair-on : {words : List ℕ} {p : Page} {a b : ℕ} → Fair words p a → b < stopNo → Fair words p b
 fair-on f h = record { words-are = f .words-are; short = f .short; cursor = h }
 
 -- ---- what an outcome leaves, from the cursor on
 module _ {words : List ℕ} {p : Page} where
-  pub ended : {w : Layout} {g : Run} {r : ℕ} {m o : List ℕ} → Walked words p w g r m o → Ended words p (outcome p w) g r m o
+  pub ended : {w : Layout} {g : Run} {r : ℕ} {m o : List ℕ} {keep : Bool} → Walked keep words p w g r m o → Ended keep words p (outcome p w) g r m o
   unfolding runs
   ended e = record { is = e .is }
 
-  pub ended-done : {f k : ℕ → Outcome} {g : Run} {s′ : ℕ} {m′ o′ m″ o″ : List ℕ} {r r′ : ℕ} {x : Answer} → Ended words p f g r′ m′ o′ → x ≡ toldOf r′ → x ≡ Done s′
-      → Ended words p k (runOf s′ m′ o′) r m″ o″ → Ended words p (λ a. bind (f a) k) g r m″ o″
-  ended-done {f} {k} {g} {s′} {m′} {o′} {r′ = r′} e t h i =
+  pub ended-done : {f k : ℕ → Outcome} {g : Run} {s′ : ℕ} {m′ o′ m″ o″ : List ℕ} {r r′ : ℕ} {x : Answer} {keep : Bool} → Ended keep words p f g r′ m′ o′ → x ≡ toldOf r′ → x ≡ Done s′
+      → Ended keep words p k (runOf s′ m′ o′) r m″ o″ → Ended keep words p (λ a. bind (f a) k) g r m″ o″
+  ended-done {f} {k} {g} {s′} {r′ = r′} {keep = keep} e t h i =
       let q = told-done r′ s′ (sym t ∙ h) in
       let n : s′ < stopNo = omega (arith, q .0, q .1) in
       record {
         is = λ fair. i .is (fair-on fair n)
-            ∙ sym (run-bind p (f (g .at)) k g
-            ∙ ap (λ x. andThen x (λ x. run p (k (x .at)) x)) (sym (e .is fair) ∙ packed-done r′ m′ o′ (q .1) ∙ ap (λ a. went (runOf a m′ o′)) (q .0)));
+            ∙ ap (shown keep) (sym (run-bind p (f (g .at)) k g ∙ ap (λ x. andThen x (λ x. run p (k (x .at)) x)) (ended-at keep r′ (e .is fair) t h)));
       }
 
-  pub ended-stop : {f : ℕ → Outcome} (k : ℕ → Outcome) {g : Run} {m′ o′ : List ℕ} {r′ : ℕ} {x : Answer} → Ended words p f g r′ m′ o′ → x ≡ toldOf r′
-      → x ≡ Stopped → Ended words p (λ a. bind (f a) k) g r′ m′ o′
-  ended-stop {f} k {g} {m′} {o′} {r′} e t h =
-      let q = packed-stop r′ m′ o′ (told-stop r′ (sym t ∙ h)) in
-      record { is = λ fair. q ∙ sym (run-bind p (f (g .at)) k g ∙ ap (λ x. andThen x (λ x. run p (k (x .at)) x)) (sym (e .is fair) ∙ q)) }
+  pub ended-stop : {f : ℕ → Outcome} (k : ℕ → Outcome) {g : Run} {m′ o′ : List ℕ} {r′ : ℕ} {x : Answer} {keep : Bool} → Ended keep words p f g r′ m′ o′ → x ≡ toldOf r′
+      → x ≡ Stopped → Ended keep words p (λ a. bind (f a) k) g r′ m′ o′
+  ended-stop {f} k {g} {m′} {o′} {r′} {keep = keep} e t h =
+      record {
+        is = λ fair. stopped-at keep (run p (f (g .at)) g) (λ x. run p (k (x .at)) x) r′ m′ o′ (e .is fair) (told-stop r′ (sym t ∙ h)) ∙ ap (shown keep) (sym (run-bind p (f (g .at)) k g));
+      }
 
 -- What is only written stays at the cursor.
 module _ (p : Page) (f : ℕ → Outcome) (a : ℕ) (m o : List ℕ) {m′ o′ : List ℕ} {x : Ran} where
@@ -168,59 +208,44 @@ module _ (p : Page) (f : ℕ → Outcome) (a : ℕ) (m o : List ℕ) {m′ o′ 
 
 -- ---- a step for each kind of statement
 module _ {words : List ℕ} {p : Page} where
-  pub then-done : {g : Run} {m′ o′ m″ o″ : List ℕ} {v w : Layout} {s′ r r′ : ℕ} {x : Answer} → Walked words p v g r′ m′ o′ → x ≡ toldOf r′ → x ≡ Done s′
-      → Walked words p w (runOf s′ m′ o′) r m″ o″ → Walked words p (v ⨾ w) g r m″ o″
-  then-done {g} {m′} {o′} {v = v} {w} {s′} {r} {r′} e t f h =
+  pub then-done : {g : Run} {m′ o′ m″ o″ : List ℕ} {v w : Layout} {s′ r r′ : ℕ} {x : Answer} {keep : Bool} → Walked keep words p v g r′ m′ o′ → x ≡ toldOf r′ → x ≡ Done s′
+      → Walked keep words p w (runOf s′ m′ o′) r m″ o″ → Walked keep words p (v ⨾ w) g r m″ o″
+  then-done {g} {v = v} {w} {s′} {r} {r′} {keep = keep} e t f h =
       let q = told-done r′ s′ (sym t ∙ f) in
       let n : s′ < stopNo = omega (arith, q .0, q .1) in
-      record {
-        is = λ fair. h .is (fair-on fair n)
-            ∙ sym (runs-seq p v w g ∙ ap (λ x. andThen x (runs p w)) (sym (e .is fair) ∙ packed-done r′ m′ o′ (q .1) ∙ ap (λ a. went (runOf a m′ o′)) (q .0)));
-      }
+      record { is = λ fair. h .is (fair-on fair n) ∙ ap (shown keep) (sym (runs-seq p v w g ∙ ap (λ x. andThen x (runs p w)) (ended-at keep r′ (e .is fair) t f))) }
 
   -- A walk that stopped, whatever stands behind it.
-  pub then-fell : {g : Run} {m′ o′ : List ℕ} {v w : Layout} {r′ : ℕ} → Walked words p v g r′ m′ o′ → (Fair words p (g .at) → stopNo ≤ r′) → Walked words p (v ⨾ w) g r′ m′ o′
-  then-fell {g} {m′} {o′} {v} {w} {r′} e f =
-      record {
-        is = λ fair.
-            let q = packed-stop r′ m′ o′ (f fair) in
-            q ∙ sym (runs-seq p v w g ∙ ap (λ x. andThen x (runs p w)) (sym (e .is fair) ∙ q));
-      }
+  pub then-fell : {g : Run} {m′ o′ : List ℕ} {v w : Layout} {r′ : ℕ} {keep : Bool} → Walked keep words p v g r′ m′ o′ → (Fair words p (g .at) → stopNo ≤ r′) → Walked keep words p (v ⨾ w) g r′ m′ o′
+  then-fell {g} {m′} {o′} {v} {w} {r′} {keep = keep} e f =
+      record { is = λ fair. stopped-at keep (runs p v g) (runs p w) r′ m′ o′ (e .is fair) (f fair) ∙ ap (shown keep) (sym (runs-seq p v w g)) }
 
-  pub then-stop : {g : Run} {m′ o′ : List ℕ} {v w : Layout} {r′ : ℕ} {x : Answer} → Walked words p v g r′ m′ o′ → x ≡ toldOf r′ → x ≡ Stopped
-      → Walked words p (v ⨾ w) g r′ m′ o′
+  pub then-stop : {g : Run} {m′ o′ : List ℕ} {v w : Layout} {r′ : ℕ} {x : Answer} {keep : Bool} → Walked keep words p v g r′ m′ o′ → x ≡ toldOf r′ → x ≡ Stopped
+      → Walked keep words p (v ⨾ w) g r′ m′ o′
   then-stop {r′ = r′} e t f = then-fell e (λ fair. told-stop r′ (sym t ∙ f))
 
   -- A stop at the cursor, whatever stands behind it.
-  pub then-halt : {a r′ : ℕ} {m o m′ o′ : List ℕ} {v w : Layout} → Walked words p v (runOf a m o) r′ m′ o′ → Stops a r′ → Walked words p (v ⨾ w) (runOf a m o) r′ m′ o′
+  pub then-halt : {a r′ : ℕ} {m o m′ o′ : List ℕ} {v w : Layout} {keep : Bool} → Walked keep words p v (runOf a m o) r′ m′ o′ → Stops a r′ → Walked keep words p (v ⨾ w) (runOf a m o) r′ m′ o′
   then-halt e f = then-fell e (λ fair. omega (arith, f .is (fair .cursor)))
 
-  pub last-sure : {a : ℕ} {m o m′ o′ : List ℕ} {v : Layout} → Sure words v m o m′ o′ → Walked words p v (runOf a m o) a m′ o′
-  last-sure {a} {m′ = m′} {o′} e = record { is = λ fair. packed-done a m′ o′ (fair .cursor) ∙ e .is (fair .words-are) p a }
+  pub last-sure : {a : ℕ} {m o m′ o′ : List ℕ} {v : Layout} {keep : Bool} → Sure words v m o m′ o′ → Walked keep words p v (runOf a m o) a m′ o′
+  last-sure {a} {m′ = m′} {o′} e = exactly (λ fair. packed-done a m′ o′ (fair .cursor) ∙ e .is (fair .words-are) p a)
 
-  pub then-sure : {a r : ℕ} {m o m′ o′ m″ o″ : List ℕ} {v w : Layout} → Sure words v m o m′ o′
-      → Walked words p w (runOf a m′ o′) r m″ o″ → Walked words p (v ⨾ w) (runOf a m o) r m″ o″
-  then-sure {a} {m = m} {o} {v = v} {w} e h =
-      record { is = λ fair. h .is fair ∙ sym (runs-seq p v w (runOf a m o) ∙ ap (λ x. andThen x (runs p w)) (sym (e .is (fair .words-are) p a))) }
+  pub then-sure : {a r : ℕ} {m o m′ o′ m″ o″ : List ℕ} {v w : Layout} {keep : Bool} → Sure words v m o m′ o′
+      → Walked keep words p w (runOf a m′ o′) r m″ o″ → Walked keep words p (v ⨾ w) (runOf a m o) r m″ o″
+  then-sure {a} {m = m} {o} {v = v} {w} {keep = keep} e h =
+      record { is = λ fair. h .is fair ∙ ap (shown keep) (sym (runs-seq p v w (runOf a m o) ∙ ap (λ x. andThen x (runs p w)) (sym (e .is (fair .words-are) p a)))) }
 
-  pub last-skip : {a : ℕ} {m o : List ℕ} → Walked words p skip (runOf a m o) a m o
+  pub last-skip : {a : ℕ} {m o : List ℕ} {keep : Bool} → Walked keep words p skip (runOf a m o) a m o
   unfolding runs outcome run effects
-  last-skip {a} {m} {o} = record { is = λ fair. packed-done a m o (fair .cursor) }
+  last-skip {a} {m} {o} = exactly (λ fair. packed-done a m o (fair .cursor))
 
-  pub last-halt : {a r : ℕ} {m o : List ℕ} → Stops a r → Walked words p halt (runOf a m o) r m o
+  pub last-halt : {a r : ℕ} {m o : List ℕ} {keep : Bool} → Stops a r → Walked keep words p halt (runOf a m o) r m o
   unfolding runs outcome run effects
-  last-halt {a} {r} {m} {o} e = record { is = λ fair. packed-absent a r m o (e .is (fair .cursor)) }
+  last-halt {a} {r} {m} {o} e = exactly (λ fair. packed-absent a r m o (e .is (fair .cursor)))
 
-  pub regroup : {g : Run} {m o : List ℕ} {u v w : Layout} {r : ℕ} → Walked words p (u ⨾ v ⨾ w) g r m o → Walked words p ((u ⨾ v) ⨾ w) g r m o
-  regroup {g} {m} {o} {u} {v} {w} {r} f =
-      record {
-        is = λ fair.
-            f .is fair
-            ∙ runs-seq p u (v ⨾ w) g
-            ∙ andThen-same (runs p u g) (runs p (v ⨾ w)) (λ x. andThen (runs p v x) (runs p w)) (runs-seq p v w)
-            ∙ sym (runs-seq p (u ⨾ v) w g ∙ ap (λ x. andThen x (runs p w)) (runs-seq p u v g)
-            ∙ andThen-assoc (runs p u g) (runs p v) (runs p w));
-      }
+  pub regroup : {g : Run} {m o : List ℕ} {u v w : Layout} {r : ℕ} {keep : Bool} → Walked keep words p (u ⨾ v ⨾ w) g r m o → Walked keep words p ((u ⨾ v) ⨾ w) g r m o
+  regroup {g} {u = u} {v} {w} {keep = keep} f = record { is = λ fair. f .is fair ∙ ap (shown keep) (regrouped p g u v w) }
 
 -- A token's text by number.
 module _ (p : Page) where
@@ -235,8 +260,8 @@ pub record Same (words : List ℕ) (p : Page) (v : Layout) (g : Run) (w : Layout
   pub is : Fair words p (g .at) → runs p v g ≡ runs p w h
 
 module _ {words : List ℕ} {p : Page} where
-  pub by-same : {v w : Layout} {g h : Run} {r : ℕ} {m o : List ℕ} → Same words p v g w h → Walked words p w h r m o → Walked words p v g r m o
-  by-same e f = record { is = λ fair. f .is (fair-on fair (e .on fair)) ∙ sym (e .is fair) }
+  pub by-same : {v w : Layout} {g h : Run} {r : ℕ} {m o : List ℕ} {keep : Bool} → Same words p v g w h → Walked keep words p w h r m o → Walked keep words p v g r m o
+  by-same {keep = keep} e f = record { is = λ fair. f .is (fair-on fair (e .on fair)) ∙ ap (shown keep) (sym (e .is fair)) }
 
   -- With the same behind both.
   pub first-same : {v w u : Layout} {g h : Run} → Same words p v g w h → Same words p (v ⨾ u) g (w ⨾ u) h
@@ -332,21 +357,19 @@ module _ {words : List ℕ} {p : Page} {a : ℕ} {m o : List ℕ} {x : Read} whe
         read-same (λ r i. formAt r (familyOf family) i) (formWidth (familyOf family)) (form (familyOf family) k) k (λ i n h. form-fits (p .rec) i (familyOf family) n h) refl (e .is) f
 
     module _ {r : ℕ} (h : Stops a r) where
-      pub list-not : ReadAt listAt 3 (p .rec) a x → x ≡ Read.Not → Walked words p (list k) (runOf a m o) r m o
+      pub list-not : {keep : Bool} → ReadAt listAt 3 (p .rec) a x → x ≡ Read.Not → Walked keep words p (list k) (runOf a m o) r m o
       unfolding runs outcome
-      list-not e f = record { is = λ fair. reads-stop p 3 (listAt (p .rec) a) (λ i. outcome p (k i) (a + 3)) a r m o (sym f ∙ e .is) (h .is (fair .cursor)) }
+      list-not e f = exactly (λ fair. reads-stop p 3 (listAt (p .rec) a) (λ i. outcome p (k i) (a + 3)) a r m o (sym f ∙ e .is) (h .is (fair .cursor)))
 
-      pub choice-not : ReadAt choiceAt 2 (p .rec) a x → x ≡ Read.Not → Walked words p (choice k) (runOf a m o) r m o
+      pub choice-not : {keep : Bool} → ReadAt choiceAt 2 (p .rec) a x → x ≡ Read.Not → Walked keep words p (choice k) (runOf a m o) r m o
       unfolding runs outcome
-      choice-not e f = record { is = λ fair. reads-stop p 2 (choiceAt (p .rec) a) (λ i. outcome p (k i) (a + 2)) a r m o (sym f ∙ e .is) (h .is (fair .cursor)) }
+      choice-not e f = exactly (λ fair. reads-stop p 2 (choiceAt (p .rec) a) (λ i. outcome p (k i) (a + 2)) a r m o (sym f ∙ e .is) (h .is (fair .cursor)))
 
-      pub form-not : {family : Code.Family} → FormRead family (p .rec) a x → x ≡ Read.Not → Walked words p (form (familyOf family) k) (runOf a m o) r m o
+      pub form-not : {family : Code.Family} {keep : Bool} → FormRead family (p .rec) a x → x ≡ Read.Not → Walked keep words p (form (familyOf family) k) (runOf a m o) r m o
       unfolding runs outcome
       form-not {family} e f =
-          record {
-            is = λ fair. reads-stop p (formWidth (familyOf family)) (formAt (p .rec) (familyOf family) a)
-                (λ i. outcome p (k i) (a + formWidth (familyOf family))) a r m o (sym f ∙ e .is) (h .is (fair .cursor));
-          }
+          exactly (λ fair. reads-stop p (formWidth (familyOf family)) (formAt (p .rec) (familyOf family) a)
+          (λ i. outcome p (k i) (a + formWidth (familyOf family))) a r m o (sym f ∙ e .is) (h .is (fair .cursor)))
 
 -- ---- a token
 abbrev pub TokenRead : Page → ℕ → Read → Type 0
@@ -366,41 +389,41 @@ token-behind {p = p} {a} {k} {b} fair e f =
     behind 3 fair (token-whole (p .rec) (length (p .tokens .starts)) a k (q .0)) (q .1)
 
 module _ {words : List ℕ} {p : Page} {a : ℕ} {m o : List ℕ} {x : Read} where
-  pub text-is : {k b : ℕ} {m′ o′ : List ℕ} → TokenRead p a x → x ≡ Is k b → Texted (p .text) (p .tokens .starts) (p .tokens .lengths) k m o m′ o′
-      → Walked words p text (runOf a m o) b m′ o′
+  pub text-is : {k b : ℕ} {m′ o′ : List ℕ} {keep : Bool} → TokenRead p a x → x ≡ Is k b → Texted (p .text) (p .tokens .starts) (p .tokens .lengths) k m o m′ o′
+      → Walked keep words p text (runOf a m o) b m′ o′
   unfolding runs outcome run effects effect
   text-is {k} {b} {m′} {o′} e f t =
-      record {
-        is = λ fair. packed-done b m′ o′ (token-behind fair e f)
-            ∙ ap went (text-effects p t)
-            ∙ sym (reads-end p 3 (reads-token p a) (λ k next. done next (Token k ∷ [])) k a b m o (sym f ∙ e .is));
-      }
+      exactly (λ fair. packed-done b m′ o′ (token-behind fair e f)
+      ∙ ap went (text-effects p t)
+      ∙ sym (reads-end p 3 (reads-token p a) (λ k next. done next (Token k ∷ [])) k a b m o (sym f ∙ e .is)))
 
-  pub text-not : {r : ℕ} → Stops a r → TokenRead p a x → x ≡ Read.Not → Walked words p text (runOf a m o) r m o
+  pub text-not : {r : ℕ} {keep : Bool} → Stops a r → TokenRead p a x → x ≡ Read.Not → Walked keep words p text (runOf a m o) r m o
   unfolding runs outcome
-  text-not {r} h e f = record { is = λ fair. reads-stop p 3 (reads-token p a) (λ k. done (a + 3) (Token k ∷ [])) a r m o (sym f ∙ e .is) (h .is (fair .cursor)) }
+  text-not {r} h e f = exactly (λ fair. reads-stop p 3 (reads-token p a) (λ k. done (a + 3) (Token k ∷ [])) a r m o (sym f ∙ e .is) (h .is (fair .cursor)))
 
   -- An operator that is kept.
   module _ {lhs pipe gap : Layout} where
-    pub operator-not : {r : ℕ} → Stops a r → TokenRead p a x → x ≡ Read.Not → Walked words p (operator lhs pipe gap) (runOf a m o) r m o
+    pub operator-not : {r : ℕ} {keep : Bool} → Stops a r → TokenRead p a x → x ≡ Read.Not → Walked keep words p (operator lhs pipe gap) (runOf a m o) r m o
     unfolding runs outcome
     operator-not {r} h e f =
-        record { is = λ fair. reads-stop p 3 (reads-token p a) (λ k. kept p lhs pipe gap k (a + 3)) a r m o (sym f ∙ e .is) (h .is (fair .cursor)) }
+        exactly (λ fair. reads-stop p 3 (reads-token p a) (λ k. kept p lhs pipe gap k (a + 3)) a r m o (sym f ∙ e .is) (h .is (fair .cursor)))
 
-    operator-ends : {k b r : ℕ} {m′ o′ : List ℕ} → TokenRead p a x → x ≡ Is k b → Ended words p (kept p lhs pipe gap k) (runOf b m o) r m′ o′
-        → Walked words p (operator lhs pipe gap) (runOf a m o) r m′ o′
+    operator-ends : {k b r : ℕ} {m′ o′ : List ℕ} {keep : Bool} → TokenRead p a x → x ≡ Is k b → Ended keep words p (kept p lhs pipe gap k) (runOf b m o) r m′ o′
+        → Walked keep words p (operator lhs pipe gap) (runOf a m o) r m′ o′
     unfolding runs outcome
-    operator-ends {k} {b} e f h =
-        record { is = λ fair. h .is (fair-on fair (token-behind fair e f)) ∙ sym (reads-end p 3 (reads-token p a) (kept p lhs pipe gap) k a b m o (sym f ∙ e .is)) }
+    operator-ends {k} {b} {keep = keep} e f h =
+        record {
+          is = λ fair. h .is (fair-on fair (token-behind fair e f)) ∙ ap (shown keep) (sym (reads-end p 3 (reads-token p a) (kept p lhs pipe gap) k a b m o (sym f ∙ e .is)));
+        }
 
-    pub operator-stop : {k b r : ℕ} {m′ o′ : List ℕ} {y : Answer} → TokenRead p a x → x ≡ Is k b
-        → Walked words p lhs (runOf b m o) r m′ o′ → y ≡ toldOf r → y ≡ Stopped → Walked words p (operator lhs pipe gap) (runOf a m o) r m′ o′
+    pub operator-stop : {k b r : ℕ} {m′ o′ : List ℕ} {y : Answer} {keep : Bool} → TokenRead p a x → x ≡ Is k b
+        → Walked keep words p lhs (runOf b m o) r m′ o′ → y ≡ toldOf r → y ≡ Stopped → Walked keep words p (operator lhs pipe gap) (runOf a m o) r m′ o′
     operator-stop e f h t i = operator-ends e f (ended-stop (operated p _ (λ next. outcome p pipe next) (λ next. outcome p gap next)) (ended h) t i)
 
-    pub operator-done : {k b c r r′ : ℕ} {m′ o′ m″ o″ : List ℕ} {y : Answer} → TokenRead p a x → x ≡ Is k b
-        → Walked words p lhs (runOf b m o) r′ m′ o′ → y ≡ toldOf r′ → y ≡ Done c
-        → Ended words p (operated p k (λ next. outcome p pipe next) (λ next. outcome p gap next)) (runOf c m′ o′) r m″ o″
-        → Walked words p (operator lhs pipe gap) (runOf a m o) r m″ o″
+    pub operator-done : {k b c r r′ : ℕ} {m′ o′ m″ o″ : List ℕ} {y : Answer} {keep : Bool} → TokenRead p a x → x ≡ Is k b
+        → Walked keep words p lhs (runOf b m o) r′ m′ o′ → y ≡ toldOf r′ → y ≡ Done c
+        → Ended keep words p (operated p k (λ next. outcome p pipe next) (λ next. outcome p gap next)) (runOf c m′ o′) r m″ o″
+        → Walked keep words p (operator lhs pipe gap) (runOf a m o) r m″ o″
     operator-done e f h t i j = operator-ends e f (ended-done (ended h) t i j)
 
 -- ---- a group
@@ -427,14 +450,12 @@ module _ {words : List ℕ} {p : Page} {a n : ℕ} {m o : List ℕ} {w : Layout}
             rw (q .0, outcome) (moved-run p (a + 1) w a s m o (q .1));
       }
 
-  pub group-not : GroupRead (p .rec) a n → x ≡ toldOf n → x ≡ Stopped → Walked words p (group w) (runOf a m o) n m o
+  pub group-not : {keep : Bool} → GroupRead (p .rec) a n → x ≡ toldOf n → x ≡ Stopped → Walked keep words p (group w) (runOf a m o) n m o
   unfolding runs outcome run effects
   group-not e t f =
-      record {
-        is = λ fair.
-            let q = group-false (groupAt (p .rec) a) a n (λ h. omega (arith, group-fits (p .rec) a h, fair .short)) (e .is (fair .cursor)) t f in
-            packed-absent a n m o (q .1) ∙ rw (q .0, outcome) refl;
-      }
+      exactly (λ fair.
+      let q = group-false (groupAt (p .rec) a) a n (λ h. omega (arith, group-fits (p .rec) a h, fair .short)) (e .is (fair .cursor)) t f in
+      packed-absent a n m o (q .1) ∙ rw (q .0, outcome) refl)
 
 -- ---- a field that may be absent
 pub gone-true : (b : Bool) (a s : ℕ) → Gone.Past s ≡ goneOf a b → (b ≡ true) × (s ≡ a + 1)
@@ -448,13 +469,11 @@ gone-false true a e = never (cc)
 gone-false false a e = refl
 
 module _ {words : List ℕ} {p : Page} {a : ℕ} {m o : List ℕ} {w : Layout} {x : Gone} where
-  pub maybe-past : {s : ℕ} → GoneRead (p .rec) a x → x ≡ Gone.Past s → Walked words p (maybe w) (runOf a m o) s m o
+  pub maybe-past : {s : ℕ} {keep : Bool} → GoneRead (p .rec) a x → x ≡ Gone.Past s → Walked keep words p (maybe w) (runOf a m o) s m o
   unfolding runs outcome run effects
   maybe-past {s} e f =
       let q = gone-true (absentAt (p .rec) a) a s (sym f ∙ e .is) in
-      record {
-        is = λ fair. packed-done s m o (behind 1 fair (absent-fits (p .rec) a (q .0)) (q .1)) ∙ ap (λ y. went (runOf y m o)) (q .1) ∙ rw (q .0, outcome) refl;
-      }
+      exactly (λ fair. packed-done s m o (behind 1 fair (absent-fits (p .rec) a (q .0)) (q .1)) ∙ ap (λ y. went (runOf y m o)) (q .1) ∙ rw (q .0, outcome) refl)
 
   pub maybe-there : GoneRead (p .rec) a x → x ≡ Gone.There → Same words p (maybe w) (runOf a m o) w (runOf a m o)
   unfolding runs outcome
@@ -507,14 +526,14 @@ module _ {words : List ℕ} {p : Page} (w : Layout) where
   pub items-all : (u : Layout) (n : ℕ) {g : Run} → Same words p (items n w (u ⨾ w)) g (from u w 0 (n - 0)) g
   items-all u n {g} = here (items-from p u w n g ∙ ap (λ k. runs p (from u w 0 k) g) (sym (sub-zero n)))
 
-  pub from-more : (u : Layout) {i n : ℕ} {g : Run} {r : ℕ} {m o : List ℕ} → i < n
-      → Walked words p (joint u i ⨾ w ⨾ from u w (i + 1) (n - (i + 1))) g r m o → Walked words p (from u w i (n - i)) g r m o
+  pub from-more : (u : Layout) {i n : ℕ} {g : Run} {r : ℕ} {m o : List ℕ} {keep : Bool} → i < n
+      → Walked keep words p (joint u i ⨾ w ⨾ from u w (i + 1) (n - (i + 1))) g r m o → Walked keep words p (from u w i (n - i)) g r m o
   unfolding from
   from-more u {i} {n} e h =
       let q : n - i ≡ suc (n - (i + 1)) = omega arith in
       rw q (regroup h)
 
-  pub from-none : (u : Layout) {i n a : ℕ} {m o : List ℕ} → n ≤ i → Walked words p (from u w i (n - i)) (runOf a m o) a m o
+  pub from-none : (u : Layout) {i n a : ℕ} {m o : List ℕ} {keep : Bool} → n ≤ i → Walked keep words p (from u w i (n - i)) (runOf a m o) a m o
   unfolding from
   from-none u {i} {n} e =
       let q : n - i ≡ 0 = omega arith in
@@ -524,14 +543,14 @@ module _ {words : List ℕ} {p : Page} (w : Layout) where
   pub times-all : (n : ℕ) {g : Run} → Same words p (times n w) g (times (n - 0) w) g
   times-all n {g} = here (ap (λ k. runs p (times k w) g) (sym (sub-zero n)))
 
-  pub times-more : {i n : ℕ} {g : Run} {r : ℕ} {m o : List ℕ} → i < n
-      → Walked words p (w ⨾ times (n - (i + 1)) w) g r m o → Walked words p (times (n - i) w) g r m o
+  pub times-more : {i n : ℕ} {g : Run} {r : ℕ} {m o : List ℕ} {keep : Bool} → i < n
+      → Walked keep words p (w ⨾ times (n - (i + 1)) w) g r m o → Walked keep words p (times (n - i) w) g r m o
   unfolding times
   times-more {i} {n} e h =
       let q : n - i ≡ suc (n - (i + 1)) = omega arith in
       rw q h
 
-  pub times-none : {i n a : ℕ} {m o : List ℕ} → n ≤ i → Walked words p (times (n - i) w) (runOf a m o) a m o
+  pub times-none : {i n a : ℕ} {m o : List ℕ} {keep : Bool} → n ≤ i → Walked keep words p (times (n - i) w) (runOf a m o) a m o
   unfolding times
   times-none {i} {n} e =
       let q : n - i ≡ 0 = omega arith in
@@ -575,16 +594,16 @@ module _ {words : List ℕ} {p : Page} {a : ℕ} {m o : List ℕ} {v w : Layout}
         is = λ fair. rw (q .0, q .1, outcome) (moved-run p (a + 1) w a s m o (q .2));
       }
 
-  pub present-not : {r : ℕ} → Stops a r → PresentRead (length (p .tokens .starts)) (p .rec) a x → x ≡ Given.Neither → Walked words p (present v w) (runOf a m o) r m o
+  pub present-not : {r : ℕ} {keep : Bool} → Stops a r → PresentRead (length (p .tokens .starts)) (p .rec) a x → x ≡ Given.Neither → Walked keep words p (present v w) (runOf a m o) r m o
   unfolding runs outcome run effects
   present-not {r} h e f =
       let q = given-neither (reads-token p a) (absentAt (p .rec) a) a (sym f ∙ e .is) in
-      record { is = λ fair. packed-absent a r m o (h .is (fair .cursor)) ∙ rw (q .0, q .1, outcome) refl }
+      exactly (λ fair. packed-absent a r m o (h .is (fair .cursor)) ∙ rw (q .0, q .1, outcome) refl)
 
 -- A function that asks no kinds, used in one that may.
-pub plain : {words x r kinds starts lens : List ℕ} {w : Layout} {a n : ℕ} {m o m′ o′ : List ℕ} → Plain words x r starts lens w a m o n m′ o′
-    → Walked words (page x r kinds starts lens) w (runOf a m o) n m′ o′
-plain {kinds = kinds} e = e .is kinds
+pub plain : {words x r kinds starts lens : List ℕ} {w : Layout} {a n : ℕ} {m o m′ o′ : List ℕ} {keep : Bool} → Plain words x r starts lens w a m o n m′ o′
+    → Walked keep words (page x r kinds starts lens) w (runOf a m o) n m′ o′
+plain {kinds = kinds} {keep = keep} e = record { is = λ fair. ap (shown keep) (sym (shown-all _) ∙ e .is kinds .is fair ∙ shown-all _) }
 
 -- ---- functions that only write
 pub sure-word : {words : List ℕ} {u : String} {m o m′ o′ : List ℕ} → (words ≡ wordRun → Put (bytes u) m o m′ o′) → Sure words (word u) m o m′ o′
@@ -612,8 +631,8 @@ abbrev pub PlainTurn : List ℕ → List ℕ → List ℕ → List ℕ → List 
 PlainTurn words x r starts lens left n a₀ m₀ o₀ i a m o =
     (i ≤ n)
     × ((kinds : List ℕ) (b : ℕ) (m′ o′ : List ℕ)
-    → Walked words (page x r kinds starts lens) (left i (n - i)) (runOf a m o) b m′ o′
-    → Walked words (page x r kinds starts lens) (left 0 (n - 0)) (runOf a₀ m₀ o₀) b m′ o′)
+    → Walked true words (page x r kinds starts lens) (left i (n - i)) (runOf a m o) b m′ o′
+    → Walked true words (page x r kinds starts lens) (left 0 (n - 0)) (runOf a₀ m₀ o₀) b m′ o′)
     × (length o ≡ length o₀)
 
 -- ---- a joint
@@ -656,12 +675,10 @@ module _ {words : List ℕ} {p : Page} {a : ℕ} {m o : List ℕ} {l : Look} {v 
       let y = sym (g .is (p .text) (p .tokens .kinds) (p .tokens .starts) (p .tokens .lengths)) ∙ h in
       here (rw (q, y, orStop) refl)
 
-  pub look-not : {r : ℕ} → Stops a r → FormRead Case.Exp (p .rec) a x → x ≡ Read.Not → Walked words p (look l v w) (runOf a m o) r m o
+  pub look-not : {r : ℕ} {keep : Bool} → Stops a r → FormRead Case.Exp (p .rec) a x → x ≡ Read.Not → Walked keep words p (look l v w) (runOf a m o) r m o
   unfolding runs outcome
   look-not {r} h e f =
-      record {
-        is = λ fair. reads-stop p (formWidth Exp) (formAt (p .rec) Exp a) (λ k. either p v w a (sees p l a)) a r m o (sym f ∙ e .is) (h .is (fair .cursor));
-      }
+      exactly (λ fair. reads-stop p (formWidth Exp) (formAt (p .rec) Exp a) (λ k. either p v w a (sees p l a)) a r m o (sym f ∙ e .is) (h .is (fair .cursor)))
 
 -- About the first name of the path at the cursor.
 module _ {words x r kinds starts lens : List ℕ} {a n : ℕ} {m o : List ℕ} {t : Test} {v w : Layout} {y : Answer} where
@@ -685,14 +702,12 @@ module _ {words x r kinds starts lens : List ℕ} {a n : ℕ} {m o : List ℕ} {
         is = λ fair. let q = group-true (groupAt r a) a n s (fair .cursor) (e .is (fair .cursor)) u f .0 in rw (q, z, outcome) refl;
       }
 
-  pub name-not : GroupRead r a n → y ≡ toldOf n → y ≡ Stopped → Walked words (page x r kinds starts lens) (firstName t v w) (runOf a m o) n m o
+  pub name-not : {keep : Bool} → GroupRead r a n → y ≡ toldOf n → y ≡ Stopped → Walked keep words (page x r kinds starts lens) (firstName t v w) (runOf a m o) n m o
   unfolding runs outcome run effects
   name-not e u f =
-      record {
-        is = λ fair.
-            let q = group-false (groupAt r a) a n (λ h. omega (arith, group-fits r a h, fair .short)) (e .is (fair .cursor)) u f in
-            packed-absent a n m o (q .1) ∙ rw (q .0, outcome) refl;
-      }
+      exactly (λ fair.
+      let q = group-false (groupAt r a) a n (λ h. omega (arith, group-fits r a h, fair .short)) (e .is (fair .cursor)) u f in
+      packed-absent a n m o (q .1) ∙ rw (q .0, outcome) refl)
 
 -- An operator that was kept, by its text.
 module _ {words x r starts lens : List ℕ} {k : ℕ} {pipe gap : Layout} {b : Bool} (e : TestedText x starts lens isPipe k b) where
@@ -719,31 +734,26 @@ module _ {words x r starts lens : List ℕ} {k : ℕ} {pipe gap : Layout} {b : B
       }
 
 -- What was only written, as an outcome at the cursor.
-pub operated-ended : {words x r kinds starts lens : List ℕ} {k a : ℕ} {pipe gap : Layout} {m o m′ o′ : List ℕ} → Operated words x r starts lens k pipe gap m o m′ o′
-    → Ended words (page x r kinds starts lens)
+pub operated-ended : {words x r kinds starts lens : List ℕ} {k a : ℕ} {pipe gap : Layout} {m o m′ o′ : List ℕ} {keep : Bool} → Operated words x r starts lens k pipe gap m o m′ o′
+    → Ended keep words (page x r kinds starts lens)
     (operated (page x r kinds starts lens) k (outcome (page x r kinds starts lens) pipe) (outcome (page x r kinds starts lens) gap)) (runOf a m o) a m′ o′
-operated-ended {kinds = kinds} {a = a} {m′ = m′} {o′} e = record { is = λ fair. packed-done a m′ o′ (fair .cursor) ∙ e .is (fair .words-are) kinds a }
+operated-ended {kinds = kinds} {a = a} {m′ = m′} {o′} {keep = keep} e =
+    record { is = λ fair. ap (shown keep) (packed-done a m′ o′ (fair .cursor) ∙ e .is (fair .words-are) kinds a) }
 
 -- ---- two writes in one call
 module _ {words : List ℕ} {p : Page} where
-  ungroup : {g : Run} {m o : List ℕ} {u v w : Layout} {r : ℕ} → Walked words p ((u ⨾ v) ⨾ w) g r m o → Walked words p (u ⨾ v ⨾ w) g r m o
-  ungroup {g} {m} {o} {u} {v} {w} {r} f =
-      record {
-        is = λ fair. f .is fair
-            ∙ (runs-seq p (u ⨾ v) w g ∙ ap (λ x. andThen x (runs p w)) (runs-seq p u v g) ∙ andThen-assoc (runs p u g) (runs p v) (runs p w))
-            ∙ sym (runs-seq p u (v ⨾ w) g
-            ∙ andThen-same (runs p u g) (runs p (v ⨾ w)) (λ x. andThen (runs p v x) (runs p w)) (runs-seq p v w));
-      }
+  ungroup : {g : Run} {m o : List ℕ} {u v w : Layout} {r : ℕ} {keep : Bool} → Walked keep words p ((u ⨾ v) ⨾ w) g r m o → Walked keep words p (u ⨾ v ⨾ w) g r m o
+  ungroup {g} {u = u} {v} {w} {keep = keep} f = record { is = λ fair. f .is fair ∙ ap (shown keep) (sym (regrouped p g u v w)) }
 
-  pub then-both : {a r : ℕ} {m o m′ o′ m″ o″ : List ℕ} {u v w : Layout} → Sure words (u ⨾ v) m o m′ o′
-      → Walked words p w (runOf a m′ o′) r m″ o″ → Walked words p (u ⨾ v ⨾ w) (runOf a m o) r m″ o″
+  pub then-both : {a r : ℕ} {m o m′ o′ m″ o″ : List ℕ} {u v w : Layout} {keep : Bool} → Sure words (u ⨾ v) m o m′ o′
+      → Walked keep words p w (runOf a m′ o′) r m″ o″ → Walked keep words p (u ⨾ v ⨾ w) (runOf a m o) r m″ o″
   then-both e h = ungroup (then-sure e h)
 
 -- The same invariant where comments may be struck out.
 abbrev pub Turn : List ℕ → Page → (ℕ → ℕ → Layout) → ℕ → ℕ → List ℕ → List ℕ → ℕ → ℕ → List ℕ → List ℕ → Type 0
 Turn words p left n a₀ m₀ o₀ i a m o =
     (i ≤ n)
-    × ((b : ℕ) (m′ o′ : List ℕ) → Walked words p (left i (n - i)) (runOf a m o) b m′ o′ → Walked words p (left 0 (n - 0)) (runOf a₀ m₀ o₀) b m′ o′)
+    × ((b : ℕ) (m′ o′ : List ℕ) → Walked false words p (left i (n - i)) (runOf a m o) b m′ o′ → Walked false words p (left 0 (n - 0)) (runOf a₀ m₀ o₀) b m′ o′)
     × (length o ≡ length o₀)
 
 -- ---- a deeper configuration
@@ -759,5 +769,5 @@ module _ {c new : Cfg} (e : Deeper c new) where
 
   -- A function that is called with the deeper configuration.
   pub along : {words : List ℕ} {p : Page} {w : Helpers.Walkers → Helpers.Cfg → Layout} {g : Run} {r : ℕ} {m o : List ℕ} → Does words p new w g r m o
-      → Walked words p (w (walks (c .left)) (Helpers.deeper (cfgOf c))) g r m o
-  along {words} {p} {w} {g} {r} {m} {o} f = subst (λ x. Walked words p (w (walks (x .left)) (cfgOf x)) g r m o) (e .is) (f .is)
+      → Walked false words p (w (walks (c .left)) (Helpers.deeper (cfgOf c))) g r m o
+  along {words} {p} {w} {g} {r} {m} {o} f = subst (λ x. Walked false words p (w (walks (x .left)) (cfgOf x)) g r m o) (e .is) (f .is)

@@ -25,7 +25,7 @@ use Rattle.layout.specs.declared.looks.Seen as One
 use Rattle.layout.specs.declared.looks.BothSeen as Both
 use Rattle.reader.specs.declared.commands.Family.{Family}
 use Rattle.reader.specs.Fields as Fields
-use Rattle.reader.specs.Fields.{DecOne, Ty}
+use Rattle.reader.specs.Fields.{DecOne, Exp, Ty}
 use Rattle.reader.specs.Check.{ok, malformed, tooDeep, tokenFits, formFits, endWithin}
 use Rattle.reader.specs.Commands.{absentAt, groupAt, formAt, formWidth, firstToken, familyOf, declarationIn}
 use Rattle.reader.specs.declared.commands.Declaration.{Declaration}
@@ -34,7 +34,7 @@ use Rattle.layout.specs.declared.Answer.the-variants.{Done, Stopped}
 use Rattle.layout.specs.Layout.{Layout, Look, Test, skip}
 use Rattle.layout.specs.Words.{wordRun}
 use Rattle.layout.specs.Helpers as Helpers
-use Rattle.layout.specs.Meaning.{Page, Event, Word, Token, Comment, Formed, Indent, Outcome, done, stopped, Stop, absent, imported, outcome, operated, commented, aboveFirst, tokenText, passes, funcIsBang, argIsSymbolic, namePasses, sees, Name, name, noName, Head, pathExp, otherExp, Seen, seen, unseen, Heads, both, missing}
+use Rattle.layout.specs.Meaning.{Page, Event, Word, Token, Comment, Formed, Indent, Outcome, done, stopped, Stop, absent, imported, outcome, operated, commented, aboveFirst, tokenText, passes, funcIsBang, argIsSymbolic, namePasses, sees, Name, name, noName, Head, pathExp, otherExp, Seen, seen, unseen, Heads, both, missing, headsFrom, headsAt}
 use Rattle.layout.specs.Events.{trimmed}
 use Rattle.layout.specs.Walk.{walks}
 
@@ -170,21 +170,28 @@ pub record Fair (words : List ℕ) (p : Page) (a : ℕ) : Type 0 where
   pub short : length (p .rec) < stopNo
   pub cursor : a < stopNo
 
--- What a function of the walk says: its number, the words and the output are what the layout's run leaves.
-pub record Walked (words : List ℕ) (p : Page) (w : Layout) (g : Run) (r : ℕ) (m o : List ℕ) : Type 0 where
-  pub is : Fair words p (g .at) → packed r m o ≡ runs p w g
+-- What counts of a run: all of it; or, where no walk goes on behind a stop, of one that stopped the stop alone.
+unfoldable pub shown : Bool → Ran → Ran
+shown keep (went g) = went g
+shown keep (fell why g) = fell why (cond keep g (runOf 0 [] []))
+
+-- What a function of the walk says: its number, the words and the output are what the layout's run leaves; at a stop the words
+-- and the output are, where they are kept.
+pub record Walked (keep : Bool) (words : List ℕ) (p : Page) (w : Layout) (g : Run) (r : ℕ) (m o : List ℕ) : Type 0 where
+  pub is : Fair words p (g .at) → shown keep (packed r m o) ≡ shown keep (runs p w g)
 
 -- The same of what is said by an outcome from the cursor on.
-pub record Ended (words : List ℕ) (p : Page) (f : ℕ → Outcome) (g : Run) (r : ℕ) (m o : List ℕ) : Type 0 where
-  pub is : Fair words p (g .at) → packed r m o ≡ run p (f (g .at)) g
+pub record Ended (keep : Bool) (words : List ℕ) (p : Page) (f : ℕ → Outcome) (g : Run) (r : ℕ) (m o : List ℕ) : Type 0 where
+  pub is : Fair words p (g .at) → shown keep (packed r m o) ≡ shown keep (run p (f (g .at)) g)
 
--- The same of a function whose layout is given by the walks one form deeper and the configuration.
+-- The same of a function whose layout is given by the walks one form deeper and the configuration. AppExp walks into its first
+-- expression before it asks what 000 asks before; so nothing is said of what stands in the words and in the output at a stop.
 pub record Does (words : List ℕ) (p : Page) (c : Cfg) (w : Helpers.Walkers → Helpers.Cfg → Layout) (g : Run) (r : ℕ) (m o : List ℕ) : Type 0 where
-  pub is : Walked words p (w (walks (c .left)) (cfgOf c)) g r m o
+  pub is : Walked false words p (w (walks (c .left)) (cfgOf c)) g r m o
 
--- The same of a function that asks no kinds.
+-- The same of a function that asks no kinds. TupleTy goes on behind a type that stopped, so all is kept.
 pub record Plain (words x r starts lens : List ℕ) (w : Layout) (a : ℕ) (m o : List ℕ) (n : ℕ) (m′ o′ : List ℕ) : Type 0 where
-  pub is : (kinds : List ℕ) → Walked words (page x r kinds starts lens) w (runOf a m o) n m′ o′
+  pub is : (kinds : List ℕ) → Walked true words (page x r kinds starts lens) w (runOf a m o) n m′ o′
 
 -- A piece is written.
 pub record Put (w m o m′ o′ : List ℕ) : Type 0 where
@@ -316,6 +323,17 @@ pub record Commented (x starts lens : List ℕ) (k : ℕ) (m o m′ o′ : List 
 abbrev pub headIn : Looks.Head → Head
 headIn (Looks.Head.PathExp k n) = pathExp k n
 headIn Looks.Head.OtherExp = otherExp
+
+-- What AppExp sees of its expressions, the first at an offset, where its walk ended at another.
+unfoldable pub headsBehind : List ℕ → ℕ → ℕ → Heads
+headsBehind r func arg = elim (formAt r Exp func) [ some n ↦ headsFrom r n func arg | none ↦ missing func ]
+
+-- Where AppExp stops whose first expression stopped: what it asks for before it walks into that goes first.
+unfoldable pub askedFirst : List ℕ → ℕ → ℕ → ℕ → ℕ
+askedFirst r count func n = elim (headsAt r count func) [ both f a ↦ n | missing place ↦ stopNo + 2 * place ]
+
+pub record AskedFirst (r : List ℕ) (count func n b : ℕ) : Type 0 where
+  pub is : length r < stopNo → func < stopNo → b ≡ askedFirst r count func n
 
 -- Whether the first is the name `!`; whether the second is symbolic.
 pub record BangIs (x starts lens : List ℕ) (h : Head) (b : Bool) : Type 0 where

@@ -2,6 +2,7 @@
 use crate::entry;
 use crate::fields::Read;
 use crate::fields::form;
+use crate::fields::stop;
 use crate::names::Name;
 use crate::names::op_path_name;
 use crate::part;
@@ -18,7 +19,7 @@ ghost use mathlib.Core.Path.{_≡_};
 ghost use Prim.Native.Nat.{ℕ, _+_};
 ghost use Rattle.layout.specs.Layout.{isBang, isPipe, isAlphabetic, isAlphanumeric, isIfExp, bodyExpNeedsNewline};
 ghost use Rattle.layout.specs.Meaning.{onNewLine, headOf, bothSeen, headsFrom, headsAt};
-ghost use Rattle.layout.specs.State.{TestedText, FormRead, Looked, seenIn, headsIn};
+ghost use Rattle.layout.specs.State.{TestedText, FormRead, Looked, seenIn, headsIn, headsBehind, AskedFirst};
 
 // The number of `PathExp` among the expressions.
 const PATH_EXP: usize = 5;
@@ -176,8 +177,8 @@ fn heads_from(rec: &[u8], number: usize, fields: usize, arg: usize) -> BothSeen
     both_seen(f, a)
 }
 
-// What `AppExp` sees of `func`, at the offset, and of `arg`, behind it, before it walks into the first.
-pub fn heads(rec: &[u8], count: usize, func: usize) -> BothSeen
+// What `AppExp` sees of `func`, at the offset, and of `arg`, behind it.
+fn heads(rec: &[u8], count: usize, func: usize) -> BothSeen
     ensures { λ r. ⌜ headsIn r ≡ headsAt (now (rec .entry)) count func ⌝ }
 {
     let Number::Is(number) = form_at(rec, Family::Exp, func) else {
@@ -188,5 +189,26 @@ pub fn heads(rec: &[u8], count: usize, func: usize) -> BothSeen
         Checked::Ok(arg) => heads_from(rec, number, func + 1, arg),
         Checked::Malformed(place) => BothSeen::Missing(place),
         Checked::TooDeep(place) => BothSeen::Missing(place),
+    }
+}
+
+// The same where `func` was walked into, and its walk ended at `arg`: it is not read again.
+pub fn heads_behind(rec: &[u8], func: usize, arg: usize) -> BothSeen
+    ensures { λ r. ⌜ headsIn r ≡ headsBehind (now (rec .entry)) func arg ⌝ }
+{
+    let Number::Is(number) = form_at(rec, Family::Exp, func) else {
+        return BothSeen::Missing(func);
+    };
+    heads_from(rec, number, func + 1, arg)
+}
+
+// Where `AppExp` stops whose `func` stopped with this number: 000 asks for both expressions and their names before it walks.
+pub fn asked_first(rec: &[u8], count: usize, func: usize, stopped: usize) -> usize
+    ensures { λ r. ⌜ AskedFirst (now (rec .entry)) count func stopped r ⌝ }
+{
+    let seen = heads(rec, count, func);
+    match seen {
+        BothSeen::Are(_f, _a) => stopped,
+        BothSeen::Missing(place) => stop(place),
     }
 }

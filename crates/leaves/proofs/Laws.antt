@@ -48,12 +48,12 @@ module _ {words : List ℕ} {b : Bool} (c : Bool) {m o m′ o′ : List ℕ} whe
 
 -- Over one constructor, and up to one.
 module _ {words : List ℕ} {p : Page} {n : ℕ} (ws : Walkers) (c : Cfg) {g : Run} {a : ℕ} {m o : List ℕ} where
-  pub con-over : 1 < n
-      → Walked words p (word " =\n" ⨾ indent-deeper c ⨾ items n (con-bind ws) (new-line c "| " ⨾ con-bind ws)) g a m o → Walked words p (con-binds ws c n) g a m o
+  pub con-over : {keep : Bool} → 1 < n
+      → Walked keep words p (word " =\n" ⨾ indent-deeper c ⨾ items n (con-bind ws) (new-line c "| " ⨾ con-bind ws)) g a m o → Walked keep words p (con-binds ws c n) g a m o
   unfolding con-binds
   con-over h w = rw (lt-ltb 1 n h, con-binds) w
 
-  pub con-under : n ≤ 1 → Walked words p (word " = " ⨾ items n (con-bind ws) (word " | " ⨾ con-bind ws)) g a m o → Walked words p (con-binds ws c n) g a m o
+  pub con-under : {keep : Bool} → n ≤ 1 → Walked keep words p (word " = " ⨾ items n (con-bind ws) (word " | " ⨾ con-bind ws)) g a m o → Walked keep words p (con-binds ws c n) g a m o
   unfolding con-binds
   con-under h w = rw (le-ltb 1 n h, con-binds) w
 

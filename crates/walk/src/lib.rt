@@ -32,9 +32,10 @@ use layout::helpers::text_of;
 use layout::helpers::ty_var_seq;
 use layout::helpers::word_if;
 use layout::looks::BothSeen;
+use layout::looks::asked_first;
 use layout::looks::body_exp_needs_newline;
 use layout::looks::expression;
-use layout::looks::heads;
+use layout::looks::heads_behind;
 use layout::looks::is_if_exp;
 use layout::told;
 use layout::word;
@@ -69,7 +70,7 @@ use reader::commands::Family;
 use types::get_ty;
 use types::ty_annotation;
 ghost use mathlib.Core.Path.{_≡_};
-ghost use mathlib.Core.Bool.{Bool, true, _&&_, _||_};
+ghost use mathlib.Core.Bool.{Bool, true, false, _&&_, _||_};
 ghost use lib.ListN.{getD};
 ghost use lib.Dec.{eqb};
 ghost use Prim.Native.Nat.{_+_, _-_, _*_, _≤_, _<_};
@@ -124,7 +125,7 @@ fn ro<'a>(
     at: usize,
     cfg: Cfg,
 ) -> usize
-    requires { ⌜ cfg .depth + 2 * cfg .left + 2 ≤ 1000 ⌝ }
+    requires { ⌜ cfg .depth + 2 * cfg .left + 2 ≤ 402 ⌝ }
     ensures { λ r. ⌜ Does (now (run .entry)) (page (now (text .entry)) (now (rec .entry)) (now (kinds .entry)) (now (starts .entry)) (now (lens .entry))) cfg exp-row (runOf at (now (mem .entry)) (now (out .entry))) r (now (mem .exit)) (now (out .exit)) ⌝ }
 {
     let r1 = group(rec, at);
@@ -159,7 +160,7 @@ fn rs<'a>(
     at: usize,
     cfg: Cfg,
 ) -> usize
-    requires { ⌜ cfg .depth + 2 * cfg .left + 2 ≤ 1000 ⌝ }
+    requires { ⌜ cfg .depth + 2 * cfg .left + 2 ≤ 402 ⌝ }
     ensures { λ r. ⌜ Does (now (run .entry)) (page (now (text .entry)) (now (rec .entry)) (now (kinds .entry)) (now (starts .entry)) (now (lens .entry))) cfg exp-rows (runOf at (now (mem .entry)) (now (out .entry))) r (now (mem .exit)) (now (out .exit)) ⌝ }
 {
     let Read::Is(n, s0) = list(rec, at) else {
@@ -192,7 +193,7 @@ fn rc<'a>(
     at: usize,
     cfg: Cfg,
 ) -> usize
-    requires { ⌜ cfg .depth + 2 * cfg .left + 2 ≤ 1000 ⌝ }
+    requires { ⌜ cfg .depth + 2 * cfg .left + 2 ≤ 402 ⌝ }
     ensures { λ r. ⌜ Does (now (run .entry)) (page (now (text .entry)) (now (rec .entry)) (now (kinds .entry)) (now (starts .entry)) (now (lens .entry))) cfg (λ ws c. exp· ws c RecordExp) (runOf at (now (mem .entry)) (now (out .entry))) r (now (mem .exit)) (now (out .exit)) ⌝ }
 {
     word(run, text, out, mem, words::L_CURLY);
@@ -217,7 +218,7 @@ fn pa<'a>(
     at: usize,
     cfg: Cfg,
 ) -> usize
-    requires { ⌜ cfg .depth + 2 * cfg .left + 2 ≤ 1000 ⌝ }
+    requires { ⌜ cfg .depth + 2 * cfg .left + 2 ≤ 402 ⌝ }
     ensures { λ r. ⌜ Does (now (run .entry)) (page (now (text .entry)) (now (rec .entry)) (now (kinds .entry)) (now (starts .entry)) (now (lens .entry))) cfg (λ ws c. exp· ws c ParenExp) (runOf at (now (mem .entry)) (now (out .entry))) r (now (mem .exit)) (now (out .exit)) ⌝ }
 {
     word(run, text, out, mem, words::L_ROUND);
@@ -242,7 +243,7 @@ fn ar<'a>(
     at: usize,
     cfg: Cfg,
 ) -> usize
-    requires { ⌜ cfg .depth + 2 * cfg .left + 2 ≤ 1000 ⌝ }
+    requires { ⌜ cfg .depth + 2 * cfg .left + 2 ≤ 402 ⌝ }
     ensures { λ r. ⌜ Does (now (run .entry)) (page (now (text .entry)) (now (rec .entry)) (now (kinds .entry)) (now (starts .entry)) (now (lens .entry))) cfg exp-args (runOf at (now (mem .entry)) (now (out .entry))) r (now (mem .exit)) (now (out .exit)) ⌝ }
 {
     let Read::Is(n, s0) = list(rec, at) else {
@@ -281,7 +282,7 @@ fn br<'a>(
     opens: usize,
     closes: usize,
 ) -> usize
-    requires { ⌜ cfg .depth + 2 * cfg .left + 2 ≤ 1000 ⌝ }
+    requires { ⌜ cfg .depth + 2 * cfg .left + 2 ≤ 402 ⌝ }
     ensures { λ r. ⌜ Does (now (run .entry)) (page (now (text .entry)) (now (rec .entry)) (now (kinds .entry)) (now (starts .entry)) (now (lens .entry))) cfg (λ ws c. word· (wordOf opens) ⨾ exp-args ws c ⨾ word· (wordOf closes)) (runOf at (now (mem .entry)) (now (out .entry))) r (now (mem .exit)) (now (out .exit)) ⌝ }
 {
     word(run, text, out, mem, opens);
@@ -306,7 +307,7 @@ fn ve<'a>(
     at: usize,
     cfg: Cfg,
 ) -> usize
-    requires { ⌜ cfg .depth + 2 * cfg .left + 2 ≤ 1000 ⌝ }
+    requires { ⌜ cfg .depth + 2 * cfg .left + 2 ≤ 402 ⌝ }
     ensures { λ r. ⌜ Does (now (run .entry)) (page (now (text .entry)) (now (rec .entry)) (now (kinds .entry)) (now (starts .entry)) (now (lens .entry))) cfg (λ ws c. exp· ws c VectorExp) (runOf at (now (mem .entry)) (now (out .entry))) r (now (mem .exit)) (now (out .exit)) ⌝ }
 {
     word(run, text, out, mem, words::HASH_L_SQUARE);
@@ -336,7 +337,7 @@ fn it<'a>(
     cfg: Cfg,
     write: bool,
 ) -> usize
-    requires { ⌜ cfg .depth + 2 * cfg .left + 0 ≤ 1000 ⌝ }
+    requires { ⌜ cfg .depth + 2 * cfg .left + 0 ≤ 402 ⌝ }
     ensures { λ r. ⌜ Does (now (run .entry)) (page (now (text .entry)) (now (rec .entry)) (now (kinds .entry)) (now (starts .entry)) (now (lens .entry))) cfg (λ ws c. exp-semi-item ws c write) (runOf at (now (mem .entry)) (now (out .entry))) r (now (mem .exit)) (now (out .exit)) ⌝ }
 {
     let r1 = group(rec, at);
@@ -365,7 +366,7 @@ fn mo<'a>(
     allow: bool,
     n: usize,
 ) -> usize
-    requires { ⌜ cfg .depth + 2 * cfg .left + 0 ≤ 1000 ⌝ }
+    requires { ⌜ cfg .depth + 2 * cfg .left + 0 ≤ 402 ⌝ }
     ensures { λ r. ⌜ Does (now (run .entry)) (page (now (text .entry)) (now (rec .entry)) (now (kinds .entry)) (now (starts .entry)) (now (lens .entry))) cfg (λ ws c. exp-semi-more ws c allow n) (runOf at (now (mem .entry)) (now (out .entry))) r (now (mem .exit)) (now (out .exit)) ⌝ }
 {
     let mut s = at;
@@ -398,7 +399,7 @@ fn sm<'a>(
     cfg: Cfg,
     allow: bool,
 ) -> usize
-    requires { ⌜ cfg .depth + 2 * cfg .left + 0 ≤ 1000 ⌝ }
+    requires { ⌜ cfg .depth + 2 * cfg .left + 0 ≤ 402 ⌝ }
     ensures { λ r. ⌜ Does (now (run .entry)) (page (now (text .entry)) (now (rec .entry)) (now (kinds .entry)) (now (starts .entry)) (now (lens .entry))) cfg (λ ws c. exp-semi-seq ws c allow) (runOf at (now (mem .entry)) (now (out .entry))) r (now (mem .exit)) (now (out .exit)) ⌝ }
 {
     let Read::Is(n, s1) = list(rec, at) else {
@@ -452,7 +453,7 @@ fn seq<'a>(
     at: usize,
     cfg: Cfg,
 ) -> usize
-    requires { ⌜ cfg .depth + 2 * cfg .left + 2 ≤ 1000 ⌝ }
+    requires { ⌜ cfg .depth + 2 * cfg .left + 2 ≤ 402 ⌝ }
     ensures { λ r. ⌜ Does (now (run .entry)) (page (now (text .entry)) (now (rec .entry)) (now (kinds .entry)) (now (starts .entry)) (now (lens .entry))) cfg (λ ws c. exp· ws c SeqExp) (runOf at (now (mem .entry)) (now (out .entry))) r (now (mem .exit)) (now (out .exit)) ⌝ }
 {
     word(run, text, out, mem, words::L_ROUND_LINE);
@@ -492,7 +493,7 @@ fn lx<'a>(
     at: usize,
     cfg: Cfg,
 ) -> usize
-    requires { ⌜ cfg .depth + 2 * cfg .left + 2 ≤ 1000 ⌝ }
+    requires { ⌜ cfg .depth + 2 * cfg .left + 2 ≤ 402 ⌝ }
     ensures { λ r. ⌜ Does (now (run .entry)) (page (now (text .entry)) (now (rec .entry)) (now (kinds .entry)) (now (starts .entry)) (now (lens .entry))) cfg (λ ws c. exp· ws c LetExp) (runOf at (now (mem .entry)) (now (out .entry))) r (now (mem .exit)) (now (out .exit)) ⌝ }
 {
     word(run, text, out, mem, words::LET);
@@ -515,7 +516,7 @@ fn lx<'a>(
     s2
 }
 
-// `AppExp`: it looks at both expressions before it walks into the first.
+// `AppExp`: what 000 sees of both expressions before it walks into the first is seen behind its walk.
 fn app<'a>(
     run: &'a [u8; 351],
     text: &'a [u8],
@@ -528,19 +529,19 @@ fn app<'a>(
     at: usize,
     cfg: Cfg,
 ) -> usize
-    requires { ⌜ cfg .depth + 2 * cfg .left + 2 ≤ 1000 ⌝ }
+    requires { ⌜ cfg .depth + 2 * cfg .left + 2 ≤ 402 ⌝ }
     ensures { λ r. ⌜ Does (now (run .entry)) (page (now (text .entry)) (now (rec .entry)) (now (kinds .entry)) (now (starts .entry)) (now (lens .entry))) cfg (λ ws c. exp· ws c AppExp) (runOf at (now (mem .entry)) (now (out .entry))) r (now (mem .exit)) (now (out .exit)) ⌝ }
 {
-    let seen = heads(rec, starts.len(), at);
+    let r1 = exp(run, text, rec, kinds, starts, lens, out, mem, at, cfg);
+    let Answer::Done(s1) = told(r1) else {
+        return asked_first(rec, starts.len(), at, r1);
+    };
+    let seen = heads_behind(rec, at, s1);
     let BothSeen::Are(func, arg) = seen else {
         return missing(seen);
     };
     let bang = func_is_bang(text, starts, lens, func);
     let symbolic = arg_is_symbolic(text, starts, lens, arg);
-    let r1 = exp(run, text, rec, kinds, starts, lens, out, mem, at, cfg);
-    let Answer::Done(s1) = told(r1) else {
-        return r1;
-    };
     app_space(run, text, out, mem, bang, symbolic);
     exp(run, text, rec, kinds, starts, lens, out, mem, s1, cfg)
 }
@@ -558,7 +559,7 @@ fn fx<'a>(
     at: usize,
     cfg: Cfg,
 ) -> usize
-    requires { ⌜ cfg .depth + 2 * cfg .left + 2 ≤ 1000 ⌝ }
+    requires { ⌜ cfg .depth + 2 * cfg .left + 2 ≤ 402 ⌝ }
     ensures { λ r. ⌜ Does (now (run .entry)) (page (now (text .entry)) (now (rec .entry)) (now (kinds .entry)) (now (starts .entry)) (now (lens .entry))) cfg (λ ws c. exp· ws c InfixExp) (runOf at (now (mem .entry)) (now (out .entry))) r (now (mem .exit)) (now (out .exit)) ⌝ }
 {
     let Read::Is(k, s1) = token_no(rec, starts.len(), at) else {
@@ -585,7 +586,7 @@ fn ty<'a>(
     at: usize,
     cfg: Cfg,
 ) -> usize
-    requires { ⌜ cfg .depth + 2 * cfg .left + 2 ≤ 1000 ⌝ }
+    requires { ⌜ cfg .depth + 2 * cfg .left + 2 ≤ 402 ⌝ }
     ensures { λ r. ⌜ Does (now (run .entry)) (page (now (text .entry)) (now (rec .entry)) (now (kinds .entry)) (now (starts .entry)) (now (lens .entry))) cfg (λ ws c. exp· ws c TypedExp) (runOf at (now (mem .entry)) (now (out .entry))) r (now (mem .exit)) (now (out .exit)) ⌝ }
 {
     let r1 = exp(run, text, rec, kinds, starts, lens, out, mem, at, cfg);
@@ -610,7 +611,7 @@ fn du<'a>(
     cfg: Cfg,
     w: usize,
 ) -> usize
-    requires { ⌜ cfg .depth + 2 * cfg .left + 2 ≤ 1000 ⌝ }
+    requires { ⌜ cfg .depth + 2 * cfg .left + 2 ≤ 402 ⌝ }
     ensures { λ r. ⌜ Does (now (run .entry)) (page (now (text .entry)) (now (rec .entry)) (now (kinds .entry)) (now (starts .entry)) (now (lens .entry))) cfg (λ ws c. ws .get-exp c ⨾ word· (wordOf w) ⨾ ws .get-exp c) (runOf at (now (mem .entry)) (now (out .entry))) r (now (mem .exit)) (now (out .exit)) ⌝ }
 {
     let r1 = exp(run, text, rec, kinds, starts, lens, out, mem, at, cfg);
@@ -634,7 +635,7 @@ fn wh<'a>(
     at: usize,
     cfg: Cfg,
 ) -> usize
-    requires { ⌜ cfg .depth + 2 * cfg .left + 2 ≤ 1000 ⌝ }
+    requires { ⌜ cfg .depth + 2 * cfg .left + 2 ≤ 402 ⌝ }
     ensures { λ r. ⌜ Does (now (run .entry)) (page (now (text .entry)) (now (rec .entry)) (now (kinds .entry)) (now (starts .entry)) (now (lens .entry))) cfg (λ ws c. exp· ws c WhileExp) (runOf at (now (mem .entry)) (now (out .entry))) r (now (mem .exit)) (now (out .exit)) ⌝ }
 {
     word(run, text, out, mem, words::WHILE);
@@ -667,7 +668,7 @@ fn ha<'a>(
     cfg: Cfg,
     w: usize,
 ) -> usize
-    requires { ⌜ cfg .depth + 2 * cfg .left + 2 ≤ 1000 ⌝ }
+    requires { ⌜ cfg .depth + 2 * cfg .left + 2 ≤ 402 ⌝ }
     ensures { λ r. ⌜ Does (now (run .entry)) (page (now (text .entry)) (now (rec .entry)) (now (kinds .entry)) (now (starts .entry)) (now (lens .entry))) cfg (λ ws c. ws .get-exp c ⨾ word· (wordOf w) ⨾ get-matcher-across-lines ws c) (runOf at (now (mem .entry)) (now (out .entry))) r (now (mem .exit)) (now (out .exit)) ⌝ }
 {
     let r1 = exp(run, text, rec, kinds, starts, lens, out, mem, at, cfg);
@@ -691,7 +692,7 @@ fn ca<'a>(
     at: usize,
     cfg: Cfg,
 ) -> usize
-    requires { ⌜ cfg .depth + 2 * cfg .left + 2 ≤ 1000 ⌝ }
+    requires { ⌜ cfg .depth + 2 * cfg .left + 2 ≤ 402 ⌝ }
     ensures { λ r. ⌜ Does (now (run .entry)) (page (now (text .entry)) (now (rec .entry)) (now (kinds .entry)) (now (starts .entry)) (now (lens .entry))) cfg (λ ws c. exp· ws c CaseExp) (runOf at (now (mem .entry)) (now (out .entry))) r (now (mem .exit)) (now (out .exit)) ⌝ }
 {
     word(run, text, out, mem, words::CASE);
@@ -724,7 +725,7 @@ fn pr<'a>(
     cfg: Cfg,
     w: usize,
 ) -> usize
-    requires { ⌜ cfg .depth + 2 * cfg .left + 2 ≤ 1000 ⌝ }
+    requires { ⌜ cfg .depth + 2 * cfg .left + 2 ≤ 402 ⌝ }
     ensures { λ r. ⌜ Does (now (run .entry)) (page (now (text .entry)) (now (rec .entry)) (now (kinds .entry)) (now (starts .entry)) (now (lens .entry))) cfg (λ ws c. word· (wordOf w) ⨾ ws .get-exp c) (runOf at (now (mem .entry)) (now (out .entry))) r (now (mem .exit)) (now (out .exit)) ⌝ }
 {
     word(run, text, out, mem, w);
@@ -744,7 +745,7 @@ fn ie<'a>(
     at: usize,
     cfg: Cfg,
 ) -> usize
-    requires { ⌜ cfg .depth + 2 * cfg .left + 2 ≤ 1000 ⌝ }
+    requires { ⌜ cfg .depth + 2 * cfg .left + 2 ≤ 402 ⌝ }
     ensures { λ r. ⌜ Does (now (run .entry)) (page (now (text .entry)) (now (rec .entry)) (now (kinds .entry)) (now (starts .entry)) (now (lens .entry))) cfg (λ ws c. exp· ws c IfExp) (runOf at (now (mem .entry)) (now (out .entry))) r (now (mem .exit)) (now (out .exit)) ⌝ }
 {
     word(run, text, out, mem, words::IF);
@@ -785,7 +786,7 @@ fn ma<'a>(
     at: usize,
     cfg: Cfg,
 ) -> usize
-    requires { ⌜ cfg .depth + 2 * cfg .left + 2 ≤ 1000 ⌝ }
+    requires { ⌜ cfg .depth + 2 * cfg .left + 2 ≤ 402 ⌝ }
     ensures { λ r. ⌜ Does (now (run .entry)) (page (now (text .entry)) (now (rec .entry)) (now (kinds .entry)) (now (starts .entry)) (now (lens .entry))) cfg get-matcher-across-lines (runOf at (now (mem .entry)) (now (out .entry))) r (now (mem .exit)) (now (out .exit)) ⌝ }
 {
     if let Gone::Past(s0) = absent(rec, at) {
@@ -826,7 +827,7 @@ fn arm<'a>(
     at: usize,
     cfg: Cfg,
 ) -> usize
-    requires { ⌜ cfg .depth + 2 * cfg .left + 2 ≤ 1000 ⌝ }
+    requires { ⌜ cfg .depth + 2 * cfg .left + 2 ≤ 402 ⌝ }
     ensures { λ r. ⌜ Does (now (run .entry)) (page (now (text .entry)) (now (rec .entry)) (now (kinds .entry)) (now (starts .entry)) (now (lens .entry))) cfg get-matcher-arm (runOf at (now (mem .entry)) (now (out .entry))) r (now (mem .exit)) (now (out .exit)) ⌝ }
 {
     let r1 = group(rec, at);
@@ -864,7 +865,7 @@ fn dp<'a>(
     at: usize,
     cfg: Cfg,
 ) -> usize
-    requires { ⌜ cfg .depth + 2 * cfg .left + 1 ≤ 1000 ⌝ }
+    requires { ⌜ cfg .depth + 2 * cfg .left + 1 ≤ 402 ⌝ }
     ensures { λ r. ⌜ Does (now (run .entry)) (page (now (text .entry)) (now (rec .entry)) (now (kinds .entry)) (now (starts .entry)) (now (lens .entry))) cfg (λ ws c. indented-levels ws c 1) (runOf at (now (mem .entry)) (now (out .entry))) r (now (mem .exit)) (now (out .exit)) ⌝ }
 {
     indent_deeper(out, mem, cfg);
@@ -885,7 +886,7 @@ fn qb<'a>(
     at: usize,
     cfg: Cfg,
 ) -> usize
-    requires { ⌜ cfg .depth + 2 * cfg .left + 2 ≤ 1000 ⌝ }
+    requires { ⌜ cfg .depth + 2 * cfg .left + 2 ≤ 402 ⌝ }
     ensures { λ r. ⌜ Does (now (run .entry)) (page (now (text .entry)) (now (rec .entry)) (now (kinds .entry)) (now (starts .entry)) (now (lens .entry))) cfg eq-body (runOf at (now (mem .entry)) (now (out .entry))) r (now (mem .exit)) (now (out .exit)) ⌝ }
 {
     if let Gone::Past(s0) = absent(rec, at) {
@@ -920,7 +921,7 @@ fn fe<'a>(
     at: usize,
     cfg: Cfg,
 ) -> usize
-    requires { ⌜ cfg .depth + 2 * cfg .left + 2 ≤ 1000 ⌝ }
+    requires { ⌜ cfg .depth + 2 * cfg .left + 2 ≤ 402 ⌝ }
     ensures { λ r. ⌜ Does (now (run .entry)) (page (now (text .entry)) (now (rec .entry)) (now (kinds .entry)) (now (starts .entry)) (now (lens .entry))) cfg (λ ws c. exp· ws c FnExp) (runOf at (now (mem .entry)) (now (out .entry))) r (now (mem .exit)) (now (out .exit)) ⌝ }
 {
     word(run, text, out, mem, words::FN);
@@ -958,7 +959,7 @@ fn exp<'a>(
     at: usize,
     cfg: Cfg,
 ) -> usize
-    requires { ⌜ cfg .depth + 2 * cfg .left + 0 ≤ 1000 ⌝ }
+    requires { ⌜ cfg .depth + 2 * cfg .left + 0 ≤ 402 ⌝ }
     ensures { λ r. ⌜ Does (now (run .entry)) (page (now (text .entry)) (now (rec .entry)) (now (kinds .entry)) (now (starts .entry)) (now (lens .entry))) cfg (λ ws c. ws .get-exp c) (runOf at (now (mem .entry)) (now (out .entry))) r (now (mem .exit)) (now (out .exit)) ⌝ }
 {
     let forms_left = cfg.left;
@@ -1091,7 +1092,7 @@ fn ds<'a>(
     at: usize,
     cfg: Cfg,
 ) -> usize
-    requires { ⌜ cfg .depth + 2 * cfg .left + 0 ≤ 1000 ⌝ }
+    requires { ⌜ cfg .depth + 2 * cfg .left + 0 ≤ 402 ⌝ }
     ensures { λ r. ⌜ Does (now (run .entry)) (page (now (text .entry)) (now (rec .entry)) (now (kinds .entry)) (now (starts .entry)) (now (lens .entry))) cfg get-dec (runOf at (now (mem .entry)) (now (out .entry))) r (now (mem .exit)) (now (out .exit)) ⌝ }
 {
     let Read::Is(n, s0) = list(rec, at) else {
@@ -1128,7 +1129,7 @@ fn dec<'a>(
     at: usize,
     cfg: Cfg,
 ) -> usize
-    requires { ⌜ cfg .depth + 2 * cfg .left + 0 ≤ 1000 ⌝ }
+    requires { ⌜ cfg .depth + 2 * cfg .left + 0 ≤ 402 ⌝ }
     ensures { λ r. ⌜ Does (now (run .entry)) (page (now (text .entry)) (now (rec .entry)) (now (kinds .entry)) (now (starts .entry)) (now (lens .entry))) cfg dec· (runOf at (now (mem .entry)) (now (out .entry))) r (now (mem .exit)) (now (out .exit)) ⌝ }
 {
     let r1 = group(rec, at);
@@ -1159,7 +1160,7 @@ fn qs<'a>(
     at: usize,
     cfg: Cfg,
 ) -> usize
-    requires { ⌜ cfg .depth + 2 * cfg .left + 0 ≤ 1000 ⌝ }
+    requires { ⌜ cfg .depth + 2 * cfg .left + 0 ≤ 402 ⌝ }
     ensures { λ r. ⌜ Does (now (run .entry)) (page (now (text .entry)) (now (rec .entry)) (now (kinds .entry)) (now (starts .entry)) (now (lens .entry))) cfg dec-in-seqs (runOf at (now (mem .entry)) (now (out .entry))) r (now (mem .exit)) (now (out .exit)) ⌝ }
 {
     let Read::Is(n, s0) = list(rec, at) else {
@@ -1192,7 +1193,7 @@ fn sq<'a>(
     at: usize,
     cfg: Cfg,
 ) -> usize
-    requires { ⌜ cfg .depth + 2 * cfg .left + 0 ≤ 1000 ⌝ }
+    requires { ⌜ cfg .depth + 2 * cfg .left + 0 ≤ 402 ⌝ }
     ensures { λ r. ⌜ Does (now (run .entry)) (page (now (text .entry)) (now (rec .entry)) (now (kinds .entry)) (now (starts .entry)) (now (lens .entry))) cfg dec-in-seq (runOf at (now (mem .entry)) (now (out .entry))) r (now (mem .exit)) (now (out .exit)) ⌝ }
 {
     let r1 = group(rec, at);
@@ -1224,7 +1225,7 @@ fn one<'a>(
     at: usize,
     cfg: Cfg,
 ) -> usize
-    requires { ⌜ cfg .depth + 2 * cfg .left + 0 ≤ 1000 ⌝ }
+    requires { ⌜ cfg .depth + 2 * cfg .left + 0 ≤ 402 ⌝ }
     ensures { λ r. ⌜ Does (now (run .entry)) (page (now (text .entry)) (now (rec .entry)) (now (kinds .entry)) (now (starts .entry)) (now (lens .entry))) cfg (λ ws c. ws .get-dec-one c) (runOf at (now (mem .entry)) (now (out .entry))) r (now (mem .exit)) (now (out .exit)) ⌝ }
 {
     let forms_left = cfg.left;
@@ -1262,7 +1263,7 @@ fn nu<'a>(
     cfg: Cfg,
     which: usize,
 ) -> usize
-    requires { ⌜ cfg .depth + 2 * cfg .left + 2 ≤ 1000 ⌝ }
+    requires { ⌜ cfg .depth + 2 * cfg .left + 2 ≤ 402 ⌝ }
     ensures { λ r. ⌜ Does (now (run .entry)) (page (now (text .entry)) (now (rec .entry)) (now (kinds .entry)) (now (starts .entry)) (now (lens .entry))) cfg (λ ws c. getD (decs· ws c) which halt) (runOf at (now (mem .entry)) (now (out .entry))) r (now (mem .exit)) (now (out .exit)) ⌝ }
 {
     match which {
@@ -1340,7 +1341,7 @@ fn vd<'a>(
     at: usize,
     cfg: Cfg,
 ) -> usize
-    requires { ⌜ cfg .depth + 2 * cfg .left + 2 ≤ 1000 ⌝ }
+    requires { ⌜ cfg .depth + 2 * cfg .left + 2 ≤ 402 ⌝ }
     ensures { λ r. ⌜ Does (now (run .entry)) (page (now (text .entry)) (now (rec .entry)) (now (kinds .entry)) (now (starts .entry)) (now (lens .entry))) cfg (λ ws c. dec-one· ws c ValDec) (runOf at (now (mem .entry)) (now (out .entry))) r (now (mem .exit)) (now (out .exit)) ⌝ }
 {
     word(run, text, out, mem, words::VAL);
@@ -1374,7 +1375,7 @@ fn vb<'a>(
     at: usize,
     cfg: Cfg,
 ) -> usize
-    requires { ⌜ cfg .depth + 2 * cfg .left + 2 ≤ 1000 ⌝ }
+    requires { ⌜ cfg .depth + 2 * cfg .left + 2 ≤ 402 ⌝ }
     ensures { λ r. ⌜ Does (now (run .entry)) (page (now (text .entry)) (now (rec .entry)) (now (kinds .entry)) (now (starts .entry)) (now (lens .entry))) cfg val-bind (runOf at (now (mem .entry)) (now (out .entry))) r (now (mem .exit)) (now (out .exit)) ⌝ }
 {
     let r1 = group(rec, at);
@@ -1405,7 +1406,7 @@ fn fd<'a>(
     at: usize,
     cfg: Cfg,
 ) -> usize
-    requires { ⌜ cfg .depth + 2 * cfg .left + 2 ≤ 1000 ⌝ }
+    requires { ⌜ cfg .depth + 2 * cfg .left + 2 ≤ 402 ⌝ }
     ensures { λ r. ⌜ Does (now (run .entry)) (page (now (text .entry)) (now (rec .entry)) (now (kinds .entry)) (now (starts .entry)) (now (lens .entry))) cfg (λ ws c. dec-one· ws c FunDec) (runOf at (now (mem .entry)) (now (out .entry))) r (now (mem .exit)) (now (out .exit)) ⌝ }
 {
     word(run, text, out, mem, words::FUN);
@@ -1443,7 +1444,7 @@ fn fb<'a>(
     at: usize,
     cfg: Cfg,
 ) -> usize
-    requires { ⌜ cfg .depth + 2 * cfg .left + 2 ≤ 1000 ⌝ }
+    requires { ⌜ cfg .depth + 2 * cfg .left + 2 ≤ 402 ⌝ }
     ensures { λ r. ⌜ Does (now (run .entry)) (page (now (text .entry)) (now (rec .entry)) (now (kinds .entry)) (now (starts .entry)) (now (lens .entry))) cfg fun-bind (runOf at (now (mem .entry)) (now (out .entry))) r (now (mem .exit)) (now (out .exit)) ⌝ }
 {
     let r1 = group(rec, at);
@@ -1481,7 +1482,7 @@ fn fc<'a>(
     at: usize,
     cfg: Cfg,
 ) -> usize
-    requires { ⌜ cfg .depth + 2 * cfg .left + 2 ≤ 1000 ⌝ }
+    requires { ⌜ cfg .depth + 2 * cfg .left + 2 ≤ 402 ⌝ }
     ensures { λ r. ⌜ Does (now (run .entry)) (page (now (text .entry)) (now (rec .entry)) (now (kinds .entry)) (now (starts .entry)) (now (lens .entry))) cfg fun-bind-case (runOf at (now (mem .entry)) (now (out .entry))) r (now (mem .exit)) (now (out .exit)) ⌝ }
 {
     let r1 = group(rec, at);
@@ -1516,7 +1517,7 @@ fn ab<'a>(
     at: usize,
     cfg: Cfg,
 ) -> usize
-    requires { ⌜ cfg .depth + 2 * cfg .left + 2 ≤ 1000 ⌝ }
+    requires { ⌜ cfg .depth + 2 * cfg .left + 2 ≤ 402 ⌝ }
     ensures { λ r. ⌜ Does (now (run .entry)) (page (now (text .entry)) (now (rec .entry)) (now (kinds .entry)) (now (starts .entry)) (now (lens .entry))) cfg (λ ws c. dec-one· ws c AbstypeDec) (runOf at (now (mem .entry)) (now (out .entry))) r (now (mem .exit)) (now (out .exit)) ⌝ }
 {
     word(run, text, out, mem, words::ABSTYPE);
@@ -1550,7 +1551,7 @@ fn xd<'a>(
     at: usize,
     cfg: Cfg,
 ) -> usize
-    requires { ⌜ cfg .depth + 2 * cfg .left + 2 ≤ 1000 ⌝ }
+    requires { ⌜ cfg .depth + 2 * cfg .left + 2 ≤ 402 ⌝ }
     ensures { λ r. ⌜ Does (now (run .entry)) (page (now (text .entry)) (now (rec .entry)) (now (kinds .entry)) (now (starts .entry)) (now (lens .entry))) cfg (λ ws c. dec-one· ws c ExDec) (runOf at (now (mem .entry)) (now (out .entry))) r (now (mem .exit)) (now (out .exit)) ⌝ }
 {
     word(run, text, out, mem, words::EXCEPTION);
@@ -1584,7 +1585,7 @@ fn xb<'a>(
     at: usize,
     cfg: Cfg,
 ) -> usize
-    requires { ⌜ cfg .depth + 2 * cfg .left + 2 ≤ 1000 ⌝ }
+    requires { ⌜ cfg .depth + 2 * cfg .left + 2 ≤ 402 ⌝ }
     ensures { λ r. ⌜ Does (now (run .entry)) (page (now (text .entry)) (now (rec .entry)) (now (kinds .entry)) (now (starts .entry)) (now (lens .entry))) cfg ex-bind (runOf at (now (mem .entry)) (now (out .entry))) r (now (mem .exit)) (now (out .exit)) ⌝ }
 {
     let r1 = group(rec, at);
@@ -1618,7 +1619,7 @@ fn xi<'a>(
     cfg: Cfg,
     which: usize,
 ) -> usize
-    requires { ⌜ cfg .depth + 2 * cfg .left + 2 ≤ 1000 ⌝ }
+    requires { ⌜ cfg .depth + 2 * cfg .left + 2 ≤ 402 ⌝ }
     ensures { λ r. ⌜ Does (now (run .entry)) (page (now (text .entry)) (now (rec .entry)) (now (kinds .entry)) (now (starts .entry)) (now (lens .entry))) cfg (λ ws c. ex-bind-inner ws c which) (runOf at (now (mem .entry)) (now (out .entry))) r (now (mem .exit)) (now (out .exit)) ⌝ }
 {
     match which {
@@ -1653,7 +1654,7 @@ fn lo<'a>(
     at: usize,
     cfg: Cfg,
 ) -> usize
-    requires { ⌜ cfg .depth + 2 * cfg .left + 2 ≤ 1000 ⌝ }
+    requires { ⌜ cfg .depth + 2 * cfg .left + 2 ≤ 402 ⌝ }
     ensures { λ r. ⌜ Does (now (run .entry)) (page (now (text .entry)) (now (rec .entry)) (now (kinds .entry)) (now (starts .entry)) (now (lens .entry))) cfg (λ ws c. dec-one· ws c LocalDec) (runOf at (now (mem .entry)) (now (out .entry))) r (now (mem .exit)) (now (out .exit)) ⌝ }
 {
     word(run, text, out, mem, words::LOCAL);
@@ -1689,7 +1690,7 @@ fn ld<'a>(
     at: usize,
     cfg: Cfg,
 ) -> usize
-    requires { ⌜ cfg .depth + 2 * cfg .left + 0 ≤ 1000 ⌝ }
+    requires { ⌜ cfg .depth + 2 * cfg .left + 0 ≤ 402 ⌝ }
     ensures { λ r. ⌜ Does (now (run .entry)) (page (now (text .entry)) (now (rec .entry)) (now (kinds .entry)) (now (starts .entry)) (now (lens .entry))) cfg local-decs (runOf at (now (mem .entry)) (now (out .entry))) r (now (mem .exit)) (now (out .exit)) ⌝ }
 {
     if let Gone::Past(s0) = absent(rec, at) {
@@ -1715,7 +1716,7 @@ fn sd<'a>(
     at: usize,
     cfg: Cfg,
 ) -> usize
-    requires { ⌜ cfg .depth + 2 * cfg .left + 2 ≤ 1000 ⌝ }
+    requires { ⌜ cfg .depth + 2 * cfg .left + 2 ≤ 402 ⌝ }
     ensures { λ r. ⌜ Does (now (run .entry)) (page (now (text .entry)) (now (rec .entry)) (now (kinds .entry)) (now (starts .entry)) (now (lens .entry))) cfg (λ ws c. dec-one· ws c StructureDec) (runOf at (now (mem .entry)) (now (out .entry))) r (now (mem .exit)) (now (out .exit)) ⌝ }
 {
     word(run, text, out, mem, words::STRUCTURE);
@@ -1749,7 +1750,7 @@ fn sb<'a>(
     at: usize,
     cfg: Cfg,
 ) -> usize
-    requires { ⌜ cfg .depth + 2 * cfg .left + 2 ≤ 1000 ⌝ }
+    requires { ⌜ cfg .depth + 2 * cfg .left + 2 ≤ 402 ⌝ }
     ensures { λ r. ⌜ Does (now (run .entry)) (page (now (text .entry)) (now (rec .entry)) (now (kinds .entry)) (now (starts .entry)) (now (lens .entry))) cfg str-bind (runOf at (now (mem .entry)) (now (out .entry))) r (now (mem .exit)) (now (out .exit)) ⌝ }
 {
     let r1 = group(rec, at);
@@ -1788,7 +1789,7 @@ fn gd<'a>(
     at: usize,
     cfg: Cfg,
 ) -> usize
-    requires { ⌜ cfg .depth + 2 * cfg .left + 2 ≤ 1000 ⌝ }
+    requires { ⌜ cfg .depth + 2 * cfg .left + 2 ≤ 402 ⌝ }
     ensures { λ r. ⌜ Does (now (run .entry)) (page (now (text .entry)) (now (rec .entry)) (now (kinds .entry)) (now (starts .entry)) (now (lens .entry))) cfg (λ ws c. dec-one· ws c SignatureDec) (runOf at (now (mem .entry)) (now (out .entry))) r (now (mem .exit)) (now (out .exit)) ⌝ }
 {
     word(run, text, out, mem, words::SIGNATURE);
@@ -1839,7 +1840,7 @@ fn nm<'a>(
     cfg: Cfg,
     w: usize,
 ) -> usize
-    requires { ⌜ cfg .depth + 2 * cfg .left + 2 ≤ 1000 ⌝ }
+    requires { ⌜ cfg .depth + 2 * cfg .left + 2 ≤ 402 ⌝ }
     ensures { λ r. ⌜ Does (now (run .entry)) (page (now (text .entry)) (now (rec .entry)) (now (kinds .entry)) (now (starts .entry)) (now (lens .entry))) cfg (λ ws c. text· ⨾ word· (wordOf w) ⨾ ws .get-sig-exp c) (runOf at (now (mem .entry)) (now (out .entry))) r (now (mem .exit)) (now (out .exit)) ⌝ }
 {
     let r1 = text_of(run, text, rec, starts, lens, out, mem, at);
@@ -1863,7 +1864,7 @@ fn cd<'a>(
     at: usize,
     cfg: Cfg,
 ) -> usize
-    requires { ⌜ cfg .depth + 2 * cfg .left + 2 ≤ 1000 ⌝ }
+    requires { ⌜ cfg .depth + 2 * cfg .left + 2 ≤ 402 ⌝ }
     ensures { λ r. ⌜ Does (now (run .entry)) (page (now (text .entry)) (now (rec .entry)) (now (kinds .entry)) (now (starts .entry)) (now (lens .entry))) cfg (λ ws c. dec-one· ws c FunctorDec) (runOf at (now (mem .entry)) (now (out .entry))) r (now (mem .exit)) (now (out .exit)) ⌝ }
 {
     word(run, text, out, mem, words::FUNCTOR);
@@ -1897,7 +1898,7 @@ fn cb<'a>(
     at: usize,
     cfg: Cfg,
 ) -> usize
-    requires { ⌜ cfg .depth + 2 * cfg .left + 2 ≤ 1000 ⌝ }
+    requires { ⌜ cfg .depth + 2 * cfg .left + 2 ≤ 402 ⌝ }
     ensures { λ r. ⌜ Does (now (run .entry)) (page (now (text .entry)) (now (rec .entry)) (now (kinds .entry)) (now (starts .entry)) (now (lens .entry))) cfg functor-bind (runOf at (now (mem .entry)) (now (out .entry))) r (now (mem .exit)) (now (out .exit)) ⌝ }
 {
     let r1 = group(rec, at);
@@ -1935,7 +1936,7 @@ fn fs<'a>(
     at: usize,
     cfg: Cfg,
 ) -> usize
-    requires { ⌜ cfg .depth + 2 * cfg .left + 2 ≤ 1000 ⌝ }
+    requires { ⌜ cfg .depth + 2 * cfg .left + 2 ≤ 402 ⌝ }
     ensures { λ r. ⌜ Does (now (run .entry)) (page (now (text .entry)) (now (rec .entry)) (now (kinds .entry)) (now (starts .entry)) (now (lens .entry))) cfg functor-args (runOf at (now (mem .entry)) (now (out .entry))) r (now (mem .exit)) (now (out .exit)) ⌝ }
 {
     let Read::Is(n, s0) = list(rec, at) else {
@@ -1971,7 +1972,7 @@ fn fa<'a>(
     cfg: Cfg,
     which: usize,
 ) -> usize
-    requires { ⌜ cfg .depth + 2 * cfg .left + 2 ≤ 1000 ⌝ }
+    requires { ⌜ cfg .depth + 2 * cfg .left + 2 ≤ 402 ⌝ }
     ensures { λ r. ⌜ Does (now (run .entry)) (page (now (text .entry)) (now (rec .entry)) (now (kinds .entry)) (now (starts .entry)) (now (lens .entry))) cfg (λ ws c. functor-arg ws c which) (runOf at (now (mem .entry)) (now (out .entry))) r (now (mem .exit)) (now (out .exit)) ⌝ }
 {
     match which {
@@ -2006,7 +2007,7 @@ fn ic<'a>(
     at: usize,
     cfg: Cfg,
 ) -> usize
-    requires { ⌜ cfg .depth + 2 * cfg .left + 2 ≤ 1000 ⌝ }
+    requires { ⌜ cfg .depth + 2 * cfg .left + 2 ≤ 402 ⌝ }
     ensures { λ r. ⌜ Does (now (run .entry)) (page (now (text .entry)) (now (rec .entry)) (now (kinds .entry)) (now (starts .entry)) (now (lens .entry))) cfg (λ ws c. dec-one· ws c IncludeDec) (runOf at (now (mem .entry)) (now (out .entry))) r (now (mem .exit)) (now (out .exit)) ⌝ }
 {
     word(run, text, out, mem, words::INCLUDE);
@@ -2040,7 +2041,7 @@ fn da<'a>(
     at: usize,
     cfg: Cfg,
 ) -> usize
-    requires { ⌜ cfg .depth + 2 * cfg .left + 2 ≤ 1000 ⌝ }
+    requires { ⌜ cfg .depth + 2 * cfg .left + 2 ≤ 402 ⌝ }
     ensures { λ r. ⌜ Does (now (run .entry)) (page (now (text .entry)) (now (rec .entry)) (now (kinds .entry)) (now (starts .entry)) (now (lens .entry))) cfg dec-arg (runOf at (now (mem .entry)) (now (out .entry))) r (now (mem .exit)) (now (out .exit)) ⌝ }
 {
     word(run, text, out, mem, words::LINE_FEED);
@@ -2068,7 +2069,7 @@ fn str<'a>(
     at: usize,
     cfg: Cfg,
 ) -> usize
-    requires { ⌜ cfg .depth + 2 * cfg .left + 0 ≤ 1000 ⌝ }
+    requires { ⌜ cfg .depth + 2 * cfg .left + 0 ≤ 402 ⌝ }
     ensures { λ r. ⌜ Does (now (run .entry)) (page (now (text .entry)) (now (rec .entry)) (now (kinds .entry)) (now (starts .entry)) (now (lens .entry))) cfg (λ ws c. ws .get-str-exp c) (runOf at (now (mem .entry)) (now (out .entry))) r (now (mem .exit)) (now (out .exit)) ⌝ }
 {
     let forms_left = cfg.left;
@@ -2106,7 +2107,7 @@ fn ss<'a>(
     at: usize,
     cfg: Cfg,
 ) -> usize
-    requires { ⌜ cfg .depth + 2 * cfg .left + 2 ≤ 1000 ⌝ }
+    requires { ⌜ cfg .depth + 2 * cfg .left + 2 ≤ 402 ⌝ }
     ensures { λ r. ⌜ Does (now (run .entry)) (page (now (text .entry)) (now (rec .entry)) (now (kinds .entry)) (now (starts .entry)) (now (lens .entry))) cfg (λ ws c. str-exp· ws c StructStrExp) (runOf at (now (mem .entry)) (now (out .entry))) r (now (mem .exit)) (now (out .exit)) ⌝ }
 {
     word(run, text, out, mem, words::STRUCT);
@@ -2139,7 +2140,7 @@ fn an<'a>(
     at: usize,
     cfg: Cfg,
 ) -> usize
-    requires { ⌜ cfg .depth + 2 * cfg .left + 2 ≤ 1000 ⌝ }
+    requires { ⌜ cfg .depth + 2 * cfg .left + 2 ≤ 402 ⌝ }
     ensures { λ r. ⌜ Does (now (run .entry)) (page (now (text .entry)) (now (rec .entry)) (now (kinds .entry)) (now (starts .entry)) (now (lens .entry))) cfg (λ ws c. str-exp· ws c AscriptionStrExp) (runOf at (now (mem .entry)) (now (out .entry))) r (now (mem .exit)) (now (out .exit)) ⌝ }
 {
     let r1 = str(run, text, rec, kinds, starts, lens, out, mem, at, cfg);
@@ -2162,7 +2163,7 @@ fn ta<'a>(
     at: usize,
     cfg: Cfg,
 ) -> usize
-    requires { ⌜ cfg .depth + 2 * cfg .left + 2 ≤ 1000 ⌝ }
+    requires { ⌜ cfg .depth + 2 * cfg .left + 2 ≤ 402 ⌝ }
     ensures { λ r. ⌜ Does (now (run .entry)) (page (now (text .entry)) (now (rec .entry)) (now (kinds .entry)) (now (starts .entry)) (now (lens .entry))) cfg ascription-tail (runOf at (now (mem .entry)) (now (out .entry))) r (now (mem .exit)) (now (out .exit)) ⌝ }
 {
     let r1 = group(rec, at);
@@ -2191,7 +2192,7 @@ fn ac<'a>(
     at: usize,
     cfg: Cfg,
 ) -> usize
-    requires { ⌜ cfg .depth + 2 * cfg .left + 2 ≤ 1000 ⌝ }
+    requires { ⌜ cfg .depth + 2 * cfg .left + 2 ≤ 402 ⌝ }
     ensures { λ r. ⌜ Does (now (run .entry)) (page (now (text .entry)) (now (rec .entry)) (now (kinds .entry)) (now (starts .entry)) (now (lens .entry))) cfg (λ ws c. maybe (ascription-tail ws c)) (runOf at (now (mem .entry)) (now (out .entry))) r (now (mem .exit)) (now (out .exit)) ⌝ }
 {
     if let Gone::Past(s0) = absent(rec, at) {
@@ -2213,7 +2214,7 @@ fn sp<'a>(
     at: usize,
     cfg: Cfg,
 ) -> usize
-    requires { ⌜ cfg .depth + 2 * cfg .left + 2 ≤ 1000 ⌝ }
+    requires { ⌜ cfg .depth + 2 * cfg .left + 2 ≤ 402 ⌝ }
     ensures { λ r. ⌜ Does (now (run .entry)) (page (now (text .entry)) (now (rec .entry)) (now (kinds .entry)) (now (starts .entry)) (now (lens .entry))) cfg (λ ws c. str-exp· ws c AppStrExp) (runOf at (now (mem .entry)) (now (out .entry))) r (now (mem .exit)) (now (out .exit)) ⌝ }
 {
     let r1 = text_of(run, text, rec, starts, lens, out, mem, at);
@@ -2257,7 +2258,7 @@ fn sa<'a>(
     cfg: Cfg,
     which: usize,
 ) -> usize
-    requires { ⌜ cfg .depth + 2 * cfg .left + 2 ≤ 1000 ⌝ }
+    requires { ⌜ cfg .depth + 2 * cfg .left + 2 ≤ 402 ⌝ }
     ensures { λ r. ⌜ Does (now (run .entry)) (page (now (text .entry)) (now (rec .entry)) (now (kinds .entry)) (now (starts .entry)) (now (lens .entry))) cfg (λ ws c. app-arg ws c which) (runOf at (now (mem .entry)) (now (out .entry))) r (now (mem .exit)) (now (out .exit)) ⌝ }
 {
     match which {
@@ -2280,7 +2281,7 @@ fn sl<'a>(
     at: usize,
     cfg: Cfg,
 ) -> usize
-    requires { ⌜ cfg .depth + 2 * cfg .left + 2 ≤ 1000 ⌝ }
+    requires { ⌜ cfg .depth + 2 * cfg .left + 2 ≤ 402 ⌝ }
     ensures { λ r. ⌜ Does (now (run .entry)) (page (now (text .entry)) (now (rec .entry)) (now (kinds .entry)) (now (starts .entry)) (now (lens .entry))) cfg (λ ws c. str-exp· ws c LetStrExp) (runOf at (now (mem .entry)) (now (out .entry))) r (now (mem .exit)) (now (out .exit)) ⌝ }
 {
     word(run, text, out, mem, words::LET);
@@ -2317,7 +2318,7 @@ fn sig<'a>(
     at: usize,
     cfg: Cfg,
 ) -> usize
-    requires { ⌜ cfg .depth + 2 * cfg .left + 0 ≤ 1000 ⌝ }
+    requires { ⌜ cfg .depth + 2 * cfg .left + 0 ≤ 402 ⌝ }
     ensures { λ r. ⌜ Does (now (run .entry)) (page (now (text .entry)) (now (rec .entry)) (now (kinds .entry)) (now (starts .entry)) (now (lens .entry))) cfg (λ ws c. ws .get-sig-exp c) (runOf at (now (mem .entry)) (now (out .entry))) r (now (mem .exit)) (now (out .exit)) ⌝ }
 {
     let forms_left = cfg.left;
@@ -2354,7 +2355,7 @@ fn sg<'a>(
     at: usize,
     cfg: Cfg,
 ) -> usize
-    requires { ⌜ cfg .depth + 2 * cfg .left + 2 ≤ 1000 ⌝ }
+    requires { ⌜ cfg .depth + 2 * cfg .left + 2 ≤ 402 ⌝ }
     ensures { λ r. ⌜ Does (now (run .entry)) (page (now (text .entry)) (now (rec .entry)) (now (kinds .entry)) (now (starts .entry)) (now (lens .entry))) cfg (λ ws c. sig-exp· ws c SigSigExp) (runOf at (now (mem .entry)) (now (out .entry))) r (now (mem .exit)) (now (out .exit)) ⌝ }
 {
     word(run, text, out, mem, words::SIG);
@@ -2382,7 +2383,7 @@ fn wt<'a>(
     at: usize,
     cfg: Cfg,
 ) -> usize
-    requires { ⌜ cfg .depth + 2 * cfg .left + 2 ≤ 1000 ⌝ }
+    requires { ⌜ cfg .depth + 2 * cfg .left + 2 ≤ 402 ⌝ }
     ensures { λ r. ⌜ Does (now (run .entry)) (page (now (text .entry)) (now (rec .entry)) (now (kinds .entry)) (now (starts .entry)) (now (lens .entry))) cfg (λ ws c. sig-exp· ws c WhereTypeSigExp) (runOf at (now (mem .entry)) (now (out .entry))) r (now (mem .exit)) (now (out .exit)) ⌝ }
 {
     let r1 = sig(run, text, rec, kinds, starts, lens, out, mem, at, cfg);
@@ -2415,7 +2416,7 @@ fn wr<'a>(
     at: usize,
     cfg: Cfg,
 ) -> usize
-    requires { ⌜ cfg .depth + 2 * cfg .left + 2 ≤ 1000 ⌝ }
+    requires { ⌜ cfg .depth + 2 * cfg .left + 2 ≤ 402 ⌝ }
     ensures { λ r. ⌜ Does (now (run .entry)) (page (now (text .entry)) (now (rec .entry)) (now (kinds .entry)) (now (starts .entry)) (now (lens .entry))) cfg (λ ws c. sig-exp· ws c WhereSigExp) (runOf at (now (mem .entry)) (now (out .entry))) r (now (mem .exit)) (now (out .exit)) ⌝ }
 {
     let r1 = sig(run, text, rec, kinds, starts, lens, out, mem, at, cfg);
@@ -2444,7 +2445,7 @@ pub fn walk<'a>(
     mem: &mut [u64; 68],
     tree: usize,
 ) -> usize
-    ensures { λ r. ⌜ Walked (now (run .entry)) (page (now (text .entry)) (now (rec .entry)) (now (kinds .entry)) (now (starts .entry)) (now (lens .entry))) (get-dec (walks maxForms) top) (runOf tree (now (mem .entry)) (now (out .entry))) r (now (mem .exit)) (now (out .exit)) ⌝ }
+    ensures { λ r. ⌜ Walked false (now (run .entry)) (page (now (text .entry)) (now (rec .entry)) (now (kinds .entry)) (now (starts .entry)) (now (lens .entry))) (get-dec (walks maxForms) top) (runOf tree (now (mem .entry)) (now (out .entry))) r (now (mem .exit)) (now (out .exit)) ⌝ }
 {
     let cfg = Cfg {
         depth: 0,

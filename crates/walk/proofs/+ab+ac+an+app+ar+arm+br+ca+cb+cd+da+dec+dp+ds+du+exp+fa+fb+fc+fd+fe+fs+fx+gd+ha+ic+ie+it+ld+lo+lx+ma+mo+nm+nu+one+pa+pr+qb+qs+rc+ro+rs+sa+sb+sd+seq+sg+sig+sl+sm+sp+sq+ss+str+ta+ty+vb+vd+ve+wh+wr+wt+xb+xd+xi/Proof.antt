@@ -19,10 +19,10 @@ use Rattle.layout.specs.StrExp as StrExp
 use Rattle.layout.specs.SigExp as SigExp
 use Rattle.layout.proofs.Steps.{Turn, from, plain, along, deep-depth, deep-left, by-same, first-same, then-done, then-stop, then-halt, then-sure, last-sure, then-both, sure-formed, last-skip, list-is, list-not, choice-is, choice-not, group-is, group-not, maybe-past, maybe-there, items-all, from-more, from-none, times-all, times-more, times-none, regroup, look-yes, look-no, look-not, operator-not, operator-stop}
 use Rattle.layout.proofs.Knot.{past, beyond, at-key, form-key, exp-zero, exp-form, str-zero, str-form, sig-zero, sig-form, dec-zero, dec-form}
-use Rattle.layout.proofs.HeadLaws.{application-is, application-missing}
+use Rattle.layout.proofs.HeadLaws.{application-is, application-missing, application-stop}
 use Rattle.layout.proofs.DecLaws.{declaration-is, declaration-not}
 use Rattle.leaves.proofs.Laws.{missed}
-use Rattle.walk.proofs.Laws.{semi-all, semi-more, semi-none, semi-zero, semi-first, args-all, args-more, args-none, args-needs, operator-then, last-import}
+use Rattle.walk.proofs.Laws.{semi-all, semi-more, semi-none, semi-zero, semi-first, args-all, args-more, args-none, args-needs, operator-then, seen-behind, last-import}
 use Rattle.layout.proofs.Steps.{form-is, form-not}
 use Prim.Native.Nat.{ℕ, _<_}
 use borrow.Fn.Kinds.{In}
@@ -250,9 +250,10 @@ use Rattle.layout.proofs.helpers.path.Reads as path-reads
 use Rattle.layout.proofs.helpers.text_of.Reads as text-of-reads
 use Rattle.layout.proofs.helpers.ty_var_seq.Reads as ty-var-seq-reads
 use Rattle.layout.proofs.helpers.word_if.Reads as word-if-reads
+use Rattle.layout.proofs.looks.asked_first.Reads as asked-first-reads
 use Rattle.layout.proofs.looks.body_exp_needs_newline.Reads as body-exp-needs-newline-reads
 use Rattle.layout.proofs.looks.expression.Reads as expression-reads
-use Rattle.layout.proofs.looks.heads.Reads as heads-reads
+use Rattle.layout.proofs.looks.heads_behind.Reads as heads-behind-reads
 use Rattle.layout.proofs.looks.is_if_exp.Reads as is-if-exp-reads
 use Rattle.layout.proofs.told.Reads as told-reads
 use Rattle.layout.proofs.word.Reads as word-reads
@@ -882,7 +883,7 @@ xi-at t = and 7 xi-kinds.ps (is 7 xi-kinds.ps μ-xi t) xi.Pre
 abbrev xi-below : ℕ → In 7 xi-kinds.ps
 xi-below t = and 7 xi-kinds.ps (falls 7 xi-kinds.ps _<_ μ-xi t) xi.Pre
 
--- src/lib.rt:1522:5
+-- src/lib.rt:1523:5
 ab-word-requires : (t : ℕ) → ab-lts.Need-word-requires (
   word-reads.Asked,
   word-reads.Learnt,
@@ -897,7 +898,7 @@ ab-word-requires : (t : ℕ) → ab-lts.Need-word-requires (
 ) (ab-at t) ab.Post
 ab-word-requires t c κs = search needs
 
--- src/lib.rt:1523:9
+-- src/lib.rt:1524:9
 ab-dat-binds-requires : (t : ℕ) → ab-lts.Need-dat-binds-requires (
   word-reads.Asked,
   word-reads.Learnt,
@@ -912,7 +913,7 @@ ab-dat-binds-requires : (t : ℕ) → ab-lts.Need-dat-binds-requires (
 ) (ab-at t) ab.Post
 ab-dat-binds-requires t c κs = omega (arith, c .before .before .before .before .before .before .before .before .before .before .before .before .before .pre .1)
 
--- src/lib.rt:1524:28
+-- src/lib.rt:1525:28
 ab-told-requires : (t : ℕ) → ab-lts.Need-told-requires (
   word-reads.Asked,
   word-reads.Learnt,
@@ -927,7 +928,7 @@ ab-told-requires : (t : ℕ) → ab-lts.Need-told-requires (
 ) (ab-at t) ab.Post
 ab-told-requires t c κs = search needs
 
--- src/lib.rt:1524:22
+-- src/lib.rt:1525:22
 ab-enum-known-s1 : (t : ℕ) → ab-lts.Need-enum-known-s1 (
   word-reads.Asked,
   word-reads.Learnt,
@@ -942,7 +943,7 @@ ab-enum-known-s1 : (t : ℕ) → ab-lts.Need-enum-known-s1 (
 ) (ab-at t) ab.Post
 ab-enum-known-s1 t c = search needs
 
--- src/lib.rt:1525:9
+-- src/lib.rt:1526:9
 ab-enum-told : (t : ℕ) → ab-lts.Need-enum-told (
   word-reads.Asked,
   word-reads.Learnt,
@@ -957,7 +958,7 @@ ab-enum-told : (t : ℕ) → ab-lts.Need-enum-told (
 ) (ab-at t) ab.Post
 ab-enum-told t c = search needs
 
--- src/lib.rt:1525:9
+-- src/lib.rt:1526:9
 ab-same-length : (t : ℕ) → ab-lts.Need-same-length (
   word-reads.Asked,
   word-reads.Learnt,
@@ -972,7 +973,7 @@ ab-same-length : (t : ℕ) → ab-lts.Need-same-length (
 ) (ab-at t) ab.Post
 ab-same-length t c = c .before .before .before .before .before .dat-binds .kept .1 .1 .1 .1 .1 .0 ∙ c .before .before .before .before .before .before .before .before .before .before .word .kept .1 .1 .0
 
--- src/lib.rt:1525:9
+-- src/lib.rt:1526:9
 ab-returns : (t : ℕ) → ab-lts.Need-returns (
   word-reads.Asked,
   word-reads.Learnt,
@@ -988,7 +989,7 @@ ab-returns : (t : ℕ) → ab-lts.Need-returns (
 unfolding DecOne.dec-one
 ab-returns t c = record { is = then-sure (c .before .before .before .before .before .before .before .before .before .before .word .ensures) (then-stop (plain (c .before .before .before .before .before .dat-binds .ensures)) (c .before .before .told .ensures) (c .enum-told .given .1)) }
 
--- src/lib.rt:1527:9
+-- src/lib.rt:1528:9
 ab-with-type-requires : (t : ℕ) → ab-lts.Need-with-type-requires (
   word-reads.Asked,
   word-reads.Learnt,
@@ -1003,7 +1004,7 @@ ab-with-type-requires : (t : ℕ) → ab-lts.Need-with-type-requires (
 ) (ab-at t) ab.Post
 ab-with-type-requires t c κs = search needs
 
--- src/lib.rt:1528:28
+-- src/lib.rt:1529:28
 ab-told-requires-2 : (t : ℕ) → ab-lts.Need-told-requires-2 (
   word-reads.Asked,
   word-reads.Learnt,
@@ -1018,7 +1019,7 @@ ab-told-requires-2 : (t : ℕ) → ab-lts.Need-told-requires-2 (
 ) (ab-at t) ab.Post
 ab-told-requires-2 t c κs = search needs
 
--- src/lib.rt:1528:22
+-- src/lib.rt:1529:22
 ab-enum-known-s2 : (t : ℕ) → ab-lts.Need-enum-known-s2 (
   word-reads.Asked,
   word-reads.Learnt,
@@ -1033,7 +1034,7 @@ ab-enum-known-s2 : (t : ℕ) → ab-lts.Need-enum-known-s2 (
 ) (ab-at t) ab.Post
 ab-enum-known-s2 t c = search needs
 
--- src/lib.rt:1529:9
+-- src/lib.rt:1530:9
 ab-enum-told-2 : (t : ℕ) → ab-lts.Need-enum-told-2 (
   word-reads.Asked,
   word-reads.Learnt,
@@ -1048,7 +1049,7 @@ ab-enum-told-2 : (t : ℕ) → ab-lts.Need-enum-told-2 (
 ) (ab-at t) ab.Post
 ab-enum-told-2 t c = search needs
 
--- src/lib.rt:1529:9
+-- src/lib.rt:1530:9
 ab-same-length-2 : (t : ℕ) → ab-lts.Need-same-length-2 (
   word-reads.Asked,
   word-reads.Learnt,
@@ -1063,7 +1064,7 @@ ab-same-length-2 : (t : ℕ) → ab-lts.Need-same-length-2 (
 ) (ab-at t) ab.Post
 ab-same-length-2 t c = c .before .before .before .before .before .with-type .kept .1 .1 .1 .1 .1 .0 ∙ c .before .before .before .before .before .before .before .before .before .before .before .before .before .before .dat-binds .kept .1 .1 .1 .1 .1 .0 ∙ c .before .before .before .before .before .before .before .before .before .before .before .before .before .before .before .before .before .before .before .word .kept .1 .1 .0
 
--- src/lib.rt:1529:9
+-- src/lib.rt:1530:9
 ab-returns-2 : (t : ℕ) → ab-lts.Need-returns-2 (
   word-reads.Asked,
   word-reads.Learnt,
@@ -1079,7 +1080,7 @@ ab-returns-2 : (t : ℕ) → ab-lts.Need-returns-2 (
 unfolding DecOne.dec-one
 ab-returns-2 t c = record { is = then-sure (c .before .before .before .before .before .before .before .before .before .before .before .before .before .before .before .before .before .before .before .word .ensures) (then-done (plain (c .before .before .before .before .before .before .before .before .before .before .before .before .before .before .dat-binds .ensures)) (c .before .before .before .before .before .before .before .before .before .before .before .told .ensures) (c .before .before .before .before .before .before .before .before .before .s1 .given .1) (then-stop (plain (c .before .before .before .before .before .with-type .ensures)) (c .before .before .told2 .ensures) (c .enum-told2 .given .1))) }
 
--- src/lib.rt:1531:5
+-- src/lib.rt:1532:5
 ab-word-requires-2 : (t : ℕ) → ab-lts.Need-word-requires-2 (
   word-reads.Asked,
   word-reads.Learnt,
@@ -1094,7 +1095,7 @@ ab-word-requires-2 : (t : ℕ) → ab-lts.Need-word-requires-2 (
 ) (ab-at t) ab.Post
 ab-word-requires-2 t c κs = search needs
 
--- src/lib.rt:1532:9
+-- src/lib.rt:1533:9
 ab-ds-requires : (t : ℕ) → ab-lts.Need-ds-requires (
   word-reads.Asked,
   word-reads.Learnt,
@@ -1109,7 +1110,7 @@ ab-ds-requires : (t : ℕ) → ab-lts.Need-ds-requires (
 ) (ab-at t) ab.Post
 ab-ds-requires t c κs = omega (arith, c .before .before .before .before .before .before .before .before .before .before .before .before .before .before .before .before .before .before .before .before .before .before .before .before .before .before .before .before .before .before .before .before .before .before .before .before .pre .0, c .before .before .before .before .before .before .before .before .before .before .before .before .before .before .before .before .before .before .before .before .before .before .before .before .before .before .before .before .before .before .before .before .before .before .before .before .pre .1)
 
--- src/lib.rt:1533:28
+-- src/lib.rt:1534:28
 ab-told-requires-3 : (t : ℕ) → ab-lts.Need-told-requires-3 (
   word-reads.Asked,
   word-reads.Learnt,
@@ -1124,7 +1125,7 @@ ab-told-requires-3 : (t : ℕ) → ab-lts.Need-told-requires-3 (
 ) (ab-at t) ab.Post
 ab-told-requires-3 t c κs = search needs
 
--- src/lib.rt:1533:22
+-- src/lib.rt:1534:22
 ab-enum-known-s3 : (t : ℕ) → ab-lts.Need-enum-known-s3 (
   word-reads.Asked,
   word-reads.Learnt,
@@ -1139,7 +1140,7 @@ ab-enum-known-s3 : (t : ℕ) → ab-lts.Need-enum-known-s3 (
 ) (ab-at t) ab.Post
 ab-enum-known-s3 t c = search needs
 
--- src/lib.rt:1534:9
+-- src/lib.rt:1535:9
 ab-enum-told-3 : (t : ℕ) → ab-lts.Need-enum-told-3 (
   word-reads.Asked,
   word-reads.Learnt,
@@ -1154,7 +1155,7 @@ ab-enum-told-3 : (t : ℕ) → ab-lts.Need-enum-told-3 (
 ) (ab-at t) ab.Post
 ab-enum-told-3 t c = search needs
 
--- src/lib.rt:1534:9
+-- src/lib.rt:1535:9
 ab-same-length-3 : (t : ℕ) → ab-lts.Need-same-length-3 (
   word-reads.Asked,
   word-reads.Learnt,
@@ -1169,7 +1170,7 @@ ab-same-length-3 : (t : ℕ) → ab-lts.Need-same-length-3 (
 ) (ab-at t) ab.Post
 ab-same-length-3 t c = c .before .before .before .before .before .ds .kept .1 .1 .1 .1 .1 .1 .0 ∙ c .before .before .before .before .before .before .before .before .before .before .word2 .kept .1 .1 .0 ∙ c .before .before .before .before .before .before .before .before .before .before .before .before .before .before .before .before .before .before .before .with-type .kept .1 .1 .1 .1 .1 .0 ∙ c .before .before .before .before .before .before .before .before .before .before .before .before .before .before .before .before .before .before .before .before .before .before .before .before .before .before .before .before .dat-binds .kept .1 .1 .1 .1 .1 .0 ∙ c .before .before .before .before .before .before .before .before .before .before .before .before .before .before .before .before .before .before .before .before .before .before .before .before .before .before .before .before .before .before .before .before .before .word .kept .1 .1 .0
 
--- src/lib.rt:1534:9
+-- src/lib.rt:1535:9
 ab-returns-3 : (t : ℕ) → ab-lts.Need-returns-3 (
   word-reads.Asked,
   word-reads.Learnt,
@@ -1185,7 +1186,7 @@ ab-returns-3 : (t : ℕ) → ab-lts.Need-returns-3 (
 unfolding DecOne.dec-one
 ab-returns-3 t c = record { is = then-sure (c .before .before .before .before .before .before .before .before .before .before .before .before .before .before .before .before .before .before .before .before .before .before .before .before .before .before .before .before .before .before .before .before .before .word .ensures) (then-done (plain (c .before .before .before .before .before .before .before .before .before .before .before .before .before .before .before .before .before .before .before .before .before .before .before .before .before .before .before .before .dat-binds .ensures)) (c .before .before .before .before .before .before .before .before .before .before .before .before .before .before .before .before .before .before .before .before .before .before .before .before .before .told .ensures) (c .before .before .before .before .before .before .before .before .before .before .before .before .before .before .before .before .before .before .before .before .before .before .before .s1 .given .1) (then-done (plain (c .before .before .before .before .before .before .before .before .before .before .before .before .before .before .before .before .before .before .before .with-type .ensures)) (c .before .before .before .before .before .before .before .before .before .before .before .before .before .before .before .before .told2 .ensures) (c .before .before .before .before .before .before .before .before .before .before .before .before .before .before .s2 .given .1) (then-sure (c .before .before .before .before .before .before .before .before .before .before .word2 .ensures) (then-stop (c .before .before .before .before .before .ds .ensures .is) (c .before .before .told3 .ensures) (c .enum-told3 .given .1))))) }
 
--- src/lib.rt:1536:5
+-- src/lib.rt:1537:5
 ab-word-requires-3 : (t : ℕ) → ab-lts.Need-word-requires-3 (
   word-reads.Asked,
   word-reads.Learnt,
@@ -1200,7 +1201,7 @@ ab-word-requires-3 : (t : ℕ) → ab-lts.Need-word-requires-3 (
 ) (ab-at t) ab.Post
 ab-word-requires-3 t c κs = search needs
 
--- src/lib.rt:1507:1
+-- src/lib.rt:1508:1
 ab-same-length-4 : (t : ℕ) → ab-lts.Need-same-length-4 (
   word-reads.Asked,
   word-reads.Learnt,
@@ -1215,7 +1216,7 @@ ab-same-length-4 : (t : ℕ) → ab-lts.Need-same-length-4 (
 ) (ab-at t) ab.Post
 ab-same-length-4 t c = c .before .before .word3 .kept .1 .1 .0 ∙ c .before .before .before .before .before .before .before .before .before .before .before .ds .kept .1 .1 .1 .1 .1 .1 .0 ∙ c .before .before .before .before .before .before .before .before .before .before .before .before .before .before .before .before .word2 .kept .1 .1 .0 ∙ c .before .before .before .before .before .before .before .before .before .before .before .before .before .before .before .before .before .before .before .before .before .before .before .before .before .with-type .kept .1 .1 .1 .1 .1 .0 ∙ c .before .before .before .before .before .before .before .before .before .before .before .before .before .before .before .before .before .before .before .before .before .before .before .before .before .before .before .before .before .before .before .before .before .before .dat-binds .kept .1 .1 .1 .1 .1 .0 ∙ c .before .before .before .before .before .before .before .before .before .before .before .before .before .before .before .before .before .before .before .before .before .before .before .before .before .before .before .before .before .before .before .before .before .before .before .before .before .before .before .word .kept .1 .1 .0
 
--- src/lib.rt:1507:1
+-- src/lib.rt:1508:1
 ab-returns-4 : (t : ℕ) → ab-lts.Need-returns-4 (
   word-reads.Asked,
   word-reads.Learnt,
@@ -1231,7 +1232,7 @@ ab-returns-4 : (t : ℕ) → ab-lts.Need-returns-4 (
 unfolding DecOne.dec-one
 ab-returns-4 t c = record { is = then-sure (c .before .before .before .before .before .before .before .before .before .before .before .before .before .before .before .before .before .before .before .before .before .before .before .before .before .before .before .before .before .before .before .before .before .before .before .before .before .before .before .word .ensures) (then-done (plain (c .before .before .before .before .before .before .before .before .before .before .before .before .before .before .before .before .before .before .before .before .before .before .before .before .before .before .before .before .before .before .before .before .before .before .dat-binds .ensures)) (c .before .before .before .before .before .before .before .before .before .before .before .before .before .before .before .before .before .before .before .before .before .before .before .before .before .before .before .before .before .before .before .told .ensures) (c .before .before .before .before .before .before .before .before .before .before .before .before .before .before .before .before .before .before .before .before .before .before .before .before .before .before .before .before .before .s1 .given .1) (then-done (plain (c .before .before .before .before .before .before .before .before .before .before .before .before .before .before .before .before .before .before .before .before .before .before .before .before .before .with-type .ensures)) (c .before .before .before .before .before .before .before .before .before .before .before .before .before .before .before .before .before .before .before .before .before .before .told2 .ensures) (c .before .before .before .before .before .before .before .before .before .before .before .before .before .before .before .before .before .before .before .before .s2 .given .1) (then-sure (c .before .before .before .before .before .before .before .before .before .before .before .before .before .before .before .before .word2 .ensures) (then-done (c .before .before .before .before .before .before .before .before .before .before .before .ds .ensures .is) (c .before .before .before .before .before .before .before .before .told3 .ensures) (c .before .before .before .before .before .before .s3 .given .1) (last-sure (c .before .before .word3 .ensures)))))) }
 
--- src/lib.rt:2197:29
+-- src/lib.rt:2198:29
 ac-absent-requires : (t : ℕ) → ac-lts.Need-absent-requires (
   absent-reads.Asked,
   absent-reads.Learnt,
@@ -1240,7 +1241,7 @@ ac-absent-requires : (t : ℕ) → ac-lts.Need-absent-requires (
 ) (ac-at t) ac.Post
 ac-absent-requires t c κs = search needs
 
--- src/lib.rt:2197:23
+-- src/lib.rt:2198:23
 ac-enum-known-s0 : (t : ℕ) → ac-lts.Need-enum-known-s0 (
   absent-reads.Asked,
   absent-reads.Learnt,
@@ -1249,7 +1250,7 @@ ac-enum-known-s0 : (t : ℕ) → ac-lts.Need-enum-known-s0 (
 ) (ac-at t) ac.Post
 ac-enum-known-s0 t c = search needs
 
--- src/lib.rt:2198:9
+-- src/lib.rt:2199:9
 ac-returns : (t : ℕ) → ac-lts.Need-returns (
   absent-reads.Asked,
   absent-reads.Learnt,
@@ -1266,7 +1267,7 @@ ac-enum-told : (t : ℕ) → ac-lts.Need-enum-told (
 ) (ac-at t) ac.Post
 ac-enum-told t c = search needs
 
--- src/lib.rt:2200:5
+-- src/lib.rt:2201:5
 ac-ta-requires : (t : ℕ) → ac-lts.Need-ta-requires (
   absent-reads.Asked,
   absent-reads.Learnt,
@@ -1275,7 +1276,7 @@ ac-ta-requires : (t : ℕ) → ac-lts.Need-ta-requires (
 ) (ac-at t) ac.Post
 ac-ta-requires t c κs = omega (arith, c .before .before .before .before .before .before .before .before .before .before .before .pre .0, c .before .before .before .before .before .before .before .before .before .before .before .pre .1)
 
--- src/lib.rt:2182:1
+-- src/lib.rt:2183:1
 ac-same-length : (t : ℕ) → ac-lts.Need-same-length (
   absent-reads.Asked,
   absent-reads.Learnt,
@@ -1284,7 +1285,7 @@ ac-same-length : (t : ℕ) → ac-lts.Need-same-length (
 ) (ac-at t) ac.Post
 ac-same-length t c = c .before .before .ta .kept .1 .1 .1 .1 .1 .1 .0
 
--- src/lib.rt:2182:1
+-- src/lib.rt:2183:1
 ac-returns-2 : (t : ℕ) → ac-lts.Need-returns-2 (
   absent-reads.Asked,
   absent-reads.Learnt,
@@ -1293,7 +1294,7 @@ ac-returns-2 : (t : ℕ) → ac-lts.Need-returns-2 (
 ) (ac-at t) ac.Post
 ac-returns-2 t c = record { is = by-same (maybe-there (c .before .before .before .before .before .before .before .absent .ensures) (c .before .before .before .before .before .enum-told .given .1)) (c .before .before .ta .ensures .is) }
 
--- src/lib.rt:2145:9
+-- src/lib.rt:2146:9
 an-str-requires : (t : ℕ) → an-lts.Need-str-requires (
   str-below t,
   str.Post,
@@ -1304,7 +1305,7 @@ an-str-requires : (t : ℕ) → an-lts.Need-str-requires (
 ) (an-at t) an.Post
 an-str-requires t c κs = omega (arith, c .before .before .before .before .before .before .before .before .pre .0, c .before .before .before .before .before .before .before .before .pre .1)
 
--- src/lib.rt:2146:28
+-- src/lib.rt:2147:28
 an-told-requires : (t : ℕ) → an-lts.Need-told-requires (
   str-below t,
   str.Post,
@@ -1315,7 +1316,7 @@ an-told-requires : (t : ℕ) → an-lts.Need-told-requires (
 ) (an-at t) an.Post
 an-told-requires t c κs = search needs
 
--- src/lib.rt:2146:22
+-- src/lib.rt:2147:22
 an-enum-known-s1 : (t : ℕ) → an-lts.Need-enum-known-s1 (
   str-below t,
   str.Post,
@@ -1326,7 +1327,7 @@ an-enum-known-s1 : (t : ℕ) → an-lts.Need-enum-known-s1 (
 ) (an-at t) an.Post
 an-enum-known-s1 t c = search needs
 
--- src/lib.rt:2147:9
+-- src/lib.rt:2148:9
 an-enum-told : (t : ℕ) → an-lts.Need-enum-told (
   str-below t,
   str.Post,
@@ -1337,7 +1338,7 @@ an-enum-told : (t : ℕ) → an-lts.Need-enum-told (
 ) (an-at t) an.Post
 an-enum-told t c = search needs
 
--- src/lib.rt:2147:9
+-- src/lib.rt:2148:9
 an-same-length : (t : ℕ) → an-lts.Need-same-length (
   str-below t,
   str.Post,
@@ -1348,7 +1349,7 @@ an-same-length : (t : ℕ) → an-lts.Need-same-length (
 ) (an-at t) an.Post
 an-same-length t c = c .before .before .before .before .before .str .kept .1 .1 .1 .1 .1 .1 .0
 
--- src/lib.rt:2147:9
+-- src/lib.rt:2148:9
 an-returns : (t : ℕ) → an-lts.Need-returns (
   str-below t,
   str.Post,
@@ -1360,7 +1361,7 @@ an-returns : (t : ℕ) → an-lts.Need-returns (
 unfolding StrExp.str-exp
 an-returns t c = record { is = then-stop (c .before .before .before .before .before .str .ensures .is) (c .before .before .told .ensures) (c .enum-told .given .1) }
 
--- src/lib.rt:2149:5
+-- src/lib.rt:2150:5
 an-ta-requires : (t : ℕ) → an-lts.Need-ta-requires (
   str-below t,
   str.Post,
@@ -1371,7 +1372,7 @@ an-ta-requires : (t : ℕ) → an-lts.Need-ta-requires (
 ) (an-at t) an.Post
 an-ta-requires t c κs = omega (arith, c .before .before .before .before .before .before .before .before .before .before .before .before .before .before .before .before .before .pre .0, c .before .before .before .before .before .before .before .before .before .before .before .before .before .before .before .before .before .pre .1)
 
--- src/lib.rt:2130:1
+-- src/lib.rt:2131:1
 an-same-length-2 : (t : ℕ) → an-lts.Need-same-length-2 (
   str-below t,
   str.Post,
@@ -1382,7 +1383,7 @@ an-same-length-2 : (t : ℕ) → an-lts.Need-same-length-2 (
 ) (an-at t) an.Post
 an-same-length-2 t c = c .before .before .ta .kept .1 .1 .1 .1 .1 .1 .0 ∙ c .before .before .before .before .before .before .before .before .before .before .before .str .kept .1 .1 .1 .1 .1 .1 .0
 
--- src/lib.rt:2130:1
+-- src/lib.rt:2131:1
 an-returns-2 : (t : ℕ) → an-lts.Need-returns-2 (
   str-below t,
   str.Post,
@@ -1394,331 +1395,407 @@ an-returns-2 : (t : ℕ) → an-lts.Need-returns-2 (
 unfolding StrExp.str-exp
 an-returns-2 t c = record { is = then-done (c .before .before .before .before .before .before .before .before .before .before .before .str .ensures .is) (c .before .before .before .before .before .before .before .before .told .ensures) (c .before .before .before .before .before .before .s1 .given .1) (c .before .before .ta .ensures .is) }
 
--- src/lib.rt:534:9
-app-heads-requires : (t : ℕ) → app-lts.Need-heads-requires (
-  heads-reads.Asked,
-  heads-reads.Learnt,
-  missing-reads.Asked,
-  missing-reads.Learnt,
-  func-is-bang-reads.Asked,
-  func-is-bang-reads.Learnt,
-  arg-is-symbolic-reads.Asked,
-  arg-is-symbolic-reads.Learnt,
-  exp-below t,
-  exp.Post,
-  told-reads.Asked,
-  told-reads.Learnt,
-  app-space-reads.Asked,
-  app-space-reads.Learnt,
-) (app-at t) app.Post
-app-heads-requires t c κs = search needs
-
--- src/lib.rt:535:23
-app-enum-known-seen : (t : ℕ) → app-lts.Need-enum-known-seen (
-  heads-reads.Asked,
-  heads-reads.Learnt,
-  missing-reads.Asked,
-  missing-reads.Learnt,
-  func-is-bang-reads.Asked,
-  func-is-bang-reads.Learnt,
-  arg-is-symbolic-reads.Asked,
-  arg-is-symbolic-reads.Learnt,
-  exp-below t,
-  exp.Post,
-  told-reads.Asked,
-  told-reads.Learnt,
-  app-space-reads.Asked,
-  app-space-reads.Learnt,
-) (app-at t) app.Post
-app-enum-known-seen t c = search needs
-
--- src/lib.rt:536:9
-app-enum-told : (t : ℕ) → app-lts.Need-enum-told (
-  heads-reads.Asked,
-  heads-reads.Learnt,
-  missing-reads.Asked,
-  missing-reads.Learnt,
-  func-is-bang-reads.Asked,
-  func-is-bang-reads.Learnt,
-  arg-is-symbolic-reads.Asked,
-  arg-is-symbolic-reads.Learnt,
-  exp-below t,
-  exp.Post,
-  told-reads.Asked,
-  told-reads.Learnt,
-  app-space-reads.Asked,
-  app-space-reads.Learnt,
-) (app-at t) app.Post
-app-enum-told t c = search needs
-
--- src/lib.rt:536:9
-app-missing-requires : (t : ℕ) → app-lts.Need-missing-requires (
-  heads-reads.Asked,
-  heads-reads.Learnt,
-  missing-reads.Asked,
-  missing-reads.Learnt,
-  func-is-bang-reads.Asked,
-  func-is-bang-reads.Learnt,
-  arg-is-symbolic-reads.Asked,
-  arg-is-symbolic-reads.Learnt,
-  exp-below t,
-  exp.Post,
-  told-reads.Asked,
-  told-reads.Learnt,
-  app-space-reads.Asked,
-  app-space-reads.Learnt,
-) (app-at t) app.Post
-app-missing-requires t c κs = search needs
-
--- src/lib.rt:536:9
-app-returns : (t : ℕ) → app-lts.Need-returns (
-  heads-reads.Asked,
-  heads-reads.Learnt,
-  missing-reads.Asked,
-  missing-reads.Learnt,
-  func-is-bang-reads.Asked,
-  func-is-bang-reads.Learnt,
-  arg-is-symbolic-reads.Asked,
-  arg-is-symbolic-reads.Learnt,
-  exp-below t,
-  exp.Post,
-  told-reads.Asked,
-  told-reads.Learnt,
-  app-space-reads.Asked,
-  app-space-reads.Learnt,
-) (app-at t) app.Post
-unfolding Exp.exp
-app-returns t c = record { is = application-missing (c .before .before .before .heads .ensures) (c .before .enum-told .given .1) (missed (c .missing .ensures) (c .before .enum-told .given .1)) }
-
--- src/lib.rt:538:9
-app-func-is-bang-requires : (t : ℕ) → app-lts.Need-func-is-bang-requires (
-  heads-reads.Asked,
-  heads-reads.Learnt,
-  missing-reads.Asked,
-  missing-reads.Learnt,
-  func-is-bang-reads.Asked,
-  func-is-bang-reads.Learnt,
-  arg-is-symbolic-reads.Asked,
-  arg-is-symbolic-reads.Learnt,
-  exp-below t,
-  exp.Post,
-  told-reads.Asked,
-  told-reads.Learnt,
-  app-space-reads.Asked,
-  app-space-reads.Learnt,
-) (app-at t) app.Post
-app-func-is-bang-requires t c κs = search needs
-
--- src/lib.rt:539:9
-app-arg-is-symbolic-requires : (t : ℕ) → app-lts.Need-arg-is-symbolic-requires (
-  heads-reads.Asked,
-  heads-reads.Learnt,
-  missing-reads.Asked,
-  missing-reads.Learnt,
-  func-is-bang-reads.Asked,
-  func-is-bang-reads.Learnt,
-  arg-is-symbolic-reads.Asked,
-  arg-is-symbolic-reads.Learnt,
-  exp-below t,
-  exp.Post,
-  told-reads.Asked,
-  told-reads.Learnt,
-  app-space-reads.Asked,
-  app-space-reads.Learnt,
-) (app-at t) app.Post
-app-arg-is-symbolic-requires t c κs = search needs
-
--- src/lib.rt:540:9
+-- src/lib.rt:535:9
 app-exp-requires : (t : ℕ) → app-lts.Need-exp-requires (
-  heads-reads.Asked,
-  heads-reads.Learnt,
+  exp-below t,
+  exp.Post,
+  told-reads.Asked,
+  told-reads.Learnt,
+  asked-first-reads.Asked,
+  asked-first-reads.Learnt,
+  heads-behind-reads.Asked,
+  heads-behind-reads.Learnt,
   missing-reads.Asked,
   missing-reads.Learnt,
   func-is-bang-reads.Asked,
   func-is-bang-reads.Learnt,
   arg-is-symbolic-reads.Asked,
   arg-is-symbolic-reads.Learnt,
-  exp-below t,
-  exp.Post,
-  told-reads.Asked,
-  told-reads.Learnt,
   app-space-reads.Asked,
   app-space-reads.Learnt,
 ) (app-at t) app.Post
-app-exp-requires t c κs = omega (arith, c .before .before .before .before .before .before .before .before .before .before .before .before .before .before .pre .0, c .before .before .before .before .before .before .before .before .before .before .before .before .before .before .pre .1)
+app-exp-requires t c κs = omega (arith, c .before .before .before .before .before .before .before .before .pre .0, c .before .before .before .before .before .before .before .before .pre .1)
 
--- src/lib.rt:541:28
+-- src/lib.rt:536:28
 app-told-requires : (t : ℕ) → app-lts.Need-told-requires (
-  heads-reads.Asked,
-  heads-reads.Learnt,
+  exp-below t,
+  exp.Post,
+  told-reads.Asked,
+  told-reads.Learnt,
+  asked-first-reads.Asked,
+  asked-first-reads.Learnt,
+  heads-behind-reads.Asked,
+  heads-behind-reads.Learnt,
   missing-reads.Asked,
   missing-reads.Learnt,
   func-is-bang-reads.Asked,
   func-is-bang-reads.Learnt,
   arg-is-symbolic-reads.Asked,
   arg-is-symbolic-reads.Learnt,
-  exp-below t,
-  exp.Post,
-  told-reads.Asked,
-  told-reads.Learnt,
   app-space-reads.Asked,
   app-space-reads.Learnt,
 ) (app-at t) app.Post
 app-told-requires t c κs = search needs
 
--- src/lib.rt:541:22
+-- src/lib.rt:536:22
 app-enum-known-s1 : (t : ℕ) → app-lts.Need-enum-known-s1 (
-  heads-reads.Asked,
-  heads-reads.Learnt,
+  exp-below t,
+  exp.Post,
+  told-reads.Asked,
+  told-reads.Learnt,
+  asked-first-reads.Asked,
+  asked-first-reads.Learnt,
+  heads-behind-reads.Asked,
+  heads-behind-reads.Learnt,
   missing-reads.Asked,
   missing-reads.Learnt,
   func-is-bang-reads.Asked,
   func-is-bang-reads.Learnt,
   arg-is-symbolic-reads.Asked,
   arg-is-symbolic-reads.Learnt,
-  exp-below t,
-  exp.Post,
-  told-reads.Asked,
-  told-reads.Learnt,
   app-space-reads.Asked,
   app-space-reads.Learnt,
 ) (app-at t) app.Post
 app-enum-known-s1 t c = search needs
 
--- src/lib.rt:542:9
-app-enum-told-2 : (t : ℕ) → app-lts.Need-enum-told-2 (
-  heads-reads.Asked,
-  heads-reads.Learnt,
+-- src/lib.rt:537:33
+app-enum-told : (t : ℕ) → app-lts.Need-enum-told (
+  exp-below t,
+  exp.Post,
+  told-reads.Asked,
+  told-reads.Learnt,
+  asked-first-reads.Asked,
+  asked-first-reads.Learnt,
+  heads-behind-reads.Asked,
+  heads-behind-reads.Learnt,
   missing-reads.Asked,
   missing-reads.Learnt,
   func-is-bang-reads.Asked,
   func-is-bang-reads.Learnt,
   arg-is-symbolic-reads.Asked,
   arg-is-symbolic-reads.Learnt,
+  app-space-reads.Asked,
+  app-space-reads.Learnt,
+) (app-at t) app.Post
+app-enum-told t c = search needs
+
+-- src/lib.rt:537:9
+app-asked-first-requires : (t : ℕ) → app-lts.Need-asked-first-requires (
   exp-below t,
   exp.Post,
   told-reads.Asked,
   told-reads.Learnt,
+  asked-first-reads.Asked,
+  asked-first-reads.Learnt,
+  heads-behind-reads.Asked,
+  heads-behind-reads.Learnt,
+  missing-reads.Asked,
+  missing-reads.Learnt,
+  func-is-bang-reads.Asked,
+  func-is-bang-reads.Learnt,
+  arg-is-symbolic-reads.Asked,
+  arg-is-symbolic-reads.Learnt,
+  app-space-reads.Asked,
+  app-space-reads.Learnt,
+) (app-at t) app.Post
+app-asked-first-requires t c κs = search needs
+
+-- src/lib.rt:537:9
+app-same-length : (t : ℕ) → app-lts.Need-same-length (
+  exp-below t,
+  exp.Post,
+  told-reads.Asked,
+  told-reads.Learnt,
+  asked-first-reads.Asked,
+  asked-first-reads.Learnt,
+  heads-behind-reads.Asked,
+  heads-behind-reads.Learnt,
+  missing-reads.Asked,
+  missing-reads.Learnt,
+  func-is-bang-reads.Asked,
+  func-is-bang-reads.Learnt,
+  arg-is-symbolic-reads.Asked,
+  arg-is-symbolic-reads.Learnt,
+  app-space-reads.Asked,
+  app-space-reads.Learnt,
+) (app-at t) app.Post
+app-same-length t c = c .before .before .before .before .before .before .exp .kept .1 .1 .1 .1 .1 .1 .0
+
+-- src/lib.rt:537:9
+app-returns : (t : ℕ) → app-lts.Need-returns (
+  exp-below t,
+  exp.Post,
+  told-reads.Asked,
+  told-reads.Learnt,
+  asked-first-reads.Asked,
+  asked-first-reads.Learnt,
+  heads-behind-reads.Asked,
+  heads-behind-reads.Learnt,
+  missing-reads.Asked,
+  missing-reads.Learnt,
+  func-is-bang-reads.Asked,
+  func-is-bang-reads.Learnt,
+  arg-is-symbolic-reads.Asked,
+  arg-is-symbolic-reads.Learnt,
+  app-space-reads.Asked,
+  app-space-reads.Learnt,
+) (app-at t) app.Post
+unfolding Exp.exp
+app-returns t c = record { is = application-stop (c .before .before .before .before .before .before .exp .ensures .is) (c .before .before .before .told .ensures) (c .before .enum-told .given .1) (c .asked-first .ensures) }
+
+-- src/lib.rt:539:9
+app-heads-behind-requires : (t : ℕ) → app-lts.Need-heads-behind-requires (
+  exp-below t,
+  exp.Post,
+  told-reads.Asked,
+  told-reads.Learnt,
+  asked-first-reads.Asked,
+  asked-first-reads.Learnt,
+  heads-behind-reads.Asked,
+  heads-behind-reads.Learnt,
+  missing-reads.Asked,
+  missing-reads.Learnt,
+  func-is-bang-reads.Asked,
+  func-is-bang-reads.Learnt,
+  arg-is-symbolic-reads.Asked,
+  arg-is-symbolic-reads.Learnt,
+  app-space-reads.Asked,
+  app-space-reads.Learnt,
+) (app-at t) app.Post
+app-heads-behind-requires t c κs = search needs
+
+-- src/lib.rt:540:23
+app-enum-known-seen : (t : ℕ) → app-lts.Need-enum-known-seen (
+  exp-below t,
+  exp.Post,
+  told-reads.Asked,
+  told-reads.Learnt,
+  asked-first-reads.Asked,
+  asked-first-reads.Learnt,
+  heads-behind-reads.Asked,
+  heads-behind-reads.Learnt,
+  missing-reads.Asked,
+  missing-reads.Learnt,
+  func-is-bang-reads.Asked,
+  func-is-bang-reads.Learnt,
+  arg-is-symbolic-reads.Asked,
+  arg-is-symbolic-reads.Learnt,
+  app-space-reads.Asked,
+  app-space-reads.Learnt,
+) (app-at t) app.Post
+app-enum-known-seen t c = search needs
+
+-- src/lib.rt:541:9
+app-enum-told-2 : (t : ℕ) → app-lts.Need-enum-told-2 (
+  exp-below t,
+  exp.Post,
+  told-reads.Asked,
+  told-reads.Learnt,
+  asked-first-reads.Asked,
+  asked-first-reads.Learnt,
+  heads-behind-reads.Asked,
+  heads-behind-reads.Learnt,
+  missing-reads.Asked,
+  missing-reads.Learnt,
+  func-is-bang-reads.Asked,
+  func-is-bang-reads.Learnt,
+  arg-is-symbolic-reads.Asked,
+  arg-is-symbolic-reads.Learnt,
   app-space-reads.Asked,
   app-space-reads.Learnt,
 ) (app-at t) app.Post
 app-enum-told-2 t c = search needs
 
--- src/lib.rt:542:9
-app-same-length : (t : ℕ) → app-lts.Need-same-length (
-  heads-reads.Asked,
-  heads-reads.Learnt,
+-- src/lib.rt:541:9
+app-missing-requires : (t : ℕ) → app-lts.Need-missing-requires (
+  exp-below t,
+  exp.Post,
+  told-reads.Asked,
+  told-reads.Learnt,
+  asked-first-reads.Asked,
+  asked-first-reads.Learnt,
+  heads-behind-reads.Asked,
+  heads-behind-reads.Learnt,
   missing-reads.Asked,
   missing-reads.Learnt,
   func-is-bang-reads.Asked,
   func-is-bang-reads.Learnt,
   arg-is-symbolic-reads.Asked,
   arg-is-symbolic-reads.Learnt,
-  exp-below t,
-  exp.Post,
-  told-reads.Asked,
-  told-reads.Learnt,
   app-space-reads.Asked,
   app-space-reads.Learnt,
 ) (app-at t) app.Post
-app-same-length t c = c .before .before .before .before .before .exp .kept .1 .1 .1 .1 .1 .1 .0
+app-missing-requires t c κs = search needs
 
--- src/lib.rt:542:9
-app-returns-2 : (t : ℕ) → app-lts.Need-returns-2 (
-  heads-reads.Asked,
-  heads-reads.Learnt,
+-- src/lib.rt:541:9
+app-same-length-2 : (t : ℕ) → app-lts.Need-same-length-2 (
+  exp-below t,
+  exp.Post,
+  told-reads.Asked,
+  told-reads.Learnt,
+  asked-first-reads.Asked,
+  asked-first-reads.Learnt,
+  heads-behind-reads.Asked,
+  heads-behind-reads.Learnt,
   missing-reads.Asked,
   missing-reads.Learnt,
   func-is-bang-reads.Asked,
   func-is-bang-reads.Learnt,
   arg-is-symbolic-reads.Asked,
   arg-is-symbolic-reads.Learnt,
+  app-space-reads.Asked,
+  app-space-reads.Learnt,
+) (app-at t) app.Post
+app-same-length-2 t c = c .before .before .before .before .before .before .before .before .before .before .exp .kept .1 .1 .1 .1 .1 .1 .0
+
+-- src/lib.rt:541:9
+app-returns-2 : (t : ℕ) → app-lts.Need-returns-2 (
   exp-below t,
   exp.Post,
   told-reads.Asked,
   told-reads.Learnt,
+  asked-first-reads.Asked,
+  asked-first-reads.Learnt,
+  heads-behind-reads.Asked,
+  heads-behind-reads.Learnt,
+  missing-reads.Asked,
+  missing-reads.Learnt,
+  func-is-bang-reads.Asked,
+  func-is-bang-reads.Learnt,
+  arg-is-symbolic-reads.Asked,
+  arg-is-symbolic-reads.Learnt,
   app-space-reads.Asked,
   app-space-reads.Learnt,
 ) (app-at t) app.Post
 unfolding Exp.exp
-app-returns-2 t c = record { is = by-same (application-is (c .before .before .before .before .before .before .before .before .before .before .before .before .before .heads .ensures) (c .before .before .before .before .before .before .before .before .before .before .before .seen .given .1) (c .before .before .before .before .before .before .before .before .before .func-is-bang .ensures) (c .before .before .before .before .before .before .before .before .arg-is-symbolic .ensures)) (then-stop (c .before .before .before .before .before .exp .ensures .is) (c .before .before .told .ensures) (c .enum-told2 .given .1)) }
+app-returns-2 t c = record { is = application-missing (seen-behind (c .before .before .before .before .before .before .before .before .before .before .before .before .before .before .before .before .before .before .before .args .cfg .left) (cfgOf (c .before .before .before .before .before .before .before .before .before .before .before .before .before .before .before .before .before .before .before .args .cfg)) (omega (arith, c .before .before .before .before .before .before .before .before .before .before .before .before .before .before .before .before .before .before .before .pre)) (c .before .before .before .before .before .before .before .before .before .before .exp .ensures .is) (c .before .before .before .before .before .before .before .told .ensures) (c .before .before .before .before .before .s1 .given .1) (c .before .before .before .heads-behind .ensures)) (c .before .enum-told2 .given .1) (missed (c .missing .ensures) (c .before .enum-told2 .given .1)) }
 
--- src/lib.rt:544:5
-app-app-space-requires : (t : ℕ) → app-lts.Need-app-space-requires (
-  heads-reads.Asked,
-  heads-reads.Learnt,
+-- src/lib.rt:543:9
+app-func-is-bang-requires : (t : ℕ) → app-lts.Need-func-is-bang-requires (
+  exp-below t,
+  exp.Post,
+  told-reads.Asked,
+  told-reads.Learnt,
+  asked-first-reads.Asked,
+  asked-first-reads.Learnt,
+  heads-behind-reads.Asked,
+  heads-behind-reads.Learnt,
   missing-reads.Asked,
   missing-reads.Learnt,
   func-is-bang-reads.Asked,
   func-is-bang-reads.Learnt,
   arg-is-symbolic-reads.Asked,
   arg-is-symbolic-reads.Learnt,
+  app-space-reads.Asked,
+  app-space-reads.Learnt,
+) (app-at t) app.Post
+app-func-is-bang-requires t c κs = search needs
+
+-- src/lib.rt:544:9
+app-arg-is-symbolic-requires : (t : ℕ) → app-lts.Need-arg-is-symbolic-requires (
   exp-below t,
   exp.Post,
   told-reads.Asked,
   told-reads.Learnt,
+  asked-first-reads.Asked,
+  asked-first-reads.Learnt,
+  heads-behind-reads.Asked,
+  heads-behind-reads.Learnt,
+  missing-reads.Asked,
+  missing-reads.Learnt,
+  func-is-bang-reads.Asked,
+  func-is-bang-reads.Learnt,
+  arg-is-symbolic-reads.Asked,
+  arg-is-symbolic-reads.Learnt,
+  app-space-reads.Asked,
+  app-space-reads.Learnt,
+) (app-at t) app.Post
+app-arg-is-symbolic-requires t c κs = search needs
+
+-- src/lib.rt:545:5
+app-app-space-requires : (t : ℕ) → app-lts.Need-app-space-requires (
+  exp-below t,
+  exp.Post,
+  told-reads.Asked,
+  told-reads.Learnt,
+  asked-first-reads.Asked,
+  asked-first-reads.Learnt,
+  heads-behind-reads.Asked,
+  heads-behind-reads.Learnt,
+  missing-reads.Asked,
+  missing-reads.Learnt,
+  func-is-bang-reads.Asked,
+  func-is-bang-reads.Learnt,
+  arg-is-symbolic-reads.Asked,
+  arg-is-symbolic-reads.Learnt,
   app-space-reads.Asked,
   app-space-reads.Learnt,
 ) (app-at t) app.Post
 app-app-space-requires t c κs = search needs
 
--- src/lib.rt:545:5
+-- src/lib.rt:546:5
 app-exp-requires-2 : (t : ℕ) → app-lts.Need-exp-requires-2 (
-  heads-reads.Asked,
-  heads-reads.Learnt,
+  exp-below t,
+  exp.Post,
+  told-reads.Asked,
+  told-reads.Learnt,
+  asked-first-reads.Asked,
+  asked-first-reads.Learnt,
+  heads-behind-reads.Asked,
+  heads-behind-reads.Learnt,
   missing-reads.Asked,
   missing-reads.Learnt,
   func-is-bang-reads.Asked,
   func-is-bang-reads.Learnt,
   arg-is-symbolic-reads.Asked,
   arg-is-symbolic-reads.Learnt,
-  exp-below t,
-  exp.Post,
-  told-reads.Asked,
-  told-reads.Learnt,
   app-space-reads.Asked,
   app-space-reads.Learnt,
 ) (app-at t) app.Post
 app-exp-requires-2 t c κs = omega (arith, c .before .before .before .before .before .before .before .before .before .before .before .before .before .before .before .before .before .before .before .before .before .before .before .before .before .before .before .before .pre .0, c .before .before .before .before .before .before .before .before .before .before .before .before .before .before .before .before .before .before .before .before .before .before .before .before .before .before .before .before .pre .1)
 
--- src/lib.rt:519:1
-app-same-length-2 : (t : ℕ) → app-lts.Need-same-length-2 (
-  heads-reads.Asked,
-  heads-reads.Learnt,
+-- src/lib.rt:520:1
+app-same-length-3 : (t : ℕ) → app-lts.Need-same-length-3 (
+  exp-below t,
+  exp.Post,
+  told-reads.Asked,
+  told-reads.Learnt,
+  asked-first-reads.Asked,
+  asked-first-reads.Learnt,
+  heads-behind-reads.Asked,
+  heads-behind-reads.Learnt,
   missing-reads.Asked,
   missing-reads.Learnt,
   func-is-bang-reads.Asked,
   func-is-bang-reads.Learnt,
   arg-is-symbolic-reads.Asked,
   arg-is-symbolic-reads.Learnt,
-  exp-below t,
-  exp.Post,
-  told-reads.Asked,
-  told-reads.Learnt,
   app-space-reads.Asked,
   app-space-reads.Learnt,
 ) (app-at t) app.Post
-app-same-length-2 t c = c .before .before .exp2 .kept .1 .1 .1 .1 .1 .1 .0 ∙ c .before .before .before .before .before .before .before .app-space .kept .1 .1 .0 ∙ c .before .before .before .before .before .before .before .before .before .before .before .before .before .before .before .before .exp .kept .1 .1 .1 .1 .1 .1 .0
+app-same-length-3 t c = c .before .before .exp2 .kept .1 .1 .1 .1 .1 .1 .0 ∙ c .before .before .before .before .before .before .before .app-space .kept .1 .1 .0 ∙ c .before .before .before .before .before .before .before .before .before .before .before .before .before .before .before .before .before .before .before .before .before .before .exp .kept .1 .1 .1 .1 .1 .1 .0
 
--- src/lib.rt:519:1
+-- src/lib.rt:520:1
 app-returns-3 : (t : ℕ) → app-lts.Need-returns-3 (
-  heads-reads.Asked,
-  heads-reads.Learnt,
+  exp-below t,
+  exp.Post,
+  told-reads.Asked,
+  told-reads.Learnt,
+  asked-first-reads.Asked,
+  asked-first-reads.Learnt,
+  heads-behind-reads.Asked,
+  heads-behind-reads.Learnt,
   missing-reads.Asked,
   missing-reads.Learnt,
   func-is-bang-reads.Asked,
   func-is-bang-reads.Learnt,
   arg-is-symbolic-reads.Asked,
   arg-is-symbolic-reads.Learnt,
-  exp-below t,
-  exp.Post,
-  told-reads.Asked,
-  told-reads.Learnt,
   app-space-reads.Asked,
   app-space-reads.Learnt,
 ) (app-at t) app.Post
 unfolding Exp.exp
-app-returns-3 t c = record { is = by-same (application-is (c .before .before .before .before .before .before .before .before .before .before .before .before .before .before .before .before .before .before .before .before .before .before .before .before .heads .ensures) (c .before .before .before .before .before .before .before .before .before .before .before .before .before .before .before .before .before .before .before .before .before .before .seen .given .1) (c .before .before .before .before .before .before .before .before .before .before .before .before .before .before .before .before .before .before .before .before .func-is-bang .ensures) (c .before .before .before .before .before .before .before .before .before .before .before .before .before .before .before .before .before .before .before .arg-is-symbolic .ensures)) (then-done (c .before .before .before .before .before .before .before .before .before .before .before .before .before .before .before .before .exp .ensures .is) (c .before .before .before .before .before .before .before .before .before .before .before .before .before .told .ensures) (c .before .before .before .before .before .before .before .before .before .before .before .s1 .given .1) (then-sure (c .before .before .before .before .before .before .before .app-space .ensures) (c .before .before .exp2 .ensures .is))) }
+app-returns-3 t c = record { is = by-same (application-is (seen-behind (c .before .before .before .before .before .before .before .before .before .before .before .before .before .before .before .before .before .before .before .before .before .before .before .before .before .before .before .before .before .before .before .args .cfg .left) (cfgOf (c .before .before .before .before .before .before .before .before .before .before .before .before .before .before .before .before .before .before .before .before .before .before .before .before .before .before .before .before .before .before .before .args .cfg)) (omega (arith, c .before .before .before .before .before .before .before .before .before .before .before .before .before .before .before .before .before .before .before .before .before .before .before .before .before .before .before .before .before .before .before .pre)) (c .before .before .before .before .before .before .before .before .before .before .before .before .before .before .before .before .before .before .before .before .before .before .exp .ensures .is) (c .before .before .before .before .before .before .before .before .before .before .before .before .before .before .before .before .before .before .before .told .ensures) (c .before .before .before .before .before .before .before .before .before .before .before .before .before .before .before .before .before .s1 .given .1) (c .before .before .before .before .before .before .before .before .before .before .before .before .before .before .before .heads-behind .ensures)) (c .before .before .before .before .before .before .before .before .before .before .before .before .before .seen .given .1) (c .before .before .before .before .before .before .before .before .before .before .before .func-is-bang .ensures) (c .before .before .before .before .before .before .before .before .before .before .arg-is-symbolic .ensures)) (then-done (c .before .before .before .before .before .before .before .before .before .before .before .before .before .before .before .before .before .before .before .before .before .before .exp .ensures .is) (c .before .before .before .before .before .before .before .before .before .before .before .before .before .before .before .before .before .before .before .told .ensures) (c .before .before .before .before .before .before .before .before .before .before .before .before .before .before .before .before .before .s1 .given .1) (then-sure (c .before .before .before .before .before .before .before .app-space .ensures) (c .before .before .exp2 .ensures .is))) }
 
 abbrev ar-Inv-loop : ar-lts.InvT-loop
 ar-Inv-loop run text rec kinds starts lens out₀ mem₀ at cfg n s0 s₀ i₀ out mem s i =
@@ -1727,7 +1804,7 @@ ar-Inv-loop run text rec kinds starts lens out₀ mem₀ at cfg n s0 s₀ i₀ o
 abbrev ar-μ-loop : ar-lts.MeasureT-loop
 ar-μ-loop run text rec kinds starts lens out₀ mem₀ at cfg n s0 s₀ i₀ out mem s i = n - i
 
--- src/lib.rt:248:27
+-- src/lib.rt:249:27
 ar-list-requires : (t : ℕ) → ar-lts.Need-list-requires (
   list-reads.Asked,
   list-reads.Learnt,
@@ -1744,7 +1821,7 @@ ar-list-requires : (t : ℕ) → ar-lts.Need-list-requires (
 ) (ar-at t) ar.Post ar-Inv-loop ar-μ-loop
 ar-list-requires t c κs = search needs
 
--- src/lib.rt:248:18
+-- src/lib.rt:249:18
 ar-enum-known-n : (t : ℕ) → ar-lts.Need-enum-known-n (
   list-reads.Asked,
   list-reads.Learnt,
@@ -1761,7 +1838,7 @@ ar-enum-known-n : (t : ℕ) → ar-lts.Need-enum-known-n (
 ) (ar-at t) ar.Post ar-Inv-loop ar-μ-loop
 ar-enum-known-n t c = search needs
 
--- src/lib.rt:249:9
+-- src/lib.rt:250:9
 ar-enum-told : (t : ℕ) → ar-lts.Need-enum-told (
   list-reads.Asked,
   list-reads.Learnt,
@@ -1778,7 +1855,7 @@ ar-enum-told : (t : ℕ) → ar-lts.Need-enum-told (
 ) (ar-at t) ar.Post ar-Inv-loop ar-μ-loop
 ar-enum-told t c = search needs
 
--- src/lib.rt:249:9
+-- src/lib.rt:250:9
 ar-stop-requires : (t : ℕ) → ar-lts.Need-stop-requires (
   list-reads.Asked,
   list-reads.Learnt,
@@ -1795,7 +1872,7 @@ ar-stop-requires : (t : ℕ) → ar-lts.Need-stop-requires (
 ) (ar-at t) ar.Post ar-Inv-loop ar-μ-loop
 ar-stop-requires t c κs = search needs
 
--- src/lib.rt:249:9
+-- src/lib.rt:250:9
 ar-returns : (t : ℕ) → ar-lts.Need-returns (
   list-reads.Asked,
   list-reads.Learnt,
@@ -1813,7 +1890,7 @@ ar-returns : (t : ℕ) → ar-lts.Need-returns (
 unfolding Exp.exp-args Helpers.sep
 ar-returns t c = record { is = list-not (c .stop .ensures) (c .before .before .before .list .ensures) (c .before .enum-told .given .1) }
 
--- src/lib.rt:253:5
+-- src/lib.rt:254:5
 ar-loop-holds : (t : ℕ) → ar-lts.Need-loop-holds (
   list-reads.Asked,
   list-reads.Learnt,
@@ -1830,7 +1907,7 @@ ar-loop-holds : (t : ℕ) → ar-lts.Need-loop-holds (
 ) (ar-at t) ar.Post ar-Inv-loop ar-μ-loop
 ar-loop-holds t c = (omega arith, λ r m o h. h, refl)
 
--- src/lib.rt:254:9
+-- src/lib.rt:255:9
 ar-between-requires : (t : ℕ) → ar-lts.Need-between-requires (
   list-reads.Asked,
   list-reads.Learnt,
@@ -1847,7 +1924,7 @@ ar-between-requires : (t : ℕ) → ar-lts.Need-between-requires (
 ) (ar-at t) ar.Post ar-Inv-loop ar-μ-loop
 ar-between-requires t c κs = search needs
 
--- src/lib.rt:255:13
+-- src/lib.rt:256:13
 ar-group-requires : (t : ℕ) → ar-lts.Need-group-requires (
   list-reads.Asked,
   list-reads.Learnt,
@@ -1864,7 +1941,7 @@ ar-group-requires : (t : ℕ) → ar-lts.Need-group-requires (
 ) (ar-at t) ar.Post ar-Inv-loop ar-μ-loop
 ar-group-requires t c κs = search needs
 
--- src/lib.rt:256:32
+-- src/lib.rt:257:32
 ar-told-requires : (t : ℕ) → ar-lts.Need-told-requires (
   list-reads.Asked,
   list-reads.Learnt,
@@ -1881,7 +1958,7 @@ ar-told-requires : (t : ℕ) → ar-lts.Need-told-requires (
 ) (ar-at t) ar.Post ar-Inv-loop ar-μ-loop
 ar-told-requires t c κs = search needs
 
--- src/lib.rt:256:26
+-- src/lib.rt:257:26
 ar-enum-known-s1 : (t : ℕ) → ar-lts.Need-enum-known-s1 (
   list-reads.Asked,
   list-reads.Learnt,
@@ -1898,7 +1975,7 @@ ar-enum-known-s1 : (t : ℕ) → ar-lts.Need-enum-known-s1 (
 ) (ar-at t) ar.Post ar-Inv-loop ar-μ-loop
 ar-enum-known-s1 t c = search needs
 
--- src/lib.rt:257:13
+-- src/lib.rt:258:13
 ar-enum-told-2 : (t : ℕ) → ar-lts.Need-enum-told-2 (
   list-reads.Asked,
   list-reads.Learnt,
@@ -1915,7 +1992,7 @@ ar-enum-told-2 : (t : ℕ) → ar-lts.Need-enum-told-2 (
 ) (ar-at t) ar.Post ar-Inv-loop ar-μ-loop
 ar-enum-told-2 t c = search needs
 
--- src/lib.rt:257:13
+-- src/lib.rt:258:13
 ar-same-length : (t : ℕ) → ar-lts.Need-same-length (
   list-reads.Asked,
   list-reads.Learnt,
@@ -1932,7 +2009,7 @@ ar-same-length : (t : ℕ) → ar-lts.Need-same-length (
 ) (ar-at t) ar.Post ar-Inv-loop ar-μ-loop
 ar-same-length t c = c .before .before .before .before .before .before .between .kept .1 .1 .0 ∙ c .before .before .before .before .before .before .before .before .before .before .loop .inv .2
 
--- src/lib.rt:257:13
+-- src/lib.rt:258:13
 ar-returns-2 : (t : ℕ) → ar-lts.Need-returns-2 (
   list-reads.Asked,
   list-reads.Learnt,
@@ -1950,7 +2027,7 @@ ar-returns-2 : (t : ℕ) → ar-lts.Need-returns-2 (
 unfolding Exp.exp-args Helpers.sep
 ar-returns-2 t c = record { is = by-same (list-is (c .before .before .before .before .before .before .before .before .before .before .before .before .before .before .list .ensures) (c .before .before .before .before .before .before .before .before .before .before .before .before .n .given .1)) (by-same (items-all _ _ _) (c .before .before .before .before .before .before .before .before .before .before .loop .inv .1 _ _ _ (from-more _ _ (c .before .before .before .before .before .before .before .before .before .loop-test .taken) (then-sure (c .before .before .before .before .before .before .between .ensures) (then-stop (group-not (c .before .before .before .group .ensures) (c .before .before .told .ensures) (c .enum-told2 .given .1)) (c .before .before .told .ensures) (c .enum-told2 .given .1)))))) }
 
--- src/lib.rt:259:13
+-- src/lib.rt:260:13
 ar-exp-requires : (t : ℕ) → ar-lts.Need-exp-requires (
   list-reads.Asked,
   list-reads.Learnt,
@@ -1967,7 +2044,7 @@ ar-exp-requires : (t : ℕ) → ar-lts.Need-exp-requires (
 ) (ar-at t) ar.Post ar-Inv-loop ar-μ-loop
 ar-exp-requires t c κs = omega (arith, c .before .before .before .before .before .before .before .before .before .before .before .before .before .before .before .before .before .before .before .before .before .before .before .before .pre .0, c .before .before .before .before .before .before .before .before .before .before .before .before .before .before .before .before .before .before .before .before .before .before .before .before .pre .1)
 
--- src/lib.rt:260:32
+-- src/lib.rt:261:32
 ar-told-requires-2 : (t : ℕ) → ar-lts.Need-told-requires-2 (
   list-reads.Asked,
   list-reads.Learnt,
@@ -1984,7 +2061,7 @@ ar-told-requires-2 : (t : ℕ) → ar-lts.Need-told-requires-2 (
 ) (ar-at t) ar.Post ar-Inv-loop ar-μ-loop
 ar-told-requires-2 t c κs = search needs
 
--- src/lib.rt:260:26
+-- src/lib.rt:261:26
 ar-enum-known-s2 : (t : ℕ) → ar-lts.Need-enum-known-s2 (
   list-reads.Asked,
   list-reads.Learnt,
@@ -2001,7 +2078,7 @@ ar-enum-known-s2 : (t : ℕ) → ar-lts.Need-enum-known-s2 (
 ) (ar-at t) ar.Post ar-Inv-loop ar-μ-loop
 ar-enum-known-s2 t c = search needs
 
--- src/lib.rt:261:13
+-- src/lib.rt:262:13
 ar-enum-told-3 : (t : ℕ) → ar-lts.Need-enum-told-3 (
   list-reads.Asked,
   list-reads.Learnt,
@@ -2018,7 +2095,7 @@ ar-enum-told-3 : (t : ℕ) → ar-lts.Need-enum-told-3 (
 ) (ar-at t) ar.Post ar-Inv-loop ar-μ-loop
 ar-enum-told-3 t c = search needs
 
--- src/lib.rt:261:13
+-- src/lib.rt:262:13
 ar-same-length-2 : (t : ℕ) → ar-lts.Need-same-length-2 (
   list-reads.Asked,
   list-reads.Learnt,
@@ -2035,7 +2112,7 @@ ar-same-length-2 : (t : ℕ) → ar-lts.Need-same-length-2 (
 ) (ar-at t) ar.Post ar-Inv-loop ar-μ-loop
 ar-same-length-2 t c = c .before .before .before .before .before .exp .kept .1 .1 .1 .1 .1 .1 .0 ∙ c .before .before .before .before .before .before .before .before .before .before .before .before .before .before .before .between .kept .1 .1 .0 ∙ c .before .before .before .before .before .before .before .before .before .before .before .before .before .before .before .before .before .before .before .loop .inv .2
 
--- src/lib.rt:261:13
+-- src/lib.rt:262:13
 ar-returns-3 : (t : ℕ) → ar-lts.Need-returns-3 (
   list-reads.Asked,
   list-reads.Learnt,
@@ -2053,7 +2130,7 @@ ar-returns-3 : (t : ℕ) → ar-lts.Need-returns-3 (
 unfolding Exp.exp-args Helpers.sep
 ar-returns-3 t c = record { is = by-same (list-is (c .before .before .before .before .before .before .before .before .before .before .before .before .before .before .before .before .before .before .before .before .before .before .before .list .ensures) (c .before .before .before .before .before .before .before .before .before .before .before .before .before .before .before .before .before .before .before .before .before .n .given .1)) (by-same (items-all _ _ _) (c .before .before .before .before .before .before .before .before .before .before .before .before .before .before .before .before .before .before .before .loop .inv .1 _ _ _ (from-more _ _ (c .before .before .before .before .before .before .before .before .before .before .before .before .before .before .before .before .before .before .loop-test .taken) (then-sure (c .before .before .before .before .before .before .before .before .before .before .before .before .before .before .before .between .ensures) (by-same (first-same (group-is (c .before .before .before .before .before .before .before .before .before .before .before .before .group .ensures) (c .before .before .before .before .before .before .before .before .before .before .before .told .ensures) (c .before .before .before .before .before .before .before .before .before .s1 .given .1))) (then-stop (c .before .before .before .before .before .exp .ensures .is) (c .before .before .told2 .ensures) (c .enum-told3 .given .1))))))) }
 
--- src/lib.rt:264:9
+-- src/lib.rt:265:9
 ar-add-i : (t : ℕ) → ar-lts.Need-add-i (
   list-reads.Asked,
   list-reads.Learnt,
@@ -2070,7 +2147,7 @@ ar-add-i : (t : ℕ) → ar-lts.Need-add-i (
 ) (ar-at t) ar.Post ar-Inv-loop ar-μ-loop
 ar-add-i t c = omega (arith, c .before .before .before .before .before .before .before .before .before .before .before .before .before .before .before .before .before .before .before .loop-test .taken, c .before .before .before .before .before .before .before .before .before .before .before .before .before .before .before .before .before .before .before .before .before .known-told)
 
--- src/lib.rt:253:5
+-- src/lib.rt:254:5
 ar-loop-less : (t : ℕ) → ar-lts.Need-loop-less (
   list-reads.Asked,
   list-reads.Learnt,
@@ -2087,7 +2164,7 @@ ar-loop-less : (t : ℕ) → ar-lts.Need-loop-less (
 ) (ar-at t) ar.Post ar-Inv-loop ar-μ-loop
 ar-loop-less t c = omega arith
 
--- src/lib.rt:253:5
+-- src/lib.rt:254:5
 ar-loop-again : (t : ℕ) → ar-lts.Need-loop-again (
   list-reads.Asked,
   list-reads.Learnt,
@@ -2105,7 +2182,7 @@ ar-loop-again : (t : ℕ) → ar-lts.Need-loop-again (
 unfolding Exp.exp-args Helpers.sep
 ar-loop-again t c = (omega (arith, c .before .before .before .before .before .before .before .before .before .before .before .before .before .before .before .before .before .before .before .before .loop .inv .0), λ r m o h. c .before .before .before .before .before .before .before .before .before .before .before .before .before .before .before .before .before .before .before .before .loop .inv .1 r m o (from-more _ _ (c .before .before .before .before .before .before .before .before .before .before .before .before .before .before .before .before .before .before .before .loop-test .taken) (then-sure (c .before .before .before .before .before .before .before .before .before .before .before .before .before .before .before .before .between .ensures) (by-same (first-same (group-is (c .before .before .before .before .before .before .before .before .before .before .before .before .before .group .ensures) (c .before .before .before .before .before .before .before .before .before .before .before .before .told .ensures) (c .before .before .before .before .before .before .before .before .before .before .s1 .given .1))) (then-done (c .before .before .before .before .before .before .exp .ensures .is) (c .before .before .before .told2 .ensures) (c .before .s2 .given .1) h)))), c .before .before .before .before .before .before .exp .kept .1 .1 .1 .1 .1 .1 .0 ∙ c .before .before .before .before .before .before .before .before .before .before .before .before .before .before .before .before .between .kept .1 .1 .0 ∙ c .before .before .before .before .before .before .before .before .before .before .before .before .before .before .before .before .before .before .before .before .loop .inv .2)
 
--- src/lib.rt:233:1
+-- src/lib.rt:234:1
 ar-same-length-3 : (t : ℕ) → ar-lts.Need-same-length-3 (
   list-reads.Asked,
   list-reads.Learnt,
@@ -2122,7 +2199,7 @@ ar-same-length-3 : (t : ℕ) → ar-lts.Need-same-length-3 (
 ) (ar-at t) ar.Post ar-Inv-loop ar-μ-loop
 ar-same-length-3 t c = c .before .loop .inv .2
 
--- src/lib.rt:233:1
+-- src/lib.rt:234:1
 ar-returns-4 : (t : ℕ) → ar-lts.Need-returns-4 (
   list-reads.Asked,
   list-reads.Learnt,
@@ -2140,7 +2217,7 @@ ar-returns-4 : (t : ℕ) → ar-lts.Need-returns-4 (
 unfolding Exp.exp-args Helpers.sep
 ar-returns-4 t c = record { is = by-same (list-is (c .before .before .before .before .before .list .ensures) (c .before .before .before .n .given .1)) (by-same (items-all _ _ _) (c .before .loop .inv .1 _ _ _ (from-none _ _ (c .loop-test .left)))) }
 
--- src/lib.rt:832:9
+-- src/lib.rt:833:9
 arm-group-requires : (t : ℕ) → arm-lts.Need-group-requires (
   group-reads.Asked,
   group-reads.Learnt,
@@ -2167,7 +2244,7 @@ arm-group-requires : (t : ℕ) → arm-lts.Need-group-requires (
 ) (arm-at t) arm.Post
 arm-group-requires t c κs = search needs
 
--- src/lib.rt:833:28
+-- src/lib.rt:834:28
 arm-told-requires : (t : ℕ) → arm-lts.Need-told-requires (
   group-reads.Asked,
   group-reads.Learnt,
@@ -2194,7 +2271,7 @@ arm-told-requires : (t : ℕ) → arm-lts.Need-told-requires (
 ) (arm-at t) arm.Post
 arm-told-requires t c κs = search needs
 
--- src/lib.rt:833:22
+-- src/lib.rt:834:22
 arm-enum-known-s1 : (t : ℕ) → arm-lts.Need-enum-known-s1 (
   group-reads.Asked,
   group-reads.Learnt,
@@ -2221,7 +2298,7 @@ arm-enum-known-s1 : (t : ℕ) → arm-lts.Need-enum-known-s1 (
 ) (arm-at t) arm.Post
 arm-enum-known-s1 t c = search needs
 
--- src/lib.rt:834:9
+-- src/lib.rt:835:9
 arm-enum-told : (t : ℕ) → arm-lts.Need-enum-told (
   group-reads.Asked,
   group-reads.Learnt,
@@ -2248,7 +2325,7 @@ arm-enum-told : (t : ℕ) → arm-lts.Need-enum-told (
 ) (arm-at t) arm.Post
 arm-enum-told t c = search needs
 
--- src/lib.rt:834:9
+-- src/lib.rt:835:9
 arm-returns : (t : ℕ) → arm-lts.Need-returns (
   group-reads.Asked,
   group-reads.Learnt,
@@ -2276,7 +2353,7 @@ arm-returns : (t : ℕ) → arm-lts.Need-returns (
 unfolding Exp.get-matcher-arm Exp.get-body-exp-level Exp.indented-levels Helpers.indent-deeper Helpers.deepen
 arm-returns t c = record { is = group-not (c .before .before .before .group .ensures) (c .before .before .told .ensures) (c .enum-told .given .1) }
 
--- src/lib.rt:836:9
+-- src/lib.rt:837:9
 arm-get-pat-requires : (t : ℕ) → arm-lts.Need-get-pat-requires (
   group-reads.Asked,
   group-reads.Learnt,
@@ -2303,7 +2380,7 @@ arm-get-pat-requires : (t : ℕ) → arm-lts.Need-get-pat-requires (
 ) (arm-at t) arm.Post
 arm-get-pat-requires t c κs = search needs
 
--- src/lib.rt:837:28
+-- src/lib.rt:838:28
 arm-told-requires-2 : (t : ℕ) → arm-lts.Need-told-requires-2 (
   group-reads.Asked,
   group-reads.Learnt,
@@ -2330,7 +2407,7 @@ arm-told-requires-2 : (t : ℕ) → arm-lts.Need-told-requires-2 (
 ) (arm-at t) arm.Post
 arm-told-requires-2 t c κs = search needs
 
--- src/lib.rt:837:22
+-- src/lib.rt:838:22
 arm-enum-known-s2 : (t : ℕ) → arm-lts.Need-enum-known-s2 (
   group-reads.Asked,
   group-reads.Learnt,
@@ -2357,7 +2434,7 @@ arm-enum-known-s2 : (t : ℕ) → arm-lts.Need-enum-known-s2 (
 ) (arm-at t) arm.Post
 arm-enum-known-s2 t c = search needs
 
--- src/lib.rt:838:9
+-- src/lib.rt:839:9
 arm-enum-told-2 : (t : ℕ) → arm-lts.Need-enum-told-2 (
   group-reads.Asked,
   group-reads.Learnt,
@@ -2384,7 +2461,7 @@ arm-enum-told-2 : (t : ℕ) → arm-lts.Need-enum-told-2 (
 ) (arm-at t) arm.Post
 arm-enum-told-2 t c = search needs
 
--- src/lib.rt:838:9
+-- src/lib.rt:839:9
 arm-same-length : (t : ℕ) → arm-lts.Need-same-length (
   group-reads.Asked,
   group-reads.Learnt,
@@ -2411,7 +2488,7 @@ arm-same-length : (t : ℕ) → arm-lts.Need-same-length (
 ) (arm-at t) arm.Post
 arm-same-length t c = c .before .before .before .before .before .get-pat .kept .1 .1 .1 .1 .1 .0
 
--- src/lib.rt:838:9
+-- src/lib.rt:839:9
 arm-returns-2 : (t : ℕ) → arm-lts.Need-returns-2 (
   group-reads.Asked,
   group-reads.Learnt,
@@ -2439,7 +2516,7 @@ arm-returns-2 : (t : ℕ) → arm-lts.Need-returns-2 (
 unfolding Exp.get-matcher-arm Exp.get-body-exp-level Exp.indented-levels Helpers.indent-deeper Helpers.deepen
 arm-returns-2 t c = record { is = by-same (group-is (c .before .before .before .before .before .before .before .before .before .before .before .before .group .ensures) (c .before .before .before .before .before .before .before .before .before .before .before .told .ensures) (c .before .before .before .before .before .before .before .before .before .s1 .given .1)) (then-stop (plain (c .before .before .before .before .before .get-pat .ensures)) (c .before .before .told2 .ensures) (c .enum-told2 .given .1)) }
 
--- src/lib.rt:840:5
+-- src/lib.rt:841:5
 arm-word-requires : (t : ℕ) → arm-lts.Need-word-requires (
   group-reads.Asked,
   group-reads.Learnt,
@@ -2466,7 +2543,7 @@ arm-word-requires : (t : ℕ) → arm-lts.Need-word-requires (
 ) (arm-at t) arm.Post
 arm-word-requires t c κs = search needs
 
--- src/lib.rt:841:28
+-- src/lib.rt:842:28
 arm-expression-requires : (t : ℕ) → arm-lts.Need-expression-requires (
   group-reads.Asked,
   group-reads.Learnt,
@@ -2493,7 +2570,7 @@ arm-expression-requires : (t : ℕ) → arm-lts.Need-expression-requires (
 ) (arm-at t) arm.Post
 arm-expression-requires t c κs = search needs
 
--- src/lib.rt:841:18
+-- src/lib.rt:842:18
 arm-enum-known--k : (t : ℕ) → arm-lts.Need-enum-known--k (
   group-reads.Asked,
   group-reads.Learnt,
@@ -2520,7 +2597,7 @@ arm-enum-known--k : (t : ℕ) → arm-lts.Need-enum-known--k (
 ) (arm-at t) arm.Post
 arm-enum-known--k t c = search needs
 
--- src/lib.rt:842:9
+-- src/lib.rt:843:9
 arm-enum-told-3 : (t : ℕ) → arm-lts.Need-enum-told-3 (
   group-reads.Asked,
   group-reads.Learnt,
@@ -2547,7 +2624,7 @@ arm-enum-told-3 : (t : ℕ) → arm-lts.Need-enum-told-3 (
 ) (arm-at t) arm.Post
 arm-enum-told-3 t c = search needs
 
--- src/lib.rt:842:9
+-- src/lib.rt:843:9
 arm-stop-requires : (t : ℕ) → arm-lts.Need-stop-requires (
   group-reads.Asked,
   group-reads.Learnt,
@@ -2574,7 +2651,7 @@ arm-stop-requires : (t : ℕ) → arm-lts.Need-stop-requires (
 ) (arm-at t) arm.Post
 arm-stop-requires t c κs = search needs
 
--- src/lib.rt:842:9
+-- src/lib.rt:843:9
 arm-same-length-2 : (t : ℕ) → arm-lts.Need-same-length-2 (
   group-reads.Asked,
   group-reads.Learnt,
@@ -2601,7 +2678,7 @@ arm-same-length-2 : (t : ℕ) → arm-lts.Need-same-length-2 (
 ) (arm-at t) arm.Post
 arm-same-length-2 t c = c .before .before .before .before .before .before .word .kept .1 .1 .0 ∙ c .before .before .before .before .before .before .before .before .before .before .before .before .before .before .before .get-pat .kept .1 .1 .1 .1 .1 .0
 
--- src/lib.rt:842:9
+-- src/lib.rt:843:9
 arm-returns-3 : (t : ℕ) → arm-lts.Need-returns-3 (
   group-reads.Asked,
   group-reads.Learnt,
@@ -2629,7 +2706,7 @@ arm-returns-3 : (t : ℕ) → arm-lts.Need-returns-3 (
 unfolding Exp.get-matcher-arm Exp.get-body-exp-level Exp.indented-levels Helpers.indent-deeper Helpers.deepen
 arm-returns-3 t c = record { is = by-same (group-is (c .before .before .before .before .before .before .before .before .before .before .before .before .before .before .before .before .before .before .before .before .before .before .group .ensures) (c .before .before .before .before .before .before .before .before .before .before .before .before .before .before .before .before .before .before .before .before .before .told .ensures) (c .before .before .before .before .before .before .before .before .before .before .before .before .before .before .before .before .before .before .before .s1 .given .1)) (then-done (plain (c .before .before .before .before .before .before .before .before .before .before .before .before .before .before .before .get-pat .ensures)) (c .before .before .before .before .before .before .before .before .before .before .before .before .told2 .ensures) (c .before .before .before .before .before .before .before .before .before .before .s2 .given .1) (then-sure (c .before .before .before .before .before .before .word .ensures) (look-not (c .stop .ensures) (c .before .before .before .expression .ensures) (c .before .enum-told3 .given .1)))) }
 
--- src/lib.rt:844:8
+-- src/lib.rt:845:8
 arm-body-exp-needs-newline-requires : (t : ℕ) → arm-lts.Need-body-exp-needs-newline-requires (
   group-reads.Asked,
   group-reads.Learnt,
@@ -2656,7 +2733,7 @@ arm-body-exp-needs-newline-requires : (t : ℕ) → arm-lts.Need-body-exp-needs-
 ) (arm-at t) arm.Post
 arm-body-exp-needs-newline-requires t c κs = search needs
 
--- src/lib.rt:845:9
+-- src/lib.rt:846:9
 arm-word-requires-2 : (t : ℕ) → arm-lts.Need-word-requires-2 (
   group-reads.Asked,
   group-reads.Learnt,
@@ -2683,7 +2760,7 @@ arm-word-requires-2 : (t : ℕ) → arm-lts.Need-word-requires-2 (
 ) (arm-at t) arm.Post
 arm-word-requires-2 t c κs = search needs
 
--- src/lib.rt:846:9
+-- src/lib.rt:847:9
 arm-deepen-requires : (t : ℕ) → arm-lts.Need-deepen-requires (
   group-reads.Asked,
   group-reads.Learnt,
@@ -2710,7 +2787,7 @@ arm-deepen-requires : (t : ℕ) → arm-lts.Need-deepen-requires (
 ) (arm-at t) arm.Post
 arm-deepen-requires t c κs = omega (arith, c .before .before .before .before .before .before .before .before .before .before .before .before .before .before .before .before .before .before .before .before .before .before .before .before .before .before .before .before .before .before .before .before .before .before .before .before .before .pre .1)
 
--- src/lib.rt:847:13
+-- src/lib.rt:848:13
 arm-indented-requires : (t : ℕ) → arm-lts.Need-indented-requires (
   group-reads.Asked,
   group-reads.Learnt,
@@ -2737,7 +2814,7 @@ arm-indented-requires : (t : ℕ) → arm-lts.Need-indented-requires (
 ) (arm-at t) arm.Post
 arm-indented-requires t c κs = omega (arith, c .before .before .before .before .before .before .before .before .before .before .before .before .before .before .before .before .before .before .before .before .before .before .before .before .before .before .before .before .before .before .before .before .before .before .before .before .before .before .pre .1)
 
--- src/lib.rt:848:9
+-- src/lib.rt:849:9
 arm-dp-requires : (t : ℕ) → arm-lts.Need-dp-requires (
   group-reads.Asked,
   group-reads.Learnt,
@@ -2764,7 +2841,7 @@ arm-dp-requires : (t : ℕ) → arm-lts.Need-dp-requires (
 ) (arm-at t) arm.Post
 arm-dp-requires t c κs = omega (arith, c .before .before .before .before .before .before .before .before .before .before .before .before .before .before .before .before .before .before .before .before .before .before .before .before .before .before .before .before .before .before .before .before .before .before .before .before .before .before .before .before .before .pre .0, c .before .before .before .before .before .before .before .before .before .before .before .before .before .before .before .before .before .before .before .before .before .before .before .before .before .before .before .before .before .before .before .before .before .before .before .before .before .before .before .before .before .pre .1, deep-depth (c .before .before .indented .ensures), deep-left (c .before .before .indented .ensures))
 
--- src/lib.rt:848:9
+-- src/lib.rt:849:9
 arm-same-length-3 : (t : ℕ) → arm-lts.Need-same-length-3 (
   group-reads.Asked,
   group-reads.Learnt,
@@ -2791,7 +2868,7 @@ arm-same-length-3 : (t : ℕ) → arm-lts.Need-same-length-3 (
 ) (arm-at t) arm.Post
 arm-same-length-3 t c = c .before .before .dp .kept .1 .1 .1 .1 .1 .1 .0 ∙ c .before .before .before .before .before .before .before .before .before .before .word2 .kept .1 .1 .0 ∙ c .before .before .before .before .before .before .before .before .before .before .before .before .before .before .before .before .before .before .before .before .before .word .kept .1 .1 .0 ∙ c .before .before .before .before .before .before .before .before .before .before .before .before .before .before .before .before .before .before .before .before .before .before .before .before .before .before .before .before .before .before .get-pat .kept .1 .1 .1 .1 .1 .0
 
--- src/lib.rt:848:9
+-- src/lib.rt:849:9
 arm-returns-4 : (t : ℕ) → arm-lts.Need-returns-4 (
   group-reads.Asked,
   group-reads.Learnt,
@@ -2819,7 +2896,7 @@ arm-returns-4 : (t : ℕ) → arm-lts.Need-returns-4 (
 unfolding Exp.get-matcher-arm Exp.get-body-exp-level Exp.indented-levels Helpers.indent-deeper Helpers.deepen
 arm-returns-4 t c = record { is = by-same (group-is (c .before .before .before .before .before .before .before .before .before .before .before .before .before .before .before .before .before .before .before .before .before .before .before .before .before .before .before .before .before .before .before .before .before .before .before .before .before .group .ensures) (c .before .before .before .before .before .before .before .before .before .before .before .before .before .before .before .before .before .before .before .before .before .before .before .before .before .before .before .before .before .before .before .before .before .before .before .before .told .ensures) (c .before .before .before .before .before .before .before .before .before .before .before .before .before .before .before .before .before .before .before .before .before .before .before .before .before .before .before .before .before .before .before .before .before .before .s1 .given .1)) (then-done (plain (c .before .before .before .before .before .before .before .before .before .before .before .before .before .before .before .before .before .before .before .before .before .before .before .before .before .before .before .before .before .before .get-pat .ensures)) (c .before .before .before .before .before .before .before .before .before .before .before .before .before .before .before .before .before .before .before .before .before .before .before .before .before .before .before .told2 .ensures) (c .before .before .before .before .before .before .before .before .before .before .before .before .before .before .before .before .before .before .before .before .before .before .before .before .before .s2 .given .1) (then-sure (c .before .before .before .before .before .before .before .before .before .before .before .before .before .before .before .before .before .before .before .before .before .word .ensures) (by-same (look-yes (c .before .before .before .before .before .before .before .before .before .before .before .before .before .before .before .before .before .before .expression .ensures) (c .before .before .before .before .before .before .before .before .before .before .before .before .before .before .before .before .-k .given .1) (c .before .before .before .before .before .before .before .before .before .before .before .before .before .before .body-exp-needs-newline .ensures) (c .before .before .before .before .before .before .before .before .before .before .before .before .before .if1 .taken)) (then-sure (c .before .before .before .before .before .before .before .before .before .before .word2 .ensures) (then-sure (sure-formed (c .before .before .before .before .before .before .deepen .ensures)) (along (c .before .before .before .before .before .indented .ensures) (c .before .before .dp .ensures))))))) }
 
--- src/lib.rt:850:5
+-- src/lib.rt:851:5
 arm-word-requires-3 : (t : ℕ) → arm-lts.Need-word-requires-3 (
   group-reads.Asked,
   group-reads.Learnt,
@@ -2846,7 +2923,7 @@ arm-word-requires-3 : (t : ℕ) → arm-lts.Need-word-requires-3 (
 ) (arm-at t) arm.Post
 arm-word-requires-3 t c κs = search needs
 
--- src/lib.rt:851:5
+-- src/lib.rt:852:5
 arm-exp-requires : (t : ℕ) → arm-lts.Need-exp-requires (
   group-reads.Asked,
   group-reads.Learnt,
@@ -2873,7 +2950,7 @@ arm-exp-requires : (t : ℕ) → arm-lts.Need-exp-requires (
 ) (arm-at t) arm.Post
 arm-exp-requires t c κs = omega (arith, c .before .before .before .before .before .before .before .before .before .before .before .before .before .before .before .before .before .before .before .before .before .before .before .before .before .before .before .before .before .before .before .before .before .before .before .before .before .before .pre .0, c .before .before .before .before .before .before .before .before .before .before .before .before .before .before .before .before .before .before .before .before .before .before .before .before .before .before .before .before .before .before .before .before .before .before .before .before .before .before .pre .1)
 
--- src/lib.rt:817:1
+-- src/lib.rt:818:1
 arm-same-length-4 : (t : ℕ) → arm-lts.Need-same-length-4 (
   group-reads.Asked,
   group-reads.Learnt,
@@ -2900,7 +2977,7 @@ arm-same-length-4 : (t : ℕ) → arm-lts.Need-same-length-4 (
 ) (arm-at t) arm.Post
 arm-same-length-4 t c = c .before .before .exp .kept .1 .1 .1 .1 .1 .1 .0 ∙ c .before .before .before .before .before .before .before .word3 .kept .1 .1 .0 ∙ c .before .before .before .before .before .before .before .before .before .before .before .before .before .before .before .before .before .before .word .kept .1 .1 .0 ∙ c .before .before .before .before .before .before .before .before .before .before .before .before .before .before .before .before .before .before .before .before .before .before .before .before .before .before .before .get-pat .kept .1 .1 .1 .1 .1 .0
 
--- src/lib.rt:817:1
+-- src/lib.rt:818:1
 arm-returns-5 : (t : ℕ) → arm-lts.Need-returns-5 (
   group-reads.Asked,
   group-reads.Learnt,
@@ -2928,7 +3005,7 @@ arm-returns-5 : (t : ℕ) → arm-lts.Need-returns-5 (
 unfolding Exp.get-matcher-arm Exp.get-body-exp-level Exp.indented-levels Helpers.indent-deeper Helpers.deepen
 arm-returns-5 t c = record { is = by-same (group-is (c .before .before .before .before .before .before .before .before .before .before .before .before .before .before .before .before .before .before .before .before .before .before .before .before .before .before .before .before .before .before .before .before .before .before .group .ensures) (c .before .before .before .before .before .before .before .before .before .before .before .before .before .before .before .before .before .before .before .before .before .before .before .before .before .before .before .before .before .before .before .before .before .told .ensures) (c .before .before .before .before .before .before .before .before .before .before .before .before .before .before .before .before .before .before .before .before .before .before .before .before .before .before .before .before .before .before .before .s1 .given .1)) (then-done (plain (c .before .before .before .before .before .before .before .before .before .before .before .before .before .before .before .before .before .before .before .before .before .before .before .before .before .before .before .get-pat .ensures)) (c .before .before .before .before .before .before .before .before .before .before .before .before .before .before .before .before .before .before .before .before .before .before .before .before .told2 .ensures) (c .before .before .before .before .before .before .before .before .before .before .before .before .before .before .before .before .before .before .before .before .before .before .s2 .given .1) (then-sure (c .before .before .before .before .before .before .before .before .before .before .before .before .before .before .before .before .before .before .word .ensures) (by-same (look-no (c .before .before .before .before .before .before .before .before .before .before .before .before .before .before .before .expression .ensures) (c .before .before .before .before .before .before .before .before .before .before .before .before .before .-k .given .1) (c .before .before .before .before .before .before .before .before .before .before .before .body-exp-needs-newline .ensures) (c .before .before .before .before .before .before .before .before .before .before .if1 .left)) (then-sure (c .before .before .before .before .before .before .before .word3 .ensures) (c .before .before .exp .ensures .is))))) }
 
--- src/lib.rt:287:5
+-- src/lib.rt:288:5
 br-word-requires : (t : ℕ) → br-lts.Need-word-requires (
   word-reads.Asked,
   word-reads.Learnt,
@@ -2939,7 +3016,7 @@ br-word-requires : (t : ℕ) → br-lts.Need-word-requires (
 ) (br-at t) br.Post
 br-word-requires t c κs = search needs
 
--- src/lib.rt:288:9
+-- src/lib.rt:289:9
 br-ar-requires : (t : ℕ) → br-lts.Need-ar-requires (
   word-reads.Asked,
   word-reads.Learnt,
@@ -2950,7 +3027,7 @@ br-ar-requires : (t : ℕ) → br-lts.Need-ar-requires (
 ) (br-at t) br.Post
 br-ar-requires t c κs = omega (arith, c .before .before .before .before .before .before .before .before .before .before .before .before .before .pre .0, c .before .before .before .before .before .before .before .before .before .before .before .before .before .pre .1)
 
--- src/lib.rt:289:28
+-- src/lib.rt:290:28
 br-told-requires : (t : ℕ) → br-lts.Need-told-requires (
   word-reads.Asked,
   word-reads.Learnt,
@@ -2961,7 +3038,7 @@ br-told-requires : (t : ℕ) → br-lts.Need-told-requires (
 ) (br-at t) br.Post
 br-told-requires t c κs = search needs
 
--- src/lib.rt:289:22
+-- src/lib.rt:290:22
 br-enum-known-s1 : (t : ℕ) → br-lts.Need-enum-known-s1 (
   word-reads.Asked,
   word-reads.Learnt,
@@ -2972,7 +3049,7 @@ br-enum-known-s1 : (t : ℕ) → br-lts.Need-enum-known-s1 (
 ) (br-at t) br.Post
 br-enum-known-s1 t c = search needs
 
--- src/lib.rt:290:9
+-- src/lib.rt:291:9
 br-enum-told : (t : ℕ) → br-lts.Need-enum-told (
   word-reads.Asked,
   word-reads.Learnt,
@@ -2983,7 +3060,7 @@ br-enum-told : (t : ℕ) → br-lts.Need-enum-told (
 ) (br-at t) br.Post
 br-enum-told t c = search needs
 
--- src/lib.rt:290:9
+-- src/lib.rt:291:9
 br-same-length : (t : ℕ) → br-lts.Need-same-length (
   word-reads.Asked,
   word-reads.Learnt,
@@ -2994,7 +3071,7 @@ br-same-length : (t : ℕ) → br-lts.Need-same-length (
 ) (br-at t) br.Post
 br-same-length t c = c .before .before .before .before .before .ar .kept .1 .1 .1 .1 .1 .1 .0 ∙ c .before .before .before .before .before .before .before .before .before .before .word .kept .1 .1 .0
 
--- src/lib.rt:290:9
+-- src/lib.rt:291:9
 br-returns : (t : ℕ) → br-lts.Need-returns (
   word-reads.Asked,
   word-reads.Learnt,
@@ -3005,7 +3082,7 @@ br-returns : (t : ℕ) → br-lts.Need-returns (
 ) (br-at t) br.Post
 br-returns t c = record { is = then-sure (c .before .before .before .before .before .before .before .before .before .before .word .ensures) (then-stop (c .before .before .before .before .before .ar .ensures .is) (c .before .before .told .ensures) (c .enum-told .given .1)) }
 
--- src/lib.rt:292:5
+-- src/lib.rt:293:5
 br-word-requires-2 : (t : ℕ) → br-lts.Need-word-requires-2 (
   word-reads.Asked,
   word-reads.Learnt,
@@ -3016,7 +3093,7 @@ br-word-requires-2 : (t : ℕ) → br-lts.Need-word-requires-2 (
 ) (br-at t) br.Post
 br-word-requires-2 t c κs = search needs
 
--- src/lib.rt:270:1
+-- src/lib.rt:271:1
 br-same-length-2 : (t : ℕ) → br-lts.Need-same-length-2 (
   word-reads.Asked,
   word-reads.Learnt,
@@ -3027,7 +3104,7 @@ br-same-length-2 : (t : ℕ) → br-lts.Need-same-length-2 (
 ) (br-at t) br.Post
 br-same-length-2 t c = c .before .before .word2 .kept .1 .1 .0 ∙ c .before .before .before .before .before .before .before .before .before .before .before .ar .kept .1 .1 .1 .1 .1 .1 .0 ∙ c .before .before .before .before .before .before .before .before .before .before .before .before .before .before .before .before .word .kept .1 .1 .0
 
--- src/lib.rt:270:1
+-- src/lib.rt:271:1
 br-returns-2 : (t : ℕ) → br-lts.Need-returns-2 (
   word-reads.Asked,
   word-reads.Learnt,
@@ -3038,7 +3115,7 @@ br-returns-2 : (t : ℕ) → br-lts.Need-returns-2 (
 ) (br-at t) br.Post
 br-returns-2 t c = record { is = then-sure (c .before .before .before .before .before .before .before .before .before .before .before .before .before .before .before .before .word .ensures) (then-done (c .before .before .before .before .before .before .before .before .before .before .before .ar .ensures .is) (c .before .before .before .before .before .before .before .before .told .ensures) (c .before .before .before .before .before .before .s1 .given .1) (last-sure (c .before .before .word2 .ensures))) }
 
--- src/lib.rt:697:5
+-- src/lib.rt:698:5
 ca-word-requires : (t : ℕ) → ca-lts.Need-word-requires (
   word-reads.Asked,
   word-reads.Learnt,
@@ -3047,7 +3124,7 @@ ca-word-requires : (t : ℕ) → ca-lts.Need-word-requires (
 ) (ca-at t) ca.Post
 ca-word-requires t c κs = search needs
 
--- src/lib.rt:698:5
+-- src/lib.rt:699:5
 ca-ha-requires : (t : ℕ) → ca-lts.Need-ha-requires (
   word-reads.Asked,
   word-reads.Learnt,
@@ -3056,7 +3133,7 @@ ca-ha-requires : (t : ℕ) → ca-lts.Need-ha-requires (
 ) (ca-at t) ca.Post
 ca-ha-requires t c κs = omega (arith, c .before .before .before .before .before .before .before .before .before .before .before .before .before .pre .0, c .before .before .before .before .before .before .before .before .before .before .before .before .before .pre .1)
 
--- src/lib.rt:682:1
+-- src/lib.rt:683:1
 ca-same-length : (t : ℕ) → ca-lts.Need-same-length (
   word-reads.Asked,
   word-reads.Learnt,
@@ -3065,7 +3142,7 @@ ca-same-length : (t : ℕ) → ca-lts.Need-same-length (
 ) (ca-at t) ca.Post
 ca-same-length t c = c .before .before .ha .kept .1 .1 .1 .1 .1 .1 .0 ∙ c .before .before .before .before .before .before .before .word .kept .1 .1 .0
 
--- src/lib.rt:682:1
+-- src/lib.rt:683:1
 ca-returns : (t : ℕ) → ca-lts.Need-returns (
   word-reads.Asked,
   word-reads.Learnt,
@@ -3075,7 +3152,7 @@ ca-returns : (t : ℕ) → ca-lts.Need-returns (
 unfolding Exp.exp
 ca-returns t c = record { is = then-sure (c .before .before .before .before .before .before .before .word .ensures) (c .before .before .ha .ensures .is) }
 
--- src/lib.rt:1903:9
+-- src/lib.rt:1904:9
 cb-group-requires : (t : ℕ) → cb-lts.Need-group-requires (
   group-reads.Asked,
   group-reads.Learnt,
@@ -3094,7 +3171,7 @@ cb-group-requires : (t : ℕ) → cb-lts.Need-group-requires (
 ) (cb-at t) cb.Post
 cb-group-requires t c κs = search needs
 
--- src/lib.rt:1904:28
+-- src/lib.rt:1905:28
 cb-told-requires : (t : ℕ) → cb-lts.Need-told-requires (
   group-reads.Asked,
   group-reads.Learnt,
@@ -3113,7 +3190,7 @@ cb-told-requires : (t : ℕ) → cb-lts.Need-told-requires (
 ) (cb-at t) cb.Post
 cb-told-requires t c κs = search needs
 
--- src/lib.rt:1904:22
+-- src/lib.rt:1905:22
 cb-enum-known-s1 : (t : ℕ) → cb-lts.Need-enum-known-s1 (
   group-reads.Asked,
   group-reads.Learnt,
@@ -3132,7 +3209,7 @@ cb-enum-known-s1 : (t : ℕ) → cb-lts.Need-enum-known-s1 (
 ) (cb-at t) cb.Post
 cb-enum-known-s1 t c = search needs
 
--- src/lib.rt:1905:9
+-- src/lib.rt:1906:9
 cb-enum-told : (t : ℕ) → cb-lts.Need-enum-told (
   group-reads.Asked,
   group-reads.Learnt,
@@ -3151,7 +3228,7 @@ cb-enum-told : (t : ℕ) → cb-lts.Need-enum-told (
 ) (cb-at t) cb.Post
 cb-enum-told t c = search needs
 
--- src/lib.rt:1905:9
+-- src/lib.rt:1906:9
 cb-returns : (t : ℕ) → cb-lts.Need-returns (
   group-reads.Asked,
   group-reads.Learnt,
@@ -3171,7 +3248,7 @@ cb-returns : (t : ℕ) → cb-lts.Need-returns (
 unfolding DecOne.functor-bind
 cb-returns t c = record { is = group-not (c .before .before .before .group .ensures) (c .before .before .told .ensures) (c .enum-told .given .1) }
 
--- src/lib.rt:1907:9
+-- src/lib.rt:1908:9
 cb-text-of-requires : (t : ℕ) → cb-lts.Need-text-of-requires (
   group-reads.Asked,
   group-reads.Learnt,
@@ -3190,7 +3267,7 @@ cb-text-of-requires : (t : ℕ) → cb-lts.Need-text-of-requires (
 ) (cb-at t) cb.Post
 cb-text-of-requires t c κs = search needs
 
--- src/lib.rt:1908:28
+-- src/lib.rt:1909:28
 cb-told-requires-2 : (t : ℕ) → cb-lts.Need-told-requires-2 (
   group-reads.Asked,
   group-reads.Learnt,
@@ -3209,7 +3286,7 @@ cb-told-requires-2 : (t : ℕ) → cb-lts.Need-told-requires-2 (
 ) (cb-at t) cb.Post
 cb-told-requires-2 t c κs = search needs
 
--- src/lib.rt:1908:22
+-- src/lib.rt:1909:22
 cb-enum-known-s2 : (t : ℕ) → cb-lts.Need-enum-known-s2 (
   group-reads.Asked,
   group-reads.Learnt,
@@ -3228,7 +3305,7 @@ cb-enum-known-s2 : (t : ℕ) → cb-lts.Need-enum-known-s2 (
 ) (cb-at t) cb.Post
 cb-enum-known-s2 t c = search needs
 
--- src/lib.rt:1909:9
+-- src/lib.rt:1910:9
 cb-enum-told-2 : (t : ℕ) → cb-lts.Need-enum-told-2 (
   group-reads.Asked,
   group-reads.Learnt,
@@ -3247,7 +3324,7 @@ cb-enum-told-2 : (t : ℕ) → cb-lts.Need-enum-told-2 (
 ) (cb-at t) cb.Post
 cb-enum-told-2 t c = search needs
 
--- src/lib.rt:1909:9
+-- src/lib.rt:1910:9
 cb-same-length : (t : ℕ) → cb-lts.Need-same-length (
   group-reads.Asked,
   group-reads.Learnt,
@@ -3266,7 +3343,7 @@ cb-same-length : (t : ℕ) → cb-lts.Need-same-length (
 ) (cb-at t) cb.Post
 cb-same-length t c = c .before .before .before .before .before .text-of .kept .1 .1 .1 .1 .1 .0
 
--- src/lib.rt:1909:9
+-- src/lib.rt:1910:9
 cb-returns-2 : (t : ℕ) → cb-lts.Need-returns-2 (
   group-reads.Asked,
   group-reads.Learnt,
@@ -3286,7 +3363,7 @@ cb-returns-2 : (t : ℕ) → cb-lts.Need-returns-2 (
 unfolding DecOne.functor-bind
 cb-returns-2 t c = record { is = by-same (group-is (c .before .before .before .before .before .before .before .before .before .before .before .before .group .ensures) (c .before .before .before .before .before .before .before .before .before .before .before .told .ensures) (c .before .before .before .before .before .before .before .before .before .s1 .given .1)) (then-stop (plain (c .before .before .before .before .before .text-of .ensures)) (c .before .before .told2 .ensures) (c .enum-told2 .given .1)) }
 
--- src/lib.rt:1911:5
+-- src/lib.rt:1912:5
 cb-word-requires : (t : ℕ) → cb-lts.Need-word-requires (
   group-reads.Asked,
   group-reads.Learnt,
@@ -3305,7 +3382,7 @@ cb-word-requires : (t : ℕ) → cb-lts.Need-word-requires (
 ) (cb-at t) cb.Post
 cb-word-requires t c κs = search needs
 
--- src/lib.rt:1912:9
+-- src/lib.rt:1913:9
 cb-fs-requires : (t : ℕ) → cb-lts.Need-fs-requires (
   group-reads.Asked,
   group-reads.Learnt,
@@ -3324,7 +3401,7 @@ cb-fs-requires : (t : ℕ) → cb-lts.Need-fs-requires (
 ) (cb-at t) cb.Post
 cb-fs-requires t c κs = omega (arith, c .before .before .before .before .before .before .before .before .before .before .before .before .before .before .before .before .before .before .before .before .before .before .before .before .before .before .before .pre .0, c .before .before .before .before .before .before .before .before .before .before .before .before .before .before .before .before .before .before .before .before .before .before .before .before .before .before .before .pre .1)
 
--- src/lib.rt:1913:28
+-- src/lib.rt:1914:28
 cb-told-requires-3 : (t : ℕ) → cb-lts.Need-told-requires-3 (
   group-reads.Asked,
   group-reads.Learnt,
@@ -3343,7 +3420,7 @@ cb-told-requires-3 : (t : ℕ) → cb-lts.Need-told-requires-3 (
 ) (cb-at t) cb.Post
 cb-told-requires-3 t c κs = search needs
 
--- src/lib.rt:1913:22
+-- src/lib.rt:1914:22
 cb-enum-known-s3 : (t : ℕ) → cb-lts.Need-enum-known-s3 (
   group-reads.Asked,
   group-reads.Learnt,
@@ -3362,7 +3439,7 @@ cb-enum-known-s3 : (t : ℕ) → cb-lts.Need-enum-known-s3 (
 ) (cb-at t) cb.Post
 cb-enum-known-s3 t c = search needs
 
--- src/lib.rt:1914:9
+-- src/lib.rt:1915:9
 cb-enum-told-3 : (t : ℕ) → cb-lts.Need-enum-told-3 (
   group-reads.Asked,
   group-reads.Learnt,
@@ -3381,7 +3458,7 @@ cb-enum-told-3 : (t : ℕ) → cb-lts.Need-enum-told-3 (
 ) (cb-at t) cb.Post
 cb-enum-told-3 t c = search needs
 
--- src/lib.rt:1914:9
+-- src/lib.rt:1915:9
 cb-same-length-2 : (t : ℕ) → cb-lts.Need-same-length-2 (
   group-reads.Asked,
   group-reads.Learnt,
@@ -3400,7 +3477,7 @@ cb-same-length-2 : (t : ℕ) → cb-lts.Need-same-length-2 (
 ) (cb-at t) cb.Post
 cb-same-length-2 t c = c .before .before .before .before .before .fs .kept .1 .1 .1 .1 .1 .1 .0 ∙ c .before .before .before .before .before .before .before .before .before .before .word .kept .1 .1 .0 ∙ c .before .before .before .before .before .before .before .before .before .before .before .before .before .before .before .before .before .before .before .text-of .kept .1 .1 .1 .1 .1 .0
 
--- src/lib.rt:1914:9
+-- src/lib.rt:1915:9
 cb-returns-3 : (t : ℕ) → cb-lts.Need-returns-3 (
   group-reads.Asked,
   group-reads.Learnt,
@@ -3420,7 +3497,7 @@ cb-returns-3 : (t : ℕ) → cb-lts.Need-returns-3 (
 unfolding DecOne.functor-bind
 cb-returns-3 t c = record { is = by-same (group-is (c .before .before .before .before .before .before .before .before .before .before .before .before .before .before .before .before .before .before .before .before .before .before .before .before .before .before .group .ensures) (c .before .before .before .before .before .before .before .before .before .before .before .before .before .before .before .before .before .before .before .before .before .before .before .before .before .told .ensures) (c .before .before .before .before .before .before .before .before .before .before .before .before .before .before .before .before .before .before .before .before .before .before .before .s1 .given .1)) (then-done (plain (c .before .before .before .before .before .before .before .before .before .before .before .before .before .before .before .before .before .before .before .text-of .ensures)) (c .before .before .before .before .before .before .before .before .before .before .before .before .before .before .before .before .told2 .ensures) (c .before .before .before .before .before .before .before .before .before .before .before .before .before .before .s2 .given .1) (then-sure (c .before .before .before .before .before .before .before .before .before .before .word .ensures) (then-stop (c .before .before .before .before .before .fs .ensures .is) (c .before .before .told3 .ensures) (c .enum-told3 .given .1)))) }
 
--- src/lib.rt:1916:5
+-- src/lib.rt:1917:5
 cb-word-requires-2 : (t : ℕ) → cb-lts.Need-word-requires-2 (
   group-reads.Asked,
   group-reads.Learnt,
@@ -3439,7 +3516,7 @@ cb-word-requires-2 : (t : ℕ) → cb-lts.Need-word-requires-2 (
 ) (cb-at t) cb.Post
 cb-word-requires-2 t c κs = search needs
 
--- src/lib.rt:1917:9
+-- src/lib.rt:1918:9
 cb-ac-requires : (t : ℕ) → cb-lts.Need-ac-requires (
   group-reads.Asked,
   group-reads.Learnt,
@@ -3458,7 +3535,7 @@ cb-ac-requires : (t : ℕ) → cb-lts.Need-ac-requires (
 ) (cb-at t) cb.Post
 cb-ac-requires t c κs = omega (arith, c .before .before .before .before .before .before .before .before .before .before .before .before .before .before .before .before .before .before .before .before .before .before .before .before .before .before .before .before .before .before .before .before .before .before .before .before .before .before .before .before .before .pre .0, c .before .before .before .before .before .before .before .before .before .before .before .before .before .before .before .before .before .before .before .before .before .before .before .before .before .before .before .before .before .before .before .before .before .before .before .before .before .before .before .before .before .pre .1)
 
--- src/lib.rt:1918:28
+-- src/lib.rt:1919:28
 cb-told-requires-4 : (t : ℕ) → cb-lts.Need-told-requires-4 (
   group-reads.Asked,
   group-reads.Learnt,
@@ -3477,7 +3554,7 @@ cb-told-requires-4 : (t : ℕ) → cb-lts.Need-told-requires-4 (
 ) (cb-at t) cb.Post
 cb-told-requires-4 t c κs = search needs
 
--- src/lib.rt:1918:22
+-- src/lib.rt:1919:22
 cb-enum-known-s4 : (t : ℕ) → cb-lts.Need-enum-known-s4 (
   group-reads.Asked,
   group-reads.Learnt,
@@ -3496,7 +3573,7 @@ cb-enum-known-s4 : (t : ℕ) → cb-lts.Need-enum-known-s4 (
 ) (cb-at t) cb.Post
 cb-enum-known-s4 t c = search needs
 
--- src/lib.rt:1919:9
+-- src/lib.rt:1920:9
 cb-enum-told-4 : (t : ℕ) → cb-lts.Need-enum-told-4 (
   group-reads.Asked,
   group-reads.Learnt,
@@ -3515,7 +3592,7 @@ cb-enum-told-4 : (t : ℕ) → cb-lts.Need-enum-told-4 (
 ) (cb-at t) cb.Post
 cb-enum-told-4 t c = search needs
 
--- src/lib.rt:1919:9
+-- src/lib.rt:1920:9
 cb-same-length-3 : (t : ℕ) → cb-lts.Need-same-length-3 (
   group-reads.Asked,
   group-reads.Learnt,
@@ -3534,7 +3611,7 @@ cb-same-length-3 : (t : ℕ) → cb-lts.Need-same-length-3 (
 ) (cb-at t) cb.Post
 cb-same-length-3 t c = c .before .before .before .before .before .ac .kept .1 .1 .1 .1 .1 .1 .0 ∙ c .before .before .before .before .before .before .before .before .before .before .word2 .kept .1 .1 .0 ∙ c .before .before .before .before .before .before .before .before .before .before .before .before .before .before .before .before .before .before .before .fs .kept .1 .1 .1 .1 .1 .1 .0 ∙ c .before .before .before .before .before .before .before .before .before .before .before .before .before .before .before .before .before .before .before .before .before .before .before .before .word .kept .1 .1 .0 ∙ c .before .before .before .before .before .before .before .before .before .before .before .before .before .before .before .before .before .before .before .before .before .before .before .before .before .before .before .before .before .before .before .before .before .text-of .kept .1 .1 .1 .1 .1 .0
 
--- src/lib.rt:1919:9
+-- src/lib.rt:1920:9
 cb-returns-4 : (t : ℕ) → cb-lts.Need-returns-4 (
   group-reads.Asked,
   group-reads.Learnt,
@@ -3554,7 +3631,7 @@ cb-returns-4 : (t : ℕ) → cb-lts.Need-returns-4 (
 unfolding DecOne.functor-bind
 cb-returns-4 t c = record { is = by-same (group-is (c .before .before .before .before .before .before .before .before .before .before .before .before .before .before .before .before .before .before .before .before .before .before .before .before .before .before .before .before .before .before .before .before .before .before .before .before .before .before .before .before .group .ensures) (c .before .before .before .before .before .before .before .before .before .before .before .before .before .before .before .before .before .before .before .before .before .before .before .before .before .before .before .before .before .before .before .before .before .before .before .before .before .before .before .told .ensures) (c .before .before .before .before .before .before .before .before .before .before .before .before .before .before .before .before .before .before .before .before .before .before .before .before .before .before .before .before .before .before .before .before .before .before .before .before .before .s1 .given .1)) (then-done (plain (c .before .before .before .before .before .before .before .before .before .before .before .before .before .before .before .before .before .before .before .before .before .before .before .before .before .before .before .before .before .before .before .before .before .text-of .ensures)) (c .before .before .before .before .before .before .before .before .before .before .before .before .before .before .before .before .before .before .before .before .before .before .before .before .before .before .before .before .before .before .told2 .ensures) (c .before .before .before .before .before .before .before .before .before .before .before .before .before .before .before .before .before .before .before .before .before .before .before .before .before .before .before .before .s2 .given .1) (then-sure (c .before .before .before .before .before .before .before .before .before .before .before .before .before .before .before .before .before .before .before .before .before .before .before .before .word .ensures) (then-done (c .before .before .before .before .before .before .before .before .before .before .before .before .before .before .before .before .before .before .before .fs .ensures .is) (c .before .before .before .before .before .before .before .before .before .before .before .before .before .before .before .before .told3 .ensures) (c .before .before .before .before .before .before .before .before .before .before .before .before .before .before .s3 .given .1) (then-sure (c .before .before .before .before .before .before .before .before .before .before .word2 .ensures) (then-stop (c .before .before .before .before .before .ac .ensures .is) (c .before .before .told4 .ensures) (c .enum-told4 .given .1)))))) }
 
--- src/lib.rt:1921:5
+-- src/lib.rt:1922:5
 cb-word-requires-3 : (t : ℕ) → cb-lts.Need-word-requires-3 (
   group-reads.Asked,
   group-reads.Learnt,
@@ -3573,7 +3650,7 @@ cb-word-requires-3 : (t : ℕ) → cb-lts.Need-word-requires-3 (
 ) (cb-at t) cb.Post
 cb-word-requires-3 t c κs = search needs
 
--- src/lib.rt:1922:5
+-- src/lib.rt:1923:5
 cb-str-requires : (t : ℕ) → cb-lts.Need-str-requires (
   group-reads.Asked,
   group-reads.Learnt,
@@ -3592,7 +3669,7 @@ cb-str-requires : (t : ℕ) → cb-lts.Need-str-requires (
 ) (cb-at t) cb.Post
 cb-str-requires t c κs = omega (arith, c .before .before .before .before .before .before .before .before .before .before .before .before .before .before .before .before .before .before .before .before .before .before .before .before .before .before .before .before .before .before .before .before .before .before .before .before .before .before .before .before .before .before .before .before .before .before .before .before .before .before .before .before .before .before .before .pre .0, c .before .before .before .before .before .before .before .before .before .before .before .before .before .before .before .before .before .before .before .before .before .before .before .before .before .before .before .before .before .before .before .before .before .before .before .before .before .before .before .before .before .before .before .before .before .before .before .before .before .before .before .before .before .before .before .pre .1)
 
--- src/lib.rt:1888:1
+-- src/lib.rt:1889:1
 cb-same-length-4 : (t : ℕ) → cb-lts.Need-same-length-4 (
   group-reads.Asked,
   group-reads.Learnt,
@@ -3611,7 +3688,7 @@ cb-same-length-4 : (t : ℕ) → cb-lts.Need-same-length-4 (
 ) (cb-at t) cb.Post
 cb-same-length-4 t c = c .before .before .str .kept .1 .1 .1 .1 .1 .1 .0 ∙ c .before .before .before .before .before .before .before .word3 .kept .1 .1 .0 ∙ c .before .before .before .before .before .before .before .before .before .before .before .before .before .before .before .before .ac .kept .1 .1 .1 .1 .1 .1 .0 ∙ c .before .before .before .before .before .before .before .before .before .before .before .before .before .before .before .before .before .before .before .before .before .word2 .kept .1 .1 .0 ∙ c .before .before .before .before .before .before .before .before .before .before .before .before .before .before .before .before .before .before .before .before .before .before .before .before .before .before .before .before .before .before .fs .kept .1 .1 .1 .1 .1 .1 .0 ∙ c .before .before .before .before .before .before .before .before .before .before .before .before .before .before .before .before .before .before .before .before .before .before .before .before .before .before .before .before .before .before .before .before .before .before .before .word .kept .1 .1 .0 ∙ c .before .before .before .before .before .before .before .before .before .before .before .before .before .before .before .before .before .before .before .before .before .before .before .before .before .before .before .before .before .before .before .before .before .before .before .before .before .before .before .before .before .before .before .before .text-of .kept .1 .1 .1 .1 .1 .0
 
--- src/lib.rt:1888:1
+-- src/lib.rt:1889:1
 cb-returns-5 : (t : ℕ) → cb-lts.Need-returns-5 (
   group-reads.Asked,
   group-reads.Learnt,
@@ -3638,7 +3715,7 @@ cd-Inv-loop run text rec kinds starts lens out₀ mem₀ at cfg n s1 s₀ i₀ o
 abbrev cd-μ-loop : cd-lts.MeasureT-loop
 cd-μ-loop run text rec kinds starts lens out₀ mem₀ at cfg n s1 s₀ i₀ out mem s i = n - i
 
--- src/lib.rt:1869:5
+-- src/lib.rt:1870:5
 cd-word-requires : (t : ℕ) → cd-lts.Need-word-requires (
   word-reads.Asked,
   word-reads.Learnt,
@@ -3655,7 +3732,7 @@ cd-word-requires : (t : ℕ) → cd-lts.Need-word-requires (
 ) (cd-at t) cd.Post cd-Inv-loop cd-μ-loop
 cd-word-requires t c κs = search needs
 
--- src/lib.rt:1870:27
+-- src/lib.rt:1871:27
 cd-list-requires : (t : ℕ) → cd-lts.Need-list-requires (
   word-reads.Asked,
   word-reads.Learnt,
@@ -3672,7 +3749,7 @@ cd-list-requires : (t : ℕ) → cd-lts.Need-list-requires (
 ) (cd-at t) cd.Post cd-Inv-loop cd-μ-loop
 cd-list-requires t c κs = search needs
 
--- src/lib.rt:1870:18
+-- src/lib.rt:1871:18
 cd-enum-known-n : (t : ℕ) → cd-lts.Need-enum-known-n (
   word-reads.Asked,
   word-reads.Learnt,
@@ -3689,7 +3766,7 @@ cd-enum-known-n : (t : ℕ) → cd-lts.Need-enum-known-n (
 ) (cd-at t) cd.Post cd-Inv-loop cd-μ-loop
 cd-enum-known-n t c = search needs
 
--- src/lib.rt:1871:9
+-- src/lib.rt:1872:9
 cd-enum-told : (t : ℕ) → cd-lts.Need-enum-told (
   word-reads.Asked,
   word-reads.Learnt,
@@ -3706,7 +3783,7 @@ cd-enum-told : (t : ℕ) → cd-lts.Need-enum-told (
 ) (cd-at t) cd.Post cd-Inv-loop cd-μ-loop
 cd-enum-told t c = search needs
 
--- src/lib.rt:1871:9
+-- src/lib.rt:1872:9
 cd-stop-requires : (t : ℕ) → cd-lts.Need-stop-requires (
   word-reads.Asked,
   word-reads.Learnt,
@@ -3723,7 +3800,7 @@ cd-stop-requires : (t : ℕ) → cd-lts.Need-stop-requires (
 ) (cd-at t) cd.Post cd-Inv-loop cd-μ-loop
 cd-stop-requires t c κs = search needs
 
--- src/lib.rt:1871:9
+-- src/lib.rt:1872:9
 cd-same-length : (t : ℕ) → cd-lts.Need-same-length (
   word-reads.Asked,
   word-reads.Learnt,
@@ -3740,7 +3817,7 @@ cd-same-length : (t : ℕ) → cd-lts.Need-same-length (
 ) (cd-at t) cd.Post cd-Inv-loop cd-μ-loop
 cd-same-length t c = c .before .before .before .before .before .before .word .kept .1 .1 .0
 
--- src/lib.rt:1871:9
+-- src/lib.rt:1872:9
 cd-returns : (t : ℕ) → cd-lts.Need-returns (
   word-reads.Asked,
   word-reads.Learnt,
@@ -3758,7 +3835,7 @@ cd-returns : (t : ℕ) → cd-lts.Need-returns (
 unfolding DecOne.dec-one Helpers.sep-with-lines
 cd-returns t c = record { is = then-sure (c .before .before .before .before .before .before .word .ensures) (list-not (c .stop .ensures) (c .before .before .before .list .ensures) (c .before .enum-told .given .1)) }
 
--- src/lib.rt:1875:5
+-- src/lib.rt:1876:5
 cd-loop-holds : (t : ℕ) → cd-lts.Need-loop-holds (
   word-reads.Asked,
   word-reads.Learnt,
@@ -3775,7 +3852,7 @@ cd-loop-holds : (t : ℕ) → cd-lts.Need-loop-holds (
 ) (cd-at t) cd.Post cd-Inv-loop cd-μ-loop
 cd-loop-holds t c = (omega arith, λ r m o h. h, refl)
 
--- src/lib.rt:1876:9
+-- src/lib.rt:1877:9
 cd-new-line-requires : (t : ℕ) → cd-lts.Need-new-line-requires (
   word-reads.Asked,
   word-reads.Learnt,
@@ -3792,7 +3869,7 @@ cd-new-line-requires : (t : ℕ) → cd-lts.Need-new-line-requires (
 ) (cd-at t) cd.Post cd-Inv-loop cd-μ-loop
 cd-new-line-requires t c κs = search needs
 
--- src/lib.rt:1877:13
+-- src/lib.rt:1878:13
 cd-cb-requires : (t : ℕ) → cd-lts.Need-cb-requires (
   word-reads.Asked,
   word-reads.Learnt,
@@ -3809,7 +3886,7 @@ cd-cb-requires : (t : ℕ) → cd-lts.Need-cb-requires (
 ) (cd-at t) cd.Post cd-Inv-loop cd-μ-loop
 cd-cb-requires t c κs = omega (arith, c .before .before .before .before .before .before .before .before .before .before .before .before .before .before .before .before .before .before .before .before .before .before .before .before .pre .0, c .before .before .before .before .before .before .before .before .before .before .before .before .before .before .before .before .before .before .before .before .before .before .before .before .pre .1)
 
--- src/lib.rt:1878:32
+-- src/lib.rt:1879:32
 cd-told-requires : (t : ℕ) → cd-lts.Need-told-requires (
   word-reads.Asked,
   word-reads.Learnt,
@@ -3826,7 +3903,7 @@ cd-told-requires : (t : ℕ) → cd-lts.Need-told-requires (
 ) (cd-at t) cd.Post cd-Inv-loop cd-μ-loop
 cd-told-requires t c κs = search needs
 
--- src/lib.rt:1878:26
+-- src/lib.rt:1879:26
 cd-enum-known-s2 : (t : ℕ) → cd-lts.Need-enum-known-s2 (
   word-reads.Asked,
   word-reads.Learnt,
@@ -3843,7 +3920,7 @@ cd-enum-known-s2 : (t : ℕ) → cd-lts.Need-enum-known-s2 (
 ) (cd-at t) cd.Post cd-Inv-loop cd-μ-loop
 cd-enum-known-s2 t c = search needs
 
--- src/lib.rt:1879:13
+-- src/lib.rt:1880:13
 cd-enum-told-2 : (t : ℕ) → cd-lts.Need-enum-told-2 (
   word-reads.Asked,
   word-reads.Learnt,
@@ -3860,7 +3937,7 @@ cd-enum-told-2 : (t : ℕ) → cd-lts.Need-enum-told-2 (
 ) (cd-at t) cd.Post cd-Inv-loop cd-μ-loop
 cd-enum-told-2 t c = search needs
 
--- src/lib.rt:1879:13
+-- src/lib.rt:1880:13
 cd-same-length-2 : (t : ℕ) → cd-lts.Need-same-length-2 (
   word-reads.Asked,
   word-reads.Learnt,
@@ -3877,7 +3954,7 @@ cd-same-length-2 : (t : ℕ) → cd-lts.Need-same-length-2 (
 ) (cd-at t) cd.Post cd-Inv-loop cd-μ-loop
 cd-same-length-2 t c = c .before .before .before .before .before .cb .kept .1 .1 .1 .1 .1 .1 .0 ∙ c .before .before .before .before .before .before .before .before .before .before .new-line .kept .1 .1 .0 ∙ c .before .before .before .before .before .before .before .before .before .before .before .before .before .before .loop .inv .2 ∙ c .before .before .before .before .before .before .before .before .before .before .before .before .before .before .before .before .before .before .before .before .before .word .kept .1 .1 .0
 
--- src/lib.rt:1879:13
+-- src/lib.rt:1880:13
 cd-returns-2 : (t : ℕ) → cd-lts.Need-returns-2 (
   word-reads.Asked,
   word-reads.Learnt,
@@ -3895,7 +3972,7 @@ cd-returns-2 : (t : ℕ) → cd-lts.Need-returns-2 (
 unfolding DecOne.dec-one Helpers.sep-with-lines
 cd-returns-2 t c = record { is = then-sure (c .before .before .before .before .before .before .before .before .before .before .before .before .before .before .before .before .before .before .before .before .before .word .ensures) (by-same (list-is (c .before .before .before .before .before .before .before .before .before .before .before .before .before .before .before .before .before .before .list .ensures) (c .before .before .before .before .before .before .before .before .before .before .before .before .before .before .before .before .n .given .1)) (by-same (items-all _ _ _) (c .before .before .before .before .before .before .before .before .before .before .before .before .before .before .loop .inv .1 _ _ _ (from-more _ _ (c .before .before .before .before .before .before .before .before .before .before .before .before .before .loop-test .taken) (then-sure (c .before .before .before .before .before .before .before .before .before .before .new-line .ensures) (then-stop (c .before .before .before .before .before .cb .ensures .is) (c .before .before .told .ensures) (c .enum-told2 .given .1))))))) }
 
--- src/lib.rt:1882:9
+-- src/lib.rt:1883:9
 cd-add-i : (t : ℕ) → cd-lts.Need-add-i (
   word-reads.Asked,
   word-reads.Learnt,
@@ -3912,7 +3989,7 @@ cd-add-i : (t : ℕ) → cd-lts.Need-add-i (
 ) (cd-at t) cd.Post cd-Inv-loop cd-μ-loop
 cd-add-i t c = omega (arith, c .before .before .before .before .before .before .before .before .before .before .before .before .before .before .loop-test .taken, c .before .before .before .before .before .before .before .before .before .before .before .before .before .before .before .before .known-told)
 
--- src/lib.rt:1875:5
+-- src/lib.rt:1876:5
 cd-loop-less : (t : ℕ) → cd-lts.Need-loop-less (
   word-reads.Asked,
   word-reads.Learnt,
@@ -3929,7 +4006,7 @@ cd-loop-less : (t : ℕ) → cd-lts.Need-loop-less (
 ) (cd-at t) cd.Post cd-Inv-loop cd-μ-loop
 cd-loop-less t c = omega arith
 
--- src/lib.rt:1875:5
+-- src/lib.rt:1876:5
 cd-loop-again : (t : ℕ) → cd-lts.Need-loop-again (
   word-reads.Asked,
   word-reads.Learnt,
@@ -3947,7 +4024,7 @@ cd-loop-again : (t : ℕ) → cd-lts.Need-loop-again (
 unfolding DecOne.dec-one Helpers.sep-with-lines
 cd-loop-again t c = (omega (arith, c .before .before .before .before .before .before .before .before .before .before .before .before .before .before .before .loop .inv .0), λ r m o h. c .before .before .before .before .before .before .before .before .before .before .before .before .before .before .before .loop .inv .1 r m o (from-more _ _ (c .before .before .before .before .before .before .before .before .before .before .before .before .before .before .loop-test .taken) (then-sure (c .before .before .before .before .before .before .before .before .before .before .before .new-line .ensures) (then-done (c .before .before .before .before .before .before .cb .ensures .is) (c .before .before .before .told .ensures) (c .before .s2 .given .1) h))), c .before .before .before .before .before .before .cb .kept .1 .1 .1 .1 .1 .1 .0 ∙ c .before .before .before .before .before .before .before .before .before .before .before .new-line .kept .1 .1 .0 ∙ c .before .before .before .before .before .before .before .before .before .before .before .before .before .before .before .loop .inv .2)
 
--- src/lib.rt:1854:1
+-- src/lib.rt:1855:1
 cd-same-length-3 : (t : ℕ) → cd-lts.Need-same-length-3 (
   word-reads.Asked,
   word-reads.Learnt,
@@ -3964,7 +4041,7 @@ cd-same-length-3 : (t : ℕ) → cd-lts.Need-same-length-3 (
 ) (cd-at t) cd.Post cd-Inv-loop cd-μ-loop
 cd-same-length-3 t c = c .before .loop .inv .2 ∙ c .before .before .before .before .before .before .before .before .word .kept .1 .1 .0
 
--- src/lib.rt:1854:1
+-- src/lib.rt:1855:1
 cd-returns-3 : (t : ℕ) → cd-lts.Need-returns-3 (
   word-reads.Asked,
   word-reads.Learnt,
@@ -3982,7 +4059,7 @@ cd-returns-3 : (t : ℕ) → cd-lts.Need-returns-3 (
 unfolding DecOne.dec-one Helpers.sep-with-lines
 cd-returns-3 t c = record { is = then-sure (c .before .before .before .before .before .before .before .before .word .ensures) (by-same (list-is (c .before .before .before .before .before .list .ensures) (c .before .before .before .n .given .1)) (by-same (items-all _ _ _) (c .before .loop .inv .1 _ _ _ (from-none _ _ (c .loop-test .left))))) }
 
--- src/lib.rt:2046:5
+-- src/lib.rt:2047:5
 da-word-requires : (t : ℕ) → da-lts.Need-word-requires (
   word-reads.Asked,
   word-reads.Learnt,
@@ -3997,7 +4074,7 @@ da-word-requires : (t : ℕ) → da-lts.Need-word-requires (
 ) (da-at t) da.Post
 da-word-requires t c κs = search needs
 
--- src/lib.rt:2047:5
+-- src/lib.rt:2048:5
 da-indent-deeper-requires : (t : ℕ) → da-lts.Need-indent-deeper-requires (
   word-reads.Asked,
   word-reads.Learnt,
@@ -4012,7 +4089,7 @@ da-indent-deeper-requires : (t : ℕ) → da-lts.Need-indent-deeper-requires (
 ) (da-at t) da.Post
 da-indent-deeper-requires t c κs = omega (arith, c .before .before .before .before .before .before .before .before .before .before .before .before .before .pre .1)
 
--- src/lib.rt:2048:9
+-- src/lib.rt:2049:9
 da-indented-requires : (t : ℕ) → da-lts.Need-indented-requires (
   word-reads.Asked,
   word-reads.Learnt,
@@ -4027,7 +4104,7 @@ da-indented-requires : (t : ℕ) → da-lts.Need-indented-requires (
 ) (da-at t) da.Post
 da-indented-requires t c κs = omega (arith, c .before .before .before .before .before .before .before .before .before .before .before .before .before .before .before .before .pre .1)
 
--- src/lib.rt:2049:9
+-- src/lib.rt:2050:9
 da-dec-requires : (t : ℕ) → da-lts.Need-dec-requires (
   word-reads.Asked,
   word-reads.Learnt,
@@ -4042,7 +4119,7 @@ da-dec-requires : (t : ℕ) → da-lts.Need-dec-requires (
 ) (da-at t) da.Post
 da-dec-requires t c κs = omega (arith, c .before .before .before .before .before .before .before .before .before .before .before .before .before .before .before .before .before .before .before .pre .0, c .before .before .before .before .before .before .before .before .before .before .before .before .before .before .before .before .before .before .before .pre .1, deep-depth (c .before .before .indented .ensures), deep-left (c .before .before .indented .ensures))
 
--- src/lib.rt:2050:28
+-- src/lib.rt:2051:28
 da-told-requires : (t : ℕ) → da-lts.Need-told-requires (
   word-reads.Asked,
   word-reads.Learnt,
@@ -4057,7 +4134,7 @@ da-told-requires : (t : ℕ) → da-lts.Need-told-requires (
 ) (da-at t) da.Post
 da-told-requires t c κs = search needs
 
--- src/lib.rt:2050:22
+-- src/lib.rt:2051:22
 da-enum-known-s1 : (t : ℕ) → da-lts.Need-enum-known-s1 (
   word-reads.Asked,
   word-reads.Learnt,
@@ -4072,7 +4149,7 @@ da-enum-known-s1 : (t : ℕ) → da-lts.Need-enum-known-s1 (
 ) (da-at t) da.Post
 da-enum-known-s1 t c = search needs
 
--- src/lib.rt:2051:9
+-- src/lib.rt:2052:9
 da-enum-told : (t : ℕ) → da-lts.Need-enum-told (
   word-reads.Asked,
   word-reads.Learnt,
@@ -4087,7 +4164,7 @@ da-enum-told : (t : ℕ) → da-lts.Need-enum-told (
 ) (da-at t) da.Post
 da-enum-told t c = search needs
 
--- src/lib.rt:2051:9
+-- src/lib.rt:2052:9
 da-same-length : (t : ℕ) → da-lts.Need-same-length (
   word-reads.Asked,
   word-reads.Learnt,
@@ -4102,7 +4179,7 @@ da-same-length : (t : ℕ) → da-lts.Need-same-length (
 ) (da-at t) da.Post
 da-same-length t c = c .before .before .before .before .before .dec .kept .1 .1 .1 .1 .1 .1 .0 ∙ c .before .before .before .before .before .before .before .before .before .before .before .indent-deeper .kept .0 ∙ c .before .before .before .before .before .before .before .before .before .before .before .before .before .before .before .before .word .kept .1 .1 .0
 
--- src/lib.rt:2051:9
+-- src/lib.rt:2052:9
 da-returns : (t : ℕ) → da-lts.Need-returns (
   word-reads.Asked,
   word-reads.Learnt,
@@ -4118,7 +4195,7 @@ da-returns : (t : ℕ) → da-lts.Need-returns (
 unfolding GetDec.dec-arg Helpers.indent-deeper Helpers.deepen
 da-returns t c = record { is = then-sure (c .before .before .before .before .before .before .before .before .before .before .before .before .before .before .before .before .word .ensures) (then-both (c .before .before .before .before .before .before .before .before .before .before .before .indent-deeper .ensures _) (then-stop (along (c .before .before .before .before .before .before .before .before .indented .ensures) (c .before .before .before .before .before .dec .ensures)) (c .before .before .told .ensures) (c .enum-told .given .1))) }
 
--- src/lib.rt:2053:5
+-- src/lib.rt:2054:5
 da-word-requires-2 : (t : ℕ) → da-lts.Need-word-requires-2 (
   word-reads.Asked,
   word-reads.Learnt,
@@ -4133,7 +4210,7 @@ da-word-requires-2 : (t : ℕ) → da-lts.Need-word-requires-2 (
 ) (da-at t) da.Post
 da-word-requires-2 t c κs = search needs
 
--- src/lib.rt:2031:1
+-- src/lib.rt:2032:1
 da-same-length-2 : (t : ℕ) → da-lts.Need-same-length-2 (
   word-reads.Asked,
   word-reads.Learnt,
@@ -4148,7 +4225,7 @@ da-same-length-2 : (t : ℕ) → da-lts.Need-same-length-2 (
 ) (da-at t) da.Post
 da-same-length-2 t c = c .before .before .word2 .kept .1 .1 .0 ∙ c .before .before .before .before .before .before .before .before .before .before .before .dec .kept .1 .1 .1 .1 .1 .1 .0 ∙ c .before .before .before .before .before .before .before .before .before .before .before .before .before .before .before .before .before .indent-deeper .kept .0 ∙ c .before .before .before .before .before .before .before .before .before .before .before .before .before .before .before .before .before .before .before .before .before .before .word .kept .1 .1 .0
 
--- src/lib.rt:2031:1
+-- src/lib.rt:2032:1
 da-returns-2 : (t : ℕ) → da-lts.Need-returns-2 (
   word-reads.Asked,
   word-reads.Learnt,
@@ -4164,7 +4241,7 @@ da-returns-2 : (t : ℕ) → da-lts.Need-returns-2 (
 unfolding GetDec.dec-arg Helpers.indent-deeper Helpers.deepen
 da-returns-2 t c = record { is = then-sure (c .before .before .before .before .before .before .before .before .before .before .before .before .before .before .before .before .before .before .before .before .before .before .word .ensures) (then-both (c .before .before .before .before .before .before .before .before .before .before .before .before .before .before .before .before .before .indent-deeper .ensures _) (then-done (along (c .before .before .before .before .before .before .before .before .before .before .before .before .before .before .indented .ensures) (c .before .before .before .before .before .before .before .before .before .before .before .dec .ensures)) (c .before .before .before .before .before .before .before .before .told .ensures) (c .before .before .before .before .before .before .s1 .given .1) (last-sure (c .before .before .word2 .ensures)))) }
 
--- src/lib.rt:1134:9
+-- src/lib.rt:1135:9
 dec-group-requires : (t : ℕ) → dec-lts.Need-group-requires (
   group-reads.Asked,
   group-reads.Learnt,
@@ -4179,7 +4256,7 @@ dec-group-requires : (t : ℕ) → dec-lts.Need-group-requires (
 ) (dec-at t) dec.Post
 dec-group-requires t c κs = search needs
 
--- src/lib.rt:1135:28
+-- src/lib.rt:1136:28
 dec-told-requires : (t : ℕ) → dec-lts.Need-told-requires (
   group-reads.Asked,
   group-reads.Learnt,
@@ -4194,7 +4271,7 @@ dec-told-requires : (t : ℕ) → dec-lts.Need-told-requires (
 ) (dec-at t) dec.Post
 dec-told-requires t c κs = search needs
 
--- src/lib.rt:1135:22
+-- src/lib.rt:1136:22
 dec-enum-known-s1 : (t : ℕ) → dec-lts.Need-enum-known-s1 (
   group-reads.Asked,
   group-reads.Learnt,
@@ -4209,7 +4286,7 @@ dec-enum-known-s1 : (t : ℕ) → dec-lts.Need-enum-known-s1 (
 ) (dec-at t) dec.Post
 dec-enum-known-s1 t c = search needs
 
--- src/lib.rt:1136:9
+-- src/lib.rt:1137:9
 dec-enum-told : (t : ℕ) → dec-lts.Need-enum-told (
   group-reads.Asked,
   group-reads.Learnt,
@@ -4224,7 +4301,7 @@ dec-enum-told : (t : ℕ) → dec-lts.Need-enum-told (
 ) (dec-at t) dec.Post
 dec-enum-told t c = search needs
 
--- src/lib.rt:1136:9
+-- src/lib.rt:1137:9
 dec-returns : (t : ℕ) → dec-lts.Need-returns (
   group-reads.Asked,
   group-reads.Learnt,
@@ -4240,7 +4317,7 @@ dec-returns : (t : ℕ) → dec-lts.Need-returns (
 unfolding GetDec.dec Helpers.semicolon
 dec-returns t c = record { is = then-stop (group-not (c .before .before .before .group .ensures) (c .before .before .told .ensures) (c .enum-told .given .1)) (c .before .before .told .ensures) (c .enum-told .given .1) }
 
--- src/lib.rt:1138:9
+-- src/lib.rt:1139:9
 dec-qs-requires : (t : ℕ) → dec-lts.Need-qs-requires (
   group-reads.Asked,
   group-reads.Learnt,
@@ -4255,7 +4332,7 @@ dec-qs-requires : (t : ℕ) → dec-lts.Need-qs-requires (
 ) (dec-at t) dec.Post
 dec-qs-requires t c κs = omega (arith, c .before .before .before .before .before .before .before .before .before .before .before .before .before .pre .0, c .before .before .before .before .before .before .before .before .before .before .before .before .before .pre .1)
 
--- src/lib.rt:1139:28
+-- src/lib.rt:1140:28
 dec-told-requires-2 : (t : ℕ) → dec-lts.Need-told-requires-2 (
   group-reads.Asked,
   group-reads.Learnt,
@@ -4270,7 +4347,7 @@ dec-told-requires-2 : (t : ℕ) → dec-lts.Need-told-requires-2 (
 ) (dec-at t) dec.Post
 dec-told-requires-2 t c κs = search needs
 
--- src/lib.rt:1139:22
+-- src/lib.rt:1140:22
 dec-enum-known-s2 : (t : ℕ) → dec-lts.Need-enum-known-s2 (
   group-reads.Asked,
   group-reads.Learnt,
@@ -4285,7 +4362,7 @@ dec-enum-known-s2 : (t : ℕ) → dec-lts.Need-enum-known-s2 (
 ) (dec-at t) dec.Post
 dec-enum-known-s2 t c = search needs
 
--- src/lib.rt:1140:9
+-- src/lib.rt:1141:9
 dec-enum-told-2 : (t : ℕ) → dec-lts.Need-enum-told-2 (
   group-reads.Asked,
   group-reads.Learnt,
@@ -4300,7 +4377,7 @@ dec-enum-told-2 : (t : ℕ) → dec-lts.Need-enum-told-2 (
 ) (dec-at t) dec.Post
 dec-enum-told-2 t c = search needs
 
--- src/lib.rt:1140:9
+-- src/lib.rt:1141:9
 dec-same-length : (t : ℕ) → dec-lts.Need-same-length (
   group-reads.Asked,
   group-reads.Learnt,
@@ -4315,7 +4392,7 @@ dec-same-length : (t : ℕ) → dec-lts.Need-same-length (
 ) (dec-at t) dec.Post
 dec-same-length t c = c .before .before .before .before .before .qs .kept .1 .1 .1 .1 .1 .1 .0
 
--- src/lib.rt:1140:9
+-- src/lib.rt:1141:9
 dec-returns-2 : (t : ℕ) → dec-lts.Need-returns-2 (
   group-reads.Asked,
   group-reads.Learnt,
@@ -4331,7 +4408,7 @@ dec-returns-2 : (t : ℕ) → dec-lts.Need-returns-2 (
 unfolding GetDec.dec Helpers.semicolon
 dec-returns-2 t c = record { is = by-same (first-same (group-is (c .before .before .before .before .before .before .before .before .before .before .before .before .group .ensures) (c .before .before .before .before .before .before .before .before .before .before .before .told .ensures) (c .before .before .before .before .before .before .before .before .before .s1 .given .1))) (regroup (then-stop (c .before .before .before .before .before .qs .ensures .is) (c .before .before .told2 .ensures) (c .enum-told2 .given .1))) }
 
--- src/lib.rt:1142:9
+-- src/lib.rt:1143:9
 dec-sharing-tails-requires : (t : ℕ) → dec-lts.Need-sharing-tails-requires (
   group-reads.Asked,
   group-reads.Learnt,
@@ -4346,7 +4423,7 @@ dec-sharing-tails-requires : (t : ℕ) → dec-lts.Need-sharing-tails-requires (
 ) (dec-at t) dec.Post
 dec-sharing-tails-requires t c κs = search needs
 
--- src/lib.rt:1143:28
+-- src/lib.rt:1144:28
 dec-told-requires-3 : (t : ℕ) → dec-lts.Need-told-requires-3 (
   group-reads.Asked,
   group-reads.Learnt,
@@ -4361,7 +4438,7 @@ dec-told-requires-3 : (t : ℕ) → dec-lts.Need-told-requires-3 (
 ) (dec-at t) dec.Post
 dec-told-requires-3 t c κs = search needs
 
--- src/lib.rt:1143:22
+-- src/lib.rt:1144:22
 dec-enum-known-s3 : (t : ℕ) → dec-lts.Need-enum-known-s3 (
   group-reads.Asked,
   group-reads.Learnt,
@@ -4376,7 +4453,7 @@ dec-enum-known-s3 : (t : ℕ) → dec-lts.Need-enum-known-s3 (
 ) (dec-at t) dec.Post
 dec-enum-known-s3 t c = search needs
 
--- src/lib.rt:1144:9
+-- src/lib.rt:1145:9
 dec-enum-told-3 : (t : ℕ) → dec-lts.Need-enum-told-3 (
   group-reads.Asked,
   group-reads.Learnt,
@@ -4391,7 +4468,7 @@ dec-enum-told-3 : (t : ℕ) → dec-lts.Need-enum-told-3 (
 ) (dec-at t) dec.Post
 dec-enum-told-3 t c = search needs
 
--- src/lib.rt:1144:9
+-- src/lib.rt:1145:9
 dec-same-length-2 : (t : ℕ) → dec-lts.Need-same-length-2 (
   group-reads.Asked,
   group-reads.Learnt,
@@ -4406,7 +4483,7 @@ dec-same-length-2 : (t : ℕ) → dec-lts.Need-same-length-2 (
 ) (dec-at t) dec.Post
 dec-same-length-2 t c = c .before .before .before .before .before .sharing-tails .kept .1 .1 .1 .1 .1 .0 ∙ c .before .before .before .before .before .before .before .before .before .before .before .before .before .before .qs .kept .1 .1 .1 .1 .1 .1 .0
 
--- src/lib.rt:1144:9
+-- src/lib.rt:1145:9
 dec-returns-3 : (t : ℕ) → dec-lts.Need-returns-3 (
   group-reads.Asked,
   group-reads.Learnt,
@@ -4422,7 +4499,7 @@ dec-returns-3 : (t : ℕ) → dec-lts.Need-returns-3 (
 unfolding GetDec.dec Helpers.semicolon
 dec-returns-3 t c = record { is = by-same (first-same (group-is (c .before .before .before .before .before .before .before .before .before .before .before .before .before .before .before .before .before .before .before .before .before .group .ensures) (c .before .before .before .before .before .before .before .before .before .before .before .before .before .before .before .before .before .before .before .before .told .ensures) (c .before .before .before .before .before .before .before .before .before .before .before .before .before .before .before .before .before .before .s1 .given .1))) (regroup (then-done (c .before .before .before .before .before .before .before .before .before .before .before .before .before .before .qs .ensures .is) (c .before .before .before .before .before .before .before .before .before .before .before .told2 .ensures) (c .before .before .before .before .before .before .before .before .before .s2 .given .1) (then-stop (plain (c .before .before .before .before .before .sharing-tails .ensures)) (c .before .before .told3 .ensures) (c .enum-told3 .given .1)))) }
 
--- src/lib.rt:1146:5
+-- src/lib.rt:1147:5
 dec-word-if-requires : (t : ℕ) → dec-lts.Need-word-if-requires (
   group-reads.Asked,
   group-reads.Learnt,
@@ -4437,7 +4514,7 @@ dec-word-if-requires : (t : ℕ) → dec-lts.Need-word-if-requires (
 ) (dec-at t) dec.Post
 dec-word-if-requires t c κs = search needs
 
--- src/lib.rt:1119:1
+-- src/lib.rt:1120:1
 dec-same-length-3 : (t : ℕ) → dec-lts.Need-same-length-3 (
   group-reads.Asked,
   group-reads.Learnt,
@@ -4452,7 +4529,7 @@ dec-same-length-3 : (t : ℕ) → dec-lts.Need-same-length-3 (
 ) (dec-at t) dec.Post
 dec-same-length-3 t c = c .before .before .word-if .kept .1 .1 .1 .1 .1 .0 ∙ c .before .before .before .before .before .before .before .before .before .before .before .sharing-tails .kept .1 .1 .1 .1 .1 .0 ∙ c .before .before .before .before .before .before .before .before .before .before .before .before .before .before .before .before .before .before .before .before .qs .kept .1 .1 .1 .1 .1 .1 .0
 
--- src/lib.rt:1119:1
+-- src/lib.rt:1120:1
 dec-returns-4 : (t : ℕ) → dec-lts.Need-returns-4 (
   group-reads.Asked,
   group-reads.Learnt,
@@ -4468,7 +4545,7 @@ dec-returns-4 : (t : ℕ) → dec-lts.Need-returns-4 (
 unfolding GetDec.dec Helpers.semicolon
 dec-returns-4 t c = record { is = by-same (first-same (group-is (c .before .before .before .before .before .before .before .before .before .before .before .before .before .before .before .before .before .before .before .before .before .before .before .before .before .before .before .group .ensures) (c .before .before .before .before .before .before .before .before .before .before .before .before .before .before .before .before .before .before .before .before .before .before .before .before .before .before .told .ensures) (c .before .before .before .before .before .before .before .before .before .before .before .before .before .before .before .before .before .before .before .before .before .before .before .before .s1 .given .1))) (regroup (then-done (c .before .before .before .before .before .before .before .before .before .before .before .before .before .before .before .before .before .before .before .before .qs .ensures .is) (c .before .before .before .before .before .before .before .before .before .before .before .before .before .before .before .before .before .told2 .ensures) (c .before .before .before .before .before .before .before .before .before .before .before .before .before .before .before .s2 .given .1) (then-done (plain (c .before .before .before .before .before .before .before .before .before .before .before .sharing-tails .ensures)) (c .before .before .before .before .before .before .before .before .told3 .ensures) (c .before .before .before .before .before .before .s3 .given .1) (plain (c .before .before .word-if .ensures))))) }
 
--- src/lib.rt:870:5
+-- src/lib.rt:871:5
 dp-indent-deeper-requires : (t : ℕ) → dp-lts.Need-indent-deeper-requires (
   indent-deeper-reads.Asked,
   indent-deeper-reads.Learnt,
@@ -4479,7 +4556,7 @@ dp-indent-deeper-requires : (t : ℕ) → dp-lts.Need-indent-deeper-requires (
 ) (dp-at t) dp.Post
 dp-indent-deeper-requires t c κs = omega (arith, c .before .before .before .before .before .before .before .before .pre .1)
 
--- src/lib.rt:871:9
+-- src/lib.rt:872:9
 dp-indented-requires : (t : ℕ) → dp-lts.Need-indented-requires (
   indent-deeper-reads.Asked,
   indent-deeper-reads.Learnt,
@@ -4490,7 +4567,7 @@ dp-indented-requires : (t : ℕ) → dp-lts.Need-indented-requires (
 ) (dp-at t) dp.Post
 dp-indented-requires t c κs = omega (arith, c .before .before .before .before .before .before .before .before .before .before .before .pre .1)
 
--- src/lib.rt:872:5
+-- src/lib.rt:873:5
 dp-exp-requires : (t : ℕ) → dp-lts.Need-exp-requires (
   indent-deeper-reads.Asked,
   indent-deeper-reads.Learnt,
@@ -4501,7 +4578,7 @@ dp-exp-requires : (t : ℕ) → dp-lts.Need-exp-requires (
 ) (dp-at t) dp.Post
 dp-exp-requires t c κs = omega (arith, c .before .before .before .before .before .before .before .before .before .before .before .before .before .before .pre .0, c .before .before .before .before .before .before .before .before .before .before .before .before .before .before .pre .1, deep-depth (c .before .before .indented .ensures), deep-left (c .before .before .indented .ensures))
 
--- src/lib.rt:855:1
+-- src/lib.rt:856:1
 dp-same-length : (t : ℕ) → dp-lts.Need-same-length (
   indent-deeper-reads.Asked,
   indent-deeper-reads.Learnt,
@@ -4512,7 +4589,7 @@ dp-same-length : (t : ℕ) → dp-lts.Need-same-length (
 ) (dp-at t) dp.Post
 dp-same-length t c = c .before .before .exp .kept .1 .1 .1 .1 .1 .1 .0 ∙ c .before .before .before .before .before .before .before .before .indent-deeper .kept .0
 
--- src/lib.rt:855:1
+-- src/lib.rt:856:1
 dp-returns : (t : ℕ) → dp-lts.Need-returns (
   indent-deeper-reads.Asked,
   indent-deeper-reads.Learnt,
@@ -4531,7 +4608,7 @@ ds-Inv-loop run text rec kinds starts lens out₀ mem₀ at cfg n s0 s₀ i₀ o
 abbrev ds-μ-loop : ds-lts.MeasureT-loop
 ds-μ-loop run text rec kinds starts lens out₀ mem₀ at cfg n s0 s₀ i₀ out mem s i = n - i
 
--- src/lib.rt:1097:27
+-- src/lib.rt:1098:27
 ds-list-requires : (t : ℕ) → ds-lts.Need-list-requires (
   list-reads.Asked,
   list-reads.Learnt,
@@ -4548,7 +4625,7 @@ ds-list-requires : (t : ℕ) → ds-lts.Need-list-requires (
 ) (ds-at t) ds.Post ds-Inv-loop ds-μ-loop
 ds-list-requires t c κs = search needs
 
--- src/lib.rt:1097:18
+-- src/lib.rt:1098:18
 ds-enum-known-n : (t : ℕ) → ds-lts.Need-enum-known-n (
   list-reads.Asked,
   list-reads.Learnt,
@@ -4565,7 +4642,7 @@ ds-enum-known-n : (t : ℕ) → ds-lts.Need-enum-known-n (
 ) (ds-at t) ds.Post ds-Inv-loop ds-μ-loop
 ds-enum-known-n t c = search needs
 
--- src/lib.rt:1098:9
+-- src/lib.rt:1099:9
 ds-enum-told : (t : ℕ) → ds-lts.Need-enum-told (
   list-reads.Asked,
   list-reads.Learnt,
@@ -4582,7 +4659,7 @@ ds-enum-told : (t : ℕ) → ds-lts.Need-enum-told (
 ) (ds-at t) ds.Post ds-Inv-loop ds-μ-loop
 ds-enum-told t c = search needs
 
--- src/lib.rt:1098:9
+-- src/lib.rt:1099:9
 ds-stop-requires : (t : ℕ) → ds-lts.Need-stop-requires (
   list-reads.Asked,
   list-reads.Learnt,
@@ -4599,7 +4676,7 @@ ds-stop-requires : (t : ℕ) → ds-lts.Need-stop-requires (
 ) (ds-at t) ds.Post ds-Inv-loop ds-μ-loop
 ds-stop-requires t c κs = search needs
 
--- src/lib.rt:1098:9
+-- src/lib.rt:1099:9
 ds-returns : (t : ℕ) → ds-lts.Need-returns (
   list-reads.Asked,
   list-reads.Learnt,
@@ -4617,7 +4694,7 @@ ds-returns : (t : ℕ) → ds-lts.Need-returns (
 unfolding GetDec.get-dec Helpers.sep-with-lines
 ds-returns t c = record { is = list-not (c .stop .ensures) (c .before .before .before .list .ensures) (c .before .enum-told .given .1) }
 
--- src/lib.rt:1102:5
+-- src/lib.rt:1103:5
 ds-loop-holds : (t : ℕ) → ds-lts.Need-loop-holds (
   list-reads.Asked,
   list-reads.Learnt,
@@ -4634,7 +4711,7 @@ ds-loop-holds : (t : ℕ) → ds-lts.Need-loop-holds (
 ) (ds-at t) ds.Post ds-Inv-loop ds-μ-loop
 ds-loop-holds t c = (omega arith, λ r m o h. h, refl)
 
--- src/lib.rt:1103:9
+-- src/lib.rt:1104:9
 ds-new-line-requires : (t : ℕ) → ds-lts.Need-new-line-requires (
   list-reads.Asked,
   list-reads.Learnt,
@@ -4651,7 +4728,7 @@ ds-new-line-requires : (t : ℕ) → ds-lts.Need-new-line-requires (
 ) (ds-at t) ds.Post ds-Inv-loop ds-μ-loop
 ds-new-line-requires t c κs = search needs
 
--- src/lib.rt:1104:13
+-- src/lib.rt:1105:13
 ds-group-requires : (t : ℕ) → ds-lts.Need-group-requires (
   list-reads.Asked,
   list-reads.Learnt,
@@ -4668,7 +4745,7 @@ ds-group-requires : (t : ℕ) → ds-lts.Need-group-requires (
 ) (ds-at t) ds.Post ds-Inv-loop ds-μ-loop
 ds-group-requires t c κs = search needs
 
--- src/lib.rt:1105:32
+-- src/lib.rt:1106:32
 ds-told-requires : (t : ℕ) → ds-lts.Need-told-requires (
   list-reads.Asked,
   list-reads.Learnt,
@@ -4685,7 +4762,7 @@ ds-told-requires : (t : ℕ) → ds-lts.Need-told-requires (
 ) (ds-at t) ds.Post ds-Inv-loop ds-μ-loop
 ds-told-requires t c κs = search needs
 
--- src/lib.rt:1105:26
+-- src/lib.rt:1106:26
 ds-enum-known-s1 : (t : ℕ) → ds-lts.Need-enum-known-s1 (
   list-reads.Asked,
   list-reads.Learnt,
@@ -4702,7 +4779,7 @@ ds-enum-known-s1 : (t : ℕ) → ds-lts.Need-enum-known-s1 (
 ) (ds-at t) ds.Post ds-Inv-loop ds-μ-loop
 ds-enum-known-s1 t c = search needs
 
--- src/lib.rt:1106:13
+-- src/lib.rt:1107:13
 ds-enum-told-2 : (t : ℕ) → ds-lts.Need-enum-told-2 (
   list-reads.Asked,
   list-reads.Learnt,
@@ -4719,7 +4796,7 @@ ds-enum-told-2 : (t : ℕ) → ds-lts.Need-enum-told-2 (
 ) (ds-at t) ds.Post ds-Inv-loop ds-μ-loop
 ds-enum-told-2 t c = search needs
 
--- src/lib.rt:1106:13
+-- src/lib.rt:1107:13
 ds-same-length : (t : ℕ) → ds-lts.Need-same-length (
   list-reads.Asked,
   list-reads.Learnt,
@@ -4736,7 +4813,7 @@ ds-same-length : (t : ℕ) → ds-lts.Need-same-length (
 ) (ds-at t) ds.Post ds-Inv-loop ds-μ-loop
 ds-same-length t c = c .before .before .before .before .before .before .new-line .kept .1 .1 .0 ∙ c .before .before .before .before .before .before .before .before .before .before .loop .inv .2
 
--- src/lib.rt:1106:13
+-- src/lib.rt:1107:13
 ds-returns-2 : (t : ℕ) → ds-lts.Need-returns-2 (
   list-reads.Asked,
   list-reads.Learnt,
@@ -4754,7 +4831,7 @@ ds-returns-2 : (t : ℕ) → ds-lts.Need-returns-2 (
 unfolding GetDec.get-dec Helpers.sep-with-lines
 ds-returns-2 t c = record { is = by-same (list-is (c .before .before .before .before .before .before .before .before .before .before .before .before .before .before .list .ensures) (c .before .before .before .before .before .before .before .before .before .before .before .before .n .given .1)) (by-same (items-all _ _ _) (c .before .before .before .before .before .before .before .before .before .before .loop .inv .1 _ _ _ (from-more _ _ (c .before .before .before .before .before .before .before .before .before .loop-test .taken) (then-sure (c .before .before .before .before .before .before .new-line .ensures) (then-stop (group-not (c .before .before .before .group .ensures) (c .before .before .told .ensures) (c .enum-told2 .given .1)) (c .before .before .told .ensures) (c .enum-told2 .given .1)))))) }
 
--- src/lib.rt:1108:13
+-- src/lib.rt:1109:13
 ds-dec-requires : (t : ℕ) → ds-lts.Need-dec-requires (
   list-reads.Asked,
   list-reads.Learnt,
@@ -4771,7 +4848,7 @@ ds-dec-requires : (t : ℕ) → ds-lts.Need-dec-requires (
 ) (ds-at t) ds.Post ds-Inv-loop ds-μ-loop
 ds-dec-requires t c κs = omega (arith, c .before .before .before .before .before .before .before .before .before .before .before .before .before .before .before .before .before .before .before .before .before .before .before .before .pre .0, c .before .before .before .before .before .before .before .before .before .before .before .before .before .before .before .before .before .before .before .before .before .before .before .before .pre .1)
 
--- src/lib.rt:1109:32
+-- src/lib.rt:1110:32
 ds-told-requires-2 : (t : ℕ) → ds-lts.Need-told-requires-2 (
   list-reads.Asked,
   list-reads.Learnt,
@@ -4788,7 +4865,7 @@ ds-told-requires-2 : (t : ℕ) → ds-lts.Need-told-requires-2 (
 ) (ds-at t) ds.Post ds-Inv-loop ds-μ-loop
 ds-told-requires-2 t c κs = search needs
 
--- src/lib.rt:1109:26
+-- src/lib.rt:1110:26
 ds-enum-known-s2 : (t : ℕ) → ds-lts.Need-enum-known-s2 (
   list-reads.Asked,
   list-reads.Learnt,
@@ -4805,7 +4882,7 @@ ds-enum-known-s2 : (t : ℕ) → ds-lts.Need-enum-known-s2 (
 ) (ds-at t) ds.Post ds-Inv-loop ds-μ-loop
 ds-enum-known-s2 t c = search needs
 
--- src/lib.rt:1110:13
+-- src/lib.rt:1111:13
 ds-enum-told-3 : (t : ℕ) → ds-lts.Need-enum-told-3 (
   list-reads.Asked,
   list-reads.Learnt,
@@ -4822,7 +4899,7 @@ ds-enum-told-3 : (t : ℕ) → ds-lts.Need-enum-told-3 (
 ) (ds-at t) ds.Post ds-Inv-loop ds-μ-loop
 ds-enum-told-3 t c = search needs
 
--- src/lib.rt:1110:13
+-- src/lib.rt:1111:13
 ds-same-length-2 : (t : ℕ) → ds-lts.Need-same-length-2 (
   list-reads.Asked,
   list-reads.Learnt,
@@ -4839,7 +4916,7 @@ ds-same-length-2 : (t : ℕ) → ds-lts.Need-same-length-2 (
 ) (ds-at t) ds.Post ds-Inv-loop ds-μ-loop
 ds-same-length-2 t c = c .before .before .before .before .before .dec .kept .1 .1 .1 .1 .1 .1 .0 ∙ c .before .before .before .before .before .before .before .before .before .before .before .before .before .before .before .new-line .kept .1 .1 .0 ∙ c .before .before .before .before .before .before .before .before .before .before .before .before .before .before .before .before .before .before .before .loop .inv .2
 
--- src/lib.rt:1110:13
+-- src/lib.rt:1111:13
 ds-returns-3 : (t : ℕ) → ds-lts.Need-returns-3 (
   list-reads.Asked,
   list-reads.Learnt,
@@ -4857,7 +4934,7 @@ ds-returns-3 : (t : ℕ) → ds-lts.Need-returns-3 (
 unfolding GetDec.get-dec Helpers.sep-with-lines
 ds-returns-3 t c = record { is = by-same (list-is (c .before .before .before .before .before .before .before .before .before .before .before .before .before .before .before .before .before .before .before .before .before .before .before .list .ensures) (c .before .before .before .before .before .before .before .before .before .before .before .before .before .before .before .before .before .before .before .before .before .n .given .1)) (by-same (items-all _ _ _) (c .before .before .before .before .before .before .before .before .before .before .before .before .before .before .before .before .before .before .before .loop .inv .1 _ _ _ (from-more _ _ (c .before .before .before .before .before .before .before .before .before .before .before .before .before .before .before .before .before .before .loop-test .taken) (then-sure (c .before .before .before .before .before .before .before .before .before .before .before .before .before .before .before .new-line .ensures) (by-same (first-same (group-is (c .before .before .before .before .before .before .before .before .before .before .before .before .group .ensures) (c .before .before .before .before .before .before .before .before .before .before .before .told .ensures) (c .before .before .before .before .before .before .before .before .before .s1 .given .1))) (then-stop (c .before .before .before .before .before .dec .ensures .is) (c .before .before .told2 .ensures) (c .enum-told3 .given .1))))))) }
 
--- src/lib.rt:1113:9
+-- src/lib.rt:1114:9
 ds-add-i : (t : ℕ) → ds-lts.Need-add-i (
   list-reads.Asked,
   list-reads.Learnt,
@@ -4874,7 +4951,7 @@ ds-add-i : (t : ℕ) → ds-lts.Need-add-i (
 ) (ds-at t) ds.Post ds-Inv-loop ds-μ-loop
 ds-add-i t c = omega (arith, c .before .before .before .before .before .before .before .before .before .before .before .before .before .before .before .before .before .before .before .loop-test .taken, c .before .before .before .before .before .before .before .before .before .before .before .before .before .before .before .before .before .before .before .before .before .known-told)
 
--- src/lib.rt:1102:5
+-- src/lib.rt:1103:5
 ds-loop-less : (t : ℕ) → ds-lts.Need-loop-less (
   list-reads.Asked,
   list-reads.Learnt,
@@ -4891,7 +4968,7 @@ ds-loop-less : (t : ℕ) → ds-lts.Need-loop-less (
 ) (ds-at t) ds.Post ds-Inv-loop ds-μ-loop
 ds-loop-less t c = omega arith
 
--- src/lib.rt:1102:5
+-- src/lib.rt:1103:5
 ds-loop-again : (t : ℕ) → ds-lts.Need-loop-again (
   list-reads.Asked,
   list-reads.Learnt,
@@ -4909,7 +4986,7 @@ ds-loop-again : (t : ℕ) → ds-lts.Need-loop-again (
 unfolding GetDec.get-dec Helpers.sep-with-lines
 ds-loop-again t c = (omega (arith, c .before .before .before .before .before .before .before .before .before .before .before .before .before .before .before .before .before .before .before .before .loop .inv .0), λ r m o h. c .before .before .before .before .before .before .before .before .before .before .before .before .before .before .before .before .before .before .before .before .loop .inv .1 r m o (from-more _ _ (c .before .before .before .before .before .before .before .before .before .before .before .before .before .before .before .before .before .before .before .loop-test .taken) (then-sure (c .before .before .before .before .before .before .before .before .before .before .before .before .before .before .before .before .new-line .ensures) (by-same (first-same (group-is (c .before .before .before .before .before .before .before .before .before .before .before .before .before .group .ensures) (c .before .before .before .before .before .before .before .before .before .before .before .before .told .ensures) (c .before .before .before .before .before .before .before .before .before .before .s1 .given .1))) (then-done (c .before .before .before .before .before .before .dec .ensures .is) (c .before .before .before .told2 .ensures) (c .before .s2 .given .1) h)))), c .before .before .before .before .before .before .dec .kept .1 .1 .1 .1 .1 .1 .0 ∙ c .before .before .before .before .before .before .before .before .before .before .before .before .before .before .before .before .new-line .kept .1 .1 .0 ∙ c .before .before .before .before .before .before .before .before .before .before .before .before .before .before .before .before .before .before .before .before .loop .inv .2)
 
--- src/lib.rt:1082:1
+-- src/lib.rt:1083:1
 ds-same-length-3 : (t : ℕ) → ds-lts.Need-same-length-3 (
   list-reads.Asked,
   list-reads.Learnt,
@@ -4926,7 +5003,7 @@ ds-same-length-3 : (t : ℕ) → ds-lts.Need-same-length-3 (
 ) (ds-at t) ds.Post ds-Inv-loop ds-μ-loop
 ds-same-length-3 t c = c .before .loop .inv .2
 
--- src/lib.rt:1082:1
+-- src/lib.rt:1083:1
 ds-returns-4 : (t : ℕ) → ds-lts.Need-returns-4 (
   list-reads.Asked,
   list-reads.Learnt,
@@ -4944,7 +5021,7 @@ ds-returns-4 : (t : ℕ) → ds-lts.Need-returns-4 (
 unfolding GetDec.get-dec Helpers.sep-with-lines
 ds-returns-4 t c = record { is = by-same (list-is (c .before .before .before .before .before .list .ensures) (c .before .before .before .n .given .1)) (by-same (items-all _ _ _) (c .before .loop .inv .1 _ _ _ (from-none _ _ (c .loop-test .left)))) }
 
--- src/lib.rt:616:9
+-- src/lib.rt:617:9
 du-exp-requires : (t : ℕ) → du-lts.Need-exp-requires (
   exp-below t,
   exp.Post,
@@ -4955,7 +5032,7 @@ du-exp-requires : (t : ℕ) → du-lts.Need-exp-requires (
 ) (du-at t) du.Post
 du-exp-requires t c κs = omega (arith, c .before .before .before .before .before .before .before .before .pre .0, c .before .before .before .before .before .before .before .before .pre .1)
 
--- src/lib.rt:617:28
+-- src/lib.rt:618:28
 du-told-requires : (t : ℕ) → du-lts.Need-told-requires (
   exp-below t,
   exp.Post,
@@ -4966,7 +5043,7 @@ du-told-requires : (t : ℕ) → du-lts.Need-told-requires (
 ) (du-at t) du.Post
 du-told-requires t c κs = search needs
 
--- src/lib.rt:617:22
+-- src/lib.rt:618:22
 du-enum-known-s1 : (t : ℕ) → du-lts.Need-enum-known-s1 (
   exp-below t,
   exp.Post,
@@ -4977,7 +5054,7 @@ du-enum-known-s1 : (t : ℕ) → du-lts.Need-enum-known-s1 (
 ) (du-at t) du.Post
 du-enum-known-s1 t c = search needs
 
--- src/lib.rt:618:9
+-- src/lib.rt:619:9
 du-enum-told : (t : ℕ) → du-lts.Need-enum-told (
   exp-below t,
   exp.Post,
@@ -4988,7 +5065,7 @@ du-enum-told : (t : ℕ) → du-lts.Need-enum-told (
 ) (du-at t) du.Post
 du-enum-told t c = search needs
 
--- src/lib.rt:618:9
+-- src/lib.rt:619:9
 du-same-length : (t : ℕ) → du-lts.Need-same-length (
   exp-below t,
   exp.Post,
@@ -4999,7 +5076,7 @@ du-same-length : (t : ℕ) → du-lts.Need-same-length (
 ) (du-at t) du.Post
 du-same-length t c = c .before .before .before .before .before .exp .kept .1 .1 .1 .1 .1 .1 .0
 
--- src/lib.rt:618:9
+-- src/lib.rt:619:9
 du-returns : (t : ℕ) → du-lts.Need-returns (
   exp-below t,
   exp.Post,
@@ -5010,7 +5087,7 @@ du-returns : (t : ℕ) → du-lts.Need-returns (
 ) (du-at t) du.Post
 du-returns t c = record { is = then-stop (c .before .before .before .before .before .exp .ensures .is) (c .before .before .told .ensures) (c .enum-told .given .1) }
 
--- src/lib.rt:620:5
+-- src/lib.rt:621:5
 du-word-requires : (t : ℕ) → du-lts.Need-word-requires (
   exp-below t,
   exp.Post,
@@ -5021,7 +5098,7 @@ du-word-requires : (t : ℕ) → du-lts.Need-word-requires (
 ) (du-at t) du.Post
 du-word-requires t c κs = search needs
 
--- src/lib.rt:621:5
+-- src/lib.rt:622:5
 du-exp-requires-2 : (t : ℕ) → du-lts.Need-exp-requires-2 (
   exp-below t,
   exp.Post,
@@ -5032,7 +5109,7 @@ du-exp-requires-2 : (t : ℕ) → du-lts.Need-exp-requires-2 (
 ) (du-at t) du.Post
 du-exp-requires-2 t c κs = omega (arith, c .before .before .before .before .before .before .before .before .before .before .before .before .before .before .before .before .before .before .before .before .before .before .pre .0, c .before .before .before .before .before .before .before .before .before .before .before .before .before .before .before .before .before .before .before .before .before .before .pre .1)
 
--- src/lib.rt:600:1
+-- src/lib.rt:601:1
 du-same-length-2 : (t : ℕ) → du-lts.Need-same-length-2 (
   exp-below t,
   exp.Post,
@@ -5043,7 +5120,7 @@ du-same-length-2 : (t : ℕ) → du-lts.Need-same-length-2 (
 ) (du-at t) du.Post
 du-same-length-2 t c = c .before .before .exp2 .kept .1 .1 .1 .1 .1 .1 .0 ∙ c .before .before .before .before .before .before .before .word .kept .1 .1 .0 ∙ c .before .before .before .before .before .before .before .before .before .before .before .before .before .before .before .before .exp .kept .1 .1 .1 .1 .1 .1 .0
 
--- src/lib.rt:600:1
+-- src/lib.rt:601:1
 du-returns-2 : (t : ℕ) → du-lts.Need-returns-2 (
   exp-below t,
   exp.Post,
@@ -5054,7 +5131,7 @@ du-returns-2 : (t : ℕ) → du-lts.Need-returns-2 (
 ) (du-at t) du.Post
 du-returns-2 t c = record { is = then-done (c .before .before .before .before .before .before .before .before .before .before .before .before .before .before .before .before .exp .ensures .is) (c .before .before .before .before .before .before .before .before .before .before .before .before .before .told .ensures) (c .before .before .before .before .before .before .before .before .before .before .before .s1 .given .1) (then-sure (c .before .before .before .before .before .before .before .word .ensures) (c .before .before .exp2 .ensures .is)) }
 
--- src/lib.rt:966:9
+-- src/lib.rt:967:9
 exp-stop-requires : (t : ℕ) → exp-lts.Need-stop-requires (
   stop-reads.Asked,
   stop-reads.Learnt,
@@ -5103,7 +5180,7 @@ exp-stop-requires : (t : ℕ) → exp-lts.Need-stop-requires (
 ) (exp-at t) exp.Post
 exp-stop-requires t c κs = search needs
 
--- src/lib.rt:966:9
+-- src/lib.rt:967:9
 exp-returns : (t : ℕ) → exp-lts.Need-returns (
   stop-reads.Asked,
   stop-reads.Learnt,
@@ -5153,7 +5230,7 @@ exp-returns : (t : ℕ) → exp-lts.Need-returns (
 unfolding Exp.exps Exp.exp
 exp-returns t c = record { is = exp-zero _ _ (c .before .if1 .taken) (c .stop .ensures) }
 
--- src/lib.rt:968:26
+-- src/lib.rt:969:26
 exp-form-requires : (t : ℕ) → exp-lts.Need-form-requires (
   stop-reads.Asked,
   stop-reads.Learnt,
@@ -5202,7 +5279,7 @@ exp-form-requires : (t : ℕ) → exp-lts.Need-form-requires (
 ) (exp-at t) exp.Post
 exp-form-requires t c κs = search needs
 
--- src/lib.rt:968:18
+-- src/lib.rt:969:18
 exp-enum-known-k : (t : ℕ) → exp-lts.Need-enum-known-k (
   stop-reads.Asked,
   stop-reads.Learnt,
@@ -5251,7 +5328,7 @@ exp-enum-known-k : (t : ℕ) → exp-lts.Need-enum-known-k (
 ) (exp-at t) exp.Post
 exp-enum-known-k t c = search needs
 
--- src/lib.rt:969:9
+-- src/lib.rt:970:9
 exp-enum-told : (t : ℕ) → exp-lts.Need-enum-told (
   stop-reads.Asked,
   stop-reads.Learnt,
@@ -5300,7 +5377,7 @@ exp-enum-told : (t : ℕ) → exp-lts.Need-enum-told (
 ) (exp-at t) exp.Post
 exp-enum-told t c = search needs
 
--- src/lib.rt:969:9
+-- src/lib.rt:970:9
 exp-stop-requires-2 : (t : ℕ) → exp-lts.Need-stop-requires-2 (
   stop-reads.Asked,
   stop-reads.Learnt,
@@ -5349,7 +5426,7 @@ exp-stop-requires-2 : (t : ℕ) → exp-lts.Need-stop-requires-2 (
 ) (exp-at t) exp.Post
 exp-stop-requires-2 t c κs = search needs
 
--- src/lib.rt:969:9
+-- src/lib.rt:970:9
 exp-returns-2 : (t : ℕ) → exp-lts.Need-returns-2 (
   stop-reads.Asked,
   stop-reads.Learnt,
@@ -5399,7 +5476,7 @@ exp-returns-2 : (t : ℕ) → exp-lts.Need-returns-2 (
 unfolding Exp.exps Exp.exp
 exp-returns-2 t c = record { is = exp-form _ _ (c .before .before .before .before .if1 .left) (form-not (c .stop2 .ensures) (c .before .before .before .form .ensures) (c .before .enum-told .given .1)) }
 
--- src/lib.rt:974:15
+-- src/lib.rt:975:15
 exp-sub-t18 : (t : ℕ) → exp-lts.Need-sub-t18 (
   stop-reads.Asked,
   stop-reads.Learnt,
@@ -5448,7 +5525,7 @@ exp-sub-t18 : (t : ℕ) → exp-lts.Need-sub-t18 (
 ) (exp-at t) exp.Post
 exp-sub-t18 t c = search needs
 
--- src/lib.rt:978:13
+-- src/lib.rt:979:13
 exp-word-requires : (t : ℕ) → exp-lts.Need-word-requires (
   stop-reads.Asked,
   stop-reads.Learnt,
@@ -5497,7 +5574,7 @@ exp-word-requires : (t : ℕ) → exp-lts.Need-word-requires (
 ) (exp-at t) exp.Post
 exp-word-requires t c κs = search needs
 
--- src/lib.rt:982:13
+-- src/lib.rt:983:13
 exp-word-requires-2 : (t : ℕ) → exp-lts.Need-word-requires-2 (
   stop-reads.Asked,
   stop-reads.Learnt,
@@ -5546,7 +5623,7 @@ exp-word-requires-2 : (t : ℕ) → exp-lts.Need-word-requires-2 (
 ) (exp-at t) exp.Post
 exp-word-requires-2 t c κs = search needs
 
--- src/lib.rt:986:13
+-- src/lib.rt:987:13
 exp-word-requires-3 : (t : ℕ) → exp-lts.Need-word-requires-3 (
   stop-reads.Asked,
   stop-reads.Learnt,
@@ -5595,7 +5672,7 @@ exp-word-requires-3 : (t : ℕ) → exp-lts.Need-word-requires-3 (
 ) (exp-at t) exp.Post
 exp-word-requires-3 t c κs = search needs
 
--- src/lib.rt:990:13
+-- src/lib.rt:991:13
 exp-word-requires-4 : (t : ℕ) → exp-lts.Need-word-requires-4 (
   stop-reads.Asked,
   stop-reads.Learnt,
@@ -5644,7 +5721,7 @@ exp-word-requires-4 : (t : ℕ) → exp-lts.Need-word-requires-4 (
 ) (exp-at t) exp.Post
 exp-word-requires-4 t c κs = search needs
 
--- src/lib.rt:993:14
+-- src/lib.rt:994:14
 exp-text-of-requires : (t : ℕ) → exp-lts.Need-text-of-requires (
   stop-reads.Asked,
   stop-reads.Learnt,
@@ -5693,7 +5770,7 @@ exp-text-of-requires : (t : ℕ) → exp-lts.Need-text-of-requires (
 ) (exp-at t) exp.Post
 exp-text-of-requires t c κs = search needs
 
--- src/lib.rt:994:14
+-- src/lib.rt:995:14
 exp-op-path-requires : (t : ℕ) → exp-lts.Need-op-path-requires (
   stop-reads.Asked,
   stop-reads.Learnt,
@@ -5742,7 +5819,7 @@ exp-op-path-requires : (t : ℕ) → exp-lts.Need-op-path-requires (
 ) (exp-at t) exp.Post
 exp-op-path-requires t c κs = search needs
 
--- src/lib.rt:995:14
+-- src/lib.rt:996:14
 exp-rc-requires : (t : ℕ) → exp-lts.Need-rc-requires (
   stop-reads.Asked,
   stop-reads.Learnt,
@@ -5791,7 +5868,7 @@ exp-rc-requires : (t : ℕ) → exp-lts.Need-rc-requires (
 ) (exp-at t) exp.Post
 exp-rc-requires t c κs = omega (arith, c .before .before .before .before .before .before .before .before .before .before .before .before .before .before .pre .0, c .before .before .before .before .before .before .before .before .before .before .before .before .before .before .pre .1, c .before .before .before .before .before .before .before .if1 .left)
 
--- src/lib.rt:996:14
+-- src/lib.rt:997:14
 exp-selector-exp-requires : (t : ℕ) → exp-lts.Need-selector-exp-requires (
   stop-reads.Asked,
   stop-reads.Learnt,
@@ -5840,7 +5917,7 @@ exp-selector-exp-requires : (t : ℕ) → exp-lts.Need-selector-exp-requires (
 ) (exp-at t) exp.Post
 exp-selector-exp-requires t c κs = search needs
 
--- src/lib.rt:997:14
+-- src/lib.rt:998:14
 exp-pa-requires : (t : ℕ) → exp-lts.Need-pa-requires (
   stop-reads.Asked,
   stop-reads.Learnt,
@@ -5889,7 +5966,7 @@ exp-pa-requires : (t : ℕ) → exp-lts.Need-pa-requires (
 ) (exp-at t) exp.Post
 exp-pa-requires t c κs = omega (arith, c .before .before .before .before .before .before .before .before .before .before .before .before .before .before .pre .0, c .before .before .before .before .before .before .before .before .before .before .before .before .before .before .pre .1, c .before .before .before .before .before .before .before .if1 .left)
 
--- src/lib.rt:998:14
+-- src/lib.rt:999:14
 exp-br-requires : (t : ℕ) → exp-lts.Need-br-requires (
   stop-reads.Asked,
   stop-reads.Learnt,
@@ -5938,7 +6015,7 @@ exp-br-requires : (t : ℕ) → exp-lts.Need-br-requires (
 ) (exp-at t) exp.Post
 exp-br-requires t c κs = omega (arith, c .before .before .before .before .before .before .before .before .before .before .before .before .before .before .pre .0, c .before .before .before .before .before .before .before .before .before .before .before .before .before .before .pre .1, c .before .before .before .before .before .before .before .if1 .left)
 
--- src/lib.rt:1012:15
+-- src/lib.rt:1013:15
 exp-br-requires-2 : (t : ℕ) → exp-lts.Need-br-requires-2 (
   stop-reads.Asked,
   stop-reads.Learnt,
@@ -5987,7 +6064,7 @@ exp-br-requires-2 : (t : ℕ) → exp-lts.Need-br-requires-2 (
 ) (exp-at t) exp.Post
 exp-br-requires-2 t c κs = omega (arith, c .before .before .before .before .before .before .before .before .before .before .before .before .before .before .pre .0, c .before .before .before .before .before .before .before .before .before .before .before .before .before .before .pre .1, c .before .before .before .before .before .before .before .if1 .left)
 
--- src/lib.rt:1026:15
+-- src/lib.rt:1027:15
 exp-ve-requires : (t : ℕ) → exp-lts.Need-ve-requires (
   stop-reads.Asked,
   stop-reads.Learnt,
@@ -6036,7 +6113,7 @@ exp-ve-requires : (t : ℕ) → exp-lts.Need-ve-requires (
 ) (exp-at t) exp.Post
 exp-ve-requires t c κs = omega (arith, c .before .before .before .before .before .before .before .before .before .before .before .before .before .before .pre .0, c .before .before .before .before .before .before .before .before .before .before .before .before .before .before .pre .1, c .before .before .before .before .before .before .before .if1 .left)
 
--- src/lib.rt:1027:15
+-- src/lib.rt:1028:15
 exp-seq-requires : (t : ℕ) → exp-lts.Need-seq-requires (
   stop-reads.Asked,
   stop-reads.Learnt,
@@ -6085,7 +6162,7 @@ exp-seq-requires : (t : ℕ) → exp-lts.Need-seq-requires (
 ) (exp-at t) exp.Post
 exp-seq-requires t c κs = omega (arith, c .before .before .before .before .before .before .before .before .before .before .before .before .before .before .pre .0, c .before .before .before .before .before .before .before .before .before .before .before .before .before .before .pre .1, c .before .before .before .before .before .before .before .if1 .left)
 
--- src/lib.rt:1028:15
+-- src/lib.rt:1029:15
 exp-lx-requires : (t : ℕ) → exp-lts.Need-lx-requires (
   stop-reads.Asked,
   stop-reads.Learnt,
@@ -6134,7 +6211,7 @@ exp-lx-requires : (t : ℕ) → exp-lts.Need-lx-requires (
 ) (exp-at t) exp.Post
 exp-lx-requires t c κs = omega (arith, c .before .before .before .before .before .before .before .before .before .before .before .before .before .before .pre .0, c .before .before .before .before .before .before .before .before .before .before .before .before .before .before .pre .1, c .before .before .before .before .before .before .before .if1 .left)
 
--- src/lib.rt:1029:15
+-- src/lib.rt:1030:15
 exp-app-requires : (t : ℕ) → exp-lts.Need-app-requires (
   stop-reads.Asked,
   stop-reads.Learnt,
@@ -6183,7 +6260,7 @@ exp-app-requires : (t : ℕ) → exp-lts.Need-app-requires (
 ) (exp-at t) exp.Post
 exp-app-requires t c κs = omega (arith, c .before .before .before .before .before .before .before .before .before .before .before .before .before .before .pre .0, c .before .before .before .before .before .before .before .before .before .before .before .before .before .before .pre .1, c .before .before .before .before .before .before .before .if1 .left)
 
--- src/lib.rt:1030:15
+-- src/lib.rt:1031:15
 exp-fx-requires : (t : ℕ) → exp-lts.Need-fx-requires (
   stop-reads.Asked,
   stop-reads.Learnt,
@@ -6232,7 +6309,7 @@ exp-fx-requires : (t : ℕ) → exp-lts.Need-fx-requires (
 ) (exp-at t) exp.Post
 exp-fx-requires t c κs = omega (arith, c .before .before .before .before .before .before .before .before .before .before .before .before .before .before .pre .0, c .before .before .before .before .before .before .before .before .before .before .before .before .before .before .pre .1, c .before .before .before .before .before .before .before .if1 .left)
 
--- src/lib.rt:1031:15
+-- src/lib.rt:1032:15
 exp-ty-requires : (t : ℕ) → exp-lts.Need-ty-requires (
   stop-reads.Asked,
   stop-reads.Learnt,
@@ -6281,7 +6358,7 @@ exp-ty-requires : (t : ℕ) → exp-lts.Need-ty-requires (
 ) (exp-at t) exp.Post
 exp-ty-requires t c κs = omega (arith, c .before .before .before .before .before .before .before .before .before .before .before .before .before .before .pre .0, c .before .before .before .before .before .before .before .before .before .before .before .before .before .before .pre .1, c .before .before .before .before .before .before .before .if1 .left)
 
--- src/lib.rt:1032:15
+-- src/lib.rt:1033:15
 exp-du-requires : (t : ℕ) → exp-lts.Need-du-requires (
   stop-reads.Asked,
   stop-reads.Learnt,
@@ -6330,7 +6407,7 @@ exp-du-requires : (t : ℕ) → exp-lts.Need-du-requires (
 ) (exp-at t) exp.Post
 exp-du-requires t c κs = omega (arith, c .before .before .before .before .before .before .before .before .before .before .before .before .before .before .pre .0, c .before .before .before .before .before .before .before .before .before .before .before .before .before .before .pre .1, c .before .before .before .before .before .before .before .if1 .left)
 
--- src/lib.rt:1045:15
+-- src/lib.rt:1046:15
 exp-du-requires-2 : (t : ℕ) → exp-lts.Need-du-requires-2 (
   stop-reads.Asked,
   stop-reads.Learnt,
@@ -6379,7 +6456,7 @@ exp-du-requires-2 : (t : ℕ) → exp-lts.Need-du-requires-2 (
 ) (exp-at t) exp.Post
 exp-du-requires-2 t c κs = omega (arith, c .before .before .before .before .before .before .before .before .before .before .before .before .before .before .pre .0, c .before .before .before .before .before .before .before .before .before .before .before .before .before .before .pre .1, c .before .before .before .before .before .before .before .if1 .left)
 
--- src/lib.rt:1058:15
+-- src/lib.rt:1059:15
 exp-ha-requires : (t : ℕ) → exp-lts.Need-ha-requires (
   stop-reads.Asked,
   stop-reads.Learnt,
@@ -6428,7 +6505,7 @@ exp-ha-requires : (t : ℕ) → exp-lts.Need-ha-requires (
 ) (exp-at t) exp.Post
 exp-ha-requires t c κs = omega (arith, c .before .before .before .before .before .before .before .before .before .before .before .before .before .before .pre .0, c .before .before .before .before .before .before .before .before .before .before .before .before .before .before .pre .1, c .before .before .before .before .before .before .before .if1 .left)
 
--- src/lib.rt:1071:15
+-- src/lib.rt:1072:15
 exp-pr-requires : (t : ℕ) → exp-lts.Need-pr-requires (
   stop-reads.Asked,
   stop-reads.Learnt,
@@ -6477,7 +6554,7 @@ exp-pr-requires : (t : ℕ) → exp-lts.Need-pr-requires (
 ) (exp-at t) exp.Post
 exp-pr-requires t c κs = omega (arith, c .before .before .before .before .before .before .before .before .before .before .before .before .before .before .pre .0, c .before .before .before .before .before .before .before .before .before .before .before .before .before .before .pre .1, c .before .before .before .before .before .before .before .if1 .left)
 
--- src/lib.rt:1072:15
+-- src/lib.rt:1073:15
 exp-ie-requires : (t : ℕ) → exp-lts.Need-ie-requires (
   stop-reads.Asked,
   stop-reads.Learnt,
@@ -6526,7 +6603,7 @@ exp-ie-requires : (t : ℕ) → exp-lts.Need-ie-requires (
 ) (exp-at t) exp.Post
 exp-ie-requires t c κs = omega (arith, c .before .before .before .before .before .before .before .before .before .before .before .before .before .before .pre .0, c .before .before .before .before .before .before .before .before .before .before .before .before .before .before .pre .1, c .before .before .before .before .before .before .before .if1 .left)
 
--- src/lib.rt:1073:15
+-- src/lib.rt:1074:15
 exp-wh-requires : (t : ℕ) → exp-lts.Need-wh-requires (
   stop-reads.Asked,
   stop-reads.Learnt,
@@ -6575,7 +6652,7 @@ exp-wh-requires : (t : ℕ) → exp-lts.Need-wh-requires (
 ) (exp-at t) exp.Post
 exp-wh-requires t c κs = omega (arith, c .before .before .before .before .before .before .before .before .before .before .before .before .before .before .pre .0, c .before .before .before .before .before .before .before .before .before .before .before .before .before .before .pre .1, c .before .before .before .before .before .before .before .if1 .left)
 
--- src/lib.rt:1074:15
+-- src/lib.rt:1075:15
 exp-ca-requires : (t : ℕ) → exp-lts.Need-ca-requires (
   stop-reads.Asked,
   stop-reads.Learnt,
@@ -6624,7 +6701,7 @@ exp-ca-requires : (t : ℕ) → exp-lts.Need-ca-requires (
 ) (exp-at t) exp.Post
 exp-ca-requires t c κs = omega (arith, c .before .before .before .before .before .before .before .before .before .before .before .before .before .before .pre .0, c .before .before .before .before .before .before .before .before .before .before .before .before .before .before .pre .1, c .before .before .before .before .before .before .before .if1 .left)
 
--- src/lib.rt:1075:15
+-- src/lib.rt:1076:15
 exp-fe-requires : (t : ℕ) → exp-lts.Need-fe-requires (
   stop-reads.Asked,
   stop-reads.Learnt,
@@ -6673,7 +6750,7 @@ exp-fe-requires : (t : ℕ) → exp-lts.Need-fe-requires (
 ) (exp-at t) exp.Post
 exp-fe-requires t c κs = omega (arith, c .before .before .before .before .before .before .before .before .before .before .before .before .before .before .pre .0, c .before .before .before .before .before .before .before .before .before .before .before .before .before .before .pre .1, c .before .before .before .before .before .before .before .if1 .left)
 
--- src/lib.rt:1076:14
+-- src/lib.rt:1077:14
 exp-stop-requires-3 : (t : ℕ) → exp-lts.Need-stop-requires-3 (
   stop-reads.Asked,
   stop-reads.Learnt,
@@ -6722,7 +6799,7 @@ exp-stop-requires-3 : (t : ℕ) → exp-lts.Need-stop-requires-3 (
 ) (exp-at t) exp.Post
 exp-stop-requires-3 t c κs = search needs
 
--- src/lib.rt:949:1
+-- src/lib.rt:950:1
 exp-same-length : (t : ℕ) → exp-lts.Need-same-length (
   stop-reads.Asked,
   stop-reads.Learnt,
@@ -6771,7 +6848,7 @@ exp-same-length : (t : ℕ) → exp-lts.Need-same-length (
 ) (exp-at t) exp.Post
 exp-same-length t c = c .before .before .word .kept .1 .1 .0
 
--- src/lib.rt:949:1
+-- src/lib.rt:950:1
 exp-returns-3 : (t : ℕ) → exp-lts.Need-returns-3 (
   stop-reads.Asked,
   stop-reads.Learnt,
@@ -6821,7 +6898,7 @@ exp-returns-3 : (t : ℕ) → exp-lts.Need-returns-3 (
 unfolding Exp.exps Exp.exp
 exp-returns-3 t c = record { is = exp-form _ _ (c .before .before .before .before .before .before .before .before .before .before .if1 .left) (form-key (c .before .before .before .before .before .before .before .before .before .form .ensures) (c .before .before .before .before .before .before .before .k .given .1) (c .before .before .before .before .before .match2 .keys1) (last-sure (c .before .before .word .ensures))) }
 
--- src/lib.rt:949:1
+-- src/lib.rt:950:1
 exp-same-length-2 : (t : ℕ) → exp-lts.Need-same-length-2 (
   stop-reads.Asked,
   stop-reads.Learnt,
@@ -6870,7 +6947,7 @@ exp-same-length-2 : (t : ℕ) → exp-lts.Need-same-length-2 (
 ) (exp-at t) exp.Post
 exp-same-length-2 t c = c .before .before .word2 .kept .1 .1 .0
 
--- src/lib.rt:949:1
+-- src/lib.rt:950:1
 exp-returns-4 : (t : ℕ) → exp-lts.Need-returns-4 (
   stop-reads.Asked,
   stop-reads.Learnt,
@@ -6920,7 +6997,7 @@ exp-returns-4 : (t : ℕ) → exp-lts.Need-returns-4 (
 unfolding Exp.exps Exp.exp
 exp-returns-4 t c = record { is = exp-form _ _ (c .before .before .before .before .before .before .before .before .before .before .if1 .left) (form-key (c .before .before .before .before .before .before .before .before .before .form .ensures) (c .before .before .before .before .before .before .before .k .given .1) (c .before .before .before .before .before .match2 .keys2) (last-sure (c .before .before .word2 .ensures))) }
 
--- src/lib.rt:949:1
+-- src/lib.rt:950:1
 exp-same-length-3 : (t : ℕ) → exp-lts.Need-same-length-3 (
   stop-reads.Asked,
   stop-reads.Learnt,
@@ -6969,7 +7046,7 @@ exp-same-length-3 : (t : ℕ) → exp-lts.Need-same-length-3 (
 ) (exp-at t) exp.Post
 exp-same-length-3 t c = c .before .before .word3 .kept .1 .1 .0
 
--- src/lib.rt:949:1
+-- src/lib.rt:950:1
 exp-returns-5 : (t : ℕ) → exp-lts.Need-returns-5 (
   stop-reads.Asked,
   stop-reads.Learnt,
@@ -7019,7 +7096,7 @@ exp-returns-5 : (t : ℕ) → exp-lts.Need-returns-5 (
 unfolding Exp.exps Exp.exp
 exp-returns-5 t c = record { is = exp-form _ _ (c .before .before .before .before .before .before .before .before .before .before .if1 .left) (form-key (c .before .before .before .before .before .before .before .before .before .form .ensures) (c .before .before .before .before .before .before .before .k .given .1) (c .before .before .before .before .before .match2 .keys3) (last-sure (c .before .before .word3 .ensures))) }
 
--- src/lib.rt:949:1
+-- src/lib.rt:950:1
 exp-same-length-4 : (t : ℕ) → exp-lts.Need-same-length-4 (
   stop-reads.Asked,
   stop-reads.Learnt,
@@ -7068,7 +7145,7 @@ exp-same-length-4 : (t : ℕ) → exp-lts.Need-same-length-4 (
 ) (exp-at t) exp.Post
 exp-same-length-4 t c = c .before .before .word4 .kept .1 .1 .0
 
--- src/lib.rt:949:1
+-- src/lib.rt:950:1
 exp-returns-6 : (t : ℕ) → exp-lts.Need-returns-6 (
   stop-reads.Asked,
   stop-reads.Learnt,
@@ -7118,7 +7195,7 @@ exp-returns-6 : (t : ℕ) → exp-lts.Need-returns-6 (
 unfolding Exp.exps Exp.exp
 exp-returns-6 t c = record { is = exp-form _ _ (c .before .before .before .before .before .before .before .before .before .before .if1 .left) (form-key (c .before .before .before .before .before .before .before .before .before .form .ensures) (c .before .before .before .before .before .before .before .k .given .1) (c .before .before .before .before .before .match2 .keys4) (last-sure (c .before .before .word4 .ensures))) }
 
--- src/lib.rt:949:1
+-- src/lib.rt:950:1
 exp-same-length-5 : (t : ℕ) → exp-lts.Need-same-length-5 (
   stop-reads.Asked,
   stop-reads.Learnt,
@@ -7167,7 +7244,7 @@ exp-same-length-5 : (t : ℕ) → exp-lts.Need-same-length-5 (
 ) (exp-at t) exp.Post
 exp-same-length-5 t c = c .before .before .text-of .kept .1 .1 .1 .1 .1 .0
 
--- src/lib.rt:949:1
+-- src/lib.rt:950:1
 exp-returns-7 : (t : ℕ) → exp-lts.Need-returns-7 (
   stop-reads.Asked,
   stop-reads.Learnt,
@@ -7217,7 +7294,7 @@ exp-returns-7 : (t : ℕ) → exp-lts.Need-returns-7 (
 unfolding Exp.exps Exp.exp
 exp-returns-7 t c = record { is = exp-form _ _ (c .before .before .before .before .before .before .before .before .before .before .if1 .left) (form-key (c .before .before .before .before .before .before .before .before .before .form .ensures) (c .before .before .before .before .before .before .before .k .given .1) (c .before .before .before .before .before .match2 .keys5) (plain (c .before .before .text-of .ensures))) }
 
--- src/lib.rt:949:1
+-- src/lib.rt:950:1
 exp-same-length-6 : (t : ℕ) → exp-lts.Need-same-length-6 (
   stop-reads.Asked,
   stop-reads.Learnt,
@@ -7266,7 +7343,7 @@ exp-same-length-6 : (t : ℕ) → exp-lts.Need-same-length-6 (
 ) (exp-at t) exp.Post
 exp-same-length-6 t c = c .before .before .op-path .kept .1 .1 .1 .1 .1 .0
 
--- src/lib.rt:949:1
+-- src/lib.rt:950:1
 exp-returns-8 : (t : ℕ) → exp-lts.Need-returns-8 (
   stop-reads.Asked,
   stop-reads.Learnt,
@@ -7316,7 +7393,7 @@ exp-returns-8 : (t : ℕ) → exp-lts.Need-returns-8 (
 unfolding Exp.exps Exp.exp
 exp-returns-8 t c = record { is = exp-form _ _ (c .before .before .before .before .before .before .before .before .before .before .if1 .left) (form-key (c .before .before .before .before .before .before .before .before .before .form .ensures) (c .before .before .before .before .before .before .before .k .given .1) (c .before .before .before .before .before .match2 .keys6) (plain (c .before .before .op-path .ensures))) }
 
--- src/lib.rt:949:1
+-- src/lib.rt:950:1
 exp-same-length-7 : (t : ℕ) → exp-lts.Need-same-length-7 (
   stop-reads.Asked,
   stop-reads.Learnt,
@@ -7365,7 +7442,7 @@ exp-same-length-7 : (t : ℕ) → exp-lts.Need-same-length-7 (
 ) (exp-at t) exp.Post
 exp-same-length-7 t c = c .before .before .rc .kept .1 .1 .1 .1 .1 .1 .0
 
--- src/lib.rt:949:1
+-- src/lib.rt:950:1
 exp-returns-9 : (t : ℕ) → exp-lts.Need-returns-9 (
   stop-reads.Asked,
   stop-reads.Learnt,
@@ -7415,7 +7492,7 @@ exp-returns-9 : (t : ℕ) → exp-lts.Need-returns-9 (
 unfolding Exp.exps Exp.exp
 exp-returns-9 t c = record { is = exp-form _ _ (c .before .before .before .before .before .before .before .before .before .before .if1 .left) (form-key (c .before .before .before .before .before .before .before .before .before .form .ensures) (c .before .before .before .before .before .before .before .k .given .1) (c .before .before .before .before .before .match2 .keys7) (c .before .before .rc .ensures .is)) }
 
--- src/lib.rt:949:1
+-- src/lib.rt:950:1
 exp-same-length-8 : (t : ℕ) → exp-lts.Need-same-length-8 (
   stop-reads.Asked,
   stop-reads.Learnt,
@@ -7464,7 +7541,7 @@ exp-same-length-8 : (t : ℕ) → exp-lts.Need-same-length-8 (
 ) (exp-at t) exp.Post
 exp-same-length-8 t c = c .before .before .selector-exp .kept .1 .1 .1 .1 .1 .0
 
--- src/lib.rt:949:1
+-- src/lib.rt:950:1
 exp-returns-10 : (t : ℕ) → exp-lts.Need-returns-10 (
   stop-reads.Asked,
   stop-reads.Learnt,
@@ -7514,7 +7591,7 @@ exp-returns-10 : (t : ℕ) → exp-lts.Need-returns-10 (
 unfolding Exp.exps Exp.exp
 exp-returns-10 t c = record { is = exp-form _ _ (c .before .before .before .before .before .before .before .before .before .before .if1 .left) (form-key (c .before .before .before .before .before .before .before .before .before .form .ensures) (c .before .before .before .before .before .before .before .k .given .1) (c .before .before .before .before .before .match2 .keys8) (plain (c .before .before .selector-exp .ensures))) }
 
--- src/lib.rt:949:1
+-- src/lib.rt:950:1
 exp-same-length-9 : (t : ℕ) → exp-lts.Need-same-length-9 (
   stop-reads.Asked,
   stop-reads.Learnt,
@@ -7563,7 +7640,7 @@ exp-same-length-9 : (t : ℕ) → exp-lts.Need-same-length-9 (
 ) (exp-at t) exp.Post
 exp-same-length-9 t c = c .before .before .pa .kept .1 .1 .1 .1 .1 .1 .0
 
--- src/lib.rt:949:1
+-- src/lib.rt:950:1
 exp-returns-11 : (t : ℕ) → exp-lts.Need-returns-11 (
   stop-reads.Asked,
   stop-reads.Learnt,
@@ -7613,7 +7690,7 @@ exp-returns-11 : (t : ℕ) → exp-lts.Need-returns-11 (
 unfolding Exp.exps Exp.exp
 exp-returns-11 t c = record { is = exp-form _ _ (c .before .before .before .before .before .before .before .before .before .before .if1 .left) (form-key (c .before .before .before .before .before .before .before .before .before .form .ensures) (c .before .before .before .before .before .before .before .k .given .1) (c .before .before .before .before .before .match2 .keys9) (c .before .before .pa .ensures .is)) }
 
--- src/lib.rt:949:1
+-- src/lib.rt:950:1
 exp-same-length-10 : (t : ℕ) → exp-lts.Need-same-length-10 (
   stop-reads.Asked,
   stop-reads.Learnt,
@@ -7662,7 +7739,7 @@ exp-same-length-10 : (t : ℕ) → exp-lts.Need-same-length-10 (
 ) (exp-at t) exp.Post
 exp-same-length-10 t c = c .before .before .br .kept .1 .1 .1 .1 .1 .1 .0
 
--- src/lib.rt:949:1
+-- src/lib.rt:950:1
 exp-returns-12 : (t : ℕ) → exp-lts.Need-returns-12 (
   stop-reads.Asked,
   stop-reads.Learnt,
@@ -7712,7 +7789,7 @@ exp-returns-12 : (t : ℕ) → exp-lts.Need-returns-12 (
 unfolding Exp.exps Exp.exp
 exp-returns-12 t c = record { is = exp-form _ _ (c .before .before .before .before .before .before .before .before .before .before .if1 .left) (form-key (c .before .before .before .before .before .before .before .before .before .form .ensures) (c .before .before .before .before .before .before .before .k .given .1) (c .before .before .before .before .before .match2 .keys10) (c .before .before .br .ensures .is)) }
 
--- src/lib.rt:949:1
+-- src/lib.rt:950:1
 exp-same-length-11 : (t : ℕ) → exp-lts.Need-same-length-11 (
   stop-reads.Asked,
   stop-reads.Learnt,
@@ -7761,7 +7838,7 @@ exp-same-length-11 : (t : ℕ) → exp-lts.Need-same-length-11 (
 ) (exp-at t) exp.Post
 exp-same-length-11 t c = c .before .before .br2 .kept .1 .1 .1 .1 .1 .1 .0
 
--- src/lib.rt:949:1
+-- src/lib.rt:950:1
 exp-returns-13 : (t : ℕ) → exp-lts.Need-returns-13 (
   stop-reads.Asked,
   stop-reads.Learnt,
@@ -7811,7 +7888,7 @@ exp-returns-13 : (t : ℕ) → exp-lts.Need-returns-13 (
 unfolding Exp.exps Exp.exp
 exp-returns-13 t c = record { is = exp-form _ _ (c .before .before .before .before .before .before .before .before .before .before .if1 .left) (form-key (c .before .before .before .before .before .before .before .before .before .form .ensures) (c .before .before .before .before .before .before .before .k .given .1) (c .before .before .before .before .before .match2 .keys11) (c .before .before .br2 .ensures .is)) }
 
--- src/lib.rt:949:1
+-- src/lib.rt:950:1
 exp-same-length-12 : (t : ℕ) → exp-lts.Need-same-length-12 (
   stop-reads.Asked,
   stop-reads.Learnt,
@@ -7860,7 +7937,7 @@ exp-same-length-12 : (t : ℕ) → exp-lts.Need-same-length-12 (
 ) (exp-at t) exp.Post
 exp-same-length-12 t c = c .before .before .ve .kept .1 .1 .1 .1 .1 .1 .0
 
--- src/lib.rt:949:1
+-- src/lib.rt:950:1
 exp-returns-14 : (t : ℕ) → exp-lts.Need-returns-14 (
   stop-reads.Asked,
   stop-reads.Learnt,
@@ -7910,7 +7987,7 @@ exp-returns-14 : (t : ℕ) → exp-lts.Need-returns-14 (
 unfolding Exp.exps Exp.exp
 exp-returns-14 t c = record { is = exp-form _ _ (c .before .before .before .before .before .before .before .before .before .before .if1 .left) (form-key (c .before .before .before .before .before .before .before .before .before .form .ensures) (c .before .before .before .before .before .before .before .k .given .1) (c .before .before .before .before .before .match2 .keys12) (c .before .before .ve .ensures .is)) }
 
--- src/lib.rt:949:1
+-- src/lib.rt:950:1
 exp-same-length-13 : (t : ℕ) → exp-lts.Need-same-length-13 (
   stop-reads.Asked,
   stop-reads.Learnt,
@@ -7959,7 +8036,7 @@ exp-same-length-13 : (t : ℕ) → exp-lts.Need-same-length-13 (
 ) (exp-at t) exp.Post
 exp-same-length-13 t c = c .before .before .seq .kept .1 .1 .1 .1 .1 .1 .0
 
--- src/lib.rt:949:1
+-- src/lib.rt:950:1
 exp-returns-15 : (t : ℕ) → exp-lts.Need-returns-15 (
   stop-reads.Asked,
   stop-reads.Learnt,
@@ -8009,7 +8086,7 @@ exp-returns-15 : (t : ℕ) → exp-lts.Need-returns-15 (
 unfolding Exp.exps Exp.exp
 exp-returns-15 t c = record { is = exp-form _ _ (c .before .before .before .before .before .before .before .before .before .before .if1 .left) (form-key (c .before .before .before .before .before .before .before .before .before .form .ensures) (c .before .before .before .before .before .before .before .k .given .1) (c .before .before .before .before .before .match2 .keys13) (c .before .before .seq .ensures .is)) }
 
--- src/lib.rt:949:1
+-- src/lib.rt:950:1
 exp-same-length-14 : (t : ℕ) → exp-lts.Need-same-length-14 (
   stop-reads.Asked,
   stop-reads.Learnt,
@@ -8058,7 +8135,7 @@ exp-same-length-14 : (t : ℕ) → exp-lts.Need-same-length-14 (
 ) (exp-at t) exp.Post
 exp-same-length-14 t c = c .before .before .lx .kept .1 .1 .1 .1 .1 .1 .0
 
--- src/lib.rt:949:1
+-- src/lib.rt:950:1
 exp-returns-16 : (t : ℕ) → exp-lts.Need-returns-16 (
   stop-reads.Asked,
   stop-reads.Learnt,
@@ -8108,7 +8185,7 @@ exp-returns-16 : (t : ℕ) → exp-lts.Need-returns-16 (
 unfolding Exp.exps Exp.exp
 exp-returns-16 t c = record { is = exp-form _ _ (c .before .before .before .before .before .before .before .before .before .before .if1 .left) (form-key (c .before .before .before .before .before .before .before .before .before .form .ensures) (c .before .before .before .before .before .before .before .k .given .1) (c .before .before .before .before .before .match2 .keys14) (c .before .before .lx .ensures .is)) }
 
--- src/lib.rt:949:1
+-- src/lib.rt:950:1
 exp-same-length-15 : (t : ℕ) → exp-lts.Need-same-length-15 (
   stop-reads.Asked,
   stop-reads.Learnt,
@@ -8157,7 +8234,7 @@ exp-same-length-15 : (t : ℕ) → exp-lts.Need-same-length-15 (
 ) (exp-at t) exp.Post
 exp-same-length-15 t c = c .before .before .app .kept .1 .1 .1 .1 .1 .1 .0
 
--- src/lib.rt:949:1
+-- src/lib.rt:950:1
 exp-returns-17 : (t : ℕ) → exp-lts.Need-returns-17 (
   stop-reads.Asked,
   stop-reads.Learnt,
@@ -8207,7 +8284,7 @@ exp-returns-17 : (t : ℕ) → exp-lts.Need-returns-17 (
 unfolding Exp.exps Exp.exp
 exp-returns-17 t c = record { is = exp-form _ _ (c .before .before .before .before .before .before .before .before .before .before .if1 .left) (form-key (c .before .before .before .before .before .before .before .before .before .form .ensures) (c .before .before .before .before .before .before .before .k .given .1) (c .before .before .before .before .before .match2 .keys15) (c .before .before .app .ensures .is)) }
 
--- src/lib.rt:949:1
+-- src/lib.rt:950:1
 exp-same-length-16 : (t : ℕ) → exp-lts.Need-same-length-16 (
   stop-reads.Asked,
   stop-reads.Learnt,
@@ -8256,7 +8333,7 @@ exp-same-length-16 : (t : ℕ) → exp-lts.Need-same-length-16 (
 ) (exp-at t) exp.Post
 exp-same-length-16 t c = c .before .before .fx .kept .1 .1 .1 .1 .1 .1 .0
 
--- src/lib.rt:949:1
+-- src/lib.rt:950:1
 exp-returns-18 : (t : ℕ) → exp-lts.Need-returns-18 (
   stop-reads.Asked,
   stop-reads.Learnt,
@@ -8306,7 +8383,7 @@ exp-returns-18 : (t : ℕ) → exp-lts.Need-returns-18 (
 unfolding Exp.exps Exp.exp
 exp-returns-18 t c = record { is = exp-form _ _ (c .before .before .before .before .before .before .before .before .before .before .if1 .left) (form-key (c .before .before .before .before .before .before .before .before .before .form .ensures) (c .before .before .before .before .before .before .before .k .given .1) (c .before .before .before .before .before .match2 .keys16) (c .before .before .fx .ensures .is)) }
 
--- src/lib.rt:949:1
+-- src/lib.rt:950:1
 exp-same-length-17 : (t : ℕ) → exp-lts.Need-same-length-17 (
   stop-reads.Asked,
   stop-reads.Learnt,
@@ -8355,7 +8432,7 @@ exp-same-length-17 : (t : ℕ) → exp-lts.Need-same-length-17 (
 ) (exp-at t) exp.Post
 exp-same-length-17 t c = c .before .before .ty .kept .1 .1 .1 .1 .1 .1 .0
 
--- src/lib.rt:949:1
+-- src/lib.rt:950:1
 exp-returns-19 : (t : ℕ) → exp-lts.Need-returns-19 (
   stop-reads.Asked,
   stop-reads.Learnt,
@@ -8405,7 +8482,7 @@ exp-returns-19 : (t : ℕ) → exp-lts.Need-returns-19 (
 unfolding Exp.exps Exp.exp
 exp-returns-19 t c = record { is = exp-form _ _ (c .before .before .before .before .before .before .before .before .before .before .if1 .left) (form-key (c .before .before .before .before .before .before .before .before .before .form .ensures) (c .before .before .before .before .before .before .before .k .given .1) (c .before .before .before .before .before .match2 .keys17) (c .before .before .ty .ensures .is)) }
 
--- src/lib.rt:949:1
+-- src/lib.rt:950:1
 exp-same-length-18 : (t : ℕ) → exp-lts.Need-same-length-18 (
   stop-reads.Asked,
   stop-reads.Learnt,
@@ -8454,7 +8531,7 @@ exp-same-length-18 : (t : ℕ) → exp-lts.Need-same-length-18 (
 ) (exp-at t) exp.Post
 exp-same-length-18 t c = c .before .before .du .kept .1 .1 .1 .1 .1 .1 .0
 
--- src/lib.rt:949:1
+-- src/lib.rt:950:1
 exp-returns-20 : (t : ℕ) → exp-lts.Need-returns-20 (
   stop-reads.Asked,
   stop-reads.Learnt,
@@ -8504,7 +8581,7 @@ exp-returns-20 : (t : ℕ) → exp-lts.Need-returns-20 (
 unfolding Exp.exps Exp.exp
 exp-returns-20 t c = record { is = exp-form _ _ (c .before .before .before .before .before .before .before .before .before .before .if1 .left) (form-key (c .before .before .before .before .before .before .before .before .before .form .ensures) (c .before .before .before .before .before .before .before .k .given .1) (c .before .before .before .before .before .match2 .keys18) (c .before .before .du .ensures .is)) }
 
--- src/lib.rt:949:1
+-- src/lib.rt:950:1
 exp-same-length-19 : (t : ℕ) → exp-lts.Need-same-length-19 (
   stop-reads.Asked,
   stop-reads.Learnt,
@@ -8553,7 +8630,7 @@ exp-same-length-19 : (t : ℕ) → exp-lts.Need-same-length-19 (
 ) (exp-at t) exp.Post
 exp-same-length-19 t c = c .before .before .du2 .kept .1 .1 .1 .1 .1 .1 .0
 
--- src/lib.rt:949:1
+-- src/lib.rt:950:1
 exp-returns-21 : (t : ℕ) → exp-lts.Need-returns-21 (
   stop-reads.Asked,
   stop-reads.Learnt,
@@ -8603,7 +8680,7 @@ exp-returns-21 : (t : ℕ) → exp-lts.Need-returns-21 (
 unfolding Exp.exps Exp.exp
 exp-returns-21 t c = record { is = exp-form _ _ (c .before .before .before .before .before .before .before .before .before .before .if1 .left) (form-key (c .before .before .before .before .before .before .before .before .before .form .ensures) (c .before .before .before .before .before .before .before .k .given .1) (c .before .before .before .before .before .match2 .keys19) (c .before .before .du2 .ensures .is)) }
 
--- src/lib.rt:949:1
+-- src/lib.rt:950:1
 exp-same-length-20 : (t : ℕ) → exp-lts.Need-same-length-20 (
   stop-reads.Asked,
   stop-reads.Learnt,
@@ -8652,7 +8729,7 @@ exp-same-length-20 : (t : ℕ) → exp-lts.Need-same-length-20 (
 ) (exp-at t) exp.Post
 exp-same-length-20 t c = c .before .before .ha .kept .1 .1 .1 .1 .1 .1 .0
 
--- src/lib.rt:949:1
+-- src/lib.rt:950:1
 exp-returns-22 : (t : ℕ) → exp-lts.Need-returns-22 (
   stop-reads.Asked,
   stop-reads.Learnt,
@@ -8702,7 +8779,7 @@ exp-returns-22 : (t : ℕ) → exp-lts.Need-returns-22 (
 unfolding Exp.exps Exp.exp
 exp-returns-22 t c = record { is = exp-form _ _ (c .before .before .before .before .before .before .before .before .before .before .if1 .left) (form-key (c .before .before .before .before .before .before .before .before .before .form .ensures) (c .before .before .before .before .before .before .before .k .given .1) (c .before .before .before .before .before .match2 .keys20) (c .before .before .ha .ensures .is)) }
 
--- src/lib.rt:949:1
+-- src/lib.rt:950:1
 exp-same-length-21 : (t : ℕ) → exp-lts.Need-same-length-21 (
   stop-reads.Asked,
   stop-reads.Learnt,
@@ -8751,7 +8828,7 @@ exp-same-length-21 : (t : ℕ) → exp-lts.Need-same-length-21 (
 ) (exp-at t) exp.Post
 exp-same-length-21 t c = c .before .before .pr .kept .1 .1 .1 .1 .1 .1 .0
 
--- src/lib.rt:949:1
+-- src/lib.rt:950:1
 exp-returns-23 : (t : ℕ) → exp-lts.Need-returns-23 (
   stop-reads.Asked,
   stop-reads.Learnt,
@@ -8801,7 +8878,7 @@ exp-returns-23 : (t : ℕ) → exp-lts.Need-returns-23 (
 unfolding Exp.exps Exp.exp
 exp-returns-23 t c = record { is = exp-form _ _ (c .before .before .before .before .before .before .before .before .before .before .if1 .left) (form-key (c .before .before .before .before .before .before .before .before .before .form .ensures) (c .before .before .before .before .before .before .before .k .given .1) (c .before .before .before .before .before .match2 .keys21) (c .before .before .pr .ensures .is)) }
 
--- src/lib.rt:949:1
+-- src/lib.rt:950:1
 exp-same-length-22 : (t : ℕ) → exp-lts.Need-same-length-22 (
   stop-reads.Asked,
   stop-reads.Learnt,
@@ -8850,7 +8927,7 @@ exp-same-length-22 : (t : ℕ) → exp-lts.Need-same-length-22 (
 ) (exp-at t) exp.Post
 exp-same-length-22 t c = c .before .before .ie .kept .1 .1 .1 .1 .1 .1 .0
 
--- src/lib.rt:949:1
+-- src/lib.rt:950:1
 exp-returns-24 : (t : ℕ) → exp-lts.Need-returns-24 (
   stop-reads.Asked,
   stop-reads.Learnt,
@@ -8900,7 +8977,7 @@ exp-returns-24 : (t : ℕ) → exp-lts.Need-returns-24 (
 unfolding Exp.exps Exp.exp
 exp-returns-24 t c = record { is = exp-form _ _ (c .before .before .before .before .before .before .before .before .before .before .if1 .left) (form-key (c .before .before .before .before .before .before .before .before .before .form .ensures) (c .before .before .before .before .before .before .before .k .given .1) (c .before .before .before .before .before .match2 .keys22) (c .before .before .ie .ensures .is)) }
 
--- src/lib.rt:949:1
+-- src/lib.rt:950:1
 exp-same-length-23 : (t : ℕ) → exp-lts.Need-same-length-23 (
   stop-reads.Asked,
   stop-reads.Learnt,
@@ -8949,7 +9026,7 @@ exp-same-length-23 : (t : ℕ) → exp-lts.Need-same-length-23 (
 ) (exp-at t) exp.Post
 exp-same-length-23 t c = c .before .before .wh .kept .1 .1 .1 .1 .1 .1 .0
 
--- src/lib.rt:949:1
+-- src/lib.rt:950:1
 exp-returns-25 : (t : ℕ) → exp-lts.Need-returns-25 (
   stop-reads.Asked,
   stop-reads.Learnt,
@@ -8999,7 +9076,7 @@ exp-returns-25 : (t : ℕ) → exp-lts.Need-returns-25 (
 unfolding Exp.exps Exp.exp
 exp-returns-25 t c = record { is = exp-form _ _ (c .before .before .before .before .before .before .before .before .before .before .if1 .left) (form-key (c .before .before .before .before .before .before .before .before .before .form .ensures) (c .before .before .before .before .before .before .before .k .given .1) (c .before .before .before .before .before .match2 .keys23) (c .before .before .wh .ensures .is)) }
 
--- src/lib.rt:949:1
+-- src/lib.rt:950:1
 exp-same-length-24 : (t : ℕ) → exp-lts.Need-same-length-24 (
   stop-reads.Asked,
   stop-reads.Learnt,
@@ -9048,7 +9125,7 @@ exp-same-length-24 : (t : ℕ) → exp-lts.Need-same-length-24 (
 ) (exp-at t) exp.Post
 exp-same-length-24 t c = c .before .before .ca .kept .1 .1 .1 .1 .1 .1 .0
 
--- src/lib.rt:949:1
+-- src/lib.rt:950:1
 exp-returns-26 : (t : ℕ) → exp-lts.Need-returns-26 (
   stop-reads.Asked,
   stop-reads.Learnt,
@@ -9098,7 +9175,7 @@ exp-returns-26 : (t : ℕ) → exp-lts.Need-returns-26 (
 unfolding Exp.exps Exp.exp
 exp-returns-26 t c = record { is = exp-form _ _ (c .before .before .before .before .before .before .before .before .before .before .if1 .left) (form-key (c .before .before .before .before .before .before .before .before .before .form .ensures) (c .before .before .before .before .before .before .before .k .given .1) (c .before .before .before .before .before .match2 .keys24) (c .before .before .ca .ensures .is)) }
 
--- src/lib.rt:949:1
+-- src/lib.rt:950:1
 exp-same-length-25 : (t : ℕ) → exp-lts.Need-same-length-25 (
   stop-reads.Asked,
   stop-reads.Learnt,
@@ -9147,7 +9224,7 @@ exp-same-length-25 : (t : ℕ) → exp-lts.Need-same-length-25 (
 ) (exp-at t) exp.Post
 exp-same-length-25 t c = c .before .before .fe .kept .1 .1 .1 .1 .1 .1 .0
 
--- src/lib.rt:949:1
+-- src/lib.rt:950:1
 exp-returns-27 : (t : ℕ) → exp-lts.Need-returns-27 (
   stop-reads.Asked,
   stop-reads.Learnt,
@@ -9197,7 +9274,7 @@ exp-returns-27 : (t : ℕ) → exp-lts.Need-returns-27 (
 unfolding Exp.exps Exp.exp
 exp-returns-27 t c = record { is = exp-form _ _ (c .before .before .before .before .before .before .before .before .before .before .if1 .left) (form-key (c .before .before .before .before .before .before .before .before .before .form .ensures) (c .before .before .before .before .before .before .before .k .given .1) (c .before .before .before .before .before .match2 .keys25) (c .before .before .fe .ensures .is)) }
 
--- src/lib.rt:949:1
+-- src/lib.rt:950:1
 exp-returns-28 : (t : ℕ) → exp-lts.Need-returns-28 (
   stop-reads.Asked,
   stop-reads.Learnt,
@@ -9247,7 +9324,7 @@ exp-returns-28 : (t : ℕ) → exp-lts.Need-returns-28 (
 unfolding Exp.exps Exp.exp
 exp-returns-28 t c = record { is = exp-form _ _ (c .before .before .before .before .before .before .if1 .left) (by-same (form-is (c .before .before .before .before .before .form .ensures) (c .before .before .before .k .given .1)) (beyond (Exp.exps (walks (c .before .before .before .before .before .before .before .before .before .before .before .before .before .args .cfg .left - 1)) (cfgOf (c .before .before .before .before .before .before .before .before .before .before .before .before .before .args .cfg))) (c .before .before .before .k .given .0 .0) 25 refl (past (past (past (past (past (past (past (past (past (past (past (past (past (past (past (past (past (past (past (past (past (past (past (past (past zero-le (c .before .match2 .rest .0 .0 .0 .0 .0 .0 .0 .0 .0 .0 .0 .0 .0 .0 .0 .0 .0 .0 .0 .0 .0 .0 .0 .0 .1)) (c .before .match2 .rest .0 .0 .0 .0 .0 .0 .0 .0 .0 .0 .0 .0 .0 .0 .0 .0 .0 .0 .0 .0 .0 .0 .0 .1)) (c .before .match2 .rest .0 .0 .0 .0 .0 .0 .0 .0 .0 .0 .0 .0 .0 .0 .0 .0 .0 .0 .0 .0 .0 .0 .1)) (c .before .match2 .rest .0 .0 .0 .0 .0 .0 .0 .0 .0 .0 .0 .0 .0 .0 .0 .0 .0 .0 .0 .0 .0 .1)) (c .before .match2 .rest .0 .0 .0 .0 .0 .0 .0 .0 .0 .0 .0 .0 .0 .0 .0 .0 .0 .0 .0 .0 .1)) (c .before .match2 .rest .0 .0 .0 .0 .0 .0 .0 .0 .0 .0 .0 .0 .0 .0 .0 .0 .0 .0 .0 .1)) (c .before .match2 .rest .0 .0 .0 .0 .0 .0 .0 .0 .0 .0 .0 .0 .0 .0 .0 .0 .0 .0 .1)) (c .before .match2 .rest .0 .0 .0 .0 .0 .0 .0 .0 .0 .0 .0 .0 .0 .0 .0 .0 .0 .1)) (c .before .match2 .rest .0 .0 .0 .0 .0 .0 .0 .0 .0 .0 .0 .0 .0 .0 .0 .0 .1)) (c .before .match2 .rest .0 .0 .0 .0 .0 .0 .0 .0 .0 .0 .0 .0 .0 .0 .0 .1)) (c .before .match2 .rest .0 .0 .0 .0 .0 .0 .0 .0 .0 .0 .0 .0 .0 .0 .1)) (c .before .match2 .rest .0 .0 .0 .0 .0 .0 .0 .0 .0 .0 .0 .0 .0 .1)) (c .before .match2 .rest .0 .0 .0 .0 .0 .0 .0 .0 .0 .0 .0 .0 .1)) (c .before .match2 .rest .0 .0 .0 .0 .0 .0 .0 .0 .0 .0 .0 .1)) (c .before .match2 .rest .0 .0 .0 .0 .0 .0 .0 .0 .0 .0 .1)) (c .before .match2 .rest .0 .0 .0 .0 .0 .0 .0 .0 .0 .1)) (c .before .match2 .rest .0 .0 .0 .0 .0 .0 .0 .0 .1)) (c .before .match2 .rest .0 .0 .0 .0 .0 .0 .0 .1)) (c .before .match2 .rest .0 .0 .0 .0 .0 .0 .1)) (c .before .match2 .rest .0 .0 .0 .0 .0 .1)) (c .before .match2 .rest .0 .0 .0 .0 .1)) (c .before .match2 .rest .0 .0 .0 .1)) (c .before .match2 .rest .0 .0 .1)) (c .before .match2 .rest .0 .1)) (c .before .match2 .rest .1)) (c .stop3 .ensures))) }
 
--- src/lib.rt:1978:14
+-- src/lib.rt:1979:14
 fa-nm-requires : (t : ℕ) → fa-lts.Need-nm-requires (
   nm-below t,
   nm.Post,
@@ -9258,7 +9335,7 @@ fa-nm-requires : (t : ℕ) → fa-lts.Need-nm-requires (
 ) (fa-at t) fa.Post
 fa-nm-requires t c κs = omega (arith, c .before .before .before .before .before .before .before .before .before .pre .0, c .before .before .before .before .before .before .before .before .before .pre .1)
 
--- src/lib.rt:1991:14
+-- src/lib.rt:1992:14
 fa-da-requires : (t : ℕ) → fa-lts.Need-da-requires (
   nm-below t,
   nm.Post,
@@ -9269,7 +9346,7 @@ fa-da-requires : (t : ℕ) → fa-lts.Need-da-requires (
 ) (fa-at t) fa.Post
 fa-da-requires t c κs = omega (arith, c .before .before .before .before .before .before .before .before .before .pre .0, c .before .before .before .before .before .before .before .before .before .pre .1)
 
--- src/lib.rt:1992:14
+-- src/lib.rt:1993:14
 fa-stop-requires : (t : ℕ) → fa-lts.Need-stop-requires (
   nm-below t,
   nm.Post,
@@ -9280,7 +9357,7 @@ fa-stop-requires : (t : ℕ) → fa-lts.Need-stop-requires (
 ) (fa-at t) fa.Post
 fa-stop-requires t c κs = search needs
 
--- src/lib.rt:1961:1
+-- src/lib.rt:1962:1
 fa-same-length : (t : ℕ) → fa-lts.Need-same-length (
   nm-below t,
   nm.Post,
@@ -9291,7 +9368,7 @@ fa-same-length : (t : ℕ) → fa-lts.Need-same-length (
 ) (fa-at t) fa.Post
 fa-same-length t c = c .before .before .nm .kept .1 .1 .1 .1 .1 .1 .0
 
--- src/lib.rt:1961:1
+-- src/lib.rt:1962:1
 fa-returns : (t : ℕ) → fa-lts.Need-returns (
   nm-below t,
   nm.Post,
@@ -9303,7 +9380,7 @@ fa-returns : (t : ℕ) → fa-lts.Need-returns (
 unfolding DecOne.functor-arg
 fa-returns t c = record { is = at-key (λ i. DecOne.functor-arg (walks (c .before .before .before .before .before .before .before .before .before .before .before .before .args .cfg .left)) (cfgOf (c .before .before .before .before .before .before .before .before .before .before .before .before .args .cfg)) i) (c .before .before .before .before .before .match .keys1) (c .before .before .nm .ensures .is) }
 
--- src/lib.rt:1961:1
+-- src/lib.rt:1962:1
 fa-same-length-2 : (t : ℕ) → fa-lts.Need-same-length-2 (
   nm-below t,
   nm.Post,
@@ -9314,7 +9391,7 @@ fa-same-length-2 : (t : ℕ) → fa-lts.Need-same-length-2 (
 ) (fa-at t) fa.Post
 fa-same-length-2 t c = c .before .before .da .kept .1 .1 .1 .1 .1 .1 .0
 
--- src/lib.rt:1961:1
+-- src/lib.rt:1962:1
 fa-returns-2 : (t : ℕ) → fa-lts.Need-returns-2 (
   nm-below t,
   nm.Post,
@@ -9326,7 +9403,7 @@ fa-returns-2 : (t : ℕ) → fa-lts.Need-returns-2 (
 unfolding DecOne.functor-arg
 fa-returns-2 t c = record { is = at-key (λ i. DecOne.functor-arg (walks (c .before .before .before .before .before .before .before .before .before .before .before .before .args .cfg .left)) (cfgOf (c .before .before .before .before .before .before .before .before .before .before .before .before .args .cfg)) i) (c .before .before .before .before .before .match .keys2) (c .before .before .da .ensures .is) }
 
--- src/lib.rt:1961:1
+-- src/lib.rt:1962:1
 fa-returns-3 : (t : ℕ) → fa-lts.Need-returns-3 (
   nm-below t,
   nm.Post,
@@ -9345,7 +9422,7 @@ fb-Inv-loop run text rec kinds starts lens out₀ mem₀ at cfg r1 s1 n s2 s₀ 
 abbrev fb-μ-loop : fb-lts.MeasureT-loop
 fb-μ-loop run text rec kinds starts lens out₀ mem₀ at cfg r1 s1 n s2 s₀ i₀ out mem s i = n - i
 
--- src/lib.rt:1449:9
+-- src/lib.rt:1450:9
 fb-group-requires : (t : ℕ) → fb-lts.Need-group-requires (
   group-reads.Asked,
   group-reads.Learnt,
@@ -9364,7 +9441,7 @@ fb-group-requires : (t : ℕ) → fb-lts.Need-group-requires (
 ) (fb-at t) fb.Post fb-Inv-loop fb-μ-loop
 fb-group-requires t c κs = search needs
 
--- src/lib.rt:1450:28
+-- src/lib.rt:1451:28
 fb-told-requires : (t : ℕ) → fb-lts.Need-told-requires (
   group-reads.Asked,
   group-reads.Learnt,
@@ -9383,7 +9460,7 @@ fb-told-requires : (t : ℕ) → fb-lts.Need-told-requires (
 ) (fb-at t) fb.Post fb-Inv-loop fb-μ-loop
 fb-told-requires t c κs = search needs
 
--- src/lib.rt:1450:22
+-- src/lib.rt:1451:22
 fb-enum-known-s1 : (t : ℕ) → fb-lts.Need-enum-known-s1 (
   group-reads.Asked,
   group-reads.Learnt,
@@ -9402,7 +9479,7 @@ fb-enum-known-s1 : (t : ℕ) → fb-lts.Need-enum-known-s1 (
 ) (fb-at t) fb.Post fb-Inv-loop fb-μ-loop
 fb-enum-known-s1 t c = search needs
 
--- src/lib.rt:1451:9
+-- src/lib.rt:1452:9
 fb-enum-told : (t : ℕ) → fb-lts.Need-enum-told (
   group-reads.Asked,
   group-reads.Learnt,
@@ -9421,7 +9498,7 @@ fb-enum-told : (t : ℕ) → fb-lts.Need-enum-told (
 ) (fb-at t) fb.Post fb-Inv-loop fb-μ-loop
 fb-enum-told t c = search needs
 
--- src/lib.rt:1451:9
+-- src/lib.rt:1452:9
 fb-returns : (t : ℕ) → fb-lts.Need-returns (
   group-reads.Asked,
   group-reads.Learnt,
@@ -9441,7 +9518,7 @@ fb-returns : (t : ℕ) → fb-lts.Need-returns (
 unfolding DecOne.fun-bind Helpers.indent-deeper Helpers.deepen Helpers.sep-with-lines
 fb-returns t c = record { is = group-not (c .before .before .before .group .ensures) (c .before .before .told .ensures) (c .enum-told .given .1) }
 
--- src/lib.rt:1453:5
+-- src/lib.rt:1454:5
 fb-deepen-requires : (t : ℕ) → fb-lts.Need-deepen-requires (
   group-reads.Asked,
   group-reads.Learnt,
@@ -9460,7 +9537,7 @@ fb-deepen-requires : (t : ℕ) → fb-lts.Need-deepen-requires (
 ) (fb-at t) fb.Post fb-Inv-loop fb-μ-loop
 fb-deepen-requires t c κs = omega (arith, c .before .before .before .before .before .before .before .before .before .before .before .before .pre .1)
 
--- src/lib.rt:1454:27
+-- src/lib.rt:1455:27
 fb-list-requires : (t : ℕ) → fb-lts.Need-list-requires (
   group-reads.Asked,
   group-reads.Learnt,
@@ -9479,7 +9556,7 @@ fb-list-requires : (t : ℕ) → fb-lts.Need-list-requires (
 ) (fb-at t) fb.Post fb-Inv-loop fb-μ-loop
 fb-list-requires t c κs = search needs
 
--- src/lib.rt:1454:18
+-- src/lib.rt:1455:18
 fb-enum-known-n : (t : ℕ) → fb-lts.Need-enum-known-n (
   group-reads.Asked,
   group-reads.Learnt,
@@ -9498,7 +9575,7 @@ fb-enum-known-n : (t : ℕ) → fb-lts.Need-enum-known-n (
 ) (fb-at t) fb.Post fb-Inv-loop fb-μ-loop
 fb-enum-known-n t c = search needs
 
--- src/lib.rt:1455:9
+-- src/lib.rt:1456:9
 fb-enum-told-2 : (t : ℕ) → fb-lts.Need-enum-told-2 (
   group-reads.Asked,
   group-reads.Learnt,
@@ -9517,7 +9594,7 @@ fb-enum-told-2 : (t : ℕ) → fb-lts.Need-enum-told-2 (
 ) (fb-at t) fb.Post fb-Inv-loop fb-μ-loop
 fb-enum-told-2 t c = search needs
 
--- src/lib.rt:1455:9
+-- src/lib.rt:1456:9
 fb-stop-requires : (t : ℕ) → fb-lts.Need-stop-requires (
   group-reads.Asked,
   group-reads.Learnt,
@@ -9536,7 +9613,7 @@ fb-stop-requires : (t : ℕ) → fb-lts.Need-stop-requires (
 ) (fb-at t) fb.Post fb-Inv-loop fb-μ-loop
 fb-stop-requires t c κs = search needs
 
--- src/lib.rt:1455:9
+-- src/lib.rt:1456:9
 fb-returns-2 : (t : ℕ) → fb-lts.Need-returns-2 (
   group-reads.Asked,
   group-reads.Learnt,
@@ -9556,7 +9633,7 @@ fb-returns-2 : (t : ℕ) → fb-lts.Need-returns-2 (
 unfolding DecOne.fun-bind Helpers.indent-deeper Helpers.deepen Helpers.sep-with-lines
 fb-returns-2 t c = record { is = by-same (group-is (c .before .before .before .before .before .before .before .before .before .before .group .ensures) (c .before .before .before .before .before .before .before .before .before .told .ensures) (c .before .before .before .before .before .before .before .s1 .given .1)) (then-sure (sure-formed (c .before .before .before .before .deepen .ensures)) (list-not (c .stop .ensures) (c .before .before .before .list .ensures) (c .before .enum-told2 .given .1))) }
 
--- src/lib.rt:1459:5
+-- src/lib.rt:1460:5
 fb-loop-holds : (t : ℕ) → fb-lts.Need-loop-holds (
   group-reads.Asked,
   group-reads.Learnt,
@@ -9575,7 +9652,7 @@ fb-loop-holds : (t : ℕ) → fb-lts.Need-loop-holds (
 ) (fb-at t) fb.Post fb-Inv-loop fb-μ-loop
 fb-loop-holds t c = (omega arith, λ r m o h. h, refl)
 
--- src/lib.rt:1460:9
+-- src/lib.rt:1461:9
 fb-new-line-in-requires : (t : ℕ) → fb-lts.Need-new-line-in-requires (
   group-reads.Asked,
   group-reads.Learnt,
@@ -9594,7 +9671,7 @@ fb-new-line-in-requires : (t : ℕ) → fb-lts.Need-new-line-in-requires (
 ) (fb-at t) fb.Post fb-Inv-loop fb-μ-loop
 fb-new-line-in-requires t c κs = omega (arith, c .before .before .before .before .before .before .before .before .before .before .before .before .before .before .before .before .before .before .before .before .before .pre .1)
 
--- src/lib.rt:1461:13
+-- src/lib.rt:1462:13
 fb-fc-requires : (t : ℕ) → fb-lts.Need-fc-requires (
   group-reads.Asked,
   group-reads.Learnt,
@@ -9613,7 +9690,7 @@ fb-fc-requires : (t : ℕ) → fb-lts.Need-fc-requires (
 ) (fb-at t) fb.Post fb-Inv-loop fb-μ-loop
 fb-fc-requires t c κs = omega (arith, c .before .before .before .before .before .before .before .before .before .before .before .before .before .before .before .before .before .before .before .before .before .before .before .before .before .before .pre .0, c .before .before .before .before .before .before .before .before .before .before .before .before .before .before .before .before .before .before .before .before .before .before .before .before .before .before .pre .1)
 
--- src/lib.rt:1462:32
+-- src/lib.rt:1463:32
 fb-told-requires-2 : (t : ℕ) → fb-lts.Need-told-requires-2 (
   group-reads.Asked,
   group-reads.Learnt,
@@ -9632,7 +9709,7 @@ fb-told-requires-2 : (t : ℕ) → fb-lts.Need-told-requires-2 (
 ) (fb-at t) fb.Post fb-Inv-loop fb-μ-loop
 fb-told-requires-2 t c κs = search needs
 
--- src/lib.rt:1462:26
+-- src/lib.rt:1463:26
 fb-enum-known-s3 : (t : ℕ) → fb-lts.Need-enum-known-s3 (
   group-reads.Asked,
   group-reads.Learnt,
@@ -9651,7 +9728,7 @@ fb-enum-known-s3 : (t : ℕ) → fb-lts.Need-enum-known-s3 (
 ) (fb-at t) fb.Post fb-Inv-loop fb-μ-loop
 fb-enum-known-s3 t c = search needs
 
--- src/lib.rt:1463:13
+-- src/lib.rt:1464:13
 fb-enum-told-3 : (t : ℕ) → fb-lts.Need-enum-told-3 (
   group-reads.Asked,
   group-reads.Learnt,
@@ -9670,7 +9747,7 @@ fb-enum-told-3 : (t : ℕ) → fb-lts.Need-enum-told-3 (
 ) (fb-at t) fb.Post fb-Inv-loop fb-μ-loop
 fb-enum-told-3 t c = search needs
 
--- src/lib.rt:1463:13
+-- src/lib.rt:1464:13
 fb-same-length : (t : ℕ) → fb-lts.Need-same-length (
   group-reads.Asked,
   group-reads.Learnt,
@@ -9689,7 +9766,7 @@ fb-same-length : (t : ℕ) → fb-lts.Need-same-length (
 ) (fb-at t) fb.Post fb-Inv-loop fb-μ-loop
 fb-same-length t c = c .before .before .before .before .before .fc .kept .1 .1 .1 .1 .1 .1 .0 ∙ c .before .before .before .before .before .before .before .before .before .before .new-line-in .kept .1 .1 .0 ∙ c .before .before .before .before .before .before .before .before .before .before .before .before .before .before .loop .inv .2
 
--- src/lib.rt:1463:13
+-- src/lib.rt:1464:13
 fb-returns-3 : (t : ℕ) → fb-lts.Need-returns-3 (
   group-reads.Asked,
   group-reads.Learnt,
@@ -9709,7 +9786,7 @@ fb-returns-3 : (t : ℕ) → fb-lts.Need-returns-3 (
 unfolding DecOne.fun-bind Helpers.indent-deeper Helpers.deepen Helpers.sep-with-lines
 fb-returns-3 t c = record { is = by-same (group-is (c .before .before .before .before .before .before .before .before .before .before .before .before .before .before .before .before .before .before .before .before .before .before .before .before .before .group .ensures) (c .before .before .before .before .before .before .before .before .before .before .before .before .before .before .before .before .before .before .before .before .before .before .before .before .told .ensures) (c .before .before .before .before .before .before .before .before .before .before .before .before .before .before .before .before .before .before .before .before .before .before .s1 .given .1)) (then-sure (sure-formed (c .before .before .before .before .before .before .before .before .before .before .before .before .before .before .before .before .before .before .before .deepen .ensures)) (by-same (list-is (c .before .before .before .before .before .before .before .before .before .before .before .before .before .before .before .before .before .before .list .ensures) (c .before .before .before .before .before .before .before .before .before .before .before .before .before .before .before .before .n .given .1)) (by-same (items-all _ _ _) (c .before .before .before .before .before .before .before .before .before .before .before .before .before .before .loop .inv .1 _ _ _ (from-more _ _ (c .before .before .before .before .before .before .before .before .before .before .before .before .before .loop-test .taken) (then-sure (c .before .before .before .before .before .before .before .before .before .before .new-line-in .ensures) (then-stop (c .before .before .before .before .before .fc .ensures .is) (c .before .before .told2 .ensures) (c .enum-told3 .given .1)))))))) }
 
--- src/lib.rt:1466:9
+-- src/lib.rt:1467:9
 fb-add-i : (t : ℕ) → fb-lts.Need-add-i (
   group-reads.Asked,
   group-reads.Learnt,
@@ -9728,7 +9805,7 @@ fb-add-i : (t : ℕ) → fb-lts.Need-add-i (
 ) (fb-at t) fb.Post fb-Inv-loop fb-μ-loop
 fb-add-i t c = omega (arith, c .before .before .before .before .before .before .before .before .before .before .before .before .before .before .loop-test .taken, c .before .before .before .before .before .before .before .before .before .before .before .before .before .before .before .before .known-told2)
 
--- src/lib.rt:1459:5
+-- src/lib.rt:1460:5
 fb-loop-less : (t : ℕ) → fb-lts.Need-loop-less (
   group-reads.Asked,
   group-reads.Learnt,
@@ -9747,7 +9824,7 @@ fb-loop-less : (t : ℕ) → fb-lts.Need-loop-less (
 ) (fb-at t) fb.Post fb-Inv-loop fb-μ-loop
 fb-loop-less t c = omega arith
 
--- src/lib.rt:1459:5
+-- src/lib.rt:1460:5
 fb-loop-again : (t : ℕ) → fb-lts.Need-loop-again (
   group-reads.Asked,
   group-reads.Learnt,
@@ -9767,7 +9844,7 @@ fb-loop-again : (t : ℕ) → fb-lts.Need-loop-again (
 unfolding DecOne.fun-bind Helpers.indent-deeper Helpers.deepen Helpers.sep-with-lines
 fb-loop-again t c = (omega (arith, c .before .before .before .before .before .before .before .before .before .before .before .before .before .before .before .loop .inv .0), λ r m o h. c .before .before .before .before .before .before .before .before .before .before .before .before .before .before .before .loop .inv .1 r m o (from-more _ _ (c .before .before .before .before .before .before .before .before .before .before .before .before .before .before .loop-test .taken) (then-sure (c .before .before .before .before .before .before .before .before .before .before .before .new-line-in .ensures) (then-done (c .before .before .before .before .before .before .fc .ensures .is) (c .before .before .before .told2 .ensures) (c .before .s3 .given .1) h))), c .before .before .before .before .before .before .fc .kept .1 .1 .1 .1 .1 .1 .0 ∙ c .before .before .before .before .before .before .before .before .before .before .before .new-line-in .kept .1 .1 .0 ∙ c .before .before .before .before .before .before .before .before .before .before .before .before .before .before .before .loop .inv .2)
 
--- src/lib.rt:1434:1
+-- src/lib.rt:1435:1
 fb-same-length-2 : (t : ℕ) → fb-lts.Need-same-length-2 (
   group-reads.Asked,
   group-reads.Learnt,
@@ -9786,7 +9863,7 @@ fb-same-length-2 : (t : ℕ) → fb-lts.Need-same-length-2 (
 ) (fb-at t) fb.Post fb-Inv-loop fb-μ-loop
 fb-same-length-2 t c = c .before .loop .inv .2
 
--- src/lib.rt:1434:1
+-- src/lib.rt:1435:1
 fb-returns-4 : (t : ℕ) → fb-lts.Need-returns-4 (
   group-reads.Asked,
   group-reads.Learnt,
@@ -9806,7 +9883,7 @@ fb-returns-4 : (t : ℕ) → fb-lts.Need-returns-4 (
 unfolding DecOne.fun-bind Helpers.indent-deeper Helpers.deepen Helpers.sep-with-lines
 fb-returns-4 t c = record { is = by-same (group-is (c .before .before .before .before .before .before .before .before .before .before .before .before .group .ensures) (c .before .before .before .before .before .before .before .before .before .before .before .told .ensures) (c .before .before .before .before .before .before .before .before .before .s1 .given .1)) (then-sure (sure-formed (c .before .before .before .before .before .before .deepen .ensures)) (by-same (list-is (c .before .before .before .before .before .list .ensures) (c .before .before .before .n .given .1)) (by-same (items-all _ _ _) (c .before .loop .inv .1 _ _ _ (from-none _ _ (c .loop-test .left)))))) }
 
--- src/lib.rt:1487:9
+-- src/lib.rt:1488:9
 fc-group-requires : (t : ℕ) → fc-lts.Need-group-requires (
   group-reads.Asked,
   group-reads.Learnt,
@@ -9823,7 +9900,7 @@ fc-group-requires : (t : ℕ) → fc-lts.Need-group-requires (
 ) (fc-at t) fc.Post
 fc-group-requires t c κs = search needs
 
--- src/lib.rt:1488:28
+-- src/lib.rt:1489:28
 fc-told-requires : (t : ℕ) → fc-lts.Need-told-requires (
   group-reads.Asked,
   group-reads.Learnt,
@@ -9840,7 +9917,7 @@ fc-told-requires : (t : ℕ) → fc-lts.Need-told-requires (
 ) (fc-at t) fc.Post
 fc-told-requires t c κs = search needs
 
--- src/lib.rt:1488:22
+-- src/lib.rt:1489:22
 fc-enum-known-s1 : (t : ℕ) → fc-lts.Need-enum-known-s1 (
   group-reads.Asked,
   group-reads.Learnt,
@@ -9857,7 +9934,7 @@ fc-enum-known-s1 : (t : ℕ) → fc-lts.Need-enum-known-s1 (
 ) (fc-at t) fc.Post
 fc-enum-known-s1 t c = search needs
 
--- src/lib.rt:1489:9
+-- src/lib.rt:1490:9
 fc-enum-told : (t : ℕ) → fc-lts.Need-enum-told (
   group-reads.Asked,
   group-reads.Learnt,
@@ -9874,7 +9951,7 @@ fc-enum-told : (t : ℕ) → fc-lts.Need-enum-told (
 ) (fc-at t) fc.Post
 fc-enum-told t c = search needs
 
--- src/lib.rt:1489:9
+-- src/lib.rt:1490:9
 fc-returns : (t : ℕ) → fc-lts.Need-returns (
   group-reads.Asked,
   group-reads.Learnt,
@@ -9892,7 +9969,7 @@ fc-returns : (t : ℕ) → fc-lts.Need-returns (
 unfolding DecOne.fun-bind-case
 fc-returns t c = record { is = group-not (c .before .before .before .group .ensures) (c .before .before .told .ensures) (c .enum-told .given .1) }
 
--- src/lib.rt:1491:9
+-- src/lib.rt:1492:9
 fc-case-head-requires : (t : ℕ) → fc-lts.Need-case-head-requires (
   group-reads.Asked,
   group-reads.Learnt,
@@ -9909,7 +9986,7 @@ fc-case-head-requires : (t : ℕ) → fc-lts.Need-case-head-requires (
 ) (fc-at t) fc.Post
 fc-case-head-requires t c κs = search needs
 
--- src/lib.rt:1492:28
+-- src/lib.rt:1493:28
 fc-told-requires-2 : (t : ℕ) → fc-lts.Need-told-requires-2 (
   group-reads.Asked,
   group-reads.Learnt,
@@ -9926,7 +10003,7 @@ fc-told-requires-2 : (t : ℕ) → fc-lts.Need-told-requires-2 (
 ) (fc-at t) fc.Post
 fc-told-requires-2 t c κs = search needs
 
--- src/lib.rt:1492:22
+-- src/lib.rt:1493:22
 fc-enum-known-s2 : (t : ℕ) → fc-lts.Need-enum-known-s2 (
   group-reads.Asked,
   group-reads.Learnt,
@@ -9943,7 +10020,7 @@ fc-enum-known-s2 : (t : ℕ) → fc-lts.Need-enum-known-s2 (
 ) (fc-at t) fc.Post
 fc-enum-known-s2 t c = search needs
 
--- src/lib.rt:1493:9
+-- src/lib.rt:1494:9
 fc-enum-told-2 : (t : ℕ) → fc-lts.Need-enum-told-2 (
   group-reads.Asked,
   group-reads.Learnt,
@@ -9960,7 +10037,7 @@ fc-enum-told-2 : (t : ℕ) → fc-lts.Need-enum-told-2 (
 ) (fc-at t) fc.Post
 fc-enum-told-2 t c = search needs
 
--- src/lib.rt:1493:9
+-- src/lib.rt:1494:9
 fc-same-length : (t : ℕ) → fc-lts.Need-same-length (
   group-reads.Asked,
   group-reads.Learnt,
@@ -9977,7 +10054,7 @@ fc-same-length : (t : ℕ) → fc-lts.Need-same-length (
 ) (fc-at t) fc.Post
 fc-same-length t c = c .before .before .before .before .before .case-head .kept .1 .1 .1 .1 .1 .0
 
--- src/lib.rt:1493:9
+-- src/lib.rt:1494:9
 fc-returns-2 : (t : ℕ) → fc-lts.Need-returns-2 (
   group-reads.Asked,
   group-reads.Learnt,
@@ -9995,7 +10072,7 @@ fc-returns-2 : (t : ℕ) → fc-lts.Need-returns-2 (
 unfolding DecOne.fun-bind-case
 fc-returns-2 t c = record { is = by-same (group-is (c .before .before .before .before .before .before .before .before .before .before .before .before .group .ensures) (c .before .before .before .before .before .before .before .before .before .before .before .told .ensures) (c .before .before .before .before .before .before .before .before .before .s1 .given .1)) (then-stop (plain (c .before .before .before .before .before .case-head .ensures)) (c .before .before .told2 .ensures) (c .enum-told2 .given .1)) }
 
--- src/lib.rt:1495:9
+-- src/lib.rt:1496:9
 fc-case-pats-requires : (t : ℕ) → fc-lts.Need-case-pats-requires (
   group-reads.Asked,
   group-reads.Learnt,
@@ -10012,7 +10089,7 @@ fc-case-pats-requires : (t : ℕ) → fc-lts.Need-case-pats-requires (
 ) (fc-at t) fc.Post
 fc-case-pats-requires t c κs = search needs
 
--- src/lib.rt:1496:28
+-- src/lib.rt:1497:28
 fc-told-requires-3 : (t : ℕ) → fc-lts.Need-told-requires-3 (
   group-reads.Asked,
   group-reads.Learnt,
@@ -10029,7 +10106,7 @@ fc-told-requires-3 : (t : ℕ) → fc-lts.Need-told-requires-3 (
 ) (fc-at t) fc.Post
 fc-told-requires-3 t c κs = search needs
 
--- src/lib.rt:1496:22
+-- src/lib.rt:1497:22
 fc-enum-known-s3 : (t : ℕ) → fc-lts.Need-enum-known-s3 (
   group-reads.Asked,
   group-reads.Learnt,
@@ -10046,7 +10123,7 @@ fc-enum-known-s3 : (t : ℕ) → fc-lts.Need-enum-known-s3 (
 ) (fc-at t) fc.Post
 fc-enum-known-s3 t c = search needs
 
--- src/lib.rt:1497:9
+-- src/lib.rt:1498:9
 fc-enum-told-3 : (t : ℕ) → fc-lts.Need-enum-told-3 (
   group-reads.Asked,
   group-reads.Learnt,
@@ -10063,7 +10140,7 @@ fc-enum-told-3 : (t : ℕ) → fc-lts.Need-enum-told-3 (
 ) (fc-at t) fc.Post
 fc-enum-told-3 t c = search needs
 
--- src/lib.rt:1497:9
+-- src/lib.rt:1498:9
 fc-same-length-2 : (t : ℕ) → fc-lts.Need-same-length-2 (
   group-reads.Asked,
   group-reads.Learnt,
@@ -10080,7 +10157,7 @@ fc-same-length-2 : (t : ℕ) → fc-lts.Need-same-length-2 (
 ) (fc-at t) fc.Post
 fc-same-length-2 t c = c .before .before .before .before .before .case-pats .kept .1 .1 .1 .1 .1 .0 ∙ c .before .before .before .before .before .before .before .before .before .before .before .before .before .before .case-head .kept .1 .1 .1 .1 .1 .0
 
--- src/lib.rt:1497:9
+-- src/lib.rt:1498:9
 fc-returns-3 : (t : ℕ) → fc-lts.Need-returns-3 (
   group-reads.Asked,
   group-reads.Learnt,
@@ -10098,7 +10175,7 @@ fc-returns-3 : (t : ℕ) → fc-lts.Need-returns-3 (
 unfolding DecOne.fun-bind-case
 fc-returns-3 t c = record { is = by-same (group-is (c .before .before .before .before .before .before .before .before .before .before .before .before .before .before .before .before .before .before .before .before .before .group .ensures) (c .before .before .before .before .before .before .before .before .before .before .before .before .before .before .before .before .before .before .before .before .told .ensures) (c .before .before .before .before .before .before .before .before .before .before .before .before .before .before .before .before .before .before .s1 .given .1)) (then-done (plain (c .before .before .before .before .before .before .before .before .before .before .before .before .before .before .case-head .ensures)) (c .before .before .before .before .before .before .before .before .before .before .before .told2 .ensures) (c .before .before .before .before .before .before .before .before .before .s2 .given .1) (then-stop (plain (c .before .before .before .before .before .case-pats .ensures)) (c .before .before .told3 .ensures) (c .enum-told3 .given .1))) }
 
--- src/lib.rt:1499:9
+-- src/lib.rt:1500:9
 fc-ty-annotation-requires : (t : ℕ) → fc-lts.Need-ty-annotation-requires (
   group-reads.Asked,
   group-reads.Learnt,
@@ -10115,7 +10192,7 @@ fc-ty-annotation-requires : (t : ℕ) → fc-lts.Need-ty-annotation-requires (
 ) (fc-at t) fc.Post
 fc-ty-annotation-requires t c κs = search needs
 
--- src/lib.rt:1500:28
+-- src/lib.rt:1501:28
 fc-told-requires-4 : (t : ℕ) → fc-lts.Need-told-requires-4 (
   group-reads.Asked,
   group-reads.Learnt,
@@ -10132,7 +10209,7 @@ fc-told-requires-4 : (t : ℕ) → fc-lts.Need-told-requires-4 (
 ) (fc-at t) fc.Post
 fc-told-requires-4 t c κs = search needs
 
--- src/lib.rt:1500:22
+-- src/lib.rt:1501:22
 fc-enum-known-s4 : (t : ℕ) → fc-lts.Need-enum-known-s4 (
   group-reads.Asked,
   group-reads.Learnt,
@@ -10149,7 +10226,7 @@ fc-enum-known-s4 : (t : ℕ) → fc-lts.Need-enum-known-s4 (
 ) (fc-at t) fc.Post
 fc-enum-known-s4 t c = search needs
 
--- src/lib.rt:1501:9
+-- src/lib.rt:1502:9
 fc-enum-told-4 : (t : ℕ) → fc-lts.Need-enum-told-4 (
   group-reads.Asked,
   group-reads.Learnt,
@@ -10166,7 +10243,7 @@ fc-enum-told-4 : (t : ℕ) → fc-lts.Need-enum-told-4 (
 ) (fc-at t) fc.Post
 fc-enum-told-4 t c = search needs
 
--- src/lib.rt:1501:9
+-- src/lib.rt:1502:9
 fc-same-length-3 : (t : ℕ) → fc-lts.Need-same-length-3 (
   group-reads.Asked,
   group-reads.Learnt,
@@ -10183,7 +10260,7 @@ fc-same-length-3 : (t : ℕ) → fc-lts.Need-same-length-3 (
 ) (fc-at t) fc.Post
 fc-same-length-3 t c = c .before .before .before .before .before .ty-annotation .kept .1 .1 .1 .1 .1 .0 ∙ c .before .before .before .before .before .before .before .before .before .before .before .before .before .before .case-pats .kept .1 .1 .1 .1 .1 .0 ∙ c .before .before .before .before .before .before .before .before .before .before .before .before .before .before .before .before .before .before .before .before .before .before .before .case-head .kept .1 .1 .1 .1 .1 .0
 
--- src/lib.rt:1501:9
+-- src/lib.rt:1502:9
 fc-returns-4 : (t : ℕ) → fc-lts.Need-returns-4 (
   group-reads.Asked,
   group-reads.Learnt,
@@ -10201,7 +10278,7 @@ fc-returns-4 : (t : ℕ) → fc-lts.Need-returns-4 (
 unfolding DecOne.fun-bind-case
 fc-returns-4 t c = record { is = by-same (group-is (c .before .before .before .before .before .before .before .before .before .before .before .before .before .before .before .before .before .before .before .before .before .before .before .before .before .before .before .before .before .before .group .ensures) (c .before .before .before .before .before .before .before .before .before .before .before .before .before .before .before .before .before .before .before .before .before .before .before .before .before .before .before .before .before .told .ensures) (c .before .before .before .before .before .before .before .before .before .before .before .before .before .before .before .before .before .before .before .before .before .before .before .before .before .before .before .s1 .given .1)) (then-done (plain (c .before .before .before .before .before .before .before .before .before .before .before .before .before .before .before .before .before .before .before .before .before .before .before .case-head .ensures)) (c .before .before .before .before .before .before .before .before .before .before .before .before .before .before .before .before .before .before .before .before .told2 .ensures) (c .before .before .before .before .before .before .before .before .before .before .before .before .before .before .before .before .before .before .s2 .given .1) (then-done (plain (c .before .before .before .before .before .before .before .before .before .before .before .before .before .before .case-pats .ensures)) (c .before .before .before .before .before .before .before .before .before .before .before .told3 .ensures) (c .before .before .before .before .before .before .before .before .before .s3 .given .1) (then-stop (plain (c .before .before .before .before .before .ty-annotation .ensures)) (c .before .before .told4 .ensures) (c .enum-told4 .given .1)))) }
 
--- src/lib.rt:1503:5
+-- src/lib.rt:1504:5
 fc-qb-requires : (t : ℕ) → fc-lts.Need-qb-requires (
   group-reads.Asked,
   group-reads.Learnt,
@@ -10218,7 +10295,7 @@ fc-qb-requires : (t : ℕ) → fc-lts.Need-qb-requires (
 ) (fc-at t) fc.Post
 fc-qb-requires t c κs = omega (arith, c .before .before .before .before .before .before .before .before .before .before .before .before .before .before .before .before .before .before .before .before .before .before .before .before .before .before .before .before .before .before .before .before .before .before .before .before .before .before .before .before .pre .0, c .before .before .before .before .before .before .before .before .before .before .before .before .before .before .before .before .before .before .before .before .before .before .before .before .before .before .before .before .before .before .before .before .before .before .before .before .before .before .before .before .pre .1)
 
--- src/lib.rt:1472:1
+-- src/lib.rt:1473:1
 fc-same-length-4 : (t : ℕ) → fc-lts.Need-same-length-4 (
   group-reads.Asked,
   group-reads.Learnt,
@@ -10235,7 +10312,7 @@ fc-same-length-4 : (t : ℕ) → fc-lts.Need-same-length-4 (
 ) (fc-at t) fc.Post
 fc-same-length-4 t c = c .before .before .qb .kept .1 .1 .1 .1 .1 .1 .0 ∙ c .before .before .before .before .before .before .before .before .before .before .before .ty-annotation .kept .1 .1 .1 .1 .1 .0 ∙ c .before .before .before .before .before .before .before .before .before .before .before .before .before .before .before .before .before .before .before .before .case-pats .kept .1 .1 .1 .1 .1 .0 ∙ c .before .before .before .before .before .before .before .before .before .before .before .before .before .before .before .before .before .before .before .before .before .before .before .before .before .before .before .before .before .case-head .kept .1 .1 .1 .1 .1 .0
 
--- src/lib.rt:1472:1
+-- src/lib.rt:1473:1
 fc-returns-5 : (t : ℕ) → fc-lts.Need-returns-5 (
   group-reads.Asked,
   group-reads.Learnt,
@@ -10260,7 +10337,7 @@ fd-Inv-loop run text rec kinds starts lens out₀ mem₀ at cfg r1 s1 n s2 s₀ 
 abbrev fd-μ-loop : fd-lts.MeasureT-loop
 fd-μ-loop run text rec kinds starts lens out₀ mem₀ at cfg r1 s1 n s2 s₀ i₀ out mem s i = n - i
 
--- src/lib.rt:1411:5
+-- src/lib.rt:1412:5
 fd-word-requires : (t : ℕ) → fd-lts.Need-word-requires (
   word-reads.Asked,
   word-reads.Learnt,
@@ -10279,7 +10356,7 @@ fd-word-requires : (t : ℕ) → fd-lts.Need-word-requires (
 ) (fd-at t) fd.Post fd-Inv-loop fd-μ-loop
 fd-word-requires t c κs = search needs
 
--- src/lib.rt:1412:9
+-- src/lib.rt:1413:9
 fd-ty-var-seq-requires : (t : ℕ) → fd-lts.Need-ty-var-seq-requires (
   word-reads.Asked,
   word-reads.Learnt,
@@ -10298,7 +10375,7 @@ fd-ty-var-seq-requires : (t : ℕ) → fd-lts.Need-ty-var-seq-requires (
 ) (fd-at t) fd.Post fd-Inv-loop fd-μ-loop
 fd-ty-var-seq-requires t c κs = search needs
 
--- src/lib.rt:1413:28
+-- src/lib.rt:1414:28
 fd-told-requires : (t : ℕ) → fd-lts.Need-told-requires (
   word-reads.Asked,
   word-reads.Learnt,
@@ -10317,7 +10394,7 @@ fd-told-requires : (t : ℕ) → fd-lts.Need-told-requires (
 ) (fd-at t) fd.Post fd-Inv-loop fd-μ-loop
 fd-told-requires t c κs = search needs
 
--- src/lib.rt:1413:22
+-- src/lib.rt:1414:22
 fd-enum-known-s1 : (t : ℕ) → fd-lts.Need-enum-known-s1 (
   word-reads.Asked,
   word-reads.Learnt,
@@ -10336,7 +10413,7 @@ fd-enum-known-s1 : (t : ℕ) → fd-lts.Need-enum-known-s1 (
 ) (fd-at t) fd.Post fd-Inv-loop fd-μ-loop
 fd-enum-known-s1 t c = search needs
 
--- src/lib.rt:1414:9
+-- src/lib.rt:1415:9
 fd-enum-told : (t : ℕ) → fd-lts.Need-enum-told (
   word-reads.Asked,
   word-reads.Learnt,
@@ -10355,7 +10432,7 @@ fd-enum-told : (t : ℕ) → fd-lts.Need-enum-told (
 ) (fd-at t) fd.Post fd-Inv-loop fd-μ-loop
 fd-enum-told t c = search needs
 
--- src/lib.rt:1414:9
+-- src/lib.rt:1415:9
 fd-same-length : (t : ℕ) → fd-lts.Need-same-length (
   word-reads.Asked,
   word-reads.Learnt,
@@ -10374,7 +10451,7 @@ fd-same-length : (t : ℕ) → fd-lts.Need-same-length (
 ) (fd-at t) fd.Post fd-Inv-loop fd-μ-loop
 fd-same-length t c = c .before .before .before .before .before .ty-var-seq .kept .1 .1 .1 .1 .1 .0 ∙ c .before .before .before .before .before .before .before .before .before .before .word .kept .1 .1 .0
 
--- src/lib.rt:1414:9
+-- src/lib.rt:1415:9
 fd-returns : (t : ℕ) → fd-lts.Need-returns (
   word-reads.Asked,
   word-reads.Learnt,
@@ -10394,7 +10471,7 @@ fd-returns : (t : ℕ) → fd-lts.Need-returns (
 unfolding DecOne.dec-one Helpers.sep-with-lines
 fd-returns t c = record { is = then-sure (c .before .before .before .before .before .before .before .before .before .before .word .ensures) (then-stop (plain (c .before .before .before .before .before .ty-var-seq .ensures)) (c .before .before .told .ensures) (c .enum-told .given .1)) }
 
--- src/lib.rt:1416:27
+-- src/lib.rt:1417:27
 fd-list-requires : (t : ℕ) → fd-lts.Need-list-requires (
   word-reads.Asked,
   word-reads.Learnt,
@@ -10413,7 +10490,7 @@ fd-list-requires : (t : ℕ) → fd-lts.Need-list-requires (
 ) (fd-at t) fd.Post fd-Inv-loop fd-μ-loop
 fd-list-requires t c κs = search needs
 
--- src/lib.rt:1416:18
+-- src/lib.rt:1417:18
 fd-enum-known-n : (t : ℕ) → fd-lts.Need-enum-known-n (
   word-reads.Asked,
   word-reads.Learnt,
@@ -10432,7 +10509,7 @@ fd-enum-known-n : (t : ℕ) → fd-lts.Need-enum-known-n (
 ) (fd-at t) fd.Post fd-Inv-loop fd-μ-loop
 fd-enum-known-n t c = search needs
 
--- src/lib.rt:1417:9
+-- src/lib.rt:1418:9
 fd-enum-told-2 : (t : ℕ) → fd-lts.Need-enum-told-2 (
   word-reads.Asked,
   word-reads.Learnt,
@@ -10451,7 +10528,7 @@ fd-enum-told-2 : (t : ℕ) → fd-lts.Need-enum-told-2 (
 ) (fd-at t) fd.Post fd-Inv-loop fd-μ-loop
 fd-enum-told-2 t c = search needs
 
--- src/lib.rt:1417:9
+-- src/lib.rt:1418:9
 fd-stop-requires : (t : ℕ) → fd-lts.Need-stop-requires (
   word-reads.Asked,
   word-reads.Learnt,
@@ -10470,7 +10547,7 @@ fd-stop-requires : (t : ℕ) → fd-lts.Need-stop-requires (
 ) (fd-at t) fd.Post fd-Inv-loop fd-μ-loop
 fd-stop-requires t c κs = search needs
 
--- src/lib.rt:1417:9
+-- src/lib.rt:1418:9
 fd-same-length-2 : (t : ℕ) → fd-lts.Need-same-length-2 (
   word-reads.Asked,
   word-reads.Learnt,
@@ -10489,7 +10566,7 @@ fd-same-length-2 : (t : ℕ) → fd-lts.Need-same-length-2 (
 ) (fd-at t) fd.Post fd-Inv-loop fd-μ-loop
 fd-same-length-2 t c = c .before .before .before .before .before .before .before .before .before .before .ty-var-seq .kept .1 .1 .1 .1 .1 .0 ∙ c .before .before .before .before .before .before .before .before .before .before .before .before .before .before .before .word .kept .1 .1 .0
 
--- src/lib.rt:1417:9
+-- src/lib.rt:1418:9
 fd-returns-2 : (t : ℕ) → fd-lts.Need-returns-2 (
   word-reads.Asked,
   word-reads.Learnt,
@@ -10509,7 +10586,7 @@ fd-returns-2 : (t : ℕ) → fd-lts.Need-returns-2 (
 unfolding DecOne.dec-one Helpers.sep-with-lines
 fd-returns-2 t c = record { is = then-sure (c .before .before .before .before .before .before .before .before .before .before .before .before .before .before .before .word .ensures) (then-done (plain (c .before .before .before .before .before .before .before .before .before .before .ty-var-seq .ensures)) (c .before .before .before .before .before .before .before .told .ensures) (c .before .before .before .before .before .s1 .given .1) (list-not (c .stop .ensures) (c .before .before .before .list .ensures) (c .before .enum-told2 .given .1))) }
 
--- src/lib.rt:1421:5
+-- src/lib.rt:1422:5
 fd-loop-holds : (t : ℕ) → fd-lts.Need-loop-holds (
   word-reads.Asked,
   word-reads.Learnt,
@@ -10528,7 +10605,7 @@ fd-loop-holds : (t : ℕ) → fd-lts.Need-loop-holds (
 ) (fd-at t) fd.Post fd-Inv-loop fd-μ-loop
 fd-loop-holds t c = (omega arith, λ r m o h. h, refl)
 
--- src/lib.rt:1422:9
+-- src/lib.rt:1423:9
 fd-new-line-requires : (t : ℕ) → fd-lts.Need-new-line-requires (
   word-reads.Asked,
   word-reads.Learnt,
@@ -10547,7 +10624,7 @@ fd-new-line-requires : (t : ℕ) → fd-lts.Need-new-line-requires (
 ) (fd-at t) fd.Post fd-Inv-loop fd-μ-loop
 fd-new-line-requires t c κs = search needs
 
--- src/lib.rt:1423:13
+-- src/lib.rt:1424:13
 fd-fb-requires : (t : ℕ) → fd-lts.Need-fb-requires (
   word-reads.Asked,
   word-reads.Learnt,
@@ -10566,7 +10643,7 @@ fd-fb-requires : (t : ℕ) → fd-lts.Need-fb-requires (
 ) (fd-at t) fd.Post fd-Inv-loop fd-μ-loop
 fd-fb-requires t c κs = omega (arith, c .before .before .before .before .before .before .before .before .before .before .before .before .before .before .before .before .before .before .before .before .before .before .before .before .before .before .before .before .before .before .before .before .before .pre .0, c .before .before .before .before .before .before .before .before .before .before .before .before .before .before .before .before .before .before .before .before .before .before .before .before .before .before .before .before .before .before .before .before .before .pre .1)
 
--- src/lib.rt:1424:32
+-- src/lib.rt:1425:32
 fd-told-requires-2 : (t : ℕ) → fd-lts.Need-told-requires-2 (
   word-reads.Asked,
   word-reads.Learnt,
@@ -10585,7 +10662,7 @@ fd-told-requires-2 : (t : ℕ) → fd-lts.Need-told-requires-2 (
 ) (fd-at t) fd.Post fd-Inv-loop fd-μ-loop
 fd-told-requires-2 t c κs = search needs
 
--- src/lib.rt:1424:26
+-- src/lib.rt:1425:26
 fd-enum-known-s3 : (t : ℕ) → fd-lts.Need-enum-known-s3 (
   word-reads.Asked,
   word-reads.Learnt,
@@ -10604,7 +10681,7 @@ fd-enum-known-s3 : (t : ℕ) → fd-lts.Need-enum-known-s3 (
 ) (fd-at t) fd.Post fd-Inv-loop fd-μ-loop
 fd-enum-known-s3 t c = search needs
 
--- src/lib.rt:1425:13
+-- src/lib.rt:1426:13
 fd-enum-told-3 : (t : ℕ) → fd-lts.Need-enum-told-3 (
   word-reads.Asked,
   word-reads.Learnt,
@@ -10623,7 +10700,7 @@ fd-enum-told-3 : (t : ℕ) → fd-lts.Need-enum-told-3 (
 ) (fd-at t) fd.Post fd-Inv-loop fd-μ-loop
 fd-enum-told-3 t c = search needs
 
--- src/lib.rt:1425:13
+-- src/lib.rt:1426:13
 fd-same-length-3 : (t : ℕ) → fd-lts.Need-same-length-3 (
   word-reads.Asked,
   word-reads.Learnt,
@@ -10642,7 +10719,7 @@ fd-same-length-3 : (t : ℕ) → fd-lts.Need-same-length-3 (
 ) (fd-at t) fd.Post fd-Inv-loop fd-μ-loop
 fd-same-length-3 t c = c .before .before .before .before .before .fb .kept .1 .1 .1 .1 .1 .1 .0 ∙ c .before .before .before .before .before .before .before .before .before .before .new-line .kept .1 .1 .0 ∙ c .before .before .before .before .before .before .before .before .before .before .before .before .before .before .loop .inv .2 ∙ c .before .before .before .before .before .before .before .before .before .before .before .before .before .before .before .before .before .before .before .before .before .before .before .before .before .ty-var-seq .kept .1 .1 .1 .1 .1 .0 ∙ c .before .before .before .before .before .before .before .before .before .before .before .before .before .before .before .before .before .before .before .before .before .before .before .before .before .before .before .before .before .before .word .kept .1 .1 .0
 
--- src/lib.rt:1425:13
+-- src/lib.rt:1426:13
 fd-returns-3 : (t : ℕ) → fd-lts.Need-returns-3 (
   word-reads.Asked,
   word-reads.Learnt,
@@ -10662,7 +10739,7 @@ fd-returns-3 : (t : ℕ) → fd-lts.Need-returns-3 (
 unfolding DecOne.dec-one Helpers.sep-with-lines
 fd-returns-3 t c = record { is = then-sure (c .before .before .before .before .before .before .before .before .before .before .before .before .before .before .before .before .before .before .before .before .before .before .before .before .before .before .before .before .before .before .word .ensures) (then-done (plain (c .before .before .before .before .before .before .before .before .before .before .before .before .before .before .before .before .before .before .before .before .before .before .before .before .before .ty-var-seq .ensures)) (c .before .before .before .before .before .before .before .before .before .before .before .before .before .before .before .before .before .before .before .before .before .before .told .ensures) (c .before .before .before .before .before .before .before .before .before .before .before .before .before .before .before .before .before .before .before .before .s1 .given .1) (by-same (list-is (c .before .before .before .before .before .before .before .before .before .before .before .before .before .before .before .before .before .before .list .ensures) (c .before .before .before .before .before .before .before .before .before .before .before .before .before .before .before .before .n .given .1)) (by-same (items-all _ _ _) (c .before .before .before .before .before .before .before .before .before .before .before .before .before .before .loop .inv .1 _ _ _ (from-more _ _ (c .before .before .before .before .before .before .before .before .before .before .before .before .before .loop-test .taken) (then-sure (c .before .before .before .before .before .before .before .before .before .before .new-line .ensures) (then-stop (c .before .before .before .before .before .fb .ensures .is) (c .before .before .told2 .ensures) (c .enum-told3 .given .1)))))))) }
 
--- src/lib.rt:1428:9
+-- src/lib.rt:1429:9
 fd-add-i : (t : ℕ) → fd-lts.Need-add-i (
   word-reads.Asked,
   word-reads.Learnt,
@@ -10681,7 +10758,7 @@ fd-add-i : (t : ℕ) → fd-lts.Need-add-i (
 ) (fd-at t) fd.Post fd-Inv-loop fd-μ-loop
 fd-add-i t c = omega (arith, c .before .before .before .before .before .before .before .before .before .before .before .before .before .before .loop-test .taken, c .before .before .before .before .before .before .before .before .before .before .before .before .before .before .before .before .known-told2)
 
--- src/lib.rt:1421:5
+-- src/lib.rt:1422:5
 fd-loop-less : (t : ℕ) → fd-lts.Need-loop-less (
   word-reads.Asked,
   word-reads.Learnt,
@@ -10700,7 +10777,7 @@ fd-loop-less : (t : ℕ) → fd-lts.Need-loop-less (
 ) (fd-at t) fd.Post fd-Inv-loop fd-μ-loop
 fd-loop-less t c = omega arith
 
--- src/lib.rt:1421:5
+-- src/lib.rt:1422:5
 fd-loop-again : (t : ℕ) → fd-lts.Need-loop-again (
   word-reads.Asked,
   word-reads.Learnt,
@@ -10720,7 +10797,7 @@ fd-loop-again : (t : ℕ) → fd-lts.Need-loop-again (
 unfolding DecOne.dec-one Helpers.sep-with-lines
 fd-loop-again t c = (omega (arith, c .before .before .before .before .before .before .before .before .before .before .before .before .before .before .before .loop .inv .0), λ r m o h. c .before .before .before .before .before .before .before .before .before .before .before .before .before .before .before .loop .inv .1 r m o (from-more _ _ (c .before .before .before .before .before .before .before .before .before .before .before .before .before .before .loop-test .taken) (then-sure (c .before .before .before .before .before .before .before .before .before .before .before .new-line .ensures) (then-done (c .before .before .before .before .before .before .fb .ensures .is) (c .before .before .before .told2 .ensures) (c .before .s3 .given .1) h))), c .before .before .before .before .before .before .fb .kept .1 .1 .1 .1 .1 .1 .0 ∙ c .before .before .before .before .before .before .before .before .before .before .before .new-line .kept .1 .1 .0 ∙ c .before .before .before .before .before .before .before .before .before .before .before .before .before .before .before .loop .inv .2)
 
--- src/lib.rt:1396:1
+-- src/lib.rt:1397:1
 fd-same-length-4 : (t : ℕ) → fd-lts.Need-same-length-4 (
   word-reads.Asked,
   word-reads.Learnt,
@@ -10739,7 +10816,7 @@ fd-same-length-4 : (t : ℕ) → fd-lts.Need-same-length-4 (
 ) (fd-at t) fd.Post fd-Inv-loop fd-μ-loop
 fd-same-length-4 t c = c .before .loop .inv .2 ∙ c .before .before .before .before .before .before .before .before .before .before .before .before .ty-var-seq .kept .1 .1 .1 .1 .1 .0 ∙ c .before .before .before .before .before .before .before .before .before .before .before .before .before .before .before .before .before .word .kept .1 .1 .0
 
--- src/lib.rt:1396:1
+-- src/lib.rt:1397:1
 fd-returns-4 : (t : ℕ) → fd-lts.Need-returns-4 (
   word-reads.Asked,
   word-reads.Learnt,
@@ -10766,7 +10843,7 @@ fe-Inv-loop run text rec kinds starts lens out₀ mem₀ at cfg r1 s1 n s2 s₀ 
 abbrev fe-μ-loop : fe-lts.MeasureT-loop
 fe-μ-loop run text rec kinds starts lens out₀ mem₀ at cfg r1 s1 n s2 s₀ i₀ out mem s i = n - i
 
--- src/lib.rt:926:5
+-- src/lib.rt:927:5
 fe-word-requires : (t : ℕ) → fe-lts.Need-word-requires (
   word-reads.Asked,
   word-reads.Learnt,
@@ -10785,7 +10862,7 @@ fe-word-requires : (t : ℕ) → fe-lts.Need-word-requires (
 ) (fe-at t) fe.Post fe-Inv-loop fe-μ-loop
 fe-word-requires t c κs = search needs
 
--- src/lib.rt:927:9
+-- src/lib.rt:928:9
 fe-group-requires : (t : ℕ) → fe-lts.Need-group-requires (
   word-reads.Asked,
   word-reads.Learnt,
@@ -10804,7 +10881,7 @@ fe-group-requires : (t : ℕ) → fe-lts.Need-group-requires (
 ) (fe-at t) fe.Post fe-Inv-loop fe-μ-loop
 fe-group-requires t c κs = search needs
 
--- src/lib.rt:928:28
+-- src/lib.rt:929:28
 fe-told-requires : (t : ℕ) → fe-lts.Need-told-requires (
   word-reads.Asked,
   word-reads.Learnt,
@@ -10823,7 +10900,7 @@ fe-told-requires : (t : ℕ) → fe-lts.Need-told-requires (
 ) (fe-at t) fe.Post fe-Inv-loop fe-μ-loop
 fe-told-requires t c κs = search needs
 
--- src/lib.rt:928:22
+-- src/lib.rt:929:22
 fe-enum-known-s1 : (t : ℕ) → fe-lts.Need-enum-known-s1 (
   word-reads.Asked,
   word-reads.Learnt,
@@ -10842,7 +10919,7 @@ fe-enum-known-s1 : (t : ℕ) → fe-lts.Need-enum-known-s1 (
 ) (fe-at t) fe.Post fe-Inv-loop fe-μ-loop
 fe-enum-known-s1 t c = search needs
 
--- src/lib.rt:929:9
+-- src/lib.rt:930:9
 fe-enum-told : (t : ℕ) → fe-lts.Need-enum-told (
   word-reads.Asked,
   word-reads.Learnt,
@@ -10861,7 +10938,7 @@ fe-enum-told : (t : ℕ) → fe-lts.Need-enum-told (
 ) (fe-at t) fe.Post fe-Inv-loop fe-μ-loop
 fe-enum-told t c = search needs
 
--- src/lib.rt:929:9
+-- src/lib.rt:930:9
 fe-same-length : (t : ℕ) → fe-lts.Need-same-length (
   word-reads.Asked,
   word-reads.Learnt,
@@ -10880,7 +10957,7 @@ fe-same-length : (t : ℕ) → fe-lts.Need-same-length (
 ) (fe-at t) fe.Post fe-Inv-loop fe-μ-loop
 fe-same-length t c = c .before .before .before .before .before .before .word .kept .1 .1 .0
 
--- src/lib.rt:929:9
+-- src/lib.rt:930:9
 fe-returns : (t : ℕ) → fe-lts.Need-returns (
   word-reads.Asked,
   word-reads.Learnt,
@@ -10900,7 +10977,7 @@ fe-returns : (t : ℕ) → fe-lts.Need-returns (
 unfolding Exp.exp Exp.fn-arms Helpers.sep
 fe-returns t c = record { is = then-sure (c .before .before .before .before .before .before .word .ensures) (group-not (c .before .before .before .group .ensures) (c .before .before .told .ensures) (c .enum-told .given .1)) }
 
--- src/lib.rt:931:27
+-- src/lib.rt:932:27
 fe-list-requires : (t : ℕ) → fe-lts.Need-list-requires (
   word-reads.Asked,
   word-reads.Learnt,
@@ -10919,7 +10996,7 @@ fe-list-requires : (t : ℕ) → fe-lts.Need-list-requires (
 ) (fe-at t) fe.Post fe-Inv-loop fe-μ-loop
 fe-list-requires t c κs = search needs
 
--- src/lib.rt:931:18
+-- src/lib.rt:932:18
 fe-enum-known-n : (t : ℕ) → fe-lts.Need-enum-known-n (
   word-reads.Asked,
   word-reads.Learnt,
@@ -10938,7 +11015,7 @@ fe-enum-known-n : (t : ℕ) → fe-lts.Need-enum-known-n (
 ) (fe-at t) fe.Post fe-Inv-loop fe-μ-loop
 fe-enum-known-n t c = search needs
 
--- src/lib.rt:932:9
+-- src/lib.rt:933:9
 fe-enum-told-2 : (t : ℕ) → fe-lts.Need-enum-told-2 (
   word-reads.Asked,
   word-reads.Learnt,
@@ -10957,7 +11034,7 @@ fe-enum-told-2 : (t : ℕ) → fe-lts.Need-enum-told-2 (
 ) (fe-at t) fe.Post fe-Inv-loop fe-μ-loop
 fe-enum-told-2 t c = search needs
 
--- src/lib.rt:932:9
+-- src/lib.rt:933:9
 fe-stop-requires : (t : ℕ) → fe-lts.Need-stop-requires (
   word-reads.Asked,
   word-reads.Learnt,
@@ -10976,7 +11053,7 @@ fe-stop-requires : (t : ℕ) → fe-lts.Need-stop-requires (
 ) (fe-at t) fe.Post fe-Inv-loop fe-μ-loop
 fe-stop-requires t c κs = search needs
 
--- src/lib.rt:932:9
+-- src/lib.rt:933:9
 fe-same-length-2 : (t : ℕ) → fe-lts.Need-same-length-2 (
   word-reads.Asked,
   word-reads.Learnt,
@@ -10995,7 +11072,7 @@ fe-same-length-2 : (t : ℕ) → fe-lts.Need-same-length-2 (
 ) (fe-at t) fe.Post fe-Inv-loop fe-μ-loop
 fe-same-length-2 t c = c .before .before .before .before .before .before .before .before .before .before .before .word .kept .1 .1 .0
 
--- src/lib.rt:932:9
+-- src/lib.rt:933:9
 fe-returns-2 : (t : ℕ) → fe-lts.Need-returns-2 (
   word-reads.Asked,
   word-reads.Learnt,
@@ -11015,7 +11092,7 @@ fe-returns-2 : (t : ℕ) → fe-lts.Need-returns-2 (
 unfolding Exp.exp Exp.fn-arms Helpers.sep
 fe-returns-2 t c = record { is = then-sure (c .before .before .before .before .before .before .before .before .before .before .before .word .ensures) (by-same (group-is (c .before .before .before .before .before .before .before .before .group .ensures) (c .before .before .before .before .before .before .before .told .ensures) (c .before .before .before .before .before .s1 .given .1)) (list-not (c .stop .ensures) (c .before .before .before .list .ensures) (c .before .enum-told2 .given .1))) }
 
--- src/lib.rt:936:5
+-- src/lib.rt:937:5
 fe-loop-holds : (t : ℕ) → fe-lts.Need-loop-holds (
   word-reads.Asked,
   word-reads.Learnt,
@@ -11034,7 +11111,7 @@ fe-loop-holds : (t : ℕ) → fe-lts.Need-loop-holds (
 ) (fe-at t) fe.Post fe-Inv-loop fe-μ-loop
 fe-loop-holds t c = (omega arith, λ r m o h. h, refl)
 
--- src/lib.rt:937:9
+-- src/lib.rt:938:9
 fe-between-requires : (t : ℕ) → fe-lts.Need-between-requires (
   word-reads.Asked,
   word-reads.Learnt,
@@ -11053,7 +11130,7 @@ fe-between-requires : (t : ℕ) → fe-lts.Need-between-requires (
 ) (fe-at t) fe.Post fe-Inv-loop fe-μ-loop
 fe-between-requires t c κs = search needs
 
--- src/lib.rt:938:13
+-- src/lib.rt:939:13
 fe-arm-requires : (t : ℕ) → fe-lts.Need-arm-requires (
   word-reads.Asked,
   word-reads.Learnt,
@@ -11072,7 +11149,7 @@ fe-arm-requires : (t : ℕ) → fe-lts.Need-arm-requires (
 ) (fe-at t) fe.Post fe-Inv-loop fe-μ-loop
 fe-arm-requires t c κs = omega (arith, c .before .before .before .before .before .before .before .before .before .before .before .before .before .before .before .before .before .before .before .before .before .before .before .before .before .before .before .before .before .pre .0, c .before .before .before .before .before .before .before .before .before .before .before .before .before .before .before .before .before .before .before .before .before .before .before .before .before .before .before .before .before .pre .1)
 
--- src/lib.rt:939:32
+-- src/lib.rt:940:32
 fe-told-requires-2 : (t : ℕ) → fe-lts.Need-told-requires-2 (
   word-reads.Asked,
   word-reads.Learnt,
@@ -11091,7 +11168,7 @@ fe-told-requires-2 : (t : ℕ) → fe-lts.Need-told-requires-2 (
 ) (fe-at t) fe.Post fe-Inv-loop fe-μ-loop
 fe-told-requires-2 t c κs = search needs
 
--- src/lib.rt:939:26
+-- src/lib.rt:940:26
 fe-enum-known-s3 : (t : ℕ) → fe-lts.Need-enum-known-s3 (
   word-reads.Asked,
   word-reads.Learnt,
@@ -11110,7 +11187,7 @@ fe-enum-known-s3 : (t : ℕ) → fe-lts.Need-enum-known-s3 (
 ) (fe-at t) fe.Post fe-Inv-loop fe-μ-loop
 fe-enum-known-s3 t c = search needs
 
--- src/lib.rt:940:13
+-- src/lib.rt:941:13
 fe-enum-told-3 : (t : ℕ) → fe-lts.Need-enum-told-3 (
   word-reads.Asked,
   word-reads.Learnt,
@@ -11129,7 +11206,7 @@ fe-enum-told-3 : (t : ℕ) → fe-lts.Need-enum-told-3 (
 ) (fe-at t) fe.Post fe-Inv-loop fe-μ-loop
 fe-enum-told-3 t c = search needs
 
--- src/lib.rt:940:13
+-- src/lib.rt:941:13
 fe-same-length-3 : (t : ℕ) → fe-lts.Need-same-length-3 (
   word-reads.Asked,
   word-reads.Learnt,
@@ -11148,7 +11225,7 @@ fe-same-length-3 : (t : ℕ) → fe-lts.Need-same-length-3 (
 ) (fe-at t) fe.Post fe-Inv-loop fe-μ-loop
 fe-same-length-3 t c = c .before .before .before .before .before .arm .kept .1 .1 .1 .1 .1 .1 .0 ∙ c .before .before .before .before .before .before .before .before .before .before .between .kept .1 .1 .0 ∙ c .before .before .before .before .before .before .before .before .before .before .before .before .before .before .loop .inv .2 ∙ c .before .before .before .before .before .before .before .before .before .before .before .before .before .before .before .before .before .before .before .before .before .before .before .before .before .before .word .kept .1 .1 .0
 
--- src/lib.rt:940:13
+-- src/lib.rt:941:13
 fe-returns-3 : (t : ℕ) → fe-lts.Need-returns-3 (
   word-reads.Asked,
   word-reads.Learnt,
@@ -11168,7 +11245,7 @@ fe-returns-3 : (t : ℕ) → fe-lts.Need-returns-3 (
 unfolding Exp.exp Exp.fn-arms Helpers.sep
 fe-returns-3 t c = record { is = then-sure (c .before .before .before .before .before .before .before .before .before .before .before .before .before .before .before .before .before .before .before .before .before .before .before .before .before .before .word .ensures) (by-same (group-is (c .before .before .before .before .before .before .before .before .before .before .before .before .before .before .before .before .before .before .before .before .before .before .before .group .ensures) (c .before .before .before .before .before .before .before .before .before .before .before .before .before .before .before .before .before .before .before .before .before .before .told .ensures) (c .before .before .before .before .before .before .before .before .before .before .before .before .before .before .before .before .before .before .before .before .s1 .given .1)) (by-same (list-is (c .before .before .before .before .before .before .before .before .before .before .before .before .before .before .before .before .before .before .list .ensures) (c .before .before .before .before .before .before .before .before .before .before .before .before .before .before .before .before .n .given .1)) (by-same (items-all _ _ _) (c .before .before .before .before .before .before .before .before .before .before .before .before .before .before .loop .inv .1 _ _ _ (from-more _ _ (c .before .before .before .before .before .before .before .before .before .before .before .before .before .loop-test .taken) (then-sure (c .before .before .before .before .before .before .before .before .before .before .between .ensures) (then-stop (c .before .before .before .before .before .arm .ensures .is) (c .before .before .told2 .ensures) (c .enum-told3 .given .1)))))))) }
 
--- src/lib.rt:943:9
+-- src/lib.rt:944:9
 fe-add-i : (t : ℕ) → fe-lts.Need-add-i (
   word-reads.Asked,
   word-reads.Learnt,
@@ -11187,7 +11264,7 @@ fe-add-i : (t : ℕ) → fe-lts.Need-add-i (
 ) (fe-at t) fe.Post fe-Inv-loop fe-μ-loop
 fe-add-i t c = omega (arith, c .before .before .before .before .before .before .before .before .before .before .before .before .before .before .loop-test .taken, c .before .before .before .before .before .before .before .before .before .before .before .before .before .before .before .before .known-told2)
 
--- src/lib.rt:936:5
+-- src/lib.rt:937:5
 fe-loop-less : (t : ℕ) → fe-lts.Need-loop-less (
   word-reads.Asked,
   word-reads.Learnt,
@@ -11206,7 +11283,7 @@ fe-loop-less : (t : ℕ) → fe-lts.Need-loop-less (
 ) (fe-at t) fe.Post fe-Inv-loop fe-μ-loop
 fe-loop-less t c = omega arith
 
--- src/lib.rt:936:5
+-- src/lib.rt:937:5
 fe-loop-again : (t : ℕ) → fe-lts.Need-loop-again (
   word-reads.Asked,
   word-reads.Learnt,
@@ -11226,7 +11303,7 @@ fe-loop-again : (t : ℕ) → fe-lts.Need-loop-again (
 unfolding Exp.exp Exp.fn-arms Helpers.sep
 fe-loop-again t c = (omega (arith, c .before .before .before .before .before .before .before .before .before .before .before .before .before .before .before .loop .inv .0), λ r m o h. c .before .before .before .before .before .before .before .before .before .before .before .before .before .before .before .loop .inv .1 r m o (from-more _ _ (c .before .before .before .before .before .before .before .before .before .before .before .before .before .before .loop-test .taken) (then-sure (c .before .before .before .before .before .before .before .before .before .before .before .between .ensures) (then-done (c .before .before .before .before .before .before .arm .ensures .is) (c .before .before .before .told2 .ensures) (c .before .s3 .given .1) h))), c .before .before .before .before .before .before .arm .kept .1 .1 .1 .1 .1 .1 .0 ∙ c .before .before .before .before .before .before .before .before .before .before .before .between .kept .1 .1 .0 ∙ c .before .before .before .before .before .before .before .before .before .before .before .before .before .before .before .loop .inv .2)
 
--- src/lib.rt:911:1
+-- src/lib.rt:912:1
 fe-same-length-4 : (t : ℕ) → fe-lts.Need-same-length-4 (
   word-reads.Asked,
   word-reads.Learnt,
@@ -11245,7 +11322,7 @@ fe-same-length-4 : (t : ℕ) → fe-lts.Need-same-length-4 (
 ) (fe-at t) fe.Post fe-Inv-loop fe-μ-loop
 fe-same-length-4 t c = c .before .loop .inv .2 ∙ c .before .before .before .before .before .before .before .before .before .before .before .before .before .word .kept .1 .1 .0
 
--- src/lib.rt:911:1
+-- src/lib.rt:912:1
 fe-returns-4 : (t : ℕ) → fe-lts.Need-returns-4 (
   word-reads.Asked,
   word-reads.Learnt,
@@ -11272,7 +11349,7 @@ fs-Inv-loop run text rec kinds starts lens out₀ mem₀ at cfg n s0 s₀ i₀ o
 abbrev fs-μ-loop : fs-lts.MeasureT-loop
 fs-μ-loop run text rec kinds starts lens out₀ mem₀ at cfg n s0 s₀ i₀ out mem s i = n - i
 
--- src/lib.rt:1941:27
+-- src/lib.rt:1942:27
 fs-list-requires : (t : ℕ) → fs-lts.Need-list-requires (
   list-reads.Asked,
   list-reads.Learnt,
@@ -11287,7 +11364,7 @@ fs-list-requires : (t : ℕ) → fs-lts.Need-list-requires (
 ) (fs-at t) fs.Post fs-Inv-loop fs-μ-loop
 fs-list-requires t c κs = search needs
 
--- src/lib.rt:1941:18
+-- src/lib.rt:1942:18
 fs-enum-known-n : (t : ℕ) → fs-lts.Need-enum-known-n (
   list-reads.Asked,
   list-reads.Learnt,
@@ -11302,7 +11379,7 @@ fs-enum-known-n : (t : ℕ) → fs-lts.Need-enum-known-n (
 ) (fs-at t) fs.Post fs-Inv-loop fs-μ-loop
 fs-enum-known-n t c = search needs
 
--- src/lib.rt:1942:9
+-- src/lib.rt:1943:9
 fs-enum-told : (t : ℕ) → fs-lts.Need-enum-told (
   list-reads.Asked,
   list-reads.Learnt,
@@ -11317,7 +11394,7 @@ fs-enum-told : (t : ℕ) → fs-lts.Need-enum-told (
 ) (fs-at t) fs.Post fs-Inv-loop fs-μ-loop
 fs-enum-told t c = search needs
 
--- src/lib.rt:1942:9
+-- src/lib.rt:1943:9
 fs-stop-requires : (t : ℕ) → fs-lts.Need-stop-requires (
   list-reads.Asked,
   list-reads.Learnt,
@@ -11332,7 +11409,7 @@ fs-stop-requires : (t : ℕ) → fs-lts.Need-stop-requires (
 ) (fs-at t) fs.Post fs-Inv-loop fs-μ-loop
 fs-stop-requires t c κs = search needs
 
--- src/lib.rt:1942:9
+-- src/lib.rt:1943:9
 fs-returns : (t : ℕ) → fs-lts.Need-returns (
   list-reads.Asked,
   list-reads.Learnt,
@@ -11348,7 +11425,7 @@ fs-returns : (t : ℕ) → fs-lts.Need-returns (
 unfolding DecOne.functor-args Helpers.for-each
 fs-returns t c = record { is = list-not (c .stop .ensures) (c .before .before .before .list .ensures) (c .before .enum-told .given .1) }
 
--- src/lib.rt:1946:5
+-- src/lib.rt:1947:5
 fs-loop-holds : (t : ℕ) → fs-lts.Need-loop-holds (
   list-reads.Asked,
   list-reads.Learnt,
@@ -11363,7 +11440,7 @@ fs-loop-holds : (t : ℕ) → fs-lts.Need-loop-holds (
 ) (fs-at t) fs.Post fs-Inv-loop fs-μ-loop
 fs-loop-holds t c = (omega arith, λ r m o h. h, refl)
 
--- src/lib.rt:1947:31
+-- src/lib.rt:1948:31
 fs-choice-requires : (t : ℕ) → fs-lts.Need-choice-requires (
   list-reads.Asked,
   list-reads.Learnt,
@@ -11378,7 +11455,7 @@ fs-choice-requires : (t : ℕ) → fs-lts.Need-choice-requires (
 ) (fs-at t) fs.Post fs-Inv-loop fs-μ-loop
 fs-choice-requires t c κs = search needs
 
--- src/lib.rt:1947:22
+-- src/lib.rt:1948:22
 fs-enum-known-k : (t : ℕ) → fs-lts.Need-enum-known-k (
   list-reads.Asked,
   list-reads.Learnt,
@@ -11393,7 +11470,7 @@ fs-enum-known-k : (t : ℕ) → fs-lts.Need-enum-known-k (
 ) (fs-at t) fs.Post fs-Inv-loop fs-μ-loop
 fs-enum-known-k t c = search needs
 
--- src/lib.rt:1948:13
+-- src/lib.rt:1949:13
 fs-enum-told-2 : (t : ℕ) → fs-lts.Need-enum-told-2 (
   list-reads.Asked,
   list-reads.Learnt,
@@ -11408,7 +11485,7 @@ fs-enum-told-2 : (t : ℕ) → fs-lts.Need-enum-told-2 (
 ) (fs-at t) fs.Post fs-Inv-loop fs-μ-loop
 fs-enum-told-2 t c = search needs
 
--- src/lib.rt:1948:13
+-- src/lib.rt:1949:13
 fs-stop-requires-2 : (t : ℕ) → fs-lts.Need-stop-requires-2 (
   list-reads.Asked,
   list-reads.Learnt,
@@ -11423,7 +11500,7 @@ fs-stop-requires-2 : (t : ℕ) → fs-lts.Need-stop-requires-2 (
 ) (fs-at t) fs.Post fs-Inv-loop fs-μ-loop
 fs-stop-requires-2 t c κs = search needs
 
--- src/lib.rt:1948:13
+-- src/lib.rt:1949:13
 fs-same-length : (t : ℕ) → fs-lts.Need-same-length (
   list-reads.Asked,
   list-reads.Learnt,
@@ -11438,7 +11515,7 @@ fs-same-length : (t : ℕ) → fs-lts.Need-same-length (
 ) (fs-at t) fs.Post fs-Inv-loop fs-μ-loop
 fs-same-length t c = c .before .before .before .before .before .loop .inv .2
 
--- src/lib.rt:1948:13
+-- src/lib.rt:1949:13
 fs-returns-2 : (t : ℕ) → fs-lts.Need-returns-2 (
   list-reads.Asked,
   list-reads.Learnt,
@@ -11454,7 +11531,7 @@ fs-returns-2 : (t : ℕ) → fs-lts.Need-returns-2 (
 unfolding DecOne.functor-args Helpers.for-each
 fs-returns-2 t c = record { is = by-same (list-is (c .before .before .before .before .before .before .before .before .before .list .ensures) (c .before .before .before .before .before .before .before .n .given .1)) (by-same (times-all _ _) (c .before .before .before .before .before .loop .inv .1 _ _ _ (times-more _ (c .before .before .before .before .loop-test .taken) (then-halt (choice-not (c .stop2 .ensures) (c .before .before .before .choice .ensures) (c .before .enum-told2 .given .1)) (c .stop2 .ensures))))) }
 
--- src/lib.rt:1950:13
+-- src/lib.rt:1951:13
 fs-fa-requires : (t : ℕ) → fs-lts.Need-fa-requires (
   list-reads.Asked,
   list-reads.Learnt,
@@ -11469,7 +11546,7 @@ fs-fa-requires : (t : ℕ) → fs-lts.Need-fa-requires (
 ) (fs-at t) fs.Post fs-Inv-loop fs-μ-loop
 fs-fa-requires t c κs = omega (arith, c .before .before .before .before .before .before .before .before .before .before .before .before .before .before .before .before .before .before .pre .0, c .before .before .before .before .before .before .before .before .before .before .before .before .before .before .before .before .before .before .pre .1)
 
--- src/lib.rt:1951:32
+-- src/lib.rt:1952:32
 fs-told-requires : (t : ℕ) → fs-lts.Need-told-requires (
   list-reads.Asked,
   list-reads.Learnt,
@@ -11484,7 +11561,7 @@ fs-told-requires : (t : ℕ) → fs-lts.Need-told-requires (
 ) (fs-at t) fs.Post fs-Inv-loop fs-μ-loop
 fs-told-requires t c κs = search needs
 
--- src/lib.rt:1951:26
+-- src/lib.rt:1952:26
 fs-enum-known-s2 : (t : ℕ) → fs-lts.Need-enum-known-s2 (
   list-reads.Asked,
   list-reads.Learnt,
@@ -11499,7 +11576,7 @@ fs-enum-known-s2 : (t : ℕ) → fs-lts.Need-enum-known-s2 (
 ) (fs-at t) fs.Post fs-Inv-loop fs-μ-loop
 fs-enum-known-s2 t c = search needs
 
--- src/lib.rt:1952:13
+-- src/lib.rt:1953:13
 fs-enum-told-3 : (t : ℕ) → fs-lts.Need-enum-told-3 (
   list-reads.Asked,
   list-reads.Learnt,
@@ -11514,7 +11591,7 @@ fs-enum-told-3 : (t : ℕ) → fs-lts.Need-enum-told-3 (
 ) (fs-at t) fs.Post fs-Inv-loop fs-μ-loop
 fs-enum-told-3 t c = search needs
 
--- src/lib.rt:1952:13
+-- src/lib.rt:1953:13
 fs-same-length-2 : (t : ℕ) → fs-lts.Need-same-length-2 (
   list-reads.Asked,
   list-reads.Learnt,
@@ -11529,7 +11606,7 @@ fs-same-length-2 : (t : ℕ) → fs-lts.Need-same-length-2 (
 ) (fs-at t) fs.Post fs-Inv-loop fs-μ-loop
 fs-same-length-2 t c = c .before .before .before .before .before .fa .kept .1 .1 .1 .1 .1 .1 .0 ∙ c .before .before .before .before .before .before .before .before .before .before .before .before .before .loop .inv .2
 
--- src/lib.rt:1952:13
+-- src/lib.rt:1953:13
 fs-returns-3 : (t : ℕ) → fs-lts.Need-returns-3 (
   list-reads.Asked,
   list-reads.Learnt,
@@ -11545,7 +11622,7 @@ fs-returns-3 : (t : ℕ) → fs-lts.Need-returns-3 (
 unfolding DecOne.functor-args Helpers.for-each
 fs-returns-3 t c = record { is = by-same (list-is (c .before .before .before .before .before .before .before .before .before .before .before .before .before .before .before .before .before .list .ensures) (c .before .before .before .before .before .before .before .before .before .before .before .before .before .before .before .n .given .1)) (by-same (times-all _ _) (c .before .before .before .before .before .before .before .before .before .before .before .before .before .loop .inv .1 _ _ _ (times-more _ (c .before .before .before .before .before .before .before .before .before .before .before .before .loop-test .taken) (by-same (first-same (choice-is (c .before .before .before .before .before .before .before .before .before .before .before .choice .ensures) (c .before .before .before .before .before .before .before .before .before .k .given .1))) (then-stop (c .before .before .before .before .before .fa .ensures .is) (c .before .before .told .ensures) (c .enum-told3 .given .1)))))) }
 
--- src/lib.rt:1955:9
+-- src/lib.rt:1956:9
 fs-add-i : (t : ℕ) → fs-lts.Need-add-i (
   list-reads.Asked,
   list-reads.Learnt,
@@ -11560,7 +11637,7 @@ fs-add-i : (t : ℕ) → fs-lts.Need-add-i (
 ) (fs-at t) fs.Post fs-Inv-loop fs-μ-loop
 fs-add-i t c = omega (arith, c .before .before .before .before .before .before .before .before .before .before .before .before .before .loop-test .taken, c .before .before .before .before .before .before .before .before .before .before .before .before .before .before .before .known-told)
 
--- src/lib.rt:1946:5
+-- src/lib.rt:1947:5
 fs-loop-less : (t : ℕ) → fs-lts.Need-loop-less (
   list-reads.Asked,
   list-reads.Learnt,
@@ -11575,7 +11652,7 @@ fs-loop-less : (t : ℕ) → fs-lts.Need-loop-less (
 ) (fs-at t) fs.Post fs-Inv-loop fs-μ-loop
 fs-loop-less t c = omega arith
 
--- src/lib.rt:1946:5
+-- src/lib.rt:1947:5
 fs-loop-again : (t : ℕ) → fs-lts.Need-loop-again (
   list-reads.Asked,
   list-reads.Learnt,
@@ -11591,7 +11668,7 @@ fs-loop-again : (t : ℕ) → fs-lts.Need-loop-again (
 unfolding DecOne.functor-args Helpers.for-each
 fs-loop-again t c = (omega (arith, c .before .before .before .before .before .before .before .before .before .before .before .before .before .before .loop .inv .0), λ r m o h. c .before .before .before .before .before .before .before .before .before .before .before .before .before .before .loop .inv .1 r m o (times-more _ (c .before .before .before .before .before .before .before .before .before .before .before .before .before .loop-test .taken) (by-same (first-same (choice-is (c .before .before .before .before .before .before .before .before .before .before .before .before .choice .ensures) (c .before .before .before .before .before .before .before .before .before .before .k .given .1))) (then-done (c .before .before .before .before .before .before .fa .ensures .is) (c .before .before .before .told .ensures) (c .before .s2 .given .1) h))), c .before .before .before .before .before .before .fa .kept .1 .1 .1 .1 .1 .1 .0 ∙ c .before .before .before .before .before .before .before .before .before .before .before .before .before .before .loop .inv .2)
 
--- src/lib.rt:1926:1
+-- src/lib.rt:1927:1
 fs-same-length-3 : (t : ℕ) → fs-lts.Need-same-length-3 (
   list-reads.Asked,
   list-reads.Learnt,
@@ -11606,7 +11683,7 @@ fs-same-length-3 : (t : ℕ) → fs-lts.Need-same-length-3 (
 ) (fs-at t) fs.Post fs-Inv-loop fs-μ-loop
 fs-same-length-3 t c = c .before .loop .inv .2
 
--- src/lib.rt:1926:1
+-- src/lib.rt:1927:1
 fs-returns-4 : (t : ℕ) → fs-lts.Need-returns-4 (
   list-reads.Asked,
   list-reads.Learnt,
@@ -11622,7 +11699,7 @@ fs-returns-4 : (t : ℕ) → fs-lts.Need-returns-4 (
 unfolding DecOne.functor-args Helpers.for-each
 fs-returns-4 t c = record { is = by-same (list-is (c .before .before .before .before .before .list .ensures) (c .before .before .before .n .given .1)) (by-same (times-all _ _) (c .before .loop .inv .1 _ _ _ (times-none _ (c .loop-test .left)))) }
 
--- src/lib.rt:564:27
+-- src/lib.rt:565:27
 fx-token-no-requires : (t : ℕ) → fx-lts.Need-token-no-requires (
   token-no-reads.Asked,
   token-no-reads.Learnt,
@@ -11637,7 +11714,7 @@ fx-token-no-requires : (t : ℕ) → fx-lts.Need-token-no-requires (
 ) (fx-at t) fx.Post
 fx-token-no-requires t c κs = search needs
 
--- src/lib.rt:564:18
+-- src/lib.rt:565:18
 fx-enum-known-k : (t : ℕ) → fx-lts.Need-enum-known-k (
   token-no-reads.Asked,
   token-no-reads.Learnt,
@@ -11652,7 +11729,7 @@ fx-enum-known-k : (t : ℕ) → fx-lts.Need-enum-known-k (
 ) (fx-at t) fx.Post
 fx-enum-known-k t c = search needs
 
--- src/lib.rt:565:9
+-- src/lib.rt:566:9
 fx-enum-told : (t : ℕ) → fx-lts.Need-enum-told (
   token-no-reads.Asked,
   token-no-reads.Learnt,
@@ -11667,7 +11744,7 @@ fx-enum-told : (t : ℕ) → fx-lts.Need-enum-told (
 ) (fx-at t) fx.Post
 fx-enum-told t c = search needs
 
--- src/lib.rt:565:9
+-- src/lib.rt:566:9
 fx-stop-requires : (t : ℕ) → fx-lts.Need-stop-requires (
   token-no-reads.Asked,
   token-no-reads.Learnt,
@@ -11682,7 +11759,7 @@ fx-stop-requires : (t : ℕ) → fx-lts.Need-stop-requires (
 ) (fx-at t) fx.Post
 fx-stop-requires t c κs = search needs
 
--- src/lib.rt:565:9
+-- src/lib.rt:566:9
 fx-returns : (t : ℕ) → fx-lts.Need-returns (
   token-no-reads.Asked,
   token-no-reads.Learnt,
@@ -11698,7 +11775,7 @@ fx-returns : (t : ℕ) → fx-lts.Need-returns (
 unfolding Exp.exp
 fx-returns t c = record { is = then-halt (operator-not (c .stop .ensures) (c .before .before .before .token-no .ensures) (c .before .enum-told .given .1)) (c .stop .ensures) }
 
--- src/lib.rt:567:9
+-- src/lib.rt:568:9
 fx-exp-requires : (t : ℕ) → fx-lts.Need-exp-requires (
   token-no-reads.Asked,
   token-no-reads.Learnt,
@@ -11713,7 +11790,7 @@ fx-exp-requires : (t : ℕ) → fx-lts.Need-exp-requires (
 ) (fx-at t) fx.Post
 fx-exp-requires t c κs = omega (arith, c .before .before .before .before .before .before .before .before .before .before .before .before .pre .0, c .before .before .before .before .before .before .before .before .before .before .before .before .pre .1)
 
--- src/lib.rt:568:28
+-- src/lib.rt:569:28
 fx-told-requires : (t : ℕ) → fx-lts.Need-told-requires (
   token-no-reads.Asked,
   token-no-reads.Learnt,
@@ -11728,7 +11805,7 @@ fx-told-requires : (t : ℕ) → fx-lts.Need-told-requires (
 ) (fx-at t) fx.Post
 fx-told-requires t c κs = search needs
 
--- src/lib.rt:568:22
+-- src/lib.rt:569:22
 fx-enum-known-s2 : (t : ℕ) → fx-lts.Need-enum-known-s2 (
   token-no-reads.Asked,
   token-no-reads.Learnt,
@@ -11743,7 +11820,7 @@ fx-enum-known-s2 : (t : ℕ) → fx-lts.Need-enum-known-s2 (
 ) (fx-at t) fx.Post
 fx-enum-known-s2 t c = search needs
 
--- src/lib.rt:569:9
+-- src/lib.rt:570:9
 fx-enum-told-2 : (t : ℕ) → fx-lts.Need-enum-told-2 (
   token-no-reads.Asked,
   token-no-reads.Learnt,
@@ -11758,7 +11835,7 @@ fx-enum-told-2 : (t : ℕ) → fx-lts.Need-enum-told-2 (
 ) (fx-at t) fx.Post
 fx-enum-told-2 t c = search needs
 
--- src/lib.rt:569:9
+-- src/lib.rt:570:9
 fx-same-length : (t : ℕ) → fx-lts.Need-same-length (
   token-no-reads.Asked,
   token-no-reads.Learnt,
@@ -11773,7 +11850,7 @@ fx-same-length : (t : ℕ) → fx-lts.Need-same-length (
 ) (fx-at t) fx.Post
 fx-same-length t c = c .before .before .before .before .before .exp .kept .1 .1 .1 .1 .1 .1 .0
 
--- src/lib.rt:569:9
+-- src/lib.rt:570:9
 fx-returns-2 : (t : ℕ) → fx-lts.Need-returns-2 (
   token-no-reads.Asked,
   token-no-reads.Learnt,
@@ -11789,7 +11866,7 @@ fx-returns-2 : (t : ℕ) → fx-lts.Need-returns-2 (
 unfolding Exp.exp
 fx-returns-2 t c = record { is = then-stop (operator-stop (c .before .before .before .before .before .before .before .before .before .before .before .token-no .ensures) (c .before .before .before .before .before .before .before .before .before .k .given .1) (c .before .before .before .before .before .exp .ensures .is) (c .before .before .told .ensures) (c .enum-told2 .given .1)) (c .before .before .told .ensures) (c .enum-told2 .given .1) }
 
--- src/lib.rt:571:5
+-- src/lib.rt:572:5
 fx-infix-operator-requires : (t : ℕ) → fx-lts.Need-infix-operator-requires (
   token-no-reads.Asked,
   token-no-reads.Learnt,
@@ -11804,7 +11881,7 @@ fx-infix-operator-requires : (t : ℕ) → fx-lts.Need-infix-operator-requires (
 ) (fx-at t) fx.Post
 fx-infix-operator-requires t c κs = omega (arith, c .before .before .before .before .before .before .before .before .before .before .before .before .before .before .before .before .before .before .before .before .before .pre .1)
 
--- src/lib.rt:572:5
+-- src/lib.rt:573:5
 fx-exp-requires-2 : (t : ℕ) → fx-lts.Need-exp-requires-2 (
   token-no-reads.Asked,
   token-no-reads.Learnt,
@@ -11819,7 +11896,7 @@ fx-exp-requires-2 : (t : ℕ) → fx-lts.Need-exp-requires-2 (
 ) (fx-at t) fx.Post
 fx-exp-requires-2 t c κs = omega (arith, c .before .before .before .before .before .before .before .before .before .before .before .before .before .before .before .before .before .before .before .before .before .before .before .before .before .before .pre .0, c .before .before .before .before .before .before .before .before .before .before .before .before .before .before .before .before .before .before .before .before .before .before .before .before .before .before .pre .1)
 
--- src/lib.rt:549:1
+-- src/lib.rt:550:1
 fx-same-length-2 : (t : ℕ) → fx-lts.Need-same-length-2 (
   token-no-reads.Asked,
   token-no-reads.Learnt,
@@ -11834,7 +11911,7 @@ fx-same-length-2 : (t : ℕ) → fx-lts.Need-same-length-2 (
 ) (fx-at t) fx.Post
 fx-same-length-2 t c = c .before .before .exp2 .kept .1 .1 .1 .1 .1 .1 .0 ∙ c .before .before .before .before .before .before .before .infix-operator .kept .1 .1 .1 .1 .1 .0 ∙ c .before .before .before .before .before .before .before .before .before .before .before .before .before .before .before .before .exp .kept .1 .1 .1 .1 .1 .1 .0
 
--- src/lib.rt:549:1
+-- src/lib.rt:550:1
 fx-returns-3 : (t : ℕ) → fx-lts.Need-returns-3 (
   token-no-reads.Asked,
   token-no-reads.Learnt,
@@ -11857,7 +11934,7 @@ gd-Inv-loop run text rec kinds starts lens out₀ mem₀ at cfg n s1 s₀ i₀ o
 abbrev gd-μ-loop : gd-lts.MeasureT-loop
 gd-μ-loop run text rec kinds starts lens out₀ mem₀ at cfg n s1 s₀ i₀ out mem s i = n - i
 
--- src/lib.rt:1794:5
+-- src/lib.rt:1795:5
 gd-word-requires : (t : ℕ) → gd-lts.Need-word-requires (
   word-reads.Asked,
   word-reads.Learnt,
@@ -11876,7 +11953,7 @@ gd-word-requires : (t : ℕ) → gd-lts.Need-word-requires (
 ) (gd-at t) gd.Post gd-Inv-loop gd-μ-loop
 gd-word-requires t c κs = search needs
 
--- src/lib.rt:1795:27
+-- src/lib.rt:1796:27
 gd-list-requires : (t : ℕ) → gd-lts.Need-list-requires (
   word-reads.Asked,
   word-reads.Learnt,
@@ -11895,7 +11972,7 @@ gd-list-requires : (t : ℕ) → gd-lts.Need-list-requires (
 ) (gd-at t) gd.Post gd-Inv-loop gd-μ-loop
 gd-list-requires t c κs = search needs
 
--- src/lib.rt:1795:18
+-- src/lib.rt:1796:18
 gd-enum-known-n : (t : ℕ) → gd-lts.Need-enum-known-n (
   word-reads.Asked,
   word-reads.Learnt,
@@ -11914,7 +11991,7 @@ gd-enum-known-n : (t : ℕ) → gd-lts.Need-enum-known-n (
 ) (gd-at t) gd.Post gd-Inv-loop gd-μ-loop
 gd-enum-known-n t c = search needs
 
--- src/lib.rt:1796:9
+-- src/lib.rt:1797:9
 gd-enum-told : (t : ℕ) → gd-lts.Need-enum-told (
   word-reads.Asked,
   word-reads.Learnt,
@@ -11933,7 +12010,7 @@ gd-enum-told : (t : ℕ) → gd-lts.Need-enum-told (
 ) (gd-at t) gd.Post gd-Inv-loop gd-μ-loop
 gd-enum-told t c = search needs
 
--- src/lib.rt:1796:9
+-- src/lib.rt:1797:9
 gd-stop-requires : (t : ℕ) → gd-lts.Need-stop-requires (
   word-reads.Asked,
   word-reads.Learnt,
@@ -11952,7 +12029,7 @@ gd-stop-requires : (t : ℕ) → gd-lts.Need-stop-requires (
 ) (gd-at t) gd.Post gd-Inv-loop gd-μ-loop
 gd-stop-requires t c κs = search needs
 
--- src/lib.rt:1796:9
+-- src/lib.rt:1797:9
 gd-same-length : (t : ℕ) → gd-lts.Need-same-length (
   word-reads.Asked,
   word-reads.Learnt,
@@ -11971,7 +12048,7 @@ gd-same-length : (t : ℕ) → gd-lts.Need-same-length (
 ) (gd-at t) gd.Post gd-Inv-loop gd-μ-loop
 gd-same-length t c = c .before .before .before .before .before .before .word .kept .1 .1 .0
 
--- src/lib.rt:1796:9
+-- src/lib.rt:1797:9
 gd-returns : (t : ℕ) → gd-lts.Need-returns (
   word-reads.Asked,
   word-reads.Learnt,
@@ -11991,7 +12068,7 @@ gd-returns : (t : ℕ) → gd-lts.Need-returns (
 unfolding DecOne.dec-one DecOne.sig-bind Helpers.sep-with-lines
 gd-returns t c = record { is = then-sure (c .before .before .before .before .before .before .word .ensures) (list-not (c .stop .ensures) (c .before .before .before .list .ensures) (c .before .enum-told .given .1)) }
 
--- src/lib.rt:1800:5
+-- src/lib.rt:1801:5
 gd-loop-holds : (t : ℕ) → gd-lts.Need-loop-holds (
   word-reads.Asked,
   word-reads.Learnt,
@@ -12010,7 +12087,7 @@ gd-loop-holds : (t : ℕ) → gd-lts.Need-loop-holds (
 ) (gd-at t) gd.Post gd-Inv-loop gd-μ-loop
 gd-loop-holds t c = (omega arith, λ r m o h. h, refl)
 
--- src/lib.rt:1801:9
+-- src/lib.rt:1802:9
 gd-new-line-requires : (t : ℕ) → gd-lts.Need-new-line-requires (
   word-reads.Asked,
   word-reads.Learnt,
@@ -12029,7 +12106,7 @@ gd-new-line-requires : (t : ℕ) → gd-lts.Need-new-line-requires (
 ) (gd-at t) gd.Post gd-Inv-loop gd-μ-loop
 gd-new-line-requires t c κs = search needs
 
--- src/lib.rt:1802:13
+-- src/lib.rt:1803:13
 gd-group-requires : (t : ℕ) → gd-lts.Need-group-requires (
   word-reads.Asked,
   word-reads.Learnt,
@@ -12048,7 +12125,7 @@ gd-group-requires : (t : ℕ) → gd-lts.Need-group-requires (
 ) (gd-at t) gd.Post gd-Inv-loop gd-μ-loop
 gd-group-requires t c κs = search needs
 
--- src/lib.rt:1803:32
+-- src/lib.rt:1804:32
 gd-told-requires : (t : ℕ) → gd-lts.Need-told-requires (
   word-reads.Asked,
   word-reads.Learnt,
@@ -12067,7 +12144,7 @@ gd-told-requires : (t : ℕ) → gd-lts.Need-told-requires (
 ) (gd-at t) gd.Post gd-Inv-loop gd-μ-loop
 gd-told-requires t c κs = search needs
 
--- src/lib.rt:1803:26
+-- src/lib.rt:1804:26
 gd-enum-known-s2 : (t : ℕ) → gd-lts.Need-enum-known-s2 (
   word-reads.Asked,
   word-reads.Learnt,
@@ -12086,7 +12163,7 @@ gd-enum-known-s2 : (t : ℕ) → gd-lts.Need-enum-known-s2 (
 ) (gd-at t) gd.Post gd-Inv-loop gd-μ-loop
 gd-enum-known-s2 t c = search needs
 
--- src/lib.rt:1804:13
+-- src/lib.rt:1805:13
 gd-enum-told-2 : (t : ℕ) → gd-lts.Need-enum-told-2 (
   word-reads.Asked,
   word-reads.Learnt,
@@ -12105,7 +12182,7 @@ gd-enum-told-2 : (t : ℕ) → gd-lts.Need-enum-told-2 (
 ) (gd-at t) gd.Post gd-Inv-loop gd-μ-loop
 gd-enum-told-2 t c = search needs
 
--- src/lib.rt:1804:13
+-- src/lib.rt:1805:13
 gd-same-length-2 : (t : ℕ) → gd-lts.Need-same-length-2 (
   word-reads.Asked,
   word-reads.Learnt,
@@ -12124,7 +12201,7 @@ gd-same-length-2 : (t : ℕ) → gd-lts.Need-same-length-2 (
 ) (gd-at t) gd.Post gd-Inv-loop gd-μ-loop
 gd-same-length-2 t c = c .before .before .before .before .before .before .new-line .kept .1 .1 .0 ∙ c .before .before .before .before .before .before .before .before .before .before .loop .inv .2 ∙ c .before .before .before .before .before .before .before .before .before .before .before .before .before .before .before .before .before .word .kept .1 .1 .0
 
--- src/lib.rt:1804:13
+-- src/lib.rt:1805:13
 gd-returns-2 : (t : ℕ) → gd-lts.Need-returns-2 (
   word-reads.Asked,
   word-reads.Learnt,
@@ -12144,7 +12221,7 @@ gd-returns-2 : (t : ℕ) → gd-lts.Need-returns-2 (
 unfolding DecOne.dec-one DecOne.sig-bind Helpers.sep-with-lines
 gd-returns-2 t c = record { is = then-sure (c .before .before .before .before .before .before .before .before .before .before .before .before .before .before .before .before .before .word .ensures) (by-same (list-is (c .before .before .before .before .before .before .before .before .before .before .before .before .before .before .list .ensures) (c .before .before .before .before .before .before .before .before .before .before .before .before .n .given .1)) (by-same (items-all _ _ _) (c .before .before .before .before .before .before .before .before .before .before .loop .inv .1 _ _ _ (from-more _ _ (c .before .before .before .before .before .before .before .before .before .loop-test .taken) (then-sure (c .before .before .before .before .before .before .new-line .ensures) (then-stop (group-not (c .before .before .before .group .ensures) (c .before .before .told .ensures) (c .enum-told2 .given .1)) (c .before .before .told .ensures) (c .enum-told2 .given .1))))))) }
 
--- src/lib.rt:1806:13
+-- src/lib.rt:1807:13
 gd-nm-requires : (t : ℕ) → gd-lts.Need-nm-requires (
   word-reads.Asked,
   word-reads.Learnt,
@@ -12163,7 +12240,7 @@ gd-nm-requires : (t : ℕ) → gd-lts.Need-nm-requires (
 ) (gd-at t) gd.Post gd-Inv-loop gd-μ-loop
 gd-nm-requires t c κs = omega (arith, c .before .before .before .before .before .before .before .before .before .before .before .before .before .before .before .before .before .before .before .before .before .before .before .before .before .before .before .before .before .pre .0, c .before .before .before .before .before .before .before .before .before .before .before .before .before .before .before .before .before .before .before .before .before .before .before .before .before .before .before .before .before .pre .1)
 
--- src/lib.rt:1819:32
+-- src/lib.rt:1820:32
 gd-told-requires-2 : (t : ℕ) → gd-lts.Need-told-requires-2 (
   word-reads.Asked,
   word-reads.Learnt,
@@ -12182,7 +12259,7 @@ gd-told-requires-2 : (t : ℕ) → gd-lts.Need-told-requires-2 (
 ) (gd-at t) gd.Post gd-Inv-loop gd-μ-loop
 gd-told-requires-2 t c κs = search needs
 
--- src/lib.rt:1819:26
+-- src/lib.rt:1820:26
 gd-enum-known-s3 : (t : ℕ) → gd-lts.Need-enum-known-s3 (
   word-reads.Asked,
   word-reads.Learnt,
@@ -12201,7 +12278,7 @@ gd-enum-known-s3 : (t : ℕ) → gd-lts.Need-enum-known-s3 (
 ) (gd-at t) gd.Post gd-Inv-loop gd-μ-loop
 gd-enum-known-s3 t c = search needs
 
--- src/lib.rt:1820:13
+-- src/lib.rt:1821:13
 gd-enum-told-3 : (t : ℕ) → gd-lts.Need-enum-told-3 (
   word-reads.Asked,
   word-reads.Learnt,
@@ -12220,7 +12297,7 @@ gd-enum-told-3 : (t : ℕ) → gd-lts.Need-enum-told-3 (
 ) (gd-at t) gd.Post gd-Inv-loop gd-μ-loop
 gd-enum-told-3 t c = search needs
 
--- src/lib.rt:1820:13
+-- src/lib.rt:1821:13
 gd-same-length-3 : (t : ℕ) → gd-lts.Need-same-length-3 (
   word-reads.Asked,
   word-reads.Learnt,
@@ -12239,7 +12316,7 @@ gd-same-length-3 : (t : ℕ) → gd-lts.Need-same-length-3 (
 ) (gd-at t) gd.Post gd-Inv-loop gd-μ-loop
 gd-same-length-3 t c = c .before .before .before .before .before .nm .kept .1 .1 .1 .1 .1 .1 .0 ∙ c .before .before .before .before .before .before .before .before .before .before .before .before .before .before .before .new-line .kept .1 .1 .0 ∙ c .before .before .before .before .before .before .before .before .before .before .before .before .before .before .before .before .before .before .before .loop .inv .2 ∙ c .before .before .before .before .before .before .before .before .before .before .before .before .before .before .before .before .before .before .before .before .before .before .before .before .before .before .word .kept .1 .1 .0
 
--- src/lib.rt:1820:13
+-- src/lib.rt:1821:13
 gd-returns-3 : (t : ℕ) → gd-lts.Need-returns-3 (
   word-reads.Asked,
   word-reads.Learnt,
@@ -12259,7 +12336,7 @@ gd-returns-3 : (t : ℕ) → gd-lts.Need-returns-3 (
 unfolding DecOne.dec-one DecOne.sig-bind Helpers.sep-with-lines
 gd-returns-3 t c = record { is = then-sure (c .before .before .before .before .before .before .before .before .before .before .before .before .before .before .before .before .before .before .before .before .before .before .before .before .before .before .word .ensures) (by-same (list-is (c .before .before .before .before .before .before .before .before .before .before .before .before .before .before .before .before .before .before .before .before .before .before .before .list .ensures) (c .before .before .before .before .before .before .before .before .before .before .before .before .before .before .before .before .before .before .before .before .before .n .given .1)) (by-same (items-all _ _ _) (c .before .before .before .before .before .before .before .before .before .before .before .before .before .before .before .before .before .before .before .loop .inv .1 _ _ _ (from-more _ _ (c .before .before .before .before .before .before .before .before .before .before .before .before .before .before .before .before .before .before .loop-test .taken) (then-sure (c .before .before .before .before .before .before .before .before .before .before .before .before .before .before .before .new-line .ensures) (by-same (first-same (group-is (c .before .before .before .before .before .before .before .before .before .before .before .before .group .ensures) (c .before .before .before .before .before .before .before .before .before .before .before .told .ensures) (c .before .before .before .before .before .before .before .before .before .s2 .given .1))) (then-stop (c .before .before .before .before .before .nm .ensures .is) (c .before .before .told2 .ensures) (c .enum-told3 .given .1)))))))) }
 
--- src/lib.rt:1823:9
+-- src/lib.rt:1824:9
 gd-add-i : (t : ℕ) → gd-lts.Need-add-i (
   word-reads.Asked,
   word-reads.Learnt,
@@ -12278,7 +12355,7 @@ gd-add-i : (t : ℕ) → gd-lts.Need-add-i (
 ) (gd-at t) gd.Post gd-Inv-loop gd-μ-loop
 gd-add-i t c = omega (arith, c .before .before .before .before .before .before .before .before .before .before .before .before .before .before .before .before .before .before .before .loop-test .taken, c .before .before .before .before .before .before .before .before .before .before .before .before .before .before .before .before .before .before .before .before .before .known-told)
 
--- src/lib.rt:1800:5
+-- src/lib.rt:1801:5
 gd-loop-less : (t : ℕ) → gd-lts.Need-loop-less (
   word-reads.Asked,
   word-reads.Learnt,
@@ -12297,7 +12374,7 @@ gd-loop-less : (t : ℕ) → gd-lts.Need-loop-less (
 ) (gd-at t) gd.Post gd-Inv-loop gd-μ-loop
 gd-loop-less t c = omega arith
 
--- src/lib.rt:1800:5
+-- src/lib.rt:1801:5
 gd-loop-again : (t : ℕ) → gd-lts.Need-loop-again (
   word-reads.Asked,
   word-reads.Learnt,
@@ -12317,7 +12394,7 @@ gd-loop-again : (t : ℕ) → gd-lts.Need-loop-again (
 unfolding DecOne.dec-one DecOne.sig-bind Helpers.sep-with-lines
 gd-loop-again t c = (omega (arith, c .before .before .before .before .before .before .before .before .before .before .before .before .before .before .before .before .before .before .before .before .loop .inv .0), λ r m o h. c .before .before .before .before .before .before .before .before .before .before .before .before .before .before .before .before .before .before .before .before .loop .inv .1 r m o (from-more _ _ (c .before .before .before .before .before .before .before .before .before .before .before .before .before .before .before .before .before .before .before .loop-test .taken) (then-sure (c .before .before .before .before .before .before .before .before .before .before .before .before .before .before .before .before .new-line .ensures) (by-same (first-same (group-is (c .before .before .before .before .before .before .before .before .before .before .before .before .before .group .ensures) (c .before .before .before .before .before .before .before .before .before .before .before .before .told .ensures) (c .before .before .before .before .before .before .before .before .before .before .s2 .given .1))) (then-done (c .before .before .before .before .before .before .nm .ensures .is) (c .before .before .before .told2 .ensures) (c .before .s3 .given .1) h)))), c .before .before .before .before .before .before .nm .kept .1 .1 .1 .1 .1 .1 .0 ∙ c .before .before .before .before .before .before .before .before .before .before .before .before .before .before .before .before .new-line .kept .1 .1 .0 ∙ c .before .before .before .before .before .before .before .before .before .before .before .before .before .before .before .before .before .before .before .before .loop .inv .2)
 
--- src/lib.rt:1779:1
+-- src/lib.rt:1780:1
 gd-same-length-4 : (t : ℕ) → gd-lts.Need-same-length-4 (
   word-reads.Asked,
   word-reads.Learnt,
@@ -12336,7 +12413,7 @@ gd-same-length-4 : (t : ℕ) → gd-lts.Need-same-length-4 (
 ) (gd-at t) gd.Post gd-Inv-loop gd-μ-loop
 gd-same-length-4 t c = c .before .loop .inv .2 ∙ c .before .before .before .before .before .before .before .before .word .kept .1 .1 .0
 
--- src/lib.rt:1779:1
+-- src/lib.rt:1780:1
 gd-returns-4 : (t : ℕ) → gd-lts.Need-returns-4 (
   word-reads.Asked,
   word-reads.Learnt,
@@ -12356,7 +12433,7 @@ gd-returns-4 : (t : ℕ) → gd-lts.Need-returns-4 (
 unfolding DecOne.dec-one DecOne.sig-bind Helpers.sep-with-lines
 gd-returns-4 t c = record { is = then-sure (c .before .before .before .before .before .before .before .before .word .ensures) (by-same (list-is (c .before .before .before .before .before .list .ensures) (c .before .before .before .n .given .1)) (by-same (items-all _ _ _) (c .before .loop .inv .1 _ _ _ (from-none _ _ (c .loop-test .left))))) }
 
--- src/lib.rt:673:9
+-- src/lib.rt:674:9
 ha-exp-requires : (t : ℕ) → ha-lts.Need-exp-requires (
   exp-below t,
   exp.Post,
@@ -12369,7 +12446,7 @@ ha-exp-requires : (t : ℕ) → ha-lts.Need-exp-requires (
 ) (ha-at t) ha.Post
 ha-exp-requires t c κs = omega (arith, c .before .before .before .before .before .before .before .before .pre .0, c .before .before .before .before .before .before .before .before .pre .1)
 
--- src/lib.rt:674:28
+-- src/lib.rt:675:28
 ha-told-requires : (t : ℕ) → ha-lts.Need-told-requires (
   exp-below t,
   exp.Post,
@@ -12382,7 +12459,7 @@ ha-told-requires : (t : ℕ) → ha-lts.Need-told-requires (
 ) (ha-at t) ha.Post
 ha-told-requires t c κs = search needs
 
--- src/lib.rt:674:22
+-- src/lib.rt:675:22
 ha-enum-known-s1 : (t : ℕ) → ha-lts.Need-enum-known-s1 (
   exp-below t,
   exp.Post,
@@ -12395,7 +12472,7 @@ ha-enum-known-s1 : (t : ℕ) → ha-lts.Need-enum-known-s1 (
 ) (ha-at t) ha.Post
 ha-enum-known-s1 t c = search needs
 
--- src/lib.rt:675:9
+-- src/lib.rt:676:9
 ha-enum-told : (t : ℕ) → ha-lts.Need-enum-told (
   exp-below t,
   exp.Post,
@@ -12408,7 +12485,7 @@ ha-enum-told : (t : ℕ) → ha-lts.Need-enum-told (
 ) (ha-at t) ha.Post
 ha-enum-told t c = search needs
 
--- src/lib.rt:675:9
+-- src/lib.rt:676:9
 ha-same-length : (t : ℕ) → ha-lts.Need-same-length (
   exp-below t,
   exp.Post,
@@ -12421,7 +12498,7 @@ ha-same-length : (t : ℕ) → ha-lts.Need-same-length (
 ) (ha-at t) ha.Post
 ha-same-length t c = c .before .before .before .before .before .exp .kept .1 .1 .1 .1 .1 .1 .0
 
--- src/lib.rt:675:9
+-- src/lib.rt:676:9
 ha-returns : (t : ℕ) → ha-lts.Need-returns (
   exp-below t,
   exp.Post,
@@ -12434,7 +12511,7 @@ ha-returns : (t : ℕ) → ha-lts.Need-returns (
 ) (ha-at t) ha.Post
 ha-returns t c = record { is = then-stop (c .before .before .before .before .before .exp .ensures .is) (c .before .before .told .ensures) (c .enum-told .given .1) }
 
--- src/lib.rt:677:5
+-- src/lib.rt:678:5
 ha-word-requires : (t : ℕ) → ha-lts.Need-word-requires (
   exp-below t,
   exp.Post,
@@ -12447,7 +12524,7 @@ ha-word-requires : (t : ℕ) → ha-lts.Need-word-requires (
 ) (ha-at t) ha.Post
 ha-word-requires t c κs = search needs
 
--- src/lib.rt:678:5
+-- src/lib.rt:679:5
 ha-ma-requires : (t : ℕ) → ha-lts.Need-ma-requires (
   exp-below t,
   exp.Post,
@@ -12460,7 +12537,7 @@ ha-ma-requires : (t : ℕ) → ha-lts.Need-ma-requires (
 ) (ha-at t) ha.Post
 ha-ma-requires t c κs = omega (arith, c .before .before .before .before .before .before .before .before .before .before .before .before .before .before .before .before .before .before .before .before .before .before .pre .0, c .before .before .before .before .before .before .before .before .before .before .before .before .before .before .before .before .before .before .before .before .before .before .pre .1)
 
--- src/lib.rt:657:1
+-- src/lib.rt:658:1
 ha-same-length-2 : (t : ℕ) → ha-lts.Need-same-length-2 (
   exp-below t,
   exp.Post,
@@ -12473,7 +12550,7 @@ ha-same-length-2 : (t : ℕ) → ha-lts.Need-same-length-2 (
 ) (ha-at t) ha.Post
 ha-same-length-2 t c = c .before .before .ma .kept .1 .1 .1 .1 .1 .1 .0 ∙ c .before .before .before .before .before .before .before .word .kept .1 .1 .0 ∙ c .before .before .before .before .before .before .before .before .before .before .before .before .before .before .before .before .exp .kept .1 .1 .1 .1 .1 .1 .0
 
--- src/lib.rt:657:1
+-- src/lib.rt:658:1
 ha-returns-2 : (t : ℕ) → ha-lts.Need-returns-2 (
   exp-below t,
   exp.Post,
@@ -12493,7 +12570,7 @@ ic-Inv-loop run text rec kinds starts lens out₀ mem₀ at cfg n s1 s₀ i₀ o
 abbrev ic-μ-loop : ic-lts.MeasureT-loop
 ic-μ-loop run text rec kinds starts lens out₀ mem₀ at cfg n s1 s₀ i₀ out mem s i = n - i
 
--- src/lib.rt:2012:5
+-- src/lib.rt:2013:5
 ic-word-requires : (t : ℕ) → ic-lts.Need-word-requires (
   word-reads.Asked,
   word-reads.Learnt,
@@ -12510,7 +12587,7 @@ ic-word-requires : (t : ℕ) → ic-lts.Need-word-requires (
 ) (ic-at t) ic.Post ic-Inv-loop ic-μ-loop
 ic-word-requires t c κs = search needs
 
--- src/lib.rt:2013:27
+-- src/lib.rt:2014:27
 ic-list-requires : (t : ℕ) → ic-lts.Need-list-requires (
   word-reads.Asked,
   word-reads.Learnt,
@@ -12527,7 +12604,7 @@ ic-list-requires : (t : ℕ) → ic-lts.Need-list-requires (
 ) (ic-at t) ic.Post ic-Inv-loop ic-μ-loop
 ic-list-requires t c κs = search needs
 
--- src/lib.rt:2013:18
+-- src/lib.rt:2014:18
 ic-enum-known-n : (t : ℕ) → ic-lts.Need-enum-known-n (
   word-reads.Asked,
   word-reads.Learnt,
@@ -12544,7 +12621,7 @@ ic-enum-known-n : (t : ℕ) → ic-lts.Need-enum-known-n (
 ) (ic-at t) ic.Post ic-Inv-loop ic-μ-loop
 ic-enum-known-n t c = search needs
 
--- src/lib.rt:2014:9
+-- src/lib.rt:2015:9
 ic-enum-told : (t : ℕ) → ic-lts.Need-enum-told (
   word-reads.Asked,
   word-reads.Learnt,
@@ -12561,7 +12638,7 @@ ic-enum-told : (t : ℕ) → ic-lts.Need-enum-told (
 ) (ic-at t) ic.Post ic-Inv-loop ic-μ-loop
 ic-enum-told t c = search needs
 
--- src/lib.rt:2014:9
+-- src/lib.rt:2015:9
 ic-stop-requires : (t : ℕ) → ic-lts.Need-stop-requires (
   word-reads.Asked,
   word-reads.Learnt,
@@ -12578,7 +12655,7 @@ ic-stop-requires : (t : ℕ) → ic-lts.Need-stop-requires (
 ) (ic-at t) ic.Post ic-Inv-loop ic-μ-loop
 ic-stop-requires t c κs = search needs
 
--- src/lib.rt:2014:9
+-- src/lib.rt:2015:9
 ic-same-length : (t : ℕ) → ic-lts.Need-same-length (
   word-reads.Asked,
   word-reads.Learnt,
@@ -12595,7 +12672,7 @@ ic-same-length : (t : ℕ) → ic-lts.Need-same-length (
 ) (ic-at t) ic.Post ic-Inv-loop ic-μ-loop
 ic-same-length t c = c .before .before .before .before .before .before .word .kept .1 .1 .0
 
--- src/lib.rt:2014:9
+-- src/lib.rt:2015:9
 ic-returns : (t : ℕ) → ic-lts.Need-returns (
   word-reads.Asked,
   word-reads.Learnt,
@@ -12613,7 +12690,7 @@ ic-returns : (t : ℕ) → ic-lts.Need-returns (
 unfolding DecOne.dec-one Helpers.sep
 ic-returns t c = record { is = then-sure (c .before .before .before .before .before .before .word .ensures) (list-not (c .stop .ensures) (c .before .before .before .list .ensures) (c .before .enum-told .given .1)) }
 
--- src/lib.rt:2018:5
+-- src/lib.rt:2019:5
 ic-loop-holds : (t : ℕ) → ic-lts.Need-loop-holds (
   word-reads.Asked,
   word-reads.Learnt,
@@ -12630,7 +12707,7 @@ ic-loop-holds : (t : ℕ) → ic-lts.Need-loop-holds (
 ) (ic-at t) ic.Post ic-Inv-loop ic-μ-loop
 ic-loop-holds t c = (omega arith, λ r m o h. h, refl)
 
--- src/lib.rt:2019:9
+-- src/lib.rt:2020:9
 ic-between-requires : (t : ℕ) → ic-lts.Need-between-requires (
   word-reads.Asked,
   word-reads.Learnt,
@@ -12647,7 +12724,7 @@ ic-between-requires : (t : ℕ) → ic-lts.Need-between-requires (
 ) (ic-at t) ic.Post ic-Inv-loop ic-μ-loop
 ic-between-requires t c κs = search needs
 
--- src/lib.rt:2020:13
+-- src/lib.rt:2021:13
 ic-sig-requires : (t : ℕ) → ic-lts.Need-sig-requires (
   word-reads.Asked,
   word-reads.Learnt,
@@ -12664,7 +12741,7 @@ ic-sig-requires : (t : ℕ) → ic-lts.Need-sig-requires (
 ) (ic-at t) ic.Post ic-Inv-loop ic-μ-loop
 ic-sig-requires t c κs = omega (arith, c .before .before .before .before .before .before .before .before .before .before .before .before .before .before .before .before .before .before .before .before .before .before .before .before .pre .0, c .before .before .before .before .before .before .before .before .before .before .before .before .before .before .before .before .before .before .before .before .before .before .before .before .pre .1)
 
--- src/lib.rt:2021:32
+-- src/lib.rt:2022:32
 ic-told-requires : (t : ℕ) → ic-lts.Need-told-requires (
   word-reads.Asked,
   word-reads.Learnt,
@@ -12681,7 +12758,7 @@ ic-told-requires : (t : ℕ) → ic-lts.Need-told-requires (
 ) (ic-at t) ic.Post ic-Inv-loop ic-μ-loop
 ic-told-requires t c κs = search needs
 
--- src/lib.rt:2021:26
+-- src/lib.rt:2022:26
 ic-enum-known-s2 : (t : ℕ) → ic-lts.Need-enum-known-s2 (
   word-reads.Asked,
   word-reads.Learnt,
@@ -12698,7 +12775,7 @@ ic-enum-known-s2 : (t : ℕ) → ic-lts.Need-enum-known-s2 (
 ) (ic-at t) ic.Post ic-Inv-loop ic-μ-loop
 ic-enum-known-s2 t c = search needs
 
--- src/lib.rt:2022:13
+-- src/lib.rt:2023:13
 ic-enum-told-2 : (t : ℕ) → ic-lts.Need-enum-told-2 (
   word-reads.Asked,
   word-reads.Learnt,
@@ -12715,7 +12792,7 @@ ic-enum-told-2 : (t : ℕ) → ic-lts.Need-enum-told-2 (
 ) (ic-at t) ic.Post ic-Inv-loop ic-μ-loop
 ic-enum-told-2 t c = search needs
 
--- src/lib.rt:2022:13
+-- src/lib.rt:2023:13
 ic-same-length-2 : (t : ℕ) → ic-lts.Need-same-length-2 (
   word-reads.Asked,
   word-reads.Learnt,
@@ -12732,7 +12809,7 @@ ic-same-length-2 : (t : ℕ) → ic-lts.Need-same-length-2 (
 ) (ic-at t) ic.Post ic-Inv-loop ic-μ-loop
 ic-same-length-2 t c = c .before .before .before .before .before .sig .kept .1 .1 .1 .1 .1 .1 .0 ∙ c .before .before .before .before .before .before .before .before .before .before .between .kept .1 .1 .0 ∙ c .before .before .before .before .before .before .before .before .before .before .before .before .before .before .loop .inv .2 ∙ c .before .before .before .before .before .before .before .before .before .before .before .before .before .before .before .before .before .before .before .before .before .word .kept .1 .1 .0
 
--- src/lib.rt:2022:13
+-- src/lib.rt:2023:13
 ic-returns-2 : (t : ℕ) → ic-lts.Need-returns-2 (
   word-reads.Asked,
   word-reads.Learnt,
@@ -12750,7 +12827,7 @@ ic-returns-2 : (t : ℕ) → ic-lts.Need-returns-2 (
 unfolding DecOne.dec-one Helpers.sep
 ic-returns-2 t c = record { is = then-sure (c .before .before .before .before .before .before .before .before .before .before .before .before .before .before .before .before .before .before .before .before .before .word .ensures) (by-same (list-is (c .before .before .before .before .before .before .before .before .before .before .before .before .before .before .before .before .before .before .list .ensures) (c .before .before .before .before .before .before .before .before .before .before .before .before .before .before .before .before .n .given .1)) (by-same (items-all _ _ _) (c .before .before .before .before .before .before .before .before .before .before .before .before .before .before .loop .inv .1 _ _ _ (from-more _ _ (c .before .before .before .before .before .before .before .before .before .before .before .before .before .loop-test .taken) (then-sure (c .before .before .before .before .before .before .before .before .before .before .between .ensures) (then-stop (c .before .before .before .before .before .sig .ensures .is) (c .before .before .told .ensures) (c .enum-told2 .given .1))))))) }
 
--- src/lib.rt:2025:9
+-- src/lib.rt:2026:9
 ic-add-i : (t : ℕ) → ic-lts.Need-add-i (
   word-reads.Asked,
   word-reads.Learnt,
@@ -12767,7 +12844,7 @@ ic-add-i : (t : ℕ) → ic-lts.Need-add-i (
 ) (ic-at t) ic.Post ic-Inv-loop ic-μ-loop
 ic-add-i t c = omega (arith, c .before .before .before .before .before .before .before .before .before .before .before .before .before .before .loop-test .taken, c .before .before .before .before .before .before .before .before .before .before .before .before .before .before .before .before .known-told)
 
--- src/lib.rt:2018:5
+-- src/lib.rt:2019:5
 ic-loop-less : (t : ℕ) → ic-lts.Need-loop-less (
   word-reads.Asked,
   word-reads.Learnt,
@@ -12784,7 +12861,7 @@ ic-loop-less : (t : ℕ) → ic-lts.Need-loop-less (
 ) (ic-at t) ic.Post ic-Inv-loop ic-μ-loop
 ic-loop-less t c = omega arith
 
--- src/lib.rt:2018:5
+-- src/lib.rt:2019:5
 ic-loop-again : (t : ℕ) → ic-lts.Need-loop-again (
   word-reads.Asked,
   word-reads.Learnt,
@@ -12802,7 +12879,7 @@ ic-loop-again : (t : ℕ) → ic-lts.Need-loop-again (
 unfolding DecOne.dec-one Helpers.sep
 ic-loop-again t c = (omega (arith, c .before .before .before .before .before .before .before .before .before .before .before .before .before .before .before .loop .inv .0), λ r m o h. c .before .before .before .before .before .before .before .before .before .before .before .before .before .before .before .loop .inv .1 r m o (from-more _ _ (c .before .before .before .before .before .before .before .before .before .before .before .before .before .before .loop-test .taken) (then-sure (c .before .before .before .before .before .before .before .before .before .before .before .between .ensures) (then-done (c .before .before .before .before .before .before .sig .ensures .is) (c .before .before .before .told .ensures) (c .before .s2 .given .1) h))), c .before .before .before .before .before .before .sig .kept .1 .1 .1 .1 .1 .1 .0 ∙ c .before .before .before .before .before .before .before .before .before .before .before .between .kept .1 .1 .0 ∙ c .before .before .before .before .before .before .before .before .before .before .before .before .before .before .before .loop .inv .2)
 
--- src/lib.rt:1997:1
+-- src/lib.rt:1998:1
 ic-same-length-3 : (t : ℕ) → ic-lts.Need-same-length-3 (
   word-reads.Asked,
   word-reads.Learnt,
@@ -12819,7 +12896,7 @@ ic-same-length-3 : (t : ℕ) → ic-lts.Need-same-length-3 (
 ) (ic-at t) ic.Post ic-Inv-loop ic-μ-loop
 ic-same-length-3 t c = c .before .loop .inv .2 ∙ c .before .before .before .before .before .before .before .before .word .kept .1 .1 .0
 
--- src/lib.rt:1997:1
+-- src/lib.rt:1998:1
 ic-returns-3 : (t : ℕ) → ic-lts.Need-returns-3 (
   word-reads.Asked,
   word-reads.Learnt,
@@ -12837,7 +12914,7 @@ ic-returns-3 : (t : ℕ) → ic-lts.Need-returns-3 (
 unfolding DecOne.dec-one Helpers.sep
 ic-returns-3 t c = record { is = then-sure (c .before .before .before .before .before .before .before .before .word .ensures) (by-same (list-is (c .before .before .before .before .before .list .ensures) (c .before .before .before .n .given .1)) (by-same (items-all _ _ _) (c .before .loop .inv .1 _ _ _ (from-none _ _ (c .loop-test .left))))) }
 
--- src/lib.rt:750:5
+-- src/lib.rt:751:5
 ie-word-requires : (t : ℕ) → ie-lts.Need-word-requires (
   word-reads.Asked,
   word-reads.Learnt,
@@ -12862,7 +12939,7 @@ ie-word-requires : (t : ℕ) → ie-lts.Need-word-requires (
 ) (ie-at t) ie.Post
 ie-word-requires t c κs = search needs
 
--- src/lib.rt:751:9
+-- src/lib.rt:752:9
 ie-exp-requires : (t : ℕ) → ie-lts.Need-exp-requires (
   word-reads.Asked,
   word-reads.Learnt,
@@ -12887,7 +12964,7 @@ ie-exp-requires : (t : ℕ) → ie-lts.Need-exp-requires (
 ) (ie-at t) ie.Post
 ie-exp-requires t c κs = omega (arith, c .before .before .before .before .before .before .before .before .before .before .before .before .before .pre .0, c .before .before .before .before .before .before .before .before .before .before .before .before .before .pre .1)
 
--- src/lib.rt:752:28
+-- src/lib.rt:753:28
 ie-told-requires : (t : ℕ) → ie-lts.Need-told-requires (
   word-reads.Asked,
   word-reads.Learnt,
@@ -12912,7 +12989,7 @@ ie-told-requires : (t : ℕ) → ie-lts.Need-told-requires (
 ) (ie-at t) ie.Post
 ie-told-requires t c κs = search needs
 
--- src/lib.rt:752:22
+-- src/lib.rt:753:22
 ie-enum-known-s1 : (t : ℕ) → ie-lts.Need-enum-known-s1 (
   word-reads.Asked,
   word-reads.Learnt,
@@ -12937,7 +13014,7 @@ ie-enum-known-s1 : (t : ℕ) → ie-lts.Need-enum-known-s1 (
 ) (ie-at t) ie.Post
 ie-enum-known-s1 t c = search needs
 
--- src/lib.rt:753:9
+-- src/lib.rt:754:9
 ie-enum-told : (t : ℕ) → ie-lts.Need-enum-told (
   word-reads.Asked,
   word-reads.Learnt,
@@ -12962,7 +13039,7 @@ ie-enum-told : (t : ℕ) → ie-lts.Need-enum-told (
 ) (ie-at t) ie.Post
 ie-enum-told t c = search needs
 
--- src/lib.rt:753:9
+-- src/lib.rt:754:9
 ie-same-length : (t : ℕ) → ie-lts.Need-same-length (
   word-reads.Asked,
   word-reads.Learnt,
@@ -12987,7 +13064,7 @@ ie-same-length : (t : ℕ) → ie-lts.Need-same-length (
 ) (ie-at t) ie.Post
 ie-same-length t c = c .before .before .before .before .before .exp .kept .1 .1 .1 .1 .1 .1 .0 ∙ c .before .before .before .before .before .before .before .before .before .before .word .kept .1 .1 .0
 
--- src/lib.rt:753:9
+-- src/lib.rt:754:9
 ie-returns : (t : ℕ) → ie-lts.Need-returns (
   word-reads.Asked,
   word-reads.Learnt,
@@ -13013,7 +13090,7 @@ ie-returns : (t : ℕ) → ie-lts.Need-returns (
 unfolding Exp.exp Exp.if-no Helpers.indent-deeper Helpers.deepen
 ie-returns t c = record { is = then-sure (c .before .before .before .before .before .before .before .before .before .before .word .ensures) (then-stop (c .before .before .before .before .before .exp .ensures .is) (c .before .before .told .ensures) (c .enum-told .given .1)) }
 
--- src/lib.rt:755:5
+-- src/lib.rt:756:5
 ie-word-requires-2 : (t : ℕ) → ie-lts.Need-word-requires-2 (
   word-reads.Asked,
   word-reads.Learnt,
@@ -13038,7 +13115,7 @@ ie-word-requires-2 : (t : ℕ) → ie-lts.Need-word-requires-2 (
 ) (ie-at t) ie.Post
 ie-word-requires-2 t c κs = search needs
 
--- src/lib.rt:756:5
+-- src/lib.rt:757:5
 ie-indent-deeper-requires : (t : ℕ) → ie-lts.Need-indent-deeper-requires (
   word-reads.Asked,
   word-reads.Learnt,
@@ -13063,7 +13140,7 @@ ie-indent-deeper-requires : (t : ℕ) → ie-lts.Need-indent-deeper-requires (
 ) (ie-at t) ie.Post
 ie-indent-deeper-requires t c κs = omega (arith, c .before .before .before .before .before .before .before .before .before .before .before .before .before .before .before .before .before .before .before .before .before .before .before .before .before .before .before .pre .1)
 
--- src/lib.rt:757:9
+-- src/lib.rt:758:9
 ie-indented-requires : (t : ℕ) → ie-lts.Need-indented-requires (
   word-reads.Asked,
   word-reads.Learnt,
@@ -13088,7 +13165,7 @@ ie-indented-requires : (t : ℕ) → ie-lts.Need-indented-requires (
 ) (ie-at t) ie.Post
 ie-indented-requires t c κs = omega (arith, c .before .before .before .before .before .before .before .before .before .before .before .before .before .before .before .before .before .before .before .before .before .before .before .before .before .before .before .before .before .before .pre .1)
 
--- src/lib.rt:758:9
+-- src/lib.rt:759:9
 ie-exp-requires-2 : (t : ℕ) → ie-lts.Need-exp-requires-2 (
   word-reads.Asked,
   word-reads.Learnt,
@@ -13113,7 +13190,7 @@ ie-exp-requires-2 : (t : ℕ) → ie-lts.Need-exp-requires-2 (
 ) (ie-at t) ie.Post
 ie-exp-requires-2 t c κs = omega (arith, c .before .before .before .before .before .before .before .before .before .before .before .before .before .before .before .before .before .before .before .before .before .before .before .before .before .before .before .before .before .before .before .before .before .pre .0, c .before .before .before .before .before .before .before .before .before .before .before .before .before .before .before .before .before .before .before .before .before .before .before .before .before .before .before .before .before .before .before .before .before .pre .1, deep-depth (c .before .before .indented .ensures), deep-left (c .before .before .indented .ensures))
 
--- src/lib.rt:759:28
+-- src/lib.rt:760:28
 ie-told-requires-2 : (t : ℕ) → ie-lts.Need-told-requires-2 (
   word-reads.Asked,
   word-reads.Learnt,
@@ -13138,7 +13215,7 @@ ie-told-requires-2 : (t : ℕ) → ie-lts.Need-told-requires-2 (
 ) (ie-at t) ie.Post
 ie-told-requires-2 t c κs = search needs
 
--- src/lib.rt:759:22
+-- src/lib.rt:760:22
 ie-enum-known-s2 : (t : ℕ) → ie-lts.Need-enum-known-s2 (
   word-reads.Asked,
   word-reads.Learnt,
@@ -13163,7 +13240,7 @@ ie-enum-known-s2 : (t : ℕ) → ie-lts.Need-enum-known-s2 (
 ) (ie-at t) ie.Post
 ie-enum-known-s2 t c = search needs
 
--- src/lib.rt:760:9
+-- src/lib.rt:761:9
 ie-enum-told-2 : (t : ℕ) → ie-lts.Need-enum-told-2 (
   word-reads.Asked,
   word-reads.Learnt,
@@ -13188,7 +13265,7 @@ ie-enum-told-2 : (t : ℕ) → ie-lts.Need-enum-told-2 (
 ) (ie-at t) ie.Post
 ie-enum-told-2 t c = search needs
 
--- src/lib.rt:760:9
+-- src/lib.rt:761:9
 ie-same-length-2 : (t : ℕ) → ie-lts.Need-same-length-2 (
   word-reads.Asked,
   word-reads.Learnt,
@@ -13213,7 +13290,7 @@ ie-same-length-2 : (t : ℕ) → ie-lts.Need-same-length-2 (
 ) (ie-at t) ie.Post
 ie-same-length-2 t c = c .before .before .before .before .before .exp2 .kept .1 .1 .1 .1 .1 .1 .0 ∙ c .before .before .before .before .before .before .before .before .before .before .before .indent-deeper .kept .0 ∙ c .before .before .before .before .before .before .before .before .before .before .before .before .before .before .before .before .word2 .kept .1 .1 .0 ∙ c .before .before .before .before .before .before .before .before .before .before .before .before .before .before .before .before .before .before .before .before .before .before .before .before .before .exp .kept .1 .1 .1 .1 .1 .1 .0 ∙ c .before .before .before .before .before .before .before .before .before .before .before .before .before .before .before .before .before .before .before .before .before .before .before .before .before .before .before .before .before .before .word .kept .1 .1 .0
 
--- src/lib.rt:760:9
+-- src/lib.rt:761:9
 ie-returns-2 : (t : ℕ) → ie-lts.Need-returns-2 (
   word-reads.Asked,
   word-reads.Learnt,
@@ -13239,7 +13316,7 @@ ie-returns-2 : (t : ℕ) → ie-lts.Need-returns-2 (
 unfolding Exp.exp Exp.if-no Helpers.indent-deeper Helpers.deepen
 ie-returns-2 t c = record { is = then-sure (c .before .before .before .before .before .before .before .before .before .before .before .before .before .before .before .before .before .before .before .before .before .before .before .before .before .before .before .before .before .before .word .ensures) (then-done (c .before .before .before .before .before .before .before .before .before .before .before .before .before .before .before .before .before .before .before .before .before .before .before .before .before .exp .ensures .is) (c .before .before .before .before .before .before .before .before .before .before .before .before .before .before .before .before .before .before .before .before .before .before .told .ensures) (c .before .before .before .before .before .before .before .before .before .before .before .before .before .before .before .before .before .before .before .before .s1 .given .1) (then-sure (c .before .before .before .before .before .before .before .before .before .before .before .before .before .before .before .before .word2 .ensures) (then-both (c .before .before .before .before .before .before .before .before .before .before .before .indent-deeper .ensures _) (then-stop (along (c .before .before .before .before .before .before .before .before .indented .ensures) (c .before .before .before .before .before .exp2 .ensures)) (c .before .before .told2 .ensures) (c .enum-told2 .given .1))))) }
 
--- src/lib.rt:762:5
+-- src/lib.rt:763:5
 ie-line-requires : (t : ℕ) → ie-lts.Need-line-requires (
   word-reads.Asked,
   word-reads.Learnt,
@@ -13264,7 +13341,7 @@ ie-line-requires : (t : ℕ) → ie-lts.Need-line-requires (
 ) (ie-at t) ie.Post
 ie-line-requires t c κs = search needs
 
--- src/lib.rt:763:5
+-- src/lib.rt:764:5
 ie-word-requires-3 : (t : ℕ) → ie-lts.Need-word-requires-3 (
   word-reads.Asked,
   word-reads.Learnt,
@@ -13289,7 +13366,7 @@ ie-word-requires-3 : (t : ℕ) → ie-lts.Need-word-requires-3 (
 ) (ie-at t) ie.Post
 ie-word-requires-3 t c κs = search needs
 
--- src/lib.rt:764:28
+-- src/lib.rt:765:28
 ie-expression-requires : (t : ℕ) → ie-lts.Need-expression-requires (
   word-reads.Asked,
   word-reads.Learnt,
@@ -13314,7 +13391,7 @@ ie-expression-requires : (t : ℕ) → ie-lts.Need-expression-requires (
 ) (ie-at t) ie.Post
 ie-expression-requires t c κs = search needs
 
--- src/lib.rt:764:18
+-- src/lib.rt:765:18
 ie-enum-known--k : (t : ℕ) → ie-lts.Need-enum-known--k (
   word-reads.Asked,
   word-reads.Learnt,
@@ -13339,7 +13416,7 @@ ie-enum-known--k : (t : ℕ) → ie-lts.Need-enum-known--k (
 ) (ie-at t) ie.Post
 ie-enum-known--k t c = search needs
 
--- src/lib.rt:765:9
+-- src/lib.rt:766:9
 ie-enum-told-3 : (t : ℕ) → ie-lts.Need-enum-told-3 (
   word-reads.Asked,
   word-reads.Learnt,
@@ -13364,7 +13441,7 @@ ie-enum-told-3 : (t : ℕ) → ie-lts.Need-enum-told-3 (
 ) (ie-at t) ie.Post
 ie-enum-told-3 t c = search needs
 
--- src/lib.rt:765:9
+-- src/lib.rt:766:9
 ie-stop-requires : (t : ℕ) → ie-lts.Need-stop-requires (
   word-reads.Asked,
   word-reads.Learnt,
@@ -13389,7 +13466,7 @@ ie-stop-requires : (t : ℕ) → ie-lts.Need-stop-requires (
 ) (ie-at t) ie.Post
 ie-stop-requires t c κs = search needs
 
--- src/lib.rt:765:9
+-- src/lib.rt:766:9
 ie-same-length-3 : (t : ℕ) → ie-lts.Need-same-length-3 (
   word-reads.Asked,
   word-reads.Learnt,
@@ -13414,7 +13491,7 @@ ie-same-length-3 : (t : ℕ) → ie-lts.Need-same-length-3 (
 ) (ie-at t) ie.Post
 ie-same-length-3 t c = c .before .before .before .before .before .before .word3 .kept .1 .1 .0 ∙ c .before .before .before .before .before .before .before .before .before .before .before .line .kept .1 .1 .0 ∙ c .before .before .before .before .before .before .before .before .before .before .before .before .before .before .before .before .before .before .before .before .exp2 .kept .1 .1 .1 .1 .1 .1 .0 ∙ c .before .before .before .before .before .before .before .before .before .before .before .before .before .before .before .before .before .before .before .before .before .before .before .before .before .before .indent-deeper .kept .0 ∙ c .before .before .before .before .before .before .before .before .before .before .before .before .before .before .before .before .before .before .before .before .before .before .before .before .before .before .before .before .before .before .before .word2 .kept .1 .1 .0 ∙ c .before .before .before .before .before .before .before .before .before .before .before .before .before .before .before .before .before .before .before .before .before .before .before .before .before .before .before .before .before .before .before .before .before .before .before .before .before .before .before .before .exp .kept .1 .1 .1 .1 .1 .1 .0 ∙ c .before .before .before .before .before .before .before .before .before .before .before .before .before .before .before .before .before .before .before .before .before .before .before .before .before .before .before .before .before .before .before .before .before .before .before .before .before .before .before .before .before .before .before .before .before .word .kept .1 .1 .0
 
--- src/lib.rt:765:9
+-- src/lib.rt:766:9
 ie-returns-3 : (t : ℕ) → ie-lts.Need-returns-3 (
   word-reads.Asked,
   word-reads.Learnt,
@@ -13440,7 +13517,7 @@ ie-returns-3 : (t : ℕ) → ie-lts.Need-returns-3 (
 unfolding Exp.exp Exp.if-no Helpers.indent-deeper Helpers.deepen
 ie-returns-3 t c = record { is = then-sure (c .before .before .before .before .before .before .before .before .before .before .before .before .before .before .before .before .before .before .before .before .before .before .before .before .before .before .before .before .before .before .before .before .before .before .before .before .before .before .before .before .before .before .before .before .before .word .ensures) (then-done (c .before .before .before .before .before .before .before .before .before .before .before .before .before .before .before .before .before .before .before .before .before .before .before .before .before .before .before .before .before .before .before .before .before .before .before .before .before .before .before .before .exp .ensures .is) (c .before .before .before .before .before .before .before .before .before .before .before .before .before .before .before .before .before .before .before .before .before .before .before .before .before .before .before .before .before .before .before .before .before .before .before .before .before .told .ensures) (c .before .before .before .before .before .before .before .before .before .before .before .before .before .before .before .before .before .before .before .before .before .before .before .before .before .before .before .before .before .before .before .before .before .before .before .s1 .given .1) (then-sure (c .before .before .before .before .before .before .before .before .before .before .before .before .before .before .before .before .before .before .before .before .before .before .before .before .before .before .before .before .before .before .before .word2 .ensures) (then-both (c .before .before .before .before .before .before .before .before .before .before .before .before .before .before .before .before .before .before .before .before .before .before .before .before .before .before .indent-deeper .ensures _) (then-done (along (c .before .before .before .before .before .before .before .before .before .before .before .before .before .before .before .before .before .before .before .before .before .before .before .indented .ensures) (c .before .before .before .before .before .before .before .before .before .before .before .before .before .before .before .before .before .before .before .before .exp2 .ensures)) (c .before .before .before .before .before .before .before .before .before .before .before .before .before .before .before .before .before .told2 .ensures) (c .before .before .before .before .before .before .before .before .before .before .before .before .before .before .before .s2 .given .1) (then-both (c .before .before .before .before .before .before .before .before .before .before .before .line .ensures) (then-sure (c .before .before .before .before .before .before .word3 .ensures) (look-not (c .stop .ensures) (c .before .before .before .expression .ensures) (c .before .enum-told3 .given .1)))))))) }
 
--- src/lib.rt:767:8
+-- src/lib.rt:768:8
 ie-is-if-exp-requires : (t : ℕ) → ie-lts.Need-is-if-exp-requires (
   word-reads.Asked,
   word-reads.Learnt,
@@ -13465,7 +13542,7 @@ ie-is-if-exp-requires : (t : ℕ) → ie-lts.Need-is-if-exp-requires (
 ) (ie-at t) ie.Post
 ie-is-if-exp-requires t c κs = search needs
 
--- src/lib.rt:768:9
+-- src/lib.rt:769:9
 ie-word-requires-4 : (t : ℕ) → ie-lts.Need-word-requires-4 (
   word-reads.Asked,
   word-reads.Learnt,
@@ -13490,7 +13567,7 @@ ie-word-requires-4 : (t : ℕ) → ie-lts.Need-word-requires-4 (
 ) (ie-at t) ie.Post
 ie-word-requires-4 t c κs = search needs
 
--- src/lib.rt:769:9
+-- src/lib.rt:770:9
 ie-exp-requires-3 : (t : ℕ) → ie-lts.Need-exp-requires-3 (
   word-reads.Asked,
   word-reads.Learnt,
@@ -13515,7 +13592,7 @@ ie-exp-requires-3 : (t : ℕ) → ie-lts.Need-exp-requires-3 (
 ) (ie-at t) ie.Post
 ie-exp-requires-3 t c κs = omega (arith, c .before .before .before .before .before .before .before .before .before .before .before .before .before .before .before .before .before .before .before .before .before .before .before .before .before .before .before .before .before .before .before .before .before .before .before .before .before .before .before .before .before .before .before .before .before .before .before .before .before .before .before .before .before .before .before .before .before .before .before .before .before .before .before .pre .0, c .before .before .before .before .before .before .before .before .before .before .before .before .before .before .before .before .before .before .before .before .before .before .before .before .before .before .before .before .before .before .before .before .before .before .before .before .before .before .before .before .before .before .before .before .before .before .before .before .before .before .before .before .before .before .before .before .before .before .before .before .before .before .before .pre .1, deep-depth (c .before .before .before .before .before .before .before .before .before .before .before .before .before .before .before .before .before .before .before .before .before .before .before .before .before .before .before .before .before .before .before .before .indented .ensures), deep-left (c .before .before .before .before .before .before .before .before .before .before .before .before .before .before .before .before .before .before .before .before .before .before .before .before .before .before .before .before .before .before .before .before .indented .ensures))
 
--- src/lib.rt:769:9
+-- src/lib.rt:770:9
 ie-same-length-4 : (t : ℕ) → ie-lts.Need-same-length-4 (
   word-reads.Asked,
   word-reads.Learnt,
@@ -13540,7 +13617,7 @@ ie-same-length-4 : (t : ℕ) → ie-lts.Need-same-length-4 (
 ) (ie-at t) ie.Post
 ie-same-length-4 t c = c .before .before .exp3 .kept .1 .1 .1 .1 .1 .1 .0 ∙ c .before .before .before .before .before .before .before .word4 .kept .1 .1 .0 ∙ c .before .before .before .before .before .before .before .before .before .before .before .before .before .before .before .before .before .before .word3 .kept .1 .1 .0 ∙ c .before .before .before .before .before .before .before .before .before .before .before .before .before .before .before .before .before .before .before .before .before .before .before .line .kept .1 .1 .0 ∙ c .before .before .before .before .before .before .before .before .before .before .before .before .before .before .before .before .before .before .before .before .before .before .before .before .before .before .before .before .before .before .before .before .exp2 .kept .1 .1 .1 .1 .1 .1 .0 ∙ c .before .before .before .before .before .before .before .before .before .before .before .before .before .before .before .before .before .before .before .before .before .before .before .before .before .before .before .before .before .before .before .before .before .before .before .before .before .before .indent-deeper .kept .0 ∙ c .before .before .before .before .before .before .before .before .before .before .before .before .before .before .before .before .before .before .before .before .before .before .before .before .before .before .before .before .before .before .before .before .before .before .before .before .before .before .before .before .before .before .before .word2 .kept .1 .1 .0 ∙ c .before .before .before .before .before .before .before .before .before .before .before .before .before .before .before .before .before .before .before .before .before .before .before .before .before .before .before .before .before .before .before .before .before .before .before .before .before .before .before .before .before .before .before .before .before .before .before .before .before .before .before .before .exp .kept .1 .1 .1 .1 .1 .1 .0 ∙ c .before .before .before .before .before .before .before .before .before .before .before .before .before .before .before .before .before .before .before .before .before .before .before .before .before .before .before .before .before .before .before .before .before .before .before .before .before .before .before .before .before .before .before .before .before .before .before .before .before .before .before .before .before .before .before .before .before .word .kept .1 .1 .0
 
--- src/lib.rt:769:9
+-- src/lib.rt:770:9
 ie-returns-4 : (t : ℕ) → ie-lts.Need-returns-4 (
   word-reads.Asked,
   word-reads.Learnt,
@@ -13566,7 +13643,7 @@ ie-returns-4 : (t : ℕ) → ie-lts.Need-returns-4 (
 unfolding Exp.exp Exp.if-no Helpers.indent-deeper Helpers.deepen
 ie-returns-4 t c = record { is = then-sure (c .before .before .before .before .before .before .before .before .before .before .before .before .before .before .before .before .before .before .before .before .before .before .before .before .before .before .before .before .before .before .before .before .before .before .before .before .before .before .before .before .before .before .before .before .before .before .before .before .before .before .before .before .before .before .before .before .before .word .ensures) (then-done (c .before .before .before .before .before .before .before .before .before .before .before .before .before .before .before .before .before .before .before .before .before .before .before .before .before .before .before .before .before .before .before .before .before .before .before .before .before .before .before .before .before .before .before .before .before .before .before .before .before .before .before .before .exp .ensures .is) (c .before .before .before .before .before .before .before .before .before .before .before .before .before .before .before .before .before .before .before .before .before .before .before .before .before .before .before .before .before .before .before .before .before .before .before .before .before .before .before .before .before .before .before .before .before .before .before .before .before .told .ensures) (c .before .before .before .before .before .before .before .before .before .before .before .before .before .before .before .before .before .before .before .before .before .before .before .before .before .before .before .before .before .before .before .before .before .before .before .before .before .before .before .before .before .before .before .before .before .before .before .s1 .given .1) (then-sure (c .before .before .before .before .before .before .before .before .before .before .before .before .before .before .before .before .before .before .before .before .before .before .before .before .before .before .before .before .before .before .before .before .before .before .before .before .before .before .before .before .before .before .before .word2 .ensures) (then-both (c .before .before .before .before .before .before .before .before .before .before .before .before .before .before .before .before .before .before .before .before .before .before .before .before .before .before .before .before .before .before .before .before .before .before .before .before .before .before .indent-deeper .ensures _) (then-done (along (c .before .before .before .before .before .before .before .before .before .before .before .before .before .before .before .before .before .before .before .before .before .before .before .before .before .before .before .before .before .before .before .before .before .before .before .indented .ensures) (c .before .before .before .before .before .before .before .before .before .before .before .before .before .before .before .before .before .before .before .before .before .before .before .before .before .before .before .before .before .before .before .before .exp2 .ensures)) (c .before .before .before .before .before .before .before .before .before .before .before .before .before .before .before .before .before .before .before .before .before .before .before .before .before .before .before .before .before .told2 .ensures) (c .before .before .before .before .before .before .before .before .before .before .before .before .before .before .before .before .before .before .before .before .before .before .before .before .before .before .before .s2 .given .1) (then-both (c .before .before .before .before .before .before .before .before .before .before .before .before .before .before .before .before .before .before .before .before .before .before .before .line .ensures) (then-sure (c .before .before .before .before .before .before .before .before .before .before .before .before .before .before .before .before .before .before .word3 .ensures) (by-same (look-yes (c .before .before .before .before .before .before .before .before .before .before .before .before .before .before .before .expression .ensures) (c .before .before .before .before .before .before .before .before .before .before .before .before .before .-k .given .1) (c .before .before .before .before .before .before .before .before .before .before .before .is-if-exp .ensures) (c .before .before .before .before .before .before .before .before .before .before .if1 .taken)) (then-sure (c .before .before .before .before .before .before .before .word4 .ensures) (c .before .before .exp3 .ensures .is))))))))) }
 
--- src/lib.rt:771:5
+-- src/lib.rt:772:5
 ie-line-in-requires : (t : ℕ) → ie-lts.Need-line-in-requires (
   word-reads.Asked,
   word-reads.Learnt,
@@ -13591,7 +13668,7 @@ ie-line-in-requires : (t : ℕ) → ie-lts.Need-line-in-requires (
 ) (ie-at t) ie.Post
 ie-line-in-requires t c κs = omega (arith, c .before .before .before .before .before .before .before .before .before .before .before .before .before .before .before .before .before .before .before .before .before .before .before .before .before .before .before .before .before .before .before .before .before .before .before .before .before .before .before .before .before .before .before .before .before .before .before .before .before .before .before .before .before .before .before .before .before .before .pre .1)
 
--- src/lib.rt:772:5
+-- src/lib.rt:773:5
 ie-exp-requires-4 : (t : ℕ) → ie-lts.Need-exp-requires-4 (
   word-reads.Asked,
   word-reads.Learnt,
@@ -13616,7 +13693,7 @@ ie-exp-requires-4 : (t : ℕ) → ie-lts.Need-exp-requires-4 (
 ) (ie-at t) ie.Post
 ie-exp-requires-4 t c κs = omega (arith, c .before .before .before .before .before .before .before .before .before .before .before .before .before .before .before .before .before .before .before .before .before .before .before .before .before .before .before .before .before .before .before .before .before .before .before .before .before .before .before .before .before .before .before .before .before .before .before .before .before .before .before .before .before .before .before .before .before .before .before .before .before .before .before .pre .0, c .before .before .before .before .before .before .before .before .before .before .before .before .before .before .before .before .before .before .before .before .before .before .before .before .before .before .before .before .before .before .before .before .before .before .before .before .before .before .before .before .before .before .before .before .before .before .before .before .before .before .before .before .before .before .before .before .before .before .before .before .before .before .before .pre .1, deep-depth (c .before .before .before .before .before .before .before .before .before .before .before .before .before .before .before .before .before .before .before .before .before .before .before .before .before .before .before .before .before .before .before .before .indented .ensures), deep-left (c .before .before .before .before .before .before .before .before .before .before .before .before .before .before .before .before .before .before .before .before .before .before .before .before .before .before .before .before .before .before .before .before .indented .ensures))
 
--- src/lib.rt:735:1
+-- src/lib.rt:736:1
 ie-same-length-5 : (t : ℕ) → ie-lts.Need-same-length-5 (
   word-reads.Asked,
   word-reads.Learnt,
@@ -13641,7 +13718,7 @@ ie-same-length-5 : (t : ℕ) → ie-lts.Need-same-length-5 (
 ) (ie-at t) ie.Post
 ie-same-length-5 t c = c .before .before .exp4 .kept .1 .1 .1 .1 .1 .1 .0 ∙ c .before .before .before .before .before .before .before .line-in .kept .1 .1 .0 ∙ c .before .before .before .before .before .before .before .before .before .before .before .before .before .before .before .before .before .before .word3 .kept .1 .1 .0 ∙ c .before .before .before .before .before .before .before .before .before .before .before .before .before .before .before .before .before .before .before .before .before .before .before .line .kept .1 .1 .0 ∙ c .before .before .before .before .before .before .before .before .before .before .before .before .before .before .before .before .before .before .before .before .before .before .before .before .before .before .before .before .before .before .before .before .exp2 .kept .1 .1 .1 .1 .1 .1 .0 ∙ c .before .before .before .before .before .before .before .before .before .before .before .before .before .before .before .before .before .before .before .before .before .before .before .before .before .before .before .before .before .before .before .before .before .before .before .before .before .before .indent-deeper .kept .0 ∙ c .before .before .before .before .before .before .before .before .before .before .before .before .before .before .before .before .before .before .before .before .before .before .before .before .before .before .before .before .before .before .before .before .before .before .before .before .before .before .before .before .before .before .before .word2 .kept .1 .1 .0 ∙ c .before .before .before .before .before .before .before .before .before .before .before .before .before .before .before .before .before .before .before .before .before .before .before .before .before .before .before .before .before .before .before .before .before .before .before .before .before .before .before .before .before .before .before .before .before .before .before .before .before .before .before .before .exp .kept .1 .1 .1 .1 .1 .1 .0 ∙ c .before .before .before .before .before .before .before .before .before .before .before .before .before .before .before .before .before .before .before .before .before .before .before .before .before .before .before .before .before .before .before .before .before .before .before .before .before .before .before .before .before .before .before .before .before .before .before .before .before .before .before .before .before .before .before .before .before .word .kept .1 .1 .0
 
--- src/lib.rt:735:1
+-- src/lib.rt:736:1
 ie-returns-5 : (t : ℕ) → ie-lts.Need-returns-5 (
   word-reads.Asked,
   word-reads.Learnt,
@@ -13667,7 +13744,7 @@ ie-returns-5 : (t : ℕ) → ie-lts.Need-returns-5 (
 unfolding Exp.exp Exp.if-no Helpers.indent-deeper Helpers.deepen
 ie-returns-5 t c = record { is = then-sure (c .before .before .before .before .before .before .before .before .before .before .before .before .before .before .before .before .before .before .before .before .before .before .before .before .before .before .before .before .before .before .before .before .before .before .before .before .before .before .before .before .before .before .before .before .before .before .before .before .before .before .before .before .before .before .before .before .before .word .ensures) (then-done (c .before .before .before .before .before .before .before .before .before .before .before .before .before .before .before .before .before .before .before .before .before .before .before .before .before .before .before .before .before .before .before .before .before .before .before .before .before .before .before .before .before .before .before .before .before .before .before .before .before .before .before .before .exp .ensures .is) (c .before .before .before .before .before .before .before .before .before .before .before .before .before .before .before .before .before .before .before .before .before .before .before .before .before .before .before .before .before .before .before .before .before .before .before .before .before .before .before .before .before .before .before .before .before .before .before .before .before .told .ensures) (c .before .before .before .before .before .before .before .before .before .before .before .before .before .before .before .before .before .before .before .before .before .before .before .before .before .before .before .before .before .before .before .before .before .before .before .before .before .before .before .before .before .before .before .before .before .before .before .s1 .given .1) (then-sure (c .before .before .before .before .before .before .before .before .before .before .before .before .before .before .before .before .before .before .before .before .before .before .before .before .before .before .before .before .before .before .before .before .before .before .before .before .before .before .before .before .before .before .before .word2 .ensures) (then-both (c .before .before .before .before .before .before .before .before .before .before .before .before .before .before .before .before .before .before .before .before .before .before .before .before .before .before .before .before .before .before .before .before .before .before .before .before .before .before .indent-deeper .ensures _) (then-done (along (c .before .before .before .before .before .before .before .before .before .before .before .before .before .before .before .before .before .before .before .before .before .before .before .before .before .before .before .before .before .before .before .before .before .before .before .indented .ensures) (c .before .before .before .before .before .before .before .before .before .before .before .before .before .before .before .before .before .before .before .before .before .before .before .before .before .before .before .before .before .before .before .before .exp2 .ensures)) (c .before .before .before .before .before .before .before .before .before .before .before .before .before .before .before .before .before .before .before .before .before .before .before .before .before .before .before .before .before .told2 .ensures) (c .before .before .before .before .before .before .before .before .before .before .before .before .before .before .before .before .before .before .before .before .before .before .before .before .before .before .before .s2 .given .1) (then-both (c .before .before .before .before .before .before .before .before .before .before .before .before .before .before .before .before .before .before .before .before .before .before .before .line .ensures) (then-sure (c .before .before .before .before .before .before .before .before .before .before .before .before .before .before .before .before .before .before .word3 .ensures) (by-same (look-no (c .before .before .before .before .before .before .before .before .before .before .before .before .before .before .before .expression .ensures) (c .before .before .before .before .before .before .before .before .before .before .before .before .before .-k .given .1) (c .before .before .before .before .before .before .before .before .before .before .before .is-if-exp .ensures) (c .before .before .before .before .before .before .before .before .before .before .if1 .left)) (then-both (c .before .before .before .before .before .before .before .line-in .ensures) (along (c .before .before .before .before .before .before .before .before .before .before .before .before .before .before .before .before .before .before .before .before .before .before .before .before .before .before .before .before .before .before .before .before .before .before .before .indented .ensures) (c .before .before .exp4 .ensures)))))))))) }
 
--- src/lib.rt:342:9
+-- src/lib.rt:343:9
 it-group-requires : (t : ℕ) → it-lts.Need-group-requires (
   group-reads.Asked,
   group-reads.Learnt,
@@ -13680,7 +13757,7 @@ it-group-requires : (t : ℕ) → it-lts.Need-group-requires (
 ) (it-at t) it.Post
 it-group-requires t c κs = search needs
 
--- src/lib.rt:343:28
+-- src/lib.rt:344:28
 it-told-requires : (t : ℕ) → it-lts.Need-told-requires (
   group-reads.Asked,
   group-reads.Learnt,
@@ -13693,7 +13770,7 @@ it-told-requires : (t : ℕ) → it-lts.Need-told-requires (
 ) (it-at t) it.Post
 it-told-requires t c κs = search needs
 
--- src/lib.rt:343:22
+-- src/lib.rt:344:22
 it-enum-known-s1 : (t : ℕ) → it-lts.Need-enum-known-s1 (
   group-reads.Asked,
   group-reads.Learnt,
@@ -13706,7 +13783,7 @@ it-enum-known-s1 : (t : ℕ) → it-lts.Need-enum-known-s1 (
 ) (it-at t) it.Post
 it-enum-known-s1 t c = search needs
 
--- src/lib.rt:344:9
+-- src/lib.rt:345:9
 it-enum-told : (t : ℕ) → it-lts.Need-enum-told (
   group-reads.Asked,
   group-reads.Learnt,
@@ -13719,7 +13796,7 @@ it-enum-told : (t : ℕ) → it-lts.Need-enum-told (
 ) (it-at t) it.Post
 it-enum-told t c = search needs
 
--- src/lib.rt:344:9
+-- src/lib.rt:345:9
 it-returns : (t : ℕ) → it-lts.Need-returns (
   group-reads.Asked,
   group-reads.Learnt,
@@ -13733,7 +13810,7 @@ it-returns : (t : ℕ) → it-lts.Need-returns (
 unfolding Exp.exp-semi-item
 it-returns t c = record { is = group-not (c .before .before .before .group .ensures) (c .before .before .told .ensures) (c .enum-told .given .1) }
 
--- src/lib.rt:346:9
+-- src/lib.rt:347:9
 it-exp-requires : (t : ℕ) → it-lts.Need-exp-requires (
   group-reads.Asked,
   group-reads.Learnt,
@@ -13746,7 +13823,7 @@ it-exp-requires : (t : ℕ) → it-lts.Need-exp-requires (
 ) (it-at t) it.Post
 it-exp-requires t c κs = omega (arith, c .before .before .before .before .before .before .before .before .before .before .before .before .before .pre .0, c .before .before .before .before .before .before .before .before .before .before .before .before .before .pre .1)
 
--- src/lib.rt:347:28
+-- src/lib.rt:348:28
 it-told-requires-2 : (t : ℕ) → it-lts.Need-told-requires-2 (
   group-reads.Asked,
   group-reads.Learnt,
@@ -13759,7 +13836,7 @@ it-told-requires-2 : (t : ℕ) → it-lts.Need-told-requires-2 (
 ) (it-at t) it.Post
 it-told-requires-2 t c κs = search needs
 
--- src/lib.rt:347:22
+-- src/lib.rt:348:22
 it-enum-known-s2 : (t : ℕ) → it-lts.Need-enum-known-s2 (
   group-reads.Asked,
   group-reads.Learnt,
@@ -13772,7 +13849,7 @@ it-enum-known-s2 : (t : ℕ) → it-lts.Need-enum-known-s2 (
 ) (it-at t) it.Post
 it-enum-known-s2 t c = search needs
 
--- src/lib.rt:348:9
+-- src/lib.rt:349:9
 it-enum-told-2 : (t : ℕ) → it-lts.Need-enum-told-2 (
   group-reads.Asked,
   group-reads.Learnt,
@@ -13785,7 +13862,7 @@ it-enum-told-2 : (t : ℕ) → it-lts.Need-enum-told-2 (
 ) (it-at t) it.Post
 it-enum-told-2 t c = search needs
 
--- src/lib.rt:348:9
+-- src/lib.rt:349:9
 it-same-length : (t : ℕ) → it-lts.Need-same-length (
   group-reads.Asked,
   group-reads.Learnt,
@@ -13798,7 +13875,7 @@ it-same-length : (t : ℕ) → it-lts.Need-same-length (
 ) (it-at t) it.Post
 it-same-length t c = c .before .before .before .before .before .exp .kept .1 .1 .1 .1 .1 .1 .0
 
--- src/lib.rt:348:9
+-- src/lib.rt:349:9
 it-returns-2 : (t : ℕ) → it-lts.Need-returns-2 (
   group-reads.Asked,
   group-reads.Learnt,
@@ -13812,7 +13889,7 @@ it-returns-2 : (t : ℕ) → it-lts.Need-returns-2 (
 unfolding Exp.exp-semi-item
 it-returns-2 t c = record { is = by-same (group-is (c .before .before .before .before .before .before .before .before .before .before .before .before .group .ensures) (c .before .before .before .before .before .before .before .before .before .before .before .told .ensures) (c .before .before .before .before .before .before .before .before .before .s1 .given .1)) (then-stop (c .before .before .before .before .before .exp .ensures .is) (c .before .before .told2 .ensures) (c .enum-told2 .given .1)) }
 
--- src/lib.rt:350:5
+-- src/lib.rt:351:5
 it-item-semi-requires : (t : ℕ) → it-lts.Need-item-semi-requires (
   group-reads.Asked,
   group-reads.Learnt,
@@ -13825,7 +13902,7 @@ it-item-semi-requires : (t : ℕ) → it-lts.Need-item-semi-requires (
 ) (it-at t) it.Post
 it-item-semi-requires t c κs = search needs
 
--- src/lib.rt:326:1
+-- src/lib.rt:327:1
 it-same-length-2 : (t : ℕ) → it-lts.Need-same-length-2 (
   group-reads.Asked,
   group-reads.Learnt,
@@ -13838,7 +13915,7 @@ it-same-length-2 : (t : ℕ) → it-lts.Need-same-length-2 (
 ) (it-at t) it.Post
 it-same-length-2 t c = c .before .before .item-semi .kept .1 .1 .1 .1 .1 .0 ∙ c .before .before .before .before .before .before .before .before .before .before .before .exp .kept .1 .1 .1 .1 .1 .1 .0
 
--- src/lib.rt:326:1
+-- src/lib.rt:327:1
 it-returns-3 : (t : ℕ) → it-lts.Need-returns-3 (
   group-reads.Asked,
   group-reads.Learnt,
@@ -13852,7 +13929,7 @@ it-returns-3 : (t : ℕ) → it-lts.Need-returns-3 (
 unfolding Exp.exp-semi-item
 it-returns-3 t c = record { is = by-same (group-is (c .before .before .before .before .before .before .before .before .before .before .before .before .before .before .before .before .before .before .group .ensures) (c .before .before .before .before .before .before .before .before .before .before .before .before .before .before .before .before .before .told .ensures) (c .before .before .before .before .before .before .before .before .before .before .before .before .before .before .before .s1 .given .1)) (then-done (c .before .before .before .before .before .before .before .before .before .before .before .exp .ensures .is) (c .before .before .before .before .before .before .before .before .told2 .ensures) (c .before .before .before .before .before .before .s2 .given .1) (plain (c .before .before .item-semi .ensures))) }
 
--- src/lib.rt:1695:29
+-- src/lib.rt:1696:29
 ld-absent-requires : (t : ℕ) → ld-lts.Need-absent-requires (
   absent-reads.Asked,
   absent-reads.Learnt,
@@ -13865,7 +13942,7 @@ ld-absent-requires : (t : ℕ) → ld-lts.Need-absent-requires (
 ) (ld-at t) ld.Post
 ld-absent-requires t c κs = search needs
 
--- src/lib.rt:1695:23
+-- src/lib.rt:1696:23
 ld-enum-known-s0 : (t : ℕ) → ld-lts.Need-enum-known-s0 (
   absent-reads.Asked,
   absent-reads.Learnt,
@@ -13878,7 +13955,7 @@ ld-enum-known-s0 : (t : ℕ) → ld-lts.Need-enum-known-s0 (
 ) (ld-at t) ld.Post
 ld-enum-known-s0 t c = search needs
 
--- src/lib.rt:1696:9
+-- src/lib.rt:1697:9
 ld-returns : (t : ℕ) → ld-lts.Need-returns (
   absent-reads.Asked,
   absent-reads.Learnt,
@@ -13904,7 +13981,7 @@ ld-enum-told : (t : ℕ) → ld-lts.Need-enum-told (
 ) (ld-at t) ld.Post
 ld-enum-told t c = search needs
 
--- src/lib.rt:1698:9
+-- src/lib.rt:1699:9
 ld-group-requires : (t : ℕ) → ld-lts.Need-group-requires (
   absent-reads.Asked,
   absent-reads.Learnt,
@@ -13917,7 +13994,7 @@ ld-group-requires : (t : ℕ) → ld-lts.Need-group-requires (
 ) (ld-at t) ld.Post
 ld-group-requires t c κs = search needs
 
--- src/lib.rt:1699:28
+-- src/lib.rt:1700:28
 ld-told-requires : (t : ℕ) → ld-lts.Need-told-requires (
   absent-reads.Asked,
   absent-reads.Learnt,
@@ -13930,7 +14007,7 @@ ld-told-requires : (t : ℕ) → ld-lts.Need-told-requires (
 ) (ld-at t) ld.Post
 ld-told-requires t c κs = search needs
 
--- src/lib.rt:1699:22
+-- src/lib.rt:1700:22
 ld-enum-known-s1 : (t : ℕ) → ld-lts.Need-enum-known-s1 (
   absent-reads.Asked,
   absent-reads.Learnt,
@@ -13943,7 +14020,7 @@ ld-enum-known-s1 : (t : ℕ) → ld-lts.Need-enum-known-s1 (
 ) (ld-at t) ld.Post
 ld-enum-known-s1 t c = search needs
 
--- src/lib.rt:1700:9
+-- src/lib.rt:1701:9
 ld-enum-told-2 : (t : ℕ) → ld-lts.Need-enum-told-2 (
   absent-reads.Asked,
   absent-reads.Learnt,
@@ -13956,7 +14033,7 @@ ld-enum-told-2 : (t : ℕ) → ld-lts.Need-enum-told-2 (
 ) (ld-at t) ld.Post
 ld-enum-told-2 t c = search needs
 
--- src/lib.rt:1700:9
+-- src/lib.rt:1701:9
 ld-returns-2 : (t : ℕ) → ld-lts.Need-returns-2 (
   absent-reads.Asked,
   absent-reads.Learnt,
@@ -13970,7 +14047,7 @@ ld-returns-2 : (t : ℕ) → ld-lts.Need-returns-2 (
 unfolding DecOne.local-decs
 ld-returns-2 t c = record { is = by-same (maybe-there (c .before .before .before .before .before .before .absent .ensures) (c .before .before .before .before .enum-told .given .1)) (group-not (c .before .before .before .group .ensures) (c .before .before .told .ensures) (c .enum-told2 .given .1)) }
 
--- src/lib.rt:1702:5
+-- src/lib.rt:1703:5
 ld-ds-requires : (t : ℕ) → ld-lts.Need-ds-requires (
   absent-reads.Asked,
   absent-reads.Learnt,
@@ -13983,7 +14060,7 @@ ld-ds-requires : (t : ℕ) → ld-lts.Need-ds-requires (
 ) (ld-at t) ld.Post
 ld-ds-requires t c κs = omega (arith, c .before .before .before .before .before .before .before .before .before .before .before .before .before .before .before .before .pre .0, c .before .before .before .before .before .before .before .before .before .before .before .before .before .before .before .before .pre .1)
 
--- src/lib.rt:1680:1
+-- src/lib.rt:1681:1
 ld-same-length : (t : ℕ) → ld-lts.Need-same-length (
   absent-reads.Asked,
   absent-reads.Learnt,
@@ -13996,7 +14073,7 @@ ld-same-length : (t : ℕ) → ld-lts.Need-same-length (
 ) (ld-at t) ld.Post
 ld-same-length t c = c .before .before .ds .kept .1 .1 .1 .1 .1 .1 .0
 
--- src/lib.rt:1680:1
+-- src/lib.rt:1681:1
 ld-returns-3 : (t : ℕ) → ld-lts.Need-returns-3 (
   absent-reads.Asked,
   absent-reads.Learnt,
@@ -14010,7 +14087,7 @@ ld-returns-3 : (t : ℕ) → ld-lts.Need-returns-3 (
 unfolding DecOne.local-decs
 ld-returns-3 t c = record { is = by-same (maybe-there (c .before .before .before .before .before .before .before .before .before .before .before .before .absent .ensures) (c .before .before .before .before .before .before .before .before .before .before .enum-told .given .1)) (by-same (group-is (c .before .before .before .before .before .before .before .before .before .group .ensures) (c .before .before .before .before .before .before .before .before .told .ensures) (c .before .before .before .before .before .before .s1 .given .1)) (c .before .before .ds .ensures .is)) }
 
--- src/lib.rt:1659:5
+-- src/lib.rt:1660:5
 lo-word-requires : (t : ℕ) → lo-lts.Need-word-requires (
   word-reads.Asked,
   word-reads.Learnt,
@@ -14029,7 +14106,7 @@ lo-word-requires : (t : ℕ) → lo-lts.Need-word-requires (
 ) (lo-at t) lo.Post
 lo-word-requires t c κs = search needs
 
--- src/lib.rt:1660:5
+-- src/lib.rt:1661:5
 lo-word-requires-2 : (t : ℕ) → lo-lts.Need-word-requires-2 (
   word-reads.Asked,
   word-reads.Learnt,
@@ -14048,7 +14125,7 @@ lo-word-requires-2 : (t : ℕ) → lo-lts.Need-word-requires-2 (
 ) (lo-at t) lo.Post
 lo-word-requires-2 t c κs = search needs
 
--- src/lib.rt:1661:5
+-- src/lib.rt:1662:5
 lo-indent-deeper-requires : (t : ℕ) → lo-lts.Need-indent-deeper-requires (
   word-reads.Asked,
   word-reads.Learnt,
@@ -14067,7 +14144,7 @@ lo-indent-deeper-requires : (t : ℕ) → lo-lts.Need-indent-deeper-requires (
 ) (lo-at t) lo.Post
 lo-indent-deeper-requires t c κs = omega (arith, c .before .before .before .before .before .before .before .before .before .before .before .before .before .before .before .before .before .before .pre .1)
 
--- src/lib.rt:1662:9
+-- src/lib.rt:1663:9
 lo-indented-requires : (t : ℕ) → lo-lts.Need-indented-requires (
   word-reads.Asked,
   word-reads.Learnt,
@@ -14086,7 +14163,7 @@ lo-indented-requires : (t : ℕ) → lo-lts.Need-indented-requires (
 ) (lo-at t) lo.Post
 lo-indented-requires t c κs = omega (arith, c .before .before .before .before .before .before .before .before .before .before .before .before .before .before .before .before .before .before .before .before .before .pre .1)
 
--- src/lib.rt:1663:9
+-- src/lib.rt:1664:9
 lo-ld-requires : (t : ℕ) → lo-lts.Need-ld-requires (
   word-reads.Asked,
   word-reads.Learnt,
@@ -14105,7 +14182,7 @@ lo-ld-requires : (t : ℕ) → lo-lts.Need-ld-requires (
 ) (lo-at t) lo.Post
 lo-ld-requires t c κs = omega (arith, c .before .before .before .before .before .before .before .before .before .before .before .before .before .before .before .before .before .before .before .before .before .before .before .before .pre .0, c .before .before .before .before .before .before .before .before .before .before .before .before .before .before .before .before .before .before .before .before .before .before .before .before .pre .1, deep-depth (c .before .before .indented .ensures), deep-left (c .before .before .indented .ensures))
 
--- src/lib.rt:1664:28
+-- src/lib.rt:1665:28
 lo-told-requires : (t : ℕ) → lo-lts.Need-told-requires (
   word-reads.Asked,
   word-reads.Learnt,
@@ -14124,7 +14201,7 @@ lo-told-requires : (t : ℕ) → lo-lts.Need-told-requires (
 ) (lo-at t) lo.Post
 lo-told-requires t c κs = search needs
 
--- src/lib.rt:1664:22
+-- src/lib.rt:1665:22
 lo-enum-known-s1 : (t : ℕ) → lo-lts.Need-enum-known-s1 (
   word-reads.Asked,
   word-reads.Learnt,
@@ -14143,7 +14220,7 @@ lo-enum-known-s1 : (t : ℕ) → lo-lts.Need-enum-known-s1 (
 ) (lo-at t) lo.Post
 lo-enum-known-s1 t c = search needs
 
--- src/lib.rt:1665:9
+-- src/lib.rt:1666:9
 lo-enum-told : (t : ℕ) → lo-lts.Need-enum-told (
   word-reads.Asked,
   word-reads.Learnt,
@@ -14162,7 +14239,7 @@ lo-enum-told : (t : ℕ) → lo-lts.Need-enum-told (
 ) (lo-at t) lo.Post
 lo-enum-told t c = search needs
 
--- src/lib.rt:1665:9
+-- src/lib.rt:1666:9
 lo-same-length : (t : ℕ) → lo-lts.Need-same-length (
   word-reads.Asked,
   word-reads.Learnt,
@@ -14181,7 +14258,7 @@ lo-same-length : (t : ℕ) → lo-lts.Need-same-length (
 ) (lo-at t) lo.Post
 lo-same-length t c = c .before .before .before .before .before .ld .kept .1 .1 .1 .1 .1 .1 .0 ∙ c .before .before .before .before .before .before .before .before .before .before .before .indent-deeper .kept .0 ∙ c .before .before .before .before .before .before .before .before .before .before .before .before .before .before .before .before .word2 .kept .1 .1 .0 ∙ c .before .before .before .before .before .before .before .before .before .before .before .before .before .before .before .before .before .before .before .before .before .word .kept .1 .1 .0
 
--- src/lib.rt:1665:9
+-- src/lib.rt:1666:9
 lo-returns : (t : ℕ) → lo-lts.Need-returns (
   word-reads.Asked,
   word-reads.Learnt,
@@ -14201,7 +14278,7 @@ lo-returns : (t : ℕ) → lo-lts.Need-returns (
 unfolding DecOne.dec-one Helpers.in-end Helpers.indent-deeper Helpers.deepen
 lo-returns t c = record { is = then-sure (c .before .before .before .before .before .before .before .before .before .before .before .before .before .before .before .before .before .before .before .before .before .word .ensures) (then-sure (c .before .before .before .before .before .before .before .before .before .before .before .before .before .before .before .before .word2 .ensures) (then-both (c .before .before .before .before .before .before .before .before .before .before .before .indent-deeper .ensures _) (then-stop (along (c .before .before .before .before .before .before .before .before .indented .ensures) (c .before .before .before .before .before .ld .ensures)) (c .before .before .told .ensures) (c .enum-told .given .1)))) }
 
--- src/lib.rt:1667:5
+-- src/lib.rt:1668:5
 lo-line-requires : (t : ℕ) → lo-lts.Need-line-requires (
   word-reads.Asked,
   word-reads.Learnt,
@@ -14220,7 +14297,7 @@ lo-line-requires : (t : ℕ) → lo-lts.Need-line-requires (
 ) (lo-at t) lo.Post
 lo-line-requires t c κs = search needs
 
--- src/lib.rt:1668:5
+-- src/lib.rt:1669:5
 lo-word-requires-3 : (t : ℕ) → lo-lts.Need-word-requires-3 (
   word-reads.Asked,
   word-reads.Learnt,
@@ -14239,7 +14316,7 @@ lo-word-requires-3 : (t : ℕ) → lo-lts.Need-word-requires-3 (
 ) (lo-at t) lo.Post
 lo-word-requires-3 t c κs = search needs
 
--- src/lib.rt:1669:5
+-- src/lib.rt:1670:5
 lo-indent-in-requires : (t : ℕ) → lo-lts.Need-indent-in-requires (
   word-reads.Asked,
   word-reads.Learnt,
@@ -14258,7 +14335,7 @@ lo-indent-in-requires : (t : ℕ) → lo-lts.Need-indent-in-requires (
 ) (lo-at t) lo.Post
 lo-indent-in-requires t c κs = omega (arith, c .before .before .before .before .before .before .before .before .before .before .before .before .before .before .before .before .before .before .before .before .before .before .before .before .before .before .before .before .before .before .before .before .before .before .before .before .before .before .before .before .before .before .before .pre .1)
 
--- src/lib.rt:1670:9
+-- src/lib.rt:1671:9
 lo-ld-requires-2 : (t : ℕ) → lo-lts.Need-ld-requires-2 (
   word-reads.Asked,
   word-reads.Learnt,
@@ -14277,7 +14354,7 @@ lo-ld-requires-2 : (t : ℕ) → lo-lts.Need-ld-requires-2 (
 ) (lo-at t) lo.Post
 lo-ld-requires-2 t c κs = omega (arith, c .before .before .before .before .before .before .before .before .before .before .before .before .before .before .before .before .before .before .before .before .before .before .before .before .before .before .before .before .before .before .before .before .before .before .before .before .before .before .before .before .before .before .before .before .before .before .before .before .pre .0, c .before .before .before .before .before .before .before .before .before .before .before .before .before .before .before .before .before .before .before .before .before .before .before .before .before .before .before .before .before .before .before .before .before .before .before .before .before .before .before .before .before .before .before .before .before .before .before .before .pre .1, deep-depth (c .before .before .before .before .before .before .before .before .before .before .before .before .before .before .before .before .before .before .before .before .before .before .before .before .before .before .indented .ensures), deep-left (c .before .before .before .before .before .before .before .before .before .before .before .before .before .before .before .before .before .before .before .before .before .before .before .before .before .before .indented .ensures))
 
--- src/lib.rt:1671:28
+-- src/lib.rt:1672:28
 lo-told-requires-2 : (t : ℕ) → lo-lts.Need-told-requires-2 (
   word-reads.Asked,
   word-reads.Learnt,
@@ -14296,7 +14373,7 @@ lo-told-requires-2 : (t : ℕ) → lo-lts.Need-told-requires-2 (
 ) (lo-at t) lo.Post
 lo-told-requires-2 t c κs = search needs
 
--- src/lib.rt:1671:22
+-- src/lib.rt:1672:22
 lo-enum-known-s2 : (t : ℕ) → lo-lts.Need-enum-known-s2 (
   word-reads.Asked,
   word-reads.Learnt,
@@ -14315,7 +14392,7 @@ lo-enum-known-s2 : (t : ℕ) → lo-lts.Need-enum-known-s2 (
 ) (lo-at t) lo.Post
 lo-enum-known-s2 t c = search needs
 
--- src/lib.rt:1672:9
+-- src/lib.rt:1673:9
 lo-enum-told-2 : (t : ℕ) → lo-lts.Need-enum-told-2 (
   word-reads.Asked,
   word-reads.Learnt,
@@ -14334,7 +14411,7 @@ lo-enum-told-2 : (t : ℕ) → lo-lts.Need-enum-told-2 (
 ) (lo-at t) lo.Post
 lo-enum-told-2 t c = search needs
 
--- src/lib.rt:1672:9
+-- src/lib.rt:1673:9
 lo-same-length-2 : (t : ℕ) → lo-lts.Need-same-length-2 (
   word-reads.Asked,
   word-reads.Learnt,
@@ -14353,7 +14430,7 @@ lo-same-length-2 : (t : ℕ) → lo-lts.Need-same-length-2 (
 ) (lo-at t) lo.Post
 lo-same-length-2 t c = c .before .before .before .before .before .ld2 .kept .1 .1 .1 .1 .1 .1 .0 ∙ c .before .before .before .before .before .before .before .before .before .before .indent-in .kept .0 ∙ c .before .before .before .before .before .before .before .before .before .before .before .before .before .before .before .word3 .kept .1 .1 .0 ∙ c .before .before .before .before .before .before .before .before .before .before .before .before .before .before .before .before .before .before .before .before .line .kept .1 .1 .0 ∙ c .before .before .before .before .before .before .before .before .before .before .before .before .before .before .before .before .before .before .before .before .before .before .before .before .before .before .before .before .before .ld .kept .1 .1 .1 .1 .1 .1 .0 ∙ c .before .before .before .before .before .before .before .before .before .before .before .before .before .before .before .before .before .before .before .before .before .before .before .before .before .before .before .before .before .before .before .before .before .before .before .indent-deeper .kept .0 ∙ c .before .before .before .before .before .before .before .before .before .before .before .before .before .before .before .before .before .before .before .before .before .before .before .before .before .before .before .before .before .before .before .before .before .before .before .before .before .before .before .before .word2 .kept .1 .1 .0 ∙ c .before .before .before .before .before .before .before .before .before .before .before .before .before .before .before .before .before .before .before .before .before .before .before .before .before .before .before .before .before .before .before .before .before .before .before .before .before .before .before .before .before .before .before .before .before .word .kept .1 .1 .0
 
--- src/lib.rt:1672:9
+-- src/lib.rt:1673:9
 lo-returns-2 : (t : ℕ) → lo-lts.Need-returns-2 (
   word-reads.Asked,
   word-reads.Learnt,
@@ -14373,7 +14450,7 @@ lo-returns-2 : (t : ℕ) → lo-lts.Need-returns-2 (
 unfolding DecOne.dec-one Helpers.in-end Helpers.indent-deeper Helpers.deepen
 lo-returns-2 t c = record { is = then-sure (c .before .before .before .before .before .before .before .before .before .before .before .before .before .before .before .before .before .before .before .before .before .before .before .before .before .before .before .before .before .before .before .before .before .before .before .before .before .before .before .before .before .before .before .before .before .word .ensures) (then-sure (c .before .before .before .before .before .before .before .before .before .before .before .before .before .before .before .before .before .before .before .before .before .before .before .before .before .before .before .before .before .before .before .before .before .before .before .before .before .before .before .before .word2 .ensures) (then-both (c .before .before .before .before .before .before .before .before .before .before .before .before .before .before .before .before .before .before .before .before .before .before .before .before .before .before .before .before .before .before .before .before .before .before .before .indent-deeper .ensures _) (then-done (along (c .before .before .before .before .before .before .before .before .before .before .before .before .before .before .before .before .before .before .before .before .before .before .before .before .before .before .before .before .before .before .before .before .indented .ensures) (c .before .before .before .before .before .before .before .before .before .before .before .before .before .before .before .before .before .before .before .before .before .before .before .before .before .before .before .before .before .ld .ensures)) (c .before .before .before .before .before .before .before .before .before .before .before .before .before .before .before .before .before .before .before .before .before .before .before .before .before .before .told .ensures) (c .before .before .before .before .before .before .before .before .before .before .before .before .before .before .before .before .before .before .before .before .before .before .before .before .s1 .given .1) (then-both (c .before .before .before .before .before .before .before .before .before .before .before .before .before .before .before .before .before .before .before .before .line .ensures) (then-sure (c .before .before .before .before .before .before .before .before .before .before .before .before .before .before .before .word3 .ensures) (then-sure (c .before .before .before .before .before .before .before .before .before .before .indent-in .ensures _) (then-stop (along (c .before .before .before .before .before .before .before .before .before .before .before .before .before .before .before .before .before .before .before .before .before .before .before .before .before .before .before .before .before .before .before .before .indented .ensures) (c .before .before .before .before .before .ld2 .ensures)) (c .before .before .told2 .ensures) (c .enum-told2 .given .1)))))))) }
 
--- src/lib.rt:1674:5
+-- src/lib.rt:1675:5
 lo-line-requires-2 : (t : ℕ) → lo-lts.Need-line-requires-2 (
   word-reads.Asked,
   word-reads.Learnt,
@@ -14392,7 +14469,7 @@ lo-line-requires-2 : (t : ℕ) → lo-lts.Need-line-requires-2 (
 ) (lo-at t) lo.Post
 lo-line-requires-2 t c κs = search needs
 
--- src/lib.rt:1675:5
+-- src/lib.rt:1676:5
 lo-word-requires-4 : (t : ℕ) → lo-lts.Need-word-requires-4 (
   word-reads.Asked,
   word-reads.Learnt,
@@ -14411,7 +14488,7 @@ lo-word-requires-4 : (t : ℕ) → lo-lts.Need-word-requires-4 (
 ) (lo-at t) lo.Post
 lo-word-requires-4 t c κs = search needs
 
--- src/lib.rt:1644:1
+-- src/lib.rt:1645:1
 lo-same-length-3 : (t : ℕ) → lo-lts.Need-same-length-3 (
   word-reads.Asked,
   word-reads.Learnt,
@@ -14430,7 +14507,7 @@ lo-same-length-3 : (t : ℕ) → lo-lts.Need-same-length-3 (
 ) (lo-at t) lo.Post
 lo-same-length-3 t c = c .before .before .word4 .kept .1 .1 .0 ∙ c .before .before .before .before .before .before .before .line2 .kept .1 .1 .0 ∙ c .before .before .before .before .before .before .before .before .before .before .before .before .before .before .before .before .ld2 .kept .1 .1 .1 .1 .1 .1 .0 ∙ c .before .before .before .before .before .before .before .before .before .before .before .before .before .before .before .before .before .before .before .before .before .indent-in .kept .0 ∙ c .before .before .before .before .before .before .before .before .before .before .before .before .before .before .before .before .before .before .before .before .before .before .before .before .before .before .word3 .kept .1 .1 .0 ∙ c .before .before .before .before .before .before .before .before .before .before .before .before .before .before .before .before .before .before .before .before .before .before .before .before .before .before .before .before .before .before .before .line .kept .1 .1 .0 ∙ c .before .before .before .before .before .before .before .before .before .before .before .before .before .before .before .before .before .before .before .before .before .before .before .before .before .before .before .before .before .before .before .before .before .before .before .before .before .before .before .before .ld .kept .1 .1 .1 .1 .1 .1 .0 ∙ c .before .before .before .before .before .before .before .before .before .before .before .before .before .before .before .before .before .before .before .before .before .before .before .before .before .before .before .before .before .before .before .before .before .before .before .before .before .before .before .before .before .before .before .before .before .before .indent-deeper .kept .0 ∙ c .before .before .before .before .before .before .before .before .before .before .before .before .before .before .before .before .before .before .before .before .before .before .before .before .before .before .before .before .before .before .before .before .before .before .before .before .before .before .before .before .before .before .before .before .before .before .before .before .before .before .before .word2 .kept .1 .1 .0 ∙ c .before .before .before .before .before .before .before .before .before .before .before .before .before .before .before .before .before .before .before .before .before .before .before .before .before .before .before .before .before .before .before .before .before .before .before .before .before .before .before .before .before .before .before .before .before .before .before .before .before .before .before .before .before .before .before .before .word .kept .1 .1 .0
 
--- src/lib.rt:1644:1
+-- src/lib.rt:1645:1
 lo-returns-3 : (t : ℕ) → lo-lts.Need-returns-3 (
   word-reads.Asked,
   word-reads.Learnt,
@@ -14450,7 +14527,7 @@ lo-returns-3 : (t : ℕ) → lo-lts.Need-returns-3 (
 unfolding DecOne.dec-one Helpers.in-end Helpers.indent-deeper Helpers.deepen
 lo-returns-3 t c = record { is = then-sure (c .before .before .before .before .before .before .before .before .before .before .before .before .before .before .before .before .before .before .before .before .before .before .before .before .before .before .before .before .before .before .before .before .before .before .before .before .before .before .before .before .before .before .before .before .before .before .before .before .before .before .before .before .before .before .before .before .word .ensures) (then-sure (c .before .before .before .before .before .before .before .before .before .before .before .before .before .before .before .before .before .before .before .before .before .before .before .before .before .before .before .before .before .before .before .before .before .before .before .before .before .before .before .before .before .before .before .before .before .before .before .before .before .before .before .word2 .ensures) (then-both (c .before .before .before .before .before .before .before .before .before .before .before .before .before .before .before .before .before .before .before .before .before .before .before .before .before .before .before .before .before .before .before .before .before .before .before .before .before .before .before .before .before .before .before .before .before .before .indent-deeper .ensures _) (then-done (along (c .before .before .before .before .before .before .before .before .before .before .before .before .before .before .before .before .before .before .before .before .before .before .before .before .before .before .before .before .before .before .before .before .before .before .before .before .before .before .before .before .before .before .before .indented .ensures) (c .before .before .before .before .before .before .before .before .before .before .before .before .before .before .before .before .before .before .before .before .before .before .before .before .before .before .before .before .before .before .before .before .before .before .before .before .before .before .before .before .ld .ensures)) (c .before .before .before .before .before .before .before .before .before .before .before .before .before .before .before .before .before .before .before .before .before .before .before .before .before .before .before .before .before .before .before .before .before .before .before .before .before .told .ensures) (c .before .before .before .before .before .before .before .before .before .before .before .before .before .before .before .before .before .before .before .before .before .before .before .before .before .before .before .before .before .before .before .before .before .before .before .s1 .given .1) (then-both (c .before .before .before .before .before .before .before .before .before .before .before .before .before .before .before .before .before .before .before .before .before .before .before .before .before .before .before .before .before .before .before .line .ensures) (then-sure (c .before .before .before .before .before .before .before .before .before .before .before .before .before .before .before .before .before .before .before .before .before .before .before .before .before .before .word3 .ensures) (then-sure (c .before .before .before .before .before .before .before .before .before .before .before .before .before .before .before .before .before .before .before .before .before .indent-in .ensures _) (then-done (along (c .before .before .before .before .before .before .before .before .before .before .before .before .before .before .before .before .before .before .before .before .before .before .before .before .before .before .before .before .before .before .before .before .before .before .before .before .before .before .before .before .before .before .before .indented .ensures) (c .before .before .before .before .before .before .before .before .before .before .before .before .before .before .before .before .ld2 .ensures)) (c .before .before .before .before .before .before .before .before .before .before .before .before .before .told2 .ensures) (c .before .before .before .before .before .before .before .before .before .before .before .s2 .given .1) (then-both (c .before .before .before .before .before .before .before .line2 .ensures) (last-sure (c .before .before .word4 .ensures)))))))))) }
 
--- src/lib.rt:498:5
+-- src/lib.rt:499:5
 lx-word-requires : (t : ℕ) → lx-lts.Need-word-requires (
   word-reads.Asked,
   word-reads.Learnt,
@@ -14471,7 +14548,7 @@ lx-word-requires : (t : ℕ) → lx-lts.Need-word-requires (
 ) (lx-at t) lx.Post
 lx-word-requires t c κs = search needs
 
--- src/lib.rt:499:5
+-- src/lib.rt:500:5
 lx-word-requires-2 : (t : ℕ) → lx-lts.Need-word-requires-2 (
   word-reads.Asked,
   word-reads.Learnt,
@@ -14492,7 +14569,7 @@ lx-word-requires-2 : (t : ℕ) → lx-lts.Need-word-requires-2 (
 ) (lx-at t) lx.Post
 lx-word-requires-2 t c κs = search needs
 
--- src/lib.rt:500:5
+-- src/lib.rt:501:5
 lx-indent-deeper-requires : (t : ℕ) → lx-lts.Need-indent-deeper-requires (
   word-reads.Asked,
   word-reads.Learnt,
@@ -14513,7 +14590,7 @@ lx-indent-deeper-requires : (t : ℕ) → lx-lts.Need-indent-deeper-requires (
 ) (lx-at t) lx.Post
 lx-indent-deeper-requires t c κs = omega (arith, c .before .before .before .before .before .before .before .before .before .before .before .before .before .before .before .before .before .before .pre .1)
 
--- src/lib.rt:501:9
+-- src/lib.rt:502:9
 lx-indented-requires : (t : ℕ) → lx-lts.Need-indented-requires (
   word-reads.Asked,
   word-reads.Learnt,
@@ -14534,7 +14611,7 @@ lx-indented-requires : (t : ℕ) → lx-lts.Need-indented-requires (
 ) (lx-at t) lx.Post
 lx-indented-requires t c κs = omega (arith, c .before .before .before .before .before .before .before .before .before .before .before .before .before .before .before .before .before .before .before .before .before .pre .1)
 
--- src/lib.rt:502:9
+-- src/lib.rt:503:9
 lx-ds-requires : (t : ℕ) → lx-lts.Need-ds-requires (
   word-reads.Asked,
   word-reads.Learnt,
@@ -14555,7 +14632,7 @@ lx-ds-requires : (t : ℕ) → lx-lts.Need-ds-requires (
 ) (lx-at t) lx.Post
 lx-ds-requires t c κs = omega (arith, c .before .before .before .before .before .before .before .before .before .before .before .before .before .before .before .before .before .before .before .before .before .before .before .before .pre .0, c .before .before .before .before .before .before .before .before .before .before .before .before .before .before .before .before .before .before .before .before .before .before .before .before .pre .1, deep-depth (c .before .before .indented .ensures), deep-left (c .before .before .indented .ensures))
 
--- src/lib.rt:503:28
+-- src/lib.rt:504:28
 lx-told-requires : (t : ℕ) → lx-lts.Need-told-requires (
   word-reads.Asked,
   word-reads.Learnt,
@@ -14576,7 +14653,7 @@ lx-told-requires : (t : ℕ) → lx-lts.Need-told-requires (
 ) (lx-at t) lx.Post
 lx-told-requires t c κs = search needs
 
--- src/lib.rt:503:22
+-- src/lib.rt:504:22
 lx-enum-known-s1 : (t : ℕ) → lx-lts.Need-enum-known-s1 (
   word-reads.Asked,
   word-reads.Learnt,
@@ -14597,7 +14674,7 @@ lx-enum-known-s1 : (t : ℕ) → lx-lts.Need-enum-known-s1 (
 ) (lx-at t) lx.Post
 lx-enum-known-s1 t c = search needs
 
--- src/lib.rt:504:9
+-- src/lib.rt:505:9
 lx-enum-told : (t : ℕ) → lx-lts.Need-enum-told (
   word-reads.Asked,
   word-reads.Learnt,
@@ -14618,7 +14695,7 @@ lx-enum-told : (t : ℕ) → lx-lts.Need-enum-told (
 ) (lx-at t) lx.Post
 lx-enum-told t c = search needs
 
--- src/lib.rt:504:9
+-- src/lib.rt:505:9
 lx-same-length : (t : ℕ) → lx-lts.Need-same-length (
   word-reads.Asked,
   word-reads.Learnt,
@@ -14639,7 +14716,7 @@ lx-same-length : (t : ℕ) → lx-lts.Need-same-length (
 ) (lx-at t) lx.Post
 lx-same-length t c = c .before .before .before .before .before .ds .kept .1 .1 .1 .1 .1 .1 .0 ∙ c .before .before .before .before .before .before .before .before .before .before .before .indent-deeper .kept .0 ∙ c .before .before .before .before .before .before .before .before .before .before .before .before .before .before .before .before .word2 .kept .1 .1 .0 ∙ c .before .before .before .before .before .before .before .before .before .before .before .before .before .before .before .before .before .before .before .before .before .word .kept .1 .1 .0
 
--- src/lib.rt:504:9
+-- src/lib.rt:505:9
 lx-returns : (t : ℕ) → lx-lts.Need-returns (
   word-reads.Asked,
   word-reads.Learnt,
@@ -14661,7 +14738,7 @@ lx-returns : (t : ℕ) → lx-lts.Need-returns (
 unfolding Exp.exp Helpers.in-end Helpers.indent-deeper Helpers.deepen
 lx-returns t c = record { is = then-sure (c .before .before .before .before .before .before .before .before .before .before .before .before .before .before .before .before .before .before .before .before .before .word .ensures) (then-sure (c .before .before .before .before .before .before .before .before .before .before .before .before .before .before .before .before .word2 .ensures) (then-both (c .before .before .before .before .before .before .before .before .before .before .before .indent-deeper .ensures _) (then-stop (along (c .before .before .before .before .before .before .before .before .indented .ensures) (c .before .before .before .before .before .ds .ensures)) (c .before .before .told .ensures) (c .enum-told .given .1)))) }
 
--- src/lib.rt:506:5
+-- src/lib.rt:507:5
 lx-line-requires : (t : ℕ) → lx-lts.Need-line-requires (
   word-reads.Asked,
   word-reads.Learnt,
@@ -14682,7 +14759,7 @@ lx-line-requires : (t : ℕ) → lx-lts.Need-line-requires (
 ) (lx-at t) lx.Post
 lx-line-requires t c κs = search needs
 
--- src/lib.rt:507:5
+-- src/lib.rt:508:5
 lx-word-requires-3 : (t : ℕ) → lx-lts.Need-word-requires-3 (
   word-reads.Asked,
   word-reads.Learnt,
@@ -14703,7 +14780,7 @@ lx-word-requires-3 : (t : ℕ) → lx-lts.Need-word-requires-3 (
 ) (lx-at t) lx.Post
 lx-word-requires-3 t c κs = search needs
 
--- src/lib.rt:508:5
+-- src/lib.rt:509:5
 lx-indent-in-requires : (t : ℕ) → lx-lts.Need-indent-in-requires (
   word-reads.Asked,
   word-reads.Learnt,
@@ -14724,7 +14801,7 @@ lx-indent-in-requires : (t : ℕ) → lx-lts.Need-indent-in-requires (
 ) (lx-at t) lx.Post
 lx-indent-in-requires t c κs = omega (arith, c .before .before .before .before .before .before .before .before .before .before .before .before .before .before .before .before .before .before .before .before .before .before .before .before .before .before .before .before .before .before .before .before .before .before .before .before .before .before .before .before .before .before .before .pre .1)
 
--- src/lib.rt:509:9
+-- src/lib.rt:510:9
 lx-sm-requires : (t : ℕ) → lx-lts.Need-sm-requires (
   word-reads.Asked,
   word-reads.Learnt,
@@ -14745,7 +14822,7 @@ lx-sm-requires : (t : ℕ) → lx-lts.Need-sm-requires (
 ) (lx-at t) lx.Post
 lx-sm-requires t c κs = omega (arith, c .before .before .before .before .before .before .before .before .before .before .before .before .before .before .before .before .before .before .before .before .before .before .before .before .before .before .before .before .before .before .before .before .before .before .before .before .before .before .before .before .before .before .before .before .before .before .before .before .pre .0, c .before .before .before .before .before .before .before .before .before .before .before .before .before .before .before .before .before .before .before .before .before .before .before .before .before .before .before .before .before .before .before .before .before .before .before .before .before .before .before .before .before .before .before .before .before .before .before .before .pre .1, deep-depth (c .before .before .before .before .before .before .before .before .before .before .before .before .before .before .before .before .before .before .before .before .before .before .before .before .before .before .indented .ensures), deep-left (c .before .before .before .before .before .before .before .before .before .before .before .before .before .before .before .before .before .before .before .before .before .before .before .before .before .before .indented .ensures))
 
--- src/lib.rt:510:28
+-- src/lib.rt:511:28
 lx-told-requires-2 : (t : ℕ) → lx-lts.Need-told-requires-2 (
   word-reads.Asked,
   word-reads.Learnt,
@@ -14766,7 +14843,7 @@ lx-told-requires-2 : (t : ℕ) → lx-lts.Need-told-requires-2 (
 ) (lx-at t) lx.Post
 lx-told-requires-2 t c κs = search needs
 
--- src/lib.rt:510:22
+-- src/lib.rt:511:22
 lx-enum-known-s2 : (t : ℕ) → lx-lts.Need-enum-known-s2 (
   word-reads.Asked,
   word-reads.Learnt,
@@ -14787,7 +14864,7 @@ lx-enum-known-s2 : (t : ℕ) → lx-lts.Need-enum-known-s2 (
 ) (lx-at t) lx.Post
 lx-enum-known-s2 t c = search needs
 
--- src/lib.rt:511:9
+-- src/lib.rt:512:9
 lx-enum-told-2 : (t : ℕ) → lx-lts.Need-enum-told-2 (
   word-reads.Asked,
   word-reads.Learnt,
@@ -14808,7 +14885,7 @@ lx-enum-told-2 : (t : ℕ) → lx-lts.Need-enum-told-2 (
 ) (lx-at t) lx.Post
 lx-enum-told-2 t c = search needs
 
--- src/lib.rt:511:9
+-- src/lib.rt:512:9
 lx-same-length-2 : (t : ℕ) → lx-lts.Need-same-length-2 (
   word-reads.Asked,
   word-reads.Learnt,
@@ -14829,7 +14906,7 @@ lx-same-length-2 : (t : ℕ) → lx-lts.Need-same-length-2 (
 ) (lx-at t) lx.Post
 lx-same-length-2 t c = c .before .before .before .before .before .sm .kept .1 .1 .1 .1 .1 .1 .0 ∙ c .before .before .before .before .before .before .before .before .before .before .indent-in .kept .0 ∙ c .before .before .before .before .before .before .before .before .before .before .before .before .before .before .before .word3 .kept .1 .1 .0 ∙ c .before .before .before .before .before .before .before .before .before .before .before .before .before .before .before .before .before .before .before .before .line .kept .1 .1 .0 ∙ c .before .before .before .before .before .before .before .before .before .before .before .before .before .before .before .before .before .before .before .before .before .before .before .before .before .before .before .before .before .ds .kept .1 .1 .1 .1 .1 .1 .0 ∙ c .before .before .before .before .before .before .before .before .before .before .before .before .before .before .before .before .before .before .before .before .before .before .before .before .before .before .before .before .before .before .before .before .before .before .before .indent-deeper .kept .0 ∙ c .before .before .before .before .before .before .before .before .before .before .before .before .before .before .before .before .before .before .before .before .before .before .before .before .before .before .before .before .before .before .before .before .before .before .before .before .before .before .before .before .word2 .kept .1 .1 .0 ∙ c .before .before .before .before .before .before .before .before .before .before .before .before .before .before .before .before .before .before .before .before .before .before .before .before .before .before .before .before .before .before .before .before .before .before .before .before .before .before .before .before .before .before .before .before .before .word .kept .1 .1 .0
 
--- src/lib.rt:511:9
+-- src/lib.rt:512:9
 lx-returns-2 : (t : ℕ) → lx-lts.Need-returns-2 (
   word-reads.Asked,
   word-reads.Learnt,
@@ -14851,7 +14928,7 @@ lx-returns-2 : (t : ℕ) → lx-lts.Need-returns-2 (
 unfolding Exp.exp Helpers.in-end Helpers.indent-deeper Helpers.deepen
 lx-returns-2 t c = record { is = then-sure (c .before .before .before .before .before .before .before .before .before .before .before .before .before .before .before .before .before .before .before .before .before .before .before .before .before .before .before .before .before .before .before .before .before .before .before .before .before .before .before .before .before .before .before .before .before .word .ensures) (then-sure (c .before .before .before .before .before .before .before .before .before .before .before .before .before .before .before .before .before .before .before .before .before .before .before .before .before .before .before .before .before .before .before .before .before .before .before .before .before .before .before .before .word2 .ensures) (then-both (c .before .before .before .before .before .before .before .before .before .before .before .before .before .before .before .before .before .before .before .before .before .before .before .before .before .before .before .before .before .before .before .before .before .before .before .indent-deeper .ensures _) (then-done (along (c .before .before .before .before .before .before .before .before .before .before .before .before .before .before .before .before .before .before .before .before .before .before .before .before .before .before .before .before .before .before .before .before .indented .ensures) (c .before .before .before .before .before .before .before .before .before .before .before .before .before .before .before .before .before .before .before .before .before .before .before .before .before .before .before .before .before .ds .ensures)) (c .before .before .before .before .before .before .before .before .before .before .before .before .before .before .before .before .before .before .before .before .before .before .before .before .before .before .told .ensures) (c .before .before .before .before .before .before .before .before .before .before .before .before .before .before .before .before .before .before .before .before .before .before .before .before .s1 .given .1) (then-both (c .before .before .before .before .before .before .before .before .before .before .before .before .before .before .before .before .before .before .before .before .line .ensures) (then-sure (c .before .before .before .before .before .before .before .before .before .before .before .before .before .before .before .word3 .ensures) (then-sure (c .before .before .before .before .before .before .before .before .before .before .indent-in .ensures _) (then-stop (along (c .before .before .before .before .before .before .before .before .before .before .before .before .before .before .before .before .before .before .before .before .before .before .before .before .before .before .before .before .before .before .before .before .indented .ensures) (c .before .before .before .before .before .sm .ensures)) (c .before .before .told2 .ensures) (c .enum-told2 .given .1)))))))) }
 
--- src/lib.rt:513:5
+-- src/lib.rt:514:5
 lx-line-requires-2 : (t : ℕ) → lx-lts.Need-line-requires-2 (
   word-reads.Asked,
   word-reads.Learnt,
@@ -14872,7 +14949,7 @@ lx-line-requires-2 : (t : ℕ) → lx-lts.Need-line-requires-2 (
 ) (lx-at t) lx.Post
 lx-line-requires-2 t c κs = search needs
 
--- src/lib.rt:514:5
+-- src/lib.rt:515:5
 lx-word-requires-4 : (t : ℕ) → lx-lts.Need-word-requires-4 (
   word-reads.Asked,
   word-reads.Learnt,
@@ -14893,7 +14970,7 @@ lx-word-requires-4 : (t : ℕ) → lx-lts.Need-word-requires-4 (
 ) (lx-at t) lx.Post
 lx-word-requires-4 t c κs = search needs
 
--- src/lib.rt:483:1
+-- src/lib.rt:484:1
 lx-same-length-3 : (t : ℕ) → lx-lts.Need-same-length-3 (
   word-reads.Asked,
   word-reads.Learnt,
@@ -14914,7 +14991,7 @@ lx-same-length-3 : (t : ℕ) → lx-lts.Need-same-length-3 (
 ) (lx-at t) lx.Post
 lx-same-length-3 t c = c .before .before .word4 .kept .1 .1 .0 ∙ c .before .before .before .before .before .before .before .line2 .kept .1 .1 .0 ∙ c .before .before .before .before .before .before .before .before .before .before .before .before .before .before .before .before .sm .kept .1 .1 .1 .1 .1 .1 .0 ∙ c .before .before .before .before .before .before .before .before .before .before .before .before .before .before .before .before .before .before .before .before .before .indent-in .kept .0 ∙ c .before .before .before .before .before .before .before .before .before .before .before .before .before .before .before .before .before .before .before .before .before .before .before .before .before .before .word3 .kept .1 .1 .0 ∙ c .before .before .before .before .before .before .before .before .before .before .before .before .before .before .before .before .before .before .before .before .before .before .before .before .before .before .before .before .before .before .before .line .kept .1 .1 .0 ∙ c .before .before .before .before .before .before .before .before .before .before .before .before .before .before .before .before .before .before .before .before .before .before .before .before .before .before .before .before .before .before .before .before .before .before .before .before .before .before .before .before .ds .kept .1 .1 .1 .1 .1 .1 .0 ∙ c .before .before .before .before .before .before .before .before .before .before .before .before .before .before .before .before .before .before .before .before .before .before .before .before .before .before .before .before .before .before .before .before .before .before .before .before .before .before .before .before .before .before .before .before .before .before .indent-deeper .kept .0 ∙ c .before .before .before .before .before .before .before .before .before .before .before .before .before .before .before .before .before .before .before .before .before .before .before .before .before .before .before .before .before .before .before .before .before .before .before .before .before .before .before .before .before .before .before .before .before .before .before .before .before .before .before .word2 .kept .1 .1 .0 ∙ c .before .before .before .before .before .before .before .before .before .before .before .before .before .before .before .before .before .before .before .before .before .before .before .before .before .before .before .before .before .before .before .before .before .before .before .before .before .before .before .before .before .before .before .before .before .before .before .before .before .before .before .before .before .before .before .before .word .kept .1 .1 .0
 
--- src/lib.rt:483:1
+-- src/lib.rt:484:1
 lx-returns-3 : (t : ℕ) → lx-lts.Need-returns-3 (
   word-reads.Asked,
   word-reads.Learnt,
@@ -14943,7 +15020,7 @@ ma-Inv-loop run text rec kinds starts lens out₀ mem₀ at cfg r1 s1 n s2 s₀ 
 abbrev ma-μ-loop : ma-lts.MeasureT-loop
 ma-μ-loop run text rec kinds starts lens out₀ mem₀ at cfg r1 s1 n s2 s₀ i₀ out mem s i = n - i
 
--- src/lib.rt:791:29
+-- src/lib.rt:792:29
 ma-absent-requires : (t : ℕ) → ma-lts.Need-absent-requires (
   absent-reads.Asked,
   absent-reads.Learnt,
@@ -14964,7 +15041,7 @@ ma-absent-requires : (t : ℕ) → ma-lts.Need-absent-requires (
 ) (ma-at t) ma.Post ma-Inv-loop ma-μ-loop
 ma-absent-requires t c κs = search needs
 
--- src/lib.rt:791:23
+-- src/lib.rt:792:23
 ma-enum-known-s0 : (t : ℕ) → ma-lts.Need-enum-known-s0 (
   absent-reads.Asked,
   absent-reads.Learnt,
@@ -14985,7 +15062,7 @@ ma-enum-known-s0 : (t : ℕ) → ma-lts.Need-enum-known-s0 (
 ) (ma-at t) ma.Post ma-Inv-loop ma-μ-loop
 ma-enum-known-s0 t c = search needs
 
--- src/lib.rt:792:9
+-- src/lib.rt:793:9
 ma-returns : (t : ℕ) → ma-lts.Need-returns (
   absent-reads.Asked,
   absent-reads.Learnt,
@@ -15027,7 +15104,7 @@ ma-enum-told : (t : ℕ) → ma-lts.Need-enum-told (
 ) (ma-at t) ma.Post ma-Inv-loop ma-μ-loop
 ma-enum-told t c = search needs
 
--- src/lib.rt:794:9
+-- src/lib.rt:795:9
 ma-group-requires : (t : ℕ) → ma-lts.Need-group-requires (
   absent-reads.Asked,
   absent-reads.Learnt,
@@ -15048,7 +15125,7 @@ ma-group-requires : (t : ℕ) → ma-lts.Need-group-requires (
 ) (ma-at t) ma.Post ma-Inv-loop ma-μ-loop
 ma-group-requires t c κs = search needs
 
--- src/lib.rt:795:28
+-- src/lib.rt:796:28
 ma-told-requires : (t : ℕ) → ma-lts.Need-told-requires (
   absent-reads.Asked,
   absent-reads.Learnt,
@@ -15069,7 +15146,7 @@ ma-told-requires : (t : ℕ) → ma-lts.Need-told-requires (
 ) (ma-at t) ma.Post ma-Inv-loop ma-μ-loop
 ma-told-requires t c κs = search needs
 
--- src/lib.rt:795:22
+-- src/lib.rt:796:22
 ma-enum-known-s1 : (t : ℕ) → ma-lts.Need-enum-known-s1 (
   absent-reads.Asked,
   absent-reads.Learnt,
@@ -15090,7 +15167,7 @@ ma-enum-known-s1 : (t : ℕ) → ma-lts.Need-enum-known-s1 (
 ) (ma-at t) ma.Post ma-Inv-loop ma-μ-loop
 ma-enum-known-s1 t c = search needs
 
--- src/lib.rt:796:9
+-- src/lib.rt:797:9
 ma-enum-told-2 : (t : ℕ) → ma-lts.Need-enum-told-2 (
   absent-reads.Asked,
   absent-reads.Learnt,
@@ -15111,7 +15188,7 @@ ma-enum-told-2 : (t : ℕ) → ma-lts.Need-enum-told-2 (
 ) (ma-at t) ma.Post ma-Inv-loop ma-μ-loop
 ma-enum-told-2 t c = search needs
 
--- src/lib.rt:796:9
+-- src/lib.rt:797:9
 ma-returns-2 : (t : ℕ) → ma-lts.Need-returns-2 (
   absent-reads.Asked,
   absent-reads.Learnt,
@@ -15133,7 +15210,7 @@ ma-returns-2 : (t : ℕ) → ma-lts.Need-returns-2 (
 unfolding Exp.get-matcher-across-lines Exp.arms-on-lines Helpers.sep-with-lines
 ma-returns-2 t c = record { is = by-same (maybe-there (c .before .before .before .before .before .before .absent .ensures) (c .before .before .before .before .enum-told .given .1)) (group-not (c .before .before .before .group .ensures) (c .before .before .told .ensures) (c .enum-told2 .given .1)) }
 
--- src/lib.rt:798:5
+-- src/lib.rt:799:5
 ma-indent-deeper-requires : (t : ℕ) → ma-lts.Need-indent-deeper-requires (
   absent-reads.Asked,
   absent-reads.Learnt,
@@ -15154,7 +15231,7 @@ ma-indent-deeper-requires : (t : ℕ) → ma-lts.Need-indent-deeper-requires (
 ) (ma-at t) ma.Post ma-Inv-loop ma-μ-loop
 ma-indent-deeper-requires t c κs = omega (arith, c .before .before .before .before .before .before .before .before .before .before .before .before .before .before .before .before .pre .1)
 
--- src/lib.rt:799:27
+-- src/lib.rt:800:27
 ma-list-requires : (t : ℕ) → ma-lts.Need-list-requires (
   absent-reads.Asked,
   absent-reads.Learnt,
@@ -15175,7 +15252,7 @@ ma-list-requires : (t : ℕ) → ma-lts.Need-list-requires (
 ) (ma-at t) ma.Post ma-Inv-loop ma-μ-loop
 ma-list-requires t c κs = search needs
 
--- src/lib.rt:799:18
+-- src/lib.rt:800:18
 ma-enum-known-n : (t : ℕ) → ma-lts.Need-enum-known-n (
   absent-reads.Asked,
   absent-reads.Learnt,
@@ -15196,7 +15273,7 @@ ma-enum-known-n : (t : ℕ) → ma-lts.Need-enum-known-n (
 ) (ma-at t) ma.Post ma-Inv-loop ma-μ-loop
 ma-enum-known-n t c = search needs
 
--- src/lib.rt:800:9
+-- src/lib.rt:801:9
 ma-enum-told-3 : (t : ℕ) → ma-lts.Need-enum-told-3 (
   absent-reads.Asked,
   absent-reads.Learnt,
@@ -15217,7 +15294,7 @@ ma-enum-told-3 : (t : ℕ) → ma-lts.Need-enum-told-3 (
 ) (ma-at t) ma.Post ma-Inv-loop ma-μ-loop
 ma-enum-told-3 t c = search needs
 
--- src/lib.rt:800:9
+-- src/lib.rt:801:9
 ma-stop-requires : (t : ℕ) → ma-lts.Need-stop-requires (
   absent-reads.Asked,
   absent-reads.Learnt,
@@ -15238,7 +15315,7 @@ ma-stop-requires : (t : ℕ) → ma-lts.Need-stop-requires (
 ) (ma-at t) ma.Post ma-Inv-loop ma-μ-loop
 ma-stop-requires t c κs = search needs
 
--- src/lib.rt:800:9
+-- src/lib.rt:801:9
 ma-same-length : (t : ℕ) → ma-lts.Need-same-length (
   absent-reads.Asked,
   absent-reads.Learnt,
@@ -15259,7 +15336,7 @@ ma-same-length : (t : ℕ) → ma-lts.Need-same-length (
 ) (ma-at t) ma.Post ma-Inv-loop ma-μ-loop
 ma-same-length t c = c .before .before .before .before .before .before .indent-deeper .kept .0
 
--- src/lib.rt:800:9
+-- src/lib.rt:801:9
 ma-returns-3 : (t : ℕ) → ma-lts.Need-returns-3 (
   absent-reads.Asked,
   absent-reads.Learnt,
@@ -15281,7 +15358,7 @@ ma-returns-3 : (t : ℕ) → ma-lts.Need-returns-3 (
 unfolding Exp.get-matcher-across-lines Exp.arms-on-lines Helpers.sep-with-lines
 ma-returns-3 t c = record { is = by-same (maybe-there (c .before .before .before .before .before .before .before .before .before .before .before .before .before .before .before .before .absent .ensures) (c .before .before .before .before .before .before .before .before .before .before .before .before .before .before .enum-told .given .1)) (by-same (group-is (c .before .before .before .before .before .before .before .before .before .before .before .before .before .group .ensures) (c .before .before .before .before .before .before .before .before .before .before .before .before .told .ensures) (c .before .before .before .before .before .before .before .before .before .before .s1 .given .1)) (then-sure (c .before .before .before .before .before .before .indent-deeper .ensures _) (list-not (c .stop .ensures) (c .before .before .before .list .ensures) (c .before .enum-told3 .given .1)))) }
 
--- src/lib.rt:804:5
+-- src/lib.rt:805:5
 ma-loop-holds : (t : ℕ) → ma-lts.Need-loop-holds (
   absent-reads.Asked,
   absent-reads.Learnt,
@@ -15302,7 +15379,7 @@ ma-loop-holds : (t : ℕ) → ma-lts.Need-loop-holds (
 ) (ma-at t) ma.Post ma-Inv-loop ma-μ-loop
 ma-loop-holds t c = (omega arith, λ r m o h. h, refl)
 
--- src/lib.rt:805:9
+-- src/lib.rt:806:9
 ma-new-line-requires : (t : ℕ) → ma-lts.Need-new-line-requires (
   absent-reads.Asked,
   absent-reads.Learnt,
@@ -15323,7 +15400,7 @@ ma-new-line-requires : (t : ℕ) → ma-lts.Need-new-line-requires (
 ) (ma-at t) ma.Post ma-Inv-loop ma-μ-loop
 ma-new-line-requires t c κs = search needs
 
--- src/lib.rt:806:13
+-- src/lib.rt:807:13
 ma-arm-requires : (t : ℕ) → ma-lts.Need-arm-requires (
   absent-reads.Asked,
   absent-reads.Learnt,
@@ -15344,7 +15421,7 @@ ma-arm-requires : (t : ℕ) → ma-lts.Need-arm-requires (
 ) (ma-at t) ma.Post ma-Inv-loop ma-μ-loop
 ma-arm-requires t c κs = omega (arith, c .before .before .before .before .before .before .before .before .before .before .before .before .before .before .before .before .before .before .before .before .before .before .before .before .before .before .before .before .before .before .before .before .pre .0, c .before .before .before .before .before .before .before .before .before .before .before .before .before .before .before .before .before .before .before .before .before .before .before .before .before .before .before .before .before .before .before .before .pre .1)
 
--- src/lib.rt:807:32
+-- src/lib.rt:808:32
 ma-told-requires-2 : (t : ℕ) → ma-lts.Need-told-requires-2 (
   absent-reads.Asked,
   absent-reads.Learnt,
@@ -15365,7 +15442,7 @@ ma-told-requires-2 : (t : ℕ) → ma-lts.Need-told-requires-2 (
 ) (ma-at t) ma.Post ma-Inv-loop ma-μ-loop
 ma-told-requires-2 t c κs = search needs
 
--- src/lib.rt:807:26
+-- src/lib.rt:808:26
 ma-enum-known-s3 : (t : ℕ) → ma-lts.Need-enum-known-s3 (
   absent-reads.Asked,
   absent-reads.Learnt,
@@ -15386,7 +15463,7 @@ ma-enum-known-s3 : (t : ℕ) → ma-lts.Need-enum-known-s3 (
 ) (ma-at t) ma.Post ma-Inv-loop ma-μ-loop
 ma-enum-known-s3 t c = search needs
 
--- src/lib.rt:808:13
+-- src/lib.rt:809:13
 ma-enum-told-4 : (t : ℕ) → ma-lts.Need-enum-told-4 (
   absent-reads.Asked,
   absent-reads.Learnt,
@@ -15407,7 +15484,7 @@ ma-enum-told-4 : (t : ℕ) → ma-lts.Need-enum-told-4 (
 ) (ma-at t) ma.Post ma-Inv-loop ma-μ-loop
 ma-enum-told-4 t c = search needs
 
--- src/lib.rt:808:13
+-- src/lib.rt:809:13
 ma-same-length-2 : (t : ℕ) → ma-lts.Need-same-length-2 (
   absent-reads.Asked,
   absent-reads.Learnt,
@@ -15428,7 +15505,7 @@ ma-same-length-2 : (t : ℕ) → ma-lts.Need-same-length-2 (
 ) (ma-at t) ma.Post ma-Inv-loop ma-μ-loop
 ma-same-length-2 t c = c .before .before .before .before .before .arm .kept .1 .1 .1 .1 .1 .1 .0 ∙ c .before .before .before .before .before .before .before .before .before .before .new-line .kept .1 .1 .0 ∙ c .before .before .before .before .before .before .before .before .before .before .before .before .before .before .loop .inv .2 ∙ c .before .before .before .before .before .before .before .before .before .before .before .before .before .before .before .before .before .before .before .before .before .indent-deeper .kept .0
 
--- src/lib.rt:808:13
+-- src/lib.rt:809:13
 ma-returns-4 : (t : ℕ) → ma-lts.Need-returns-4 (
   absent-reads.Asked,
   absent-reads.Learnt,
@@ -15450,7 +15527,7 @@ ma-returns-4 : (t : ℕ) → ma-lts.Need-returns-4 (
 unfolding Exp.get-matcher-across-lines Exp.arms-on-lines Helpers.sep-with-lines
 ma-returns-4 t c = record { is = by-same (maybe-there (c .before .before .before .before .before .before .before .before .before .before .before .before .before .before .before .before .before .before .before .before .before .before .before .before .before .before .before .before .before .before .before .absent .ensures) (c .before .before .before .before .before .before .before .before .before .before .before .before .before .before .before .before .before .before .before .before .before .before .before .before .before .before .before .before .before .enum-told .given .1)) (by-same (group-is (c .before .before .before .before .before .before .before .before .before .before .before .before .before .before .before .before .before .before .before .before .before .before .before .before .before .before .before .before .group .ensures) (c .before .before .before .before .before .before .before .before .before .before .before .before .before .before .before .before .before .before .before .before .before .before .before .before .before .before .before .told .ensures) (c .before .before .before .before .before .before .before .before .before .before .before .before .before .before .before .before .before .before .before .before .before .before .before .before .before .s1 .given .1)) (then-sure (c .before .before .before .before .before .before .before .before .before .before .before .before .before .before .before .before .before .before .before .before .before .indent-deeper .ensures _) (by-same (list-is (c .before .before .before .before .before .before .before .before .before .before .before .before .before .before .before .before .before .before .list .ensures) (c .before .before .before .before .before .before .before .before .before .before .before .before .before .before .before .before .n .given .1)) (by-same (items-all _ _ _) (c .before .before .before .before .before .before .before .before .before .before .before .before .before .before .loop .inv .1 _ _ _ (from-more _ _ (c .before .before .before .before .before .before .before .before .before .before .before .before .before .loop-test .taken) (then-sure (c .before .before .before .before .before .before .before .before .before .before .new-line .ensures) (then-stop (c .before .before .before .before .before .arm .ensures .is) (c .before .before .told2 .ensures) (c .enum-told4 .given .1))))))))) }
 
--- src/lib.rt:811:9
+-- src/lib.rt:812:9
 ma-add-i : (t : ℕ) → ma-lts.Need-add-i (
   absent-reads.Asked,
   absent-reads.Learnt,
@@ -15471,7 +15548,7 @@ ma-add-i : (t : ℕ) → ma-lts.Need-add-i (
 ) (ma-at t) ma.Post ma-Inv-loop ma-μ-loop
 ma-add-i t c = omega (arith, c .before .before .before .before .before .before .before .before .before .before .before .before .before .before .loop-test .taken, c .before .before .before .before .before .before .before .before .before .before .before .before .before .before .before .before .known-told3)
 
--- src/lib.rt:804:5
+-- src/lib.rt:805:5
 ma-loop-less : (t : ℕ) → ma-lts.Need-loop-less (
   absent-reads.Asked,
   absent-reads.Learnt,
@@ -15492,7 +15569,7 @@ ma-loop-less : (t : ℕ) → ma-lts.Need-loop-less (
 ) (ma-at t) ma.Post ma-Inv-loop ma-μ-loop
 ma-loop-less t c = omega arith
 
--- src/lib.rt:804:5
+-- src/lib.rt:805:5
 ma-loop-again : (t : ℕ) → ma-lts.Need-loop-again (
   absent-reads.Asked,
   absent-reads.Learnt,
@@ -15514,7 +15591,7 @@ ma-loop-again : (t : ℕ) → ma-lts.Need-loop-again (
 unfolding Exp.get-matcher-across-lines Exp.arms-on-lines Helpers.sep-with-lines
 ma-loop-again t c = (omega (arith, c .before .before .before .before .before .before .before .before .before .before .before .before .before .before .before .loop .inv .0), λ r m o h. c .before .before .before .before .before .before .before .before .before .before .before .before .before .before .before .loop .inv .1 r m o (from-more _ _ (c .before .before .before .before .before .before .before .before .before .before .before .before .before .before .loop-test .taken) (then-sure (c .before .before .before .before .before .before .before .before .before .before .before .new-line .ensures) (then-done (c .before .before .before .before .before .before .arm .ensures .is) (c .before .before .before .told2 .ensures) (c .before .s3 .given .1) h))), c .before .before .before .before .before .before .arm .kept .1 .1 .1 .1 .1 .1 .0 ∙ c .before .before .before .before .before .before .before .before .before .before .before .new-line .kept .1 .1 .0 ∙ c .before .before .before .before .before .before .before .before .before .before .before .before .before .before .before .loop .inv .2)
 
--- src/lib.rt:776:1
+-- src/lib.rt:777:1
 ma-same-length-3 : (t : ℕ) → ma-lts.Need-same-length-3 (
   absent-reads.Asked,
   absent-reads.Learnt,
@@ -15535,7 +15612,7 @@ ma-same-length-3 : (t : ℕ) → ma-lts.Need-same-length-3 (
 ) (ma-at t) ma.Post ma-Inv-loop ma-μ-loop
 ma-same-length-3 t c = c .before .loop .inv .2 ∙ c .before .before .before .before .before .before .before .before .indent-deeper .kept .0
 
--- src/lib.rt:776:1
+-- src/lib.rt:777:1
 ma-returns-5 : (t : ℕ) → ma-lts.Need-returns-5 (
   absent-reads.Asked,
   absent-reads.Learnt,
@@ -15564,7 +15641,7 @@ mo-Inv-loop run text rec kinds starts lens out₀ mem₀ at cfg allow n s₀ i�
 abbrev mo-μ-loop : mo-lts.MeasureT-loop
 mo-μ-loop run text rec kinds starts lens out₀ mem₀ at cfg allow n s₀ i₀ out mem s i = n - i
 
--- src/lib.rt:373:5
+-- src/lib.rt:374:5
 mo-loop-holds : (t : ℕ) → mo-lts.Need-loop-holds (
   last-semi-reads.Asked,
   last-semi-reads.Learnt,
@@ -15579,7 +15656,7 @@ mo-loop-holds : (t : ℕ) → mo-lts.Need-loop-holds (
 ) (mo-at t) mo.Post mo-Inv-loop mo-μ-loop
 mo-loop-holds t c = (omega arith, λ r m o h. h, refl)
 
--- src/lib.rt:374:13
+-- src/lib.rt:375:13
 mo-last-semi-requires : (t : ℕ) → mo-lts.Need-last-semi-requires (
   last-semi-reads.Asked,
   last-semi-reads.Learnt,
@@ -15594,7 +15671,7 @@ mo-last-semi-requires : (t : ℕ) → mo-lts.Need-last-semi-requires (
 ) (mo-at t) mo.Post mo-Inv-loop mo-μ-loop
 mo-last-semi-requires t c κs = search needs
 
--- src/lib.rt:375:9
+-- src/lib.rt:376:9
 mo-word-requires : (t : ℕ) → mo-lts.Need-word-requires (
   last-semi-reads.Asked,
   last-semi-reads.Learnt,
@@ -15609,7 +15686,7 @@ mo-word-requires : (t : ℕ) → mo-lts.Need-word-requires (
 ) (mo-at t) mo.Post mo-Inv-loop mo-μ-loop
 mo-word-requires t c κs = search needs
 
--- src/lib.rt:376:9
+-- src/lib.rt:377:9
 mo-indent-requires : (t : ℕ) → mo-lts.Need-indent-requires (
   last-semi-reads.Asked,
   last-semi-reads.Learnt,
@@ -15624,7 +15701,7 @@ mo-indent-requires : (t : ℕ) → mo-lts.Need-indent-requires (
 ) (mo-at t) mo.Post mo-Inv-loop mo-μ-loop
 mo-indent-requires t c κs = search needs
 
--- src/lib.rt:377:13
+-- src/lib.rt:378:13
 mo-it-requires : (t : ℕ) → mo-lts.Need-it-requires (
   last-semi-reads.Asked,
   last-semi-reads.Learnt,
@@ -15639,7 +15716,7 @@ mo-it-requires : (t : ℕ) → mo-lts.Need-it-requires (
 ) (mo-at t) mo.Post mo-Inv-loop mo-μ-loop
 mo-it-requires t c κs = omega (arith, c .before .before .before .before .before .before .before .before .before .before .before .before .before .before .before .before .before .before .before .before .before .pre .0, c .before .before .before .before .before .before .before .before .before .before .before .before .before .before .before .before .before .before .before .before .before .pre .1)
 
--- src/lib.rt:378:32
+-- src/lib.rt:379:32
 mo-told-requires : (t : ℕ) → mo-lts.Need-told-requires (
   last-semi-reads.Asked,
   last-semi-reads.Learnt,
@@ -15654,7 +15731,7 @@ mo-told-requires : (t : ℕ) → mo-lts.Need-told-requires (
 ) (mo-at t) mo.Post mo-Inv-loop mo-μ-loop
 mo-told-requires t c κs = search needs
 
--- src/lib.rt:378:26
+-- src/lib.rt:379:26
 mo-enum-known-s1 : (t : ℕ) → mo-lts.Need-enum-known-s1 (
   last-semi-reads.Asked,
   last-semi-reads.Learnt,
@@ -15669,7 +15746,7 @@ mo-enum-known-s1 : (t : ℕ) → mo-lts.Need-enum-known-s1 (
 ) (mo-at t) mo.Post mo-Inv-loop mo-μ-loop
 mo-enum-known-s1 t c = search needs
 
--- src/lib.rt:379:13
+-- src/lib.rt:380:13
 mo-enum-told : (t : ℕ) → mo-lts.Need-enum-told (
   last-semi-reads.Asked,
   last-semi-reads.Learnt,
@@ -15684,7 +15761,7 @@ mo-enum-told : (t : ℕ) → mo-lts.Need-enum-told (
 ) (mo-at t) mo.Post mo-Inv-loop mo-μ-loop
 mo-enum-told t c = search needs
 
--- src/lib.rt:379:13
+-- src/lib.rt:380:13
 mo-same-length : (t : ℕ) → mo-lts.Need-same-length (
   last-semi-reads.Asked,
   last-semi-reads.Learnt,
@@ -15699,7 +15776,7 @@ mo-same-length : (t : ℕ) → mo-lts.Need-same-length (
 ) (mo-at t) mo.Post mo-Inv-loop mo-μ-loop
 mo-same-length t c = c .before .before .before .before .before .it .kept .1 .1 .1 .1 .1 .1 .0 ∙ c .before .before .before .before .before .before .before .before .before .before .indent .kept .0 ∙ c .before .before .before .before .before .before .before .before .before .before .before .before .before .before .before .word .kept .1 .1 .0 ∙ c .before .before .before .before .before .before .before .before .before .before .before .before .before .before .before .before .before .before .before .before .loop .inv .2
 
--- src/lib.rt:379:13
+-- src/lib.rt:380:13
 mo-returns : (t : ℕ) → mo-lts.Need-returns (
   last-semi-reads.Asked,
   last-semi-reads.Learnt,
@@ -15714,7 +15791,7 @@ mo-returns : (t : ℕ) → mo-lts.Need-returns (
 ) (mo-at t) mo.Post mo-Inv-loop mo-μ-loop
 mo-returns t c = record { is = by-same (semi-all _ _ _ _) (c .before .before .before .before .before .before .before .before .before .before .before .before .before .before .before .before .before .before .before .before .loop .inv .1 _ _ _ (semi-more _ _ _ (c .before .before .before .before .before .before .before .before .before .before .before .before .before .before .before .before .before .before .before .loop-test .taken) (c .before .before .before .before .before .before .before .before .before .before .before .before .before .before .before .before .before .before .last-semi .ensures) (then-sure (c .before .before .before .before .before .before .before .before .before .before .before .before .before .before .before .word .ensures) (then-sure (c .before .before .before .before .before .before .before .before .before .before .indent .ensures _) (then-stop (c .before .before .before .before .before .it .ensures .is) (c .before .before .told .ensures) (c .enum-told .given .1)))))) }
 
--- src/lib.rt:382:9
+-- src/lib.rt:383:9
 mo-add-i : (t : ℕ) → mo-lts.Need-add-i (
   last-semi-reads.Asked,
   last-semi-reads.Learnt,
@@ -15729,7 +15806,7 @@ mo-add-i : (t : ℕ) → mo-lts.Need-add-i (
 ) (mo-at t) mo.Post mo-Inv-loop mo-μ-loop
 mo-add-i t c = omega (arith, c .before .before .before .before .before .before .before .before .before .before .before .before .before .before .before .before .before .before .before .before .loop-test .taken, c .before .before .before .before .before .before .before .before .before .before .before .before .before .before .before .before .before .before .before .before .before .before .before .before .before .before .before .before .fits)
 
--- src/lib.rt:373:5
+-- src/lib.rt:374:5
 mo-loop-less : (t : ℕ) → mo-lts.Need-loop-less (
   last-semi-reads.Asked,
   last-semi-reads.Learnt,
@@ -15744,7 +15821,7 @@ mo-loop-less : (t : ℕ) → mo-lts.Need-loop-less (
 ) (mo-at t) mo.Post mo-Inv-loop mo-μ-loop
 mo-loop-less t c = omega arith
 
--- src/lib.rt:373:5
+-- src/lib.rt:374:5
 mo-loop-again : (t : ℕ) → mo-lts.Need-loop-again (
   last-semi-reads.Asked,
   last-semi-reads.Learnt,
@@ -15759,7 +15836,7 @@ mo-loop-again : (t : ℕ) → mo-lts.Need-loop-again (
 ) (mo-at t) mo.Post mo-Inv-loop mo-μ-loop
 mo-loop-again t c = (omega (arith, c .before .before .before .before .before .before .before .before .before .before .before .before .before .before .before .before .before .before .before .before .before .loop .inv .0), λ r m o h. c .before .before .before .before .before .before .before .before .before .before .before .before .before .before .before .before .before .before .before .before .before .loop .inv .1 r m o (semi-more _ _ _ (c .before .before .before .before .before .before .before .before .before .before .before .before .before .before .before .before .before .before .before .before .loop-test .taken) (c .before .before .before .before .before .before .before .before .before .before .before .before .before .before .before .before .before .before .before .last-semi .ensures) (then-sure (c .before .before .before .before .before .before .before .before .before .before .before .before .before .before .before .before .word .ensures) (then-sure (c .before .before .before .before .before .before .before .before .before .before .before .indent .ensures _) (then-done (c .before .before .before .before .before .before .it .ensures .is) (c .before .before .before .told .ensures) (c .before .s1 .given .1) h)))), c .before .before .before .before .before .before .it .kept .1 .1 .1 .1 .1 .1 .0 ∙ c .before .before .before .before .before .before .before .before .before .before .before .indent .kept .0 ∙ c .before .before .before .before .before .before .before .before .before .before .before .before .before .before .before .before .word .kept .1 .1 .0 ∙ c .before .before .before .before .before .before .before .before .before .before .before .before .before .before .before .before .before .before .before .before .before .loop .inv .2)
 
--- src/lib.rt:354:1
+-- src/lib.rt:355:1
 mo-same-length-2 : (t : ℕ) → mo-lts.Need-same-length-2 (
   last-semi-reads.Asked,
   last-semi-reads.Learnt,
@@ -15774,7 +15851,7 @@ mo-same-length-2 : (t : ℕ) → mo-lts.Need-same-length-2 (
 ) (mo-at t) mo.Post mo-Inv-loop mo-μ-loop
 mo-same-length-2 t c = c .before .loop .inv .2
 
--- src/lib.rt:354:1
+-- src/lib.rt:355:1
 mo-returns-2 : (t : ℕ) → mo-lts.Need-returns-2 (
   last-semi-reads.Asked,
   last-semi-reads.Learnt,
@@ -15789,7 +15866,7 @@ mo-returns-2 : (t : ℕ) → mo-lts.Need-returns-2 (
 ) (mo-at t) mo.Post mo-Inv-loop mo-μ-loop
 mo-returns-2 t c = record { is = by-same (semi-all _ _ _ _) (c .before .loop .inv .1 _ _ _ (semi-none _ _ _ (c .loop-test .left))) }
 
--- src/lib.rt:1845:9
+-- src/lib.rt:1846:9
 nm-text-of-requires : (t : ℕ) → nm-lts.Need-text-of-requires (
   text-of-reads.Asked,
   text-of-reads.Learnt,
@@ -15802,7 +15879,7 @@ nm-text-of-requires : (t : ℕ) → nm-lts.Need-text-of-requires (
 ) (nm-at t) nm.Post
 nm-text-of-requires t c κs = search needs
 
--- src/lib.rt:1846:28
+-- src/lib.rt:1847:28
 nm-told-requires : (t : ℕ) → nm-lts.Need-told-requires (
   text-of-reads.Asked,
   text-of-reads.Learnt,
@@ -15815,7 +15892,7 @@ nm-told-requires : (t : ℕ) → nm-lts.Need-told-requires (
 ) (nm-at t) nm.Post
 nm-told-requires t c κs = search needs
 
--- src/lib.rt:1846:22
+-- src/lib.rt:1847:22
 nm-enum-known-s1 : (t : ℕ) → nm-lts.Need-enum-known-s1 (
   text-of-reads.Asked,
   text-of-reads.Learnt,
@@ -15828,7 +15905,7 @@ nm-enum-known-s1 : (t : ℕ) → nm-lts.Need-enum-known-s1 (
 ) (nm-at t) nm.Post
 nm-enum-known-s1 t c = search needs
 
--- src/lib.rt:1847:9
+-- src/lib.rt:1848:9
 nm-enum-told : (t : ℕ) → nm-lts.Need-enum-told (
   text-of-reads.Asked,
   text-of-reads.Learnt,
@@ -15841,7 +15918,7 @@ nm-enum-told : (t : ℕ) → nm-lts.Need-enum-told (
 ) (nm-at t) nm.Post
 nm-enum-told t c = search needs
 
--- src/lib.rt:1847:9
+-- src/lib.rt:1848:9
 nm-same-length : (t : ℕ) → nm-lts.Need-same-length (
   text-of-reads.Asked,
   text-of-reads.Learnt,
@@ -15854,7 +15931,7 @@ nm-same-length : (t : ℕ) → nm-lts.Need-same-length (
 ) (nm-at t) nm.Post
 nm-same-length t c = c .before .before .before .before .before .text-of .kept .1 .1 .1 .1 .1 .0
 
--- src/lib.rt:1847:9
+-- src/lib.rt:1848:9
 nm-returns : (t : ℕ) → nm-lts.Need-returns (
   text-of-reads.Asked,
   text-of-reads.Learnt,
@@ -15867,7 +15944,7 @@ nm-returns : (t : ℕ) → nm-lts.Need-returns (
 ) (nm-at t) nm.Post
 nm-returns t c = record { is = then-stop (plain (c .before .before .before .before .before .text-of .ensures)) (c .before .before .told .ensures) (c .enum-told .given .1) }
 
--- src/lib.rt:1849:5
+-- src/lib.rt:1850:5
 nm-word-requires : (t : ℕ) → nm-lts.Need-word-requires (
   text-of-reads.Asked,
   text-of-reads.Learnt,
@@ -15880,7 +15957,7 @@ nm-word-requires : (t : ℕ) → nm-lts.Need-word-requires (
 ) (nm-at t) nm.Post
 nm-word-requires t c κs = search needs
 
--- src/lib.rt:1850:5
+-- src/lib.rt:1851:5
 nm-sig-requires : (t : ℕ) → nm-lts.Need-sig-requires (
   text-of-reads.Asked,
   text-of-reads.Learnt,
@@ -15893,7 +15970,7 @@ nm-sig-requires : (t : ℕ) → nm-lts.Need-sig-requires (
 ) (nm-at t) nm.Post
 nm-sig-requires t c κs = omega (arith, c .before .before .before .before .before .before .before .before .before .before .before .before .before .before .before .before .before .before .before .before .before .before .pre .0, c .before .before .before .before .before .before .before .before .before .before .before .before .before .before .before .before .before .before .before .before .before .before .pre .1)
 
--- src/lib.rt:1829:1
+-- src/lib.rt:1830:1
 nm-same-length-2 : (t : ℕ) → nm-lts.Need-same-length-2 (
   text-of-reads.Asked,
   text-of-reads.Learnt,
@@ -15906,7 +15983,7 @@ nm-same-length-2 : (t : ℕ) → nm-lts.Need-same-length-2 (
 ) (nm-at t) nm.Post
 nm-same-length-2 t c = c .before .before .sig .kept .1 .1 .1 .1 .1 .1 .0 ∙ c .before .before .before .before .before .before .before .word .kept .1 .1 .0 ∙ c .before .before .before .before .before .before .before .before .before .before .before .before .before .before .before .before .text-of .kept .1 .1 .1 .1 .1 .0
 
--- src/lib.rt:1829:1
+-- src/lib.rt:1830:1
 nm-returns-2 : (t : ℕ) → nm-lts.Need-returns-2 (
   text-of-reads.Asked,
   text-of-reads.Learnt,
@@ -15919,7 +15996,7 @@ nm-returns-2 : (t : ℕ) → nm-lts.Need-returns-2 (
 ) (nm-at t) nm.Post
 nm-returns-2 t c = record { is = then-done (plain (c .before .before .before .before .before .before .before .before .before .before .before .before .before .before .before .before .text-of .ensures)) (c .before .before .before .before .before .before .before .before .before .before .before .before .before .told .ensures) (c .before .before .before .before .before .before .before .before .before .before .before .s1 .given .1) (then-sure (c .before .before .before .before .before .before .before .word .ensures) (c .before .before .sig .ensures .is)) }
 
--- src/lib.rt:1270:13
+-- src/lib.rt:1271:13
 nu-word-requires : (t : ℕ) → nu-lts.Need-word-requires (
   word-reads.Asked,
   word-reads.Learnt,
@@ -15964,7 +16041,7 @@ nu-word-requires : (t : ℕ) → nu-lts.Need-word-requires (
 ) (nu-at t) nu.Post
 nu-word-requires t c κs = search needs
 
--- src/lib.rt:1273:14
+-- src/lib.rt:1274:14
 nu-vd-requires : (t : ℕ) → nu-lts.Need-vd-requires (
   word-reads.Asked,
   word-reads.Learnt,
@@ -16009,7 +16086,7 @@ nu-vd-requires : (t : ℕ) → nu-lts.Need-vd-requires (
 ) (nu-at t) nu.Post
 nu-vd-requires t c κs = omega (arith, c .before .before .before .before .before .before .before .before .before .pre .0, c .before .before .before .before .before .before .before .before .before .pre .1)
 
--- src/lib.rt:1274:14
+-- src/lib.rt:1275:14
 nu-fd-requires : (t : ℕ) → nu-lts.Need-fd-requires (
   word-reads.Asked,
   word-reads.Learnt,
@@ -16054,7 +16131,7 @@ nu-fd-requires : (t : ℕ) → nu-lts.Need-fd-requires (
 ) (nu-at t) nu.Post
 nu-fd-requires t c κs = omega (arith, c .before .before .before .before .before .before .before .before .before .pre .0, c .before .before .before .before .before .before .before .before .before .pre .1)
 
--- src/lib.rt:1275:14
+-- src/lib.rt:1276:14
 nu-ty-dec-requires : (t : ℕ) → nu-lts.Need-ty-dec-requires (
   word-reads.Asked,
   word-reads.Learnt,
@@ -16099,7 +16176,7 @@ nu-ty-dec-requires : (t : ℕ) → nu-lts.Need-ty-dec-requires (
 ) (nu-at t) nu.Post
 nu-ty-dec-requires t c κs = search needs
 
--- src/lib.rt:1276:14
+-- src/lib.rt:1277:14
 nu-dat-dec-requires : (t : ℕ) → nu-lts.Need-dat-dec-requires (
   word-reads.Asked,
   word-reads.Learnt,
@@ -16144,7 +16221,7 @@ nu-dat-dec-requires : (t : ℕ) → nu-lts.Need-dat-dec-requires (
 ) (nu-at t) nu.Post
 nu-dat-dec-requires t c κs = omega (arith, c .before .before .before .before .before .before .before .before .before .pre .1)
 
--- src/lib.rt:1277:14
+-- src/lib.rt:1278:14
 nu-dat-copy-dec-requires : (t : ℕ) → nu-lts.Need-dat-copy-dec-requires (
   word-reads.Asked,
   word-reads.Learnt,
@@ -16189,7 +16266,7 @@ nu-dat-copy-dec-requires : (t : ℕ) → nu-lts.Need-dat-copy-dec-requires (
 ) (nu-at t) nu.Post
 nu-dat-copy-dec-requires t c κs = search needs
 
--- src/lib.rt:1278:14
+-- src/lib.rt:1279:14
 nu-ab-requires : (t : ℕ) → nu-lts.Need-ab-requires (
   word-reads.Asked,
   word-reads.Learnt,
@@ -16234,7 +16311,7 @@ nu-ab-requires : (t : ℕ) → nu-lts.Need-ab-requires (
 ) (nu-at t) nu.Post
 nu-ab-requires t c κs = omega (arith, c .before .before .before .before .before .before .before .before .before .pre .0, c .before .before .before .before .before .before .before .before .before .pre .1)
 
--- src/lib.rt:1279:14
+-- src/lib.rt:1280:14
 nu-xd-requires : (t : ℕ) → nu-lts.Need-xd-requires (
   word-reads.Asked,
   word-reads.Learnt,
@@ -16279,7 +16356,7 @@ nu-xd-requires : (t : ℕ) → nu-lts.Need-xd-requires (
 ) (nu-at t) nu.Post
 nu-xd-requires t c κs = omega (arith, c .before .before .before .before .before .before .before .before .before .pre .0, c .before .before .before .before .before .before .before .before .before .pre .1)
 
--- src/lib.rt:1280:14
+-- src/lib.rt:1281:14
 nu-open-dec-requires : (t : ℕ) → nu-lts.Need-open-dec-requires (
   word-reads.Asked,
   word-reads.Learnt,
@@ -16324,7 +16401,7 @@ nu-open-dec-requires : (t : ℕ) → nu-lts.Need-open-dec-requires (
 ) (nu-at t) nu.Post
 nu-open-dec-requires t c κs = search needs
 
--- src/lib.rt:1281:14
+-- src/lib.rt:1282:14
 nu-infix-dec-requires : (t : ℕ) → nu-lts.Need-infix-dec-requires (
   word-reads.Asked,
   word-reads.Learnt,
@@ -16369,7 +16446,7 @@ nu-infix-dec-requires : (t : ℕ) → nu-lts.Need-infix-dec-requires (
 ) (nu-at t) nu.Post
 nu-infix-dec-requires t c κs = search needs
 
--- src/lib.rt:1293:15
+-- src/lib.rt:1294:15
 nu-infix-dec-requires-2 : (t : ℕ) → nu-lts.Need-infix-dec-requires-2 (
   word-reads.Asked,
   word-reads.Learnt,
@@ -16414,7 +16491,7 @@ nu-infix-dec-requires-2 : (t : ℕ) → nu-lts.Need-infix-dec-requires-2 (
 ) (nu-at t) nu.Post
 nu-infix-dec-requires-2 t c κs = search needs
 
--- src/lib.rt:1305:15
+-- src/lib.rt:1306:15
 nu-nonfix-dec-requires : (t : ℕ) → nu-lts.Need-nonfix-dec-requires (
   word-reads.Asked,
   word-reads.Learnt,
@@ -16459,7 +16536,7 @@ nu-nonfix-dec-requires : (t : ℕ) → nu-lts.Need-nonfix-dec-requires (
 ) (nu-at t) nu.Post
 nu-nonfix-dec-requires t c κs = search needs
 
--- src/lib.rt:1306:15
+-- src/lib.rt:1307:15
 nu-pr-requires : (t : ℕ) → nu-lts.Need-pr-requires (
   word-reads.Asked,
   word-reads.Learnt,
@@ -16504,7 +16581,7 @@ nu-pr-requires : (t : ℕ) → nu-lts.Need-pr-requires (
 ) (nu-at t) nu.Post
 nu-pr-requires t c κs = omega (arith, c .before .before .before .before .before .before .before .before .before .pre .0, c .before .before .before .before .before .before .before .before .before .pre .1)
 
--- src/lib.rt:1319:15
+-- src/lib.rt:1320:15
 nu-lo-requires : (t : ℕ) → nu-lts.Need-lo-requires (
   word-reads.Asked,
   word-reads.Learnt,
@@ -16549,7 +16626,7 @@ nu-lo-requires : (t : ℕ) → nu-lts.Need-lo-requires (
 ) (nu-at t) nu.Post
 nu-lo-requires t c κs = omega (arith, c .before .before .before .before .before .before .before .before .before .pre .0, c .before .before .before .before .before .before .before .before .before .pre .1)
 
--- src/lib.rt:1320:15
+-- src/lib.rt:1321:15
 nu-sd-requires : (t : ℕ) → nu-lts.Need-sd-requires (
   word-reads.Asked,
   word-reads.Learnt,
@@ -16594,7 +16671,7 @@ nu-sd-requires : (t : ℕ) → nu-lts.Need-sd-requires (
 ) (nu-at t) nu.Post
 nu-sd-requires t c κs = omega (arith, c .before .before .before .before .before .before .before .before .before .pre .0, c .before .before .before .before .before .before .before .before .before .pre .1)
 
--- src/lib.rt:1321:15
+-- src/lib.rt:1322:15
 nu-gd-requires : (t : ℕ) → nu-lts.Need-gd-requires (
   word-reads.Asked,
   word-reads.Learnt,
@@ -16639,7 +16716,7 @@ nu-gd-requires : (t : ℕ) → nu-lts.Need-gd-requires (
 ) (nu-at t) nu.Post
 nu-gd-requires t c κs = omega (arith, c .before .before .before .before .before .before .before .before .before .pre .0, c .before .before .before .before .before .before .before .before .before .pre .1)
 
--- src/lib.rt:1322:15
+-- src/lib.rt:1323:15
 nu-cd-requires : (t : ℕ) → nu-lts.Need-cd-requires (
   word-reads.Asked,
   word-reads.Learnt,
@@ -16684,7 +16761,7 @@ nu-cd-requires : (t : ℕ) → nu-lts.Need-cd-requires (
 ) (nu-at t) nu.Post
 nu-cd-requires t c κs = omega (arith, c .before .before .before .before .before .before .before .before .before .pre .0, c .before .before .before .before .before .before .before .before .before .pre .1)
 
--- src/lib.rt:1323:15
+-- src/lib.rt:1324:15
 nu-exp-requires : (t : ℕ) → nu-lts.Need-exp-requires (
   word-reads.Asked,
   word-reads.Learnt,
@@ -16729,7 +16806,7 @@ nu-exp-requires : (t : ℕ) → nu-lts.Need-exp-requires (
 ) (nu-at t) nu.Post
 nu-exp-requires t c κs = omega (arith, c .before .before .before .before .before .before .before .before .before .pre .0, c .before .before .before .before .before .before .before .before .before .pre .1)
 
--- src/lib.rt:1324:15
+-- src/lib.rt:1325:15
 nu-ic-requires : (t : ℕ) → nu-lts.Need-ic-requires (
   word-reads.Asked,
   word-reads.Learnt,
@@ -16774,7 +16851,7 @@ nu-ic-requires : (t : ℕ) → nu-lts.Need-ic-requires (
 ) (nu-at t) nu.Post
 nu-ic-requires t c κs = omega (arith, c .before .before .before .before .before .before .before .before .before .pre .0, c .before .before .before .before .before .before .before .before .before .pre .1)
 
--- src/lib.rt:1325:15
+-- src/lib.rt:1326:15
 nu-import-requires : (t : ℕ) → nu-lts.Need-import-requires (
   word-reads.Asked,
   word-reads.Learnt,
@@ -16819,7 +16896,7 @@ nu-import-requires : (t : ℕ) → nu-lts.Need-import-requires (
 ) (nu-at t) nu.Post
 nu-import-requires t c κs = search needs
 
--- src/lib.rt:1326:14
+-- src/lib.rt:1327:14
 nu-stop-requires : (t : ℕ) → nu-lts.Need-stop-requires (
   word-reads.Asked,
   word-reads.Learnt,
@@ -16864,7 +16941,7 @@ nu-stop-requires : (t : ℕ) → nu-lts.Need-stop-requires (
 ) (nu-at t) nu.Post
 nu-stop-requires t c κs = search needs
 
--- src/lib.rt:1252:1
+-- src/lib.rt:1253:1
 nu-same-length : (t : ℕ) → nu-lts.Need-same-length (
   word-reads.Asked,
   word-reads.Learnt,
@@ -16909,7 +16986,7 @@ nu-same-length : (t : ℕ) → nu-lts.Need-same-length (
 ) (nu-at t) nu.Post
 nu-same-length t c = c .before .before .word .kept .1 .1 .0
 
--- src/lib.rt:1252:1
+-- src/lib.rt:1253:1
 nu-returns : (t : ℕ) → nu-lts.Need-returns (
   word-reads.Asked,
   word-reads.Learnt,
@@ -16955,7 +17032,7 @@ nu-returns : (t : ℕ) → nu-lts.Need-returns (
 unfolding DecOne.decs DecOne.dec-one
 nu-returns t c = record { is = at-key (λ i. getD (DecOne.decs (walks (c .before .before .before .before .before .before .before .before .before .before .before .before .args .cfg .left)) (cfgOf (c .before .before .before .before .before .before .before .before .before .before .before .before .args .cfg))) i Layout.halt) (c .before .before .before .before .before .match .keys1) (last-sure (c .before .before .word .ensures)) }
 
--- src/lib.rt:1252:1
+-- src/lib.rt:1253:1
 nu-same-length-2 : (t : ℕ) → nu-lts.Need-same-length-2 (
   word-reads.Asked,
   word-reads.Learnt,
@@ -17000,7 +17077,7 @@ nu-same-length-2 : (t : ℕ) → nu-lts.Need-same-length-2 (
 ) (nu-at t) nu.Post
 nu-same-length-2 t c = c .before .before .vd .kept .1 .1 .1 .1 .1 .1 .0
 
--- src/lib.rt:1252:1
+-- src/lib.rt:1253:1
 nu-returns-2 : (t : ℕ) → nu-lts.Need-returns-2 (
   word-reads.Asked,
   word-reads.Learnt,
@@ -17046,7 +17123,7 @@ nu-returns-2 : (t : ℕ) → nu-lts.Need-returns-2 (
 unfolding DecOne.decs DecOne.dec-one
 nu-returns-2 t c = record { is = at-key (λ i. getD (DecOne.decs (walks (c .before .before .before .before .before .before .before .before .before .before .before .before .args .cfg .left)) (cfgOf (c .before .before .before .before .before .before .before .before .before .before .before .before .args .cfg))) i Layout.halt) (c .before .before .before .before .before .match .keys2) (c .before .before .vd .ensures .is) }
 
--- src/lib.rt:1252:1
+-- src/lib.rt:1253:1
 nu-same-length-3 : (t : ℕ) → nu-lts.Need-same-length-3 (
   word-reads.Asked,
   word-reads.Learnt,
@@ -17091,7 +17168,7 @@ nu-same-length-3 : (t : ℕ) → nu-lts.Need-same-length-3 (
 ) (nu-at t) nu.Post
 nu-same-length-3 t c = c .before .before .fd .kept .1 .1 .1 .1 .1 .1 .0
 
--- src/lib.rt:1252:1
+-- src/lib.rt:1253:1
 nu-returns-3 : (t : ℕ) → nu-lts.Need-returns-3 (
   word-reads.Asked,
   word-reads.Learnt,
@@ -17137,7 +17214,7 @@ nu-returns-3 : (t : ℕ) → nu-lts.Need-returns-3 (
 unfolding DecOne.decs DecOne.dec-one
 nu-returns-3 t c = record { is = at-key (λ i. getD (DecOne.decs (walks (c .before .before .before .before .before .before .before .before .before .before .before .before .args .cfg .left)) (cfgOf (c .before .before .before .before .before .before .before .before .before .before .before .before .args .cfg))) i Layout.halt) (c .before .before .before .before .before .match .keys3) (c .before .before .fd .ensures .is) }
 
--- src/lib.rt:1252:1
+-- src/lib.rt:1253:1
 nu-same-length-4 : (t : ℕ) → nu-lts.Need-same-length-4 (
   word-reads.Asked,
   word-reads.Learnt,
@@ -17182,7 +17259,7 @@ nu-same-length-4 : (t : ℕ) → nu-lts.Need-same-length-4 (
 ) (nu-at t) nu.Post
 nu-same-length-4 t c = c .before .before .ty-dec .kept .1 .1 .1 .1 .1 .0
 
--- src/lib.rt:1252:1
+-- src/lib.rt:1253:1
 nu-returns-4 : (t : ℕ) → nu-lts.Need-returns-4 (
   word-reads.Asked,
   word-reads.Learnt,
@@ -17228,7 +17305,7 @@ nu-returns-4 : (t : ℕ) → nu-lts.Need-returns-4 (
 unfolding DecOne.decs DecOne.dec-one
 nu-returns-4 t c = record { is = at-key (λ i. getD (DecOne.decs (walks (c .before .before .before .before .before .before .before .before .before .before .before .before .args .cfg .left)) (cfgOf (c .before .before .before .before .before .before .before .before .before .before .before .before .args .cfg))) i Layout.halt) (c .before .before .before .before .before .match .keys4) (plain (c .before .before .ty-dec .ensures)) }
 
--- src/lib.rt:1252:1
+-- src/lib.rt:1253:1
 nu-same-length-5 : (t : ℕ) → nu-lts.Need-same-length-5 (
   word-reads.Asked,
   word-reads.Learnt,
@@ -17273,7 +17350,7 @@ nu-same-length-5 : (t : ℕ) → nu-lts.Need-same-length-5 (
 ) (nu-at t) nu.Post
 nu-same-length-5 t c = c .before .before .dat-dec .kept .1 .1 .1 .1 .1 .0
 
--- src/lib.rt:1252:1
+-- src/lib.rt:1253:1
 nu-returns-5 : (t : ℕ) → nu-lts.Need-returns-5 (
   word-reads.Asked,
   word-reads.Learnt,
@@ -17319,7 +17396,7 @@ nu-returns-5 : (t : ℕ) → nu-lts.Need-returns-5 (
 unfolding DecOne.decs DecOne.dec-one
 nu-returns-5 t c = record { is = at-key (λ i. getD (DecOne.decs (walks (c .before .before .before .before .before .before .before .before .before .before .before .before .args .cfg .left)) (cfgOf (c .before .before .before .before .before .before .before .before .before .before .before .before .args .cfg))) i Layout.halt) (c .before .before .before .before .before .match .keys5) (plain (c .before .before .dat-dec .ensures)) }
 
--- src/lib.rt:1252:1
+-- src/lib.rt:1253:1
 nu-same-length-6 : (t : ℕ) → nu-lts.Need-same-length-6 (
   word-reads.Asked,
   word-reads.Learnt,
@@ -17364,7 +17441,7 @@ nu-same-length-6 : (t : ℕ) → nu-lts.Need-same-length-6 (
 ) (nu-at t) nu.Post
 nu-same-length-6 t c = c .before .before .dat-copy-dec .kept .1 .1 .1 .1 .1 .0
 
--- src/lib.rt:1252:1
+-- src/lib.rt:1253:1
 nu-returns-6 : (t : ℕ) → nu-lts.Need-returns-6 (
   word-reads.Asked,
   word-reads.Learnt,
@@ -17410,7 +17487,7 @@ nu-returns-6 : (t : ℕ) → nu-lts.Need-returns-6 (
 unfolding DecOne.decs DecOne.dec-one
 nu-returns-6 t c = record { is = at-key (λ i. getD (DecOne.decs (walks (c .before .before .before .before .before .before .before .before .before .before .before .before .args .cfg .left)) (cfgOf (c .before .before .before .before .before .before .before .before .before .before .before .before .args .cfg))) i Layout.halt) (c .before .before .before .before .before .match .keys6) (plain (c .before .before .dat-copy-dec .ensures)) }
 
--- src/lib.rt:1252:1
+-- src/lib.rt:1253:1
 nu-same-length-7 : (t : ℕ) → nu-lts.Need-same-length-7 (
   word-reads.Asked,
   word-reads.Learnt,
@@ -17455,7 +17532,7 @@ nu-same-length-7 : (t : ℕ) → nu-lts.Need-same-length-7 (
 ) (nu-at t) nu.Post
 nu-same-length-7 t c = c .before .before .ab .kept .1 .1 .1 .1 .1 .1 .0
 
--- src/lib.rt:1252:1
+-- src/lib.rt:1253:1
 nu-returns-7 : (t : ℕ) → nu-lts.Need-returns-7 (
   word-reads.Asked,
   word-reads.Learnt,
@@ -17501,7 +17578,7 @@ nu-returns-7 : (t : ℕ) → nu-lts.Need-returns-7 (
 unfolding DecOne.decs DecOne.dec-one
 nu-returns-7 t c = record { is = at-key (λ i. getD (DecOne.decs (walks (c .before .before .before .before .before .before .before .before .before .before .before .before .args .cfg .left)) (cfgOf (c .before .before .before .before .before .before .before .before .before .before .before .before .args .cfg))) i Layout.halt) (c .before .before .before .before .before .match .keys7) (c .before .before .ab .ensures .is) }
 
--- src/lib.rt:1252:1
+-- src/lib.rt:1253:1
 nu-same-length-8 : (t : ℕ) → nu-lts.Need-same-length-8 (
   word-reads.Asked,
   word-reads.Learnt,
@@ -17546,7 +17623,7 @@ nu-same-length-8 : (t : ℕ) → nu-lts.Need-same-length-8 (
 ) (nu-at t) nu.Post
 nu-same-length-8 t c = c .before .before .xd .kept .1 .1 .1 .1 .1 .1 .0
 
--- src/lib.rt:1252:1
+-- src/lib.rt:1253:1
 nu-returns-8 : (t : ℕ) → nu-lts.Need-returns-8 (
   word-reads.Asked,
   word-reads.Learnt,
@@ -17592,7 +17669,7 @@ nu-returns-8 : (t : ℕ) → nu-lts.Need-returns-8 (
 unfolding DecOne.decs DecOne.dec-one
 nu-returns-8 t c = record { is = at-key (λ i. getD (DecOne.decs (walks (c .before .before .before .before .before .before .before .before .before .before .before .before .args .cfg .left)) (cfgOf (c .before .before .before .before .before .before .before .before .before .before .before .before .args .cfg))) i Layout.halt) (c .before .before .before .before .before .match .keys8) (c .before .before .xd .ensures .is) }
 
--- src/lib.rt:1252:1
+-- src/lib.rt:1253:1
 nu-same-length-9 : (t : ℕ) → nu-lts.Need-same-length-9 (
   word-reads.Asked,
   word-reads.Learnt,
@@ -17637,7 +17714,7 @@ nu-same-length-9 : (t : ℕ) → nu-lts.Need-same-length-9 (
 ) (nu-at t) nu.Post
 nu-same-length-9 t c = c .before .before .open-dec .kept .1 .1 .1 .1 .1 .0
 
--- src/lib.rt:1252:1
+-- src/lib.rt:1253:1
 nu-returns-9 : (t : ℕ) → nu-lts.Need-returns-9 (
   word-reads.Asked,
   word-reads.Learnt,
@@ -17683,7 +17760,7 @@ nu-returns-9 : (t : ℕ) → nu-lts.Need-returns-9 (
 unfolding DecOne.decs DecOne.dec-one
 nu-returns-9 t c = record { is = at-key (λ i. getD (DecOne.decs (walks (c .before .before .before .before .before .before .before .before .before .before .before .before .args .cfg .left)) (cfgOf (c .before .before .before .before .before .before .before .before .before .before .before .before .args .cfg))) i Layout.halt) (c .before .before .before .before .before .match .keys9) (plain (c .before .before .open-dec .ensures)) }
 
--- src/lib.rt:1252:1
+-- src/lib.rt:1253:1
 nu-same-length-10 : (t : ℕ) → nu-lts.Need-same-length-10 (
   word-reads.Asked,
   word-reads.Learnt,
@@ -17728,7 +17805,7 @@ nu-same-length-10 : (t : ℕ) → nu-lts.Need-same-length-10 (
 ) (nu-at t) nu.Post
 nu-same-length-10 t c = c .before .before .infix-dec .kept .1 .1 .1 .1 .1 .0
 
--- src/lib.rt:1252:1
+-- src/lib.rt:1253:1
 nu-returns-10 : (t : ℕ) → nu-lts.Need-returns-10 (
   word-reads.Asked,
   word-reads.Learnt,
@@ -17774,7 +17851,7 @@ nu-returns-10 : (t : ℕ) → nu-lts.Need-returns-10 (
 unfolding DecOne.decs DecOne.dec-one
 nu-returns-10 t c = record { is = at-key (λ i. getD (DecOne.decs (walks (c .before .before .before .before .before .before .before .before .before .before .before .before .args .cfg .left)) (cfgOf (c .before .before .before .before .before .before .before .before .before .before .before .before .args .cfg))) i Layout.halt) (c .before .before .before .before .before .match .keys10) (plain (c .before .before .infix-dec .ensures)) }
 
--- src/lib.rt:1252:1
+-- src/lib.rt:1253:1
 nu-same-length-11 : (t : ℕ) → nu-lts.Need-same-length-11 (
   word-reads.Asked,
   word-reads.Learnt,
@@ -17819,7 +17896,7 @@ nu-same-length-11 : (t : ℕ) → nu-lts.Need-same-length-11 (
 ) (nu-at t) nu.Post
 nu-same-length-11 t c = c .before .before .infix-dec2 .kept .1 .1 .1 .1 .1 .0
 
--- src/lib.rt:1252:1
+-- src/lib.rt:1253:1
 nu-returns-11 : (t : ℕ) → nu-lts.Need-returns-11 (
   word-reads.Asked,
   word-reads.Learnt,
@@ -17865,7 +17942,7 @@ nu-returns-11 : (t : ℕ) → nu-lts.Need-returns-11 (
 unfolding DecOne.decs DecOne.dec-one
 nu-returns-11 t c = record { is = at-key (λ i. getD (DecOne.decs (walks (c .before .before .before .before .before .before .before .before .before .before .before .before .args .cfg .left)) (cfgOf (c .before .before .before .before .before .before .before .before .before .before .before .before .args .cfg))) i Layout.halt) (c .before .before .before .before .before .match .keys11) (plain (c .before .before .infix-dec2 .ensures)) }
 
--- src/lib.rt:1252:1
+-- src/lib.rt:1253:1
 nu-same-length-12 : (t : ℕ) → nu-lts.Need-same-length-12 (
   word-reads.Asked,
   word-reads.Learnt,
@@ -17910,7 +17987,7 @@ nu-same-length-12 : (t : ℕ) → nu-lts.Need-same-length-12 (
 ) (nu-at t) nu.Post
 nu-same-length-12 t c = c .before .before .nonfix-dec .kept .1 .1 .1 .1 .1 .0
 
--- src/lib.rt:1252:1
+-- src/lib.rt:1253:1
 nu-returns-12 : (t : ℕ) → nu-lts.Need-returns-12 (
   word-reads.Asked,
   word-reads.Learnt,
@@ -17956,7 +18033,7 @@ nu-returns-12 : (t : ℕ) → nu-lts.Need-returns-12 (
 unfolding DecOne.decs DecOne.dec-one
 nu-returns-12 t c = record { is = at-key (λ i. getD (DecOne.decs (walks (c .before .before .before .before .before .before .before .before .before .before .before .before .args .cfg .left)) (cfgOf (c .before .before .before .before .before .before .before .before .before .before .before .before .args .cfg))) i Layout.halt) (c .before .before .before .before .before .match .keys12) (plain (c .before .before .nonfix-dec .ensures)) }
 
--- src/lib.rt:1252:1
+-- src/lib.rt:1253:1
 nu-same-length-13 : (t : ℕ) → nu-lts.Need-same-length-13 (
   word-reads.Asked,
   word-reads.Learnt,
@@ -18001,7 +18078,7 @@ nu-same-length-13 : (t : ℕ) → nu-lts.Need-same-length-13 (
 ) (nu-at t) nu.Post
 nu-same-length-13 t c = c .before .before .pr .kept .1 .1 .1 .1 .1 .1 .0
 
--- src/lib.rt:1252:1
+-- src/lib.rt:1253:1
 nu-returns-13 : (t : ℕ) → nu-lts.Need-returns-13 (
   word-reads.Asked,
   word-reads.Learnt,
@@ -18047,7 +18124,7 @@ nu-returns-13 : (t : ℕ) → nu-lts.Need-returns-13 (
 unfolding DecOne.decs DecOne.dec-one
 nu-returns-13 t c = record { is = at-key (λ i. getD (DecOne.decs (walks (c .before .before .before .before .before .before .before .before .before .before .before .before .args .cfg .left)) (cfgOf (c .before .before .before .before .before .before .before .before .before .before .before .before .args .cfg))) i Layout.halt) (c .before .before .before .before .before .match .keys13) (c .before .before .pr .ensures .is) }
 
--- src/lib.rt:1252:1
+-- src/lib.rt:1253:1
 nu-same-length-14 : (t : ℕ) → nu-lts.Need-same-length-14 (
   word-reads.Asked,
   word-reads.Learnt,
@@ -18092,7 +18169,7 @@ nu-same-length-14 : (t : ℕ) → nu-lts.Need-same-length-14 (
 ) (nu-at t) nu.Post
 nu-same-length-14 t c = c .before .before .lo .kept .1 .1 .1 .1 .1 .1 .0
 
--- src/lib.rt:1252:1
+-- src/lib.rt:1253:1
 nu-returns-14 : (t : ℕ) → nu-lts.Need-returns-14 (
   word-reads.Asked,
   word-reads.Learnt,
@@ -18138,7 +18215,7 @@ nu-returns-14 : (t : ℕ) → nu-lts.Need-returns-14 (
 unfolding DecOne.decs DecOne.dec-one
 nu-returns-14 t c = record { is = at-key (λ i. getD (DecOne.decs (walks (c .before .before .before .before .before .before .before .before .before .before .before .before .args .cfg .left)) (cfgOf (c .before .before .before .before .before .before .before .before .before .before .before .before .args .cfg))) i Layout.halt) (c .before .before .before .before .before .match .keys14) (c .before .before .lo .ensures .is) }
 
--- src/lib.rt:1252:1
+-- src/lib.rt:1253:1
 nu-same-length-15 : (t : ℕ) → nu-lts.Need-same-length-15 (
   word-reads.Asked,
   word-reads.Learnt,
@@ -18183,7 +18260,7 @@ nu-same-length-15 : (t : ℕ) → nu-lts.Need-same-length-15 (
 ) (nu-at t) nu.Post
 nu-same-length-15 t c = c .before .before .sd .kept .1 .1 .1 .1 .1 .1 .0
 
--- src/lib.rt:1252:1
+-- src/lib.rt:1253:1
 nu-returns-15 : (t : ℕ) → nu-lts.Need-returns-15 (
   word-reads.Asked,
   word-reads.Learnt,
@@ -18229,7 +18306,7 @@ nu-returns-15 : (t : ℕ) → nu-lts.Need-returns-15 (
 unfolding DecOne.decs DecOne.dec-one
 nu-returns-15 t c = record { is = at-key (λ i. getD (DecOne.decs (walks (c .before .before .before .before .before .before .before .before .before .before .before .before .args .cfg .left)) (cfgOf (c .before .before .before .before .before .before .before .before .before .before .before .before .args .cfg))) i Layout.halt) (c .before .before .before .before .before .match .keys15) (c .before .before .sd .ensures .is) }
 
--- src/lib.rt:1252:1
+-- src/lib.rt:1253:1
 nu-same-length-16 : (t : ℕ) → nu-lts.Need-same-length-16 (
   word-reads.Asked,
   word-reads.Learnt,
@@ -18274,7 +18351,7 @@ nu-same-length-16 : (t : ℕ) → nu-lts.Need-same-length-16 (
 ) (nu-at t) nu.Post
 nu-same-length-16 t c = c .before .before .gd .kept .1 .1 .1 .1 .1 .1 .0
 
--- src/lib.rt:1252:1
+-- src/lib.rt:1253:1
 nu-returns-16 : (t : ℕ) → nu-lts.Need-returns-16 (
   word-reads.Asked,
   word-reads.Learnt,
@@ -18320,7 +18397,7 @@ nu-returns-16 : (t : ℕ) → nu-lts.Need-returns-16 (
 unfolding DecOne.decs DecOne.dec-one
 nu-returns-16 t c = record { is = at-key (λ i. getD (DecOne.decs (walks (c .before .before .before .before .before .before .before .before .before .before .before .before .args .cfg .left)) (cfgOf (c .before .before .before .before .before .before .before .before .before .before .before .before .args .cfg))) i Layout.halt) (c .before .before .before .before .before .match .keys16) (c .before .before .gd .ensures .is) }
 
--- src/lib.rt:1252:1
+-- src/lib.rt:1253:1
 nu-same-length-17 : (t : ℕ) → nu-lts.Need-same-length-17 (
   word-reads.Asked,
   word-reads.Learnt,
@@ -18365,7 +18442,7 @@ nu-same-length-17 : (t : ℕ) → nu-lts.Need-same-length-17 (
 ) (nu-at t) nu.Post
 nu-same-length-17 t c = c .before .before .cd .kept .1 .1 .1 .1 .1 .1 .0
 
--- src/lib.rt:1252:1
+-- src/lib.rt:1253:1
 nu-returns-17 : (t : ℕ) → nu-lts.Need-returns-17 (
   word-reads.Asked,
   word-reads.Learnt,
@@ -18411,7 +18488,7 @@ nu-returns-17 : (t : ℕ) → nu-lts.Need-returns-17 (
 unfolding DecOne.decs DecOne.dec-one
 nu-returns-17 t c = record { is = at-key (λ i. getD (DecOne.decs (walks (c .before .before .before .before .before .before .before .before .before .before .before .before .args .cfg .left)) (cfgOf (c .before .before .before .before .before .before .before .before .before .before .before .before .args .cfg))) i Layout.halt) (c .before .before .before .before .before .match .keys17) (c .before .before .cd .ensures .is) }
 
--- src/lib.rt:1252:1
+-- src/lib.rt:1253:1
 nu-same-length-18 : (t : ℕ) → nu-lts.Need-same-length-18 (
   word-reads.Asked,
   word-reads.Learnt,
@@ -18456,7 +18533,7 @@ nu-same-length-18 : (t : ℕ) → nu-lts.Need-same-length-18 (
 ) (nu-at t) nu.Post
 nu-same-length-18 t c = c .before .before .exp .kept .1 .1 .1 .1 .1 .1 .0
 
--- src/lib.rt:1252:1
+-- src/lib.rt:1253:1
 nu-returns-18 : (t : ℕ) → nu-lts.Need-returns-18 (
   word-reads.Asked,
   word-reads.Learnt,
@@ -18502,7 +18579,7 @@ nu-returns-18 : (t : ℕ) → nu-lts.Need-returns-18 (
 unfolding DecOne.decs DecOne.dec-one
 nu-returns-18 t c = record { is = at-key (λ i. getD (DecOne.decs (walks (c .before .before .before .before .before .before .before .before .before .before .before .before .args .cfg .left)) (cfgOf (c .before .before .before .before .before .before .before .before .before .before .before .before .args .cfg))) i Layout.halt) (c .before .before .before .before .before .match .keys18) (c .before .before .exp .ensures .is) }
 
--- src/lib.rt:1252:1
+-- src/lib.rt:1253:1
 nu-same-length-19 : (t : ℕ) → nu-lts.Need-same-length-19 (
   word-reads.Asked,
   word-reads.Learnt,
@@ -18547,7 +18624,7 @@ nu-same-length-19 : (t : ℕ) → nu-lts.Need-same-length-19 (
 ) (nu-at t) nu.Post
 nu-same-length-19 t c = c .before .before .ic .kept .1 .1 .1 .1 .1 .1 .0
 
--- src/lib.rt:1252:1
+-- src/lib.rt:1253:1
 nu-returns-19 : (t : ℕ) → nu-lts.Need-returns-19 (
   word-reads.Asked,
   word-reads.Learnt,
@@ -18593,7 +18670,7 @@ nu-returns-19 : (t : ℕ) → nu-lts.Need-returns-19 (
 unfolding DecOne.decs DecOne.dec-one
 nu-returns-19 t c = record { is = at-key (λ i. getD (DecOne.decs (walks (c .before .before .before .before .before .before .before .before .before .before .before .before .args .cfg .left)) (cfgOf (c .before .before .before .before .before .before .before .before .before .before .before .before .args .cfg))) i Layout.halt) (c .before .before .before .before .before .match .keys19) (c .before .before .ic .ensures .is) }
 
--- src/lib.rt:1252:1
+-- src/lib.rt:1253:1
 nu-returns-20 : (t : ℕ) → nu-lts.Need-returns-20 (
   word-reads.Asked,
   word-reads.Learnt,
@@ -18639,7 +18716,7 @@ nu-returns-20 : (t : ℕ) → nu-lts.Need-returns-20 (
 unfolding DecOne.decs DecOne.dec-one
 nu-returns-20 t c = record { is = at-key (λ i. getD (DecOne.decs (walks (c .before .before .before .before .before .before .before .before .args .cfg .left)) (cfgOf (c .before .before .before .before .before .before .before .before .args .cfg))) i Layout.halt) (c .before .match .keys20) (last-import (c .import .ensures)) }
 
--- src/lib.rt:1252:1
+-- src/lib.rt:1253:1
 nu-returns-21 : (t : ℕ) → nu-lts.Need-returns-21 (
   word-reads.Asked,
   word-reads.Learnt,
@@ -18685,7 +18762,7 @@ nu-returns-21 : (t : ℕ) → nu-lts.Need-returns-21 (
 unfolding DecOne.decs DecOne.dec-one
 nu-returns-21 t c = record { is = beyond (DecOne.decs (walks (c .before .before .before .before .before .before .before .before .args .cfg .left)) (cfgOf (c .before .before .before .before .before .before .before .before .args .cfg))) (c .before .before .before .before .before .before .before .before .args .which) 20 refl (past (past (past (past (past (past (past (past (past (past (past (past (past (past (past (past (past (past (past (past zero-le (c .before .match .rest .0 .0 .0 .0 .0 .0 .0 .0 .0 .0 .0 .0 .0 .0 .0 .0 .0 .0 .0 .1)) (c .before .match .rest .0 .0 .0 .0 .0 .0 .0 .0 .0 .0 .0 .0 .0 .0 .0 .0 .0 .0 .1)) (c .before .match .rest .0 .0 .0 .0 .0 .0 .0 .0 .0 .0 .0 .0 .0 .0 .0 .0 .0 .1)) (c .before .match .rest .0 .0 .0 .0 .0 .0 .0 .0 .0 .0 .0 .0 .0 .0 .0 .0 .1)) (c .before .match .rest .0 .0 .0 .0 .0 .0 .0 .0 .0 .0 .0 .0 .0 .0 .0 .1)) (c .before .match .rest .0 .0 .0 .0 .0 .0 .0 .0 .0 .0 .0 .0 .0 .0 .1)) (c .before .match .rest .0 .0 .0 .0 .0 .0 .0 .0 .0 .0 .0 .0 .0 .1)) (c .before .match .rest .0 .0 .0 .0 .0 .0 .0 .0 .0 .0 .0 .0 .1)) (c .before .match .rest .0 .0 .0 .0 .0 .0 .0 .0 .0 .0 .0 .1)) (c .before .match .rest .0 .0 .0 .0 .0 .0 .0 .0 .0 .0 .1)) (c .before .match .rest .0 .0 .0 .0 .0 .0 .0 .0 .0 .1)) (c .before .match .rest .0 .0 .0 .0 .0 .0 .0 .0 .1)) (c .before .match .rest .0 .0 .0 .0 .0 .0 .0 .1)) (c .before .match .rest .0 .0 .0 .0 .0 .0 .1)) (c .before .match .rest .0 .0 .0 .0 .0 .1)) (c .before .match .rest .0 .0 .0 .0 .1)) (c .before .match .rest .0 .0 .0 .1)) (c .before .match .rest .0 .0 .1)) (c .before .match .rest .0 .1)) (c .before .match .rest .1)) (c .stop .ensures) }
 
--- src/lib.rt:1232:9
+-- src/lib.rt:1233:9
 one-stop-requires : (t : ℕ) → one-lts.Need-stop-requires (
   stop-reads.Asked,
   stop-reads.Learnt,
@@ -18698,7 +18775,7 @@ one-stop-requires : (t : ℕ) → one-lts.Need-stop-requires (
 ) (one-at t) one.Post
 one-stop-requires t c κs = search needs
 
--- src/lib.rt:1232:9
+-- src/lib.rt:1233:9
 one-returns : (t : ℕ) → one-lts.Need-returns (
   stop-reads.Asked,
   stop-reads.Learnt,
@@ -18711,7 +18788,7 @@ one-returns : (t : ℕ) → one-lts.Need-returns (
 ) (one-at t) one.Post
 one-returns t c = record { is = dec-zero _ _ (c .before .if1 .taken) (c .stop .ensures) }
 
--- src/lib.rt:1238:9
+-- src/lib.rt:1239:9
 one-declared-requires : (t : ℕ) → one-lts.Need-declared-requires (
   stop-reads.Asked,
   stop-reads.Learnt,
@@ -18724,7 +18801,7 @@ one-declared-requires : (t : ℕ) → one-lts.Need-declared-requires (
 ) (one-at t) one.Post
 one-declared-requires t c κs = search needs
 
--- src/lib.rt:1235:17
+-- src/lib.rt:1236:17
 one-enum-known-k : (t : ℕ) → one-lts.Need-enum-known-k (
   stop-reads.Asked,
   stop-reads.Learnt,
@@ -18737,7 +18814,7 @@ one-enum-known-k : (t : ℕ) → one-lts.Need-enum-known-k (
 ) (one-at t) one.Post
 one-enum-known-k t c = search needs
 
--- src/lib.rt:1240:9
+-- src/lib.rt:1241:9
 one-enum-told : (t : ℕ) → one-lts.Need-enum-told (
   stop-reads.Asked,
   stop-reads.Learnt,
@@ -18750,7 +18827,7 @@ one-enum-told : (t : ℕ) → one-lts.Need-enum-told (
 ) (one-at t) one.Post
 one-enum-told t c = search needs
 
--- src/lib.rt:1240:9
+-- src/lib.rt:1241:9
 one-stop-requires-2 : (t : ℕ) → one-lts.Need-stop-requires-2 (
   stop-reads.Asked,
   stop-reads.Learnt,
@@ -18763,7 +18840,7 @@ one-stop-requires-2 : (t : ℕ) → one-lts.Need-stop-requires-2 (
 ) (one-at t) one.Post
 one-stop-requires-2 t c κs = search needs
 
--- src/lib.rt:1240:9
+-- src/lib.rt:1241:9
 one-returns-2 : (t : ℕ) → one-lts.Need-returns-2 (
   stop-reads.Asked,
   stop-reads.Learnt,
@@ -18776,7 +18853,7 @@ one-returns-2 : (t : ℕ) → one-lts.Need-returns-2 (
 ) (one-at t) one.Post
 one-returns-2 t c = record { is = dec-form _ _ (c .before .before .before .before .if1 .left) (declaration-not (c .stop2 .ensures) (c .before .before .before .declared .ensures) (c .before .enum-told .given .1)) }
 
--- src/lib.rt:1242:5
+-- src/lib.rt:1243:5
 one-comment-above-requires : (t : ℕ) → one-lts.Need-comment-above-requires (
   stop-reads.Asked,
   stop-reads.Learnt,
@@ -18789,7 +18866,7 @@ one-comment-above-requires : (t : ℕ) → one-lts.Need-comment-above-requires (
 ) (one-at t) one.Post
 one-comment-above-requires t c κs = search needs
 
--- src/lib.rt:1246:15
+-- src/lib.rt:1247:15
 one-sub-t23 : (t : ℕ) → one-lts.Need-sub-t23 (
   stop-reads.Asked,
   stop-reads.Learnt,
@@ -18802,7 +18879,7 @@ one-sub-t23 : (t : ℕ) → one-lts.Need-sub-t23 (
 ) (one-at t) one.Post
 one-sub-t23 t c = search needs
 
--- src/lib.rt:1248:5
+-- src/lib.rt:1249:5
 one-nu-requires : (t : ℕ) → one-lts.Need-nu-requires (
   stop-reads.Asked,
   stop-reads.Learnt,
@@ -18815,7 +18892,7 @@ one-nu-requires : (t : ℕ) → one-lts.Need-nu-requires (
 ) (one-at t) one.Post
 one-nu-requires t c κs = omega (arith, c .before .before .before .before .before .before .before .before .before .before .before .before .before .before .before .before .before .before .pre .0, c .before .before .before .before .before .before .before .before .before .before .before .before .before .before .before .before .before .before .pre .1, c .before .before .before .before .before .before .before .before .before .before .before .if1 .left)
 
--- src/lib.rt:1215:1
+-- src/lib.rt:1216:1
 one-same-length : (t : ℕ) → one-lts.Need-same-length (
   stop-reads.Asked,
   stop-reads.Learnt,
@@ -18828,7 +18905,7 @@ one-same-length : (t : ℕ) → one-lts.Need-same-length (
 ) (one-at t) one.Post
 one-same-length t c = c .before .before .nu .kept .1 .1 .1 .1 .1 .1 .0 ∙ c .before .before .before .before .before .before .before .comment-above .kept .1 .1 .1 .1 .1 .0
 
--- src/lib.rt:1215:1
+-- src/lib.rt:1216:1
 one-returns-3 : (t : ℕ) → one-lts.Need-returns-3 (
   stop-reads.Asked,
   stop-reads.Learnt,
@@ -18841,7 +18918,7 @@ one-returns-3 : (t : ℕ) → one-lts.Need-returns-3 (
 ) (one-at t) one.Post
 one-returns-3 t c = record { is = dec-form _ _ (c .before .before .before .before .before .before .before .before .before .before .before .before .before .before .if1 .left) (declaration-is (c .before .before .before .before .before .before .before .before .before .before .before .before .before .declared .ensures) (c .before .before .before .before .before .before .before .before .before .before .before .k .given .1) (c .before .before .before .before .before .before .before .comment-above .ensures) (c .before .before .nu .ensures .is)) }
 
--- src/lib.rt:223:5
+-- src/lib.rt:224:5
 pa-word-requires : (t : ℕ) → pa-lts.Need-word-requires (
   word-reads.Asked,
   word-reads.Learnt,
@@ -18852,7 +18929,7 @@ pa-word-requires : (t : ℕ) → pa-lts.Need-word-requires (
 ) (pa-at t) pa.Post
 pa-word-requires t c κs = search needs
 
--- src/lib.rt:224:9
+-- src/lib.rt:225:9
 pa-exp-requires : (t : ℕ) → pa-lts.Need-exp-requires (
   word-reads.Asked,
   word-reads.Learnt,
@@ -18863,7 +18940,7 @@ pa-exp-requires : (t : ℕ) → pa-lts.Need-exp-requires (
 ) (pa-at t) pa.Post
 pa-exp-requires t c κs = omega (arith, c .before .before .before .before .before .before .before .before .before .before .before .before .before .pre .0, c .before .before .before .before .before .before .before .before .before .before .before .before .before .pre .1)
 
--- src/lib.rt:225:28
+-- src/lib.rt:226:28
 pa-told-requires : (t : ℕ) → pa-lts.Need-told-requires (
   word-reads.Asked,
   word-reads.Learnt,
@@ -18874,7 +18951,7 @@ pa-told-requires : (t : ℕ) → pa-lts.Need-told-requires (
 ) (pa-at t) pa.Post
 pa-told-requires t c κs = search needs
 
--- src/lib.rt:225:22
+-- src/lib.rt:226:22
 pa-enum-known-s1 : (t : ℕ) → pa-lts.Need-enum-known-s1 (
   word-reads.Asked,
   word-reads.Learnt,
@@ -18885,7 +18962,7 @@ pa-enum-known-s1 : (t : ℕ) → pa-lts.Need-enum-known-s1 (
 ) (pa-at t) pa.Post
 pa-enum-known-s1 t c = search needs
 
--- src/lib.rt:226:9
+-- src/lib.rt:227:9
 pa-enum-told : (t : ℕ) → pa-lts.Need-enum-told (
   word-reads.Asked,
   word-reads.Learnt,
@@ -18896,7 +18973,7 @@ pa-enum-told : (t : ℕ) → pa-lts.Need-enum-told (
 ) (pa-at t) pa.Post
 pa-enum-told t c = search needs
 
--- src/lib.rt:226:9
+-- src/lib.rt:227:9
 pa-same-length : (t : ℕ) → pa-lts.Need-same-length (
   word-reads.Asked,
   word-reads.Learnt,
@@ -18907,7 +18984,7 @@ pa-same-length : (t : ℕ) → pa-lts.Need-same-length (
 ) (pa-at t) pa.Post
 pa-same-length t c = c .before .before .before .before .before .exp .kept .1 .1 .1 .1 .1 .1 .0 ∙ c .before .before .before .before .before .before .before .before .before .before .word .kept .1 .1 .0
 
--- src/lib.rt:226:9
+-- src/lib.rt:227:9
 pa-returns : (t : ℕ) → pa-lts.Need-returns (
   word-reads.Asked,
   word-reads.Learnt,
@@ -18919,7 +18996,7 @@ pa-returns : (t : ℕ) → pa-lts.Need-returns (
 unfolding Exp.exp
 pa-returns t c = record { is = then-sure (c .before .before .before .before .before .before .before .before .before .before .word .ensures) (then-stop (c .before .before .before .before .before .exp .ensures .is) (c .before .before .told .ensures) (c .enum-told .given .1)) }
 
--- src/lib.rt:228:5
+-- src/lib.rt:229:5
 pa-word-requires-2 : (t : ℕ) → pa-lts.Need-word-requires-2 (
   word-reads.Asked,
   word-reads.Learnt,
@@ -18930,7 +19007,7 @@ pa-word-requires-2 : (t : ℕ) → pa-lts.Need-word-requires-2 (
 ) (pa-at t) pa.Post
 pa-word-requires-2 t c κs = search needs
 
--- src/lib.rt:208:1
+-- src/lib.rt:209:1
 pa-same-length-2 : (t : ℕ) → pa-lts.Need-same-length-2 (
   word-reads.Asked,
   word-reads.Learnt,
@@ -18941,7 +19018,7 @@ pa-same-length-2 : (t : ℕ) → pa-lts.Need-same-length-2 (
 ) (pa-at t) pa.Post
 pa-same-length-2 t c = c .before .before .word2 .kept .1 .1 .0 ∙ c .before .before .before .before .before .before .before .before .before .before .before .exp .kept .1 .1 .1 .1 .1 .1 .0 ∙ c .before .before .before .before .before .before .before .before .before .before .before .before .before .before .before .before .word .kept .1 .1 .0
 
--- src/lib.rt:208:1
+-- src/lib.rt:209:1
 pa-returns-2 : (t : ℕ) → pa-lts.Need-returns-2 (
   word-reads.Asked,
   word-reads.Learnt,
@@ -18953,7 +19030,7 @@ pa-returns-2 : (t : ℕ) → pa-lts.Need-returns-2 (
 unfolding Exp.exp
 pa-returns-2 t c = record { is = then-sure (c .before .before .before .before .before .before .before .before .before .before .before .before .before .before .before .before .word .ensures) (then-done (c .before .before .before .before .before .before .before .before .before .before .before .exp .ensures .is) (c .before .before .before .before .before .before .before .before .told .ensures) (c .before .before .before .before .before .before .s1 .given .1) (last-sure (c .before .before .word2 .ensures))) }
 
--- src/lib.rt:730:5
+-- src/lib.rt:731:5
 pr-word-requires : (t : ℕ) → pr-lts.Need-word-requires (
   word-reads.Asked,
   word-reads.Learnt,
@@ -18962,7 +19039,7 @@ pr-word-requires : (t : ℕ) → pr-lts.Need-word-requires (
 ) (pr-at t) pr.Post
 pr-word-requires t c κs = search needs
 
--- src/lib.rt:731:5
+-- src/lib.rt:732:5
 pr-exp-requires : (t : ℕ) → pr-lts.Need-exp-requires (
   word-reads.Asked,
   word-reads.Learnt,
@@ -18971,7 +19048,7 @@ pr-exp-requires : (t : ℕ) → pr-lts.Need-exp-requires (
 ) (pr-at t) pr.Post
 pr-exp-requires t c κs = omega (arith, c .before .before .before .before .before .before .before .before .before .before .before .before .before .pre .0, c .before .before .before .before .before .before .before .before .before .before .before .before .before .pre .1)
 
--- src/lib.rt:714:1
+-- src/lib.rt:715:1
 pr-same-length : (t : ℕ) → pr-lts.Need-same-length (
   word-reads.Asked,
   word-reads.Learnt,
@@ -18980,7 +19057,7 @@ pr-same-length : (t : ℕ) → pr-lts.Need-same-length (
 ) (pr-at t) pr.Post
 pr-same-length t c = c .before .before .exp .kept .1 .1 .1 .1 .1 .1 .0 ∙ c .before .before .before .before .before .before .before .word .kept .1 .1 .0
 
--- src/lib.rt:714:1
+-- src/lib.rt:715:1
 pr-returns : (t : ℕ) → pr-lts.Need-returns (
   word-reads.Asked,
   word-reads.Learnt,
@@ -18989,7 +19066,7 @@ pr-returns : (t : ℕ) → pr-lts.Need-returns (
 ) (pr-at t) pr.Post
 pr-returns t c = record { is = then-sure (c .before .before .before .before .before .before .before .word .ensures) (c .before .before .exp .ensures .is) }
 
--- src/lib.rt:891:29
+-- src/lib.rt:892:29
 qb-absent-requires : (t : ℕ) → qb-lts.Need-absent-requires (
   absent-reads.Asked,
   absent-reads.Learnt,
@@ -19012,7 +19089,7 @@ qb-absent-requires : (t : ℕ) → qb-lts.Need-absent-requires (
 ) (qb-at t) qb.Post
 qb-absent-requires t c κs = search needs
 
--- src/lib.rt:891:23
+-- src/lib.rt:892:23
 qb-enum-known-s0 : (t : ℕ) → qb-lts.Need-enum-known-s0 (
   absent-reads.Asked,
   absent-reads.Learnt,
@@ -19035,7 +19112,7 @@ qb-enum-known-s0 : (t : ℕ) → qb-lts.Need-enum-known-s0 (
 ) (qb-at t) qb.Post
 qb-enum-known-s0 t c = search needs
 
--- src/lib.rt:892:9
+-- src/lib.rt:893:9
 qb-returns : (t : ℕ) → qb-lts.Need-returns (
   absent-reads.Asked,
   absent-reads.Learnt,
@@ -19081,7 +19158,7 @@ qb-enum-told : (t : ℕ) → qb-lts.Need-enum-told (
 ) (qb-at t) qb.Post
 qb-enum-told t c = search needs
 
--- src/lib.rt:894:9
+-- src/lib.rt:895:9
 qb-group-requires : (t : ℕ) → qb-lts.Need-group-requires (
   absent-reads.Asked,
   absent-reads.Learnt,
@@ -19104,7 +19181,7 @@ qb-group-requires : (t : ℕ) → qb-lts.Need-group-requires (
 ) (qb-at t) qb.Post
 qb-group-requires t c κs = search needs
 
--- src/lib.rt:895:28
+-- src/lib.rt:896:28
 qb-told-requires : (t : ℕ) → qb-lts.Need-told-requires (
   absent-reads.Asked,
   absent-reads.Learnt,
@@ -19127,7 +19204,7 @@ qb-told-requires : (t : ℕ) → qb-lts.Need-told-requires (
 ) (qb-at t) qb.Post
 qb-told-requires t c κs = search needs
 
--- src/lib.rt:895:22
+-- src/lib.rt:896:22
 qb-enum-known-s1 : (t : ℕ) → qb-lts.Need-enum-known-s1 (
   absent-reads.Asked,
   absent-reads.Learnt,
@@ -19150,7 +19227,7 @@ qb-enum-known-s1 : (t : ℕ) → qb-lts.Need-enum-known-s1 (
 ) (qb-at t) qb.Post
 qb-enum-known-s1 t c = search needs
 
--- src/lib.rt:896:9
+-- src/lib.rt:897:9
 qb-enum-told-2 : (t : ℕ) → qb-lts.Need-enum-told-2 (
   absent-reads.Asked,
   absent-reads.Learnt,
@@ -19173,7 +19250,7 @@ qb-enum-told-2 : (t : ℕ) → qb-lts.Need-enum-told-2 (
 ) (qb-at t) qb.Post
 qb-enum-told-2 t c = search needs
 
--- src/lib.rt:896:9
+-- src/lib.rt:897:9
 qb-returns-2 : (t : ℕ) → qb-lts.Need-returns-2 (
   absent-reads.Asked,
   absent-reads.Learnt,
@@ -19197,7 +19274,7 @@ qb-returns-2 : (t : ℕ) → qb-lts.Need-returns-2 (
 unfolding Exp.eq-body Exp.get-body-exp Exp.get-body-exp-level Exp.indented-levels
 qb-returns-2 t c = record { is = by-same (maybe-there (c .before .before .before .before .before .before .absent .ensures) (c .before .before .before .before .enum-told .given .1)) (group-not (c .before .before .before .group .ensures) (c .before .before .told .ensures) (c .enum-told2 .given .1)) }
 
--- src/lib.rt:898:5
+-- src/lib.rt:899:5
 qb-word-requires : (t : ℕ) → qb-lts.Need-word-requires (
   absent-reads.Asked,
   absent-reads.Learnt,
@@ -19220,7 +19297,7 @@ qb-word-requires : (t : ℕ) → qb-lts.Need-word-requires (
 ) (qb-at t) qb.Post
 qb-word-requires t c κs = search needs
 
--- src/lib.rt:899:28
+-- src/lib.rt:900:28
 qb-expression-requires : (t : ℕ) → qb-lts.Need-expression-requires (
   absent-reads.Asked,
   absent-reads.Learnt,
@@ -19243,7 +19320,7 @@ qb-expression-requires : (t : ℕ) → qb-lts.Need-expression-requires (
 ) (qb-at t) qb.Post
 qb-expression-requires t c κs = search needs
 
--- src/lib.rt:899:18
+-- src/lib.rt:900:18
 qb-enum-known--k : (t : ℕ) → qb-lts.Need-enum-known--k (
   absent-reads.Asked,
   absent-reads.Learnt,
@@ -19266,7 +19343,7 @@ qb-enum-known--k : (t : ℕ) → qb-lts.Need-enum-known--k (
 ) (qb-at t) qb.Post
 qb-enum-known--k t c = search needs
 
--- src/lib.rt:900:9
+-- src/lib.rt:901:9
 qb-enum-told-3 : (t : ℕ) → qb-lts.Need-enum-told-3 (
   absent-reads.Asked,
   absent-reads.Learnt,
@@ -19289,7 +19366,7 @@ qb-enum-told-3 : (t : ℕ) → qb-lts.Need-enum-told-3 (
 ) (qb-at t) qb.Post
 qb-enum-told-3 t c = search needs
 
--- src/lib.rt:900:9
+-- src/lib.rt:901:9
 qb-stop-requires : (t : ℕ) → qb-lts.Need-stop-requires (
   absent-reads.Asked,
   absent-reads.Learnt,
@@ -19312,7 +19389,7 @@ qb-stop-requires : (t : ℕ) → qb-lts.Need-stop-requires (
 ) (qb-at t) qb.Post
 qb-stop-requires t c κs = search needs
 
--- src/lib.rt:900:9
+-- src/lib.rt:901:9
 qb-same-length : (t : ℕ) → qb-lts.Need-same-length (
   absent-reads.Asked,
   absent-reads.Learnt,
@@ -19335,7 +19412,7 @@ qb-same-length : (t : ℕ) → qb-lts.Need-same-length (
 ) (qb-at t) qb.Post
 qb-same-length t c = c .before .before .before .before .before .before .word .kept .1 .1 .0
 
--- src/lib.rt:900:9
+-- src/lib.rt:901:9
 qb-returns-3 : (t : ℕ) → qb-lts.Need-returns-3 (
   absent-reads.Asked,
   absent-reads.Learnt,
@@ -19359,7 +19436,7 @@ qb-returns-3 : (t : ℕ) → qb-lts.Need-returns-3 (
 unfolding Exp.eq-body Exp.get-body-exp Exp.get-body-exp-level Exp.indented-levels
 qb-returns-3 t c = record { is = by-same (maybe-there (c .before .before .before .before .before .before .before .before .before .before .before .before .before .before .before .before .absent .ensures) (c .before .before .before .before .before .before .before .before .before .before .before .before .before .before .enum-told .given .1)) (by-same (group-is (c .before .before .before .before .before .before .before .before .before .before .before .before .before .group .ensures) (c .before .before .before .before .before .before .before .before .before .before .before .before .told .ensures) (c .before .before .before .before .before .before .before .before .before .before .s1 .given .1)) (then-sure (c .before .before .before .before .before .before .word .ensures) (look-not (c .stop .ensures) (c .before .before .before .expression .ensures) (c .before .enum-told3 .given .1)))) }
 
--- src/lib.rt:902:8
+-- src/lib.rt:903:8
 qb-body-exp-needs-newline-requires : (t : ℕ) → qb-lts.Need-body-exp-needs-newline-requires (
   absent-reads.Asked,
   absent-reads.Learnt,
@@ -19382,7 +19459,7 @@ qb-body-exp-needs-newline-requires : (t : ℕ) → qb-lts.Need-body-exp-needs-ne
 ) (qb-at t) qb.Post
 qb-body-exp-needs-newline-requires t c κs = search needs
 
--- src/lib.rt:903:9
+-- src/lib.rt:904:9
 qb-word-requires-2 : (t : ℕ) → qb-lts.Need-word-requires-2 (
   absent-reads.Asked,
   absent-reads.Learnt,
@@ -19405,7 +19482,7 @@ qb-word-requires-2 : (t : ℕ) → qb-lts.Need-word-requires-2 (
 ) (qb-at t) qb.Post
 qb-word-requires-2 t c κs = search needs
 
--- src/lib.rt:904:9
+-- src/lib.rt:905:9
 qb-dp-requires : (t : ℕ) → qb-lts.Need-dp-requires (
   absent-reads.Asked,
   absent-reads.Learnt,
@@ -19428,7 +19505,7 @@ qb-dp-requires : (t : ℕ) → qb-lts.Need-dp-requires (
 ) (qb-at t) qb.Post
 qb-dp-requires t c κs = omega (arith, c .before .before .before .before .before .before .before .before .before .before .before .before .before .before .before .before .before .before .before .before .before .before .before .before .before .before .before .before .before .before .before .before .pre .0, c .before .before .before .before .before .before .before .before .before .before .before .before .before .before .before .before .before .before .before .before .before .before .before .before .before .before .before .before .before .before .before .before .pre .1)
 
--- src/lib.rt:904:9
+-- src/lib.rt:905:9
 qb-same-length-2 : (t : ℕ) → qb-lts.Need-same-length-2 (
   absent-reads.Asked,
   absent-reads.Learnt,
@@ -19451,7 +19528,7 @@ qb-same-length-2 : (t : ℕ) → qb-lts.Need-same-length-2 (
 ) (qb-at t) qb.Post
 qb-same-length-2 t c = c .before .before .dp .kept .1 .1 .1 .1 .1 .1 .0 ∙ c .before .before .before .before .before .before .before .word2 .kept .1 .1 .0 ∙ c .before .before .before .before .before .before .before .before .before .before .before .before .before .before .before .before .before .before .word .kept .1 .1 .0
 
--- src/lib.rt:904:9
+-- src/lib.rt:905:9
 qb-returns-4 : (t : ℕ) → qb-lts.Need-returns-4 (
   absent-reads.Asked,
   absent-reads.Learnt,
@@ -19475,7 +19552,7 @@ qb-returns-4 : (t : ℕ) → qb-lts.Need-returns-4 (
 unfolding Exp.eq-body Exp.get-body-exp Exp.get-body-exp-level Exp.indented-levels
 qb-returns-4 t c = record { is = by-same (maybe-there (c .before .before .before .before .before .before .before .before .before .before .before .before .before .before .before .before .before .before .before .before .before .before .before .before .before .before .before .before .absent .ensures) (c .before .before .before .before .before .before .before .before .before .before .before .before .before .before .before .before .before .before .before .before .before .before .before .before .before .before .enum-told .given .1)) (by-same (group-is (c .before .before .before .before .before .before .before .before .before .before .before .before .before .before .before .before .before .before .before .before .before .before .before .before .before .group .ensures) (c .before .before .before .before .before .before .before .before .before .before .before .before .before .before .before .before .before .before .before .before .before .before .before .before .told .ensures) (c .before .before .before .before .before .before .before .before .before .before .before .before .before .before .before .before .before .before .before .before .before .before .s1 .given .1)) (then-sure (c .before .before .before .before .before .before .before .before .before .before .before .before .before .before .before .before .before .before .word .ensures) (by-same (look-yes (c .before .before .before .before .before .before .before .before .before .before .before .before .before .before .before .expression .ensures) (c .before .before .before .before .before .before .before .before .before .before .before .before .before .-k .given .1) (c .before .before .before .before .before .before .before .before .before .before .before .body-exp-needs-newline .ensures) (c .before .before .before .before .before .before .before .before .before .before .if1 .taken)) (then-sure (c .before .before .before .before .before .before .before .word2 .ensures) (c .before .before .dp .ensures .is))))) }
 
--- src/lib.rt:906:5
+-- src/lib.rt:907:5
 qb-word-requires-3 : (t : ℕ) → qb-lts.Need-word-requires-3 (
   absent-reads.Asked,
   absent-reads.Learnt,
@@ -19498,7 +19575,7 @@ qb-word-requires-3 : (t : ℕ) → qb-lts.Need-word-requires-3 (
 ) (qb-at t) qb.Post
 qb-word-requires-3 t c κs = search needs
 
--- src/lib.rt:907:5
+-- src/lib.rt:908:5
 qb-exp-requires : (t : ℕ) → qb-lts.Need-exp-requires (
   absent-reads.Asked,
   absent-reads.Learnt,
@@ -19521,7 +19598,7 @@ qb-exp-requires : (t : ℕ) → qb-lts.Need-exp-requires (
 ) (qb-at t) qb.Post
 qb-exp-requires t c κs = omega (arith, c .before .before .before .before .before .before .before .before .before .before .before .before .before .before .before .before .before .before .before .before .before .before .before .before .before .before .before .before .before .before .before .before .pre .0, c .before .before .before .before .before .before .before .before .before .before .before .before .before .before .before .before .before .before .before .before .before .before .before .before .before .before .before .before .before .before .before .before .pre .1)
 
--- src/lib.rt:876:1
+-- src/lib.rt:877:1
 qb-same-length-3 : (t : ℕ) → qb-lts.Need-same-length-3 (
   absent-reads.Asked,
   absent-reads.Learnt,
@@ -19544,7 +19621,7 @@ qb-same-length-3 : (t : ℕ) → qb-lts.Need-same-length-3 (
 ) (qb-at t) qb.Post
 qb-same-length-3 t c = c .before .before .exp .kept .1 .1 .1 .1 .1 .1 .0 ∙ c .before .before .before .before .before .before .before .word3 .kept .1 .1 .0 ∙ c .before .before .before .before .before .before .before .before .before .before .before .before .before .before .before .before .before .before .word .kept .1 .1 .0
 
--- src/lib.rt:876:1
+-- src/lib.rt:877:1
 qb-returns-5 : (t : ℕ) → qb-lts.Need-returns-5 (
   absent-reads.Asked,
   absent-reads.Learnt,
@@ -19575,7 +19652,7 @@ qs-Inv-loop run text rec kinds starts lens out₀ mem₀ at cfg n s0 s₀ i₀ o
 abbrev qs-μ-loop : qs-lts.MeasureT-loop
 qs-μ-loop run text rec kinds starts lens out₀ mem₀ at cfg n s0 s₀ i₀ out mem s i = n - i
 
--- src/lib.rt:1165:27
+-- src/lib.rt:1166:27
 qs-list-requires : (t : ℕ) → qs-lts.Need-list-requires (
   list-reads.Asked,
   list-reads.Learnt,
@@ -19590,7 +19667,7 @@ qs-list-requires : (t : ℕ) → qs-lts.Need-list-requires (
 ) (qs-at t) qs.Post qs-Inv-loop qs-μ-loop
 qs-list-requires t c κs = search needs
 
--- src/lib.rt:1165:18
+-- src/lib.rt:1166:18
 qs-enum-known-n : (t : ℕ) → qs-lts.Need-enum-known-n (
   list-reads.Asked,
   list-reads.Learnt,
@@ -19605,7 +19682,7 @@ qs-enum-known-n : (t : ℕ) → qs-lts.Need-enum-known-n (
 ) (qs-at t) qs.Post qs-Inv-loop qs-μ-loop
 qs-enum-known-n t c = search needs
 
--- src/lib.rt:1166:9
+-- src/lib.rt:1167:9
 qs-enum-told : (t : ℕ) → qs-lts.Need-enum-told (
   list-reads.Asked,
   list-reads.Learnt,
@@ -19620,7 +19697,7 @@ qs-enum-told : (t : ℕ) → qs-lts.Need-enum-told (
 ) (qs-at t) qs.Post qs-Inv-loop qs-μ-loop
 qs-enum-told t c = search needs
 
--- src/lib.rt:1166:9
+-- src/lib.rt:1167:9
 qs-stop-requires : (t : ℕ) → qs-lts.Need-stop-requires (
   list-reads.Asked,
   list-reads.Learnt,
@@ -19635,7 +19712,7 @@ qs-stop-requires : (t : ℕ) → qs-lts.Need-stop-requires (
 ) (qs-at t) qs.Post qs-Inv-loop qs-μ-loop
 qs-stop-requires t c κs = search needs
 
--- src/lib.rt:1166:9
+-- src/lib.rt:1167:9
 qs-returns : (t : ℕ) → qs-lts.Need-returns (
   list-reads.Asked,
   list-reads.Learnt,
@@ -19651,7 +19728,7 @@ qs-returns : (t : ℕ) → qs-lts.Need-returns (
 unfolding GetDec.dec-in-seqs Helpers.sep-with-lines
 qs-returns t c = record { is = list-not (c .stop .ensures) (c .before .before .before .list .ensures) (c .before .enum-told .given .1) }
 
--- src/lib.rt:1170:5
+-- src/lib.rt:1171:5
 qs-loop-holds : (t : ℕ) → qs-lts.Need-loop-holds (
   list-reads.Asked,
   list-reads.Learnt,
@@ -19666,7 +19743,7 @@ qs-loop-holds : (t : ℕ) → qs-lts.Need-loop-holds (
 ) (qs-at t) qs.Post qs-Inv-loop qs-μ-loop
 qs-loop-holds t c = (omega arith, λ r m o h. h, refl)
 
--- src/lib.rt:1171:9
+-- src/lib.rt:1172:9
 qs-new-line-requires : (t : ℕ) → qs-lts.Need-new-line-requires (
   list-reads.Asked,
   list-reads.Learnt,
@@ -19681,7 +19758,7 @@ qs-new-line-requires : (t : ℕ) → qs-lts.Need-new-line-requires (
 ) (qs-at t) qs.Post qs-Inv-loop qs-μ-loop
 qs-new-line-requires t c κs = search needs
 
--- src/lib.rt:1172:13
+-- src/lib.rt:1173:13
 qs-sq-requires : (t : ℕ) → qs-lts.Need-sq-requires (
   list-reads.Asked,
   list-reads.Learnt,
@@ -19696,7 +19773,7 @@ qs-sq-requires : (t : ℕ) → qs-lts.Need-sq-requires (
 ) (qs-at t) qs.Post qs-Inv-loop qs-μ-loop
 qs-sq-requires t c κs = omega (arith, c .before .before .before .before .before .before .before .before .before .before .before .before .before .before .before .before .before .before .before .pre .0, c .before .before .before .before .before .before .before .before .before .before .before .before .before .before .before .before .before .before .before .pre .1)
 
--- src/lib.rt:1173:32
+-- src/lib.rt:1174:32
 qs-told-requires : (t : ℕ) → qs-lts.Need-told-requires (
   list-reads.Asked,
   list-reads.Learnt,
@@ -19711,7 +19788,7 @@ qs-told-requires : (t : ℕ) → qs-lts.Need-told-requires (
 ) (qs-at t) qs.Post qs-Inv-loop qs-μ-loop
 qs-told-requires t c κs = search needs
 
--- src/lib.rt:1173:26
+-- src/lib.rt:1174:26
 qs-enum-known-s1 : (t : ℕ) → qs-lts.Need-enum-known-s1 (
   list-reads.Asked,
   list-reads.Learnt,
@@ -19726,7 +19803,7 @@ qs-enum-known-s1 : (t : ℕ) → qs-lts.Need-enum-known-s1 (
 ) (qs-at t) qs.Post qs-Inv-loop qs-μ-loop
 qs-enum-known-s1 t c = search needs
 
--- src/lib.rt:1174:13
+-- src/lib.rt:1175:13
 qs-enum-told-2 : (t : ℕ) → qs-lts.Need-enum-told-2 (
   list-reads.Asked,
   list-reads.Learnt,
@@ -19741,7 +19818,7 @@ qs-enum-told-2 : (t : ℕ) → qs-lts.Need-enum-told-2 (
 ) (qs-at t) qs.Post qs-Inv-loop qs-μ-loop
 qs-enum-told-2 t c = search needs
 
--- src/lib.rt:1174:13
+-- src/lib.rt:1175:13
 qs-same-length : (t : ℕ) → qs-lts.Need-same-length (
   list-reads.Asked,
   list-reads.Learnt,
@@ -19756,7 +19833,7 @@ qs-same-length : (t : ℕ) → qs-lts.Need-same-length (
 ) (qs-at t) qs.Post qs-Inv-loop qs-μ-loop
 qs-same-length t c = c .before .before .before .before .before .sq .kept .1 .1 .1 .1 .1 .1 .0 ∙ c .before .before .before .before .before .before .before .before .before .before .new-line .kept .1 .1 .0 ∙ c .before .before .before .before .before .before .before .before .before .before .before .before .before .before .loop .inv .2
 
--- src/lib.rt:1174:13
+-- src/lib.rt:1175:13
 qs-returns-2 : (t : ℕ) → qs-lts.Need-returns-2 (
   list-reads.Asked,
   list-reads.Learnt,
@@ -19772,7 +19849,7 @@ qs-returns-2 : (t : ℕ) → qs-lts.Need-returns-2 (
 unfolding GetDec.dec-in-seqs Helpers.sep-with-lines
 qs-returns-2 t c = record { is = by-same (list-is (c .before .before .before .before .before .before .before .before .before .before .before .before .before .before .before .before .before .before .list .ensures) (c .before .before .before .before .before .before .before .before .before .before .before .before .before .before .before .before .n .given .1)) (by-same (items-all _ _ _) (c .before .before .before .before .before .before .before .before .before .before .before .before .before .before .loop .inv .1 _ _ _ (from-more _ _ (c .before .before .before .before .before .before .before .before .before .before .before .before .before .loop-test .taken) (then-sure (c .before .before .before .before .before .before .before .before .before .before .new-line .ensures) (then-stop (c .before .before .before .before .before .sq .ensures .is) (c .before .before .told .ensures) (c .enum-told2 .given .1)))))) }
 
--- src/lib.rt:1177:9
+-- src/lib.rt:1178:9
 qs-add-i : (t : ℕ) → qs-lts.Need-add-i (
   list-reads.Asked,
   list-reads.Learnt,
@@ -19787,7 +19864,7 @@ qs-add-i : (t : ℕ) → qs-lts.Need-add-i (
 ) (qs-at t) qs.Post qs-Inv-loop qs-μ-loop
 qs-add-i t c = omega (arith, c .before .before .before .before .before .before .before .before .before .before .before .before .before .before .loop-test .taken, c .before .before .before .before .before .before .before .before .before .before .before .before .before .before .before .before .known-told)
 
--- src/lib.rt:1170:5
+-- src/lib.rt:1171:5
 qs-loop-less : (t : ℕ) → qs-lts.Need-loop-less (
   list-reads.Asked,
   list-reads.Learnt,
@@ -19802,7 +19879,7 @@ qs-loop-less : (t : ℕ) → qs-lts.Need-loop-less (
 ) (qs-at t) qs.Post qs-Inv-loop qs-μ-loop
 qs-loop-less t c = omega arith
 
--- src/lib.rt:1170:5
+-- src/lib.rt:1171:5
 qs-loop-again : (t : ℕ) → qs-lts.Need-loop-again (
   list-reads.Asked,
   list-reads.Learnt,
@@ -19818,7 +19895,7 @@ qs-loop-again : (t : ℕ) → qs-lts.Need-loop-again (
 unfolding GetDec.dec-in-seqs Helpers.sep-with-lines
 qs-loop-again t c = (omega (arith, c .before .before .before .before .before .before .before .before .before .before .before .before .before .before .before .loop .inv .0), λ r m o h. c .before .before .before .before .before .before .before .before .before .before .before .before .before .before .before .loop .inv .1 r m o (from-more _ _ (c .before .before .before .before .before .before .before .before .before .before .before .before .before .before .loop-test .taken) (then-sure (c .before .before .before .before .before .before .before .before .before .before .before .new-line .ensures) (then-done (c .before .before .before .before .before .before .sq .ensures .is) (c .before .before .before .told .ensures) (c .before .s1 .given .1) h))), c .before .before .before .before .before .before .sq .kept .1 .1 .1 .1 .1 .1 .0 ∙ c .before .before .before .before .before .before .before .before .before .before .before .new-line .kept .1 .1 .0 ∙ c .before .before .before .before .before .before .before .before .before .before .before .before .before .before .before .loop .inv .2)
 
--- src/lib.rt:1150:1
+-- src/lib.rt:1151:1
 qs-same-length-2 : (t : ℕ) → qs-lts.Need-same-length-2 (
   list-reads.Asked,
   list-reads.Learnt,
@@ -19833,7 +19910,7 @@ qs-same-length-2 : (t : ℕ) → qs-lts.Need-same-length-2 (
 ) (qs-at t) qs.Post qs-Inv-loop qs-μ-loop
 qs-same-length-2 t c = c .before .loop .inv .2
 
--- src/lib.rt:1150:1
+-- src/lib.rt:1151:1
 qs-returns-3 : (t : ℕ) → qs-lts.Need-returns-3 (
   list-reads.Asked,
   list-reads.Learnt,
@@ -19849,7 +19926,7 @@ qs-returns-3 : (t : ℕ) → qs-lts.Need-returns-3 (
 unfolding GetDec.dec-in-seqs Helpers.sep-with-lines
 qs-returns-3 t c = record { is = by-same (list-is (c .before .before .before .before .before .list .ensures) (c .before .before .before .n .given .1)) (by-same (items-all _ _ _) (c .before .loop .inv .1 _ _ _ (from-none _ _ (c .loop-test .left)))) }
 
--- src/lib.rt:198:5
+-- src/lib.rt:199:5
 rc-word-requires : (t : ℕ) → rc-lts.Need-word-requires (
   word-reads.Asked,
   word-reads.Learnt,
@@ -19860,7 +19937,7 @@ rc-word-requires : (t : ℕ) → rc-lts.Need-word-requires (
 ) (rc-at t) rc.Post
 rc-word-requires t c κs = search needs
 
--- src/lib.rt:199:9
+-- src/lib.rt:200:9
 rc-rs-requires : (t : ℕ) → rc-lts.Need-rs-requires (
   word-reads.Asked,
   word-reads.Learnt,
@@ -19871,7 +19948,7 @@ rc-rs-requires : (t : ℕ) → rc-lts.Need-rs-requires (
 ) (rc-at t) rc.Post
 rc-rs-requires t c κs = omega (arith, c .before .before .before .before .before .before .before .before .before .before .before .before .before .pre .0, c .before .before .before .before .before .before .before .before .before .before .before .before .before .pre .1)
 
--- src/lib.rt:200:28
+-- src/lib.rt:201:28
 rc-told-requires : (t : ℕ) → rc-lts.Need-told-requires (
   word-reads.Asked,
   word-reads.Learnt,
@@ -19882,7 +19959,7 @@ rc-told-requires : (t : ℕ) → rc-lts.Need-told-requires (
 ) (rc-at t) rc.Post
 rc-told-requires t c κs = search needs
 
--- src/lib.rt:200:22
+-- src/lib.rt:201:22
 rc-enum-known-s1 : (t : ℕ) → rc-lts.Need-enum-known-s1 (
   word-reads.Asked,
   word-reads.Learnt,
@@ -19893,7 +19970,7 @@ rc-enum-known-s1 : (t : ℕ) → rc-lts.Need-enum-known-s1 (
 ) (rc-at t) rc.Post
 rc-enum-known-s1 t c = search needs
 
--- src/lib.rt:201:9
+-- src/lib.rt:202:9
 rc-enum-told : (t : ℕ) → rc-lts.Need-enum-told (
   word-reads.Asked,
   word-reads.Learnt,
@@ -19904,7 +19981,7 @@ rc-enum-told : (t : ℕ) → rc-lts.Need-enum-told (
 ) (rc-at t) rc.Post
 rc-enum-told t c = search needs
 
--- src/lib.rt:201:9
+-- src/lib.rt:202:9
 rc-same-length : (t : ℕ) → rc-lts.Need-same-length (
   word-reads.Asked,
   word-reads.Learnt,
@@ -19915,7 +19992,7 @@ rc-same-length : (t : ℕ) → rc-lts.Need-same-length (
 ) (rc-at t) rc.Post
 rc-same-length t c = c .before .before .before .before .before .rs .kept .1 .1 .1 .1 .1 .1 .0 ∙ c .before .before .before .before .before .before .before .before .before .before .word .kept .1 .1 .0
 
--- src/lib.rt:201:9
+-- src/lib.rt:202:9
 rc-returns : (t : ℕ) → rc-lts.Need-returns (
   word-reads.Asked,
   word-reads.Learnt,
@@ -19927,7 +20004,7 @@ rc-returns : (t : ℕ) → rc-lts.Need-returns (
 unfolding Exp.exp
 rc-returns t c = record { is = then-sure (c .before .before .before .before .before .before .before .before .before .before .word .ensures) (then-stop (c .before .before .before .before .before .rs .ensures .is) (c .before .before .told .ensures) (c .enum-told .given .1)) }
 
--- src/lib.rt:203:5
+-- src/lib.rt:204:5
 rc-word-requires-2 : (t : ℕ) → rc-lts.Need-word-requires-2 (
   word-reads.Asked,
   word-reads.Learnt,
@@ -19938,7 +20015,7 @@ rc-word-requires-2 : (t : ℕ) → rc-lts.Need-word-requires-2 (
 ) (rc-at t) rc.Post
 rc-word-requires-2 t c κs = search needs
 
--- src/lib.rt:183:1
+-- src/lib.rt:184:1
 rc-same-length-2 : (t : ℕ) → rc-lts.Need-same-length-2 (
   word-reads.Asked,
   word-reads.Learnt,
@@ -19949,7 +20026,7 @@ rc-same-length-2 : (t : ℕ) → rc-lts.Need-same-length-2 (
 ) (rc-at t) rc.Post
 rc-same-length-2 t c = c .before .before .word2 .kept .1 .1 .0 ∙ c .before .before .before .before .before .before .before .before .before .before .before .rs .kept .1 .1 .1 .1 .1 .1 .0 ∙ c .before .before .before .before .before .before .before .before .before .before .before .before .before .before .before .before .word .kept .1 .1 .0
 
--- src/lib.rt:183:1
+-- src/lib.rt:184:1
 rc-returns-2 : (t : ℕ) → rc-lts.Need-returns-2 (
   word-reads.Asked,
   word-reads.Learnt,
@@ -19961,7 +20038,7 @@ rc-returns-2 : (t : ℕ) → rc-lts.Need-returns-2 (
 unfolding Exp.exp
 rc-returns-2 t c = record { is = then-sure (c .before .before .before .before .before .before .before .before .before .before .before .before .before .before .before .before .word .ensures) (then-done (c .before .before .before .before .before .before .before .before .before .before .before .rs .ensures .is) (c .before .before .before .before .before .before .before .before .told .ensures) (c .before .before .before .before .before .before .s1 .given .1) (last-sure (c .before .before .word2 .ensures))) }
 
--- src/lib.rt:130:9
+-- src/lib.rt:131:9
 ro-group-requires : (t : ℕ) → ro-lts.Need-group-requires (
   group-reads.Asked,
   group-reads.Learnt,
@@ -19978,7 +20055,7 @@ ro-group-requires : (t : ℕ) → ro-lts.Need-group-requires (
 ) (ro-at t) ro.Post
 ro-group-requires t c κs = search needs
 
--- src/lib.rt:131:28
+-- src/lib.rt:132:28
 ro-told-requires : (t : ℕ) → ro-lts.Need-told-requires (
   group-reads.Asked,
   group-reads.Learnt,
@@ -19995,7 +20072,7 @@ ro-told-requires : (t : ℕ) → ro-lts.Need-told-requires (
 ) (ro-at t) ro.Post
 ro-told-requires t c κs = search needs
 
--- src/lib.rt:131:22
+-- src/lib.rt:132:22
 ro-enum-known-s1 : (t : ℕ) → ro-lts.Need-enum-known-s1 (
   group-reads.Asked,
   group-reads.Learnt,
@@ -20012,7 +20089,7 @@ ro-enum-known-s1 : (t : ℕ) → ro-lts.Need-enum-known-s1 (
 ) (ro-at t) ro.Post
 ro-enum-known-s1 t c = search needs
 
--- src/lib.rt:132:9
+-- src/lib.rt:133:9
 ro-enum-told : (t : ℕ) → ro-lts.Need-enum-told (
   group-reads.Asked,
   group-reads.Learnt,
@@ -20029,7 +20106,7 @@ ro-enum-told : (t : ℕ) → ro-lts.Need-enum-told (
 ) (ro-at t) ro.Post
 ro-enum-told t c = search needs
 
--- src/lib.rt:132:9
+-- src/lib.rt:133:9
 ro-returns : (t : ℕ) → ro-lts.Need-returns (
   group-reads.Asked,
   group-reads.Learnt,
@@ -20047,7 +20124,7 @@ ro-returns : (t : ℕ) → ro-lts.Need-returns (
 unfolding Exp.exp-row Exp.eq-exp
 ro-returns t c = record { is = group-not (c .before .before .before .group .ensures) (c .before .before .told .ensures) (c .enum-told .given .1) }
 
--- src/lib.rt:134:9
+-- src/lib.rt:135:9
 ro-text-of-requires : (t : ℕ) → ro-lts.Need-text-of-requires (
   group-reads.Asked,
   group-reads.Learnt,
@@ -20064,7 +20141,7 @@ ro-text-of-requires : (t : ℕ) → ro-lts.Need-text-of-requires (
 ) (ro-at t) ro.Post
 ro-text-of-requires t c κs = search needs
 
--- src/lib.rt:135:28
+-- src/lib.rt:136:28
 ro-told-requires-2 : (t : ℕ) → ro-lts.Need-told-requires-2 (
   group-reads.Asked,
   group-reads.Learnt,
@@ -20081,7 +20158,7 @@ ro-told-requires-2 : (t : ℕ) → ro-lts.Need-told-requires-2 (
 ) (ro-at t) ro.Post
 ro-told-requires-2 t c κs = search needs
 
--- src/lib.rt:135:22
+-- src/lib.rt:136:22
 ro-enum-known-s2 : (t : ℕ) → ro-lts.Need-enum-known-s2 (
   group-reads.Asked,
   group-reads.Learnt,
@@ -20098,7 +20175,7 @@ ro-enum-known-s2 : (t : ℕ) → ro-lts.Need-enum-known-s2 (
 ) (ro-at t) ro.Post
 ro-enum-known-s2 t c = search needs
 
--- src/lib.rt:136:9
+-- src/lib.rt:137:9
 ro-enum-told-2 : (t : ℕ) → ro-lts.Need-enum-told-2 (
   group-reads.Asked,
   group-reads.Learnt,
@@ -20115,7 +20192,7 @@ ro-enum-told-2 : (t : ℕ) → ro-lts.Need-enum-told-2 (
 ) (ro-at t) ro.Post
 ro-enum-told-2 t c = search needs
 
--- src/lib.rt:136:9
+-- src/lib.rt:137:9
 ro-same-length : (t : ℕ) → ro-lts.Need-same-length (
   group-reads.Asked,
   group-reads.Learnt,
@@ -20132,7 +20209,7 @@ ro-same-length : (t : ℕ) → ro-lts.Need-same-length (
 ) (ro-at t) ro.Post
 ro-same-length t c = c .before .before .before .before .before .text-of .kept .1 .1 .1 .1 .1 .0
 
--- src/lib.rt:136:9
+-- src/lib.rt:137:9
 ro-returns-2 : (t : ℕ) → ro-lts.Need-returns-2 (
   group-reads.Asked,
   group-reads.Learnt,
@@ -20150,7 +20227,7 @@ ro-returns-2 : (t : ℕ) → ro-lts.Need-returns-2 (
 unfolding Exp.exp-row Exp.eq-exp
 ro-returns-2 t c = record { is = by-same (group-is (c .before .before .before .before .before .before .before .before .before .before .before .before .group .ensures) (c .before .before .before .before .before .before .before .before .before .before .before .told .ensures) (c .before .before .before .before .before .before .before .before .before .s1 .given .1)) (then-stop (plain (c .before .before .before .before .before .text-of .ensures)) (c .before .before .told2 .ensures) (c .enum-told2 .given .1)) }
 
--- src/lib.rt:138:29
+-- src/lib.rt:139:29
 ro-absent-requires : (t : ℕ) → ro-lts.Need-absent-requires (
   group-reads.Asked,
   group-reads.Learnt,
@@ -20167,7 +20244,7 @@ ro-absent-requires : (t : ℕ) → ro-lts.Need-absent-requires (
 ) (ro-at t) ro.Post
 ro-absent-requires t c κs = search needs
 
--- src/lib.rt:138:23
+-- src/lib.rt:139:23
 ro-enum-known-s3 : (t : ℕ) → ro-lts.Need-enum-known-s3 (
   group-reads.Asked,
   group-reads.Learnt,
@@ -20184,7 +20261,7 @@ ro-enum-known-s3 : (t : ℕ) → ro-lts.Need-enum-known-s3 (
 ) (ro-at t) ro.Post
 ro-enum-known-s3 t c = search needs
 
--- src/lib.rt:139:9
+-- src/lib.rt:140:9
 ro-same-length-2 : (t : ℕ) → ro-lts.Need-same-length-2 (
   group-reads.Asked,
   group-reads.Learnt,
@@ -20201,7 +20278,7 @@ ro-same-length-2 : (t : ℕ) → ro-lts.Need-same-length-2 (
 ) (ro-at t) ro.Post
 ro-same-length-2 t c = c .before .before .before .before .before .before .before .before .before .before .text-of .kept .1 .1 .1 .1 .1 .0
 
--- src/lib.rt:139:9
+-- src/lib.rt:140:9
 ro-returns-3 : (t : ℕ) → ro-lts.Need-returns-3 (
   group-reads.Asked,
   group-reads.Learnt,
@@ -20235,7 +20312,7 @@ ro-enum-told-3 : (t : ℕ) → ro-lts.Need-enum-told-3 (
 ) (ro-at t) ro.Post
 ro-enum-told-3 t c = search needs
 
--- src/lib.rt:141:9
+-- src/lib.rt:142:9
 ro-group-requires-2 : (t : ℕ) → ro-lts.Need-group-requires-2 (
   group-reads.Asked,
   group-reads.Learnt,
@@ -20252,7 +20329,7 @@ ro-group-requires-2 : (t : ℕ) → ro-lts.Need-group-requires-2 (
 ) (ro-at t) ro.Post
 ro-group-requires-2 t c κs = search needs
 
--- src/lib.rt:142:28
+-- src/lib.rt:143:28
 ro-told-requires-3 : (t : ℕ) → ro-lts.Need-told-requires-3 (
   group-reads.Asked,
   group-reads.Learnt,
@@ -20269,7 +20346,7 @@ ro-told-requires-3 : (t : ℕ) → ro-lts.Need-told-requires-3 (
 ) (ro-at t) ro.Post
 ro-told-requires-3 t c κs = search needs
 
--- src/lib.rt:142:22
+-- src/lib.rt:143:22
 ro-enum-known-s4 : (t : ℕ) → ro-lts.Need-enum-known-s4 (
   group-reads.Asked,
   group-reads.Learnt,
@@ -20286,7 +20363,7 @@ ro-enum-known-s4 : (t : ℕ) → ro-lts.Need-enum-known-s4 (
 ) (ro-at t) ro.Post
 ro-enum-known-s4 t c = search needs
 
--- src/lib.rt:143:9
+-- src/lib.rt:144:9
 ro-enum-told-4 : (t : ℕ) → ro-lts.Need-enum-told-4 (
   group-reads.Asked,
   group-reads.Learnt,
@@ -20303,7 +20380,7 @@ ro-enum-told-4 : (t : ℕ) → ro-lts.Need-enum-told-4 (
 ) (ro-at t) ro.Post
 ro-enum-told-4 t c = search needs
 
--- src/lib.rt:143:9
+-- src/lib.rt:144:9
 ro-same-length-3 : (t : ℕ) → ro-lts.Need-same-length-3 (
   group-reads.Asked,
   group-reads.Learnt,
@@ -20320,7 +20397,7 @@ ro-same-length-3 : (t : ℕ) → ro-lts.Need-same-length-3 (
 ) (ro-at t) ro.Post
 ro-same-length-3 t c = c .before .before .before .before .before .before .before .before .before .before .before .before .before .text-of .kept .1 .1 .1 .1 .1 .0
 
--- src/lib.rt:143:9
+-- src/lib.rt:144:9
 ro-returns-4 : (t : ℕ) → ro-lts.Need-returns-4 (
   group-reads.Asked,
   group-reads.Learnt,
@@ -20338,7 +20415,7 @@ ro-returns-4 : (t : ℕ) → ro-lts.Need-returns-4 (
 unfolding Exp.exp-row Exp.eq-exp
 ro-returns-4 t c = record { is = by-same (group-is (c .before .before .before .before .before .before .before .before .before .before .before .before .before .before .before .before .before .before .before .before .group .ensures) (c .before .before .before .before .before .before .before .before .before .before .before .before .before .before .before .before .before .before .before .told .ensures) (c .before .before .before .before .before .before .before .before .before .before .before .before .before .before .before .before .before .s1 .given .1)) (then-done (plain (c .before .before .before .before .before .before .before .before .before .before .before .before .before .text-of .ensures)) (c .before .before .before .before .before .before .before .before .before .before .told2 .ensures) (c .before .before .before .before .before .before .before .before .s2 .given .1) (by-same (maybe-there (c .before .before .before .before .before .before .absent .ensures) (c .before .before .before .before .enum-told3 .given .1)) (group-not (c .before .before .before .group2 .ensures) (c .before .before .told3 .ensures) (c .enum-told4 .given .1)))) }
 
--- src/lib.rt:145:5
+-- src/lib.rt:146:5
 ro-word-requires : (t : ℕ) → ro-lts.Need-word-requires (
   group-reads.Asked,
   group-reads.Learnt,
@@ -20355,7 +20432,7 @@ ro-word-requires : (t : ℕ) → ro-lts.Need-word-requires (
 ) (ro-at t) ro.Post
 ro-word-requires t c κs = search needs
 
--- src/lib.rt:146:5
+-- src/lib.rt:147:5
 ro-exp-requires : (t : ℕ) → ro-lts.Need-exp-requires (
   group-reads.Asked,
   group-reads.Learnt,
@@ -20372,7 +20449,7 @@ ro-exp-requires : (t : ℕ) → ro-lts.Need-exp-requires (
 ) (ro-at t) ro.Post
 ro-exp-requires t c κs = omega (arith, c .before .before .before .before .before .before .before .before .before .before .before .before .before .before .before .before .before .before .before .before .before .before .before .before .before .before .before .before .before .before .before .before .before .before .before .pre .0, c .before .before .before .before .before .before .before .before .before .before .before .before .before .before .before .before .before .before .before .before .before .before .before .before .before .before .before .before .before .before .before .before .before .before .before .pre .1)
 
--- src/lib.rt:115:1
+-- src/lib.rt:116:1
 ro-same-length-4 : (t : ℕ) → ro-lts.Need-same-length-4 (
   group-reads.Asked,
   group-reads.Learnt,
@@ -20389,7 +20466,7 @@ ro-same-length-4 : (t : ℕ) → ro-lts.Need-same-length-4 (
 ) (ro-at t) ro.Post
 ro-same-length-4 t c = c .before .before .exp .kept .1 .1 .1 .1 .1 .1 .0 ∙ c .before .before .before .before .before .before .before .word .kept .1 .1 .0 ∙ c .before .before .before .before .before .before .before .before .before .before .before .before .before .before .before .before .before .before .before .before .before .before .before .before .text-of .kept .1 .1 .1 .1 .1 .0
 
--- src/lib.rt:115:1
+-- src/lib.rt:116:1
 ro-returns-5 : (t : ℕ) → ro-lts.Need-returns-5 (
   group-reads.Asked,
   group-reads.Learnt,
@@ -20414,7 +20491,7 @@ rs-Inv-loop run text rec kinds starts lens out₀ mem₀ at cfg n s0 s₀ i₀ o
 abbrev rs-μ-loop : rs-lts.MeasureT-loop
 rs-μ-loop run text rec kinds starts lens out₀ mem₀ at cfg n s0 s₀ i₀ out mem s i = n - i
 
--- src/lib.rt:165:27
+-- src/lib.rt:166:27
 rs-list-requires : (t : ℕ) → rs-lts.Need-list-requires (
   list-reads.Asked,
   list-reads.Learnt,
@@ -20429,7 +20506,7 @@ rs-list-requires : (t : ℕ) → rs-lts.Need-list-requires (
 ) (rs-at t) rs.Post rs-Inv-loop rs-μ-loop
 rs-list-requires t c κs = search needs
 
--- src/lib.rt:165:18
+-- src/lib.rt:166:18
 rs-enum-known-n : (t : ℕ) → rs-lts.Need-enum-known-n (
   list-reads.Asked,
   list-reads.Learnt,
@@ -20444,7 +20521,7 @@ rs-enum-known-n : (t : ℕ) → rs-lts.Need-enum-known-n (
 ) (rs-at t) rs.Post rs-Inv-loop rs-μ-loop
 rs-enum-known-n t c = search needs
 
--- src/lib.rt:166:9
+-- src/lib.rt:167:9
 rs-enum-told : (t : ℕ) → rs-lts.Need-enum-told (
   list-reads.Asked,
   list-reads.Learnt,
@@ -20459,7 +20536,7 @@ rs-enum-told : (t : ℕ) → rs-lts.Need-enum-told (
 ) (rs-at t) rs.Post rs-Inv-loop rs-μ-loop
 rs-enum-told t c = search needs
 
--- src/lib.rt:166:9
+-- src/lib.rt:167:9
 rs-stop-requires : (t : ℕ) → rs-lts.Need-stop-requires (
   list-reads.Asked,
   list-reads.Learnt,
@@ -20474,7 +20551,7 @@ rs-stop-requires : (t : ℕ) → rs-lts.Need-stop-requires (
 ) (rs-at t) rs.Post rs-Inv-loop rs-μ-loop
 rs-stop-requires t c κs = search needs
 
--- src/lib.rt:166:9
+-- src/lib.rt:167:9
 rs-returns : (t : ℕ) → rs-lts.Need-returns (
   list-reads.Asked,
   list-reads.Learnt,
@@ -20490,7 +20567,7 @@ rs-returns : (t : ℕ) → rs-lts.Need-returns (
 unfolding Exp.exp-rows Helpers.sep
 rs-returns t c = record { is = list-not (c .stop .ensures) (c .before .before .before .list .ensures) (c .before .enum-told .given .1) }
 
--- src/lib.rt:170:5
+-- src/lib.rt:171:5
 rs-loop-holds : (t : ℕ) → rs-lts.Need-loop-holds (
   list-reads.Asked,
   list-reads.Learnt,
@@ -20505,7 +20582,7 @@ rs-loop-holds : (t : ℕ) → rs-lts.Need-loop-holds (
 ) (rs-at t) rs.Post rs-Inv-loop rs-μ-loop
 rs-loop-holds t c = (omega arith, λ r m o h. h, refl)
 
--- src/lib.rt:171:9
+-- src/lib.rt:172:9
 rs-between-requires : (t : ℕ) → rs-lts.Need-between-requires (
   list-reads.Asked,
   list-reads.Learnt,
@@ -20520,7 +20597,7 @@ rs-between-requires : (t : ℕ) → rs-lts.Need-between-requires (
 ) (rs-at t) rs.Post rs-Inv-loop rs-μ-loop
 rs-between-requires t c κs = search needs
 
--- src/lib.rt:172:13
+-- src/lib.rt:173:13
 rs-ro-requires : (t : ℕ) → rs-lts.Need-ro-requires (
   list-reads.Asked,
   list-reads.Learnt,
@@ -20535,7 +20612,7 @@ rs-ro-requires : (t : ℕ) → rs-lts.Need-ro-requires (
 ) (rs-at t) rs.Post rs-Inv-loop rs-μ-loop
 rs-ro-requires t c κs = omega (arith, c .before .before .before .before .before .before .before .before .before .before .before .before .before .before .before .before .before .before .before .pre .0, c .before .before .before .before .before .before .before .before .before .before .before .before .before .before .before .before .before .before .before .pre .1)
 
--- src/lib.rt:173:32
+-- src/lib.rt:174:32
 rs-told-requires : (t : ℕ) → rs-lts.Need-told-requires (
   list-reads.Asked,
   list-reads.Learnt,
@@ -20550,7 +20627,7 @@ rs-told-requires : (t : ℕ) → rs-lts.Need-told-requires (
 ) (rs-at t) rs.Post rs-Inv-loop rs-μ-loop
 rs-told-requires t c κs = search needs
 
--- src/lib.rt:173:26
+-- src/lib.rt:174:26
 rs-enum-known-s1 : (t : ℕ) → rs-lts.Need-enum-known-s1 (
   list-reads.Asked,
   list-reads.Learnt,
@@ -20565,7 +20642,7 @@ rs-enum-known-s1 : (t : ℕ) → rs-lts.Need-enum-known-s1 (
 ) (rs-at t) rs.Post rs-Inv-loop rs-μ-loop
 rs-enum-known-s1 t c = search needs
 
--- src/lib.rt:174:13
+-- src/lib.rt:175:13
 rs-enum-told-2 : (t : ℕ) → rs-lts.Need-enum-told-2 (
   list-reads.Asked,
   list-reads.Learnt,
@@ -20580,7 +20657,7 @@ rs-enum-told-2 : (t : ℕ) → rs-lts.Need-enum-told-2 (
 ) (rs-at t) rs.Post rs-Inv-loop rs-μ-loop
 rs-enum-told-2 t c = search needs
 
--- src/lib.rt:174:13
+-- src/lib.rt:175:13
 rs-same-length : (t : ℕ) → rs-lts.Need-same-length (
   list-reads.Asked,
   list-reads.Learnt,
@@ -20595,7 +20672,7 @@ rs-same-length : (t : ℕ) → rs-lts.Need-same-length (
 ) (rs-at t) rs.Post rs-Inv-loop rs-μ-loop
 rs-same-length t c = c .before .before .before .before .before .ro .kept .1 .1 .1 .1 .1 .1 .0 ∙ c .before .before .before .before .before .before .before .before .before .before .between .kept .1 .1 .0 ∙ c .before .before .before .before .before .before .before .before .before .before .before .before .before .before .loop .inv .2
 
--- src/lib.rt:174:13
+-- src/lib.rt:175:13
 rs-returns-2 : (t : ℕ) → rs-lts.Need-returns-2 (
   list-reads.Asked,
   list-reads.Learnt,
@@ -20611,7 +20688,7 @@ rs-returns-2 : (t : ℕ) → rs-lts.Need-returns-2 (
 unfolding Exp.exp-rows Helpers.sep
 rs-returns-2 t c = record { is = by-same (list-is (c .before .before .before .before .before .before .before .before .before .before .before .before .before .before .before .before .before .before .list .ensures) (c .before .before .before .before .before .before .before .before .before .before .before .before .before .before .before .before .n .given .1)) (by-same (items-all _ _ _) (c .before .before .before .before .before .before .before .before .before .before .before .before .before .before .loop .inv .1 _ _ _ (from-more _ _ (c .before .before .before .before .before .before .before .before .before .before .before .before .before .loop-test .taken) (then-sure (c .before .before .before .before .before .before .before .before .before .before .between .ensures) (then-stop (c .before .before .before .before .before .ro .ensures .is) (c .before .before .told .ensures) (c .enum-told2 .given .1)))))) }
 
--- src/lib.rt:177:9
+-- src/lib.rt:178:9
 rs-add-i : (t : ℕ) → rs-lts.Need-add-i (
   list-reads.Asked,
   list-reads.Learnt,
@@ -20626,7 +20703,7 @@ rs-add-i : (t : ℕ) → rs-lts.Need-add-i (
 ) (rs-at t) rs.Post rs-Inv-loop rs-μ-loop
 rs-add-i t c = omega (arith, c .before .before .before .before .before .before .before .before .before .before .before .before .before .before .loop-test .taken, c .before .before .before .before .before .before .before .before .before .before .before .before .before .before .before .before .known-told)
 
--- src/lib.rt:170:5
+-- src/lib.rt:171:5
 rs-loop-less : (t : ℕ) → rs-lts.Need-loop-less (
   list-reads.Asked,
   list-reads.Learnt,
@@ -20641,7 +20718,7 @@ rs-loop-less : (t : ℕ) → rs-lts.Need-loop-less (
 ) (rs-at t) rs.Post rs-Inv-loop rs-μ-loop
 rs-loop-less t c = omega arith
 
--- src/lib.rt:170:5
+-- src/lib.rt:171:5
 rs-loop-again : (t : ℕ) → rs-lts.Need-loop-again (
   list-reads.Asked,
   list-reads.Learnt,
@@ -20657,7 +20734,7 @@ rs-loop-again : (t : ℕ) → rs-lts.Need-loop-again (
 unfolding Exp.exp-rows Helpers.sep
 rs-loop-again t c = (omega (arith, c .before .before .before .before .before .before .before .before .before .before .before .before .before .before .before .loop .inv .0), λ r m o h. c .before .before .before .before .before .before .before .before .before .before .before .before .before .before .before .loop .inv .1 r m o (from-more _ _ (c .before .before .before .before .before .before .before .before .before .before .before .before .before .before .loop-test .taken) (then-sure (c .before .before .before .before .before .before .before .before .before .before .before .between .ensures) (then-done (c .before .before .before .before .before .before .ro .ensures .is) (c .before .before .before .told .ensures) (c .before .s1 .given .1) h))), c .before .before .before .before .before .before .ro .kept .1 .1 .1 .1 .1 .1 .0 ∙ c .before .before .before .before .before .before .before .before .before .before .before .between .kept .1 .1 .0 ∙ c .before .before .before .before .before .before .before .before .before .before .before .before .before .before .before .loop .inv .2)
 
--- src/lib.rt:150:1
+-- src/lib.rt:151:1
 rs-same-length-2 : (t : ℕ) → rs-lts.Need-same-length-2 (
   list-reads.Asked,
   list-reads.Learnt,
@@ -20672,7 +20749,7 @@ rs-same-length-2 : (t : ℕ) → rs-lts.Need-same-length-2 (
 ) (rs-at t) rs.Post rs-Inv-loop rs-μ-loop
 rs-same-length-2 t c = c .before .loop .inv .2
 
--- src/lib.rt:150:1
+-- src/lib.rt:151:1
 rs-returns-3 : (t : ℕ) → rs-lts.Need-returns-3 (
   list-reads.Asked,
   list-reads.Learnt,
@@ -20688,7 +20765,7 @@ rs-returns-3 : (t : ℕ) → rs-lts.Need-returns-3 (
 unfolding Exp.exp-rows Helpers.sep
 rs-returns-3 t c = record { is = by-same (list-is (c .before .before .before .before .before .list .ensures) (c .before .before .before .n .given .1)) (by-same (items-all _ _ _) (c .before .loop .inv .1 _ _ _ (from-none _ _ (c .loop-test .left)))) }
 
--- src/lib.rt:2264:14
+-- src/lib.rt:2265:14
 sa-str-requires : (t : ℕ) → sa-lts.Need-str-requires (
   str-below t,
   str.Post,
@@ -20699,7 +20776,7 @@ sa-str-requires : (t : ℕ) → sa-lts.Need-str-requires (
 ) (sa-at t) sa.Post
 sa-str-requires t c κs = omega (arith, c .before .before .before .before .before .before .before .before .before .pre .0, c .before .before .before .before .before .before .before .before .before .pre .1)
 
--- src/lib.rt:2265:14
+-- src/lib.rt:2266:14
 sa-da-requires : (t : ℕ) → sa-lts.Need-da-requires (
   str-below t,
   str.Post,
@@ -20710,7 +20787,7 @@ sa-da-requires : (t : ℕ) → sa-lts.Need-da-requires (
 ) (sa-at t) sa.Post
 sa-da-requires t c κs = omega (arith, c .before .before .before .before .before .before .before .before .before .pre .0, c .before .before .before .before .before .before .before .before .before .pre .1)
 
--- src/lib.rt:2266:14
+-- src/lib.rt:2267:14
 sa-stop-requires : (t : ℕ) → sa-lts.Need-stop-requires (
   str-below t,
   str.Post,
@@ -20721,7 +20798,7 @@ sa-stop-requires : (t : ℕ) → sa-lts.Need-stop-requires (
 ) (sa-at t) sa.Post
 sa-stop-requires t c κs = search needs
 
--- src/lib.rt:2247:1
+-- src/lib.rt:2248:1
 sa-same-length : (t : ℕ) → sa-lts.Need-same-length (
   str-below t,
   str.Post,
@@ -20732,7 +20809,7 @@ sa-same-length : (t : ℕ) → sa-lts.Need-same-length (
 ) (sa-at t) sa.Post
 sa-same-length t c = c .before .before .str .kept .1 .1 .1 .1 .1 .1 .0
 
--- src/lib.rt:2247:1
+-- src/lib.rt:2248:1
 sa-returns : (t : ℕ) → sa-lts.Need-returns (
   str-below t,
   str.Post,
@@ -20744,7 +20821,7 @@ sa-returns : (t : ℕ) → sa-lts.Need-returns (
 unfolding StrExp.app-arg
 sa-returns t c = record { is = at-key (λ i. StrExp.app-arg (walks (c .before .before .before .before .before .before .before .before .before .before .before .before .args .cfg .left)) (cfgOf (c .before .before .before .before .before .before .before .before .before .before .before .before .args .cfg)) i) (c .before .before .before .before .before .match .keys1) (c .before .before .str .ensures .is) }
 
--- src/lib.rt:2247:1
+-- src/lib.rt:2248:1
 sa-same-length-2 : (t : ℕ) → sa-lts.Need-same-length-2 (
   str-below t,
   str.Post,
@@ -20755,7 +20832,7 @@ sa-same-length-2 : (t : ℕ) → sa-lts.Need-same-length-2 (
 ) (sa-at t) sa.Post
 sa-same-length-2 t c = c .before .before .da .kept .1 .1 .1 .1 .1 .1 .0
 
--- src/lib.rt:2247:1
+-- src/lib.rt:2248:1
 sa-returns-2 : (t : ℕ) → sa-lts.Need-returns-2 (
   str-below t,
   str.Post,
@@ -20767,7 +20844,7 @@ sa-returns-2 : (t : ℕ) → sa-lts.Need-returns-2 (
 unfolding StrExp.app-arg
 sa-returns-2 t c = record { is = at-key (λ i. StrExp.app-arg (walks (c .before .before .before .before .before .before .before .before .before .before .before .before .args .cfg .left)) (cfgOf (c .before .before .before .before .before .before .before .before .before .before .before .before .args .cfg)) i) (c .before .before .before .before .before .match .keys2) (c .before .before .da .ensures .is) }
 
--- src/lib.rt:2247:1
+-- src/lib.rt:2248:1
 sa-returns-3 : (t : ℕ) → sa-lts.Need-returns-3 (
   str-below t,
   str.Post,
@@ -20779,7 +20856,7 @@ sa-returns-3 : (t : ℕ) → sa-lts.Need-returns-3 (
 unfolding StrExp.app-arg
 sa-returns-3 t c = record { is = beyond ((walks (c .before .before .before .before .before .before .before .before .args .cfg .left) .get-str-exp (cfgOf (c .before .before .before .before .before .before .before .before .args .cfg))) ∷ GetDec.dec-arg (walks (c .before .before .before .before .before .before .before .before .args .cfg .left)) (cfgOf (c .before .before .before .before .before .before .before .before .args .cfg)) ∷ []) (c .before .before .before .before .before .before .before .before .args .which) 2 refl (past (past zero-le (c .before .match .rest .0 .1)) (c .before .match .rest .1)) (c .stop .ensures) }
 
--- src/lib.rt:1755:9
+-- src/lib.rt:1756:9
 sb-group-requires : (t : ℕ) → sb-lts.Need-group-requires (
   group-reads.Asked,
   group-reads.Learnt,
@@ -20798,7 +20875,7 @@ sb-group-requires : (t : ℕ) → sb-lts.Need-group-requires (
 ) (sb-at t) sb.Post
 sb-group-requires t c κs = search needs
 
--- src/lib.rt:1756:28
+-- src/lib.rt:1757:28
 sb-told-requires : (t : ℕ) → sb-lts.Need-told-requires (
   group-reads.Asked,
   group-reads.Learnt,
@@ -20817,7 +20894,7 @@ sb-told-requires : (t : ℕ) → sb-lts.Need-told-requires (
 ) (sb-at t) sb.Post
 sb-told-requires t c κs = search needs
 
--- src/lib.rt:1756:22
+-- src/lib.rt:1757:22
 sb-enum-known-s1 : (t : ℕ) → sb-lts.Need-enum-known-s1 (
   group-reads.Asked,
   group-reads.Learnt,
@@ -20836,7 +20913,7 @@ sb-enum-known-s1 : (t : ℕ) → sb-lts.Need-enum-known-s1 (
 ) (sb-at t) sb.Post
 sb-enum-known-s1 t c = search needs
 
--- src/lib.rt:1757:9
+-- src/lib.rt:1758:9
 sb-enum-told : (t : ℕ) → sb-lts.Need-enum-told (
   group-reads.Asked,
   group-reads.Learnt,
@@ -20855,7 +20932,7 @@ sb-enum-told : (t : ℕ) → sb-lts.Need-enum-told (
 ) (sb-at t) sb.Post
 sb-enum-told t c = search needs
 
--- src/lib.rt:1757:9
+-- src/lib.rt:1758:9
 sb-returns : (t : ℕ) → sb-lts.Need-returns (
   group-reads.Asked,
   group-reads.Learnt,
@@ -20875,7 +20952,7 @@ sb-returns : (t : ℕ) → sb-lts.Need-returns (
 unfolding DecOne.str-bind
 sb-returns t c = record { is = group-not (c .before .before .before .group .ensures) (c .before .before .told .ensures) (c .enum-told .given .1) }
 
--- src/lib.rt:1759:9
+-- src/lib.rt:1760:9
 sb-text-of-requires : (t : ℕ) → sb-lts.Need-text-of-requires (
   group-reads.Asked,
   group-reads.Learnt,
@@ -20894,7 +20971,7 @@ sb-text-of-requires : (t : ℕ) → sb-lts.Need-text-of-requires (
 ) (sb-at t) sb.Post
 sb-text-of-requires t c κs = search needs
 
--- src/lib.rt:1760:28
+-- src/lib.rt:1761:28
 sb-told-requires-2 : (t : ℕ) → sb-lts.Need-told-requires-2 (
   group-reads.Asked,
   group-reads.Learnt,
@@ -20913,7 +20990,7 @@ sb-told-requires-2 : (t : ℕ) → sb-lts.Need-told-requires-2 (
 ) (sb-at t) sb.Post
 sb-told-requires-2 t c κs = search needs
 
--- src/lib.rt:1760:22
+-- src/lib.rt:1761:22
 sb-enum-known-s2 : (t : ℕ) → sb-lts.Need-enum-known-s2 (
   group-reads.Asked,
   group-reads.Learnt,
@@ -20932,7 +21009,7 @@ sb-enum-known-s2 : (t : ℕ) → sb-lts.Need-enum-known-s2 (
 ) (sb-at t) sb.Post
 sb-enum-known-s2 t c = search needs
 
--- src/lib.rt:1761:9
+-- src/lib.rt:1762:9
 sb-enum-told-2 : (t : ℕ) → sb-lts.Need-enum-told-2 (
   group-reads.Asked,
   group-reads.Learnt,
@@ -20951,7 +21028,7 @@ sb-enum-told-2 : (t : ℕ) → sb-lts.Need-enum-told-2 (
 ) (sb-at t) sb.Post
 sb-enum-told-2 t c = search needs
 
--- src/lib.rt:1761:9
+-- src/lib.rt:1762:9
 sb-same-length : (t : ℕ) → sb-lts.Need-same-length (
   group-reads.Asked,
   group-reads.Learnt,
@@ -20970,7 +21047,7 @@ sb-same-length : (t : ℕ) → sb-lts.Need-same-length (
 ) (sb-at t) sb.Post
 sb-same-length t c = c .before .before .before .before .before .text-of .kept .1 .1 .1 .1 .1 .0
 
--- src/lib.rt:1761:9
+-- src/lib.rt:1762:9
 sb-returns-2 : (t : ℕ) → sb-lts.Need-returns-2 (
   group-reads.Asked,
   group-reads.Learnt,
@@ -20990,7 +21067,7 @@ sb-returns-2 : (t : ℕ) → sb-lts.Need-returns-2 (
 unfolding DecOne.str-bind
 sb-returns-2 t c = record { is = by-same (group-is (c .before .before .before .before .before .before .before .before .before .before .before .before .group .ensures) (c .before .before .before .before .before .before .before .before .before .before .before .told .ensures) (c .before .before .before .before .before .before .before .before .before .s1 .given .1)) (then-stop (plain (c .before .before .before .before .before .text-of .ensures)) (c .before .before .told2 .ensures) (c .enum-told2 .given .1)) }
 
--- src/lib.rt:1763:9
+-- src/lib.rt:1764:9
 sb-ac-requires : (t : ℕ) → sb-lts.Need-ac-requires (
   group-reads.Asked,
   group-reads.Learnt,
@@ -21009,7 +21086,7 @@ sb-ac-requires : (t : ℕ) → sb-lts.Need-ac-requires (
 ) (sb-at t) sb.Post
 sb-ac-requires t c κs = omega (arith, c .before .before .before .before .before .before .before .before .before .before .before .before .before .before .before .before .before .before .before .before .before .before .pre .0, c .before .before .before .before .before .before .before .before .before .before .before .before .before .before .before .before .before .before .before .before .before .before .pre .1)
 
--- src/lib.rt:1764:28
+-- src/lib.rt:1765:28
 sb-told-requires-3 : (t : ℕ) → sb-lts.Need-told-requires-3 (
   group-reads.Asked,
   group-reads.Learnt,
@@ -21028,7 +21105,7 @@ sb-told-requires-3 : (t : ℕ) → sb-lts.Need-told-requires-3 (
 ) (sb-at t) sb.Post
 sb-told-requires-3 t c κs = search needs
 
--- src/lib.rt:1764:22
+-- src/lib.rt:1765:22
 sb-enum-known-s3 : (t : ℕ) → sb-lts.Need-enum-known-s3 (
   group-reads.Asked,
   group-reads.Learnt,
@@ -21047,7 +21124,7 @@ sb-enum-known-s3 : (t : ℕ) → sb-lts.Need-enum-known-s3 (
 ) (sb-at t) sb.Post
 sb-enum-known-s3 t c = search needs
 
--- src/lib.rt:1765:9
+-- src/lib.rt:1766:9
 sb-enum-told-3 : (t : ℕ) → sb-lts.Need-enum-told-3 (
   group-reads.Asked,
   group-reads.Learnt,
@@ -21066,7 +21143,7 @@ sb-enum-told-3 : (t : ℕ) → sb-lts.Need-enum-told-3 (
 ) (sb-at t) sb.Post
 sb-enum-told-3 t c = search needs
 
--- src/lib.rt:1765:9
+-- src/lib.rt:1766:9
 sb-same-length-2 : (t : ℕ) → sb-lts.Need-same-length-2 (
   group-reads.Asked,
   group-reads.Learnt,
@@ -21085,7 +21162,7 @@ sb-same-length-2 : (t : ℕ) → sb-lts.Need-same-length-2 (
 ) (sb-at t) sb.Post
 sb-same-length-2 t c = c .before .before .before .before .before .ac .kept .1 .1 .1 .1 .1 .1 .0 ∙ c .before .before .before .before .before .before .before .before .before .before .before .before .before .before .text-of .kept .1 .1 .1 .1 .1 .0
 
--- src/lib.rt:1765:9
+-- src/lib.rt:1766:9
 sb-returns-3 : (t : ℕ) → sb-lts.Need-returns-3 (
   group-reads.Asked,
   group-reads.Learnt,
@@ -21105,7 +21182,7 @@ sb-returns-3 : (t : ℕ) → sb-lts.Need-returns-3 (
 unfolding DecOne.str-bind
 sb-returns-3 t c = record { is = by-same (group-is (c .before .before .before .before .before .before .before .before .before .before .before .before .before .before .before .before .before .before .before .before .before .group .ensures) (c .before .before .before .before .before .before .before .before .before .before .before .before .before .before .before .before .before .before .before .before .told .ensures) (c .before .before .before .before .before .before .before .before .before .before .before .before .before .before .before .before .before .before .s1 .given .1)) (then-done (plain (c .before .before .before .before .before .before .before .before .before .before .before .before .before .before .text-of .ensures)) (c .before .before .before .before .before .before .before .before .before .before .before .told2 .ensures) (c .before .before .before .before .before .before .before .before .before .s2 .given .1) (then-stop (c .before .before .before .before .before .ac .ensures .is) (c .before .before .told3 .ensures) (c .enum-told3 .given .1))) }
 
--- src/lib.rt:1767:29
+-- src/lib.rt:1768:29
 sb-absent-requires : (t : ℕ) → sb-lts.Need-absent-requires (
   group-reads.Asked,
   group-reads.Learnt,
@@ -21124,7 +21201,7 @@ sb-absent-requires : (t : ℕ) → sb-lts.Need-absent-requires (
 ) (sb-at t) sb.Post
 sb-absent-requires t c κs = search needs
 
--- src/lib.rt:1767:23
+-- src/lib.rt:1768:23
 sb-enum-known-s4 : (t : ℕ) → sb-lts.Need-enum-known-s4 (
   group-reads.Asked,
   group-reads.Learnt,
@@ -21143,7 +21220,7 @@ sb-enum-known-s4 : (t : ℕ) → sb-lts.Need-enum-known-s4 (
 ) (sb-at t) sb.Post
 sb-enum-known-s4 t c = search needs
 
--- src/lib.rt:1768:9
+-- src/lib.rt:1769:9
 sb-same-length-3 : (t : ℕ) → sb-lts.Need-same-length-3 (
   group-reads.Asked,
   group-reads.Learnt,
@@ -21162,7 +21239,7 @@ sb-same-length-3 : (t : ℕ) → sb-lts.Need-same-length-3 (
 ) (sb-at t) sb.Post
 sb-same-length-3 t c = c .before .before .before .before .before .before .before .before .before .before .ac .kept .1 .1 .1 .1 .1 .1 .0 ∙ c .before .before .before .before .before .before .before .before .before .before .before .before .before .before .before .before .before .before .before .text-of .kept .1 .1 .1 .1 .1 .0
 
--- src/lib.rt:1768:9
+-- src/lib.rt:1769:9
 sb-returns-4 : (t : ℕ) → sb-lts.Need-returns-4 (
   group-reads.Asked,
   group-reads.Learnt,
@@ -21200,7 +21277,7 @@ sb-enum-told-4 : (t : ℕ) → sb-lts.Need-enum-told-4 (
 ) (sb-at t) sb.Post
 sb-enum-told-4 t c = search needs
 
--- src/lib.rt:1770:9
+-- src/lib.rt:1771:9
 sb-group-requires-2 : (t : ℕ) → sb-lts.Need-group-requires-2 (
   group-reads.Asked,
   group-reads.Learnt,
@@ -21219,7 +21296,7 @@ sb-group-requires-2 : (t : ℕ) → sb-lts.Need-group-requires-2 (
 ) (sb-at t) sb.Post
 sb-group-requires-2 t c κs = search needs
 
--- src/lib.rt:1771:28
+-- src/lib.rt:1772:28
 sb-told-requires-4 : (t : ℕ) → sb-lts.Need-told-requires-4 (
   group-reads.Asked,
   group-reads.Learnt,
@@ -21238,7 +21315,7 @@ sb-told-requires-4 : (t : ℕ) → sb-lts.Need-told-requires-4 (
 ) (sb-at t) sb.Post
 sb-told-requires-4 t c κs = search needs
 
--- src/lib.rt:1771:22
+-- src/lib.rt:1772:22
 sb-enum-known-s5 : (t : ℕ) → sb-lts.Need-enum-known-s5 (
   group-reads.Asked,
   group-reads.Learnt,
@@ -21257,7 +21334,7 @@ sb-enum-known-s5 : (t : ℕ) → sb-lts.Need-enum-known-s5 (
 ) (sb-at t) sb.Post
 sb-enum-known-s5 t c = search needs
 
--- src/lib.rt:1772:9
+-- src/lib.rt:1773:9
 sb-enum-told-5 : (t : ℕ) → sb-lts.Need-enum-told-5 (
   group-reads.Asked,
   group-reads.Learnt,
@@ -21276,7 +21353,7 @@ sb-enum-told-5 : (t : ℕ) → sb-lts.Need-enum-told-5 (
 ) (sb-at t) sb.Post
 sb-enum-told-5 t c = search needs
 
--- src/lib.rt:1772:9
+-- src/lib.rt:1773:9
 sb-same-length-4 : (t : ℕ) → sb-lts.Need-same-length-4 (
   group-reads.Asked,
   group-reads.Learnt,
@@ -21295,7 +21372,7 @@ sb-same-length-4 : (t : ℕ) → sb-lts.Need-same-length-4 (
 ) (sb-at t) sb.Post
 sb-same-length-4 t c = c .before .before .before .before .before .before .before .before .before .before .before .before .before .ac .kept .1 .1 .1 .1 .1 .1 .0 ∙ c .before .before .before .before .before .before .before .before .before .before .before .before .before .before .before .before .before .before .before .before .before .before .text-of .kept .1 .1 .1 .1 .1 .0
 
--- src/lib.rt:1772:9
+-- src/lib.rt:1773:9
 sb-returns-5 : (t : ℕ) → sb-lts.Need-returns-5 (
   group-reads.Asked,
   group-reads.Learnt,
@@ -21315,7 +21392,7 @@ sb-returns-5 : (t : ℕ) → sb-lts.Need-returns-5 (
 unfolding DecOne.str-bind
 sb-returns-5 t c = record { is = by-same (group-is (c .before .before .before .before .before .before .before .before .before .before .before .before .before .before .before .before .before .before .before .before .before .before .before .before .before .before .before .before .before .group .ensures) (c .before .before .before .before .before .before .before .before .before .before .before .before .before .before .before .before .before .before .before .before .before .before .before .before .before .before .before .before .told .ensures) (c .before .before .before .before .before .before .before .before .before .before .before .before .before .before .before .before .before .before .before .before .before .before .before .before .before .before .s1 .given .1)) (then-done (plain (c .before .before .before .before .before .before .before .before .before .before .before .before .before .before .before .before .before .before .before .before .before .before .text-of .ensures)) (c .before .before .before .before .before .before .before .before .before .before .before .before .before .before .before .before .before .before .before .told2 .ensures) (c .before .before .before .before .before .before .before .before .before .before .before .before .before .before .before .before .before .s2 .given .1) (then-done (c .before .before .before .before .before .before .before .before .before .before .before .before .before .ac .ensures .is) (c .before .before .before .before .before .before .before .before .before .before .told3 .ensures) (c .before .before .before .before .before .before .before .before .s3 .given .1) (by-same (maybe-there (c .before .before .before .before .before .before .absent .ensures) (c .before .before .before .before .enum-told4 .given .1)) (group-not (c .before .before .before .group2 .ensures) (c .before .before .told4 .ensures) (c .enum-told5 .given .1))))) }
 
--- src/lib.rt:1774:5
+-- src/lib.rt:1775:5
 sb-word-requires : (t : ℕ) → sb-lts.Need-word-requires (
   group-reads.Asked,
   group-reads.Learnt,
@@ -21334,7 +21411,7 @@ sb-word-requires : (t : ℕ) → sb-lts.Need-word-requires (
 ) (sb-at t) sb.Post
 sb-word-requires t c κs = search needs
 
--- src/lib.rt:1775:5
+-- src/lib.rt:1776:5
 sb-str-requires : (t : ℕ) → sb-lts.Need-str-requires (
   group-reads.Asked,
   group-reads.Learnt,
@@ -21353,7 +21430,7 @@ sb-str-requires : (t : ℕ) → sb-lts.Need-str-requires (
 ) (sb-at t) sb.Post
 sb-str-requires t c κs = omega (arith, c .before .before .before .before .before .before .before .before .before .before .before .before .before .before .before .before .before .before .before .before .before .before .before .before .before .before .before .before .before .before .before .before .before .before .before .before .before .before .before .before .before .before .before .before .pre .0, c .before .before .before .before .before .before .before .before .before .before .before .before .before .before .before .before .before .before .before .before .before .before .before .before .before .before .before .before .before .before .before .before .before .before .before .before .before .before .before .before .before .before .before .before .pre .1)
 
--- src/lib.rt:1740:1
+-- src/lib.rt:1741:1
 sb-same-length-5 : (t : ℕ) → sb-lts.Need-same-length-5 (
   group-reads.Asked,
   group-reads.Learnt,
@@ -21372,7 +21449,7 @@ sb-same-length-5 : (t : ℕ) → sb-lts.Need-same-length-5 (
 ) (sb-at t) sb.Post
 sb-same-length-5 t c = c .before .before .str .kept .1 .1 .1 .1 .1 .1 .0 ∙ c .before .before .before .before .before .before .before .word .kept .1 .1 .0 ∙ c .before .before .before .before .before .before .before .before .before .before .before .before .before .before .before .before .before .before .before .before .before .before .before .before .ac .kept .1 .1 .1 .1 .1 .1 .0 ∙ c .before .before .before .before .before .before .before .before .before .before .before .before .before .before .before .before .before .before .before .before .before .before .before .before .before .before .before .before .before .before .before .before .before .text-of .kept .1 .1 .1 .1 .1 .0
 
--- src/lib.rt:1740:1
+-- src/lib.rt:1741:1
 sb-returns-6 : (t : ℕ) → sb-lts.Need-returns-6 (
   group-reads.Asked,
   group-reads.Learnt,
@@ -21399,7 +21476,7 @@ sd-Inv-loop run text rec kinds starts lens out₀ mem₀ at cfg n s1 s₀ i₀ o
 abbrev sd-μ-loop : sd-lts.MeasureT-loop
 sd-μ-loop run text rec kinds starts lens out₀ mem₀ at cfg n s1 s₀ i₀ out mem s i = n - i
 
--- src/lib.rt:1721:5
+-- src/lib.rt:1722:5
 sd-word-requires : (t : ℕ) → sd-lts.Need-word-requires (
   word-reads.Asked,
   word-reads.Learnt,
@@ -21416,7 +21493,7 @@ sd-word-requires : (t : ℕ) → sd-lts.Need-word-requires (
 ) (sd-at t) sd.Post sd-Inv-loop sd-μ-loop
 sd-word-requires t c κs = search needs
 
--- src/lib.rt:1722:27
+-- src/lib.rt:1723:27
 sd-list-requires : (t : ℕ) → sd-lts.Need-list-requires (
   word-reads.Asked,
   word-reads.Learnt,
@@ -21433,7 +21510,7 @@ sd-list-requires : (t : ℕ) → sd-lts.Need-list-requires (
 ) (sd-at t) sd.Post sd-Inv-loop sd-μ-loop
 sd-list-requires t c κs = search needs
 
--- src/lib.rt:1722:18
+-- src/lib.rt:1723:18
 sd-enum-known-n : (t : ℕ) → sd-lts.Need-enum-known-n (
   word-reads.Asked,
   word-reads.Learnt,
@@ -21450,7 +21527,7 @@ sd-enum-known-n : (t : ℕ) → sd-lts.Need-enum-known-n (
 ) (sd-at t) sd.Post sd-Inv-loop sd-μ-loop
 sd-enum-known-n t c = search needs
 
--- src/lib.rt:1723:9
+-- src/lib.rt:1724:9
 sd-enum-told : (t : ℕ) → sd-lts.Need-enum-told (
   word-reads.Asked,
   word-reads.Learnt,
@@ -21467,7 +21544,7 @@ sd-enum-told : (t : ℕ) → sd-lts.Need-enum-told (
 ) (sd-at t) sd.Post sd-Inv-loop sd-μ-loop
 sd-enum-told t c = search needs
 
--- src/lib.rt:1723:9
+-- src/lib.rt:1724:9
 sd-stop-requires : (t : ℕ) → sd-lts.Need-stop-requires (
   word-reads.Asked,
   word-reads.Learnt,
@@ -21484,7 +21561,7 @@ sd-stop-requires : (t : ℕ) → sd-lts.Need-stop-requires (
 ) (sd-at t) sd.Post sd-Inv-loop sd-μ-loop
 sd-stop-requires t c κs = search needs
 
--- src/lib.rt:1723:9
+-- src/lib.rt:1724:9
 sd-same-length : (t : ℕ) → sd-lts.Need-same-length (
   word-reads.Asked,
   word-reads.Learnt,
@@ -21501,7 +21578,7 @@ sd-same-length : (t : ℕ) → sd-lts.Need-same-length (
 ) (sd-at t) sd.Post sd-Inv-loop sd-μ-loop
 sd-same-length t c = c .before .before .before .before .before .before .word .kept .1 .1 .0
 
--- src/lib.rt:1723:9
+-- src/lib.rt:1724:9
 sd-returns : (t : ℕ) → sd-lts.Need-returns (
   word-reads.Asked,
   word-reads.Learnt,
@@ -21519,7 +21596,7 @@ sd-returns : (t : ℕ) → sd-lts.Need-returns (
 unfolding DecOne.dec-one Helpers.sep-with-lines
 sd-returns t c = record { is = then-sure (c .before .before .before .before .before .before .word .ensures) (list-not (c .stop .ensures) (c .before .before .before .list .ensures) (c .before .enum-told .given .1)) }
 
--- src/lib.rt:1727:5
+-- src/lib.rt:1728:5
 sd-loop-holds : (t : ℕ) → sd-lts.Need-loop-holds (
   word-reads.Asked,
   word-reads.Learnt,
@@ -21536,7 +21613,7 @@ sd-loop-holds : (t : ℕ) → sd-lts.Need-loop-holds (
 ) (sd-at t) sd.Post sd-Inv-loop sd-μ-loop
 sd-loop-holds t c = (omega arith, λ r m o h. h, refl)
 
--- src/lib.rt:1728:9
+-- src/lib.rt:1729:9
 sd-new-line-requires : (t : ℕ) → sd-lts.Need-new-line-requires (
   word-reads.Asked,
   word-reads.Learnt,
@@ -21553,7 +21630,7 @@ sd-new-line-requires : (t : ℕ) → sd-lts.Need-new-line-requires (
 ) (sd-at t) sd.Post sd-Inv-loop sd-μ-loop
 sd-new-line-requires t c κs = search needs
 
--- src/lib.rt:1729:13
+-- src/lib.rt:1730:13
 sd-sb-requires : (t : ℕ) → sd-lts.Need-sb-requires (
   word-reads.Asked,
   word-reads.Learnt,
@@ -21570,7 +21647,7 @@ sd-sb-requires : (t : ℕ) → sd-lts.Need-sb-requires (
 ) (sd-at t) sd.Post sd-Inv-loop sd-μ-loop
 sd-sb-requires t c κs = omega (arith, c .before .before .before .before .before .before .before .before .before .before .before .before .before .before .before .before .before .before .before .before .before .before .before .before .pre .0, c .before .before .before .before .before .before .before .before .before .before .before .before .before .before .before .before .before .before .before .before .before .before .before .before .pre .1)
 
--- src/lib.rt:1730:32
+-- src/lib.rt:1731:32
 sd-told-requires : (t : ℕ) → sd-lts.Need-told-requires (
   word-reads.Asked,
   word-reads.Learnt,
@@ -21587,7 +21664,7 @@ sd-told-requires : (t : ℕ) → sd-lts.Need-told-requires (
 ) (sd-at t) sd.Post sd-Inv-loop sd-μ-loop
 sd-told-requires t c κs = search needs
 
--- src/lib.rt:1730:26
+-- src/lib.rt:1731:26
 sd-enum-known-s2 : (t : ℕ) → sd-lts.Need-enum-known-s2 (
   word-reads.Asked,
   word-reads.Learnt,
@@ -21604,7 +21681,7 @@ sd-enum-known-s2 : (t : ℕ) → sd-lts.Need-enum-known-s2 (
 ) (sd-at t) sd.Post sd-Inv-loop sd-μ-loop
 sd-enum-known-s2 t c = search needs
 
--- src/lib.rt:1731:13
+-- src/lib.rt:1732:13
 sd-enum-told-2 : (t : ℕ) → sd-lts.Need-enum-told-2 (
   word-reads.Asked,
   word-reads.Learnt,
@@ -21621,7 +21698,7 @@ sd-enum-told-2 : (t : ℕ) → sd-lts.Need-enum-told-2 (
 ) (sd-at t) sd.Post sd-Inv-loop sd-μ-loop
 sd-enum-told-2 t c = search needs
 
--- src/lib.rt:1731:13
+-- src/lib.rt:1732:13
 sd-same-length-2 : (t : ℕ) → sd-lts.Need-same-length-2 (
   word-reads.Asked,
   word-reads.Learnt,
@@ -21638,7 +21715,7 @@ sd-same-length-2 : (t : ℕ) → sd-lts.Need-same-length-2 (
 ) (sd-at t) sd.Post sd-Inv-loop sd-μ-loop
 sd-same-length-2 t c = c .before .before .before .before .before .sb .kept .1 .1 .1 .1 .1 .1 .0 ∙ c .before .before .before .before .before .before .before .before .before .before .new-line .kept .1 .1 .0 ∙ c .before .before .before .before .before .before .before .before .before .before .before .before .before .before .loop .inv .2 ∙ c .before .before .before .before .before .before .before .before .before .before .before .before .before .before .before .before .before .before .before .before .before .word .kept .1 .1 .0
 
--- src/lib.rt:1731:13
+-- src/lib.rt:1732:13
 sd-returns-2 : (t : ℕ) → sd-lts.Need-returns-2 (
   word-reads.Asked,
   word-reads.Learnt,
@@ -21656,7 +21733,7 @@ sd-returns-2 : (t : ℕ) → sd-lts.Need-returns-2 (
 unfolding DecOne.dec-one Helpers.sep-with-lines
 sd-returns-2 t c = record { is = then-sure (c .before .before .before .before .before .before .before .before .before .before .before .before .before .before .before .before .before .before .before .before .before .word .ensures) (by-same (list-is (c .before .before .before .before .before .before .before .before .before .before .before .before .before .before .before .before .before .before .list .ensures) (c .before .before .before .before .before .before .before .before .before .before .before .before .before .before .before .before .n .given .1)) (by-same (items-all _ _ _) (c .before .before .before .before .before .before .before .before .before .before .before .before .before .before .loop .inv .1 _ _ _ (from-more _ _ (c .before .before .before .before .before .before .before .before .before .before .before .before .before .loop-test .taken) (then-sure (c .before .before .before .before .before .before .before .before .before .before .new-line .ensures) (then-stop (c .before .before .before .before .before .sb .ensures .is) (c .before .before .told .ensures) (c .enum-told2 .given .1))))))) }
 
--- src/lib.rt:1734:9
+-- src/lib.rt:1735:9
 sd-add-i : (t : ℕ) → sd-lts.Need-add-i (
   word-reads.Asked,
   word-reads.Learnt,
@@ -21673,7 +21750,7 @@ sd-add-i : (t : ℕ) → sd-lts.Need-add-i (
 ) (sd-at t) sd.Post sd-Inv-loop sd-μ-loop
 sd-add-i t c = omega (arith, c .before .before .before .before .before .before .before .before .before .before .before .before .before .before .loop-test .taken, c .before .before .before .before .before .before .before .before .before .before .before .before .before .before .before .before .known-told)
 
--- src/lib.rt:1727:5
+-- src/lib.rt:1728:5
 sd-loop-less : (t : ℕ) → sd-lts.Need-loop-less (
   word-reads.Asked,
   word-reads.Learnt,
@@ -21690,7 +21767,7 @@ sd-loop-less : (t : ℕ) → sd-lts.Need-loop-less (
 ) (sd-at t) sd.Post sd-Inv-loop sd-μ-loop
 sd-loop-less t c = omega arith
 
--- src/lib.rt:1727:5
+-- src/lib.rt:1728:5
 sd-loop-again : (t : ℕ) → sd-lts.Need-loop-again (
   word-reads.Asked,
   word-reads.Learnt,
@@ -21708,7 +21785,7 @@ sd-loop-again : (t : ℕ) → sd-lts.Need-loop-again (
 unfolding DecOne.dec-one Helpers.sep-with-lines
 sd-loop-again t c = (omega (arith, c .before .before .before .before .before .before .before .before .before .before .before .before .before .before .before .loop .inv .0), λ r m o h. c .before .before .before .before .before .before .before .before .before .before .before .before .before .before .before .loop .inv .1 r m o (from-more _ _ (c .before .before .before .before .before .before .before .before .before .before .before .before .before .before .loop-test .taken) (then-sure (c .before .before .before .before .before .before .before .before .before .before .before .new-line .ensures) (then-done (c .before .before .before .before .before .before .sb .ensures .is) (c .before .before .before .told .ensures) (c .before .s2 .given .1) h))), c .before .before .before .before .before .before .sb .kept .1 .1 .1 .1 .1 .1 .0 ∙ c .before .before .before .before .before .before .before .before .before .before .before .new-line .kept .1 .1 .0 ∙ c .before .before .before .before .before .before .before .before .before .before .before .before .before .before .before .loop .inv .2)
 
--- src/lib.rt:1706:1
+-- src/lib.rt:1707:1
 sd-same-length-3 : (t : ℕ) → sd-lts.Need-same-length-3 (
   word-reads.Asked,
   word-reads.Learnt,
@@ -21725,7 +21802,7 @@ sd-same-length-3 : (t : ℕ) → sd-lts.Need-same-length-3 (
 ) (sd-at t) sd.Post sd-Inv-loop sd-μ-loop
 sd-same-length-3 t c = c .before .loop .inv .2 ∙ c .before .before .before .before .before .before .before .before .word .kept .1 .1 .0
 
--- src/lib.rt:1706:1
+-- src/lib.rt:1707:1
 sd-returns-3 : (t : ℕ) → sd-lts.Need-returns-3 (
   word-reads.Asked,
   word-reads.Learnt,
@@ -21743,7 +21820,7 @@ sd-returns-3 : (t : ℕ) → sd-lts.Need-returns-3 (
 unfolding DecOne.dec-one Helpers.sep-with-lines
 sd-returns-3 t c = record { is = then-sure (c .before .before .before .before .before .before .before .before .word .ensures) (by-same (list-is (c .before .before .before .before .before .list .ensures) (c .before .before .before .n .given .1)) (by-same (items-all _ _ _) (c .before .loop .inv .1 _ _ _ (from-none _ _ (c .loop-test .left))))) }
 
--- src/lib.rt:458:5
+-- src/lib.rt:459:5
 seq-word-requires : (t : ℕ) → seq-lts.Need-word-requires (
   word-reads.Asked,
   word-reads.Learnt,
@@ -21760,7 +21837,7 @@ seq-word-requires : (t : ℕ) → seq-lts.Need-word-requires (
 ) (seq-at t) seq.Post
 seq-word-requires t c κs = search needs
 
--- src/lib.rt:459:5
+-- src/lib.rt:460:5
 seq-indent-deeper-requires : (t : ℕ) → seq-lts.Need-indent-deeper-requires (
   word-reads.Asked,
   word-reads.Learnt,
@@ -21777,7 +21854,7 @@ seq-indent-deeper-requires : (t : ℕ) → seq-lts.Need-indent-deeper-requires (
 ) (seq-at t) seq.Post
 seq-indent-deeper-requires t c κs = omega (arith, c .before .before .before .before .before .before .before .before .before .before .before .before .before .pre .1)
 
--- src/lib.rt:460:9
+-- src/lib.rt:461:9
 seq-indented-requires : (t : ℕ) → seq-lts.Need-indented-requires (
   word-reads.Asked,
   word-reads.Learnt,
@@ -21794,7 +21871,7 @@ seq-indented-requires : (t : ℕ) → seq-lts.Need-indented-requires (
 ) (seq-at t) seq.Post
 seq-indented-requires t c κs = omega (arith, c .before .before .before .before .before .before .before .before .before .before .before .before .before .before .before .before .pre .1)
 
--- src/lib.rt:461:9
+-- src/lib.rt:462:9
 seq-sm-requires : (t : ℕ) → seq-lts.Need-sm-requires (
   word-reads.Asked,
   word-reads.Learnt,
@@ -21811,7 +21888,7 @@ seq-sm-requires : (t : ℕ) → seq-lts.Need-sm-requires (
 ) (seq-at t) seq.Post
 seq-sm-requires t c κs = omega (arith, c .before .before .before .before .before .before .before .before .before .before .before .before .before .before .before .before .before .before .before .pre .0, c .before .before .before .before .before .before .before .before .before .before .before .before .before .before .before .before .before .before .before .pre .1, deep-depth (c .before .before .indented .ensures), deep-left (c .before .before .indented .ensures))
 
--- src/lib.rt:474:28
+-- src/lib.rt:475:28
 seq-told-requires : (t : ℕ) → seq-lts.Need-told-requires (
   word-reads.Asked,
   word-reads.Learnt,
@@ -21828,7 +21905,7 @@ seq-told-requires : (t : ℕ) → seq-lts.Need-told-requires (
 ) (seq-at t) seq.Post
 seq-told-requires t c κs = search needs
 
--- src/lib.rt:474:22
+-- src/lib.rt:475:22
 seq-enum-known-s1 : (t : ℕ) → seq-lts.Need-enum-known-s1 (
   word-reads.Asked,
   word-reads.Learnt,
@@ -21845,7 +21922,7 @@ seq-enum-known-s1 : (t : ℕ) → seq-lts.Need-enum-known-s1 (
 ) (seq-at t) seq.Post
 seq-enum-known-s1 t c = search needs
 
--- src/lib.rt:475:9
+-- src/lib.rt:476:9
 seq-enum-told : (t : ℕ) → seq-lts.Need-enum-told (
   word-reads.Asked,
   word-reads.Learnt,
@@ -21862,7 +21939,7 @@ seq-enum-told : (t : ℕ) → seq-lts.Need-enum-told (
 ) (seq-at t) seq.Post
 seq-enum-told t c = search needs
 
--- src/lib.rt:475:9
+-- src/lib.rt:476:9
 seq-same-length : (t : ℕ) → seq-lts.Need-same-length (
   word-reads.Asked,
   word-reads.Learnt,
@@ -21879,7 +21956,7 @@ seq-same-length : (t : ℕ) → seq-lts.Need-same-length (
 ) (seq-at t) seq.Post
 seq-same-length t c = c .before .before .before .before .before .sm .kept .1 .1 .1 .1 .1 .1 .0 ∙ c .before .before .before .before .before .before .before .before .before .before .before .indent-deeper .kept .0 ∙ c .before .before .before .before .before .before .before .before .before .before .before .before .before .before .before .before .word .kept .1 .1 .0
 
--- src/lib.rt:475:9
+-- src/lib.rt:476:9
 seq-returns : (t : ℕ) → seq-lts.Need-returns (
   word-reads.Asked,
   word-reads.Learnt,
@@ -21897,7 +21974,7 @@ seq-returns : (t : ℕ) → seq-lts.Need-returns (
 unfolding Exp.exp Helpers.indent-deeper Helpers.deepen
 seq-returns t c = record { is = then-sure (c .before .before .before .before .before .before .before .before .before .before .before .before .before .before .before .before .word .ensures) (then-both (c .before .before .before .before .before .before .before .before .before .before .before .indent-deeper .ensures _) (then-stop (along (c .before .before .before .before .before .before .before .before .indented .ensures) (c .before .before .before .before .before .sm .ensures)) (c .before .before .told .ensures) (c .enum-told .given .1))) }
 
--- src/lib.rt:477:5
+-- src/lib.rt:478:5
 seq-line-requires : (t : ℕ) → seq-lts.Need-line-requires (
   word-reads.Asked,
   word-reads.Learnt,
@@ -21914,7 +21991,7 @@ seq-line-requires : (t : ℕ) → seq-lts.Need-line-requires (
 ) (seq-at t) seq.Post
 seq-line-requires t c κs = search needs
 
--- src/lib.rt:478:5
+-- src/lib.rt:479:5
 seq-word-requires-2 : (t : ℕ) → seq-lts.Need-word-requires-2 (
   word-reads.Asked,
   word-reads.Learnt,
@@ -21931,7 +22008,7 @@ seq-word-requires-2 : (t : ℕ) → seq-lts.Need-word-requires-2 (
 ) (seq-at t) seq.Post
 seq-word-requires-2 t c κs = search needs
 
--- src/lib.rt:443:1
+-- src/lib.rt:444:1
 seq-same-length-2 : (t : ℕ) → seq-lts.Need-same-length-2 (
   word-reads.Asked,
   word-reads.Learnt,
@@ -21948,7 +22025,7 @@ seq-same-length-2 : (t : ℕ) → seq-lts.Need-same-length-2 (
 ) (seq-at t) seq.Post
 seq-same-length-2 t c = c .before .before .word2 .kept .1 .1 .0 ∙ c .before .before .before .before .before .before .before .line .kept .1 .1 .0 ∙ c .before .before .before .before .before .before .before .before .before .before .before .before .before .before .before .before .sm .kept .1 .1 .1 .1 .1 .1 .0 ∙ c .before .before .before .before .before .before .before .before .before .before .before .before .before .before .before .before .before .before .before .before .before .before .indent-deeper .kept .0 ∙ c .before .before .before .before .before .before .before .before .before .before .before .before .before .before .before .before .before .before .before .before .before .before .before .before .before .before .before .word .kept .1 .1 .0
 
--- src/lib.rt:443:1
+-- src/lib.rt:444:1
 seq-returns-2 : (t : ℕ) → seq-lts.Need-returns-2 (
   word-reads.Asked,
   word-reads.Learnt,
@@ -21966,7 +22043,7 @@ seq-returns-2 : (t : ℕ) → seq-lts.Need-returns-2 (
 unfolding Exp.exp Helpers.indent-deeper Helpers.deepen
 seq-returns-2 t c = record { is = then-sure (c .before .before .before .before .before .before .before .before .before .before .before .before .before .before .before .before .before .before .before .before .before .before .before .before .before .before .before .word .ensures) (then-both (c .before .before .before .before .before .before .before .before .before .before .before .before .before .before .before .before .before .before .before .before .before .before .indent-deeper .ensures _) (then-done (along (c .before .before .before .before .before .before .before .before .before .before .before .before .before .before .before .before .before .before .before .indented .ensures) (c .before .before .before .before .before .before .before .before .before .before .before .before .before .before .before .before .sm .ensures)) (c .before .before .before .before .before .before .before .before .before .before .before .before .before .told .ensures) (c .before .before .before .before .before .before .before .before .before .before .before .s1 .given .1) (then-both (c .before .before .before .before .before .before .before .line .ensures) (last-sure (c .before .before .word2 .ensures))))) }
 
--- src/lib.rt:2360:5
+-- src/lib.rt:2361:5
 sg-word-requires : (t : ℕ) → sg-lts.Need-word-requires (
   word-reads.Asked,
   word-reads.Learnt,
@@ -21983,7 +22060,7 @@ sg-word-requires : (t : ℕ) → sg-lts.Need-word-requires (
 ) (sg-at t) sg.Post
 sg-word-requires t c κs = search needs
 
--- src/lib.rt:2361:5
+-- src/lib.rt:2362:5
 sg-indent-deeper-requires : (t : ℕ) → sg-lts.Need-indent-deeper-requires (
   word-reads.Asked,
   word-reads.Learnt,
@@ -22000,7 +22077,7 @@ sg-indent-deeper-requires : (t : ℕ) → sg-lts.Need-indent-deeper-requires (
 ) (sg-at t) sg.Post
 sg-indent-deeper-requires t c κs = omega (arith, c .before .before .before .before .before .before .before .before .before .before .before .before .before .pre .1)
 
--- src/lib.rt:2362:9
+-- src/lib.rt:2363:9
 sg-indented-requires : (t : ℕ) → sg-lts.Need-indented-requires (
   word-reads.Asked,
   word-reads.Learnt,
@@ -22017,7 +22094,7 @@ sg-indented-requires : (t : ℕ) → sg-lts.Need-indented-requires (
 ) (sg-at t) sg.Post
 sg-indented-requires t c κs = omega (arith, c .before .before .before .before .before .before .before .before .before .before .before .before .before .before .before .before .pre .1)
 
--- src/lib.rt:2363:9
+-- src/lib.rt:2364:9
 sg-ds-requires : (t : ℕ) → sg-lts.Need-ds-requires (
   word-reads.Asked,
   word-reads.Learnt,
@@ -22034,7 +22111,7 @@ sg-ds-requires : (t : ℕ) → sg-lts.Need-ds-requires (
 ) (sg-at t) sg.Post
 sg-ds-requires t c κs = omega (arith, c .before .before .before .before .before .before .before .before .before .before .before .before .before .before .before .before .before .before .before .pre .0, c .before .before .before .before .before .before .before .before .before .before .before .before .before .before .before .before .before .before .before .pre .1, deep-depth (c .before .before .indented .ensures), deep-left (c .before .before .indented .ensures))
 
--- src/lib.rt:2364:28
+-- src/lib.rt:2365:28
 sg-told-requires : (t : ℕ) → sg-lts.Need-told-requires (
   word-reads.Asked,
   word-reads.Learnt,
@@ -22051,7 +22128,7 @@ sg-told-requires : (t : ℕ) → sg-lts.Need-told-requires (
 ) (sg-at t) sg.Post
 sg-told-requires t c κs = search needs
 
--- src/lib.rt:2364:22
+-- src/lib.rt:2365:22
 sg-enum-known-s1 : (t : ℕ) → sg-lts.Need-enum-known-s1 (
   word-reads.Asked,
   word-reads.Learnt,
@@ -22068,7 +22145,7 @@ sg-enum-known-s1 : (t : ℕ) → sg-lts.Need-enum-known-s1 (
 ) (sg-at t) sg.Post
 sg-enum-known-s1 t c = search needs
 
--- src/lib.rt:2365:9
+-- src/lib.rt:2366:9
 sg-enum-told : (t : ℕ) → sg-lts.Need-enum-told (
   word-reads.Asked,
   word-reads.Learnt,
@@ -22085,7 +22162,7 @@ sg-enum-told : (t : ℕ) → sg-lts.Need-enum-told (
 ) (sg-at t) sg.Post
 sg-enum-told t c = search needs
 
--- src/lib.rt:2365:9
+-- src/lib.rt:2366:9
 sg-same-length : (t : ℕ) → sg-lts.Need-same-length (
   word-reads.Asked,
   word-reads.Learnt,
@@ -22102,7 +22179,7 @@ sg-same-length : (t : ℕ) → sg-lts.Need-same-length (
 ) (sg-at t) sg.Post
 sg-same-length t c = c .before .before .before .before .before .ds .kept .1 .1 .1 .1 .1 .1 .0 ∙ c .before .before .before .before .before .before .before .before .before .before .before .indent-deeper .kept .0 ∙ c .before .before .before .before .before .before .before .before .before .before .before .before .before .before .before .before .word .kept .1 .1 .0
 
--- src/lib.rt:2365:9
+-- src/lib.rt:2366:9
 sg-returns : (t : ℕ) → sg-lts.Need-returns (
   word-reads.Asked,
   word-reads.Learnt,
@@ -22120,7 +22197,7 @@ sg-returns : (t : ℕ) → sg-lts.Need-returns (
 unfolding SigExp.sig-exp Helpers.indent-deeper Helpers.deepen
 sg-returns t c = record { is = then-sure (c .before .before .before .before .before .before .before .before .before .before .before .before .before .before .before .before .word .ensures) (then-both (c .before .before .before .before .before .before .before .before .before .before .before .indent-deeper .ensures _) (then-stop (along (c .before .before .before .before .before .before .before .before .indented .ensures) (c .before .before .before .before .before .ds .ensures)) (c .before .before .told .ensures) (c .enum-told .given .1))) }
 
--- src/lib.rt:2367:5
+-- src/lib.rt:2368:5
 sg-line-requires : (t : ℕ) → sg-lts.Need-line-requires (
   word-reads.Asked,
   word-reads.Learnt,
@@ -22137,7 +22214,7 @@ sg-line-requires : (t : ℕ) → sg-lts.Need-line-requires (
 ) (sg-at t) sg.Post
 sg-line-requires t c κs = search needs
 
--- src/lib.rt:2368:5
+-- src/lib.rt:2369:5
 sg-word-requires-2 : (t : ℕ) → sg-lts.Need-word-requires-2 (
   word-reads.Asked,
   word-reads.Learnt,
@@ -22154,7 +22231,7 @@ sg-word-requires-2 : (t : ℕ) → sg-lts.Need-word-requires-2 (
 ) (sg-at t) sg.Post
 sg-word-requires-2 t c κs = search needs
 
--- src/lib.rt:2345:1
+-- src/lib.rt:2346:1
 sg-same-length-2 : (t : ℕ) → sg-lts.Need-same-length-2 (
   word-reads.Asked,
   word-reads.Learnt,
@@ -22171,7 +22248,7 @@ sg-same-length-2 : (t : ℕ) → sg-lts.Need-same-length-2 (
 ) (sg-at t) sg.Post
 sg-same-length-2 t c = c .before .before .word2 .kept .1 .1 .0 ∙ c .before .before .before .before .before .before .before .line .kept .1 .1 .0 ∙ c .before .before .before .before .before .before .before .before .before .before .before .before .before .before .before .before .ds .kept .1 .1 .1 .1 .1 .1 .0 ∙ c .before .before .before .before .before .before .before .before .before .before .before .before .before .before .before .before .before .before .before .before .before .before .indent-deeper .kept .0 ∙ c .before .before .before .before .before .before .before .before .before .before .before .before .before .before .before .before .before .before .before .before .before .before .before .before .before .before .before .word .kept .1 .1 .0
 
--- src/lib.rt:2345:1
+-- src/lib.rt:2346:1
 sg-returns-2 : (t : ℕ) → sg-lts.Need-returns-2 (
   word-reads.Asked,
   word-reads.Learnt,
@@ -22189,7 +22266,7 @@ sg-returns-2 : (t : ℕ) → sg-lts.Need-returns-2 (
 unfolding SigExp.sig-exp Helpers.indent-deeper Helpers.deepen
 sg-returns-2 t c = record { is = then-sure (c .before .before .before .before .before .before .before .before .before .before .before .before .before .before .before .before .before .before .before .before .before .before .before .before .before .before .before .word .ensures) (then-both (c .before .before .before .before .before .before .before .before .before .before .before .before .before .before .before .before .before .before .before .before .before .before .indent-deeper .ensures _) (then-done (along (c .before .before .before .before .before .before .before .before .before .before .before .before .before .before .before .before .before .before .before .indented .ensures) (c .before .before .before .before .before .before .before .before .before .before .before .before .before .before .before .before .ds .ensures)) (c .before .before .before .before .before .before .before .before .before .before .before .before .before .told .ensures) (c .before .before .before .before .before .before .before .before .before .before .before .s1 .given .1) (then-both (c .before .before .before .before .before .before .before .line .ensures) (last-sure (c .before .before .word2 .ensures))))) }
 
--- src/lib.rt:2325:9
+-- src/lib.rt:2326:9
 sig-stop-requires : (t : ℕ) → sig-lts.Need-stop-requires (
   stop-reads.Asked,
   stop-reads.Learnt,
@@ -22206,7 +22283,7 @@ sig-stop-requires : (t : ℕ) → sig-lts.Need-stop-requires (
 ) (sig-at t) sig.Post
 sig-stop-requires t c κs = search needs
 
--- src/lib.rt:2325:9
+-- src/lib.rt:2326:9
 sig-returns : (t : ℕ) → sig-lts.Need-returns (
   stop-reads.Asked,
   stop-reads.Learnt,
@@ -22224,7 +22301,7 @@ sig-returns : (t : ℕ) → sig-lts.Need-returns (
 unfolding SigExp.sig-exps SigExp.sig-exp
 sig-returns t c = record { is = sig-zero _ _ (c .before .if1 .taken) (c .stop .ensures) }
 
--- src/lib.rt:2327:26
+-- src/lib.rt:2328:26
 sig-form-requires : (t : ℕ) → sig-lts.Need-form-requires (
   stop-reads.Asked,
   stop-reads.Learnt,
@@ -22241,7 +22318,7 @@ sig-form-requires : (t : ℕ) → sig-lts.Need-form-requires (
 ) (sig-at t) sig.Post
 sig-form-requires t c κs = search needs
 
--- src/lib.rt:2327:18
+-- src/lib.rt:2328:18
 sig-enum-known-k : (t : ℕ) → sig-lts.Need-enum-known-k (
   stop-reads.Asked,
   stop-reads.Learnt,
@@ -22258,7 +22335,7 @@ sig-enum-known-k : (t : ℕ) → sig-lts.Need-enum-known-k (
 ) (sig-at t) sig.Post
 sig-enum-known-k t c = search needs
 
--- src/lib.rt:2328:9
+-- src/lib.rt:2329:9
 sig-enum-told : (t : ℕ) → sig-lts.Need-enum-told (
   stop-reads.Asked,
   stop-reads.Learnt,
@@ -22275,7 +22352,7 @@ sig-enum-told : (t : ℕ) → sig-lts.Need-enum-told (
 ) (sig-at t) sig.Post
 sig-enum-told t c = search needs
 
--- src/lib.rt:2328:9
+-- src/lib.rt:2329:9
 sig-stop-requires-2 : (t : ℕ) → sig-lts.Need-stop-requires-2 (
   stop-reads.Asked,
   stop-reads.Learnt,
@@ -22292,7 +22369,7 @@ sig-stop-requires-2 : (t : ℕ) → sig-lts.Need-stop-requires-2 (
 ) (sig-at t) sig.Post
 sig-stop-requires-2 t c κs = search needs
 
--- src/lib.rt:2328:9
+-- src/lib.rt:2329:9
 sig-returns-2 : (t : ℕ) → sig-lts.Need-returns-2 (
   stop-reads.Asked,
   stop-reads.Learnt,
@@ -22310,7 +22387,7 @@ sig-returns-2 : (t : ℕ) → sig-lts.Need-returns-2 (
 unfolding SigExp.sig-exps SigExp.sig-exp
 sig-returns-2 t c = record { is = sig-form _ _ (c .before .before .before .before .if1 .left) (form-not (c .stop2 .ensures) (c .before .before .before .form .ensures) (c .before .enum-told .given .1)) }
 
--- src/lib.rt:2333:15
+-- src/lib.rt:2334:15
 sig-sub-t18 : (t : ℕ) → sig-lts.Need-sub-t18 (
   stop-reads.Asked,
   stop-reads.Learnt,
@@ -22327,7 +22404,7 @@ sig-sub-t18 : (t : ℕ) → sig-lts.Need-sub-t18 (
 ) (sig-at t) sig.Post
 sig-sub-t18 t c = search needs
 
--- src/lib.rt:2336:14
+-- src/lib.rt:2337:14
 sig-sg-requires : (t : ℕ) → sig-lts.Need-sg-requires (
   stop-reads.Asked,
   stop-reads.Learnt,
@@ -22344,7 +22421,7 @@ sig-sg-requires : (t : ℕ) → sig-lts.Need-sg-requires (
 ) (sig-at t) sig.Post
 sig-sg-requires t c κs = omega (arith, c .before .before .before .before .before .before .before .before .before .before .before .before .before .before .pre .0, c .before .before .before .before .before .before .before .before .before .before .before .before .before .before .pre .1, c .before .before .before .before .before .before .before .if1 .left)
 
--- src/lib.rt:2337:14
+-- src/lib.rt:2338:14
 sig-text-of-requires : (t : ℕ) → sig-lts.Need-text-of-requires (
   stop-reads.Asked,
   stop-reads.Learnt,
@@ -22361,7 +22438,7 @@ sig-text-of-requires : (t : ℕ) → sig-lts.Need-text-of-requires (
 ) (sig-at t) sig.Post
 sig-text-of-requires t c κs = search needs
 
--- src/lib.rt:2338:14
+-- src/lib.rt:2339:14
 sig-wt-requires : (t : ℕ) → sig-lts.Need-wt-requires (
   stop-reads.Asked,
   stop-reads.Learnt,
@@ -22378,7 +22455,7 @@ sig-wt-requires : (t : ℕ) → sig-lts.Need-wt-requires (
 ) (sig-at t) sig.Post
 sig-wt-requires t c κs = omega (arith, c .before .before .before .before .before .before .before .before .before .before .before .before .before .before .pre .0, c .before .before .before .before .before .before .before .before .before .before .before .before .before .before .pre .1, c .before .before .before .before .before .before .before .if1 .left)
 
--- src/lib.rt:2339:14
+-- src/lib.rt:2340:14
 sig-wr-requires : (t : ℕ) → sig-lts.Need-wr-requires (
   stop-reads.Asked,
   stop-reads.Learnt,
@@ -22395,7 +22472,7 @@ sig-wr-requires : (t : ℕ) → sig-lts.Need-wr-requires (
 ) (sig-at t) sig.Post
 sig-wr-requires t c κs = omega (arith, c .before .before .before .before .before .before .before .before .before .before .before .before .before .before .pre .0, c .before .before .before .before .before .before .before .before .before .before .before .before .before .before .pre .1, c .before .before .before .before .before .before .before .if1 .left)
 
--- src/lib.rt:2340:14
+-- src/lib.rt:2341:14
 sig-stop-requires-3 : (t : ℕ) → sig-lts.Need-stop-requires-3 (
   stop-reads.Asked,
   stop-reads.Learnt,
@@ -22412,7 +22489,7 @@ sig-stop-requires-3 : (t : ℕ) → sig-lts.Need-stop-requires-3 (
 ) (sig-at t) sig.Post
 sig-stop-requires-3 t c κs = search needs
 
--- src/lib.rt:2308:1
+-- src/lib.rt:2309:1
 sig-same-length : (t : ℕ) → sig-lts.Need-same-length (
   stop-reads.Asked,
   stop-reads.Learnt,
@@ -22429,7 +22506,7 @@ sig-same-length : (t : ℕ) → sig-lts.Need-same-length (
 ) (sig-at t) sig.Post
 sig-same-length t c = c .before .before .sg .kept .1 .1 .1 .1 .1 .1 .0
 
--- src/lib.rt:2308:1
+-- src/lib.rt:2309:1
 sig-returns-3 : (t : ℕ) → sig-lts.Need-returns-3 (
   stop-reads.Asked,
   stop-reads.Learnt,
@@ -22447,7 +22524,7 @@ sig-returns-3 : (t : ℕ) → sig-lts.Need-returns-3 (
 unfolding SigExp.sig-exps SigExp.sig-exp
 sig-returns-3 t c = record { is = sig-form _ _ (c .before .before .before .before .before .before .before .before .before .before .if1 .left) (form-key (c .before .before .before .before .before .before .before .before .before .form .ensures) (c .before .before .before .before .before .before .before .k .given .1) (c .before .before .before .before .before .match2 .keys1) (c .before .before .sg .ensures .is)) }
 
--- src/lib.rt:2308:1
+-- src/lib.rt:2309:1
 sig-same-length-2 : (t : ℕ) → sig-lts.Need-same-length-2 (
   stop-reads.Asked,
   stop-reads.Learnt,
@@ -22464,7 +22541,7 @@ sig-same-length-2 : (t : ℕ) → sig-lts.Need-same-length-2 (
 ) (sig-at t) sig.Post
 sig-same-length-2 t c = c .before .before .text-of .kept .1 .1 .1 .1 .1 .0
 
--- src/lib.rt:2308:1
+-- src/lib.rt:2309:1
 sig-returns-4 : (t : ℕ) → sig-lts.Need-returns-4 (
   stop-reads.Asked,
   stop-reads.Learnt,
@@ -22482,7 +22559,7 @@ sig-returns-4 : (t : ℕ) → sig-lts.Need-returns-4 (
 unfolding SigExp.sig-exps SigExp.sig-exp
 sig-returns-4 t c = record { is = sig-form _ _ (c .before .before .before .before .before .before .before .before .before .before .if1 .left) (form-key (c .before .before .before .before .before .before .before .before .before .form .ensures) (c .before .before .before .before .before .before .before .k .given .1) (c .before .before .before .before .before .match2 .keys2) (plain (c .before .before .text-of .ensures))) }
 
--- src/lib.rt:2308:1
+-- src/lib.rt:2309:1
 sig-same-length-3 : (t : ℕ) → sig-lts.Need-same-length-3 (
   stop-reads.Asked,
   stop-reads.Learnt,
@@ -22499,7 +22576,7 @@ sig-same-length-3 : (t : ℕ) → sig-lts.Need-same-length-3 (
 ) (sig-at t) sig.Post
 sig-same-length-3 t c = c .before .before .wt .kept .1 .1 .1 .1 .1 .1 .0
 
--- src/lib.rt:2308:1
+-- src/lib.rt:2309:1
 sig-returns-5 : (t : ℕ) → sig-lts.Need-returns-5 (
   stop-reads.Asked,
   stop-reads.Learnt,
@@ -22517,7 +22594,7 @@ sig-returns-5 : (t : ℕ) → sig-lts.Need-returns-5 (
 unfolding SigExp.sig-exps SigExp.sig-exp
 sig-returns-5 t c = record { is = sig-form _ _ (c .before .before .before .before .before .before .before .before .before .before .if1 .left) (form-key (c .before .before .before .before .before .before .before .before .before .form .ensures) (c .before .before .before .before .before .before .before .k .given .1) (c .before .before .before .before .before .match2 .keys3) (c .before .before .wt .ensures .is)) }
 
--- src/lib.rt:2308:1
+-- src/lib.rt:2309:1
 sig-same-length-4 : (t : ℕ) → sig-lts.Need-same-length-4 (
   stop-reads.Asked,
   stop-reads.Learnt,
@@ -22534,7 +22611,7 @@ sig-same-length-4 : (t : ℕ) → sig-lts.Need-same-length-4 (
 ) (sig-at t) sig.Post
 sig-same-length-4 t c = c .before .before .wr .kept .1 .1 .1 .1 .1 .1 .0
 
--- src/lib.rt:2308:1
+-- src/lib.rt:2309:1
 sig-returns-6 : (t : ℕ) → sig-lts.Need-returns-6 (
   stop-reads.Asked,
   stop-reads.Learnt,
@@ -22552,7 +22629,7 @@ sig-returns-6 : (t : ℕ) → sig-lts.Need-returns-6 (
 unfolding SigExp.sig-exps SigExp.sig-exp
 sig-returns-6 t c = record { is = sig-form _ _ (c .before .before .before .before .before .before .before .before .before .before .if1 .left) (form-key (c .before .before .before .before .before .before .before .before .before .form .ensures) (c .before .before .before .before .before .before .before .k .given .1) (c .before .before .before .before .before .match2 .keys4) (c .before .before .wr .ensures .is)) }
 
--- src/lib.rt:2308:1
+-- src/lib.rt:2309:1
 sig-returns-7 : (t : ℕ) → sig-lts.Need-returns-7 (
   stop-reads.Asked,
   stop-reads.Learnt,
@@ -22570,7 +22647,7 @@ sig-returns-7 : (t : ℕ) → sig-lts.Need-returns-7 (
 unfolding SigExp.sig-exps SigExp.sig-exp
 sig-returns-7 t c = record { is = sig-form _ _ (c .before .before .before .before .before .before .if1 .left) (by-same (form-is (c .before .before .before .before .before .form .ensures) (c .before .before .before .k .given .1)) (beyond (SigExp.sig-exps (walks (c .before .before .before .before .before .before .before .before .before .before .before .before .before .args .cfg .left - 1)) (cfgOf (c .before .before .before .before .before .before .before .before .before .before .before .before .before .args .cfg))) (c .before .before .before .k .given .0 .0) 4 refl (past (past (past (past zero-le (c .before .match2 .rest .0 .0 .0 .1)) (c .before .match2 .rest .0 .0 .1)) (c .before .match2 .rest .0 .1)) (c .before .match2 .rest .1)) (c .stop3 .ensures))) }
 
--- src/lib.rt:2286:5
+-- src/lib.rt:2287:5
 sl-word-requires : (t : ℕ) → sl-lts.Need-word-requires (
   word-reads.Asked,
   word-reads.Learnt,
@@ -22591,7 +22668,7 @@ sl-word-requires : (t : ℕ) → sl-lts.Need-word-requires (
 ) (sl-at t) sl.Post
 sl-word-requires t c κs = search needs
 
--- src/lib.rt:2287:5
+-- src/lib.rt:2288:5
 sl-word-requires-2 : (t : ℕ) → sl-lts.Need-word-requires-2 (
   word-reads.Asked,
   word-reads.Learnt,
@@ -22612,7 +22689,7 @@ sl-word-requires-2 : (t : ℕ) → sl-lts.Need-word-requires-2 (
 ) (sl-at t) sl.Post
 sl-word-requires-2 t c κs = search needs
 
--- src/lib.rt:2288:5
+-- src/lib.rt:2289:5
 sl-indent-deeper-requires : (t : ℕ) → sl-lts.Need-indent-deeper-requires (
   word-reads.Asked,
   word-reads.Learnt,
@@ -22633,7 +22710,7 @@ sl-indent-deeper-requires : (t : ℕ) → sl-lts.Need-indent-deeper-requires (
 ) (sl-at t) sl.Post
 sl-indent-deeper-requires t c κs = omega (arith, c .before .before .before .before .before .before .before .before .before .before .before .before .before .before .before .before .before .before .pre .1)
 
--- src/lib.rt:2289:9
+-- src/lib.rt:2290:9
 sl-indented-requires : (t : ℕ) → sl-lts.Need-indented-requires (
   word-reads.Asked,
   word-reads.Learnt,
@@ -22654,7 +22731,7 @@ sl-indented-requires : (t : ℕ) → sl-lts.Need-indented-requires (
 ) (sl-at t) sl.Post
 sl-indented-requires t c κs = omega (arith, c .before .before .before .before .before .before .before .before .before .before .before .before .before .before .before .before .before .before .before .before .before .pre .1)
 
--- src/lib.rt:2290:9
+-- src/lib.rt:2291:9
 sl-ds-requires : (t : ℕ) → sl-lts.Need-ds-requires (
   word-reads.Asked,
   word-reads.Learnt,
@@ -22675,7 +22752,7 @@ sl-ds-requires : (t : ℕ) → sl-lts.Need-ds-requires (
 ) (sl-at t) sl.Post
 sl-ds-requires t c κs = omega (arith, c .before .before .before .before .before .before .before .before .before .before .before .before .before .before .before .before .before .before .before .before .before .before .before .before .pre .0, c .before .before .before .before .before .before .before .before .before .before .before .before .before .before .before .before .before .before .before .before .before .before .before .before .pre .1, deep-depth (c .before .before .indented .ensures), deep-left (c .before .before .indented .ensures))
 
--- src/lib.rt:2291:28
+-- src/lib.rt:2292:28
 sl-told-requires : (t : ℕ) → sl-lts.Need-told-requires (
   word-reads.Asked,
   word-reads.Learnt,
@@ -22696,7 +22773,7 @@ sl-told-requires : (t : ℕ) → sl-lts.Need-told-requires (
 ) (sl-at t) sl.Post
 sl-told-requires t c κs = search needs
 
--- src/lib.rt:2291:22
+-- src/lib.rt:2292:22
 sl-enum-known-s1 : (t : ℕ) → sl-lts.Need-enum-known-s1 (
   word-reads.Asked,
   word-reads.Learnt,
@@ -22717,7 +22794,7 @@ sl-enum-known-s1 : (t : ℕ) → sl-lts.Need-enum-known-s1 (
 ) (sl-at t) sl.Post
 sl-enum-known-s1 t c = search needs
 
--- src/lib.rt:2292:9
+-- src/lib.rt:2293:9
 sl-enum-told : (t : ℕ) → sl-lts.Need-enum-told (
   word-reads.Asked,
   word-reads.Learnt,
@@ -22738,7 +22815,7 @@ sl-enum-told : (t : ℕ) → sl-lts.Need-enum-told (
 ) (sl-at t) sl.Post
 sl-enum-told t c = search needs
 
--- src/lib.rt:2292:9
+-- src/lib.rt:2293:9
 sl-same-length : (t : ℕ) → sl-lts.Need-same-length (
   word-reads.Asked,
   word-reads.Learnt,
@@ -22759,7 +22836,7 @@ sl-same-length : (t : ℕ) → sl-lts.Need-same-length (
 ) (sl-at t) sl.Post
 sl-same-length t c = c .before .before .before .before .before .ds .kept .1 .1 .1 .1 .1 .1 .0 ∙ c .before .before .before .before .before .before .before .before .before .before .before .indent-deeper .kept .0 ∙ c .before .before .before .before .before .before .before .before .before .before .before .before .before .before .before .before .word2 .kept .1 .1 .0 ∙ c .before .before .before .before .before .before .before .before .before .before .before .before .before .before .before .before .before .before .before .before .before .word .kept .1 .1 .0
 
--- src/lib.rt:2292:9
+-- src/lib.rt:2293:9
 sl-returns : (t : ℕ) → sl-lts.Need-returns (
   word-reads.Asked,
   word-reads.Learnt,
@@ -22781,7 +22858,7 @@ sl-returns : (t : ℕ) → sl-lts.Need-returns (
 unfolding StrExp.str-exp Helpers.in-end Helpers.indent-deeper Helpers.deepen
 sl-returns t c = record { is = then-sure (c .before .before .before .before .before .before .before .before .before .before .before .before .before .before .before .before .before .before .before .before .before .word .ensures) (then-sure (c .before .before .before .before .before .before .before .before .before .before .before .before .before .before .before .before .word2 .ensures) (then-both (c .before .before .before .before .before .before .before .before .before .before .before .indent-deeper .ensures _) (then-stop (along (c .before .before .before .before .before .before .before .before .indented .ensures) (c .before .before .before .before .before .ds .ensures)) (c .before .before .told .ensures) (c .enum-told .given .1)))) }
 
--- src/lib.rt:2294:5
+-- src/lib.rt:2295:5
 sl-line-requires : (t : ℕ) → sl-lts.Need-line-requires (
   word-reads.Asked,
   word-reads.Learnt,
@@ -22802,7 +22879,7 @@ sl-line-requires : (t : ℕ) → sl-lts.Need-line-requires (
 ) (sl-at t) sl.Post
 sl-line-requires t c κs = search needs
 
--- src/lib.rt:2295:5
+-- src/lib.rt:2296:5
 sl-word-requires-3 : (t : ℕ) → sl-lts.Need-word-requires-3 (
   word-reads.Asked,
   word-reads.Learnt,
@@ -22823,7 +22900,7 @@ sl-word-requires-3 : (t : ℕ) → sl-lts.Need-word-requires-3 (
 ) (sl-at t) sl.Post
 sl-word-requires-3 t c κs = search needs
 
--- src/lib.rt:2296:5
+-- src/lib.rt:2297:5
 sl-indent-in-requires : (t : ℕ) → sl-lts.Need-indent-in-requires (
   word-reads.Asked,
   word-reads.Learnt,
@@ -22844,7 +22921,7 @@ sl-indent-in-requires : (t : ℕ) → sl-lts.Need-indent-in-requires (
 ) (sl-at t) sl.Post
 sl-indent-in-requires t c κs = omega (arith, c .before .before .before .before .before .before .before .before .before .before .before .before .before .before .before .before .before .before .before .before .before .before .before .before .before .before .before .before .before .before .before .before .before .before .before .before .before .before .before .before .before .before .before .pre .1)
 
--- src/lib.rt:2297:9
+-- src/lib.rt:2298:9
 sl-str-requires : (t : ℕ) → sl-lts.Need-str-requires (
   word-reads.Asked,
   word-reads.Learnt,
@@ -22865,7 +22942,7 @@ sl-str-requires : (t : ℕ) → sl-lts.Need-str-requires (
 ) (sl-at t) sl.Post
 sl-str-requires t c κs = omega (arith, c .before .before .before .before .before .before .before .before .before .before .before .before .before .before .before .before .before .before .before .before .before .before .before .before .before .before .before .before .before .before .before .before .before .before .before .before .before .before .before .before .before .before .before .before .before .before .before .before .pre .0, c .before .before .before .before .before .before .before .before .before .before .before .before .before .before .before .before .before .before .before .before .before .before .before .before .before .before .before .before .before .before .before .before .before .before .before .before .before .before .before .before .before .before .before .before .before .before .before .before .pre .1, deep-depth (c .before .before .before .before .before .before .before .before .before .before .before .before .before .before .before .before .before .before .before .before .before .before .before .before .before .before .indented .ensures), deep-left (c .before .before .before .before .before .before .before .before .before .before .before .before .before .before .before .before .before .before .before .before .before .before .before .before .before .before .indented .ensures))
 
--- src/lib.rt:2298:28
+-- src/lib.rt:2299:28
 sl-told-requires-2 : (t : ℕ) → sl-lts.Need-told-requires-2 (
   word-reads.Asked,
   word-reads.Learnt,
@@ -22886,7 +22963,7 @@ sl-told-requires-2 : (t : ℕ) → sl-lts.Need-told-requires-2 (
 ) (sl-at t) sl.Post
 sl-told-requires-2 t c κs = search needs
 
--- src/lib.rt:2298:22
+-- src/lib.rt:2299:22
 sl-enum-known-s2 : (t : ℕ) → sl-lts.Need-enum-known-s2 (
   word-reads.Asked,
   word-reads.Learnt,
@@ -22907,7 +22984,7 @@ sl-enum-known-s2 : (t : ℕ) → sl-lts.Need-enum-known-s2 (
 ) (sl-at t) sl.Post
 sl-enum-known-s2 t c = search needs
 
--- src/lib.rt:2299:9
+-- src/lib.rt:2300:9
 sl-enum-told-2 : (t : ℕ) → sl-lts.Need-enum-told-2 (
   word-reads.Asked,
   word-reads.Learnt,
@@ -22928,7 +23005,7 @@ sl-enum-told-2 : (t : ℕ) → sl-lts.Need-enum-told-2 (
 ) (sl-at t) sl.Post
 sl-enum-told-2 t c = search needs
 
--- src/lib.rt:2299:9
+-- src/lib.rt:2300:9
 sl-same-length-2 : (t : ℕ) → sl-lts.Need-same-length-2 (
   word-reads.Asked,
   word-reads.Learnt,
@@ -22949,7 +23026,7 @@ sl-same-length-2 : (t : ℕ) → sl-lts.Need-same-length-2 (
 ) (sl-at t) sl.Post
 sl-same-length-2 t c = c .before .before .before .before .before .str .kept .1 .1 .1 .1 .1 .1 .0 ∙ c .before .before .before .before .before .before .before .before .before .before .indent-in .kept .0 ∙ c .before .before .before .before .before .before .before .before .before .before .before .before .before .before .before .word3 .kept .1 .1 .0 ∙ c .before .before .before .before .before .before .before .before .before .before .before .before .before .before .before .before .before .before .before .before .line .kept .1 .1 .0 ∙ c .before .before .before .before .before .before .before .before .before .before .before .before .before .before .before .before .before .before .before .before .before .before .before .before .before .before .before .before .before .ds .kept .1 .1 .1 .1 .1 .1 .0 ∙ c .before .before .before .before .before .before .before .before .before .before .before .before .before .before .before .before .before .before .before .before .before .before .before .before .before .before .before .before .before .before .before .before .before .before .before .indent-deeper .kept .0 ∙ c .before .before .before .before .before .before .before .before .before .before .before .before .before .before .before .before .before .before .before .before .before .before .before .before .before .before .before .before .before .before .before .before .before .before .before .before .before .before .before .before .word2 .kept .1 .1 .0 ∙ c .before .before .before .before .before .before .before .before .before .before .before .before .before .before .before .before .before .before .before .before .before .before .before .before .before .before .before .before .before .before .before .before .before .before .before .before .before .before .before .before .before .before .before .before .before .word .kept .1 .1 .0
 
--- src/lib.rt:2299:9
+-- src/lib.rt:2300:9
 sl-returns-2 : (t : ℕ) → sl-lts.Need-returns-2 (
   word-reads.Asked,
   word-reads.Learnt,
@@ -22971,7 +23048,7 @@ sl-returns-2 : (t : ℕ) → sl-lts.Need-returns-2 (
 unfolding StrExp.str-exp Helpers.in-end Helpers.indent-deeper Helpers.deepen
 sl-returns-2 t c = record { is = then-sure (c .before .before .before .before .before .before .before .before .before .before .before .before .before .before .before .before .before .before .before .before .before .before .before .before .before .before .before .before .before .before .before .before .before .before .before .before .before .before .before .before .before .before .before .before .before .word .ensures) (then-sure (c .before .before .before .before .before .before .before .before .before .before .before .before .before .before .before .before .before .before .before .before .before .before .before .before .before .before .before .before .before .before .before .before .before .before .before .before .before .before .before .before .word2 .ensures) (then-both (c .before .before .before .before .before .before .before .before .before .before .before .before .before .before .before .before .before .before .before .before .before .before .before .before .before .before .before .before .before .before .before .before .before .before .before .indent-deeper .ensures _) (then-done (along (c .before .before .before .before .before .before .before .before .before .before .before .before .before .before .before .before .before .before .before .before .before .before .before .before .before .before .before .before .before .before .before .before .indented .ensures) (c .before .before .before .before .before .before .before .before .before .before .before .before .before .before .before .before .before .before .before .before .before .before .before .before .before .before .before .before .before .ds .ensures)) (c .before .before .before .before .before .before .before .before .before .before .before .before .before .before .before .before .before .before .before .before .before .before .before .before .before .before .told .ensures) (c .before .before .before .before .before .before .before .before .before .before .before .before .before .before .before .before .before .before .before .before .before .before .before .before .s1 .given .1) (then-both (c .before .before .before .before .before .before .before .before .before .before .before .before .before .before .before .before .before .before .before .before .line .ensures) (then-sure (c .before .before .before .before .before .before .before .before .before .before .before .before .before .before .before .word3 .ensures) (then-sure (c .before .before .before .before .before .before .before .before .before .before .indent-in .ensures _) (then-stop (along (c .before .before .before .before .before .before .before .before .before .before .before .before .before .before .before .before .before .before .before .before .before .before .before .before .before .before .before .before .before .before .before .before .indented .ensures) (c .before .before .before .before .before .str .ensures)) (c .before .before .told2 .ensures) (c .enum-told2 .given .1)))))))) }
 
--- src/lib.rt:2301:5
+-- src/lib.rt:2302:5
 sl-line-requires-2 : (t : ℕ) → sl-lts.Need-line-requires-2 (
   word-reads.Asked,
   word-reads.Learnt,
@@ -22992,7 +23069,7 @@ sl-line-requires-2 : (t : ℕ) → sl-lts.Need-line-requires-2 (
 ) (sl-at t) sl.Post
 sl-line-requires-2 t c κs = search needs
 
--- src/lib.rt:2302:5
+-- src/lib.rt:2303:5
 sl-word-requires-4 : (t : ℕ) → sl-lts.Need-word-requires-4 (
   word-reads.Asked,
   word-reads.Learnt,
@@ -23013,7 +23090,7 @@ sl-word-requires-4 : (t : ℕ) → sl-lts.Need-word-requires-4 (
 ) (sl-at t) sl.Post
 sl-word-requires-4 t c κs = search needs
 
--- src/lib.rt:2271:1
+-- src/lib.rt:2272:1
 sl-same-length-3 : (t : ℕ) → sl-lts.Need-same-length-3 (
   word-reads.Asked,
   word-reads.Learnt,
@@ -23034,7 +23111,7 @@ sl-same-length-3 : (t : ℕ) → sl-lts.Need-same-length-3 (
 ) (sl-at t) sl.Post
 sl-same-length-3 t c = c .before .before .word4 .kept .1 .1 .0 ∙ c .before .before .before .before .before .before .before .line2 .kept .1 .1 .0 ∙ c .before .before .before .before .before .before .before .before .before .before .before .before .before .before .before .before .str .kept .1 .1 .1 .1 .1 .1 .0 ∙ c .before .before .before .before .before .before .before .before .before .before .before .before .before .before .before .before .before .before .before .before .before .indent-in .kept .0 ∙ c .before .before .before .before .before .before .before .before .before .before .before .before .before .before .before .before .before .before .before .before .before .before .before .before .before .before .word3 .kept .1 .1 .0 ∙ c .before .before .before .before .before .before .before .before .before .before .before .before .before .before .before .before .before .before .before .before .before .before .before .before .before .before .before .before .before .before .before .line .kept .1 .1 .0 ∙ c .before .before .before .before .before .before .before .before .before .before .before .before .before .before .before .before .before .before .before .before .before .before .before .before .before .before .before .before .before .before .before .before .before .before .before .before .before .before .before .before .ds .kept .1 .1 .1 .1 .1 .1 .0 ∙ c .before .before .before .before .before .before .before .before .before .before .before .before .before .before .before .before .before .before .before .before .before .before .before .before .before .before .before .before .before .before .before .before .before .before .before .before .before .before .before .before .before .before .before .before .before .before .indent-deeper .kept .0 ∙ c .before .before .before .before .before .before .before .before .before .before .before .before .before .before .before .before .before .before .before .before .before .before .before .before .before .before .before .before .before .before .before .before .before .before .before .before .before .before .before .before .before .before .before .before .before .before .before .before .before .before .before .word2 .kept .1 .1 .0 ∙ c .before .before .before .before .before .before .before .before .before .before .before .before .before .before .before .before .before .before .before .before .before .before .before .before .before .before .before .before .before .before .before .before .before .before .before .before .before .before .before .before .before .before .before .before .before .before .before .before .before .before .before .before .before .before .before .before .word .kept .1 .1 .0
 
--- src/lib.rt:2271:1
+-- src/lib.rt:2272:1
 sl-returns-3 : (t : ℕ) → sl-lts.Need-returns-3 (
   word-reads.Asked,
   word-reads.Learnt,
@@ -23056,7 +23133,7 @@ sl-returns-3 : (t : ℕ) → sl-lts.Need-returns-3 (
 unfolding StrExp.str-exp Helpers.in-end Helpers.indent-deeper Helpers.deepen
 sl-returns-3 t c = record { is = then-sure (c .before .before .before .before .before .before .before .before .before .before .before .before .before .before .before .before .before .before .before .before .before .before .before .before .before .before .before .before .before .before .before .before .before .before .before .before .before .before .before .before .before .before .before .before .before .before .before .before .before .before .before .before .before .before .before .before .word .ensures) (then-sure (c .before .before .before .before .before .before .before .before .before .before .before .before .before .before .before .before .before .before .before .before .before .before .before .before .before .before .before .before .before .before .before .before .before .before .before .before .before .before .before .before .before .before .before .before .before .before .before .before .before .before .before .word2 .ensures) (then-both (c .before .before .before .before .before .before .before .before .before .before .before .before .before .before .before .before .before .before .before .before .before .before .before .before .before .before .before .before .before .before .before .before .before .before .before .before .before .before .before .before .before .before .before .before .before .before .indent-deeper .ensures _) (then-done (along (c .before .before .before .before .before .before .before .before .before .before .before .before .before .before .before .before .before .before .before .before .before .before .before .before .before .before .before .before .before .before .before .before .before .before .before .before .before .before .before .before .before .before .before .indented .ensures) (c .before .before .before .before .before .before .before .before .before .before .before .before .before .before .before .before .before .before .before .before .before .before .before .before .before .before .before .before .before .before .before .before .before .before .before .before .before .before .before .before .ds .ensures)) (c .before .before .before .before .before .before .before .before .before .before .before .before .before .before .before .before .before .before .before .before .before .before .before .before .before .before .before .before .before .before .before .before .before .before .before .before .before .told .ensures) (c .before .before .before .before .before .before .before .before .before .before .before .before .before .before .before .before .before .before .before .before .before .before .before .before .before .before .before .before .before .before .before .before .before .before .before .s1 .given .1) (then-both (c .before .before .before .before .before .before .before .before .before .before .before .before .before .before .before .before .before .before .before .before .before .before .before .before .before .before .before .before .before .before .before .line .ensures) (then-sure (c .before .before .before .before .before .before .before .before .before .before .before .before .before .before .before .before .before .before .before .before .before .before .before .before .before .before .word3 .ensures) (then-sure (c .before .before .before .before .before .before .before .before .before .before .before .before .before .before .before .before .before .before .before .before .before .indent-in .ensures _) (then-done (along (c .before .before .before .before .before .before .before .before .before .before .before .before .before .before .before .before .before .before .before .before .before .before .before .before .before .before .before .before .before .before .before .before .before .before .before .before .before .before .before .before .before .before .before .indented .ensures) (c .before .before .before .before .before .before .before .before .before .before .before .before .before .before .before .before .str .ensures)) (c .before .before .before .before .before .before .before .before .before .before .before .before .before .told2 .ensures) (c .before .before .before .before .before .before .before .before .before .before .before .s2 .given .1) (then-both (c .before .before .before .before .before .before .before .line2 .ensures) (last-sure (c .before .before .word4 .ensures)))))))))) }
 
--- src/lib.rt:404:27
+-- src/lib.rt:405:27
 sm-list-requires : (t : ℕ) → sm-lts.Need-list-requires (
   list-reads.Asked,
   list-reads.Learnt,
@@ -23071,7 +23148,7 @@ sm-list-requires : (t : ℕ) → sm-lts.Need-list-requires (
 ) (sm-at t) sm.Post
 sm-list-requires t c κs = search needs
 
--- src/lib.rt:404:18
+-- src/lib.rt:405:18
 sm-enum-known-n : (t : ℕ) → sm-lts.Need-enum-known-n (
   list-reads.Asked,
   list-reads.Learnt,
@@ -23086,7 +23163,7 @@ sm-enum-known-n : (t : ℕ) → sm-lts.Need-enum-known-n (
 ) (sm-at t) sm.Post
 sm-enum-known-n t c = search needs
 
--- src/lib.rt:405:9
+-- src/lib.rt:406:9
 sm-enum-told : (t : ℕ) → sm-lts.Need-enum-told (
   list-reads.Asked,
   list-reads.Learnt,
@@ -23101,7 +23178,7 @@ sm-enum-told : (t : ℕ) → sm-lts.Need-enum-told (
 ) (sm-at t) sm.Post
 sm-enum-told t c = search needs
 
--- src/lib.rt:405:9
+-- src/lib.rt:406:9
 sm-stop-requires : (t : ℕ) → sm-lts.Need-stop-requires (
   list-reads.Asked,
   list-reads.Learnt,
@@ -23116,7 +23193,7 @@ sm-stop-requires : (t : ℕ) → sm-lts.Need-stop-requires (
 ) (sm-at t) sm.Post
 sm-stop-requires t c κs = search needs
 
--- src/lib.rt:405:9
+-- src/lib.rt:406:9
 sm-returns : (t : ℕ) → sm-lts.Need-returns (
   list-reads.Asked,
   list-reads.Learnt,
@@ -23132,7 +23209,7 @@ sm-returns : (t : ℕ) → sm-lts.Need-returns (
 unfolding Exp.exp-semi-seq
 sm-returns t c = record { is = list-not (c .stop .ensures) (c .before .before .before .list .ensures) (c .before .enum-told .given .1) }
 
--- src/lib.rt:408:9
+-- src/lib.rt:409:9
 sm-returns-2 : (t : ℕ) → sm-lts.Need-returns-2 (
   list-reads.Asked,
   list-reads.Learnt,
@@ -23148,7 +23225,7 @@ sm-returns-2 : (t : ℕ) → sm-lts.Need-returns-2 (
 unfolding Exp.exp-semi-seq
 sm-returns-2 t c = record { is = by-same (list-is (c .before .before .before .before .list .ensures) (c .before .before .n .given .1)) (semi-zero _ _ _ (c .if1 .taken)) }
 
--- src/lib.rt:410:9
+-- src/lib.rt:411:9
 sm-it-requires : (t : ℕ) → sm-lts.Need-it-requires (
   list-reads.Asked,
   list-reads.Learnt,
@@ -23163,7 +23240,7 @@ sm-it-requires : (t : ℕ) → sm-lts.Need-it-requires (
 ) (sm-at t) sm.Post
 sm-it-requires t c κs = omega (arith, c .before .before .before .before .before .before .before .before .before .before .before .before .before .pre .0, c .before .before .before .before .before .before .before .before .before .before .before .before .before .pre .1)
 
--- src/lib.rt:423:28
+-- src/lib.rt:424:28
 sm-told-requires : (t : ℕ) → sm-lts.Need-told-requires (
   list-reads.Asked,
   list-reads.Learnt,
@@ -23178,7 +23255,7 @@ sm-told-requires : (t : ℕ) → sm-lts.Need-told-requires (
 ) (sm-at t) sm.Post
 sm-told-requires t c κs = search needs
 
--- src/lib.rt:423:22
+-- src/lib.rt:424:22
 sm-enum-known-s2 : (t : ℕ) → sm-lts.Need-enum-known-s2 (
   list-reads.Asked,
   list-reads.Learnt,
@@ -23193,7 +23270,7 @@ sm-enum-known-s2 : (t : ℕ) → sm-lts.Need-enum-known-s2 (
 ) (sm-at t) sm.Post
 sm-enum-known-s2 t c = search needs
 
--- src/lib.rt:424:9
+-- src/lib.rt:425:9
 sm-enum-told-2 : (t : ℕ) → sm-lts.Need-enum-told-2 (
   list-reads.Asked,
   list-reads.Learnt,
@@ -23208,7 +23285,7 @@ sm-enum-told-2 : (t : ℕ) → sm-lts.Need-enum-told-2 (
 ) (sm-at t) sm.Post
 sm-enum-told-2 t c = search needs
 
--- src/lib.rt:424:9
+-- src/lib.rt:425:9
 sm-same-length : (t : ℕ) → sm-lts.Need-same-length (
   list-reads.Asked,
   list-reads.Learnt,
@@ -23223,7 +23300,7 @@ sm-same-length : (t : ℕ) → sm-lts.Need-same-length (
 ) (sm-at t) sm.Post
 sm-same-length t c = c .before .before .before .before .before .it .kept .1 .1 .1 .1 .1 .1 .0
 
--- src/lib.rt:424:9
+-- src/lib.rt:425:9
 sm-returns-3 : (t : ℕ) → sm-lts.Need-returns-3 (
   list-reads.Asked,
   list-reads.Learnt,
@@ -23239,7 +23316,7 @@ sm-returns-3 : (t : ℕ) → sm-lts.Need-returns-3 (
 unfolding Exp.exp-semi-seq
 sm-returns-3 t c = record { is = by-same (list-is (c .before .before .before .before .before .before .before .before .before .before .before .before .list .ensures) (c .before .before .before .before .before .before .before .before .before .before .n .given .1)) (semi-first _ _ _ (c .before .before .before .before .before .before .before .before .if1 .left) (then-stop (c .before .before .before .before .before .it .ensures .is) (c .before .before .told .ensures) (c .enum-told2 .given .1))) }
 
--- src/lib.rt:438:9
+-- src/lib.rt:439:9
 sm-sub-mo : (t : ℕ) → sm-lts.Need-sub-mo (
   list-reads.Asked,
   list-reads.Learnt,
@@ -23254,7 +23331,7 @@ sm-sub-mo : (t : ℕ) → sm-lts.Need-sub-mo (
 ) (sm-at t) sm.Post
 sm-sub-mo t c = search needs
 
--- src/lib.rt:426:5
+-- src/lib.rt:427:5
 sm-mo-requires : (t : ℕ) → sm-lts.Need-mo-requires (
   list-reads.Asked,
   list-reads.Learnt,
@@ -23269,7 +23346,7 @@ sm-mo-requires : (t : ℕ) → sm-lts.Need-mo-requires (
 ) (sm-at t) sm.Post
 sm-mo-requires t c κs = omega (arith, c .before .before .before .before .before .before .before .before .before .before .before .before .before .before .before .before .before .before .before .before .before .before .pre .0, c .before .before .before .before .before .before .before .before .before .before .before .before .before .before .before .before .before .before .before .before .before .before .pre .1)
 
--- src/lib.rt:388:1
+-- src/lib.rt:389:1
 sm-same-length-2 : (t : ℕ) → sm-lts.Need-same-length-2 (
   list-reads.Asked,
   list-reads.Learnt,
@@ -23284,7 +23361,7 @@ sm-same-length-2 : (t : ℕ) → sm-lts.Need-same-length-2 (
 ) (sm-at t) sm.Post
 sm-same-length-2 t c = c .before .before .mo .kept .1 .1 .1 .1 .1 .1 .0 ∙ c .before .before .before .before .before .before .before .before .before .before .before .it .kept .1 .1 .1 .1 .1 .1 .0
 
--- src/lib.rt:388:1
+-- src/lib.rt:389:1
 sm-returns-4 : (t : ℕ) → sm-lts.Need-returns-4 (
   list-reads.Asked,
   list-reads.Learnt,
@@ -23302,12 +23379,12 @@ sm-returns-4 t c = record { is = by-same (list-is (c .before .before .before .be
 
 abbrev sp-Inv-loop : sp-lts.InvT-loop
 sp-Inv-loop run text rec kinds starts lens out₀ mem₀ at cfg r1 s1 n s2 s₀ needs₀ i₀ out mem s needs i =
-    (i ≤ n) × ((r : ℕ) (m′ o′ : List ℕ) → Walked run (page text rec kinds starts lens) (StrExp.app-args (walks (cfg .left)) (cfgOf cfg) needs (n - i)) (runOf s mem out) r m′ o′ → Walked run (page text rec kinds starts lens) (StrExp.app-args (walks (cfg .left)) (cfgOf cfg) false (n - 0)) (runOf s₀ mem₀ out₀) r m′ o′) × (length out ≡ length out₀)
+    (i ≤ n) × ((r : ℕ) (m′ o′ : List ℕ) → Walked false run (page text rec kinds starts lens) (StrExp.app-args (walks (cfg .left)) (cfgOf cfg) needs (n - i)) (runOf s mem out) r m′ o′ → Walked false run (page text rec kinds starts lens) (StrExp.app-args (walks (cfg .left)) (cfgOf cfg) false (n - 0)) (runOf s₀ mem₀ out₀) r m′ o′) × (length out ≡ length out₀)
 
 abbrev sp-μ-loop : sp-lts.MeasureT-loop
 sp-μ-loop run text rec kinds starts lens out₀ mem₀ at cfg r1 s1 n s2 s₀ needs₀ i₀ out mem s needs i = n - i
 
--- src/lib.rt:2219:9
+-- src/lib.rt:2220:9
 sp-text-of-requires : (t : ℕ) → sp-lts.Need-text-of-requires (
   text-of-reads.Asked,
   text-of-reads.Learnt,
@@ -23330,7 +23407,7 @@ sp-text-of-requires : (t : ℕ) → sp-lts.Need-text-of-requires (
 ) (sp-at t) sp.Post sp-Inv-loop sp-μ-loop
 sp-text-of-requires t c κs = search needs
 
--- src/lib.rt:2220:28
+-- src/lib.rt:2221:28
 sp-told-requires : (t : ℕ) → sp-lts.Need-told-requires (
   text-of-reads.Asked,
   text-of-reads.Learnt,
@@ -23353,7 +23430,7 @@ sp-told-requires : (t : ℕ) → sp-lts.Need-told-requires (
 ) (sp-at t) sp.Post sp-Inv-loop sp-μ-loop
 sp-told-requires t c κs = search needs
 
--- src/lib.rt:2220:22
+-- src/lib.rt:2221:22
 sp-enum-known-s1 : (t : ℕ) → sp-lts.Need-enum-known-s1 (
   text-of-reads.Asked,
   text-of-reads.Learnt,
@@ -23376,7 +23453,7 @@ sp-enum-known-s1 : (t : ℕ) → sp-lts.Need-enum-known-s1 (
 ) (sp-at t) sp.Post sp-Inv-loop sp-μ-loop
 sp-enum-known-s1 t c = search needs
 
--- src/lib.rt:2221:9
+-- src/lib.rt:2222:9
 sp-enum-told : (t : ℕ) → sp-lts.Need-enum-told (
   text-of-reads.Asked,
   text-of-reads.Learnt,
@@ -23399,7 +23476,7 @@ sp-enum-told : (t : ℕ) → sp-lts.Need-enum-told (
 ) (sp-at t) sp.Post sp-Inv-loop sp-μ-loop
 sp-enum-told t c = search needs
 
--- src/lib.rt:2221:9
+-- src/lib.rt:2222:9
 sp-same-length : (t : ℕ) → sp-lts.Need-same-length (
   text-of-reads.Asked,
   text-of-reads.Learnt,
@@ -23422,7 +23499,7 @@ sp-same-length : (t : ℕ) → sp-lts.Need-same-length (
 ) (sp-at t) sp.Post sp-Inv-loop sp-μ-loop
 sp-same-length t c = c .before .before .before .before .before .text-of .kept .1 .1 .1 .1 .1 .0
 
--- src/lib.rt:2221:9
+-- src/lib.rt:2222:9
 sp-returns : (t : ℕ) → sp-lts.Need-returns (
   text-of-reads.Asked,
   text-of-reads.Learnt,
@@ -23446,7 +23523,7 @@ sp-returns : (t : ℕ) → sp-lts.Need-returns (
 unfolding StrExp.str-exp
 sp-returns t c = record { is = then-stop (plain (c .before .before .before .before .before .text-of .ensures)) (c .before .before .told .ensures) (c .enum-told .given .1) }
 
--- src/lib.rt:2223:5
+-- src/lib.rt:2224:5
 sp-word-requires : (t : ℕ) → sp-lts.Need-word-requires (
   text-of-reads.Asked,
   text-of-reads.Learnt,
@@ -23469,7 +23546,7 @@ sp-word-requires : (t : ℕ) → sp-lts.Need-word-requires (
 ) (sp-at t) sp.Post sp-Inv-loop sp-μ-loop
 sp-word-requires t c κs = search needs
 
--- src/lib.rt:2224:27
+-- src/lib.rt:2225:27
 sp-list-requires : (t : ℕ) → sp-lts.Need-list-requires (
   text-of-reads.Asked,
   text-of-reads.Learnt,
@@ -23492,7 +23569,7 @@ sp-list-requires : (t : ℕ) → sp-lts.Need-list-requires (
 ) (sp-at t) sp.Post sp-Inv-loop sp-μ-loop
 sp-list-requires t c κs = search needs
 
--- src/lib.rt:2224:18
+-- src/lib.rt:2225:18
 sp-enum-known-n : (t : ℕ) → sp-lts.Need-enum-known-n (
   text-of-reads.Asked,
   text-of-reads.Learnt,
@@ -23515,7 +23592,7 @@ sp-enum-known-n : (t : ℕ) → sp-lts.Need-enum-known-n (
 ) (sp-at t) sp.Post sp-Inv-loop sp-μ-loop
 sp-enum-known-n t c = search needs
 
--- src/lib.rt:2225:9
+-- src/lib.rt:2226:9
 sp-enum-told-2 : (t : ℕ) → sp-lts.Need-enum-told-2 (
   text-of-reads.Asked,
   text-of-reads.Learnt,
@@ -23538,7 +23615,7 @@ sp-enum-told-2 : (t : ℕ) → sp-lts.Need-enum-told-2 (
 ) (sp-at t) sp.Post sp-Inv-loop sp-μ-loop
 sp-enum-told-2 t c = search needs
 
--- src/lib.rt:2225:9
+-- src/lib.rt:2226:9
 sp-stop-requires : (t : ℕ) → sp-lts.Need-stop-requires (
   text-of-reads.Asked,
   text-of-reads.Learnt,
@@ -23561,7 +23638,7 @@ sp-stop-requires : (t : ℕ) → sp-lts.Need-stop-requires (
 ) (sp-at t) sp.Post sp-Inv-loop sp-μ-loop
 sp-stop-requires t c κs = search needs
 
--- src/lib.rt:2225:9
+-- src/lib.rt:2226:9
 sp-same-length-2 : (t : ℕ) → sp-lts.Need-same-length-2 (
   text-of-reads.Asked,
   text-of-reads.Learnt,
@@ -23584,7 +23661,7 @@ sp-same-length-2 : (t : ℕ) → sp-lts.Need-same-length-2 (
 ) (sp-at t) sp.Post sp-Inv-loop sp-μ-loop
 sp-same-length-2 t c = c .before .before .before .before .before .before .word .kept .1 .1 .0 ∙ c .before .before .before .before .before .before .before .before .before .before .before .before .before .before .before .text-of .kept .1 .1 .1 .1 .1 .0
 
--- src/lib.rt:2225:9
+-- src/lib.rt:2226:9
 sp-returns-2 : (t : ℕ) → sp-lts.Need-returns-2 (
   text-of-reads.Asked,
   text-of-reads.Learnt,
@@ -23608,7 +23685,7 @@ sp-returns-2 : (t : ℕ) → sp-lts.Need-returns-2 (
 unfolding StrExp.str-exp
 sp-returns-2 t c = record { is = then-done (plain (c .before .before .before .before .before .before .before .before .before .before .before .before .before .before .before .text-of .ensures)) (c .before .before .before .before .before .before .before .before .before .before .before .before .told .ensures) (c .before .before .before .before .before .before .before .before .before .before .s1 .given .1) (then-sure (c .before .before .before .before .before .before .word .ensures) (list-not (c .stop .ensures) (c .before .before .before .list .ensures) (c .before .enum-told2 .given .1))) }
 
--- src/lib.rt:2230:5
+-- src/lib.rt:2231:5
 sp-loop-holds : (t : ℕ) → sp-lts.Need-loop-holds (
   text-of-reads.Asked,
   text-of-reads.Learnt,
@@ -23631,7 +23708,7 @@ sp-loop-holds : (t : ℕ) → sp-lts.Need-loop-holds (
 ) (sp-at t) sp.Post sp-Inv-loop sp-μ-loop
 sp-loop-holds t c = (omega arith, λ r m o h. h, refl)
 
--- src/lib.rt:2231:31
+-- src/lib.rt:2232:31
 sp-choice-requires : (t : ℕ) → sp-lts.Need-choice-requires (
   text-of-reads.Asked,
   text-of-reads.Learnt,
@@ -23654,7 +23731,7 @@ sp-choice-requires : (t : ℕ) → sp-lts.Need-choice-requires (
 ) (sp-at t) sp.Post sp-Inv-loop sp-μ-loop
 sp-choice-requires t c κs = search needs
 
--- src/lib.rt:2231:22
+-- src/lib.rt:2232:22
 sp-enum-known-k : (t : ℕ) → sp-lts.Need-enum-known-k (
   text-of-reads.Asked,
   text-of-reads.Learnt,
@@ -23677,7 +23754,7 @@ sp-enum-known-k : (t : ℕ) → sp-lts.Need-enum-known-k (
 ) (sp-at t) sp.Post sp-Inv-loop sp-μ-loop
 sp-enum-known-k t c = search needs
 
--- src/lib.rt:2232:13
+-- src/lib.rt:2233:13
 sp-enum-told-3 : (t : ℕ) → sp-lts.Need-enum-told-3 (
   text-of-reads.Asked,
   text-of-reads.Learnt,
@@ -23700,7 +23777,7 @@ sp-enum-told-3 : (t : ℕ) → sp-lts.Need-enum-told-3 (
 ) (sp-at t) sp.Post sp-Inv-loop sp-μ-loop
 sp-enum-told-3 t c = search needs
 
--- src/lib.rt:2232:13
+-- src/lib.rt:2233:13
 sp-stop-requires-2 : (t : ℕ) → sp-lts.Need-stop-requires-2 (
   text-of-reads.Asked,
   text-of-reads.Learnt,
@@ -23723,7 +23800,7 @@ sp-stop-requires-2 : (t : ℕ) → sp-lts.Need-stop-requires-2 (
 ) (sp-at t) sp.Post sp-Inv-loop sp-μ-loop
 sp-stop-requires-2 t c κs = search needs
 
--- src/lib.rt:2232:13
+-- src/lib.rt:2233:13
 sp-same-length-3 : (t : ℕ) → sp-lts.Need-same-length-3 (
   text-of-reads.Asked,
   text-of-reads.Learnt,
@@ -23746,7 +23823,7 @@ sp-same-length-3 : (t : ℕ) → sp-lts.Need-same-length-3 (
 ) (sp-at t) sp.Post sp-Inv-loop sp-μ-loop
 sp-same-length-3 t c = c .before .before .before .before .before .loop .inv .2 ∙ c .before .before .before .before .before .before .before .before .before .before .before .before .word .kept .1 .1 .0 ∙ c .before .before .before .before .before .before .before .before .before .before .before .before .before .before .before .before .before .before .before .before .before .text-of .kept .1 .1 .1 .1 .1 .0
 
--- src/lib.rt:2232:13
+-- src/lib.rt:2233:13
 sp-returns-3 : (t : ℕ) → sp-lts.Need-returns-3 (
   text-of-reads.Asked,
   text-of-reads.Learnt,
@@ -23770,7 +23847,7 @@ sp-returns-3 : (t : ℕ) → sp-lts.Need-returns-3 (
 unfolding StrExp.str-exp
 sp-returns-3 t c = record { is = then-done (plain (c .before .before .before .before .before .before .before .before .before .before .before .before .before .before .before .before .before .before .before .before .before .text-of .ensures)) (c .before .before .before .before .before .before .before .before .before .before .before .before .before .before .before .before .before .before .told .ensures) (c .before .before .before .before .before .before .before .before .before .before .before .before .before .before .before .before .s1 .given .1) (then-sure (c .before .before .before .before .before .before .before .before .before .before .before .before .word .ensures) (by-same (list-is (c .before .before .before .before .before .before .before .before .before .list .ensures) (c .before .before .before .before .before .before .before .n .given .1)) (by-same (args-all _ _ _) (c .before .before .before .before .before .loop .inv .1 _ _ _ (args-more _ _ _ (c .before .before .before .before .loop-test .taken) (choice-not (c .stop2 .ensures) (c .before .before .before .choice .ensures) (c .before .enum-told3 .given .1))))))) }
 
--- src/lib.rt:2234:13
+-- src/lib.rt:2235:13
 sp-sa-requires : (t : ℕ) → sp-lts.Need-sa-requires (
   text-of-reads.Asked,
   text-of-reads.Learnt,
@@ -23793,7 +23870,7 @@ sp-sa-requires : (t : ℕ) → sp-lts.Need-sa-requires (
 ) (sp-at t) sp.Post sp-Inv-loop sp-μ-loop
 sp-sa-requires t c κs = omega (arith, c .before .before .before .before .before .before .before .before .before .before .before .before .before .before .before .before .before .before .before .before .before .before .before .before .before .before .before .before .before .before .before .before .pre .0, c .before .before .before .before .before .before .before .before .before .before .before .before .before .before .before .before .before .before .before .before .before .before .before .before .before .before .before .before .before .before .before .before .pre .1)
 
--- src/lib.rt:2235:32
+-- src/lib.rt:2236:32
 sp-told-requires-2 : (t : ℕ) → sp-lts.Need-told-requires-2 (
   text-of-reads.Asked,
   text-of-reads.Learnt,
@@ -23816,7 +23893,7 @@ sp-told-requires-2 : (t : ℕ) → sp-lts.Need-told-requires-2 (
 ) (sp-at t) sp.Post sp-Inv-loop sp-μ-loop
 sp-told-requires-2 t c κs = search needs
 
--- src/lib.rt:2235:26
+-- src/lib.rt:2236:26
 sp-enum-known-s4 : (t : ℕ) → sp-lts.Need-enum-known-s4 (
   text-of-reads.Asked,
   text-of-reads.Learnt,
@@ -23839,7 +23916,7 @@ sp-enum-known-s4 : (t : ℕ) → sp-lts.Need-enum-known-s4 (
 ) (sp-at t) sp.Post sp-Inv-loop sp-μ-loop
 sp-enum-known-s4 t c = search needs
 
--- src/lib.rt:2236:13
+-- src/lib.rt:2237:13
 sp-enum-told-4 : (t : ℕ) → sp-lts.Need-enum-told-4 (
   text-of-reads.Asked,
   text-of-reads.Learnt,
@@ -23862,7 +23939,7 @@ sp-enum-told-4 : (t : ℕ) → sp-lts.Need-enum-told-4 (
 ) (sp-at t) sp.Post sp-Inv-loop sp-μ-loop
 sp-enum-told-4 t c = search needs
 
--- src/lib.rt:2236:13
+-- src/lib.rt:2237:13
 sp-same-length-4 : (t : ℕ) → sp-lts.Need-same-length-4 (
   text-of-reads.Asked,
   text-of-reads.Learnt,
@@ -23885,7 +23962,7 @@ sp-same-length-4 : (t : ℕ) → sp-lts.Need-same-length-4 (
 ) (sp-at t) sp.Post sp-Inv-loop sp-μ-loop
 sp-same-length-4 t c = c .before .before .before .before .before .sa .kept .1 .1 .1 .1 .1 .1 .0 ∙ c .before .before .before .before .before .before .before .before .before .before .before .before .before .loop .inv .2 ∙ c .before .before .before .before .before .before .before .before .before .before .before .before .before .before .before .before .before .before .before .before .word .kept .1 .1 .0 ∙ c .before .before .before .before .before .before .before .before .before .before .before .before .before .before .before .before .before .before .before .before .before .before .before .before .before .before .before .before .before .text-of .kept .1 .1 .1 .1 .1 .0
 
--- src/lib.rt:2236:13
+-- src/lib.rt:2237:13
 sp-returns-4 : (t : ℕ) → sp-lts.Need-returns-4 (
   text-of-reads.Asked,
   text-of-reads.Learnt,
@@ -23909,7 +23986,7 @@ sp-returns-4 : (t : ℕ) → sp-lts.Need-returns-4 (
 unfolding StrExp.str-exp
 sp-returns-4 t c = record { is = then-done (plain (c .before .before .before .before .before .before .before .before .before .before .before .before .before .before .before .before .before .before .before .before .before .before .before .before .before .before .before .before .before .text-of .ensures)) (c .before .before .before .before .before .before .before .before .before .before .before .before .before .before .before .before .before .before .before .before .before .before .before .before .before .before .told .ensures) (c .before .before .before .before .before .before .before .before .before .before .before .before .before .before .before .before .before .before .before .before .before .before .before .before .s1 .given .1) (then-sure (c .before .before .before .before .before .before .before .before .before .before .before .before .before .before .before .before .before .before .before .before .word .ensures) (by-same (list-is (c .before .before .before .before .before .before .before .before .before .before .before .before .before .before .before .before .before .list .ensures) (c .before .before .before .before .before .before .before .before .before .before .before .before .before .before .before .n .given .1)) (by-same (args-all _ _ _) (c .before .before .before .before .before .before .before .before .before .before .before .before .before .loop .inv .1 _ _ _ (args-more _ _ _ (c .before .before .before .before .before .before .before .before .before .before .before .before .loop-test .taken) (by-same (choice-is (c .before .before .before .before .before .before .before .before .before .before .before .choice .ensures) (c .before .before .before .before .before .before .before .before .before .k .given .1)) (then-stop (c .before .before .before .before .before .sa .ensures .is) (c .before .before .told2 .ensures) (c .enum-told4 .given .1)))))))) }
 
--- src/lib.rt:2238:9
+-- src/lib.rt:2239:9
 sp-later-needs-requires : (t : ℕ) → sp-lts.Need-later-needs-requires (
   text-of-reads.Asked,
   text-of-reads.Learnt,
@@ -23932,7 +24009,7 @@ sp-later-needs-requires : (t : ℕ) → sp-lts.Need-later-needs-requires (
 ) (sp-at t) sp.Post sp-Inv-loop sp-μ-loop
 sp-later-needs-requires t c κs = search needs
 
--- src/lib.rt:2240:9
+-- src/lib.rt:2241:9
 sp-add-i : (t : ℕ) → sp-lts.Need-add-i (
   text-of-reads.Asked,
   text-of-reads.Learnt,
@@ -23955,7 +24032,7 @@ sp-add-i : (t : ℕ) → sp-lts.Need-add-i (
 ) (sp-at t) sp.Post sp-Inv-loop sp-μ-loop
 sp-add-i t c = omega (arith, c .before .before .before .before .before .before .before .before .before .before .before .before .before .before .loop-test .taken, c .before .before .before .before .before .before .before .before .before .before .before .before .before .before .before .before .known-told2)
 
--- src/lib.rt:2230:5
+-- src/lib.rt:2231:5
 sp-loop-less : (t : ℕ) → sp-lts.Need-loop-less (
   text-of-reads.Asked,
   text-of-reads.Learnt,
@@ -23978,7 +24055,7 @@ sp-loop-less : (t : ℕ) → sp-lts.Need-loop-less (
 ) (sp-at t) sp.Post sp-Inv-loop sp-μ-loop
 sp-loop-less t c = omega arith
 
--- src/lib.rt:2230:5
+-- src/lib.rt:2231:5
 sp-loop-again : (t : ℕ) → sp-lts.Need-loop-again (
   text-of-reads.Asked,
   text-of-reads.Learnt,
@@ -24002,7 +24079,7 @@ sp-loop-again : (t : ℕ) → sp-lts.Need-loop-again (
 unfolding StrExp.str-exp
 sp-loop-again t c = (omega (arith, c .before .before .before .before .before .before .before .before .before .before .before .before .before .before .before .loop .inv .0), λ r m o h. c .before .before .before .before .before .before .before .before .before .before .before .before .before .before .before .loop .inv .1 r m o (args-more _ _ _ (c .before .before .before .before .before .before .before .before .before .before .before .before .before .before .loop-test .taken) (by-same (choice-is (c .before .before .before .before .before .before .before .before .before .before .before .before .before .choice .ensures) (c .before .before .before .before .before .before .before .before .before .before .before .k .given .1)) (then-done (c .before .before .before .before .before .before .before .sa .ensures .is) (c .before .before .before .before .told2 .ensures) (c .before .before .s4 .given .1) ((args-needs _ _ _ (c .later-needs .ensures) h))))), c .before .before .before .before .before .before .before .sa .kept .1 .1 .1 .1 .1 .1 .0 ∙ c .before .before .before .before .before .before .before .before .before .before .before .before .before .before .before .loop .inv .2)
 
--- src/lib.rt:2242:5
+-- src/lib.rt:2243:5
 sp-app-end-requires : (t : ℕ) → sp-lts.Need-app-end-requires (
   text-of-reads.Asked,
   text-of-reads.Learnt,
@@ -24025,7 +24102,7 @@ sp-app-end-requires : (t : ℕ) → sp-lts.Need-app-end-requires (
 ) (sp-at t) sp.Post sp-Inv-loop sp-μ-loop
 sp-app-end-requires t c κs = search needs
 
--- src/lib.rt:2204:1
+-- src/lib.rt:2205:1
 sp-same-length-5 : (t : ℕ) → sp-lts.Need-same-length-5 (
   text-of-reads.Asked,
   text-of-reads.Learnt,
@@ -24048,7 +24125,7 @@ sp-same-length-5 : (t : ℕ) → sp-lts.Need-same-length-5 (
 ) (sp-at t) sp.Post sp-Inv-loop sp-μ-loop
 sp-same-length-5 t c = c .before .before .app-end .kept .1 .1 .0 ∙ c .before .before .before .before .before .before .loop .inv .2 ∙ c .before .before .before .before .before .before .before .before .before .before .before .before .before .word .kept .1 .1 .0 ∙ c .before .before .before .before .before .before .before .before .before .before .before .before .before .before .before .before .before .before .before .before .before .before .text-of .kept .1 .1 .1 .1 .1 .0
 
--- src/lib.rt:2204:1
+-- src/lib.rt:2205:1
 sp-returns-5 : (t : ℕ) → sp-lts.Need-returns-5 (
   text-of-reads.Asked,
   text-of-reads.Learnt,
@@ -24072,7 +24149,7 @@ sp-returns-5 : (t : ℕ) → sp-lts.Need-returns-5 (
 unfolding StrExp.str-exp
 sp-returns-5 t c = record { is = then-done (plain (c .before .before .before .before .before .before .before .before .before .before .before .before .before .before .before .before .before .before .before .before .before .before .text-of .ensures)) (c .before .before .before .before .before .before .before .before .before .before .before .before .before .before .before .before .before .before .before .told .ensures) (c .before .before .before .before .before .before .before .before .before .before .before .before .before .before .before .before .before .s1 .given .1) (then-sure (c .before .before .before .before .before .before .before .before .before .before .before .before .before .word .ensures) (by-same (list-is (c .before .before .before .before .before .before .before .before .before .before .list .ensures) (c .before .before .before .before .before .before .before .before .n .given .1)) (by-same (args-all _ _ _) (c .before .before .before .before .before .before .loop .inv .1 _ _ _ (args-none _ _ _ (c .before .before .before .before .before .loop-test .left) (last-sure (c .before .before .app-end .ensures))))))) }
 
--- src/lib.rt:1198:9
+-- src/lib.rt:1199:9
 sq-group-requires : (t : ℕ) → sq-lts.Need-group-requires (
   group-reads.Asked,
   group-reads.Learnt,
@@ -24085,7 +24162,7 @@ sq-group-requires : (t : ℕ) → sq-lts.Need-group-requires (
 ) (sq-at t) sq.Post
 sq-group-requires t c κs = search needs
 
--- src/lib.rt:1199:28
+-- src/lib.rt:1200:28
 sq-told-requires : (t : ℕ) → sq-lts.Need-told-requires (
   group-reads.Asked,
   group-reads.Learnt,
@@ -24098,7 +24175,7 @@ sq-told-requires : (t : ℕ) → sq-lts.Need-told-requires (
 ) (sq-at t) sq.Post
 sq-told-requires t c κs = search needs
 
--- src/lib.rt:1199:22
+-- src/lib.rt:1200:22
 sq-enum-known-s1 : (t : ℕ) → sq-lts.Need-enum-known-s1 (
   group-reads.Asked,
   group-reads.Learnt,
@@ -24111,7 +24188,7 @@ sq-enum-known-s1 : (t : ℕ) → sq-lts.Need-enum-known-s1 (
 ) (sq-at t) sq.Post
 sq-enum-known-s1 t c = search needs
 
--- src/lib.rt:1200:9
+-- src/lib.rt:1201:9
 sq-enum-told : (t : ℕ) → sq-lts.Need-enum-told (
   group-reads.Asked,
   group-reads.Learnt,
@@ -24124,7 +24201,7 @@ sq-enum-told : (t : ℕ) → sq-lts.Need-enum-told (
 ) (sq-at t) sq.Post
 sq-enum-told t c = search needs
 
--- src/lib.rt:1200:9
+-- src/lib.rt:1201:9
 sq-returns : (t : ℕ) → sq-lts.Need-returns (
   group-reads.Asked,
   group-reads.Learnt,
@@ -24138,7 +24215,7 @@ sq-returns : (t : ℕ) → sq-lts.Need-returns (
 unfolding GetDec.dec-in-seq Helpers.with-extra-blank Helpers.semicolon
 sq-returns t c = record { is = group-not (c .before .before .before .group .ensures) (c .before .before .told .ensures) (c .enum-told .given .1) }
 
--- src/lib.rt:1207:9
+-- src/lib.rt:1208:9
 sq-one-requires : (t : ℕ) → sq-lts.Need-one-requires (
   group-reads.Asked,
   group-reads.Learnt,
@@ -24151,7 +24228,7 @@ sq-one-requires : (t : ℕ) → sq-lts.Need-one-requires (
 ) (sq-at t) sq.Post
 sq-one-requires t c κs = omega (arith, c .before .before .before .before .before .before .before .before .before .before .before .before .before .pre .0, c .before .before .before .before .before .before .before .before .before .before .before .before .before .pre .1)
 
--- src/lib.rt:1208:28
+-- src/lib.rt:1209:28
 sq-told-requires-2 : (t : ℕ) → sq-lts.Need-told-requires-2 (
   group-reads.Asked,
   group-reads.Learnt,
@@ -24164,7 +24241,7 @@ sq-told-requires-2 : (t : ℕ) → sq-lts.Need-told-requires-2 (
 ) (sq-at t) sq.Post
 sq-told-requires-2 t c κs = search needs
 
--- src/lib.rt:1208:22
+-- src/lib.rt:1209:22
 sq-enum-known-s2 : (t : ℕ) → sq-lts.Need-enum-known-s2 (
   group-reads.Asked,
   group-reads.Learnt,
@@ -24177,7 +24254,7 @@ sq-enum-known-s2 : (t : ℕ) → sq-lts.Need-enum-known-s2 (
 ) (sq-at t) sq.Post
 sq-enum-known-s2 t c = search needs
 
--- src/lib.rt:1209:9
+-- src/lib.rt:1210:9
 sq-enum-told-2 : (t : ℕ) → sq-lts.Need-enum-told-2 (
   group-reads.Asked,
   group-reads.Learnt,
@@ -24190,7 +24267,7 @@ sq-enum-told-2 : (t : ℕ) → sq-lts.Need-enum-told-2 (
 ) (sq-at t) sq.Post
 sq-enum-told-2 t c = search needs
 
--- src/lib.rt:1209:9
+-- src/lib.rt:1210:9
 sq-same-length : (t : ℕ) → sq-lts.Need-same-length (
   group-reads.Asked,
   group-reads.Learnt,
@@ -24203,7 +24280,7 @@ sq-same-length : (t : ℕ) → sq-lts.Need-same-length (
 ) (sq-at t) sq.Post
 sq-same-length t c = c .before .before .before .before .before .one .kept .1 .1 .1 .1 .1 .1 .0
 
--- src/lib.rt:1209:9
+-- src/lib.rt:1210:9
 sq-returns-2 : (t : ℕ) → sq-lts.Need-returns-2 (
   group-reads.Asked,
   group-reads.Learnt,
@@ -24217,7 +24294,7 @@ sq-returns-2 : (t : ℕ) → sq-lts.Need-returns-2 (
 unfolding GetDec.dec-in-seq Helpers.with-extra-blank Helpers.semicolon
 sq-returns-2 t c = record { is = by-same (group-is (c .before .before .before .before .before .before .before .before .before .before .before .before .group .ensures) (c .before .before .before .before .before .before .before .before .before .before .before .told .ensures) (c .before .before .before .before .before .before .before .before .before .s1 .given .1)) (then-stop (c .before .before .before .before .before .one .ensures .is) (c .before .before .told2 .ensures) (c .enum-told2 .given .1)) }
 
--- src/lib.rt:1211:5
+-- src/lib.rt:1212:5
 sq-word-if-requires : (t : ℕ) → sq-lts.Need-word-if-requires (
   group-reads.Asked,
   group-reads.Learnt,
@@ -24230,7 +24307,7 @@ sq-word-if-requires : (t : ℕ) → sq-lts.Need-word-if-requires (
 ) (sq-at t) sq.Post
 sq-word-if-requires t c κs = search needs
 
--- src/lib.rt:1183:1
+-- src/lib.rt:1184:1
 sq-same-length-2 : (t : ℕ) → sq-lts.Need-same-length-2 (
   group-reads.Asked,
   group-reads.Learnt,
@@ -24243,7 +24320,7 @@ sq-same-length-2 : (t : ℕ) → sq-lts.Need-same-length-2 (
 ) (sq-at t) sq.Post
 sq-same-length-2 t c = c .before .before .word-if .kept .1 .1 .1 .1 .1 .0 ∙ c .before .before .before .before .before .before .before .before .before .before .before .one .kept .1 .1 .1 .1 .1 .1 .0
 
--- src/lib.rt:1183:1
+-- src/lib.rt:1184:1
 sq-returns-3 : (t : ℕ) → sq-lts.Need-returns-3 (
   group-reads.Asked,
   group-reads.Learnt,
@@ -24257,7 +24334,7 @@ sq-returns-3 : (t : ℕ) → sq-lts.Need-returns-3 (
 unfolding GetDec.dec-in-seq Helpers.with-extra-blank Helpers.semicolon
 sq-returns-3 t c = record { is = by-same (group-is (c .before .before .before .before .before .before .before .before .before .before .before .before .before .before .before .before .before .before .group .ensures) (c .before .before .before .before .before .before .before .before .before .before .before .before .before .before .before .before .before .told .ensures) (c .before .before .before .before .before .before .before .before .before .before .before .before .before .before .before .s1 .given .1)) (then-done (c .before .before .before .before .before .before .before .before .before .before .before .one .ensures .is) (c .before .before .before .before .before .before .before .before .told2 .ensures) (c .before .before .before .before .before .before .s2 .given .1) (plain (c .before .before .word-if .ensures))) }
 
--- src/lib.rt:2112:5
+-- src/lib.rt:2113:5
 ss-word-requires : (t : ℕ) → ss-lts.Need-word-requires (
   word-reads.Asked,
   word-reads.Learnt,
@@ -24274,7 +24351,7 @@ ss-word-requires : (t : ℕ) → ss-lts.Need-word-requires (
 ) (ss-at t) ss.Post
 ss-word-requires t c κs = search needs
 
--- src/lib.rt:2113:5
+-- src/lib.rt:2114:5
 ss-indent-deeper-requires : (t : ℕ) → ss-lts.Need-indent-deeper-requires (
   word-reads.Asked,
   word-reads.Learnt,
@@ -24291,7 +24368,7 @@ ss-indent-deeper-requires : (t : ℕ) → ss-lts.Need-indent-deeper-requires (
 ) (ss-at t) ss.Post
 ss-indent-deeper-requires t c κs = omega (arith, c .before .before .before .before .before .before .before .before .before .before .before .before .before .pre .1)
 
--- src/lib.rt:2119:9
+-- src/lib.rt:2120:9
 ss-indented-requires : (t : ℕ) → ss-lts.Need-indented-requires (
   word-reads.Asked,
   word-reads.Learnt,
@@ -24308,7 +24385,7 @@ ss-indented-requires : (t : ℕ) → ss-lts.Need-indented-requires (
 ) (ss-at t) ss.Post
 ss-indented-requires t c κs = omega (arith, c .before .before .before .before .before .before .before .before .before .before .before .before .before .before .before .before .pre .1)
 
--- src/lib.rt:2120:9
+-- src/lib.rt:2121:9
 ss-ds-requires : (t : ℕ) → ss-lts.Need-ds-requires (
   word-reads.Asked,
   word-reads.Learnt,
@@ -24325,7 +24402,7 @@ ss-ds-requires : (t : ℕ) → ss-lts.Need-ds-requires (
 ) (ss-at t) ss.Post
 ss-ds-requires t c κs = omega (arith, c .before .before .before .before .before .before .before .before .before .before .before .before .before .before .before .before .before .before .before .pre .0, c .before .before .before .before .before .before .before .before .before .before .before .before .before .before .before .before .before .before .before .pre .1, deep-depth (c .before .before .indented .ensures), deep-left (c .before .before .indented .ensures))
 
--- src/lib.rt:2121:28
+-- src/lib.rt:2122:28
 ss-told-requires : (t : ℕ) → ss-lts.Need-told-requires (
   word-reads.Asked,
   word-reads.Learnt,
@@ -24342,7 +24419,7 @@ ss-told-requires : (t : ℕ) → ss-lts.Need-told-requires (
 ) (ss-at t) ss.Post
 ss-told-requires t c κs = search needs
 
--- src/lib.rt:2121:22
+-- src/lib.rt:2122:22
 ss-enum-known-s1 : (t : ℕ) → ss-lts.Need-enum-known-s1 (
   word-reads.Asked,
   word-reads.Learnt,
@@ -24359,7 +24436,7 @@ ss-enum-known-s1 : (t : ℕ) → ss-lts.Need-enum-known-s1 (
 ) (ss-at t) ss.Post
 ss-enum-known-s1 t c = search needs
 
--- src/lib.rt:2122:9
+-- src/lib.rt:2123:9
 ss-enum-told : (t : ℕ) → ss-lts.Need-enum-told (
   word-reads.Asked,
   word-reads.Learnt,
@@ -24376,7 +24453,7 @@ ss-enum-told : (t : ℕ) → ss-lts.Need-enum-told (
 ) (ss-at t) ss.Post
 ss-enum-told t c = search needs
 
--- src/lib.rt:2122:9
+-- src/lib.rt:2123:9
 ss-same-length : (t : ℕ) → ss-lts.Need-same-length (
   word-reads.Asked,
   word-reads.Learnt,
@@ -24393,7 +24470,7 @@ ss-same-length : (t : ℕ) → ss-lts.Need-same-length (
 ) (ss-at t) ss.Post
 ss-same-length t c = c .before .before .before .before .before .ds .kept .1 .1 .1 .1 .1 .1 .0 ∙ c .before .before .before .before .before .before .before .before .before .before .before .indent-deeper .kept .0 ∙ c .before .before .before .before .before .before .before .before .before .before .before .before .before .before .before .before .word .kept .1 .1 .0
 
--- src/lib.rt:2122:9
+-- src/lib.rt:2123:9
 ss-returns : (t : ℕ) → ss-lts.Need-returns (
   word-reads.Asked,
   word-reads.Learnt,
@@ -24411,7 +24488,7 @@ ss-returns : (t : ℕ) → ss-lts.Need-returns (
 unfolding StrExp.str-exp Helpers.with-extra-blank Helpers.indent-deeper Helpers.deepen
 ss-returns t c = record { is = then-sure (c .before .before .before .before .before .before .before .before .before .before .before .before .before .before .before .before .word .ensures) (then-both (c .before .before .before .before .before .before .before .before .before .before .before .indent-deeper .ensures _) (then-stop (along (c .before .before .before .before .before .before .before .before .indented .ensures) (c .before .before .before .before .before .ds .ensures)) (c .before .before .told .ensures) (c .enum-told .given .1))) }
 
--- src/lib.rt:2124:5
+-- src/lib.rt:2125:5
 ss-line-requires : (t : ℕ) → ss-lts.Need-line-requires (
   word-reads.Asked,
   word-reads.Learnt,
@@ -24428,7 +24505,7 @@ ss-line-requires : (t : ℕ) → ss-lts.Need-line-requires (
 ) (ss-at t) ss.Post
 ss-line-requires t c κs = search needs
 
--- src/lib.rt:2125:5
+-- src/lib.rt:2126:5
 ss-word-requires-2 : (t : ℕ) → ss-lts.Need-word-requires-2 (
   word-reads.Asked,
   word-reads.Learnt,
@@ -24445,7 +24522,7 @@ ss-word-requires-2 : (t : ℕ) → ss-lts.Need-word-requires-2 (
 ) (ss-at t) ss.Post
 ss-word-requires-2 t c κs = search needs
 
--- src/lib.rt:2097:1
+-- src/lib.rt:2098:1
 ss-same-length-2 : (t : ℕ) → ss-lts.Need-same-length-2 (
   word-reads.Asked,
   word-reads.Learnt,
@@ -24462,7 +24539,7 @@ ss-same-length-2 : (t : ℕ) → ss-lts.Need-same-length-2 (
 ) (ss-at t) ss.Post
 ss-same-length-2 t c = c .before .before .word2 .kept .1 .1 .0 ∙ c .before .before .before .before .before .before .before .line .kept .1 .1 .0 ∙ c .before .before .before .before .before .before .before .before .before .before .before .before .before .before .before .before .ds .kept .1 .1 .1 .1 .1 .1 .0 ∙ c .before .before .before .before .before .before .before .before .before .before .before .before .before .before .before .before .before .before .before .before .before .before .indent-deeper .kept .0 ∙ c .before .before .before .before .before .before .before .before .before .before .before .before .before .before .before .before .before .before .before .before .before .before .before .before .before .before .before .word .kept .1 .1 .0
 
--- src/lib.rt:2097:1
+-- src/lib.rt:2098:1
 ss-returns-2 : (t : ℕ) → ss-lts.Need-returns-2 (
   word-reads.Asked,
   word-reads.Learnt,
@@ -24480,7 +24557,7 @@ ss-returns-2 : (t : ℕ) → ss-lts.Need-returns-2 (
 unfolding StrExp.str-exp Helpers.with-extra-blank Helpers.indent-deeper Helpers.deepen
 ss-returns-2 t c = record { is = then-sure (c .before .before .before .before .before .before .before .before .before .before .before .before .before .before .before .before .before .before .before .before .before .before .before .before .before .before .before .word .ensures) (then-both (c .before .before .before .before .before .before .before .before .before .before .before .before .before .before .before .before .before .before .before .before .before .before .indent-deeper .ensures _) (then-done (along (c .before .before .before .before .before .before .before .before .before .before .before .before .before .before .before .before .before .before .before .indented .ensures) (c .before .before .before .before .before .before .before .before .before .before .before .before .before .before .before .before .ds .ensures)) (c .before .before .before .before .before .before .before .before .before .before .before .before .before .told .ensures) (c .before .before .before .before .before .before .before .before .before .before .before .s1 .given .1) (then-both (c .before .before .before .before .before .before .before .line .ensures) (last-sure (c .before .before .word2 .ensures))))) }
 
--- src/lib.rt:2076:9
+-- src/lib.rt:2077:9
 str-stop-requires : (t : ℕ) → str-lts.Need-stop-requires (
   stop-reads.Asked,
   stop-reads.Learnt,
@@ -24499,7 +24576,7 @@ str-stop-requires : (t : ℕ) → str-lts.Need-stop-requires (
 ) (str-at t) str.Post
 str-stop-requires t c κs = search needs
 
--- src/lib.rt:2076:9
+-- src/lib.rt:2077:9
 str-returns : (t : ℕ) → str-lts.Need-returns (
   stop-reads.Asked,
   stop-reads.Learnt,
@@ -24519,7 +24596,7 @@ str-returns : (t : ℕ) → str-lts.Need-returns (
 unfolding StrExp.str-exps StrExp.str-exp
 str-returns t c = record { is = str-zero _ _ (c .before .if1 .taken) (c .stop .ensures) }
 
--- src/lib.rt:2078:26
+-- src/lib.rt:2079:26
 str-form-requires : (t : ℕ) → str-lts.Need-form-requires (
   stop-reads.Asked,
   stop-reads.Learnt,
@@ -24538,7 +24615,7 @@ str-form-requires : (t : ℕ) → str-lts.Need-form-requires (
 ) (str-at t) str.Post
 str-form-requires t c κs = search needs
 
--- src/lib.rt:2078:18
+-- src/lib.rt:2079:18
 str-enum-known-k : (t : ℕ) → str-lts.Need-enum-known-k (
   stop-reads.Asked,
   stop-reads.Learnt,
@@ -24557,7 +24634,7 @@ str-enum-known-k : (t : ℕ) → str-lts.Need-enum-known-k (
 ) (str-at t) str.Post
 str-enum-known-k t c = search needs
 
--- src/lib.rt:2079:9
+-- src/lib.rt:2080:9
 str-enum-told : (t : ℕ) → str-lts.Need-enum-told (
   stop-reads.Asked,
   stop-reads.Learnt,
@@ -24576,7 +24653,7 @@ str-enum-told : (t : ℕ) → str-lts.Need-enum-told (
 ) (str-at t) str.Post
 str-enum-told t c = search needs
 
--- src/lib.rt:2079:9
+-- src/lib.rt:2080:9
 str-stop-requires-2 : (t : ℕ) → str-lts.Need-stop-requires-2 (
   stop-reads.Asked,
   stop-reads.Learnt,
@@ -24595,7 +24672,7 @@ str-stop-requires-2 : (t : ℕ) → str-lts.Need-stop-requires-2 (
 ) (str-at t) str.Post
 str-stop-requires-2 t c κs = search needs
 
--- src/lib.rt:2079:9
+-- src/lib.rt:2080:9
 str-returns-2 : (t : ℕ) → str-lts.Need-returns-2 (
   stop-reads.Asked,
   stop-reads.Learnt,
@@ -24615,7 +24692,7 @@ str-returns-2 : (t : ℕ) → str-lts.Need-returns-2 (
 unfolding StrExp.str-exps StrExp.str-exp
 str-returns-2 t c = record { is = str-form _ _ (c .before .before .before .before .if1 .left) (form-not (c .stop2 .ensures) (c .before .before .before .form .ensures) (c .before .enum-told .given .1)) }
 
--- src/lib.rt:2084:15
+-- src/lib.rt:2085:15
 str-sub-t18 : (t : ℕ) → str-lts.Need-sub-t18 (
   stop-reads.Asked,
   stop-reads.Learnt,
@@ -24634,7 +24711,7 @@ str-sub-t18 : (t : ℕ) → str-lts.Need-sub-t18 (
 ) (str-at t) str.Post
 str-sub-t18 t c = search needs
 
--- src/lib.rt:2087:14
+-- src/lib.rt:2088:14
 str-ss-requires : (t : ℕ) → str-lts.Need-ss-requires (
   stop-reads.Asked,
   stop-reads.Learnt,
@@ -24653,7 +24730,7 @@ str-ss-requires : (t : ℕ) → str-lts.Need-ss-requires (
 ) (str-at t) str.Post
 str-ss-requires t c κs = omega (arith, c .before .before .before .before .before .before .before .before .before .before .before .before .before .before .pre .0, c .before .before .before .before .before .before .before .before .before .before .before .before .before .before .pre .1, c .before .before .before .before .before .before .before .if1 .left)
 
--- src/lib.rt:2088:14
+-- src/lib.rt:2089:14
 str-path-requires : (t : ℕ) → str-lts.Need-path-requires (
   stop-reads.Asked,
   stop-reads.Learnt,
@@ -24672,7 +24749,7 @@ str-path-requires : (t : ℕ) → str-lts.Need-path-requires (
 ) (str-at t) str.Post
 str-path-requires t c κs = search needs
 
--- src/lib.rt:2089:14
+-- src/lib.rt:2090:14
 str-an-requires : (t : ℕ) → str-lts.Need-an-requires (
   stop-reads.Asked,
   stop-reads.Learnt,
@@ -24691,7 +24768,7 @@ str-an-requires : (t : ℕ) → str-lts.Need-an-requires (
 ) (str-at t) str.Post
 str-an-requires t c κs = omega (arith, c .before .before .before .before .before .before .before .before .before .before .before .before .before .before .pre .0, c .before .before .before .before .before .before .before .before .before .before .before .before .before .before .pre .1, c .before .before .before .before .before .before .before .if1 .left)
 
--- src/lib.rt:2090:14
+-- src/lib.rt:2091:14
 str-sp-requires : (t : ℕ) → str-lts.Need-sp-requires (
   stop-reads.Asked,
   stop-reads.Learnt,
@@ -24710,7 +24787,7 @@ str-sp-requires : (t : ℕ) → str-lts.Need-sp-requires (
 ) (str-at t) str.Post
 str-sp-requires t c κs = omega (arith, c .before .before .before .before .before .before .before .before .before .before .before .before .before .before .pre .0, c .before .before .before .before .before .before .before .before .before .before .before .before .before .before .pre .1, c .before .before .before .before .before .before .before .if1 .left)
 
--- src/lib.rt:2091:14
+-- src/lib.rt:2092:14
 str-sl-requires : (t : ℕ) → str-lts.Need-sl-requires (
   stop-reads.Asked,
   stop-reads.Learnt,
@@ -24729,7 +24806,7 @@ str-sl-requires : (t : ℕ) → str-lts.Need-sl-requires (
 ) (str-at t) str.Post
 str-sl-requires t c κs = omega (arith, c .before .before .before .before .before .before .before .before .before .before .before .before .before .before .pre .0, c .before .before .before .before .before .before .before .before .before .before .before .before .before .before .pre .1, c .before .before .before .before .before .before .before .if1 .left)
 
--- src/lib.rt:2092:14
+-- src/lib.rt:2093:14
 str-stop-requires-3 : (t : ℕ) → str-lts.Need-stop-requires-3 (
   stop-reads.Asked,
   stop-reads.Learnt,
@@ -24748,7 +24825,7 @@ str-stop-requires-3 : (t : ℕ) → str-lts.Need-stop-requires-3 (
 ) (str-at t) str.Post
 str-stop-requires-3 t c κs = search needs
 
--- src/lib.rt:2059:1
+-- src/lib.rt:2060:1
 str-same-length : (t : ℕ) → str-lts.Need-same-length (
   stop-reads.Asked,
   stop-reads.Learnt,
@@ -24767,7 +24844,7 @@ str-same-length : (t : ℕ) → str-lts.Need-same-length (
 ) (str-at t) str.Post
 str-same-length t c = c .before .before .ss .kept .1 .1 .1 .1 .1 .1 .0
 
--- src/lib.rt:2059:1
+-- src/lib.rt:2060:1
 str-returns-3 : (t : ℕ) → str-lts.Need-returns-3 (
   stop-reads.Asked,
   stop-reads.Learnt,
@@ -24787,7 +24864,7 @@ str-returns-3 : (t : ℕ) → str-lts.Need-returns-3 (
 unfolding StrExp.str-exps StrExp.str-exp
 str-returns-3 t c = record { is = str-form _ _ (c .before .before .before .before .before .before .before .before .before .before .if1 .left) (form-key (c .before .before .before .before .before .before .before .before .before .form .ensures) (c .before .before .before .before .before .before .before .k .given .1) (c .before .before .before .before .before .match2 .keys1) (c .before .before .ss .ensures .is)) }
 
--- src/lib.rt:2059:1
+-- src/lib.rt:2060:1
 str-same-length-2 : (t : ℕ) → str-lts.Need-same-length-2 (
   stop-reads.Asked,
   stop-reads.Learnt,
@@ -24806,7 +24883,7 @@ str-same-length-2 : (t : ℕ) → str-lts.Need-same-length-2 (
 ) (str-at t) str.Post
 str-same-length-2 t c = c .before .before .path .kept .1 .1 .1 .1 .1 .0
 
--- src/lib.rt:2059:1
+-- src/lib.rt:2060:1
 str-returns-4 : (t : ℕ) → str-lts.Need-returns-4 (
   stop-reads.Asked,
   stop-reads.Learnt,
@@ -24826,7 +24903,7 @@ str-returns-4 : (t : ℕ) → str-lts.Need-returns-4 (
 unfolding StrExp.str-exps StrExp.str-exp
 str-returns-4 t c = record { is = str-form _ _ (c .before .before .before .before .before .before .before .before .before .before .if1 .left) (form-key (c .before .before .before .before .before .before .before .before .before .form .ensures) (c .before .before .before .before .before .before .before .k .given .1) (c .before .before .before .before .before .match2 .keys2) (plain (c .before .before .path .ensures))) }
 
--- src/lib.rt:2059:1
+-- src/lib.rt:2060:1
 str-same-length-3 : (t : ℕ) → str-lts.Need-same-length-3 (
   stop-reads.Asked,
   stop-reads.Learnt,
@@ -24845,7 +24922,7 @@ str-same-length-3 : (t : ℕ) → str-lts.Need-same-length-3 (
 ) (str-at t) str.Post
 str-same-length-3 t c = c .before .before .an .kept .1 .1 .1 .1 .1 .1 .0
 
--- src/lib.rt:2059:1
+-- src/lib.rt:2060:1
 str-returns-5 : (t : ℕ) → str-lts.Need-returns-5 (
   stop-reads.Asked,
   stop-reads.Learnt,
@@ -24865,7 +24942,7 @@ str-returns-5 : (t : ℕ) → str-lts.Need-returns-5 (
 unfolding StrExp.str-exps StrExp.str-exp
 str-returns-5 t c = record { is = str-form _ _ (c .before .before .before .before .before .before .before .before .before .before .if1 .left) (form-key (c .before .before .before .before .before .before .before .before .before .form .ensures) (c .before .before .before .before .before .before .before .k .given .1) (c .before .before .before .before .before .match2 .keys3) (c .before .before .an .ensures .is)) }
 
--- src/lib.rt:2059:1
+-- src/lib.rt:2060:1
 str-same-length-4 : (t : ℕ) → str-lts.Need-same-length-4 (
   stop-reads.Asked,
   stop-reads.Learnt,
@@ -24884,7 +24961,7 @@ str-same-length-4 : (t : ℕ) → str-lts.Need-same-length-4 (
 ) (str-at t) str.Post
 str-same-length-4 t c = c .before .before .sp .kept .1 .1 .1 .1 .1 .1 .0
 
--- src/lib.rt:2059:1
+-- src/lib.rt:2060:1
 str-returns-6 : (t : ℕ) → str-lts.Need-returns-6 (
   stop-reads.Asked,
   stop-reads.Learnt,
@@ -24904,7 +24981,7 @@ str-returns-6 : (t : ℕ) → str-lts.Need-returns-6 (
 unfolding StrExp.str-exps StrExp.str-exp
 str-returns-6 t c = record { is = str-form _ _ (c .before .before .before .before .before .before .before .before .before .before .if1 .left) (form-key (c .before .before .before .before .before .before .before .before .before .form .ensures) (c .before .before .before .before .before .before .before .k .given .1) (c .before .before .before .before .before .match2 .keys4) (c .before .before .sp .ensures .is)) }
 
--- src/lib.rt:2059:1
+-- src/lib.rt:2060:1
 str-same-length-5 : (t : ℕ) → str-lts.Need-same-length-5 (
   stop-reads.Asked,
   stop-reads.Learnt,
@@ -24923,7 +25000,7 @@ str-same-length-5 : (t : ℕ) → str-lts.Need-same-length-5 (
 ) (str-at t) str.Post
 str-same-length-5 t c = c .before .before .sl .kept .1 .1 .1 .1 .1 .1 .0
 
--- src/lib.rt:2059:1
+-- src/lib.rt:2060:1
 str-returns-7 : (t : ℕ) → str-lts.Need-returns-7 (
   stop-reads.Asked,
   stop-reads.Learnt,
@@ -24943,7 +25020,7 @@ str-returns-7 : (t : ℕ) → str-lts.Need-returns-7 (
 unfolding StrExp.str-exps StrExp.str-exp
 str-returns-7 t c = record { is = str-form _ _ (c .before .before .before .before .before .before .before .before .before .before .if1 .left) (form-key (c .before .before .before .before .before .before .before .before .before .form .ensures) (c .before .before .before .before .before .before .before .k .given .1) (c .before .before .before .before .before .match2 .keys5) (c .before .before .sl .ensures .is)) }
 
--- src/lib.rt:2059:1
+-- src/lib.rt:2060:1
 str-returns-8 : (t : ℕ) → str-lts.Need-returns-8 (
   stop-reads.Asked,
   stop-reads.Learnt,
@@ -24963,7 +25040,7 @@ str-returns-8 : (t : ℕ) → str-lts.Need-returns-8 (
 unfolding StrExp.str-exps StrExp.str-exp
 str-returns-8 t c = record { is = str-form _ _ (c .before .before .before .before .before .before .if1 .left) (by-same (form-is (c .before .before .before .before .before .form .ensures) (c .before .before .before .k .given .1)) (beyond (StrExp.str-exps (walks (c .before .before .before .before .before .before .before .before .before .before .before .before .before .args .cfg .left - 1)) (cfgOf (c .before .before .before .before .before .before .before .before .before .before .before .before .before .args .cfg))) (c .before .before .before .k .given .0 .0) 5 refl (past (past (past (past (past zero-le (c .before .match2 .rest .0 .0 .0 .0 .1)) (c .before .match2 .rest .0 .0 .0 .1)) (c .before .match2 .rest .0 .0 .1)) (c .before .match2 .rest .0 .1)) (c .before .match2 .rest .1)) (c .stop3 .ensures))) }
 
--- src/lib.rt:2168:9
+-- src/lib.rt:2169:9
 ta-group-requires : (t : ℕ) → ta-lts.Need-group-requires (
   group-reads.Asked,
   group-reads.Learnt,
@@ -24978,7 +25055,7 @@ ta-group-requires : (t : ℕ) → ta-lts.Need-group-requires (
 ) (ta-at t) ta.Post
 ta-group-requires t c κs = search needs
 
--- src/lib.rt:2169:28
+-- src/lib.rt:2170:28
 ta-told-requires : (t : ℕ) → ta-lts.Need-told-requires (
   group-reads.Asked,
   group-reads.Learnt,
@@ -24993,7 +25070,7 @@ ta-told-requires : (t : ℕ) → ta-lts.Need-told-requires (
 ) (ta-at t) ta.Post
 ta-told-requires t c κs = search needs
 
--- src/lib.rt:2169:22
+-- src/lib.rt:2170:22
 ta-enum-known-s1 : (t : ℕ) → ta-lts.Need-enum-known-s1 (
   group-reads.Asked,
   group-reads.Learnt,
@@ -25008,7 +25085,7 @@ ta-enum-known-s1 : (t : ℕ) → ta-lts.Need-enum-known-s1 (
 ) (ta-at t) ta.Post
 ta-enum-known-s1 t c = search needs
 
--- src/lib.rt:2170:9
+-- src/lib.rt:2171:9
 ta-enum-told : (t : ℕ) → ta-lts.Need-enum-told (
   group-reads.Asked,
   group-reads.Learnt,
@@ -25023,7 +25100,7 @@ ta-enum-told : (t : ℕ) → ta-lts.Need-enum-told (
 ) (ta-at t) ta.Post
 ta-enum-told t c = search needs
 
--- src/lib.rt:2170:9
+-- src/lib.rt:2171:9
 ta-returns : (t : ℕ) → ta-lts.Need-returns (
   group-reads.Asked,
   group-reads.Learnt,
@@ -25039,7 +25116,7 @@ ta-returns : (t : ℕ) → ta-lts.Need-returns (
 unfolding SigExp.ascription-tail
 ta-returns t c = record { is = group-not (c .before .before .before .group .ensures) (c .before .before .told .ensures) (c .enum-told .given .1) }
 
--- src/lib.rt:2172:5
+-- src/lib.rt:2173:5
 ta-word-requires : (t : ℕ) → ta-lts.Need-word-requires (
   group-reads.Asked,
   group-reads.Learnt,
@@ -25054,7 +25131,7 @@ ta-word-requires : (t : ℕ) → ta-lts.Need-word-requires (
 ) (ta-at t) ta.Post
 ta-word-requires t c κs = search needs
 
--- src/lib.rt:2173:9
+-- src/lib.rt:2174:9
 ta-text-of-requires : (t : ℕ) → ta-lts.Need-text-of-requires (
   group-reads.Asked,
   group-reads.Learnt,
@@ -25069,7 +25146,7 @@ ta-text-of-requires : (t : ℕ) → ta-lts.Need-text-of-requires (
 ) (ta-at t) ta.Post
 ta-text-of-requires t c κs = search needs
 
--- src/lib.rt:2174:28
+-- src/lib.rt:2175:28
 ta-told-requires-2 : (t : ℕ) → ta-lts.Need-told-requires-2 (
   group-reads.Asked,
   group-reads.Learnt,
@@ -25084,7 +25161,7 @@ ta-told-requires-2 : (t : ℕ) → ta-lts.Need-told-requires-2 (
 ) (ta-at t) ta.Post
 ta-told-requires-2 t c κs = search needs
 
--- src/lib.rt:2174:22
+-- src/lib.rt:2175:22
 ta-enum-known-s2 : (t : ℕ) → ta-lts.Need-enum-known-s2 (
   group-reads.Asked,
   group-reads.Learnt,
@@ -25099,7 +25176,7 @@ ta-enum-known-s2 : (t : ℕ) → ta-lts.Need-enum-known-s2 (
 ) (ta-at t) ta.Post
 ta-enum-known-s2 t c = search needs
 
--- src/lib.rt:2175:9
+-- src/lib.rt:2176:9
 ta-enum-told-2 : (t : ℕ) → ta-lts.Need-enum-told-2 (
   group-reads.Asked,
   group-reads.Learnt,
@@ -25114,7 +25191,7 @@ ta-enum-told-2 : (t : ℕ) → ta-lts.Need-enum-told-2 (
 ) (ta-at t) ta.Post
 ta-enum-told-2 t c = search needs
 
--- src/lib.rt:2175:9
+-- src/lib.rt:2176:9
 ta-same-length : (t : ℕ) → ta-lts.Need-same-length (
   group-reads.Asked,
   group-reads.Learnt,
@@ -25129,7 +25206,7 @@ ta-same-length : (t : ℕ) → ta-lts.Need-same-length (
 ) (ta-at t) ta.Post
 ta-same-length t c = c .before .before .before .before .before .text-of .kept .1 .1 .1 .1 .1 .0 ∙ c .before .before .before .before .before .before .before .before .before .before .word .kept .1 .1 .0
 
--- src/lib.rt:2175:9
+-- src/lib.rt:2176:9
 ta-returns-2 : (t : ℕ) → ta-lts.Need-returns-2 (
   group-reads.Asked,
   group-reads.Learnt,
@@ -25145,7 +25222,7 @@ ta-returns-2 : (t : ℕ) → ta-lts.Need-returns-2 (
 unfolding SigExp.ascription-tail
 ta-returns-2 t c = record { is = by-same (group-is (c .before .before .before .before .before .before .before .before .before .before .before .before .before .before .before .before .before .group .ensures) (c .before .before .before .before .before .before .before .before .before .before .before .before .before .before .before .before .told .ensures) (c .before .before .before .before .before .before .before .before .before .before .before .before .before .before .s1 .given .1)) (then-sure (c .before .before .before .before .before .before .before .before .before .before .word .ensures) (then-stop (plain (c .before .before .before .before .before .text-of .ensures)) (c .before .before .told2 .ensures) (c .enum-told2 .given .1))) }
 
--- src/lib.rt:2177:5
+-- src/lib.rt:2178:5
 ta-word-requires-2 : (t : ℕ) → ta-lts.Need-word-requires-2 (
   group-reads.Asked,
   group-reads.Learnt,
@@ -25160,7 +25237,7 @@ ta-word-requires-2 : (t : ℕ) → ta-lts.Need-word-requires-2 (
 ) (ta-at t) ta.Post
 ta-word-requires-2 t c κs = search needs
 
--- src/lib.rt:2178:5
+-- src/lib.rt:2179:5
 ta-sig-requires : (t : ℕ) → ta-lts.Need-sig-requires (
   group-reads.Asked,
   group-reads.Learnt,
@@ -25175,7 +25252,7 @@ ta-sig-requires : (t : ℕ) → ta-lts.Need-sig-requires (
 ) (ta-at t) ta.Post
 ta-sig-requires t c κs = omega (arith, c .before .before .before .before .before .before .before .before .before .before .before .before .before .before .before .before .before .before .before .before .before .before .before .before .before .before .before .before .before .before .before .before .pre .0, c .before .before .before .before .before .before .before .before .before .before .before .before .before .before .before .before .before .before .before .before .before .before .before .before .before .before .before .before .before .before .before .before .pre .1)
 
--- src/lib.rt:2153:1
+-- src/lib.rt:2154:1
 ta-same-length-2 : (t : ℕ) → ta-lts.Need-same-length-2 (
   group-reads.Asked,
   group-reads.Learnt,
@@ -25190,7 +25267,7 @@ ta-same-length-2 : (t : ℕ) → ta-lts.Need-same-length-2 (
 ) (ta-at t) ta.Post
 ta-same-length-2 t c = c .before .before .sig .kept .1 .1 .1 .1 .1 .1 .0 ∙ c .before .before .before .before .before .before .before .word2 .kept .1 .1 .0 ∙ c .before .before .before .before .before .before .before .before .before .before .before .before .before .before .before .before .text-of .kept .1 .1 .1 .1 .1 .0 ∙ c .before .before .before .before .before .before .before .before .before .before .before .before .before .before .before .before .before .before .before .before .before .word .kept .1 .1 .0
 
--- src/lib.rt:2153:1
+-- src/lib.rt:2154:1
 ta-returns-3 : (t : ℕ) → ta-lts.Need-returns-3 (
   group-reads.Asked,
   group-reads.Learnt,
@@ -25206,7 +25283,7 @@ ta-returns-3 : (t : ℕ) → ta-lts.Need-returns-3 (
 unfolding SigExp.ascription-tail
 ta-returns-3 t c = record { is = by-same (group-is (c .before .before .before .before .before .before .before .before .before .before .before .before .before .before .before .before .before .before .before .before .before .before .before .before .before .before .before .before .group .ensures) (c .before .before .before .before .before .before .before .before .before .before .before .before .before .before .before .before .before .before .before .before .before .before .before .before .before .before .before .told .ensures) (c .before .before .before .before .before .before .before .before .before .before .before .before .before .before .before .before .before .before .before .before .before .before .before .before .before .s1 .given .1)) (then-sure (c .before .before .before .before .before .before .before .before .before .before .before .before .before .before .before .before .before .before .before .before .before .word .ensures) (then-done (plain (c .before .before .before .before .before .before .before .before .before .before .before .before .before .before .before .before .text-of .ensures)) (c .before .before .before .before .before .before .before .before .before .before .before .before .before .told2 .ensures) (c .before .before .before .before .before .before .before .before .before .before .before .s2 .given .1) (then-sure (c .before .before .before .before .before .before .before .word2 .ensures) (c .before .before .sig .ensures .is)))) }
 
--- src/lib.rt:591:9
+-- src/lib.rt:592:9
 ty-exp-requires : (t : ℕ) → ty-lts.Need-exp-requires (
   exp-below t,
   exp.Post,
@@ -25219,7 +25296,7 @@ ty-exp-requires : (t : ℕ) → ty-lts.Need-exp-requires (
 ) (ty-at t) ty.Post
 ty-exp-requires t c κs = omega (arith, c .before .before .before .before .before .before .before .before .pre .0, c .before .before .before .before .before .before .before .before .pre .1)
 
--- src/lib.rt:592:28
+-- src/lib.rt:593:28
 ty-told-requires : (t : ℕ) → ty-lts.Need-told-requires (
   exp-below t,
   exp.Post,
@@ -25232,7 +25309,7 @@ ty-told-requires : (t : ℕ) → ty-lts.Need-told-requires (
 ) (ty-at t) ty.Post
 ty-told-requires t c κs = search needs
 
--- src/lib.rt:592:22
+-- src/lib.rt:593:22
 ty-enum-known-s1 : (t : ℕ) → ty-lts.Need-enum-known-s1 (
   exp-below t,
   exp.Post,
@@ -25245,7 +25322,7 @@ ty-enum-known-s1 : (t : ℕ) → ty-lts.Need-enum-known-s1 (
 ) (ty-at t) ty.Post
 ty-enum-known-s1 t c = search needs
 
--- src/lib.rt:593:9
+-- src/lib.rt:594:9
 ty-enum-told : (t : ℕ) → ty-lts.Need-enum-told (
   exp-below t,
   exp.Post,
@@ -25258,7 +25335,7 @@ ty-enum-told : (t : ℕ) → ty-lts.Need-enum-told (
 ) (ty-at t) ty.Post
 ty-enum-told t c = search needs
 
--- src/lib.rt:593:9
+-- src/lib.rt:594:9
 ty-same-length : (t : ℕ) → ty-lts.Need-same-length (
   exp-below t,
   exp.Post,
@@ -25271,7 +25348,7 @@ ty-same-length : (t : ℕ) → ty-lts.Need-same-length (
 ) (ty-at t) ty.Post
 ty-same-length t c = c .before .before .before .before .before .exp .kept .1 .1 .1 .1 .1 .1 .0
 
--- src/lib.rt:593:9
+-- src/lib.rt:594:9
 ty-returns : (t : ℕ) → ty-lts.Need-returns (
   exp-below t,
   exp.Post,
@@ -25285,7 +25362,7 @@ ty-returns : (t : ℕ) → ty-lts.Need-returns (
 unfolding Exp.exp
 ty-returns t c = record { is = then-stop (c .before .before .before .before .before .exp .ensures .is) (c .before .before .told .ensures) (c .enum-told .given .1) }
 
--- src/lib.rt:595:5
+-- src/lib.rt:596:5
 ty-word-requires : (t : ℕ) → ty-lts.Need-word-requires (
   exp-below t,
   exp.Post,
@@ -25298,7 +25375,7 @@ ty-word-requires : (t : ℕ) → ty-lts.Need-word-requires (
 ) (ty-at t) ty.Post
 ty-word-requires t c κs = search needs
 
--- src/lib.rt:596:5
+-- src/lib.rt:597:5
 ty-get-ty-requires : (t : ℕ) → ty-lts.Need-get-ty-requires (
   exp-below t,
   exp.Post,
@@ -25311,7 +25388,7 @@ ty-get-ty-requires : (t : ℕ) → ty-lts.Need-get-ty-requires (
 ) (ty-at t) ty.Post
 ty-get-ty-requires t c κs = search needs
 
--- src/lib.rt:576:1
+-- src/lib.rt:577:1
 ty-same-length-2 : (t : ℕ) → ty-lts.Need-same-length-2 (
   exp-below t,
   exp.Post,
@@ -25324,7 +25401,7 @@ ty-same-length-2 : (t : ℕ) → ty-lts.Need-same-length-2 (
 ) (ty-at t) ty.Post
 ty-same-length-2 t c = c .before .before .get-ty .kept .1 .1 .1 .1 .1 .0 ∙ c .before .before .before .before .before .before .before .word .kept .1 .1 .0 ∙ c .before .before .before .before .before .before .before .before .before .before .before .before .before .before .before .before .exp .kept .1 .1 .1 .1 .1 .1 .0
 
--- src/lib.rt:576:1
+-- src/lib.rt:577:1
 ty-returns-2 : (t : ℕ) → ty-lts.Need-returns-2 (
   exp-below t,
   exp.Post,
@@ -25338,7 +25415,7 @@ ty-returns-2 : (t : ℕ) → ty-lts.Need-returns-2 (
 unfolding Exp.exp
 ty-returns-2 t c = record { is = then-done (c .before .before .before .before .before .before .before .before .before .before .before .before .before .before .before .before .exp .ensures .is) (c .before .before .before .before .before .before .before .before .before .before .before .before .before .told .ensures) (c .before .before .before .before .before .before .before .before .before .before .before .s1 .given .1) (then-sure (c .before .before .before .before .before .before .before .word .ensures) (plain (c .before .before .get-ty .ensures))) }
 
--- src/lib.rt:1380:9
+-- src/lib.rt:1381:9
 vb-group-requires : (t : ℕ) → vb-lts.Need-group-requires (
   group-reads.Asked,
   group-reads.Learnt,
@@ -25353,7 +25430,7 @@ vb-group-requires : (t : ℕ) → vb-lts.Need-group-requires (
 ) (vb-at t) vb.Post
 vb-group-requires t c κs = search needs
 
--- src/lib.rt:1381:28
+-- src/lib.rt:1382:28
 vb-told-requires : (t : ℕ) → vb-lts.Need-told-requires (
   group-reads.Asked,
   group-reads.Learnt,
@@ -25368,7 +25445,7 @@ vb-told-requires : (t : ℕ) → vb-lts.Need-told-requires (
 ) (vb-at t) vb.Post
 vb-told-requires t c κs = search needs
 
--- src/lib.rt:1381:22
+-- src/lib.rt:1382:22
 vb-enum-known-s1 : (t : ℕ) → vb-lts.Need-enum-known-s1 (
   group-reads.Asked,
   group-reads.Learnt,
@@ -25383,7 +25460,7 @@ vb-enum-known-s1 : (t : ℕ) → vb-lts.Need-enum-known-s1 (
 ) (vb-at t) vb.Post
 vb-enum-known-s1 t c = search needs
 
--- src/lib.rt:1382:9
+-- src/lib.rt:1383:9
 vb-enum-told : (t : ℕ) → vb-lts.Need-enum-told (
   group-reads.Asked,
   group-reads.Learnt,
@@ -25398,7 +25475,7 @@ vb-enum-told : (t : ℕ) → vb-lts.Need-enum-told (
 ) (vb-at t) vb.Post
 vb-enum-told t c = search needs
 
--- src/lib.rt:1382:9
+-- src/lib.rt:1383:9
 vb-returns : (t : ℕ) → vb-lts.Need-returns (
   group-reads.Asked,
   group-reads.Learnt,
@@ -25414,7 +25491,7 @@ vb-returns : (t : ℕ) → vb-lts.Need-returns (
 unfolding DecOne.val-bind
 vb-returns t c = record { is = group-not (c .before .before .before .group .ensures) (c .before .before .told .ensures) (c .enum-told .given .1) }
 
--- src/lib.rt:1384:9
+-- src/lib.rt:1385:9
 vb-word-if-requires : (t : ℕ) → vb-lts.Need-word-if-requires (
   group-reads.Asked,
   group-reads.Learnt,
@@ -25429,7 +25506,7 @@ vb-word-if-requires : (t : ℕ) → vb-lts.Need-word-if-requires (
 ) (vb-at t) vb.Post
 vb-word-if-requires t c κs = search needs
 
--- src/lib.rt:1385:28
+-- src/lib.rt:1386:28
 vb-told-requires-2 : (t : ℕ) → vb-lts.Need-told-requires-2 (
   group-reads.Asked,
   group-reads.Learnt,
@@ -25444,7 +25521,7 @@ vb-told-requires-2 : (t : ℕ) → vb-lts.Need-told-requires-2 (
 ) (vb-at t) vb.Post
 vb-told-requires-2 t c κs = search needs
 
--- src/lib.rt:1385:22
+-- src/lib.rt:1386:22
 vb-enum-known-s2 : (t : ℕ) → vb-lts.Need-enum-known-s2 (
   group-reads.Asked,
   group-reads.Learnt,
@@ -25459,7 +25536,7 @@ vb-enum-known-s2 : (t : ℕ) → vb-lts.Need-enum-known-s2 (
 ) (vb-at t) vb.Post
 vb-enum-known-s2 t c = search needs
 
--- src/lib.rt:1386:9
+-- src/lib.rt:1387:9
 vb-enum-told-2 : (t : ℕ) → vb-lts.Need-enum-told-2 (
   group-reads.Asked,
   group-reads.Learnt,
@@ -25474,7 +25551,7 @@ vb-enum-told-2 : (t : ℕ) → vb-lts.Need-enum-told-2 (
 ) (vb-at t) vb.Post
 vb-enum-told-2 t c = search needs
 
--- src/lib.rt:1386:9
+-- src/lib.rt:1387:9
 vb-same-length : (t : ℕ) → vb-lts.Need-same-length (
   group-reads.Asked,
   group-reads.Learnt,
@@ -25489,7 +25566,7 @@ vb-same-length : (t : ℕ) → vb-lts.Need-same-length (
 ) (vb-at t) vb.Post
 vb-same-length t c = c .before .before .before .before .before .word-if .kept .1 .1 .1 .1 .1 .0
 
--- src/lib.rt:1386:9
+-- src/lib.rt:1387:9
 vb-returns-2 : (t : ℕ) → vb-lts.Need-returns-2 (
   group-reads.Asked,
   group-reads.Learnt,
@@ -25505,7 +25582,7 @@ vb-returns-2 : (t : ℕ) → vb-lts.Need-returns-2 (
 unfolding DecOne.val-bind
 vb-returns-2 t c = record { is = by-same (group-is (c .before .before .before .before .before .before .before .before .before .before .before .before .group .ensures) (c .before .before .before .before .before .before .before .before .before .before .before .told .ensures) (c .before .before .before .before .before .before .before .before .before .s1 .given .1)) (then-stop (plain (c .before .before .before .before .before .word-if .ensures)) (c .before .before .told2 .ensures) (c .enum-told2 .given .1)) }
 
--- src/lib.rt:1388:9
+-- src/lib.rt:1389:9
 vb-get-pat-requires : (t : ℕ) → vb-lts.Need-get-pat-requires (
   group-reads.Asked,
   group-reads.Learnt,
@@ -25520,7 +25597,7 @@ vb-get-pat-requires : (t : ℕ) → vb-lts.Need-get-pat-requires (
 ) (vb-at t) vb.Post
 vb-get-pat-requires t c κs = search needs
 
--- src/lib.rt:1389:28
+-- src/lib.rt:1390:28
 vb-told-requires-3 : (t : ℕ) → vb-lts.Need-told-requires-3 (
   group-reads.Asked,
   group-reads.Learnt,
@@ -25535,7 +25612,7 @@ vb-told-requires-3 : (t : ℕ) → vb-lts.Need-told-requires-3 (
 ) (vb-at t) vb.Post
 vb-told-requires-3 t c κs = search needs
 
--- src/lib.rt:1389:22
+-- src/lib.rt:1390:22
 vb-enum-known-s3 : (t : ℕ) → vb-lts.Need-enum-known-s3 (
   group-reads.Asked,
   group-reads.Learnt,
@@ -25550,7 +25627,7 @@ vb-enum-known-s3 : (t : ℕ) → vb-lts.Need-enum-known-s3 (
 ) (vb-at t) vb.Post
 vb-enum-known-s3 t c = search needs
 
--- src/lib.rt:1390:9
+-- src/lib.rt:1391:9
 vb-enum-told-3 : (t : ℕ) → vb-lts.Need-enum-told-3 (
   group-reads.Asked,
   group-reads.Learnt,
@@ -25565,7 +25642,7 @@ vb-enum-told-3 : (t : ℕ) → vb-lts.Need-enum-told-3 (
 ) (vb-at t) vb.Post
 vb-enum-told-3 t c = search needs
 
--- src/lib.rt:1390:9
+-- src/lib.rt:1391:9
 vb-same-length-2 : (t : ℕ) → vb-lts.Need-same-length-2 (
   group-reads.Asked,
   group-reads.Learnt,
@@ -25580,7 +25657,7 @@ vb-same-length-2 : (t : ℕ) → vb-lts.Need-same-length-2 (
 ) (vb-at t) vb.Post
 vb-same-length-2 t c = c .before .before .before .before .before .get-pat .kept .1 .1 .1 .1 .1 .0 ∙ c .before .before .before .before .before .before .before .before .before .before .before .before .before .before .word-if .kept .1 .1 .1 .1 .1 .0
 
--- src/lib.rt:1390:9
+-- src/lib.rt:1391:9
 vb-returns-3 : (t : ℕ) → vb-lts.Need-returns-3 (
   group-reads.Asked,
   group-reads.Learnt,
@@ -25596,7 +25673,7 @@ vb-returns-3 : (t : ℕ) → vb-lts.Need-returns-3 (
 unfolding DecOne.val-bind
 vb-returns-3 t c = record { is = by-same (group-is (c .before .before .before .before .before .before .before .before .before .before .before .before .before .before .before .before .before .before .before .before .before .group .ensures) (c .before .before .before .before .before .before .before .before .before .before .before .before .before .before .before .before .before .before .before .before .told .ensures) (c .before .before .before .before .before .before .before .before .before .before .before .before .before .before .before .before .before .before .s1 .given .1)) (then-done (plain (c .before .before .before .before .before .before .before .before .before .before .before .before .before .before .word-if .ensures)) (c .before .before .before .before .before .before .before .before .before .before .before .told2 .ensures) (c .before .before .before .before .before .before .before .before .before .s2 .given .1) (then-stop (plain (c .before .before .before .before .before .get-pat .ensures)) (c .before .before .told3 .ensures) (c .enum-told3 .given .1))) }
 
--- src/lib.rt:1392:5
+-- src/lib.rt:1393:5
 vb-qb-requires : (t : ℕ) → vb-lts.Need-qb-requires (
   group-reads.Asked,
   group-reads.Learnt,
@@ -25611,7 +25688,7 @@ vb-qb-requires : (t : ℕ) → vb-lts.Need-qb-requires (
 ) (vb-at t) vb.Post
 vb-qb-requires t c κs = omega (arith, c .before .before .before .before .before .before .before .before .before .before .before .before .before .before .before .before .before .before .before .before .before .before .before .before .before .before .before .before .before .before .before .pre .0, c .before .before .before .before .before .before .before .before .before .before .before .before .before .before .before .before .before .before .before .before .before .before .before .before .before .before .before .before .before .before .before .pre .1)
 
--- src/lib.rt:1365:1
+-- src/lib.rt:1366:1
 vb-same-length-3 : (t : ℕ) → vb-lts.Need-same-length-3 (
   group-reads.Asked,
   group-reads.Learnt,
@@ -25626,7 +25703,7 @@ vb-same-length-3 : (t : ℕ) → vb-lts.Need-same-length-3 (
 ) (vb-at t) vb.Post
 vb-same-length-3 t c = c .before .before .qb .kept .1 .1 .1 .1 .1 .1 .0 ∙ c .before .before .before .before .before .before .before .before .before .before .before .get-pat .kept .1 .1 .1 .1 .1 .0 ∙ c .before .before .before .before .before .before .before .before .before .before .before .before .before .before .before .before .before .before .before .before .word-if .kept .1 .1 .1 .1 .1 .0
 
--- src/lib.rt:1365:1
+-- src/lib.rt:1366:1
 vb-returns-4 : (t : ℕ) → vb-lts.Need-returns-4 (
   group-reads.Asked,
   group-reads.Learnt,
@@ -25649,7 +25726,7 @@ vd-Inv-loop run text rec kinds starts lens out₀ mem₀ at cfg n s1 s₀ i₀ o
 abbrev vd-μ-loop : vd-lts.MeasureT-loop
 vd-μ-loop run text rec kinds starts lens out₀ mem₀ at cfg n s1 s₀ i₀ out mem s i = n - i
 
--- src/lib.rt:1346:5
+-- src/lib.rt:1347:5
 vd-word-requires : (t : ℕ) → vd-lts.Need-word-requires (
   word-reads.Asked,
   word-reads.Learnt,
@@ -25666,7 +25743,7 @@ vd-word-requires : (t : ℕ) → vd-lts.Need-word-requires (
 ) (vd-at t) vd.Post vd-Inv-loop vd-μ-loop
 vd-word-requires t c κs = search needs
 
--- src/lib.rt:1347:27
+-- src/lib.rt:1348:27
 vd-list-requires : (t : ℕ) → vd-lts.Need-list-requires (
   word-reads.Asked,
   word-reads.Learnt,
@@ -25683,7 +25760,7 @@ vd-list-requires : (t : ℕ) → vd-lts.Need-list-requires (
 ) (vd-at t) vd.Post vd-Inv-loop vd-μ-loop
 vd-list-requires t c κs = search needs
 
--- src/lib.rt:1347:18
+-- src/lib.rt:1348:18
 vd-enum-known-n : (t : ℕ) → vd-lts.Need-enum-known-n (
   word-reads.Asked,
   word-reads.Learnt,
@@ -25700,7 +25777,7 @@ vd-enum-known-n : (t : ℕ) → vd-lts.Need-enum-known-n (
 ) (vd-at t) vd.Post vd-Inv-loop vd-μ-loop
 vd-enum-known-n t c = search needs
 
--- src/lib.rt:1348:9
+-- src/lib.rt:1349:9
 vd-enum-told : (t : ℕ) → vd-lts.Need-enum-told (
   word-reads.Asked,
   word-reads.Learnt,
@@ -25717,7 +25794,7 @@ vd-enum-told : (t : ℕ) → vd-lts.Need-enum-told (
 ) (vd-at t) vd.Post vd-Inv-loop vd-μ-loop
 vd-enum-told t c = search needs
 
--- src/lib.rt:1348:9
+-- src/lib.rt:1349:9
 vd-stop-requires : (t : ℕ) → vd-lts.Need-stop-requires (
   word-reads.Asked,
   word-reads.Learnt,
@@ -25734,7 +25811,7 @@ vd-stop-requires : (t : ℕ) → vd-lts.Need-stop-requires (
 ) (vd-at t) vd.Post vd-Inv-loop vd-μ-loop
 vd-stop-requires t c κs = search needs
 
--- src/lib.rt:1348:9
+-- src/lib.rt:1349:9
 vd-same-length : (t : ℕ) → vd-lts.Need-same-length (
   word-reads.Asked,
   word-reads.Learnt,
@@ -25751,7 +25828,7 @@ vd-same-length : (t : ℕ) → vd-lts.Need-same-length (
 ) (vd-at t) vd.Post vd-Inv-loop vd-μ-loop
 vd-same-length t c = c .before .before .before .before .before .before .word .kept .1 .1 .0
 
--- src/lib.rt:1348:9
+-- src/lib.rt:1349:9
 vd-returns : (t : ℕ) → vd-lts.Need-returns (
   word-reads.Asked,
   word-reads.Learnt,
@@ -25769,7 +25846,7 @@ vd-returns : (t : ℕ) → vd-lts.Need-returns (
 unfolding DecOne.dec-one DecOne.val-binds Helpers.sep-with-lines
 vd-returns t c = record { is = then-sure (c .before .before .before .before .before .before .word .ensures) (list-not (c .stop .ensures) (c .before .before .before .list .ensures) (c .before .enum-told .given .1)) }
 
--- src/lib.rt:1352:5
+-- src/lib.rt:1353:5
 vd-loop-holds : (t : ℕ) → vd-lts.Need-loop-holds (
   word-reads.Asked,
   word-reads.Learnt,
@@ -25786,7 +25863,7 @@ vd-loop-holds : (t : ℕ) → vd-lts.Need-loop-holds (
 ) (vd-at t) vd.Post vd-Inv-loop vd-μ-loop
 vd-loop-holds t c = (omega arith, λ r m o h. h, refl)
 
--- src/lib.rt:1353:9
+-- src/lib.rt:1354:9
 vd-new-line-requires : (t : ℕ) → vd-lts.Need-new-line-requires (
   word-reads.Asked,
   word-reads.Learnt,
@@ -25803,7 +25880,7 @@ vd-new-line-requires : (t : ℕ) → vd-lts.Need-new-line-requires (
 ) (vd-at t) vd.Post vd-Inv-loop vd-μ-loop
 vd-new-line-requires t c κs = search needs
 
--- src/lib.rt:1354:13
+-- src/lib.rt:1355:13
 vd-vb-requires : (t : ℕ) → vd-lts.Need-vb-requires (
   word-reads.Asked,
   word-reads.Learnt,
@@ -25820,7 +25897,7 @@ vd-vb-requires : (t : ℕ) → vd-lts.Need-vb-requires (
 ) (vd-at t) vd.Post vd-Inv-loop vd-μ-loop
 vd-vb-requires t c κs = omega (arith, c .before .before .before .before .before .before .before .before .before .before .before .before .before .before .before .before .before .before .before .before .before .before .before .before .pre .0, c .before .before .before .before .before .before .before .before .before .before .before .before .before .before .before .before .before .before .before .before .before .before .before .before .pre .1)
 
--- src/lib.rt:1355:32
+-- src/lib.rt:1356:32
 vd-told-requires : (t : ℕ) → vd-lts.Need-told-requires (
   word-reads.Asked,
   word-reads.Learnt,
@@ -25837,7 +25914,7 @@ vd-told-requires : (t : ℕ) → vd-lts.Need-told-requires (
 ) (vd-at t) vd.Post vd-Inv-loop vd-μ-loop
 vd-told-requires t c κs = search needs
 
--- src/lib.rt:1355:26
+-- src/lib.rt:1356:26
 vd-enum-known-s2 : (t : ℕ) → vd-lts.Need-enum-known-s2 (
   word-reads.Asked,
   word-reads.Learnt,
@@ -25854,7 +25931,7 @@ vd-enum-known-s2 : (t : ℕ) → vd-lts.Need-enum-known-s2 (
 ) (vd-at t) vd.Post vd-Inv-loop vd-μ-loop
 vd-enum-known-s2 t c = search needs
 
--- src/lib.rt:1356:13
+-- src/lib.rt:1357:13
 vd-enum-told-2 : (t : ℕ) → vd-lts.Need-enum-told-2 (
   word-reads.Asked,
   word-reads.Learnt,
@@ -25871,7 +25948,7 @@ vd-enum-told-2 : (t : ℕ) → vd-lts.Need-enum-told-2 (
 ) (vd-at t) vd.Post vd-Inv-loop vd-μ-loop
 vd-enum-told-2 t c = search needs
 
--- src/lib.rt:1356:13
+-- src/lib.rt:1357:13
 vd-same-length-2 : (t : ℕ) → vd-lts.Need-same-length-2 (
   word-reads.Asked,
   word-reads.Learnt,
@@ -25888,7 +25965,7 @@ vd-same-length-2 : (t : ℕ) → vd-lts.Need-same-length-2 (
 ) (vd-at t) vd.Post vd-Inv-loop vd-μ-loop
 vd-same-length-2 t c = c .before .before .before .before .before .vb .kept .1 .1 .1 .1 .1 .1 .0 ∙ c .before .before .before .before .before .before .before .before .before .before .new-line .kept .1 .1 .0 ∙ c .before .before .before .before .before .before .before .before .before .before .before .before .before .before .loop .inv .2 ∙ c .before .before .before .before .before .before .before .before .before .before .before .before .before .before .before .before .before .before .before .before .before .word .kept .1 .1 .0
 
--- src/lib.rt:1356:13
+-- src/lib.rt:1357:13
 vd-returns-2 : (t : ℕ) → vd-lts.Need-returns-2 (
   word-reads.Asked,
   word-reads.Learnt,
@@ -25906,7 +25983,7 @@ vd-returns-2 : (t : ℕ) → vd-lts.Need-returns-2 (
 unfolding DecOne.dec-one DecOne.val-binds Helpers.sep-with-lines
 vd-returns-2 t c = record { is = then-sure (c .before .before .before .before .before .before .before .before .before .before .before .before .before .before .before .before .before .before .before .before .before .word .ensures) (by-same (list-is (c .before .before .before .before .before .before .before .before .before .before .before .before .before .before .before .before .before .before .list .ensures) (c .before .before .before .before .before .before .before .before .before .before .before .before .before .before .before .before .n .given .1)) (by-same (items-all _ _ _) (c .before .before .before .before .before .before .before .before .before .before .before .before .before .before .loop .inv .1 _ _ _ (from-more _ _ (c .before .before .before .before .before .before .before .before .before .before .before .before .before .loop-test .taken) (then-sure (c .before .before .before .before .before .before .before .before .before .before .new-line .ensures) (then-stop (c .before .before .before .before .before .vb .ensures .is) (c .before .before .told .ensures) (c .enum-told2 .given .1))))))) }
 
--- src/lib.rt:1359:9
+-- src/lib.rt:1360:9
 vd-add-i : (t : ℕ) → vd-lts.Need-add-i (
   word-reads.Asked,
   word-reads.Learnt,
@@ -25923,7 +26000,7 @@ vd-add-i : (t : ℕ) → vd-lts.Need-add-i (
 ) (vd-at t) vd.Post vd-Inv-loop vd-μ-loop
 vd-add-i t c = omega (arith, c .before .before .before .before .before .before .before .before .before .before .before .before .before .before .loop-test .taken, c .before .before .before .before .before .before .before .before .before .before .before .before .before .before .before .before .known-told)
 
--- src/lib.rt:1352:5
+-- src/lib.rt:1353:5
 vd-loop-less : (t : ℕ) → vd-lts.Need-loop-less (
   word-reads.Asked,
   word-reads.Learnt,
@@ -25940,7 +26017,7 @@ vd-loop-less : (t : ℕ) → vd-lts.Need-loop-less (
 ) (vd-at t) vd.Post vd-Inv-loop vd-μ-loop
 vd-loop-less t c = omega arith
 
--- src/lib.rt:1352:5
+-- src/lib.rt:1353:5
 vd-loop-again : (t : ℕ) → vd-lts.Need-loop-again (
   word-reads.Asked,
   word-reads.Learnt,
@@ -25958,7 +26035,7 @@ vd-loop-again : (t : ℕ) → vd-lts.Need-loop-again (
 unfolding DecOne.dec-one DecOne.val-binds Helpers.sep-with-lines
 vd-loop-again t c = (omega (arith, c .before .before .before .before .before .before .before .before .before .before .before .before .before .before .before .loop .inv .0), λ r m o h. c .before .before .before .before .before .before .before .before .before .before .before .before .before .before .before .loop .inv .1 r m o (from-more _ _ (c .before .before .before .before .before .before .before .before .before .before .before .before .before .before .loop-test .taken) (then-sure (c .before .before .before .before .before .before .before .before .before .before .before .new-line .ensures) (then-done (c .before .before .before .before .before .before .vb .ensures .is) (c .before .before .before .told .ensures) (c .before .s2 .given .1) h))), c .before .before .before .before .before .before .vb .kept .1 .1 .1 .1 .1 .1 .0 ∙ c .before .before .before .before .before .before .before .before .before .before .before .new-line .kept .1 .1 .0 ∙ c .before .before .before .before .before .before .before .before .before .before .before .before .before .before .before .loop .inv .2)
 
--- src/lib.rt:1331:1
+-- src/lib.rt:1332:1
 vd-same-length-3 : (t : ℕ) → vd-lts.Need-same-length-3 (
   word-reads.Asked,
   word-reads.Learnt,
@@ -25975,7 +26052,7 @@ vd-same-length-3 : (t : ℕ) → vd-lts.Need-same-length-3 (
 ) (vd-at t) vd.Post vd-Inv-loop vd-μ-loop
 vd-same-length-3 t c = c .before .loop .inv .2 ∙ c .before .before .before .before .before .before .before .before .word .kept .1 .1 .0
 
--- src/lib.rt:1331:1
+-- src/lib.rt:1332:1
 vd-returns-3 : (t : ℕ) → vd-lts.Need-returns-3 (
   word-reads.Asked,
   word-reads.Learnt,
@@ -25993,7 +26070,7 @@ vd-returns-3 : (t : ℕ) → vd-lts.Need-returns-3 (
 unfolding DecOne.dec-one DecOne.val-binds Helpers.sep-with-lines
 vd-returns-3 t c = record { is = then-sure (c .before .before .before .before .before .before .before .before .word .ensures) (by-same (list-is (c .before .before .before .before .before .list .ensures) (c .before .before .before .n .given .1)) (by-same (items-all _ _ _) (c .before .loop .inv .1 _ _ _ (from-none _ _ (c .loop-test .left))))) }
 
--- src/lib.rt:312:5
+-- src/lib.rt:313:5
 ve-word-requires : (t : ℕ) → ve-lts.Need-word-requires (
   word-reads.Asked,
   word-reads.Learnt,
@@ -26006,7 +26083,7 @@ ve-word-requires : (t : ℕ) → ve-lts.Need-word-requires (
 ) (ve-at t) ve.Post
 ve-word-requires t c κs = search needs
 
--- src/lib.rt:313:9
+-- src/lib.rt:314:9
 ve-group-requires : (t : ℕ) → ve-lts.Need-group-requires (
   word-reads.Asked,
   word-reads.Learnt,
@@ -26019,7 +26096,7 @@ ve-group-requires : (t : ℕ) → ve-lts.Need-group-requires (
 ) (ve-at t) ve.Post
 ve-group-requires t c κs = search needs
 
--- src/lib.rt:314:28
+-- src/lib.rt:315:28
 ve-told-requires : (t : ℕ) → ve-lts.Need-told-requires (
   word-reads.Asked,
   word-reads.Learnt,
@@ -26032,7 +26109,7 @@ ve-told-requires : (t : ℕ) → ve-lts.Need-told-requires (
 ) (ve-at t) ve.Post
 ve-told-requires t c κs = search needs
 
--- src/lib.rt:314:22
+-- src/lib.rt:315:22
 ve-enum-known-s1 : (t : ℕ) → ve-lts.Need-enum-known-s1 (
   word-reads.Asked,
   word-reads.Learnt,
@@ -26045,7 +26122,7 @@ ve-enum-known-s1 : (t : ℕ) → ve-lts.Need-enum-known-s1 (
 ) (ve-at t) ve.Post
 ve-enum-known-s1 t c = search needs
 
--- src/lib.rt:315:9
+-- src/lib.rt:316:9
 ve-enum-told : (t : ℕ) → ve-lts.Need-enum-told (
   word-reads.Asked,
   word-reads.Learnt,
@@ -26058,7 +26135,7 @@ ve-enum-told : (t : ℕ) → ve-lts.Need-enum-told (
 ) (ve-at t) ve.Post
 ve-enum-told t c = search needs
 
--- src/lib.rt:315:9
+-- src/lib.rt:316:9
 ve-same-length : (t : ℕ) → ve-lts.Need-same-length (
   word-reads.Asked,
   word-reads.Learnt,
@@ -26071,7 +26148,7 @@ ve-same-length : (t : ℕ) → ve-lts.Need-same-length (
 ) (ve-at t) ve.Post
 ve-same-length t c = c .before .before .before .before .before .before .word .kept .1 .1 .0
 
--- src/lib.rt:315:9
+-- src/lib.rt:316:9
 ve-returns : (t : ℕ) → ve-lts.Need-returns (
   word-reads.Asked,
   word-reads.Learnt,
@@ -26085,7 +26162,7 @@ ve-returns : (t : ℕ) → ve-lts.Need-returns (
 unfolding Exp.exp
 ve-returns t c = record { is = then-sure (c .before .before .before .before .before .before .word .ensures) (then-stop (group-not (c .before .before .before .group .ensures) (c .before .before .told .ensures) (c .enum-told .given .1)) (c .before .before .told .ensures) (c .enum-told .given .1)) }
 
--- src/lib.rt:317:9
+-- src/lib.rt:318:9
 ve-ar-requires : (t : ℕ) → ve-lts.Need-ar-requires (
   word-reads.Asked,
   word-reads.Learnt,
@@ -26098,7 +26175,7 @@ ve-ar-requires : (t : ℕ) → ve-lts.Need-ar-requires (
 ) (ve-at t) ve.Post
 ve-ar-requires t c κs = omega (arith, c .before .before .before .before .before .before .before .before .before .before .before .before .before .before .before .before .before .before .pre .0, c .before .before .before .before .before .before .before .before .before .before .before .before .before .before .before .before .before .before .pre .1)
 
--- src/lib.rt:318:28
+-- src/lib.rt:319:28
 ve-told-requires-2 : (t : ℕ) → ve-lts.Need-told-requires-2 (
   word-reads.Asked,
   word-reads.Learnt,
@@ -26111,7 +26188,7 @@ ve-told-requires-2 : (t : ℕ) → ve-lts.Need-told-requires-2 (
 ) (ve-at t) ve.Post
 ve-told-requires-2 t c κs = search needs
 
--- src/lib.rt:318:22
+-- src/lib.rt:319:22
 ve-enum-known-s2 : (t : ℕ) → ve-lts.Need-enum-known-s2 (
   word-reads.Asked,
   word-reads.Learnt,
@@ -26124,7 +26201,7 @@ ve-enum-known-s2 : (t : ℕ) → ve-lts.Need-enum-known-s2 (
 ) (ve-at t) ve.Post
 ve-enum-known-s2 t c = search needs
 
--- src/lib.rt:319:9
+-- src/lib.rt:320:9
 ve-enum-told-2 : (t : ℕ) → ve-lts.Need-enum-told-2 (
   word-reads.Asked,
   word-reads.Learnt,
@@ -26137,7 +26214,7 @@ ve-enum-told-2 : (t : ℕ) → ve-lts.Need-enum-told-2 (
 ) (ve-at t) ve.Post
 ve-enum-told-2 t c = search needs
 
--- src/lib.rt:319:9
+-- src/lib.rt:320:9
 ve-same-length-2 : (t : ℕ) → ve-lts.Need-same-length-2 (
   word-reads.Asked,
   word-reads.Learnt,
@@ -26150,7 +26227,7 @@ ve-same-length-2 : (t : ℕ) → ve-lts.Need-same-length-2 (
 ) (ve-at t) ve.Post
 ve-same-length-2 t c = c .before .before .before .before .before .ar .kept .1 .1 .1 .1 .1 .1 .0 ∙ c .before .before .before .before .before .before .before .before .before .before .before .before .before .before .before .word .kept .1 .1 .0
 
--- src/lib.rt:319:9
+-- src/lib.rt:320:9
 ve-returns-2 : (t : ℕ) → ve-lts.Need-returns-2 (
   word-reads.Asked,
   word-reads.Learnt,
@@ -26164,7 +26241,7 @@ ve-returns-2 : (t : ℕ) → ve-lts.Need-returns-2 (
 unfolding Exp.exp
 ve-returns-2 t c = record { is = then-sure (c .before .before .before .before .before .before .before .before .before .before .before .before .before .before .before .word .ensures) (by-same (first-same (group-is (c .before .before .before .before .before .before .before .before .before .before .before .before .group .ensures) (c .before .before .before .before .before .before .before .before .before .before .before .told .ensures) (c .before .before .before .before .before .before .before .before .before .s1 .given .1))) (then-stop (c .before .before .before .before .before .ar .ensures .is) (c .before .before .told2 .ensures) (c .enum-told2 .given .1))) }
 
--- src/lib.rt:321:5
+-- src/lib.rt:322:5
 ve-word-requires-2 : (t : ℕ) → ve-lts.Need-word-requires-2 (
   word-reads.Asked,
   word-reads.Learnt,
@@ -26177,7 +26254,7 @@ ve-word-requires-2 : (t : ℕ) → ve-lts.Need-word-requires-2 (
 ) (ve-at t) ve.Post
 ve-word-requires-2 t c κs = search needs
 
--- src/lib.rt:297:1
+-- src/lib.rt:298:1
 ve-same-length-3 : (t : ℕ) → ve-lts.Need-same-length-3 (
   word-reads.Asked,
   word-reads.Learnt,
@@ -26190,7 +26267,7 @@ ve-same-length-3 : (t : ℕ) → ve-lts.Need-same-length-3 (
 ) (ve-at t) ve.Post
 ve-same-length-3 t c = c .before .before .word2 .kept .1 .1 .0 ∙ c .before .before .before .before .before .before .before .before .before .before .before .ar .kept .1 .1 .1 .1 .1 .1 .0 ∙ c .before .before .before .before .before .before .before .before .before .before .before .before .before .before .before .before .before .before .before .before .before .word .kept .1 .1 .0
 
--- src/lib.rt:297:1
+-- src/lib.rt:298:1
 ve-returns-3 : (t : ℕ) → ve-lts.Need-returns-3 (
   word-reads.Asked,
   word-reads.Learnt,
@@ -26204,7 +26281,7 @@ ve-returns-3 : (t : ℕ) → ve-lts.Need-returns-3 (
 unfolding Exp.exp
 ve-returns-3 t c = record { is = then-sure (c .before .before .before .before .before .before .before .before .before .before .before .before .before .before .before .before .before .before .before .before .before .word .ensures) (by-same (first-same (group-is (c .before .before .before .before .before .before .before .before .before .before .before .before .before .before .before .before .before .before .group .ensures) (c .before .before .before .before .before .before .before .before .before .before .before .before .before .before .before .before .before .told .ensures) (c .before .before .before .before .before .before .before .before .before .before .before .before .before .before .before .s1 .given .1))) (then-done (c .before .before .before .before .before .before .before .before .before .before .before .ar .ensures .is) (c .before .before .before .before .before .before .before .before .told2 .ensures) (c .before .before .before .before .before .before .s2 .given .1) (last-sure (c .before .before .word2 .ensures)))) }
 
--- src/lib.rt:640:5
+-- src/lib.rt:641:5
 wh-word-requires : (t : ℕ) → wh-lts.Need-word-requires (
   word-reads.Asked,
   word-reads.Learnt,
@@ -26213,7 +26290,7 @@ wh-word-requires : (t : ℕ) → wh-lts.Need-word-requires (
 ) (wh-at t) wh.Post
 wh-word-requires t c κs = search needs
 
--- src/lib.rt:641:5
+-- src/lib.rt:642:5
 wh-du-requires : (t : ℕ) → wh-lts.Need-du-requires (
   word-reads.Asked,
   word-reads.Learnt,
@@ -26222,7 +26299,7 @@ wh-du-requires : (t : ℕ) → wh-lts.Need-du-requires (
 ) (wh-at t) wh.Post
 wh-du-requires t c κs = omega (arith, c .before .before .before .before .before .before .before .before .before .before .before .before .before .pre .0, c .before .before .before .before .before .before .before .before .before .before .before .before .before .pre .1)
 
--- src/lib.rt:625:1
+-- src/lib.rt:626:1
 wh-same-length : (t : ℕ) → wh-lts.Need-same-length (
   word-reads.Asked,
   word-reads.Learnt,
@@ -26231,7 +26308,7 @@ wh-same-length : (t : ℕ) → wh-lts.Need-same-length (
 ) (wh-at t) wh.Post
 wh-same-length t c = c .before .before .du .kept .1 .1 .1 .1 .1 .1 .0 ∙ c .before .before .before .before .before .before .before .word .kept .1 .1 .0
 
--- src/lib.rt:625:1
+-- src/lib.rt:626:1
 wh-returns : (t : ℕ) → wh-lts.Need-returns (
   word-reads.Asked,
   word-reads.Learnt,
@@ -26241,7 +26318,7 @@ wh-returns : (t : ℕ) → wh-lts.Need-returns (
 unfolding Exp.exp
 wh-returns t c = record { is = then-sure (c .before .before .before .before .before .before .before .word .ensures) (c .before .before .du .ensures .is) }
 
--- src/lib.rt:2421:9
+-- src/lib.rt:2422:9
 wr-sig-requires : (t : ℕ) → wr-lts.Need-sig-requires (
   sig-below t,
   sig.Post,
@@ -26254,7 +26331,7 @@ wr-sig-requires : (t : ℕ) → wr-lts.Need-sig-requires (
 ) (wr-at t) wr.Post
 wr-sig-requires t c κs = omega (arith, c .before .before .before .before .before .before .before .before .pre .0, c .before .before .before .before .before .before .before .before .pre .1)
 
--- src/lib.rt:2422:28
+-- src/lib.rt:2423:28
 wr-told-requires : (t : ℕ) → wr-lts.Need-told-requires (
   sig-below t,
   sig.Post,
@@ -26267,7 +26344,7 @@ wr-told-requires : (t : ℕ) → wr-lts.Need-told-requires (
 ) (wr-at t) wr.Post
 wr-told-requires t c κs = search needs
 
--- src/lib.rt:2422:22
+-- src/lib.rt:2423:22
 wr-enum-known-s1 : (t : ℕ) → wr-lts.Need-enum-known-s1 (
   sig-below t,
   sig.Post,
@@ -26280,7 +26357,7 @@ wr-enum-known-s1 : (t : ℕ) → wr-lts.Need-enum-known-s1 (
 ) (wr-at t) wr.Post
 wr-enum-known-s1 t c = search needs
 
--- src/lib.rt:2423:9
+-- src/lib.rt:2424:9
 wr-enum-told : (t : ℕ) → wr-lts.Need-enum-told (
   sig-below t,
   sig.Post,
@@ -26293,7 +26370,7 @@ wr-enum-told : (t : ℕ) → wr-lts.Need-enum-told (
 ) (wr-at t) wr.Post
 wr-enum-told t c = search needs
 
--- src/lib.rt:2423:9
+-- src/lib.rt:2424:9
 wr-same-length : (t : ℕ) → wr-lts.Need-same-length (
   sig-below t,
   sig.Post,
@@ -26306,7 +26383,7 @@ wr-same-length : (t : ℕ) → wr-lts.Need-same-length (
 ) (wr-at t) wr.Post
 wr-same-length t c = c .before .before .before .before .before .sig .kept .1 .1 .1 .1 .1 .1 .0
 
--- src/lib.rt:2423:9
+-- src/lib.rt:2424:9
 wr-returns : (t : ℕ) → wr-lts.Need-returns (
   sig-below t,
   sig.Post,
@@ -26320,7 +26397,7 @@ wr-returns : (t : ℕ) → wr-lts.Need-returns (
 unfolding SigExp.sig-exp
 wr-returns t c = record { is = then-stop (c .before .before .before .before .before .sig .ensures .is) (c .before .before .told .ensures) (c .enum-told .given .1) }
 
--- src/lib.rt:2425:5
+-- src/lib.rt:2426:5
 wr-word-requires : (t : ℕ) → wr-lts.Need-word-requires (
   sig-below t,
   sig.Post,
@@ -26333,7 +26410,7 @@ wr-word-requires : (t : ℕ) → wr-lts.Need-word-requires (
 ) (wr-at t) wr.Post
 wr-word-requires t c κs = search needs
 
--- src/lib.rt:2426:9
+-- src/lib.rt:2427:9
 wr-path-requires : (t : ℕ) → wr-lts.Need-path-requires (
   sig-below t,
   sig.Post,
@@ -26346,7 +26423,7 @@ wr-path-requires : (t : ℕ) → wr-lts.Need-path-requires (
 ) (wr-at t) wr.Post
 wr-path-requires t c κs = search needs
 
--- src/lib.rt:2427:28
+-- src/lib.rt:2428:28
 wr-told-requires-2 : (t : ℕ) → wr-lts.Need-told-requires-2 (
   sig-below t,
   sig.Post,
@@ -26359,7 +26436,7 @@ wr-told-requires-2 : (t : ℕ) → wr-lts.Need-told-requires-2 (
 ) (wr-at t) wr.Post
 wr-told-requires-2 t c κs = search needs
 
--- src/lib.rt:2427:22
+-- src/lib.rt:2428:22
 wr-enum-known-s2 : (t : ℕ) → wr-lts.Need-enum-known-s2 (
   sig-below t,
   sig.Post,
@@ -26372,7 +26449,7 @@ wr-enum-known-s2 : (t : ℕ) → wr-lts.Need-enum-known-s2 (
 ) (wr-at t) wr.Post
 wr-enum-known-s2 t c = search needs
 
--- src/lib.rt:2428:9
+-- src/lib.rt:2429:9
 wr-enum-told-2 : (t : ℕ) → wr-lts.Need-enum-told-2 (
   sig-below t,
   sig.Post,
@@ -26385,7 +26462,7 @@ wr-enum-told-2 : (t : ℕ) → wr-lts.Need-enum-told-2 (
 ) (wr-at t) wr.Post
 wr-enum-told-2 t c = search needs
 
--- src/lib.rt:2428:9
+-- src/lib.rt:2429:9
 wr-same-length-2 : (t : ℕ) → wr-lts.Need-same-length-2 (
   sig-below t,
   sig.Post,
@@ -26398,7 +26475,7 @@ wr-same-length-2 : (t : ℕ) → wr-lts.Need-same-length-2 (
 ) (wr-at t) wr.Post
 wr-same-length-2 t c = c .before .before .before .before .before .path .kept .1 .1 .1 .1 .1 .0 ∙ c .before .before .before .before .before .before .before .before .before .before .word .kept .1 .1 .0 ∙ c .before .before .before .before .before .before .before .before .before .before .before .before .before .before .before .before .before .before .before .sig .kept .1 .1 .1 .1 .1 .1 .0
 
--- src/lib.rt:2428:9
+-- src/lib.rt:2429:9
 wr-returns-2 : (t : ℕ) → wr-lts.Need-returns-2 (
   sig-below t,
   sig.Post,
@@ -26412,7 +26489,7 @@ wr-returns-2 : (t : ℕ) → wr-lts.Need-returns-2 (
 unfolding SigExp.sig-exp
 wr-returns-2 t c = record { is = then-done (c .before .before .before .before .before .before .before .before .before .before .before .before .before .before .before .before .before .before .before .sig .ensures .is) (c .before .before .before .before .before .before .before .before .before .before .before .before .before .before .before .before .told .ensures) (c .before .before .before .before .before .before .before .before .before .before .before .before .before .before .s1 .given .1) (then-sure (c .before .before .before .before .before .before .before .before .before .before .word .ensures) (then-stop (plain (c .before .before .before .before .before .path .ensures)) (c .before .before .told2 .ensures) (c .enum-told2 .given .1))) }
 
--- src/lib.rt:2430:5
+-- src/lib.rt:2431:5
 wr-word-requires-2 : (t : ℕ) → wr-lts.Need-word-requires-2 (
   sig-below t,
   sig.Post,
@@ -26425,7 +26502,7 @@ wr-word-requires-2 : (t : ℕ) → wr-lts.Need-word-requires-2 (
 ) (wr-at t) wr.Post
 wr-word-requires-2 t c κs = search needs
 
--- src/lib.rt:2431:5
+-- src/lib.rt:2432:5
 wr-path-requires-2 : (t : ℕ) → wr-lts.Need-path-requires-2 (
   sig-below t,
   sig.Post,
@@ -26438,7 +26515,7 @@ wr-path-requires-2 : (t : ℕ) → wr-lts.Need-path-requires-2 (
 ) (wr-at t) wr.Post
 wr-path-requires-2 t c κs = search needs
 
--- src/lib.rt:2406:1
+-- src/lib.rt:2407:1
 wr-same-length-3 : (t : ℕ) → wr-lts.Need-same-length-3 (
   sig-below t,
   sig.Post,
@@ -26451,7 +26528,7 @@ wr-same-length-3 : (t : ℕ) → wr-lts.Need-same-length-3 (
 ) (wr-at t) wr.Post
 wr-same-length-3 t c = c .before .before .path2 .kept .1 .1 .1 .1 .1 .0 ∙ c .before .before .before .before .before .before .before .word2 .kept .1 .1 .0 ∙ c .before .before .before .before .before .before .before .before .before .before .before .before .before .before .before .before .path .kept .1 .1 .1 .1 .1 .0 ∙ c .before .before .before .before .before .before .before .before .before .before .before .before .before .before .before .before .before .before .before .before .before .word .kept .1 .1 .0 ∙ c .before .before .before .before .before .before .before .before .before .before .before .before .before .before .before .before .before .before .before .before .before .before .before .before .before .before .before .before .before .before .sig .kept .1 .1 .1 .1 .1 .1 .0
 
--- src/lib.rt:2406:1
+-- src/lib.rt:2407:1
 wr-returns-3 : (t : ℕ) → wr-lts.Need-returns-3 (
   sig-below t,
   sig.Post,
@@ -26465,7 +26542,7 @@ wr-returns-3 : (t : ℕ) → wr-lts.Need-returns-3 (
 unfolding SigExp.sig-exp
 wr-returns-3 t c = record { is = then-done (c .before .before .before .before .before .before .before .before .before .before .before .before .before .before .before .before .before .before .before .before .before .before .before .before .before .before .before .before .before .before .sig .ensures .is) (c .before .before .before .before .before .before .before .before .before .before .before .before .before .before .before .before .before .before .before .before .before .before .before .before .before .before .before .told .ensures) (c .before .before .before .before .before .before .before .before .before .before .before .before .before .before .before .before .before .before .before .before .before .before .before .before .before .s1 .given .1) (then-sure (c .before .before .before .before .before .before .before .before .before .before .before .before .before .before .before .before .before .before .before .before .before .word .ensures) (then-done (plain (c .before .before .before .before .before .before .before .before .before .before .before .before .before .before .before .before .path .ensures)) (c .before .before .before .before .before .before .before .before .before .before .before .before .before .told2 .ensures) (c .before .before .before .before .before .before .before .before .before .before .before .s2 .given .1) (then-sure (c .before .before .before .before .before .before .before .word2 .ensures) (plain (c .before .before .path2 .ensures))))) }
 
--- src/lib.rt:2388:9
+-- src/lib.rt:2389:9
 wt-sig-requires : (t : ℕ) → wt-lts.Need-sig-requires (
   sig-below t,
   sig.Post,
@@ -26482,7 +26559,7 @@ wt-sig-requires : (t : ℕ) → wt-lts.Need-sig-requires (
 ) (wt-at t) wt.Post
 wt-sig-requires t c κs = omega (arith, c .before .before .before .before .before .before .before .before .pre .0, c .before .before .before .before .before .before .before .before .pre .1)
 
--- src/lib.rt:2389:28
+-- src/lib.rt:2390:28
 wt-told-requires : (t : ℕ) → wt-lts.Need-told-requires (
   sig-below t,
   sig.Post,
@@ -26499,7 +26576,7 @@ wt-told-requires : (t : ℕ) → wt-lts.Need-told-requires (
 ) (wt-at t) wt.Post
 wt-told-requires t c κs = search needs
 
--- src/lib.rt:2389:22
+-- src/lib.rt:2390:22
 wt-enum-known-s1 : (t : ℕ) → wt-lts.Need-enum-known-s1 (
   sig-below t,
   sig.Post,
@@ -26516,7 +26593,7 @@ wt-enum-known-s1 : (t : ℕ) → wt-lts.Need-enum-known-s1 (
 ) (wt-at t) wt.Post
 wt-enum-known-s1 t c = search needs
 
--- src/lib.rt:2390:9
+-- src/lib.rt:2391:9
 wt-enum-told : (t : ℕ) → wt-lts.Need-enum-told (
   sig-below t,
   sig.Post,
@@ -26533,7 +26610,7 @@ wt-enum-told : (t : ℕ) → wt-lts.Need-enum-told (
 ) (wt-at t) wt.Post
 wt-enum-told t c = search needs
 
--- src/lib.rt:2390:9
+-- src/lib.rt:2391:9
 wt-same-length : (t : ℕ) → wt-lts.Need-same-length (
   sig-below t,
   sig.Post,
@@ -26550,7 +26627,7 @@ wt-same-length : (t : ℕ) → wt-lts.Need-same-length (
 ) (wt-at t) wt.Post
 wt-same-length t c = c .before .before .before .before .before .sig .kept .1 .1 .1 .1 .1 .1 .0
 
--- src/lib.rt:2390:9
+-- src/lib.rt:2391:9
 wt-returns : (t : ℕ) → wt-lts.Need-returns (
   sig-below t,
   sig.Post,
@@ -26568,7 +26645,7 @@ wt-returns : (t : ℕ) → wt-lts.Need-returns (
 unfolding SigExp.sig-exp
 wt-returns t c = record { is = then-stop (c .before .before .before .before .before .sig .ensures .is) (c .before .before .told .ensures) (c .enum-told .given .1) }
 
--- src/lib.rt:2392:5
+-- src/lib.rt:2393:5
 wt-word-requires : (t : ℕ) → wt-lts.Need-word-requires (
   sig-below t,
   sig.Post,
@@ -26585,7 +26662,7 @@ wt-word-requires : (t : ℕ) → wt-lts.Need-word-requires (
 ) (wt-at t) wt.Post
 wt-word-requires t c κs = search needs
 
--- src/lib.rt:2393:9
+-- src/lib.rt:2394:9
 wt-ty-var-seq-requires : (t : ℕ) → wt-lts.Need-ty-var-seq-requires (
   sig-below t,
   sig.Post,
@@ -26602,7 +26679,7 @@ wt-ty-var-seq-requires : (t : ℕ) → wt-lts.Need-ty-var-seq-requires (
 ) (wt-at t) wt.Post
 wt-ty-var-seq-requires t c κs = search needs
 
--- src/lib.rt:2394:28
+-- src/lib.rt:2395:28
 wt-told-requires-2 : (t : ℕ) → wt-lts.Need-told-requires-2 (
   sig-below t,
   sig.Post,
@@ -26619,7 +26696,7 @@ wt-told-requires-2 : (t : ℕ) → wt-lts.Need-told-requires-2 (
 ) (wt-at t) wt.Post
 wt-told-requires-2 t c κs = search needs
 
--- src/lib.rt:2394:22
+-- src/lib.rt:2395:22
 wt-enum-known-s2 : (t : ℕ) → wt-lts.Need-enum-known-s2 (
   sig-below t,
   sig.Post,
@@ -26636,7 +26713,7 @@ wt-enum-known-s2 : (t : ℕ) → wt-lts.Need-enum-known-s2 (
 ) (wt-at t) wt.Post
 wt-enum-known-s2 t c = search needs
 
--- src/lib.rt:2395:9
+-- src/lib.rt:2396:9
 wt-enum-told-2 : (t : ℕ) → wt-lts.Need-enum-told-2 (
   sig-below t,
   sig.Post,
@@ -26653,7 +26730,7 @@ wt-enum-told-2 : (t : ℕ) → wt-lts.Need-enum-told-2 (
 ) (wt-at t) wt.Post
 wt-enum-told-2 t c = search needs
 
--- src/lib.rt:2395:9
+-- src/lib.rt:2396:9
 wt-same-length-2 : (t : ℕ) → wt-lts.Need-same-length-2 (
   sig-below t,
   sig.Post,
@@ -26670,7 +26747,7 @@ wt-same-length-2 : (t : ℕ) → wt-lts.Need-same-length-2 (
 ) (wt-at t) wt.Post
 wt-same-length-2 t c = c .before .before .before .before .before .ty-var-seq .kept .1 .1 .1 .1 .1 .0 ∙ c .before .before .before .before .before .before .before .before .before .before .word .kept .1 .1 .0 ∙ c .before .before .before .before .before .before .before .before .before .before .before .before .before .before .before .before .before .before .before .sig .kept .1 .1 .1 .1 .1 .1 .0
 
--- src/lib.rt:2395:9
+-- src/lib.rt:2396:9
 wt-returns-2 : (t : ℕ) → wt-lts.Need-returns-2 (
   sig-below t,
   sig.Post,
@@ -26688,7 +26765,7 @@ wt-returns-2 : (t : ℕ) → wt-lts.Need-returns-2 (
 unfolding SigExp.sig-exp
 wt-returns-2 t c = record { is = then-done (c .before .before .before .before .before .before .before .before .before .before .before .before .before .before .before .before .before .before .before .sig .ensures .is) (c .before .before .before .before .before .before .before .before .before .before .before .before .before .before .before .before .told .ensures) (c .before .before .before .before .before .before .before .before .before .before .before .before .before .before .s1 .given .1) (then-sure (c .before .before .before .before .before .before .before .before .before .before .word .ensures) (then-stop (plain (c .before .before .before .before .before .ty-var-seq .ensures)) (c .before .before .told2 .ensures) (c .enum-told2 .given .1))) }
 
--- src/lib.rt:2397:9
+-- src/lib.rt:2398:9
 wt-path-requires : (t : ℕ) → wt-lts.Need-path-requires (
   sig-below t,
   sig.Post,
@@ -26705,7 +26782,7 @@ wt-path-requires : (t : ℕ) → wt-lts.Need-path-requires (
 ) (wt-at t) wt.Post
 wt-path-requires t c κs = search needs
 
--- src/lib.rt:2398:28
+-- src/lib.rt:2399:28
 wt-told-requires-3 : (t : ℕ) → wt-lts.Need-told-requires-3 (
   sig-below t,
   sig.Post,
@@ -26722,7 +26799,7 @@ wt-told-requires-3 : (t : ℕ) → wt-lts.Need-told-requires-3 (
 ) (wt-at t) wt.Post
 wt-told-requires-3 t c κs = search needs
 
--- src/lib.rt:2398:22
+-- src/lib.rt:2399:22
 wt-enum-known-s3 : (t : ℕ) → wt-lts.Need-enum-known-s3 (
   sig-below t,
   sig.Post,
@@ -26739,7 +26816,7 @@ wt-enum-known-s3 : (t : ℕ) → wt-lts.Need-enum-known-s3 (
 ) (wt-at t) wt.Post
 wt-enum-known-s3 t c = search needs
 
--- src/lib.rt:2399:9
+-- src/lib.rt:2400:9
 wt-enum-told-3 : (t : ℕ) → wt-lts.Need-enum-told-3 (
   sig-below t,
   sig.Post,
@@ -26756,7 +26833,7 @@ wt-enum-told-3 : (t : ℕ) → wt-lts.Need-enum-told-3 (
 ) (wt-at t) wt.Post
 wt-enum-told-3 t c = search needs
 
--- src/lib.rt:2399:9
+-- src/lib.rt:2400:9
 wt-same-length-3 : (t : ℕ) → wt-lts.Need-same-length-3 (
   sig-below t,
   sig.Post,
@@ -26773,7 +26850,7 @@ wt-same-length-3 : (t : ℕ) → wt-lts.Need-same-length-3 (
 ) (wt-at t) wt.Post
 wt-same-length-3 t c = c .before .before .before .before .before .path .kept .1 .1 .1 .1 .1 .0 ∙ c .before .before .before .before .before .before .before .before .before .before .before .before .before .before .ty-var-seq .kept .1 .1 .1 .1 .1 .0 ∙ c .before .before .before .before .before .before .before .before .before .before .before .before .before .before .before .before .before .before .before .word .kept .1 .1 .0 ∙ c .before .before .before .before .before .before .before .before .before .before .before .before .before .before .before .before .before .before .before .before .before .before .before .before .before .before .before .before .sig .kept .1 .1 .1 .1 .1 .1 .0
 
--- src/lib.rt:2399:9
+-- src/lib.rt:2400:9
 wt-returns-3 : (t : ℕ) → wt-lts.Need-returns-3 (
   sig-below t,
   sig.Post,
@@ -26791,7 +26868,7 @@ wt-returns-3 : (t : ℕ) → wt-lts.Need-returns-3 (
 unfolding SigExp.sig-exp
 wt-returns-3 t c = record { is = then-done (c .before .before .before .before .before .before .before .before .before .before .before .before .before .before .before .before .before .before .before .before .before .before .before .before .before .before .before .before .sig .ensures .is) (c .before .before .before .before .before .before .before .before .before .before .before .before .before .before .before .before .before .before .before .before .before .before .before .before .before .told .ensures) (c .before .before .before .before .before .before .before .before .before .before .before .before .before .before .before .before .before .before .before .before .before .before .before .s1 .given .1) (then-sure (c .before .before .before .before .before .before .before .before .before .before .before .before .before .before .before .before .before .before .before .word .ensures) (then-done (plain (c .before .before .before .before .before .before .before .before .before .before .before .before .before .before .ty-var-seq .ensures)) (c .before .before .before .before .before .before .before .before .before .before .before .told2 .ensures) (c .before .before .before .before .before .before .before .before .before .s2 .given .1) (then-stop (plain (c .before .before .before .before .before .path .ensures)) (c .before .before .told3 .ensures) (c .enum-told3 .given .1)))) }
 
--- src/lib.rt:2401:5
+-- src/lib.rt:2402:5
 wt-word-requires-2 : (t : ℕ) → wt-lts.Need-word-requires-2 (
   sig-below t,
   sig.Post,
@@ -26808,7 +26885,7 @@ wt-word-requires-2 : (t : ℕ) → wt-lts.Need-word-requires-2 (
 ) (wt-at t) wt.Post
 wt-word-requires-2 t c κs = search needs
 
--- src/lib.rt:2402:5
+-- src/lib.rt:2403:5
 wt-get-ty-requires : (t : ℕ) → wt-lts.Need-get-ty-requires (
   sig-below t,
   sig.Post,
@@ -26825,7 +26902,7 @@ wt-get-ty-requires : (t : ℕ) → wt-lts.Need-get-ty-requires (
 ) (wt-at t) wt.Post
 wt-get-ty-requires t c κs = search needs
 
--- src/lib.rt:2373:1
+-- src/lib.rt:2374:1
 wt-same-length-4 : (t : ℕ) → wt-lts.Need-same-length-4 (
   sig-below t,
   sig.Post,
@@ -26842,7 +26919,7 @@ wt-same-length-4 : (t : ℕ) → wt-lts.Need-same-length-4 (
 ) (wt-at t) wt.Post
 wt-same-length-4 t c = c .before .before .get-ty .kept .1 .1 .1 .1 .1 .0 ∙ c .before .before .before .before .before .before .before .word2 .kept .1 .1 .0 ∙ c .before .before .before .before .before .before .before .before .before .before .before .before .before .before .before .before .path .kept .1 .1 .1 .1 .1 .0 ∙ c .before .before .before .before .before .before .before .before .before .before .before .before .before .before .before .before .before .before .before .before .before .before .before .before .before .ty-var-seq .kept .1 .1 .1 .1 .1 .0 ∙ c .before .before .before .before .before .before .before .before .before .before .before .before .before .before .before .before .before .before .before .before .before .before .before .before .before .before .before .before .before .before .word .kept .1 .1 .0 ∙ c .before .before .before .before .before .before .before .before .before .before .before .before .before .before .before .before .before .before .before .before .before .before .before .before .before .before .before .before .before .before .before .before .before .before .before .before .before .before .before .sig .kept .1 .1 .1 .1 .1 .1 .0
 
--- src/lib.rt:2373:1
+-- src/lib.rt:2374:1
 wt-returns-4 : (t : ℕ) → wt-lts.Need-returns-4 (
   sig-below t,
   sig.Post,
@@ -26860,7 +26937,7 @@ wt-returns-4 : (t : ℕ) → wt-lts.Need-returns-4 (
 unfolding SigExp.sig-exp
 wt-returns-4 t c = record { is = then-done (c .before .before .before .before .before .before .before .before .before .before .before .before .before .before .before .before .before .before .before .before .before .before .before .before .before .before .before .before .before .before .before .before .before .before .before .before .before .before .before .sig .ensures .is) (c .before .before .before .before .before .before .before .before .before .before .before .before .before .before .before .before .before .before .before .before .before .before .before .before .before .before .before .before .before .before .before .before .before .before .before .before .told .ensures) (c .before .before .before .before .before .before .before .before .before .before .before .before .before .before .before .before .before .before .before .before .before .before .before .before .before .before .before .before .before .before .before .before .before .before .s1 .given .1) (then-sure (c .before .before .before .before .before .before .before .before .before .before .before .before .before .before .before .before .before .before .before .before .before .before .before .before .before .before .before .before .before .before .word .ensures) (then-done (plain (c .before .before .before .before .before .before .before .before .before .before .before .before .before .before .before .before .before .before .before .before .before .before .before .before .before .ty-var-seq .ensures)) (c .before .before .before .before .before .before .before .before .before .before .before .before .before .before .before .before .before .before .before .before .before .before .told2 .ensures) (c .before .before .before .before .before .before .before .before .before .before .before .before .before .before .before .before .before .before .before .before .s2 .given .1) (then-done (plain (c .before .before .before .before .before .before .before .before .before .before .before .before .before .before .before .before .path .ensures)) (c .before .before .before .before .before .before .before .before .before .before .before .before .before .told3 .ensures) (c .before .before .before .before .before .before .before .before .before .before .before .s3 .given .1) (then-sure (c .before .before .before .before .before .before .before .word2 .ensures) (plain (c .before .before .get-ty .ensures)))))) }
 
--- src/lib.rt:1590:9
+-- src/lib.rt:1591:9
 xb-group-requires : (t : ℕ) → xb-lts.Need-group-requires (
   group-reads.Asked,
   group-reads.Learnt,
@@ -26879,7 +26956,7 @@ xb-group-requires : (t : ℕ) → xb-lts.Need-group-requires (
 ) (xb-at t) xb.Post
 xb-group-requires t c κs = search needs
 
--- src/lib.rt:1591:28
+-- src/lib.rt:1592:28
 xb-told-requires : (t : ℕ) → xb-lts.Need-told-requires (
   group-reads.Asked,
   group-reads.Learnt,
@@ -26898,7 +26975,7 @@ xb-told-requires : (t : ℕ) → xb-lts.Need-told-requires (
 ) (xb-at t) xb.Post
 xb-told-requires t c κs = search needs
 
--- src/lib.rt:1591:22
+-- src/lib.rt:1592:22
 xb-enum-known-s1 : (t : ℕ) → xb-lts.Need-enum-known-s1 (
   group-reads.Asked,
   group-reads.Learnt,
@@ -26917,7 +26994,7 @@ xb-enum-known-s1 : (t : ℕ) → xb-lts.Need-enum-known-s1 (
 ) (xb-at t) xb.Post
 xb-enum-known-s1 t c = search needs
 
--- src/lib.rt:1592:9
+-- src/lib.rt:1593:9
 xb-enum-told : (t : ℕ) → xb-lts.Need-enum-told (
   group-reads.Asked,
   group-reads.Learnt,
@@ -26936,7 +27013,7 @@ xb-enum-told : (t : ℕ) → xb-lts.Need-enum-told (
 ) (xb-at t) xb.Post
 xb-enum-told t c = search needs
 
--- src/lib.rt:1592:9
+-- src/lib.rt:1593:9
 xb-returns : (t : ℕ) → xb-lts.Need-returns (
   group-reads.Asked,
   group-reads.Learnt,
@@ -26956,7 +27033,7 @@ xb-returns : (t : ℕ) → xb-lts.Need-returns (
 unfolding DecOne.ex-bind
 xb-returns t c = record { is = group-not (c .before .before .before .group .ensures) (c .before .before .told .ensures) (c .enum-told .given .1) }
 
--- src/lib.rt:1594:9
+-- src/lib.rt:1595:9
 xb-text-of-requires : (t : ℕ) → xb-lts.Need-text-of-requires (
   group-reads.Asked,
   group-reads.Learnt,
@@ -26975,7 +27052,7 @@ xb-text-of-requires : (t : ℕ) → xb-lts.Need-text-of-requires (
 ) (xb-at t) xb.Post
 xb-text-of-requires t c κs = search needs
 
--- src/lib.rt:1595:28
+-- src/lib.rt:1596:28
 xb-told-requires-2 : (t : ℕ) → xb-lts.Need-told-requires-2 (
   group-reads.Asked,
   group-reads.Learnt,
@@ -26994,7 +27071,7 @@ xb-told-requires-2 : (t : ℕ) → xb-lts.Need-told-requires-2 (
 ) (xb-at t) xb.Post
 xb-told-requires-2 t c κs = search needs
 
--- src/lib.rt:1595:22
+-- src/lib.rt:1596:22
 xb-enum-known-s2 : (t : ℕ) → xb-lts.Need-enum-known-s2 (
   group-reads.Asked,
   group-reads.Learnt,
@@ -27013,7 +27090,7 @@ xb-enum-known-s2 : (t : ℕ) → xb-lts.Need-enum-known-s2 (
 ) (xb-at t) xb.Post
 xb-enum-known-s2 t c = search needs
 
--- src/lib.rt:1596:9
+-- src/lib.rt:1597:9
 xb-enum-told-2 : (t : ℕ) → xb-lts.Need-enum-told-2 (
   group-reads.Asked,
   group-reads.Learnt,
@@ -27032,7 +27109,7 @@ xb-enum-told-2 : (t : ℕ) → xb-lts.Need-enum-told-2 (
 ) (xb-at t) xb.Post
 xb-enum-told-2 t c = search needs
 
--- src/lib.rt:1596:9
+-- src/lib.rt:1597:9
 xb-same-length : (t : ℕ) → xb-lts.Need-same-length (
   group-reads.Asked,
   group-reads.Learnt,
@@ -27051,7 +27128,7 @@ xb-same-length : (t : ℕ) → xb-lts.Need-same-length (
 ) (xb-at t) xb.Post
 xb-same-length t c = c .before .before .before .before .before .text-of .kept .1 .1 .1 .1 .1 .0
 
--- src/lib.rt:1596:9
+-- src/lib.rt:1597:9
 xb-returns-2 : (t : ℕ) → xb-lts.Need-returns-2 (
   group-reads.Asked,
   group-reads.Learnt,
@@ -27071,7 +27148,7 @@ xb-returns-2 : (t : ℕ) → xb-lts.Need-returns-2 (
 unfolding DecOne.ex-bind
 xb-returns-2 t c = record { is = by-same (group-is (c .before .before .before .before .before .before .before .before .before .before .before .before .group .ensures) (c .before .before .before .before .before .before .before .before .before .before .before .told .ensures) (c .before .before .before .before .before .before .before .before .before .s1 .given .1)) (then-stop (plain (c .before .before .before .before .before .text-of .ensures)) (c .before .before .told2 .ensures) (c .enum-told2 .given .1)) }
 
--- src/lib.rt:1598:29
+-- src/lib.rt:1599:29
 xb-absent-requires : (t : ℕ) → xb-lts.Need-absent-requires (
   group-reads.Asked,
   group-reads.Learnt,
@@ -27090,7 +27167,7 @@ xb-absent-requires : (t : ℕ) → xb-lts.Need-absent-requires (
 ) (xb-at t) xb.Post
 xb-absent-requires t c κs = search needs
 
--- src/lib.rt:1598:23
+-- src/lib.rt:1599:23
 xb-enum-known-s3 : (t : ℕ) → xb-lts.Need-enum-known-s3 (
   group-reads.Asked,
   group-reads.Learnt,
@@ -27109,7 +27186,7 @@ xb-enum-known-s3 : (t : ℕ) → xb-lts.Need-enum-known-s3 (
 ) (xb-at t) xb.Post
 xb-enum-known-s3 t c = search needs
 
--- src/lib.rt:1599:9
+-- src/lib.rt:1600:9
 xb-same-length-2 : (t : ℕ) → xb-lts.Need-same-length-2 (
   group-reads.Asked,
   group-reads.Learnt,
@@ -27128,7 +27205,7 @@ xb-same-length-2 : (t : ℕ) → xb-lts.Need-same-length-2 (
 ) (xb-at t) xb.Post
 xb-same-length-2 t c = c .before .before .before .before .before .before .before .before .before .before .text-of .kept .1 .1 .1 .1 .1 .0
 
--- src/lib.rt:1599:9
+-- src/lib.rt:1600:9
 xb-returns-3 : (t : ℕ) → xb-lts.Need-returns-3 (
   group-reads.Asked,
   group-reads.Learnt,
@@ -27166,7 +27243,7 @@ xb-enum-told-3 : (t : ℕ) → xb-lts.Need-enum-told-3 (
 ) (xb-at t) xb.Post
 xb-enum-told-3 t c = search needs
 
--- src/lib.rt:1601:27
+-- src/lib.rt:1602:27
 xb-choice-requires : (t : ℕ) → xb-lts.Need-choice-requires (
   group-reads.Asked,
   group-reads.Learnt,
@@ -27185,7 +27262,7 @@ xb-choice-requires : (t : ℕ) → xb-lts.Need-choice-requires (
 ) (xb-at t) xb.Post
 xb-choice-requires t c κs = search needs
 
--- src/lib.rt:1601:18
+-- src/lib.rt:1602:18
 xb-enum-known-k : (t : ℕ) → xb-lts.Need-enum-known-k (
   group-reads.Asked,
   group-reads.Learnt,
@@ -27204,7 +27281,7 @@ xb-enum-known-k : (t : ℕ) → xb-lts.Need-enum-known-k (
 ) (xb-at t) xb.Post
 xb-enum-known-k t c = search needs
 
--- src/lib.rt:1602:9
+-- src/lib.rt:1603:9
 xb-enum-told-4 : (t : ℕ) → xb-lts.Need-enum-told-4 (
   group-reads.Asked,
   group-reads.Learnt,
@@ -27223,7 +27300,7 @@ xb-enum-told-4 : (t : ℕ) → xb-lts.Need-enum-told-4 (
 ) (xb-at t) xb.Post
 xb-enum-told-4 t c = search needs
 
--- src/lib.rt:1602:9
+-- src/lib.rt:1603:9
 xb-stop-requires : (t : ℕ) → xb-lts.Need-stop-requires (
   group-reads.Asked,
   group-reads.Learnt,
@@ -27242,7 +27319,7 @@ xb-stop-requires : (t : ℕ) → xb-lts.Need-stop-requires (
 ) (xb-at t) xb.Post
 xb-stop-requires t c κs = search needs
 
--- src/lib.rt:1602:9
+-- src/lib.rt:1603:9
 xb-same-length-3 : (t : ℕ) → xb-lts.Need-same-length-3 (
   group-reads.Asked,
   group-reads.Learnt,
@@ -27261,7 +27338,7 @@ xb-same-length-3 : (t : ℕ) → xb-lts.Need-same-length-3 (
 ) (xb-at t) xb.Post
 xb-same-length-3 t c = c .before .before .before .before .before .before .before .before .before .before .before .before .before .text-of .kept .1 .1 .1 .1 .1 .0
 
--- src/lib.rt:1602:9
+-- src/lib.rt:1603:9
 xb-returns-4 : (t : ℕ) → xb-lts.Need-returns-4 (
   group-reads.Asked,
   group-reads.Learnt,
@@ -27281,7 +27358,7 @@ xb-returns-4 : (t : ℕ) → xb-lts.Need-returns-4 (
 unfolding DecOne.ex-bind
 xb-returns-4 t c = record { is = by-same (group-is (c .before .before .before .before .before .before .before .before .before .before .before .before .before .before .before .before .before .before .before .before .group .ensures) (c .before .before .before .before .before .before .before .before .before .before .before .before .before .before .before .before .before .before .before .told .ensures) (c .before .before .before .before .before .before .before .before .before .before .before .before .before .before .before .before .before .s1 .given .1)) (then-done (plain (c .before .before .before .before .before .before .before .before .before .before .before .before .before .text-of .ensures)) (c .before .before .before .before .before .before .before .before .before .before .told2 .ensures) (c .before .before .before .before .before .before .before .before .s2 .given .1) (by-same (maybe-there (c .before .before .before .before .before .before .absent .ensures) (c .before .before .before .before .enum-told3 .given .1)) (choice-not (c .stop .ensures) (c .before .before .before .choice .ensures) (c .before .enum-told4 .given .1)))) }
 
--- src/lib.rt:1604:5
+-- src/lib.rt:1605:5
 xb-xi-requires : (t : ℕ) → xb-lts.Need-xi-requires (
   group-reads.Asked,
   group-reads.Learnt,
@@ -27300,7 +27377,7 @@ xb-xi-requires : (t : ℕ) → xb-lts.Need-xi-requires (
 ) (xb-at t) xb.Post
 xb-xi-requires t c κs = omega (arith, c .before .before .before .before .before .before .before .before .before .before .before .before .before .before .before .before .before .before .before .before .before .before .before .before .before .before .before .before .before .pre .0, c .before .before .before .before .before .before .before .before .before .before .before .before .before .before .before .before .before .before .before .before .before .before .before .before .before .before .before .before .before .pre .1)
 
--- src/lib.rt:1575:1
+-- src/lib.rt:1576:1
 xb-same-length-4 : (t : ℕ) → xb-lts.Need-same-length-4 (
   group-reads.Asked,
   group-reads.Learnt,
@@ -27319,7 +27396,7 @@ xb-same-length-4 : (t : ℕ) → xb-lts.Need-same-length-4 (
 ) (xb-at t) xb.Post
 xb-same-length-4 t c = c .before .before .xi .kept .1 .1 .1 .1 .1 .1 .0 ∙ c .before .before .before .before .before .before .before .before .before .before .before .before .before .before .before .before .before .before .text-of .kept .1 .1 .1 .1 .1 .0
 
--- src/lib.rt:1575:1
+-- src/lib.rt:1576:1
 xb-returns-5 : (t : ℕ) → xb-lts.Need-returns-5 (
   group-reads.Asked,
   group-reads.Learnt,
@@ -27346,7 +27423,7 @@ xd-Inv-loop run text rec kinds starts lens out₀ mem₀ at cfg n s1 s₀ i₀ o
 abbrev xd-μ-loop : xd-lts.MeasureT-loop
 xd-μ-loop run text rec kinds starts lens out₀ mem₀ at cfg n s1 s₀ i₀ out mem s i = n - i
 
--- src/lib.rt:1556:5
+-- src/lib.rt:1557:5
 xd-word-requires : (t : ℕ) → xd-lts.Need-word-requires (
   word-reads.Asked,
   word-reads.Learnt,
@@ -27363,7 +27440,7 @@ xd-word-requires : (t : ℕ) → xd-lts.Need-word-requires (
 ) (xd-at t) xd.Post xd-Inv-loop xd-μ-loop
 xd-word-requires t c κs = search needs
 
--- src/lib.rt:1557:27
+-- src/lib.rt:1558:27
 xd-list-requires : (t : ℕ) → xd-lts.Need-list-requires (
   word-reads.Asked,
   word-reads.Learnt,
@@ -27380,7 +27457,7 @@ xd-list-requires : (t : ℕ) → xd-lts.Need-list-requires (
 ) (xd-at t) xd.Post xd-Inv-loop xd-μ-loop
 xd-list-requires t c κs = search needs
 
--- src/lib.rt:1557:18
+-- src/lib.rt:1558:18
 xd-enum-known-n : (t : ℕ) → xd-lts.Need-enum-known-n (
   word-reads.Asked,
   word-reads.Learnt,
@@ -27397,7 +27474,7 @@ xd-enum-known-n : (t : ℕ) → xd-lts.Need-enum-known-n (
 ) (xd-at t) xd.Post xd-Inv-loop xd-μ-loop
 xd-enum-known-n t c = search needs
 
--- src/lib.rt:1558:9
+-- src/lib.rt:1559:9
 xd-enum-told : (t : ℕ) → xd-lts.Need-enum-told (
   word-reads.Asked,
   word-reads.Learnt,
@@ -27414,7 +27491,7 @@ xd-enum-told : (t : ℕ) → xd-lts.Need-enum-told (
 ) (xd-at t) xd.Post xd-Inv-loop xd-μ-loop
 xd-enum-told t c = search needs
 
--- src/lib.rt:1558:9
+-- src/lib.rt:1559:9
 xd-stop-requires : (t : ℕ) → xd-lts.Need-stop-requires (
   word-reads.Asked,
   word-reads.Learnt,
@@ -27431,7 +27508,7 @@ xd-stop-requires : (t : ℕ) → xd-lts.Need-stop-requires (
 ) (xd-at t) xd.Post xd-Inv-loop xd-μ-loop
 xd-stop-requires t c κs = search needs
 
--- src/lib.rt:1558:9
+-- src/lib.rt:1559:9
 xd-same-length : (t : ℕ) → xd-lts.Need-same-length (
   word-reads.Asked,
   word-reads.Learnt,
@@ -27448,7 +27525,7 @@ xd-same-length : (t : ℕ) → xd-lts.Need-same-length (
 ) (xd-at t) xd.Post xd-Inv-loop xd-μ-loop
 xd-same-length t c = c .before .before .before .before .before .before .word .kept .1 .1 .0
 
--- src/lib.rt:1558:9
+-- src/lib.rt:1559:9
 xd-returns : (t : ℕ) → xd-lts.Need-returns (
   word-reads.Asked,
   word-reads.Learnt,
@@ -27466,7 +27543,7 @@ xd-returns : (t : ℕ) → xd-lts.Need-returns (
 unfolding DecOne.dec-one Helpers.sep-with-lines
 xd-returns t c = record { is = then-sure (c .before .before .before .before .before .before .word .ensures) (list-not (c .stop .ensures) (c .before .before .before .list .ensures) (c .before .enum-told .given .1)) }
 
--- src/lib.rt:1562:5
+-- src/lib.rt:1563:5
 xd-loop-holds : (t : ℕ) → xd-lts.Need-loop-holds (
   word-reads.Asked,
   word-reads.Learnt,
@@ -27483,7 +27560,7 @@ xd-loop-holds : (t : ℕ) → xd-lts.Need-loop-holds (
 ) (xd-at t) xd.Post xd-Inv-loop xd-μ-loop
 xd-loop-holds t c = (omega arith, λ r m o h. h, refl)
 
--- src/lib.rt:1563:9
+-- src/lib.rt:1564:9
 xd-new-line-requires : (t : ℕ) → xd-lts.Need-new-line-requires (
   word-reads.Asked,
   word-reads.Learnt,
@@ -27500,7 +27577,7 @@ xd-new-line-requires : (t : ℕ) → xd-lts.Need-new-line-requires (
 ) (xd-at t) xd.Post xd-Inv-loop xd-μ-loop
 xd-new-line-requires t c κs = search needs
 
--- src/lib.rt:1564:13
+-- src/lib.rt:1565:13
 xd-xb-requires : (t : ℕ) → xd-lts.Need-xb-requires (
   word-reads.Asked,
   word-reads.Learnt,
@@ -27517,7 +27594,7 @@ xd-xb-requires : (t : ℕ) → xd-lts.Need-xb-requires (
 ) (xd-at t) xd.Post xd-Inv-loop xd-μ-loop
 xd-xb-requires t c κs = omega (arith, c .before .before .before .before .before .before .before .before .before .before .before .before .before .before .before .before .before .before .before .before .before .before .before .before .pre .0, c .before .before .before .before .before .before .before .before .before .before .before .before .before .before .before .before .before .before .before .before .before .before .before .before .pre .1)
 
--- src/lib.rt:1565:32
+-- src/lib.rt:1566:32
 xd-told-requires : (t : ℕ) → xd-lts.Need-told-requires (
   word-reads.Asked,
   word-reads.Learnt,
@@ -27534,7 +27611,7 @@ xd-told-requires : (t : ℕ) → xd-lts.Need-told-requires (
 ) (xd-at t) xd.Post xd-Inv-loop xd-μ-loop
 xd-told-requires t c κs = search needs
 
--- src/lib.rt:1565:26
+-- src/lib.rt:1566:26
 xd-enum-known-s2 : (t : ℕ) → xd-lts.Need-enum-known-s2 (
   word-reads.Asked,
   word-reads.Learnt,
@@ -27551,7 +27628,7 @@ xd-enum-known-s2 : (t : ℕ) → xd-lts.Need-enum-known-s2 (
 ) (xd-at t) xd.Post xd-Inv-loop xd-μ-loop
 xd-enum-known-s2 t c = search needs
 
--- src/lib.rt:1566:13
+-- src/lib.rt:1567:13
 xd-enum-told-2 : (t : ℕ) → xd-lts.Need-enum-told-2 (
   word-reads.Asked,
   word-reads.Learnt,
@@ -27568,7 +27645,7 @@ xd-enum-told-2 : (t : ℕ) → xd-lts.Need-enum-told-2 (
 ) (xd-at t) xd.Post xd-Inv-loop xd-μ-loop
 xd-enum-told-2 t c = search needs
 
--- src/lib.rt:1566:13
+-- src/lib.rt:1567:13
 xd-same-length-2 : (t : ℕ) → xd-lts.Need-same-length-2 (
   word-reads.Asked,
   word-reads.Learnt,
@@ -27585,7 +27662,7 @@ xd-same-length-2 : (t : ℕ) → xd-lts.Need-same-length-2 (
 ) (xd-at t) xd.Post xd-Inv-loop xd-μ-loop
 xd-same-length-2 t c = c .before .before .before .before .before .xb .kept .1 .1 .1 .1 .1 .1 .0 ∙ c .before .before .before .before .before .before .before .before .before .before .new-line .kept .1 .1 .0 ∙ c .before .before .before .before .before .before .before .before .before .before .before .before .before .before .loop .inv .2 ∙ c .before .before .before .before .before .before .before .before .before .before .before .before .before .before .before .before .before .before .before .before .before .word .kept .1 .1 .0
 
--- src/lib.rt:1566:13
+-- src/lib.rt:1567:13
 xd-returns-2 : (t : ℕ) → xd-lts.Need-returns-2 (
   word-reads.Asked,
   word-reads.Learnt,
@@ -27603,7 +27680,7 @@ xd-returns-2 : (t : ℕ) → xd-lts.Need-returns-2 (
 unfolding DecOne.dec-one Helpers.sep-with-lines
 xd-returns-2 t c = record { is = then-sure (c .before .before .before .before .before .before .before .before .before .before .before .before .before .before .before .before .before .before .before .before .before .word .ensures) (by-same (list-is (c .before .before .before .before .before .before .before .before .before .before .before .before .before .before .before .before .before .before .list .ensures) (c .before .before .before .before .before .before .before .before .before .before .before .before .before .before .before .before .n .given .1)) (by-same (items-all _ _ _) (c .before .before .before .before .before .before .before .before .before .before .before .before .before .before .loop .inv .1 _ _ _ (from-more _ _ (c .before .before .before .before .before .before .before .before .before .before .before .before .before .loop-test .taken) (then-sure (c .before .before .before .before .before .before .before .before .before .before .new-line .ensures) (then-stop (c .before .before .before .before .before .xb .ensures .is) (c .before .before .told .ensures) (c .enum-told2 .given .1))))))) }
 
--- src/lib.rt:1569:9
+-- src/lib.rt:1570:9
 xd-add-i : (t : ℕ) → xd-lts.Need-add-i (
   word-reads.Asked,
   word-reads.Learnt,
@@ -27620,7 +27697,7 @@ xd-add-i : (t : ℕ) → xd-lts.Need-add-i (
 ) (xd-at t) xd.Post xd-Inv-loop xd-μ-loop
 xd-add-i t c = omega (arith, c .before .before .before .before .before .before .before .before .before .before .before .before .before .before .loop-test .taken, c .before .before .before .before .before .before .before .before .before .before .before .before .before .before .before .before .known-told)
 
--- src/lib.rt:1562:5
+-- src/lib.rt:1563:5
 xd-loop-less : (t : ℕ) → xd-lts.Need-loop-less (
   word-reads.Asked,
   word-reads.Learnt,
@@ -27637,7 +27714,7 @@ xd-loop-less : (t : ℕ) → xd-lts.Need-loop-less (
 ) (xd-at t) xd.Post xd-Inv-loop xd-μ-loop
 xd-loop-less t c = omega arith
 
--- src/lib.rt:1562:5
+-- src/lib.rt:1563:5
 xd-loop-again : (t : ℕ) → xd-lts.Need-loop-again (
   word-reads.Asked,
   word-reads.Learnt,
@@ -27655,7 +27732,7 @@ xd-loop-again : (t : ℕ) → xd-lts.Need-loop-again (
 unfolding DecOne.dec-one Helpers.sep-with-lines
 xd-loop-again t c = (omega (arith, c .before .before .before .before .before .before .before .before .before .before .before .before .before .before .before .loop .inv .0), λ r m o h. c .before .before .before .before .before .before .before .before .before .before .before .before .before .before .before .loop .inv .1 r m o (from-more _ _ (c .before .before .before .before .before .before .before .before .before .before .before .before .before .before .loop-test .taken) (then-sure (c .before .before .before .before .before .before .before .before .before .before .before .new-line .ensures) (then-done (c .before .before .before .before .before .before .xb .ensures .is) (c .before .before .before .told .ensures) (c .before .s2 .given .1) h))), c .before .before .before .before .before .before .xb .kept .1 .1 .1 .1 .1 .1 .0 ∙ c .before .before .before .before .before .before .before .before .before .before .before .new-line .kept .1 .1 .0 ∙ c .before .before .before .before .before .before .before .before .before .before .before .before .before .before .before .loop .inv .2)
 
--- src/lib.rt:1541:1
+-- src/lib.rt:1542:1
 xd-same-length-3 : (t : ℕ) → xd-lts.Need-same-length-3 (
   word-reads.Asked,
   word-reads.Learnt,
@@ -27672,7 +27749,7 @@ xd-same-length-3 : (t : ℕ) → xd-lts.Need-same-length-3 (
 ) (xd-at t) xd.Post xd-Inv-loop xd-μ-loop
 xd-same-length-3 t c = c .before .loop .inv .2 ∙ c .before .before .before .before .before .before .before .before .word .kept .1 .1 .0
 
--- src/lib.rt:1541:1
+-- src/lib.rt:1542:1
 xd-returns-3 : (t : ℕ) → xd-lts.Need-returns-3 (
   word-reads.Asked,
   word-reads.Learnt,
@@ -27690,7 +27767,7 @@ xd-returns-3 : (t : ℕ) → xd-lts.Need-returns-3 (
 unfolding DecOne.dec-one Helpers.sep-with-lines
 xd-returns-3 t c = record { is = then-sure (c .before .before .before .before .before .before .before .before .word .ensures) (by-same (list-is (c .before .before .before .before .before .list .ensures) (c .before .before .before .n .given .1)) (by-same (items-all _ _ _) (c .before .loop .inv .1 _ _ _ (from-none _ _ (c .loop-test .left))))) }
 
--- src/lib.rt:1625:14
+-- src/lib.rt:1626:14
 xi-ex-bind-of-requires : (t : ℕ) → xi-lts.Need-ex-bind-of-requires (
   ex-bind-of-reads.Asked,
   ex-bind-of-reads.Learnt,
@@ -27701,7 +27778,7 @@ xi-ex-bind-of-requires : (t : ℕ) → xi-lts.Need-ex-bind-of-requires (
 ) (xi-at t) xi.Post
 xi-ex-bind-of-requires t c κs = search needs
 
--- src/lib.rt:1626:14
+-- src/lib.rt:1627:14
 xi-pr-requires : (t : ℕ) → xi-lts.Need-pr-requires (
   ex-bind-of-reads.Asked,
   ex-bind-of-reads.Learnt,
@@ -27712,7 +27789,7 @@ xi-pr-requires : (t : ℕ) → xi-lts.Need-pr-requires (
 ) (xi-at t) xi.Post
 xi-pr-requires t c κs = omega (arith, c .before .before .before .before .before .before .before .before .before .pre .0, c .before .before .before .before .before .before .before .before .before .pre .1)
 
--- src/lib.rt:1639:14
+-- src/lib.rt:1640:14
 xi-stop-requires : (t : ℕ) → xi-lts.Need-stop-requires (
   ex-bind-of-reads.Asked,
   ex-bind-of-reads.Learnt,
@@ -27723,7 +27800,7 @@ xi-stop-requires : (t : ℕ) → xi-lts.Need-stop-requires (
 ) (xi-at t) xi.Post
 xi-stop-requires t c κs = search needs
 
--- src/lib.rt:1608:1
+-- src/lib.rt:1609:1
 xi-same-length : (t : ℕ) → xi-lts.Need-same-length (
   ex-bind-of-reads.Asked,
   ex-bind-of-reads.Learnt,
@@ -27734,7 +27811,7 @@ xi-same-length : (t : ℕ) → xi-lts.Need-same-length (
 ) (xi-at t) xi.Post
 xi-same-length t c = c .before .before .ex-bind-of .kept .1 .1 .1 .1 .1 .0
 
--- src/lib.rt:1608:1
+-- src/lib.rt:1609:1
 xi-returns : (t : ℕ) → xi-lts.Need-returns (
   ex-bind-of-reads.Asked,
   ex-bind-of-reads.Learnt,
@@ -27746,7 +27823,7 @@ xi-returns : (t : ℕ) → xi-lts.Need-returns (
 unfolding DecOne.ex-bind-inner
 xi-returns t c = record { is = at-key (λ i. DecOne.ex-bind-inner (walks (c .before .before .before .before .before .before .before .before .before .before .before .before .args .cfg .left)) (cfgOf (c .before .before .before .before .before .before .before .before .before .before .before .before .args .cfg)) i) (c .before .before .before .before .before .match .keys1) (plain (c .before .before .ex-bind-of .ensures)) }
 
--- src/lib.rt:1608:1
+-- src/lib.rt:1609:1
 xi-same-length-2 : (t : ℕ) → xi-lts.Need-same-length-2 (
   ex-bind-of-reads.Asked,
   ex-bind-of-reads.Learnt,
@@ -27757,7 +27834,7 @@ xi-same-length-2 : (t : ℕ) → xi-lts.Need-same-length-2 (
 ) (xi-at t) xi.Post
 xi-same-length-2 t c = c .before .before .pr .kept .1 .1 .1 .1 .1 .1 .0
 
--- src/lib.rt:1608:1
+-- src/lib.rt:1609:1
 xi-returns-2 : (t : ℕ) → xi-lts.Need-returns-2 (
   ex-bind-of-reads.Asked,
   ex-bind-of-reads.Learnt,
@@ -27769,7 +27846,7 @@ xi-returns-2 : (t : ℕ) → xi-lts.Need-returns-2 (
 unfolding DecOne.ex-bind-inner
 xi-returns-2 t c = record { is = at-key (λ i. DecOne.ex-bind-inner (walks (c .before .before .before .before .before .before .before .before .before .before .before .before .args .cfg .left)) (cfgOf (c .before .before .before .before .before .before .before .before .before .before .before .before .args .cfg)) i) (c .before .before .before .before .before .match .keys2) (c .before .before .pr .ensures .is) }
 
--- src/lib.rt:1608:1
+-- src/lib.rt:1609:1
 xi-returns-3 : (t : ℕ) → xi-lts.Need-returns-3 (
   ex-bind-of-reads.Asked,
   ex-bind-of-reads.Learnt,
@@ -27919,39 +27996,43 @@ pub +ab+ac+an+app+ar+arm+br+ca+cb+cd+da+dec+dp+ds+du+exp+fa+fb+fc+fd+fe+fs+fx+gd
     (an-same-length-2 t)
     (an-returns-2 t))
     (λ t. app-lts.spec (
-      heads-reads.Asked,
-      heads-reads.Learnt,
+      exp-below t,
+      exp.Post,
+      told-reads.Asked,
+      told-reads.Learnt,
+      asked-first-reads.Asked,
+      asked-first-reads.Learnt,
+      heads-behind-reads.Asked,
+      heads-behind-reads.Learnt,
       missing-reads.Asked,
       missing-reads.Learnt,
       func-is-bang-reads.Asked,
       func-is-bang-reads.Learnt,
       arg-is-symbolic-reads.Asked,
       arg-is-symbolic-reads.Learnt,
-      exp-below t,
-      exp.Post,
-      told-reads.Asked,
-      told-reads.Learnt,
       app-space-reads.Asked,
       app-space-reads.Learnt,
     )
     (app-at t)
     app.Post
-    (app-heads-requires t)
-    (app-enum-known-seen t)
-    (app-enum-told t)
-    (app-missing-requires t)
-    (app-returns t)
-    (app-func-is-bang-requires t)
-    (app-arg-is-symbolic-requires t)
     (app-exp-requires t)
     (app-told-requires t)
     (app-enum-known-s1 t)
-    (app-enum-told-2 t)
+    (app-enum-told t)
+    (app-asked-first-requires t)
     (app-same-length t)
+    (app-returns t)
+    (app-heads-behind-requires t)
+    (app-enum-known-seen t)
+    (app-enum-told-2 t)
+    (app-missing-requires t)
+    (app-same-length-2 t)
     (app-returns-2 t)
+    (app-func-is-bang-requires t)
+    (app-arg-is-symbolic-requires t)
     (app-app-space-requires t)
     (app-exp-requires-2 t)
-    (app-same-length-2 t)
+    (app-same-length-3 t)
     (app-returns-3 t))
     (λ t. ar-lts.spec (
       list-reads.Asked,
