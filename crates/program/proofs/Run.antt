@@ -63,7 +63,7 @@ unfolding Commands.formWidth Commands.u16 Commands.command Commands.absentAt Com
 runCommands = tt
 
 unfoldable pub runTokens : Unit {0}
-unfolding Tokens.textOf Tokens.endTokens Tokens.withToken Tokens.isToken Tokens.tokensFrom Tokens.tokens Tokens.nextAt Tokens.endAt
+unfolding Tokens.textOf Tokens.endTokens Tokens.withToken Tokens.isToken Tokens.tokensFrom Tokens.tokens Tokens.nextAt Tokens.endAt Tokens.lengthsTo
 runTokens = tt
 
 unfoldable pub runCheck : Unit {0}

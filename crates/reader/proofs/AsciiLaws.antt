@@ -22,7 +22,7 @@ unfolding isInside isIn
 outside [] h = refl
 outside (b ∷ t) h = rw (lt-leb 0x80 b (h 0 (omega arith)))
 
-ascii-boundary : (t : List ℕ) (i : ℕ) → Ascii t → boundary t i ≡ true
+pub ascii-boundary : (t : List ℕ) (i : ℕ) → Ascii t → boundary t i ≡ true
 unfolding boundary
 ascii-boundary t i h = ap not (outside (drop i t) (ascii-drop i t h))
 

@@ -5,6 +5,7 @@ pub mod TreeLaws
 pub mod FieldLaws
 pub mod Bounded
 pub mod TokenLaws
+pub mod RowLaws
 pub mod EvenLaws
 pub mod TreePlace
 pub mod ReadingLaws

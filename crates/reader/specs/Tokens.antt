@@ -1,5 +1,5 @@
 -- The tokens of a record: they come first and tile the text in order.
-use Prim.Native.Nat.{ℕ, zero, suc, _+_, _≤_}
+use Prim.Native.Nat.{ℕ, zero, suc, _+_, _*_, _%_, _≤_, _<_}
 use mathlib.Core.List.{List, [], _∷_}
 use mathlib.Core.Bool.{Bool, true, false, _&&_}
 use mathlib.Core.Path.{_≡_}
@@ -117,3 +117,24 @@ Long kinds starts lens = (length kinds ≡ maxTokens) × (length starts ≡ maxT
 pub record Tiles (boundary : ℕ → Bool) (size : ℕ) (rec kinds starts lens : List ℕ) (r : Code.Tiled) : Type 0 where
   pub is : tilingIn r kinds starts lens ≡ tokens boundary size rec
   pub counts : counted r kinds
+
+-- The sum of the lengths in the first n commands, each of four bytes.
+unfoldable pub lengthsTo : List ℕ → ℕ → ℕ
+lengthsTo rec zero = 0
+lengthsTo rec (suc n) = lengthsTo rec n + u16 rec (4 * n + 2)
+
+-- Contract: the record starts with so many commands of tokens; their kinds stand in the tables, and their starts modulo 2^16.
+pub record Laid (rec kinds starts : List ℕ) (count sum : ℕ) : Type 0 where
+  pub few : count ≤ maxTokens
+  pub whole : 4 * count ≤ length rec
+  pub commands : (i : ℕ) → i < count → getD rec (4 * i) 0 ≡ 0x05
+  pub kinds-are : (i : ℕ) → i < count → getD kinds i 0 ≡ getD rec (4 * i + 1) 0
+  pub starts-are : (i : ℕ) → i < count → getD starts i 0 ≡ lengthsTo rec i % 65536
+  pub sums : sum ≡ lengthsTo rec count
+
+-- Contract: the first entries of the tables have known kinds and no length of 0, and start and end between characters.
+pub record Fits (boundary : ℕ → Bool) (size : ℕ) (kinds starts lens : List ℕ) (count : ℕ) : Type 0 where
+  pub known : (i : ℕ) → i < count → getD kinds i 0 ≤ lastKind
+  pub filled : (i : ℕ) → i < count → 1 ≤ getD lens i 0
+  pub apart : (i : ℕ) → i < count → boundary (getD starts i 0) ≡ true
+  pub closed : boundary size ≡ true
