@@ -52,11 +52,11 @@ trailing-even n x e = rw (trailingZeros, e)
 module _ (member : ℕ → Bool) where
   -- One token more, which is in the set or is not.
   module _ (k n : ℕ) where
-    bits-in : member k ≡ true → bits member k (suc n) ≡ 1 + 2 * bits member (k + 1) n
+    pub bits-in : member k ≡ true → bits member k (suc n) ≡ 1 + 2 * bits member (k + 1) n
     unfolding bits
     bits-in e = rw (bits, e)
 
-    bits-out : member k ≡ false → bits member k (suc n) ≡ 2 * bits member (k + 1) n
+    pub bits-out : member k ≡ false → bits member k (suc n) ≡ 2 * bits member (k + 1) n
     unfolding bits
     bits-out e = rw (bits, e)
 

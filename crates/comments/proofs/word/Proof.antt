@@ -20,6 +20,15 @@ returns c =
     let kinds = c .before .before .args .kinds .now in
     bits-empty (isComment kinds) 64 (c .before .before .args .k) (λ i l. no-comment kinds i (omega (arith, c .if1 .taken)))
 
+sub-if2 : tie.Need-sub-if2 Inv-loop μ-loop
+sub-if2 c = search needs
+
+whole-requires : tie.Need-whole-requires Inv-loop μ-loop
+whole-requires c κs = omega (arith, c .if2 .taken)
+
+returns-2 : tie.Need-returns-2 Inv-loop μ-loop
+returns-2 c = c .whole .ensures
+
 loop-holds : tie.Need-loop-holds Inv-loop μ-loop
 unfolding bits
 loop-holds c = (search needs, refl)
@@ -43,16 +52,16 @@ loop-less : tie.Need-loop-less Inv-loop μ-loop
 loop-less c = search needs
 
 loop-again : tie.Need-loop-again Inv-loop μ-loop
-loop-again c = let at = c .before .before .before .loop in (omega arith, made-one _ _ (at .b) (at .b - 1) (at .x) (omega arith) (at .inv .0) (at .inv .1) (sym (c .before .is-comment .ensures) ∙ c .if2 .taken))
+loop-again c = let at = c .before .before .before .loop in (omega arith, made-one _ _ (at .b) (at .b - 1) (at .x) (omega arith) (at .inv .0) (at .inv .1) (sym (c .before .is-comment .ensures) ∙ c .if3 .taken))
 
 loop-less-2 : tie.Need-loop-less-2 Inv-loop μ-loop
 loop-less-2 c = search needs
 
 loop-again-2 : tie.Need-loop-again-2 Inv-loop μ-loop
-loop-again-2 c = let at = c .before .before .before .loop in (omega arith, made-zero _ _ (at .b) (at .b - 1) (at .x) (omega arith) (at .inv .0) (at .inv .1) (sym (c .before .is-comment .ensures) ∙ c .if2 .left))
+loop-again-2 c = let at = c .before .before .before .loop in (omega arith, made-zero _ _ (at .b) (at .b - 1) (at .x) (omega arith) (at .inv .0) (at .inv .1) (sym (c .before .is-comment .ensures) ∙ c .if3 .left))
 
-returns-2 : tie.Need-returns-2 Inv-loop μ-loop
-returns-2 c = made-all _ _ _ _ (c .loop-test .left) (c .before .loop .inv .1)
+returns-3 : tie.Need-returns-3 Inv-loop μ-loop
+returns-3 c = made-all _ _ _ _ (c .loop-test .left) (c .before .loop .inv .1)
 
 pub word-spec : {M : Type 1} → statement M
 word-spec =
@@ -61,6 +70,9 @@ word-spec =
     Inv-loop
     μ-loop
     returns
+    sub-if2
+    whole-requires
+    returns-2
     loop-holds
     sub-b
     mul-x
@@ -71,4 +83,4 @@ word-spec =
     loop-again
     loop-less-2
     loop-again-2
-    returns-2)
+    returns-3)
