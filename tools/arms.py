@@ -15,7 +15,8 @@ The answers: "functions" has an entry for each function that is written by this 
   "tail": calls whose layout is followed by another in the same function; "regroup": those of two such layouts;
   "grouped": indents one deeper that stand as one layout; "before": terms that go before the step of a call;
   "needs": answers to single needs, in which @call stands for the path to that call;
-"bounded" the functions that ask for a bound of the depth, and "use" the lines that the answers need. In a cycle of calls "measures" has each member's rank.
+"use" the lines that the answers need; "left" the path to the forms left, in a crate whose functions call each other in a cycle. The records of
+functions of lower crates are those that the lower crates' answers give. Which functions ask for a bound of the depth is read from the sources.
 """
 import glob
 import json
@@ -31,7 +32,7 @@ SURE = {"word", "between", "indent", "indent-in", "new-line", "new-line-in", "wo
 WORDLESS = {"indent", "indent-in", "indent-deeper"}
 BOTH = {"line", "line-in", "indent-deeper"}
 LOOKS = {"is-if-exp", "body-exp-needs-newline"}
-DEEPER = {"indented", "deepen", "indent-in", "indent-deeper", "line-in", "new-line-in"}
+DEEPER = set()  # the functions that ask for a bound of the depth: those of the sources
 STEPS = "Rattle.layout.proofs.Steps"
 
 
@@ -439,11 +440,46 @@ def write_cycle(crate, root, path, text, answers, members):
         places = Places(open("%s/%s/Lts-%s.antt" % (root, os.path.basename(folder), name)).read())
         functions[dashed(name)] = Function(name, places, answers["functions"][name], members, [dashed(other) for other in names], deep_calls(source, name))
     os.makedirs(folder, exist_ok=True)
-    filled_text = filled_cycle(functions, text, answers["left"])
+    filled_text = re.sub(r"(?m)^-- src/.*\n", "", filled_cycle(functions, text, answers["left"]))
     at = filled_text.index("\n\nabbrev")
     head = "-- The functions of a cycle of calls equal their layouts. Written by tools/arms.py.\n"
     open(path, "w").write(head + "".join(line + "\n" for line in answers["use"]) + filled_text[:at] + filled_text[at:])
     print("wrote", os.path.basename(folder))
+
+
+def below(crate):
+    """The crates that a crate sees, and those that they see, as crates.txt has them."""
+    lines = (line.split(":") for line in open("crates.txt") if ":" in line and not line.startswith("#"))
+    sees = dict((name.strip(), names.split()) for name, names in lines)
+    found = []
+    for name in sees.get(crate, []):
+        found += [other for other in below(name) + [name] if other in sees and other not in found]
+    return found
+
+
+def known(crate, answers):
+    """The records of all functions whose contract is one: those of lower crates, and of this one."""
+    members = {}
+    for name in below(crate):
+        path = "crates/%s/arms.json" % name
+        if os.path.exists(path):
+            members.update(known_of(json.load(open(path))))
+    members.update(known_of(answers))
+    return members
+
+
+def known_of(answers):
+    return dict((dashed(name.split("/")[-1]), entry["as"]) for name, entry in answers["functions"].items())
+
+
+def bounded(crate, answers):
+    """The functions that ask for a bound of the depth; in a cycle of calls a member's bound is answered by itself."""
+    found = set()
+    for name in below(crate) + ([] if "left" in answers else [crate]):
+        for path in glob.glob("crates/%s/src/*.rt" % name):
+            pattern = r"\bfn (\w+)(?:<'a>)?\([^{}]*?\)[^{}]*?requires \{ ⌜ ([^⌝]*)⌝"
+            found |= set(dashed(fn) for fn, bound in re.findall(pattern, open(path).read()) if ".depth" in bound)
+    return found
 
 
 def main():
@@ -455,9 +491,8 @@ def main():
     unknown = [name for name in wanted if name not in answers["functions"]]
     if unknown:
         raise SystemExit("arms: crates/%s/arms.json has no function '%s'" % (crate, unknown[0]))
-    DEEPER.update(answers.get("bounded", []))
-    members = dict((dashed(name.split("/")[-1]), entry["as"]) for name, entry in answers["functions"].items())
-    members.update(answers.get("calls", {}))
+    DEEPER.update(bounded(crate, answers))
+    members = known(crate, answers)
     for name in wanted:
         path = "crates/%s/proofs/%s/Proof.antt" % (crate, name)
         if os.path.exists(path):

@@ -1,5 +1,6 @@
 #!/usr/bin/env python3
 """Tests of arms.py: the terms that it writes for small functions, from their places."""
+import json
 import os
 import subprocess
 import sys
@@ -117,6 +118,29 @@ class Arms(unittest.TestCase):
         run = subprocess.run([sys.executable, tool, "no_such_crate"], capture_output=True, text=True)
         self.assertNotEqual(run.returncode, 0)
         self.assertIn("usage", run.stderr)
+
+
+class Sources(unittest.TestCase):
+    """What is read from crates.txt, the sources and the answers of lower crates."""
+
+    def answers(self, crate):
+        with open("crates/%s/arms.json" % crate) as file:
+            return json.load(file)
+
+    def test_crates_below_stand_lowest_first(self):
+        found = arms.below("leaves")
+        self.assertLess(found.index("reader"), found.index("layout"))
+        self.assertLess(found.index("layout"), found.index("patterns"))
+        self.assertNotIn("walk", found)
+
+    def test_records_of_lower_crates_are_theirs(self):
+        members = arms.known("walk", self.answers("walk"))
+        self.assertEqual(("plain", "plain", "operated", "does"), tuple(members[name] for name in ("get-ty", "text-of", "infix-operator", "app")))
+
+    def test_bounds_are_those_of_the_sources(self):
+        self.assertLessEqual({"indented", "dat-binds"}, arms.bounded("walk", self.answers("walk")))
+        self.assertNotIn("app", arms.bounded("walk", self.answers("walk")))
+        self.assertIn("con-lines", arms.bounded("leaves", self.answers("leaves")))
 
 
 if __name__ == "__main__":
