@@ -11,7 +11,7 @@ import sys
 
 LEFT_OUT = {"State", "Words", "Grammar", "Tree", "Answers", "Wide", "Tables", "Ascii"}
 FILE = "crates/program/proofs/Run.antt"
-CRATES = ["text", "reader", "comments", "layout", "agreement", "formatter", "doc_comment", "program"]
+CRATES = ["text", "reader", "comments", "layout", "agreement", "formatter", "program"]
 
 
 def modules():

@@ -21,12 +21,12 @@ use Rattle.scanner.specs.Answers as Scanner
 use Rattle.formatter.specs.declared.Lookup.{Lookup}
 use Rattle.formatter.specs.declared.Lookup.the-variants.{Found}
 use Rattle.formatter.specs.declared.Answer.{Answer}
+use Rattle.formatter.specs.declared.numbers.Numbers.{Numbers}
 use Rattle.formatter.specs.Lookup.{Looked, numberOf as lookupNumber, placeOf as lookupPlace, answerOf, keywordOf, lookedOf}
-use Rattle.formatter.specs.Verdict.{Verdict, Result, verdict, verdictOf, get}
+use Rattle.formatter.specs.Verdict.{Verdict, Result, verdictOf, get}
+use Rattle.formatter.specs.Numbers.{said, numbered}
 use Rattle.formatter.proofs.LookupLaws.{reading-says, reading-counts}
 use Rattle.doc_comment.specs.Doc.{Doc, docLookup, docLooked}
-use Rattle.program.specs.declared.Numbers.{Numbers}
-use Rattle.program.specs.Printing.{said}
 use Rattle.exports.specs.Numbers.{endNumbers, orNone, commentNumbers, docNumbers, readNumbers, verdictNumbers, replyNumbers, Tabled, ReadOut, DocOut, GetOut, ScanOut}
 
 pub end-case : {f x : Code.Checked} → f ≡ x → endNumbers (checkedIn x) ≡ endNumbers (checkedIn f)
@@ -75,7 +75,7 @@ abbrev pub unfilled : Numbers → List ℕ
 unfilled v = five v (replicate 64 0)
 
 -- All 64 words copied.
-pub verdict-put : (a : Answer) (v : Numbers) (left words : List ℕ) (w : ℕ) → verdict (v .number) (v .place) (v .measures) ≡ said a → length left ≡ 64 → w ≡ 64
+pub verdict-put : (a : Answer) (v : Numbers) (left words : List ℕ) (w : ℕ) → numbered v ≡ said a → length left ≡ 64 → w ≡ 64
     → words ≡ paste (unfilled v) 5 left w
     → words ≡ verdictNumbers (verdictOf a left)
 unfolding verdictNumbers verdictOf

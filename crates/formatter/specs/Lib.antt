@@ -1,4 +1,5 @@
 pub mod Verdict
+pub mod Numbers
 pub mod Lookup
 pub mod Ascii
 pub mod WalkFirst

@@ -1,4 +1,6 @@
 // The public calls `check`, `get` and the lookup `comment_above` (document 01, module 6).
+pub mod numbers; // numbers.rt: the numbers of an answer
+
 use comments::Above;
 use comments::First;
 use comments::Passed;

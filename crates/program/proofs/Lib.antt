@@ -5,3 +5,4 @@ pub mod InputLaws
 pub mod Bounds
 pub mod AsciiLaws
 pub mod Stops
+pub mod NoFive

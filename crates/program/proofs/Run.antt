@@ -29,8 +29,6 @@ use Rattle.formatter.specs.Lookup as Lookup
 use Rattle.formatter.specs.WalkFirst as WalkFirst
 use Rattle.formatter.specs.Judging as Judging
 use Rattle.formatter.specs.Demands as Demands
-use Rattle.doc_comment.specs.Doc as Doc
-use Rattle.doc_comment.specs.Lines as Lines
 use Rattle.program.specs.Program as Program
 use Rattle.program.specs.Printing as Printing
 
@@ -150,14 +148,6 @@ unfoldable pub runDemands : Unit {0}
 unfolding Demands.withoutSpaces
 runDemands = tt
 
-unfoldable pub runDoc : Unit {0}
-unfolding Doc.withoutReturn Doc.linesFrom Doc.afterAsterisk Doc.withoutSpace Doc.starred Doc.joined Doc.closed Doc.opened Doc.docText Doc.put Doc.docOf Doc.docSaid Doc.docLookup Doc.docLooked
-runDoc = tt
-
-unfoldable pub runLines : Unit {0}
-unfolding Lines.before Lines.Starts Lines.kept Lines.Nexts Lines.size Lines.Bodies Lines.fed
-runLines = tt
-
 unfoldable pub runProgram : Unit {0}
 unfolding Program.digits Program.decimal Program.line Program.textOf Program.lineOf Program.printed Program.tabSize Program.textLength Program.formatInput Program.program
 runProgram = tt
@@ -167,5 +157,5 @@ unfolding Printing.shown
 runPrinting = tt
 
 unfoldable pub run : Unit {0}
-unfolding runUtf8 runBytes runOutput runWellFormed runForms runFields runCommands runTokens runCheck runReading runSet runAbove runMeaning runHelpers runGetDec runTy runPat runExp runSigExp runStrExp runDecOne runWalk runEvents runUnbounded runVerdict runLookup runWalkFirst runJudging runDemands runDoc runLines runProgram runPrinting
+unfolding runUtf8 runBytes runOutput runWellFormed runForms runFields runCommands runTokens runCheck runReading runSet runAbove runMeaning runHelpers runGetDec runTy runPat runExp runSigExp runStrExp runDecOne runWalk runEvents runUnbounded runVerdict runLookup runWalkFirst runJudging runDemands runProgram runPrinting
 run = tt

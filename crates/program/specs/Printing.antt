@@ -6,18 +6,15 @@ use mathlib.Core.List.{List, [], _++_}
 use lib.ListN.{length, take, drop}
 use lib.Dec.{eqb}
 use Rattle.formatter.specs.declared.Answer.{Answer}
-use Rattle.formatter.specs.Verdict.{Verdict, Result, emptySet, numberOf, givenMeasures, verdictOf}
+use Rattle.formatter.specs.Verdict.{Verdict, Result, numberOf, givenMeasures}
+use Rattle.formatter.specs.Numbers.{said}
 use Rattle.program.specs.Program.{line}
 
 -- The length of the longest line: five numbers of 20 digits, a byte behind each.
 abbrev pub maxLine : ℕ
 maxLine = 105
 
--- An answer as a verdict; its set is not printed.
-abbrev pub said : Answer → Verdict
-said a = verdictOf a emptySet
-
--- An answer and the output beside it.
+-- An answer and the output beside it; the set is not printed.
 abbrev pub saidWith : Answer → List ℕ → Result
 saidWith a out = record { verdict = said a; out = out }
 

@@ -1,14 +1,15 @@
 // The program's work, from input bytes to printed bytes (document 01, above its modules).
 use formatter::Answer;
-use formatter::Measures;
+use formatter::numbers::Numbers;
+use formatter::numbers::numbers_of;
 use reader::commands::u16_at;
 ghost use mathlib.Core.Path.{_≡_};
 ghost use mathlib.Core.List.{[], _∷_, _++_};
 ghost use Prim.Native.Nat.{_+_, _≤_, _<_};
 ghost use lib.ListN.{length, take, drop};
-ghost use Rattle.formatter.specs.Verdict.{verdict, noMeasures};
+ghost use Rattle.formatter.specs.Numbers.{said, numbered};
 ghost use Rattle.program.specs.Program.{decimal, headLength, tabSize, textLength, program};
-ghost use Rattle.program.specs.Printing.{maxLine, said, saidWith, shown, TextWithin, Puts, PutsLine, Prints};
+ghost use Rattle.program.specs.Printing.{maxLine, saidWith, shown, TextWithin, Puts, PutsLine, Prints};
 
 // ---- the line
 // Writes a byte at an offset.
@@ -42,61 +43,10 @@ fn put_number(out: &mut [u8], at: usize, n: u64, end: u8) -> usize
     put_byte(out, next, end)
 }
 
-// Number, place and measures of a verdict.
-pub struct Numbers {
-    pub number: u64,
-    pub place: usize,
-    pub measures: Measures,
-}
-
-// A refusal because of the sheet.
-fn refused(number: u64, place: usize) -> Numbers
-    ensures { λ r. ⌜ verdict (r .number) (r .place) (r .measures) ≡ verdict number place noMeasures ⌝ }
-{
-    Numbers {
-        number,
-        place,
-        measures: Measures {
-            deepest: 0,
-            letters: 0,
-            units: 0,
-        },
-    }
-}
-
-// A verdict that gives the measures.
-fn measured(number: u64, m: Measures) -> Numbers
-    ensures { λ r. ⌜ verdict (r .number) (r .place) (r .measures) ≡ verdict number 0 m ⌝ }
-{
-    Numbers {
-        number,
-        place: 0,
-        measures: m,
-    }
-}
-
-// 01's numbers for an answer.
-pub fn numbers_of(answer: Answer) -> Numbers
-    ensures { λ r. ⌜ verdict (r .number) (r .place) (r .measures) ≡ said answer ⌝ }
-{
-    match answer {
-        Answer::Accepted(m) => measured(0, m),
-        Answer::TooLong => refused(1, 0),
-        Answer::NotUtf8(place) => refused(2, place),
-        Answer::Malformed(place) => refused(3, place),
-        Answer::TooDeep(place) => refused(4, place),
-        Answer::Missing(place) => refused(13, place),
-        Answer::Import(place) => refused(14, place),
-        Answer::Comments(place) => refused(6, place),
-        Answer::TooWide(m) => measured(7, m),
-        Answer::NoRoom(m) => measured(8, m),
-    }
-}
-
 // Writes number, place, deepest, letters and units of a verdict.
 fn put_numbers(out: &mut [u8], v: Numbers) -> usize
     requires { ⌜ maxLine ≤ length (now out) ⌝ }
-    ensures { λ r. ⌜ PutsLine (now (out .entry)) (verdict (v .number) (v .place) (v .measures)) (now (out .exit)) r ⌝ }
+    ensures { λ r. ⌜ PutsLine (now (out .entry)) (numbered v) (now (out .exit)) r ⌝ }
 {
     let m = v.measures;
     let a = put_number(out, 0, v.number, b' ');

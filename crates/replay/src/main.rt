@@ -2,6 +2,7 @@
 mod vector; // vector.rt: the layout of a stored call
 
 use formatter::Answer;
+use formatter::numbers::numbers_of;
 use layout::part;
 use libc::STDIN_FILENO;
 use libc::STDOUT_FILENO;
@@ -42,7 +43,7 @@ fn doc_agrees(sheet: &[u8], rec: &[u8], fixed: &[u8], last: &[u8], out: &mut [u8
 
 // Whether number, place and measures are the stored ones.
 fn numbers_agree(answer: Answer, fixed: &[u8]) -> bool {
-    let v = program::numbers_of(answer);
+    let v = numbers_of(answer);
     let m = v.measures;
     if v.number != byte_at(fixed, 16) {
         return false;

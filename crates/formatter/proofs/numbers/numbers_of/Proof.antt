@@ -1,10 +1,10 @@
--- `program::numbers_of` meets its contract: each case of the answer. Assumes nothing.
+-- `formatter::numbers::numbers_of` meets its contract: each case of the answer. Assumes nothing.
 use mathlib.Core.Path.{sym, ap, _∙_}
 use Rattle.formatter.specs.Verdict.{verdictOf, numberOf, placeOf, givenMeasures}
-use Rattle.program.specs.Printing.{said}
+use Rattle.formatter.specs.Numbers.{said}
 use borrow.Author.Needs.{needs}
-use Rattle.program.proofs.numbers_of.Statement.{statement}
-use Rattle.program.proofs.numbers_of.Tie as tie
+use Rattle.formatter.proofs.numbers.numbers_of.Statement.{statement}
+use Rattle.formatter.proofs.numbers.numbers_of.Tie as tie
 
 enum-known-answer : tie.Need-enum-known-answer
 enum-known-answer c = search needs
