@@ -80,7 +80,7 @@ class Limits(unittest.TestCase):
         self.assertEqual(found, {TEXT, RECORD, FORMS, WIDTH, ROOM})
 
     def test_tables_of_tokens(self):
-        for path in ("reader/src/lib", "reader/src/tokens", "scanner/src/lib", "formatter/src/lib", "doc_comment/src/lib", "exports/src/lib"):
+        for path in ("reader/src/lib", "reader/src/tokens", "scanner/src/lib", "formatter/src/lib", "doc_comment/src/lib", "testing/src/lib"):
             sizes = re.findall(r"\b(?:kinds|starts|lens)(?:: &mut \[u\d+; (\d+)\]| = \[0u\d+; (\d+)\])", read("crates/%s.rt" % path))
             self.assertTrue(sizes, path)
             self.assertEqual({number(one or other) for one, other in sizes}, {TOKENS}, path)

@@ -22,6 +22,8 @@ fn main() {
     let (Some(folder), Some(library)) = (archive.parent(), library) else {
         fail(&archive, named.is_some());
     };
+    // Build scripts of crates that use this one read it as DEP_DIVERPLUME_FOLDER.
+    println!("cargo:folder={}", folder.display());
     println!("cargo:rustc-link-search=native={}", folder.display());
     println!("cargo:rustc-link-lib=static={library}");
 }

@@ -1,4 +1,4 @@
--- Laws of the answers as numbers: an answer by its case, the record check with its tables, verdicts, the doc lookup, the scanner. Assumes nothing.
+-- Laws of the answers as numbers: an answer by its case, verdicts, the doc lookup, the scanner. Assumes nothing.
 use Prim.Native.Nat.{ℕ}
 use native.Mathlib.Omega.{arith}
 use mathlib.Core.Path.{_≡_, sym, _∙_, ap}
@@ -6,12 +6,6 @@ use mathlib.Core.List.{List, [], _∷_, append-nil}
 use lib.ListN.{length, getD, replicate}
 use lib.Seq.{paste, take-all}
 use Rattle.text.specs.Output.{Plain, Reply}
-use Rattle.reader.specs.declared.Reading.{Reading}
-use Rattle.reader.specs.declared.Reading.the-variants.{Sheet, TooLong, NotUtf8, Malformed, TooDeep}
-use Rattle.reader.specs.declared.tree.Checked as Code
-use Rattle.reader.specs.Tokens.{tokensIn}
-use Rattle.reader.specs.Tree.{checkedIn}
-use Rattle.reader.specs.Reading.{refused, read, numberOf, placeOf, Reads}
 use Rattle.comments.specs.declared.Passed.{Passed}
 use Rattle.comments.specs.Above.{passedIn}
 use Rattle.scanner.specs.declared.Refusal.{Refusal}
@@ -25,12 +19,8 @@ use Rattle.formatter.specs.declared.numbers.Numbers.{Numbers}
 use Rattle.formatter.specs.Lookup.{Looked, numberOf as lookupNumber, placeOf as lookupPlace, answerOf, keywordOf, lookedOf}
 use Rattle.formatter.specs.Verdict.{Verdict, Result, verdictOf, get}
 use Rattle.formatter.specs.Numbers.{said, numbered}
-use Rattle.formatter.proofs.LookupLaws.{reading-says, reading-counts}
 use Rattle.doc_comment.specs.Doc.{Doc, docLookup, docLooked}
-use Rattle.exports.specs.Numbers.{endNumbers, orNone, commentNumbers, docNumbers, readNumbers, verdictNumbers, replyNumbers, Tabled, ReadOut, DocOut, GetOut, ScanOut}
-
-pub end-case : {f x : Code.Checked} → f ≡ x → endNumbers (checkedIn x) ≡ endNumbers (checkedIn f)
-end-case e = ap (λ (y : Code.Checked). endNumbers (checkedIn y)) (sym e)
+use Rattle.exports.specs.Numbers.{orNone, commentNumbers, docNumbers, verdictNumbers, replyNumbers, DocOut, GetOut, ScanOut}
 
 pub looked-case : {f x : Lookup} → f ≡ x → commentNumbers (lookedOf x) ≡ commentNumbers (lookedOf f)
 looked-case e = ap (λ (y : Lookup). commentNumbers (lookedOf y)) (sym e)
@@ -90,34 +80,3 @@ pub get-out : (text rec : List ℕ) (tab : ℕ) (out out′ answer : List ℕ) (
     → GetOut text rec tab out out′ answer
 get-out text rec tab out out′ answer a left e f =
     record { numbers = f ∙ ap (λ (r : Result). verdictNumbers (r .verdict)) e; written = ap (λ (r : Result). r .out) e }
-
-module _ {text rec kinds starts lens answer : List ℕ} {r : Reading} (s : Reads text rec kinds starts lens r) where
-  pub read-sheet : {count tree : ℕ} → r ≡ Sheet count tree → answer ≡ 0 ∷ 0 ∷ count ∷ tree ∷ [] → ReadOut text rec answer kinds starts lens
-  unfolding readNumbers Tabled
-  read-sheet {count} {tree} e f =
-      let counts = reading-counts s e in
-      record {
-        numbers = rw (reading-says s e, readNumbers, counts .0) f;
-        tables = rw (reading-says s e, Tabled) (ap (λ (n : ℕ). tokensIn n kinds starts lens) (counts .0));
-      }
-
-  refusal : {number place : ℕ} → read text rec ≡ refused number place → answer ≡ number ∷ place ∷ 0 ∷ 0 ∷ [] → ReadOut text rec answer kinds starts lens
-  unfolding readNumbers Tabled
-  refusal e f = record { numbers = rw (e, readNumbers) f; tables = rw (e, Tabled) tt }
-
-  pub read-long : r ≡ TooLong → answer ≡ 1 ∷ 0 ∷ 0 ∷ 0 ∷ [] → ReadOut text rec answer kinds starts lens
-  unfolding numberOf placeOf
-  read-long e = refusal (reading-says s e)
-
-  module _ {place : ℕ} where
-    pub read-broken : r ≡ NotUtf8 place → answer ≡ 2 ∷ place ∷ 0 ∷ 0 ∷ [] → ReadOut text rec answer kinds starts lens
-    unfolding numberOf placeOf
-    read-broken e = refusal (reading-says s e)
-
-    pub read-malformed : r ≡ Malformed place → answer ≡ 3 ∷ place ∷ 0 ∷ 0 ∷ [] → ReadOut text rec answer kinds starts lens
-    unfolding numberOf placeOf
-    read-malformed e = refusal (reading-says s e)
-
-    pub read-deep : r ≡ TooDeep place → answer ≡ 4 ∷ place ∷ 0 ∷ 0 ∷ [] → ReadOut text rec answer kinds starts lens
-    unfolding numberOf placeOf
-    read-deep e = refusal (reading-says s e)

@@ -3,21 +3,11 @@ use Prim.Native.Nat.{ℕ}
 use mathlib.Core.Path.{_≡_}
 use mathlib.Core.List.{List, [], _∷_}
 use mathlib.Core.Option.{Option, none, some}
-use lib.ListN.{length}
 use Rattle.text.specs.Output.{Plain, Reply}
-use Rattle.reader.specs.Tokens.{tokensIn}
-use Rattle.reader.specs.Check.{Checked, ok, malformed, tooDeep}
-use Rattle.reader.specs.Reading.{Read, refused, sheet, read}
 use Rattle.scanner.specs.Scan.{scan}
 use Rattle.formatter.specs.Lookup.{Looked}
 use Rattle.formatter.specs.Verdict.{Verdict, get}
 use Rattle.doc_comment.specs.Doc.{docLookup}
-
--- A field's end, or a refusal's number and place.
-unfoldable pub endNumbers : Checked → List ℕ
-endNumbers (ok at) = 0 ∷ at ∷ []
-endNumbers (malformed place) = 3 ∷ place ∷ []
-endNumbers (tooDeep place) = 4 ∷ place ∷ []
 
 -- None is the largest u64.
 unfoldable pub orNone : Option ℕ → ℕ
@@ -32,11 +22,6 @@ commentNumbers l = l .number ∷ l .place ∷ orNone (l .answer) ∷ orNone (l .
 unfoldable pub docNumbers : Looked → List ℕ
 docNumbers l = l .number ∷ l .place ∷ orNone (l .answer) ∷ []
 
--- Number, place, how many tokens there are, where the list of declarations starts.
-unfoldable pub readNumbers : Read → List ℕ
-readNumbers (refused number place) = number ∷ place ∷ 0 ∷ 0 ∷ []
-readNumbers (sheet tokens tree) = 0 ∷ 0 ∷ length (tokens .kinds) ∷ tree ∷ []
-
 -- Number, place, deepest, letters, units, then the words of the set of comments left.
 unfoldable pub verdictNumbers : Verdict → List ℕ
 verdictNumbers v = v .number ∷ v .place ∷ v .measures .deepest ∷ v .measures .letters ∷ v .measures .units ∷ v .left
@@ -44,16 +29,6 @@ verdictNumbers v = v .number ∷ v .place ∷ v .measures .deepest ∷ v .measur
 -- Number, place, and the bytes written.
 unfoldable pub replyNumbers : Reply Plain → List ℕ
 replyNumbers r = r .verdict .number ∷ r .verdict .place ∷ r .written ∷ []
-
--- The tokens of a sheet stand first in the tables.
-unfoldable pub Tabled : Read → List ℕ → List ℕ → List ℕ → Type 0
-Tabled (refused number place) kinds starts lens = Unit {0}
-Tabled (sheet tokens tree) kinds starts lens = tokensIn (length (tokens .kinds)) kinds starts lens ≡ tokens
-
--- Contract: refusals 1 to 4, or the tokens.
-pub record ReadOut (text rec answer kinds starts lens : List ℕ) : Type 0 where
-  pub numbers : answer ≡ readNumbers (read text rec)
-  pub tables : Tabled (read text rec) kinds starts lens
 
 -- Contract: the doc lookup's answer and the final output.
 pub record DocOut (text rec : List ℕ) (token : ℕ) (out out′ answer : List ℕ) : Type 0 where

@@ -12,7 +12,8 @@ use Rattle.reader.specs.declared.Reading.{Reading}
 use Rattle.reader.specs.declared.Reading.the-variants as Says
 use Rattle.reader.specs.Reading as Reading
 use Rattle.reader.specs.Tokens as Read
-use Rattle.reader.specs.Reading.{Read, refused, sheet, read, readIn, Reads}
+use Rattle.reader.specs.Reading.{Read, refused, sheet, read, Reads}
+use Rattle.reader.proofs.ReadingLaws.{reading-says, reading-counts}
 use Rattle.reader.proofs.KindLaws.{kinds-known}
 use Rattle.text.proofs.Laws.{never}
 use Rattle.comments.specs.declared.Above.{Above}
@@ -27,13 +28,6 @@ use Rattle.formatter.specs.declared.Asked.the-variants.{Tokens, Declined
 use Rattle.formatter.specs.Lookup.{Looked, Asked, looked, declined, asked, ask, lookup, told, numberOf, placeOf, answerOf, keywordOf, lookedOf, askedIn, Asks}
 
 -- ---- 1 to 4, then 9
-module _ {text rec kinds starts lens : List ℕ} {r : Reading} (s : Reads text rec kinds starts lens r) where
-  pub reading-says : {x : Reading} → r ≡ x → read text rec ≡ readIn x kinds starts lens
-  reading-says e = sym (s .is) ∙ ap (λ (y : Reading). readIn y kinds starts lens) e
-
-  pub reading-counts : {count tree : ℕ} → r ≡ Says.Sheet count tree → (length (take count kinds) ≡ count) × (count ≤ 4096)
-  reading-counts e = rw e at (s .counts)
-
 module _ {text rec kinds starts lens : List ℕ} {r : Reading} (s : Reads text rec kinds starts lens r) (token : ℕ) where
   module _ {count tree : ℕ} (e : r ≡ Says.Sheet count tree) where
     counts : (length (take count kinds) ≡ count) × (count ≤ 4096)

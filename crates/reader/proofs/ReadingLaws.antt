@@ -21,7 +21,7 @@ use Rattle.reader.specs.Check as Check
 use Rattle.reader.specs.Check.{treeCheck}
 use Rattle.reader.specs.Tree.{checkedIn, TreeEnd}
 use Rattle.reader.proofs.EvenLaws.{tiled-even}
-use Rattle.reader.specs.Reading.{Read, refused, sheet, maxText, maxRecord, readTree, readRecord, readText, read, numberOf, placeOf, RecordReads, Reads}
+use Rattle.reader.specs.Reading.{Read, refused, sheet, maxText, maxRecord, readTree, readRecord, readText, read, numberOf, placeOf, readIn, RecordReads, Reads}
 
 -- ---- 3 and 4
 module _ {boundary : ℕ → Bool} {size : ℕ} {rec kinds starts lens : List ℕ} {t : Tiled.Tiled} (s : Tiles boundary size rec kinds starts lens t) where
@@ -88,6 +88,14 @@ module _ (text rec kinds starts lens : List ℕ) where
       utf8 {w} {r} s e u =
           let f : firstBroken text ≡ none = sym s ∙ ap brokenAt e in
           record { is = u .is ∙ text-whole f ∙ short; counts = u .counts }
+
+-- What a case of the answer says of the sheet.
+module _ {text rec kinds starts lens : List ℕ} {r : Reading} (s : Reads text rec kinds starts lens r) where
+  pub reading-says : {x : Reading} → r ≡ x → read text rec ≡ readIn x kinds starts lens
+  reading-says e = sym (s .is) ∙ ap (λ (y : Reading). readIn y kinds starts lens) e
+
+  pub reading-counts : {count tree : ℕ} → r ≡ Sheet count tree → (length (take count kinds) ≡ count) × (count ≤ 4096)
+  reading-counts e = rw e at (s .counts)
 
 -- By cases: a refusal's number is not 0; a sheet's tokens are those of its record, and its tree passes the check.
 module _ (P : Read → Type 0) (text rec : List ℕ) (refuses : (number place : ℕ) → (number ≡ 0 → ⊥) → P (refused number place))

@@ -1,8 +1,8 @@
 //! The port's calls, compared with the reference.
 //!
 //! The public calls are those of the library `diverplume`. Behind safe wrappers here are the calls
-//! that the archive has for tests. Each answer is an array that the call fills; the wrappers fill it
-//! with [`UNWRITTEN`] before.
+//! for tests, which stand in an archive of their own. Each answer is an array that the call fills;
+//! the wrappers fill it with [`UNWRITTEN`] before.
 
 pub mod compare;
 mod count;
@@ -19,9 +19,6 @@ use schema::{limit, Family};
 
 /// What stands in an answer before a call.
 pub const UNWRITTEN: u64 = 0x5A5A_5A5A_5A5A_5A5A;
-
-// The library links the archive.
-use diverplume as _;
 
 // A slice is passed as its pointer and its length.
 extern "C" {

@@ -1,9 +1,9 @@
--- `exports::diverplume_test_ty_end` meets its contract. Assumes nothing.
+-- `testing::diverplume_test_ty_end` meets its contract. Assumes nothing.
 use mathlib.Core.Path.{_∙_, ap}
-use Rattle.exports.specs.Numbers.{endNumbers}
+use Rattle.testing.specs.Numbers.{endNumbers}
 use borrow.Author.Needs.{needs}
-use Rattle.exports.proofs.diverplume_test_ty_end.Statement.{statement}
-use Rattle.exports.proofs.diverplume_test_ty_end.Tie as tie
+use Rattle.testing.proofs.diverplume_test_ty_end.Statement.{statement}
+use Rattle.testing.proofs.diverplume_test_ty_end.Tie as tie
 
 ty-end-requires : tie.Need-ty-end-requires
 ty-end-requires c κs = search needs

@@ -1,10 +1,10 @@
--- `exports::put_end` meets its contract: each case of the check. Assumes nothing.
+-- `testing::put_end` meets its contract: each case of the check. Assumes nothing.
 use mathlib.Core.Path.{_∙_}
-use Rattle.exports.specs.Numbers.{endNumbers}
-use Rattle.exports.proofs.Laws.{end-case}
+use Rattle.testing.specs.Numbers.{endNumbers}
+use Rattle.testing.proofs.Laws.{end-case}
 use borrow.Author.Needs.{needs}
-use Rattle.exports.proofs.put_end.Statement.{statement}
-use Rattle.exports.proofs.put_end.Tie as tie
+use Rattle.testing.proofs.put_end.Statement.{statement}
+use Rattle.testing.proofs.put_end.Tie as tie
 
 enum-known-found : tie.Need-enum-known-found
 enum-known-found c = search needs

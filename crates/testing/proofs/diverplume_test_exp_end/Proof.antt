@@ -1,9 +1,9 @@
--- `exports::diverplume_test_exp_end` meets its contract. Assumes nothing.
+-- `testing::diverplume_test_exp_end` meets its contract. Assumes nothing.
 use mathlib.Core.Path.{_∙_, ap}
-use Rattle.exports.specs.Numbers.{endNumbers}
+use Rattle.testing.specs.Numbers.{endNumbers}
 use borrow.Author.Needs.{needs}
-use Rattle.exports.proofs.diverplume_test_exp_end.Statement.{statement}
-use Rattle.exports.proofs.diverplume_test_exp_end.Tie as tie
+use Rattle.testing.proofs.diverplume_test_exp_end.Statement.{statement}
+use Rattle.testing.proofs.diverplume_test_exp_end.Tie as tie
 
 exp-end-requires : tie.Need-exp-end-requires
 exp-end-requires c κs = search needs
