@@ -66,9 +66,9 @@ class Limits(unittest.TestCase):
         self.constants("rust/diverplume/examples/program.rs", r"const (\w+): usize = ([\d_]+);", {"OUTPUT": ROOM})
         for path, name, size in (
             ("crates/program/src/lib.rt", "page", ROOM),
-            ("crates/diverplume/src/main.rt", "out", ROOM + LINE),
+            ("crates/format_sheet/src/main.rt", "out", ROOM + LINE),
             # One byte more than the longest input, so that a longer one is seen.
-            ("crates/diverplume/src/main.rt", "input", HEAD + TEXT + RECORD + 1),
+            ("crates/format_sheet/src/main.rt", "input", HEAD + TEXT + RECORD + 1),
         ):
             sizes = re.findall(r"let mut %s = \[0u8; (\w+)\];" % name, read(path))
             self.assertEqual([number(one) for one in sizes], [size], "%s: %s" % (path, name))

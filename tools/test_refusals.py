@@ -88,7 +88,7 @@ class Refusals(unittest.TestCase):
 
     def test_numbers_in_the_code(self):
         count = 0
-        for where in ("crates/exports/src/lib.rt", "crates/testing/src/lib.rt", "crates/formatter/src/numbers.rt"):
+        for where in ("crates/diverplume/src/lib.rt", "crates/testing/src/lib.rt", "crates/formatter/src/numbers.rt"):
             cases = re.findall(r"^ +(Answer|Lookup|Reading|Refusal|Scanned|Checked)::(\w+)(?:\([^)]*\))? => \w+\((?:\w+, )?(\d+),", read(where), re.M)
             count += len(cases)
             for enum, case, number in cases:

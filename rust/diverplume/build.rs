@@ -1,12 +1,12 @@
 //! Links the archive of the proved calls: the one that `DIVERPLUME_ARCHIVE` names, else the one
-//! that `rt staticlib exports` writes to the repository's `target/`.
+//! that `rt staticlib diverplume` writes to the repository's `target/`.
 
 use std::path::{Path, PathBuf};
 use std::process::exit;
 use std::{env, fs};
 
 const VARIABLE: &str = "DIVERPLUME_ARCHIVE";
-const BUILT: &str = "../../target/staticlib/libexports.a";
+const BUILT: &str = "../../target/staticlib/libdiverplume.a";
 
 fn main() {
     println!("cargo:rerun-if-env-changed={VARIABLE}");
@@ -35,7 +35,7 @@ fn fail(archive: &Path, is_named: bool) -> ! {
         eprintln!("diverplume: {VARIABLE} names it; set it to the archive, or leave it unset");
     }
     eprintln!(
-        "diverplume: `rt staticlib exports`, run in the repository's root, makes the archive"
+        "diverplume: `rt staticlib diverplume`, run in the repository's root, makes the archive"
     );
     exit(1);
 }

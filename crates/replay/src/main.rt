@@ -31,13 +31,13 @@ fn lookup_agrees(answer: [u64; 3], fixed: &[u8]) -> bool {
 
 fn comment_agrees(sheet: &[u8], rec: &[u8], fixed: &[u8]) -> bool {
     let mut answer = [0u64; 4];
-    exports::diverplume_comment_above(sheet, rec, u64_at(fixed, 4), &mut answer);
+    diverplume::diverplume_comment_above(sheet, rec, u64_at(fixed, 4), &mut answer);
     lookup_agrees([answer[0], answer[1], answer[2]], fixed)
 }
 
 fn doc_agrees(sheet: &[u8], rec: &[u8], fixed: &[u8], last: &[u8], out: &mut [u8]) -> bool {
     let mut answer = [0u64; 3];
-    exports::diverplume_doc_comment_above(sheet, rec, u64_at(fixed, 4), out, &mut answer);
+    diverplume::diverplume_doc_comment_above(sheet, rec, u64_at(fixed, 4), out, &mut answer);
     lookup_agrees(answer, fixed) && text::same(out, last)
 }
 

@@ -1,4 +1,4 @@
-//! The program `diverplume` over the library: reads tab size (u32, little-endian), text length
+//! The program `format_sheet` over the library: reads tab size (u32, little-endian), text length
 //! (u16), text and record from standard input, prints number, place, deepest, letters and units,
 //! then the text if it is accepted.
 

@@ -1,4 +1,4 @@
-//! The input of the program `diverplume`, also the format of a sheet's file.
+//! The input of the program `format_sheet`, also the format of a sheet's file.
 
 use crate::limit;
 

@@ -2,7 +2,7 @@
 //!
 //! [`decode`] tells numbers 1 to 4 with their places on any bytes, else it gives the tree.
 //! [`Measures::bounds`] and [`token_bound`] decide numbers 7 to 9. [`program`] reads the input of
-//! the program `diverplume` and writes the line that it prints.
+//! the program `format_sheet` and writes the line that it prints.
 
 pub mod program;
 mod record;

@@ -1,4 +1,4 @@
-//! The input and the output of the program `diverplume`.
+//! The input and the output of the program `format_sheet`.
 
 use crate::verdict::Measures;
 pub use schema::Input;

@@ -1,4 +1,4 @@
-//! The program `diverplume` on the lettered sheets of document 01, and on input that is cut short or too long.
+//! The program `format_sheet` on the lettered sheets of document 01, and on input that is cut short or too long.
 
 use schema::{Input, Sheet};
 use sheet::lettered;
@@ -8,10 +8,10 @@ use std::process::{Command, Stdio};
 
 /// What the program prints. Its input comes in pieces, as pipes give them.
 fn printed(input: &[u8]) -> Vec<u8> {
-    let path = PathBuf::from(env!("CARGO_MANIFEST_DIR")).join("../../../target/bin/diverplume");
+    let path = PathBuf::from(env!("CARGO_MANIFEST_DIR")).join("../../../target/bin/format_sheet");
     let mut child =
         Command::new(&path).stdin(Stdio::piped()).stdout(Stdio::piped()).spawn().unwrap_or_else(
-            |error| panic!("{}: {error}; `rt check diverplume` makes it", path.display()),
+            |error| panic!("{}: {error}; `rt check format_sheet` makes it", path.display()),
         );
     let mut stdin = child.stdin.take().expect("a pipe");
     for piece in input.chunks(4096) {

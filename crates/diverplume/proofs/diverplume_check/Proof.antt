@@ -1,9 +1,9 @@
--- `exports::diverplume_check` meets its contract. Assumes nothing.
+-- `diverplume::diverplume_check` meets its contract. Assumes nothing.
 use mathlib.Core.Path.{_∙_, ap}
-use Rattle.exports.specs.Numbers.{verdictNumbers}
+use Rattle.diverplume.specs.Numbers.{verdictNumbers}
 use borrow.Author.Needs.{needs}
-use Rattle.exports.proofs.diverplume_check.Statement.{statement}
-use Rattle.exports.proofs.diverplume_check.Tie as tie
+use Rattle.diverplume.proofs.diverplume_check.Statement.{statement}
+use Rattle.diverplume.proofs.diverplume_check.Tie as tie
 
 check-requires : tie.Need-check-requires
 check-requires c κs = search needs

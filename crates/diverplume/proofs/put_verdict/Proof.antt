@@ -1,14 +1,14 @@
--- `exports::put_verdict` meets its contract. The invariant: the first `w` words of the set are copied. Assumes nothing.
+-- `diverplume::put_verdict` meets its contract. The invariant: the first `w` words of the set are copied. Assumes nothing.
 use Prim.Native.Nat.{_-_, _≤_}
 use native.Mathlib.Omega.{arith}
 use mathlib.Core.Path.{_≡_, refl, _∙_}
 use lib.ListN.{length, length-set}
 use lib.Seq.{paste, paste-zero}
 use Rattle.text.proofs.Laws.{copied-more}
-use Rattle.exports.proofs.Laws.{unfilled, verdict-put}
+use Rattle.diverplume.proofs.Laws.{unfilled, verdict-put}
 use borrow.Author.Needs.{needs}
-use Rattle.exports.proofs.put_verdict.Statement.{statement}
-use Rattle.exports.proofs.put_verdict.Tie as tie
+use Rattle.diverplume.proofs.put_verdict.Statement.{statement}
+use Rattle.diverplume.proofs.put_verdict.Tie as tie
 
 abbrev Inv-loop : tie.InvT-loop
 Inv-loop verdict₀ left w₀ verdict w = (w ≤ 64) × (verdict ≡ paste verdict₀ 5 left w) × (length verdict ≡ 69)

@@ -1,8 +1,8 @@
--- `exports::diverplume_get` meets its contract. Assumes nothing.
-use Rattle.exports.proofs.Laws.{get-out}
+-- `diverplume::diverplume_get` meets its contract. Assumes nothing.
+use Rattle.diverplume.proofs.Laws.{get-out}
 use borrow.Author.Needs.{needs}
-use Rattle.exports.proofs.diverplume_get.Statement.{statement}
-use Rattle.exports.proofs.diverplume_get.Tie as tie
+use Rattle.diverplume.proofs.diverplume_get.Statement.{statement}
+use Rattle.diverplume.proofs.diverplume_get.Tie as tie
 
 get-requires : tie.Need-get-requires
 get-requires c κs = search needs

@@ -1,9 +1,9 @@
--- `exports::keyword_number` meets its contract. Assumes nothing.
+-- `diverplume::keyword_number` meets its contract. Assumes nothing.
 use Rattle.comments.specs.Above.{passedIn}
-use Rattle.exports.specs.Numbers.{orNone}
+use Rattle.diverplume.specs.Numbers.{orNone}
 use borrow.Author.Needs.{needs}
-use Rattle.exports.proofs.keyword_number.Statement.{statement}
-use Rattle.exports.proofs.keyword_number.Tie as tie
+use Rattle.diverplume.proofs.keyword_number.Statement.{statement}
+use Rattle.diverplume.proofs.keyword_number.Tie as tie
 
 enum-known-keyword : tie.Need-enum-known-keyword
 enum-known-keyword c = search needs

@@ -1,11 +1,11 @@
--- `exports::put_lookup` meets its contract: each case of the answer. Assumes nothing.
+-- `diverplume::put_lookup` meets its contract: each case of the answer. Assumes nothing.
 use mathlib.Core.Path.{_∙_}
 use Rattle.formatter.specs.Lookup.{numberOf, placeOf, answerOf, keywordOf, lookedOf}
-use Rattle.exports.specs.Numbers.{orNone, commentNumbers}
-use Rattle.exports.proofs.Laws.{looked-case, looked-found}
+use Rattle.diverplume.specs.Numbers.{orNone, commentNumbers}
+use Rattle.diverplume.proofs.Laws.{looked-case, looked-found}
 use borrow.Author.Needs.{needs}
-use Rattle.exports.proofs.put_lookup.Statement.{statement}
-use Rattle.exports.proofs.put_lookup.Tie as tie
+use Rattle.diverplume.proofs.put_lookup.Statement.{statement}
+use Rattle.diverplume.proofs.put_lookup.Tie as tie
 
 enum-known-found : tie.Need-enum-known-found
 enum-known-found c = search needs

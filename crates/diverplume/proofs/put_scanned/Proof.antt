@@ -1,10 +1,10 @@
--- `exports::put_scanned` meets its contract: each case of the answer. Assumes nothing.
+-- `diverplume::put_scanned` meets its contract: each case of the answer. Assumes nothing.
 use mathlib.Core.Path.{_∙_}
 use Rattle.scanner.specs.Answers.{verdictOf, writtenOf}
-use Rattle.exports.proofs.Laws.{scanned-case}
+use Rattle.diverplume.proofs.Laws.{scanned-case}
 use borrow.Author.Needs.{needs}
-use Rattle.exports.proofs.put_scanned.Statement.{statement}
-use Rattle.exports.proofs.put_scanned.Tie as tie
+use Rattle.diverplume.proofs.put_scanned.Statement.{statement}
+use Rattle.diverplume.proofs.put_scanned.Tie as tie
 
 enum-known-found : tie.Need-enum-known-found
 enum-known-found c = search needs

@@ -20,7 +20,7 @@ use Rattle.formatter.specs.Lookup.{Looked, numberOf as lookupNumber, placeOf as
 use Rattle.formatter.specs.Verdict.{Verdict, Result, verdictOf, get}
 use Rattle.formatter.specs.Numbers.{said, numbered}
 use Rattle.doc_comment.specs.Doc.{Doc, docLookup, docLooked}
-use Rattle.exports.specs.Numbers.{orNone, commentNumbers, docNumbers, verdictNumbers, replyNumbers, DocOut, GetOut, ScanOut}
+use Rattle.diverplume.specs.Numbers.{orNone, commentNumbers, docNumbers, verdictNumbers, replyNumbers, DocOut, GetOut, ScanOut}
 
 pub looked-case : {f x : Lookup} → f ≡ x → commentNumbers (lookedOf x) ≡ commentNumbers (lookedOf f)
 looked-case e = ap (λ (y : Lookup). commentNumbers (lookedOf y)) (sym e)

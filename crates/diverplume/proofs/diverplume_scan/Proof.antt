@@ -1,8 +1,8 @@
--- `exports::diverplume_scan` meets its contract. Assumes nothing.
-use Rattle.exports.proofs.Laws.{scan-out}
+-- `diverplume::diverplume_scan` meets its contract. Assumes nothing.
+use Rattle.diverplume.proofs.Laws.{scan-out}
 use borrow.Author.Needs.{needs}
-use Rattle.exports.proofs.diverplume_scan.Statement.{statement}
-use Rattle.exports.proofs.diverplume_scan.Tie as tie
+use Rattle.diverplume.proofs.diverplume_scan.Statement.{statement}
+use Rattle.diverplume.proofs.diverplume_scan.Tie as tie
 
 scan-requires : tie.Need-scan-requires
 scan-requires c κs = search needs

@@ -1,8 +1,8 @@
--- `exports::diverplume_doc_comment_above` meets its contract. Assumes nothing.
-use Rattle.exports.proofs.Laws.{doc-out}
+-- `diverplume::diverplume_doc_comment_above` meets its contract. Assumes nothing.
+use Rattle.diverplume.proofs.Laws.{doc-out}
 use borrow.Author.Needs.{needs}
-use Rattle.exports.proofs.diverplume_doc_comment_above.Statement.{statement}
-use Rattle.exports.proofs.diverplume_doc_comment_above.Tie as tie
+use Rattle.diverplume.proofs.diverplume_doc_comment_above.Statement.{statement}
+use Rattle.diverplume.proofs.diverplume_doc_comment_above.Tie as tie
 
 doc-comment-above-requires : tie.Need-doc-comment-above-requires
 doc-comment-above-requires c κs = search needs

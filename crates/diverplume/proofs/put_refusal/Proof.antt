@@ -1,10 +1,10 @@
--- `exports::put_refusal` meets its contract: each case of the refusal. Assumes nothing.
+-- `diverplume::put_refusal` meets its contract: each case of the refusal. Assumes nothing.
 use mathlib.Core.Path.{_∙_}
 use Rattle.scanner.specs.Answers.{numberOf, placeOf}
-use Rattle.exports.proofs.Laws.{refusal-case}
+use Rattle.diverplume.proofs.Laws.{refusal-case}
 use borrow.Author.Needs.{needs}
-use Rattle.exports.proofs.put_refusal.Statement.{statement}
-use Rattle.exports.proofs.put_refusal.Tie as tie
+use Rattle.diverplume.proofs.put_refusal.Statement.{statement}
+use Rattle.diverplume.proofs.put_refusal.Tie as tie
 
 enum-told : tie.Need-enum-told
 enum-told c = search needs

@@ -1,9 +1,9 @@
--- `exports::diverplume_comment_above` meets its contract. Assumes nothing.
+-- `diverplume::diverplume_comment_above` meets its contract. Assumes nothing.
 use mathlib.Core.Path.{_∙_, ap}
-use Rattle.exports.specs.Numbers.{commentNumbers}
+use Rattle.diverplume.specs.Numbers.{commentNumbers}
 use borrow.Author.Needs.{needs}
-use Rattle.exports.proofs.diverplume_comment_above.Statement.{statement}
-use Rattle.exports.proofs.diverplume_comment_above.Tie as tie
+use Rattle.diverplume.proofs.diverplume_comment_above.Statement.{statement}
+use Rattle.diverplume.proofs.diverplume_comment_above.Tie as tie
 
 comment-above-requires : tie.Need-comment-above-requires
 comment-above-requires c κs = search needs
