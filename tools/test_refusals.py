@@ -7,10 +7,6 @@ import unittest
 
 ROOT = os.path.join(os.path.dirname(os.path.abspath(__file__)), "..")
 Refusal = collections.namedtuple("Refusal", "number name calls place advice")
-# Cases of the code's enums that have another word than the table. The number of an answer that is accepted has many.
-ACCEPTED = {"Accepted", "Found", "Nothing", "Sheet", "Written", "Ok"}
-SHORT = {"NoRoom": "OutputTooShort", "TooWide": "IndentTooWide", "Comments": "CommentsLeft"}
-SCANNED = {"NoToken": "BeginsNoToken"}
 
 
 def read(path):
@@ -70,29 +66,27 @@ class Refusals(unittest.TestCase):
         found = [(name, int(number)) for name, number in re.findall(r"pub const (\w+): u8 = (\d+);", body)]
         self.assertEqual(found, [(constant(refusal.name), refusal.number) for refusal in REFUSALS])
 
-    def holds(self, where, case, number, names):
-        if case in ACCEPTED:
-            self.assertEqual(number, 0, "%s: %s" % (where, case))
-        else:
-            self.assertEqual(NUMBERS.get(names.get(case, case)), number, "%s: %s is %d" % (where, case, number))
+    def holds(self, where, case, number):
+        """A case that the table does not name is no refusal."""
+        self.assertEqual(NUMBERS.get(case, 0), number, "%s: %s is %d" % (where, case, number))
 
     def test_definitions(self):
         count = 0
         for path in glob.glob(os.path.join(ROOT, "crates/*/specs/*.antt")):
             where = os.path.relpath(path, ROOT)
-            names = {**SHORT, **(SCANNED if "/scanner/" in path else {})}
-            for case, number in re.findall(r"^ *numberOf \(?(\w+)[^=]*= (\d+)$", read(where), re.M):
+            given = r"^ *(?:numberOf|verdictOf|docSaid) \(?(?:Case\.)?(\w+)[^=]*= (?:plain |doc \(looked )?(\d+)\b"
+            for case, number in re.findall(given, read(where), re.M):
                 count += 1
-                self.holds(where, case, int(number), names)
-        self.assertGreater(count, 20)
+                self.holds(where, case, int(number))
+        self.assertGreater(count, 30)
 
     def test_numbers_in_the_code(self):
         count = 0
         for where in ("crates/diverplume/src/lib.rt", "crates/testing/src/lib.rt", "crates/formatter/src/numbers.rt"):
-            cases = re.findall(r"^ +(Answer|Lookup|Reading|Refusal|Scanned|Checked)::(\w+)(?:\([^)]*\))? => \w+\((?:\w+, )?(\d+),", read(where), re.M)
+            cases = re.findall(r"^ +(?:Answer|Lookup|Reading|Refusal|Scanned|Checked)::(\w+)(?:\([^)]*\))? => \w+\((?:\w+, )?(\d+),", read(where), re.M)
             count += len(cases)
-            for enum, case, number in cases:
-                self.holds(where, case, int(number), {**SHORT, **(SCANNED if enum == "Refusal" else {})})
+            for case, number in cases:
+                self.holds(where, case, int(number))
         self.assertGreater(count, 25)
 
     def test_format_explains_what_the_program_prints(self):

@@ -14,7 +14,7 @@ use Rattle.doc_comment.specs.Doc.{joined, closed, opened, docText, put, 
 use Rattle.doc_comment.specs.Lines.{part, kept, FirstKept, size, Closes, Bodies, Joins, fed}
 use Rattle.doc_comment.specs.declared.Body.{Body}
 use Rattle.doc_comment.specs.declared.Body.the-variants.{Lines, Open}
-use Rattle.doc_comment.specs.declared.DocText.the-variants.{Found, NoRoom, Nothing}
+use Rattle.doc_comment.specs.declared.DocText.the-variants.{Found, OutputTooShort, Nothing}
 
 -- ---- lists of lines
 
@@ -338,7 +338,7 @@ module _ (comment out : List ℕ) where
   unfolding docOf docSaid
   none-said e = rw (docOf, e)
 
-  short-said : (text : List ℕ) → docText comment ≡ some text → length out < length text → docSaid NoRoom out ≡ docOf comment out
+  short-said : (text : List ℕ) → docText comment ≡ some text → length out < length text → docSaid OutputTooShort out ≡ docOf comment out
   unfolding docOf docSaid put
   short-said text e h = rw (docOf, e, put, lt-leb _ _ h)
 
@@ -361,7 +361,7 @@ module _ (comment out : List ℕ) where
       unfolding Bodies
       said-open h = none-said (body ∙ closed-none (kept comment next) h)
 
-      pub said-short : {m : ℕ} → Closes (kept comment next) m → length out < m - 1 → docSaid NoRoom out ≡ docOf comment out
+      pub said-short : {m : ℕ} → Closes (kept comment next) m → length out < m - 1 → docSaid OutputTooShort out ≡ docOf comment out
       said-short c h = short-said (joined (c .between)) (body ∙ closed-some c) (omega (arith, length-joined (c .between), c .takes))
 
       pub said-found : {m : ℕ} {out′ : List ℕ} → Joins (kept comment next) m out out′ → m - 1 ≤ length out → docSaid (Found (m - 1)) out′ ≡ docOf comment out

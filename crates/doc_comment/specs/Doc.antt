@@ -9,7 +9,7 @@ use Rattle.text.specs.Bytes.{bytes, sameBytes}
 use Rattle.reader.specs.Tokens.{textOf}
 use Rattle.comments.specs.Above.{commentAbove}
 use Rattle.doc_comment.specs.declared.DocText.{DocText}
-use Rattle.doc_comment.specs.declared.DocText.the-variants.{Found, NoRoom, Nothing}
+use Rattle.doc_comment.specs.declared.DocText.the-variants.{Found, OutputTooShort, Nothing}
 use Rattle.formatter.specs.declared.Lookup.{Lookup}
 use Rattle.formatter.specs.Lookup.{Looked, looked, declined, asked, ask, lookedOf}
 
@@ -82,7 +82,7 @@ docOf comment out = elim (docText comment) [ none ↦ doc (looked 0 0 none) out 
 -- What an answer of `doc_text` and the final output stand for.
 unfoldable pub docSaid : DocText → List ℕ → Doc
 docSaid (Found n) out = doc (looked 0 0 (some n)) out
-docSaid NoRoom out = doc (looked 8 0 none) out
+docSaid OutputTooShort out = doc (looked 8 0 none) out
 docSaid Nothing out = doc (looked 0 0 none) out
 
 -- `doc_comment_above` of a token.

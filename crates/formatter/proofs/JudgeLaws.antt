@@ -311,7 +311,7 @@ module _ {run· : List ℕ} {p : Page} {tree tab : ℕ} {words m o : List ℕ} {
 
     module _ {x : First} (i : firstAt x ≡ first (holds m′) 0 room) where
       pub weigh-comments : {k place count : ℕ} {draft : List ℕ} → x ≡ Seen.At k → place ≡ getD (p .tokens .starts) k 0
-          → Weighs p count tree tab draft m′ (Says.Declined (Case.Comments place))
+          → Weighs p count tree tab draft m′ (Says.Declined (Case.CommentsLeft place))
       unfolding firstAt verdictOf numberOf placeOf givenMeasures
       weigh-comments {k} j q = record { is = rw q (walked-is ∙ comments-some p es m′ few words-are (sym i ∙ ap firstAt j)) }
 
@@ -357,7 +357,7 @@ module _ {p : Page} {tree : ℕ} (tab : ℕ) {m : Measures} (w : Weight p tree m
   unfolding measuresOf
   deepest-is = i ∙ ap (λ x. x .deepest * tab) (w .measures)
 
-  pub put-wide : maxWidth < width → Puts p tree tab out (Case.TooWide m) out
+  pub put-wide : maxWidth < width → Puts p tree tab out (Case.IndentTooWide m) out
   unfolding verdictOf numberOf placeOf givenMeasures
   put-wide h = puts (rw (← w .measures) at (sym (format-wide tab p (w .events) out (rw (← deepest-is) h))))
 
@@ -367,7 +367,7 @@ module _ {p : Page} {tree : ℕ} (tab : ℕ) {m : Measures} (w : Weight p tree m
     size-is =
         k ∙ ap₂ (λ x y. x + y) (ap (λ x. x .letters) (w .measures)) (j ∙ ap (λ x. x .units * tab) (w .measures) ∙ mul-comm (units (w .events)) tab)
 
-    pub put-short : length out < size → Puts p tree tab out (Case.NoRoom m) out
+    pub put-short : length out < size → Puts p tree tab out (Case.OutputTooShort m) out
     unfolding verdictOf numberOf placeOf givenMeasures
     put-short h = puts (rw (← w .measures) at (sym (format-short tab p (w .events) out (rw (← deepest-is) narrow) (rw (← size-is) h))))
 

@@ -11,7 +11,7 @@ use Rattle.reader.specs.Reading.{Read, refused, sheet, read}
 use Rattle.comments.specs.Above as Above
 use Rattle.comments.specs.Above.{foundAbove, passedIn}
 use Rattle.formatter.specs.declared.Lookup.{Lookup}
-use Rattle.formatter.specs.declared.Lookup.the-variants.{Found, Nothing, TooLong, NotUtf8, Malformed, TooDeep, NoRoom, NoToken}
+use Rattle.formatter.specs.declared.Lookup.the-variants.{Found, Nothing, TooLong, NotUtf8, Malformed, TooDeep, OutputTooShort, NoToken}
 use Rattle.formatter.specs.declared.Asked as Code
 use Rattle.formatter.specs.declared.Asked.the-variants as Case
 
@@ -57,7 +57,7 @@ numberOf TooLong = 1
 numberOf (NotUtf8 at) = 2
 numberOf (Malformed at) = 3
 numberOf (TooDeep at) = 4
-numberOf NoRoom = 8
+numberOf OutputTooShort = 8
 numberOf NoToken = 9
 
 unfoldable pub placeOf : Lookup → ℕ
@@ -67,7 +67,7 @@ placeOf TooLong = 0
 placeOf (NotUtf8 at) = at
 placeOf (Malformed at) = at
 placeOf (TooDeep at) = at
-placeOf NoRoom = 0
+placeOf OutputTooShort = 0
 placeOf NoToken = 0
 
 unfoldable pub answerOf : Lookup → Option ℕ
@@ -77,7 +77,7 @@ answerOf TooLong = none
 answerOf (NotUtf8 at) = none
 answerOf (Malformed at) = none
 answerOf (TooDeep at) = none
-answerOf NoRoom = none
+answerOf OutputTooShort = none
 answerOf NoToken = none
 
 unfoldable pub keywordOf : Lookup → Option ℕ
@@ -87,7 +87,7 @@ keywordOf TooLong = none
 keywordOf (NotUtf8 at) = none
 keywordOf (Malformed at) = none
 keywordOf (TooDeep at) = none
-keywordOf NoRoom = none
+keywordOf OutputTooShort = none
 keywordOf NoToken = none
 
 -- What an answer stands for.

@@ -15,7 +15,7 @@ use Rattle.layout.specs.Walk.{walk}
 use Rattle.layout.specs.Events.{deepest, letters, units, formatted, isLeft}
 use Rattle.formatter.specs.declared.Measures.{Measures}
 use Rattle.formatter.specs.declared.Answer.{Answer}
-use Rattle.formatter.specs.declared.Answer.the-variants.{Accepted, TooLong, NotUtf8, Malformed, TooDeep, Missing, Import, Comments, TooWide, NoRoom}
+use Rattle.formatter.specs.declared.Answer.the-variants.{Accepted, TooLong, NotUtf8, Malformed, TooDeep, Missing, Import, CommentsLeft, IndentTooWide, OutputTooShort}
 
 -- A verdict (document 01): number, place, measures, and the words of the set of comments left.
 pub record Verdict : Type 0 where
@@ -108,9 +108,9 @@ numberOf (Malformed at) = 3
 numberOf (TooDeep at) = 4
 numberOf (Missing at) = 13
 numberOf (Import at) = 14
-numberOf (Comments at) = 6
-numberOf (TooWide m) = 7
-numberOf (NoRoom m) = 8
+numberOf (CommentsLeft at) = 6
+numberOf (IndentTooWide m) = 7
+numberOf (OutputTooShort m) = 8
 
 unfoldable pub placeOf : Answer → ℕ
 placeOf (Accepted m) = 0
@@ -120,9 +120,9 @@ placeOf (Malformed at) = at
 placeOf (TooDeep at) = at
 placeOf (Missing at) = at
 placeOf (Import at) = at
-placeOf (Comments at) = at
-placeOf (TooWide m) = 0
-placeOf (NoRoom m) = 0
+placeOf (CommentsLeft at) = at
+placeOf (IndentTooWide m) = 0
+placeOf (OutputTooShort m) = 0
 
 unfoldable pub givenMeasures : Answer → Measures
 givenMeasures (Accepted m) = m
@@ -132,9 +132,9 @@ givenMeasures (Malformed at) = noMeasures
 givenMeasures (TooDeep at) = noMeasures
 givenMeasures (Missing at) = noMeasures
 givenMeasures (Import at) = noMeasures
-givenMeasures (Comments at) = noMeasures
-givenMeasures (TooWide m) = m
-givenMeasures (NoRoom m) = m
+givenMeasures (CommentsLeft at) = noMeasures
+givenMeasures (IndentTooWide m) = m
+givenMeasures (OutputTooShort m) = m
 
 -- The verdict that an answer and the words beside it stand for.
 unfoldable pub verdictOf : Answer → List ℕ → Verdict

@@ -57,11 +57,11 @@ pub enum Answer {
     // The offset in the record of the import's command.
     Import(usize),
     // The offset in the text of the first comment left.
-    Comments(usize),
+    CommentsLeft(usize),
     // Deepest × tab size is over 4,294,967,295.
-    TooWide(Measures),
+    IndentTooWide(Measures),
     // The output is shorter than the formatted text.
-    NoRoom(Measures),
+    OutputTooShort(Measures),
 }
 
 // The answer of a lookup.
@@ -78,7 +78,7 @@ pub enum Lookup {
     // The offset in the record of the 201st form inside one another.
     TooDeep(usize),
     // The output is shorter than the doc text.
-    NoRoom,
+    OutputTooShort,
     // The token number is not below the count.
     NoToken,
 }
@@ -221,9 +221,9 @@ fn weigh(
         };
     }
     let First::At(k) = set.first() else {
-        return Judged::Declined(Answer::Comments(0));
+        return Judged::Declined(Answer::CommentsLeft(0));
     };
-    Judged::Declined(Answer::Comments(entry(starts, k)))
+    Judged::Declined(Answer::CommentsLeft(entry(starts, k)))
 }
 
 // 1 to 4, 13, 14 and 6. The record check is run only where the walk did not end at the record's end.
@@ -324,12 +324,12 @@ fn put(
     let units = measures.units;
     let width = scaled(deepest, tab);
     if MAX_WIDTH < width {
-        return Answer::TooWide(measures);
+        return Answer::IndentTooWide(measures);
     }
     let spaces = scaled(units, tab);
     let size = letters + spaces;
     if (out.len() as u64) < size {
-        return Answer::NoRoom(measures);
+        return Answer::OutputTooShort(measures);
     }
     if size <= draft.len() as u64 {
         copy(out, 0, &draft[..size as usize]);

@@ -50,8 +50,8 @@ pub fn numbers_of(answer: Answer) -> Numbers
         Answer::TooDeep(place) => refused(4, place),
         Answer::Missing(place) => refused(13, place),
         Answer::Import(place) => refused(14, place),
-        Answer::Comments(place) => refused(6, place),
-        Answer::TooWide(m) => measured(7, m),
-        Answer::NoRoom(m) => measured(8, m),
+        Answer::CommentsLeft(place) => refused(6, place),
+        Answer::IndentTooWide(m) => measured(7, m),
+        Answer::OutputTooShort(m) => measured(8, m),
     }
 }

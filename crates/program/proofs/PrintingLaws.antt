@@ -15,7 +15,7 @@ use denote.Enum.Declared.{tagOf}
 use Rattle.formatter.proofs.Answer.{the-type}
 use Rattle.formatter.specs.declared.Measures.{Measures}
 use Rattle.formatter.specs.declared.Answer.{Answer}
-use Rattle.formatter.specs.declared.Answer.the-variants.{Accepted, TooLong, NotUtf8, Malformed, TooDeep, Missing, Import, Comments, TooWide, NoRoom}
+use Rattle.formatter.specs.declared.Answer.the-variants.{Accepted, TooLong, NotUtf8, Malformed, TooDeep, Missing, Import, CommentsLeft, IndentTooWide, OutputTooShort}
 use Rattle.formatter.specs.Verdict.{Verdict, numberOf, givenMeasures, verdictOf}
 use Rattle.formatter.specs.Numbers.{said}
 use Rattle.program.specs.Program.{digits, decimal, line}
@@ -128,9 +128,9 @@ declines-number (Malformed at) d = refl
 declines-number (TooDeep at) d = refl
 declines-number (Missing at) d = refl
 declines-number (Import at) d = refl
-declines-number (Comments at) d = refl
-declines-number (TooWide m) d = refl
-declines-number (NoRoom m) d = refl
+declines-number (CommentsLeft at) d = refl
+declines-number (IndentTooWide m) d = refl
+declines-number (OutputTooShort m) d = refl
 
 module _ (tab : ℕ) (a : Answer) (page : List ℕ) where
   pub shown-declined : Declines a → shown tab (saidWith a page) ≡ line (said a)

@@ -76,7 +76,7 @@ module _ {text kinds starts lens : List ℕ} {r : Tabled} (s : Reads text kinds 
     size : length bytes ≡ 4 * count
     size = length-commands (take count kinds) (take count lens) (counted-lens ∙ sym counted-kinds) ∙ ap (λ (n : ℕ). 4 * n) counted-kinds
 
-    pub scan-short : (out : List ℕ) → length out < 4 * count → replyOf Case.NoRoom out ≡ scan text out
+    pub scan-short : (out : List ℕ) → length out < 4 * count → replyOf Case.OutputTooShort out ≡ scan text out
     unfolding replyOf verdictOf writtenOf
     scan-short out h = sym (fitted-short (plain 0 0) (plain 8 0) bytes out (rw size h)) ∙ scan-tokens text out (counts .is)
 

@@ -33,7 +33,7 @@ pub enum Refusal {
     // The offset of a double quote that begins no string constant.
     NoString(usize),
     // The offset of another byte that begins no token.
-    NoToken(usize),
+    BeginsNoToken(usize),
 }
 
 // The answer of `tables`.
@@ -49,7 +49,7 @@ pub enum Scanned {
     Written(usize),
     Refused(Refusal),
     // The output is shorter than the commands.
-    NoRoom,
+    OutputTooShort,
 }
 
 // ---- tables of tokens
@@ -63,7 +63,7 @@ fn refused_at(b: u8, at: usize) -> Refusal
     if b == 34 {
         return Refusal::NoString(at);
     }
-    Refusal::NoToken(at)
+    Refusal::BeginsNoToken(at)
 }
 
 // Puts a token into the tables, where they have an entry for it.
@@ -171,7 +171,7 @@ pub fn scan(text: &[u8], out: &mut [u8]) -> Scanned
         Tabled::Tokens(count) => {
             let size = 4 * count;
             if out.len() < size {
-                return Scanned::NoRoom;
+                return Scanned::OutputTooShort;
             }
             write(&kinds[..count], &lens[..count], out);
             Scanned::Written(size)
