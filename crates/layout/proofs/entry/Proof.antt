@@ -7,23 +7,18 @@ use Rattle.layout.proofs.entry.Tie as tie
 use Rattle.layout.proofs.entry.Reads as reads
 use Rattle.layout.proofs.entry.Lts as lts
 
--- src/lib.rt:204:26
 mul-result : tie.Need-mul-result
 mul-result c = search needs
 
--- src/lib.rt:204:26
 shared-slice-read-result : tie.Need-shared-slice-read-result
 shared-slice-read-result c = search needs
 
--- src/lib.rt:204:26
 cast-result : tie.Need-cast-result
 cast-result c = omega (arith, c .shared-slice-known .given (c .before .before .args .k))
 
--- src/lib.rt:201:1
 returns : tie.Need-returns
 returns c = search needs
 
--- src/lib.rt:201:1
 returns-2 : tie.Need-returns-2
 returns-2 c = sym (List·getD-eq-default (c .before .args .table .now) 0 (c .if1 .left))
 

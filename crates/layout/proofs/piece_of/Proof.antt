@@ -7,29 +7,23 @@ use Rattle.layout.proofs.piece_of.Reads as reads
 use Rattle.layout.proofs.piece_of.Lts as lts
 use Rattle.layout.proofs.part.Reads as part-reads
 
--- src/lib.rt:177:21
 enum-known-which : tie.Need-enum-known-which
 enum-known-which c = search needs
 
--- src/lib.rt:177:30
 part-requires : tie.Need-part-requires
 part-requires c κs = search needs
 
--- src/lib.rt:178:21
 enum-known-which-2 : tie.Need-enum-known-which-2
 enum-known-which-2 c = search needs
 
--- src/lib.rt:178:30
 part-requires-2 : tie.Need-part-requires-2
 part-requires-2 c κs = search needs
 
--- src/lib.rt:173:1
 returns : tie.Need-returns
 returns c =
     let a = c .before .before .before .before .before .before .args in
     c .part .ensures ∙ ap (pieceOf (a .run .now) (a .text .now)) (sym (c .before .before .which .given .1))
 
--- src/lib.rt:173:1
 returns-2 : tie.Need-returns-2
 returns-2 c =
     let a = c .before .before .before .before .before .before .args in

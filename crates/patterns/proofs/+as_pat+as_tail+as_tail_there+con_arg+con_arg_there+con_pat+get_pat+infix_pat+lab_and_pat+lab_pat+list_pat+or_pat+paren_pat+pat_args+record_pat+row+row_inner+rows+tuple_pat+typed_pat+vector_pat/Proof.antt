@@ -311,7 +311,6 @@ abbrev vector-pat-below : ℕ → In 6 vector-pat-kinds.ps
 vector-pat-below t =
     and 6 vector-pat-kinds.ps (falls 6 vector-pat-kinds.ps _<_ μ-vector-pat t) vector-pat.Pre
 
--- src/lib.rt:475:9
 as-pat-get-pat-requires : (t : ℕ) → as-pat-lts.Need-get-pat-requires (
   get-pat-below t,
   get-pat.Post,
@@ -324,7 +323,6 @@ as-pat-get-pat-requires : (t : ℕ) → as-pat-lts.Need-get-pat-requires (
 ) (as-pat-at t) as-pat.Post
 as-pat-get-pat-requires t c κs = omega (arith, c .before .before .before .before .before .before .before .pre .0)
 
--- src/lib.rt:476:28
 as-pat-told-requires : (t : ℕ) → as-pat-lts.Need-told-requires (
   get-pat-below t,
   get-pat.Post,
@@ -337,7 +335,6 @@ as-pat-told-requires : (t : ℕ) → as-pat-lts.Need-told-requires (
 ) (as-pat-at t) as-pat.Post
 as-pat-told-requires t c κs = search needs
 
--- src/lib.rt:476:22
 as-pat-enum-known-s1 : (t : ℕ) → as-pat-lts.Need-enum-known-s1 (
   get-pat-below t,
   get-pat.Post,
@@ -350,7 +347,6 @@ as-pat-enum-known-s1 : (t : ℕ) → as-pat-lts.Need-enum-known-s1 (
 ) (as-pat-at t) as-pat.Post
 as-pat-enum-known-s1 t c = search needs
 
--- src/lib.rt:477:9
 as-pat-enum-told : (t : ℕ) → as-pat-lts.Need-enum-told (
   get-pat-below t,
   get-pat.Post,
@@ -363,7 +359,6 @@ as-pat-enum-told : (t : ℕ) → as-pat-lts.Need-enum-told (
 ) (as-pat-at t) as-pat.Post
 as-pat-enum-told t c = search needs
 
--- src/lib.rt:477:9
 as-pat-same-length : (t : ℕ) → as-pat-lts.Need-same-length (
   get-pat-below t,
   get-pat.Post,
@@ -376,7 +371,6 @@ as-pat-same-length : (t : ℕ) → as-pat-lts.Need-same-length (
 ) (as-pat-at t) as-pat.Post
 as-pat-same-length t c = c .before .before .before .before .before .get-pat .kept .1 .1 .1 .1 .1 .0
 
--- src/lib.rt:477:9
 as-pat-returns : (t : ℕ) → as-pat-lts.Need-returns (
   get-pat-below t,
   get-pat.Post,
@@ -390,7 +384,6 @@ as-pat-returns : (t : ℕ) → as-pat-lts.Need-returns (
 unfolding Pat.pat
 as-pat-returns t c = record { is = λ kinds. then-stop (plain (c .before .before .before .before .before .get-pat .ensures)) (c .before .before .told .ensures) (c .enum-told .given .1) }
 
--- src/lib.rt:479:5
 as-pat-word-requires : (t : ℕ) → as-pat-lts.Need-word-requires (
   get-pat-below t,
   get-pat.Post,
@@ -403,7 +396,6 @@ as-pat-word-requires : (t : ℕ) → as-pat-lts.Need-word-requires (
 ) (as-pat-at t) as-pat.Post
 as-pat-word-requires t c κs = search needs
 
--- src/lib.rt:480:9
 as-pat-group-requires : (t : ℕ) → as-pat-lts.Need-group-requires (
   get-pat-below t,
   get-pat.Post,
@@ -416,7 +408,6 @@ as-pat-group-requires : (t : ℕ) → as-pat-lts.Need-group-requires (
 ) (as-pat-at t) as-pat.Post
 as-pat-group-requires t c κs = search needs
 
--- src/lib.rt:481:28
 as-pat-told-requires-2 : (t : ℕ) → as-pat-lts.Need-told-requires-2 (
   get-pat-below t,
   get-pat.Post,
@@ -429,7 +420,6 @@ as-pat-told-requires-2 : (t : ℕ) → as-pat-lts.Need-told-requires-2 (
 ) (as-pat-at t) as-pat.Post
 as-pat-told-requires-2 t c κs = search needs
 
--- src/lib.rt:481:22
 as-pat-enum-known-s2 : (t : ℕ) → as-pat-lts.Need-enum-known-s2 (
   get-pat-below t,
   get-pat.Post,
@@ -442,7 +432,6 @@ as-pat-enum-known-s2 : (t : ℕ) → as-pat-lts.Need-enum-known-s2 (
 ) (as-pat-at t) as-pat.Post
 as-pat-enum-known-s2 t c = search needs
 
--- src/lib.rt:482:9
 as-pat-enum-told-2 : (t : ℕ) → as-pat-lts.Need-enum-told-2 (
   get-pat-below t,
   get-pat.Post,
@@ -455,7 +444,6 @@ as-pat-enum-told-2 : (t : ℕ) → as-pat-lts.Need-enum-told-2 (
 ) (as-pat-at t) as-pat.Post
 as-pat-enum-told-2 t c = search needs
 
--- src/lib.rt:482:9
 as-pat-same-length-2 : (t : ℕ) → as-pat-lts.Need-same-length-2 (
   get-pat-below t,
   get-pat.Post,
@@ -468,7 +456,6 @@ as-pat-same-length-2 : (t : ℕ) → as-pat-lts.Need-same-length-2 (
 ) (as-pat-at t) as-pat.Post
 as-pat-same-length-2 t c = c .before .before .before .before .before .before .word .kept .1 .1 .0 ∙ c .before .before .before .before .before .before .before .before .before .before .before .before .before .before .before .get-pat .kept .1 .1 .1 .1 .1 .0
 
--- src/lib.rt:482:9
 as-pat-returns-2 : (t : ℕ) → as-pat-lts.Need-returns-2 (
   get-pat-below t,
   get-pat.Post,
@@ -482,7 +469,6 @@ as-pat-returns-2 : (t : ℕ) → as-pat-lts.Need-returns-2 (
 unfolding Pat.pat
 as-pat-returns-2 t c = record { is = λ kinds. then-done (plain (c .before .before .before .before .before .before .before .before .before .before .before .before .before .before .before .get-pat .ensures)) (c .before .before .before .before .before .before .before .before .before .before .before .before .told .ensures) (c .before .before .before .before .before .before .before .before .before .before .s1 .given .1) (then-sure (c .before .before .before .before .before .before .word .ensures) (group-not (c .before .before .before .group .ensures) (c .before .before .told2 .ensures) (c .enum-told2 .given .1))) }
 
--- src/lib.rt:484:5
 as-pat-get-pat-requires-2 : (t : ℕ) → as-pat-lts.Need-get-pat-requires-2 (
   get-pat-below t,
   get-pat.Post,
@@ -495,7 +481,6 @@ as-pat-get-pat-requires-2 : (t : ℕ) → as-pat-lts.Need-get-pat-requires-2 (
 ) (as-pat-at t) as-pat.Post
 as-pat-get-pat-requires-2 t c κs = omega (arith, c .before .before .before .before .before .before .before .before .before .before .before .before .before .before .before .before .before .before .before .before .before .before .before .before .before .before .pre .0)
 
--- src/lib.rt:462:1
 as-pat-same-length-3 : (t : ℕ) → as-pat-lts.Need-same-length-3 (
   get-pat-below t,
   get-pat.Post,
@@ -508,7 +493,6 @@ as-pat-same-length-3 : (t : ℕ) → as-pat-lts.Need-same-length-3 (
 ) (as-pat-at t) as-pat.Post
 as-pat-same-length-3 t c = c .before .before .get-pat2 .kept .1 .1 .1 .1 .1 .0 ∙ c .before .before .before .before .before .before .before .before .before .before .before .before .word .kept .1 .1 .0 ∙ c .before .before .before .before .before .before .before .before .before .before .before .before .before .before .before .before .before .before .before .before .before .get-pat .kept .1 .1 .1 .1 .1 .0
 
--- src/lib.rt:462:1
 as-pat-returns-3 : (t : ℕ) → as-pat-lts.Need-returns-3 (
   get-pat-below t,
   get-pat.Post,
@@ -522,7 +506,6 @@ as-pat-returns-3 : (t : ℕ) → as-pat-lts.Need-returns-3 (
 unfolding Pat.pat
 as-pat-returns-3 t c = record { is = λ kinds. then-done (plain (c .before .before .before .before .before .before .before .before .before .before .before .before .before .before .before .before .before .before .before .before .before .get-pat .ensures)) (c .before .before .before .before .before .before .before .before .before .before .before .before .before .before .before .before .before .before .told .ensures) (c .before .before .before .before .before .before .before .before .before .before .before .before .before .before .before .before .s1 .given .1) (then-sure (c .before .before .before .before .before .before .before .before .before .before .before .before .word .ensures) (by-same (group-is (c .before .before .before .before .before .before .before .before .before .group .ensures) (c .before .before .before .before .before .before .before .before .told2 .ensures) (c .before .before .before .before .before .before .s2 .given .1)) (plain (c .before .before .get-pat2 .ensures)))) }
 
--- src/lib.rt:145:9
 as-tail-absent-requires : (t : ℕ) → as-tail-lts.Need-absent-requires (
   absent-reads.Asked,
   absent-reads.Learnt,
@@ -531,7 +514,6 @@ as-tail-absent-requires : (t : ℕ) → as-tail-lts.Need-absent-requires (
 ) (as-tail-at t) as-tail.Post
 as-tail-absent-requires t c κs = search needs
 
--- src/lib.rt:147:20
 as-tail-enum-known-gone : (t : ℕ) → as-tail-lts.Need-enum-known-gone (
   absent-reads.Asked,
   absent-reads.Learnt,
@@ -540,7 +522,6 @@ as-tail-enum-known-gone : (t : ℕ) → as-tail-lts.Need-enum-known-gone (
 ) (as-tail-at t) as-tail.Post
 as-tail-enum-known-gone t c = search needs
 
--- src/lib.rt:148:68
 as-tail-enum-told : (t : ℕ) → as-tail-lts.Need-enum-told (
   absent-reads.Asked,
   absent-reads.Learnt,
@@ -549,7 +530,6 @@ as-tail-enum-told : (t : ℕ) → as-tail-lts.Need-enum-told (
 ) (as-tail-at t) as-tail.Post
 as-tail-enum-told t c = search needs
 
--- src/lib.rt:148:24
 as-tail-as-tail-there-requires : (t : ℕ) → as-tail-lts.Need-as-tail-there-requires (
   absent-reads.Asked,
   absent-reads.Learnt,
@@ -558,7 +538,6 @@ as-tail-as-tail-there-requires : (t : ℕ) → as-tail-lts.Need-as-tail-there-re
 ) (as-tail-at t) as-tail.Post
 as-tail-as-tail-there-requires t c κs = omega (arith, c .before .before .before .before .before .before .before .before .before .before .pre .0)
 
--- src/lib.rt:132:1
 as-tail-returns : (t : ℕ) → as-tail-lts.Need-returns (
   absent-reads.Asked,
   absent-reads.Learnt,
@@ -568,7 +547,6 @@ as-tail-returns : (t : ℕ) → as-tail-lts.Need-returns (
 unfolding Pat.as-tail
 as-tail-returns t c = record { is = λ kinds. maybe-past (c .before .before .before .absent .ensures) (c .before .gone .given .1) }
 
--- src/lib.rt:132:1
 as-tail-same-length : (t : ℕ) → as-tail-lts.Need-same-length (
   absent-reads.Asked,
   absent-reads.Learnt,
@@ -577,7 +555,6 @@ as-tail-same-length : (t : ℕ) → as-tail-lts.Need-same-length (
 ) (as-tail-at t) as-tail.Post
 as-tail-same-length t c = c .before .before .as-tail-there .kept .1 .1 .1 .1 .1 .0
 
--- src/lib.rt:132:1
 as-tail-returns-2 : (t : ℕ) → as-tail-lts.Need-returns-2 (
   absent-reads.Asked,
   absent-reads.Learnt,
@@ -587,7 +564,6 @@ as-tail-returns-2 : (t : ℕ) → as-tail-lts.Need-returns-2 (
 unfolding Pat.as-tail
 as-tail-returns-2 t c = record { is = λ kinds. by-same (maybe-there (c .before .before .before .before .before .before .before .absent .ensures) (c .before .before .before .before .before .enum-told .given .1)) (plain (c .before .before .as-tail-there .ensures)) }
 
--- src/lib.rt:123:9
 as-tail-there-group-requires : (t : ℕ) → as-tail-there-lts.Need-group-requires (
   group-reads.Asked,
   group-reads.Learnt,
@@ -600,7 +576,6 @@ as-tail-there-group-requires : (t : ℕ) → as-tail-there-lts.Need-group-requir
 ) (as-tail-there-at t) as-tail-there.Post
 as-tail-there-group-requires t c κs = search needs
 
--- src/lib.rt:124:28
 as-tail-there-told-requires : (t : ℕ) → as-tail-there-lts.Need-told-requires (
   group-reads.Asked,
   group-reads.Learnt,
@@ -613,7 +588,6 @@ as-tail-there-told-requires : (t : ℕ) → as-tail-there-lts.Need-told-requires
 ) (as-tail-there-at t) as-tail-there.Post
 as-tail-there-told-requires t c κs = search needs
 
--- src/lib.rt:124:22
 as-tail-there-enum-known-s1 : (t : ℕ) → as-tail-there-lts.Need-enum-known-s1 (
   group-reads.Asked,
   group-reads.Learnt,
@@ -626,7 +600,6 @@ as-tail-there-enum-known-s1 : (t : ℕ) → as-tail-there-lts.Need-enum-known-s1
 ) (as-tail-there-at t) as-tail-there.Post
 as-tail-there-enum-known-s1 t c = search needs
 
--- src/lib.rt:125:9
 as-tail-there-enum-told : (t : ℕ) → as-tail-there-lts.Need-enum-told (
   group-reads.Asked,
   group-reads.Learnt,
@@ -639,7 +612,6 @@ as-tail-there-enum-told : (t : ℕ) → as-tail-there-lts.Need-enum-told (
 ) (as-tail-there-at t) as-tail-there.Post
 as-tail-there-enum-told t c = search needs
 
--- src/lib.rt:125:9
 as-tail-there-returns : (t : ℕ) → as-tail-there-lts.Need-returns (
   group-reads.Asked,
   group-reads.Learnt,
@@ -653,7 +625,6 @@ as-tail-there-returns : (t : ℕ) → as-tail-there-lts.Need-returns (
 unfolding Pat.as-tail-there
 as-tail-there-returns t c = record { is = λ kinds. group-not (c .before .before .before .group .ensures) (c .before .before .told .ensures) (c .enum-told .given .1) }
 
--- src/lib.rt:127:5
 as-tail-there-word-requires : (t : ℕ) → as-tail-there-lts.Need-word-requires (
   group-reads.Asked,
   group-reads.Learnt,
@@ -666,7 +637,6 @@ as-tail-there-word-requires : (t : ℕ) → as-tail-there-lts.Need-word-requires
 ) (as-tail-there-at t) as-tail-there.Post
 as-tail-there-word-requires t c κs = search needs
 
--- src/lib.rt:128:5
 as-tail-there-get-pat-requires : (t : ℕ) → as-tail-there-lts.Need-get-pat-requires (
   group-reads.Asked,
   group-reads.Learnt,
@@ -679,7 +649,6 @@ as-tail-there-get-pat-requires : (t : ℕ) → as-tail-there-lts.Need-get-pat-re
 ) (as-tail-there-at t) as-tail-there.Post
 as-tail-there-get-pat-requires t c κs = omega (arith, c .before .before .before .before .before .before .before .before .before .before .before .before .before .before .before .before .before .pre .0)
 
--- src/lib.rt:110:1
 as-tail-there-same-length : (t : ℕ) → as-tail-there-lts.Need-same-length (
   group-reads.Asked,
   group-reads.Learnt,
@@ -692,7 +661,6 @@ as-tail-there-same-length : (t : ℕ) → as-tail-there-lts.Need-same-length (
 ) (as-tail-there-at t) as-tail-there.Post
 as-tail-there-same-length t c = c .before .before .get-pat .kept .1 .1 .1 .1 .1 .0 ∙ c .before .before .before .before .before .before .before .word .kept .1 .1 .0
 
--- src/lib.rt:110:1
 as-tail-there-returns-2 : (t : ℕ) → as-tail-there-lts.Need-returns-2 (
   group-reads.Asked,
   group-reads.Learnt,
@@ -706,7 +674,6 @@ as-tail-there-returns-2 : (t : ℕ) → as-tail-there-lts.Need-returns-2 (
 unfolding Pat.as-tail-there
 as-tail-there-returns-2 t c = record { is = λ kinds. by-same (group-is (c .before .before .before .before .before .before .before .before .before .before .before .before .before .before .group .ensures) (c .before .before .before .before .before .before .before .before .before .before .before .before .before .told .ensures) (c .before .before .before .before .before .before .before .before .before .before .before .s1 .given .1)) (then-sure (c .before .before .before .before .before .before .before .word .ensures) (plain (c .before .before .get-pat .ensures))) }
 
--- src/lib.rt:59:9
 con-arg-absent-requires : (t : ℕ) → con-arg-lts.Need-absent-requires (
   absent-reads.Asked,
   absent-reads.Learnt,
@@ -715,7 +682,6 @@ con-arg-absent-requires : (t : ℕ) → con-arg-lts.Need-absent-requires (
 ) (con-arg-at t) con-arg.Post
 con-arg-absent-requires t c κs = search needs
 
--- src/lib.rt:61:20
 con-arg-enum-known-gone : (t : ℕ) → con-arg-lts.Need-enum-known-gone (
   absent-reads.Asked,
   absent-reads.Learnt,
@@ -724,7 +690,6 @@ con-arg-enum-known-gone : (t : ℕ) → con-arg-lts.Need-enum-known-gone (
 ) (con-arg-at t) con-arg.Post
 con-arg-enum-known-gone t c = search needs
 
--- src/lib.rt:62:68
 con-arg-enum-told : (t : ℕ) → con-arg-lts.Need-enum-told (
   absent-reads.Asked,
   absent-reads.Learnt,
@@ -733,7 +698,6 @@ con-arg-enum-told : (t : ℕ) → con-arg-lts.Need-enum-told (
 ) (con-arg-at t) con-arg.Post
 con-arg-enum-told t c = search needs
 
--- src/lib.rt:62:24
 con-arg-con-arg-there-requires : (t : ℕ) → con-arg-lts.Need-con-arg-there-requires (
   absent-reads.Asked,
   absent-reads.Learnt,
@@ -742,7 +706,6 @@ con-arg-con-arg-there-requires : (t : ℕ) → con-arg-lts.Need-con-arg-there-re
 ) (con-arg-at t) con-arg.Post
 con-arg-con-arg-there-requires t c κs = omega (arith, c .before .before .before .before .before .before .before .before .before .before .pre .0)
 
--- src/lib.rt:46:1
 con-arg-returns : (t : ℕ) → con-arg-lts.Need-returns (
   absent-reads.Asked,
   absent-reads.Learnt,
@@ -752,7 +715,6 @@ con-arg-returns : (t : ℕ) → con-arg-lts.Need-returns (
 unfolding Pat.con-arg
 con-arg-returns t c = record { is = λ kinds. maybe-past (c .before .before .before .absent .ensures) (c .before .gone .given .1) }
 
--- src/lib.rt:46:1
 con-arg-same-length : (t : ℕ) → con-arg-lts.Need-same-length (
   absent-reads.Asked,
   absent-reads.Learnt,
@@ -761,7 +723,6 @@ con-arg-same-length : (t : ℕ) → con-arg-lts.Need-same-length (
 ) (con-arg-at t) con-arg.Post
 con-arg-same-length t c = c .before .before .con-arg-there .kept .1 .1 .1 .1 .1 .0
 
--- src/lib.rt:46:1
 con-arg-returns-2 : (t : ℕ) → con-arg-lts.Need-returns-2 (
   absent-reads.Asked,
   absent-reads.Learnt,
@@ -771,7 +732,6 @@ con-arg-returns-2 : (t : ℕ) → con-arg-lts.Need-returns-2 (
 unfolding Pat.con-arg
 con-arg-returns-2 t c = record { is = λ kinds. by-same (maybe-there (c .before .before .before .before .before .before .before .absent .ensures) (c .before .before .before .before .before .enum-told .given .1)) (plain (c .before .before .con-arg-there .ensures)) }
 
--- src/lib.rt:41:5
 con-arg-there-word-requires : (t : ℕ) → con-arg-there-lts.Need-word-requires (
   word-reads.Asked,
   word-reads.Learnt,
@@ -780,7 +740,6 @@ con-arg-there-word-requires : (t : ℕ) → con-arg-there-lts.Need-word-requires
 ) (con-arg-there-at t) con-arg-there.Post
 con-arg-there-word-requires t c κs = search needs
 
--- src/lib.rt:42:5
 con-arg-there-get-pat-requires : (t : ℕ) → con-arg-there-lts.Need-get-pat-requires (
   word-reads.Asked,
   word-reads.Learnt,
@@ -789,7 +748,6 @@ con-arg-there-get-pat-requires : (t : ℕ) → con-arg-there-lts.Need-get-pat-re
 ) (con-arg-there-at t) con-arg-there.Post
 con-arg-there-get-pat-requires t c κs = omega (arith, c .before .before .before .before .before .before .before .before .before .before .before .before .pre .0)
 
--- src/lib.rt:28:1
 con-arg-there-same-length : (t : ℕ) → con-arg-there-lts.Need-same-length (
   word-reads.Asked,
   word-reads.Learnt,
@@ -798,7 +756,6 @@ con-arg-there-same-length : (t : ℕ) → con-arg-there-lts.Need-same-length (
 ) (con-arg-there-at t) con-arg-there.Post
 con-arg-there-same-length t c = c .before .before .get-pat .kept .1 .1 .1 .1 .1 .0 ∙ c .before .before .before .before .before .before .before .word .kept .1 .1 .0
 
--- src/lib.rt:28:1
 con-arg-there-returns : (t : ℕ) → con-arg-there-lts.Need-returns (
   word-reads.Asked,
   word-reads.Learnt,
@@ -808,7 +765,6 @@ con-arg-there-returns : (t : ℕ) → con-arg-there-lts.Need-returns (
 unfolding Pat.con-arg-there
 con-arg-there-returns t c = record { is = λ kinds. then-sure (c .before .before .before .before .before .before .before .word .ensures) (plain (c .before .before .get-pat .ensures)) }
 
--- src/lib.rt:80:9
 con-pat-op-path-requires : (t : ℕ) → con-pat-lts.Need-op-path-requires (
   op-path-reads.Asked,
   op-path-reads.Learnt,
@@ -819,7 +775,6 @@ con-pat-op-path-requires : (t : ℕ) → con-pat-lts.Need-op-path-requires (
 ) (con-pat-at t) con-pat.Post
 con-pat-op-path-requires t c κs = search needs
 
--- src/lib.rt:81:28
 con-pat-told-requires : (t : ℕ) → con-pat-lts.Need-told-requires (
   op-path-reads.Asked,
   op-path-reads.Learnt,
@@ -830,7 +785,6 @@ con-pat-told-requires : (t : ℕ) → con-pat-lts.Need-told-requires (
 ) (con-pat-at t) con-pat.Post
 con-pat-told-requires t c κs = search needs
 
--- src/lib.rt:81:22
 con-pat-enum-known-s1 : (t : ℕ) → con-pat-lts.Need-enum-known-s1 (
   op-path-reads.Asked,
   op-path-reads.Learnt,
@@ -841,7 +795,6 @@ con-pat-enum-known-s1 : (t : ℕ) → con-pat-lts.Need-enum-known-s1 (
 ) (con-pat-at t) con-pat.Post
 con-pat-enum-known-s1 t c = search needs
 
--- src/lib.rt:82:9
 con-pat-enum-told : (t : ℕ) → con-pat-lts.Need-enum-told (
   op-path-reads.Asked,
   op-path-reads.Learnt,
@@ -852,7 +805,6 @@ con-pat-enum-told : (t : ℕ) → con-pat-lts.Need-enum-told (
 ) (con-pat-at t) con-pat.Post
 con-pat-enum-told t c = search needs
 
--- src/lib.rt:82:9
 con-pat-same-length : (t : ℕ) → con-pat-lts.Need-same-length (
   op-path-reads.Asked,
   op-path-reads.Learnt,
@@ -863,7 +815,6 @@ con-pat-same-length : (t : ℕ) → con-pat-lts.Need-same-length (
 ) (con-pat-at t) con-pat.Post
 con-pat-same-length t c = c .before .before .before .before .before .op-path .kept .1 .1 .1 .1 .1 .0
 
--- src/lib.rt:82:9
 con-pat-returns : (t : ℕ) → con-pat-lts.Need-returns (
   op-path-reads.Asked,
   op-path-reads.Learnt,
@@ -875,7 +826,6 @@ con-pat-returns : (t : ℕ) → con-pat-lts.Need-returns (
 unfolding Pat.pat
 con-pat-returns t c = record { is = λ kinds. then-stop (plain (c .before .before .before .before .before .op-path .ensures)) (c .before .before .told .ensures) (c .enum-told .given .1) }
 
--- src/lib.rt:84:5
 con-pat-con-arg-requires : (t : ℕ) → con-pat-lts.Need-con-arg-requires (
   op-path-reads.Asked,
   op-path-reads.Learnt,
@@ -886,7 +836,6 @@ con-pat-con-arg-requires : (t : ℕ) → con-pat-lts.Need-con-arg-requires (
 ) (con-pat-at t) con-pat.Post
 con-pat-con-arg-requires t c κs = omega (arith, c .before .before .before .before .before .before .before .before .before .before .before .before .before .before .before .before .pre .0)
 
--- src/lib.rt:67:1
 con-pat-same-length-2 : (t : ℕ) → con-pat-lts.Need-same-length-2 (
   op-path-reads.Asked,
   op-path-reads.Learnt,
@@ -897,7 +846,6 @@ con-pat-same-length-2 : (t : ℕ) → con-pat-lts.Need-same-length-2 (
 ) (con-pat-at t) con-pat.Post
 con-pat-same-length-2 t c = c .before .before .con-arg .kept .1 .1 .1 .1 .1 .0 ∙ c .before .before .before .before .before .before .before .before .before .before .before .op-path .kept .1 .1 .1 .1 .1 .0
 
--- src/lib.rt:67:1
 con-pat-returns-2 : (t : ℕ) → con-pat-lts.Need-returns-2 (
   op-path-reads.Asked,
   op-path-reads.Learnt,
@@ -909,7 +857,6 @@ con-pat-returns-2 : (t : ℕ) → con-pat-lts.Need-returns-2 (
 unfolding Pat.pat
 con-pat-returns-2 t c = record { is = λ kinds. then-done (plain (c .before .before .before .before .before .before .before .before .before .before .before .op-path .ensures)) (c .before .before .before .before .before .before .before .before .told .ensures) (c .before .before .before .before .before .before .s1 .given .1) (plain (c .before .before .con-arg .ensures)) }
 
--- src/lib.rt:525:9
 get-pat-stop-requires : (t : ℕ) → get-pat-lts.Need-stop-requires (
   stop-reads.Asked,
   stop-reads.Learnt,
@@ -942,7 +889,6 @@ get-pat-stop-requires : (t : ℕ) → get-pat-lts.Need-stop-requires (
 ) (get-pat-at t) get-pat.Post
 get-pat-stop-requires t c κs = search needs
 
--- src/lib.rt:525:9
 get-pat-returns : (t : ℕ) → get-pat-lts.Need-returns (
   stop-reads.Asked,
   stop-reads.Learnt,
@@ -976,7 +922,6 @@ get-pat-returns : (t : ℕ) → get-pat-lts.Need-returns (
 unfolding Pat.pats Pat.pat
 get-pat-returns t c = record { is = λ kinds. pat-zero _ (c .before .if1 .taken) (c .stop .ensures) }
 
--- src/lib.rt:527:26
 get-pat-form-requires : (t : ℕ) → get-pat-lts.Need-form-requires (
   stop-reads.Asked,
   stop-reads.Learnt,
@@ -1009,7 +954,6 @@ get-pat-form-requires : (t : ℕ) → get-pat-lts.Need-form-requires (
 ) (get-pat-at t) get-pat.Post
 get-pat-form-requires t c κs = search needs
 
--- src/lib.rt:527:18
 get-pat-enum-known-k : (t : ℕ) → get-pat-lts.Need-enum-known-k (
   stop-reads.Asked,
   stop-reads.Learnt,
@@ -1042,7 +986,6 @@ get-pat-enum-known-k : (t : ℕ) → get-pat-lts.Need-enum-known-k (
 ) (get-pat-at t) get-pat.Post
 get-pat-enum-known-k t c = search needs
 
--- src/lib.rt:528:9
 get-pat-enum-told : (t : ℕ) → get-pat-lts.Need-enum-told (
   stop-reads.Asked,
   stop-reads.Learnt,
@@ -1075,7 +1018,6 @@ get-pat-enum-told : (t : ℕ) → get-pat-lts.Need-enum-told (
 ) (get-pat-at t) get-pat.Post
 get-pat-enum-told t c = search needs
 
--- src/lib.rt:528:9
 get-pat-stop-requires-2 : (t : ℕ) → get-pat-lts.Need-stop-requires-2 (
   stop-reads.Asked,
   stop-reads.Learnt,
@@ -1108,7 +1050,6 @@ get-pat-stop-requires-2 : (t : ℕ) → get-pat-lts.Need-stop-requires-2 (
 ) (get-pat-at t) get-pat.Post
 get-pat-stop-requires-2 t c κs = search needs
 
--- src/lib.rt:528:9
 get-pat-returns-2 : (t : ℕ) → get-pat-lts.Need-returns-2 (
   stop-reads.Asked,
   stop-reads.Learnt,
@@ -1142,7 +1083,6 @@ get-pat-returns-2 : (t : ℕ) → get-pat-lts.Need-returns-2 (
 unfolding Pat.pats Pat.pat
 get-pat-returns-2 t c = record { is = λ kinds. pat-form _ (c .before .before .before .before .if1 .left) (form-not (c .stop2 .ensures) (c .before .before .before .form .ensures) (c .before .enum-told .given .1)) }
 
--- src/lib.rt:533:15
 get-pat-sub-t17 : (t : ℕ) → get-pat-lts.Need-sub-t17 (
   stop-reads.Asked,
   stop-reads.Learnt,
@@ -1175,7 +1115,6 @@ get-pat-sub-t17 : (t : ℕ) → get-pat-lts.Need-sub-t17 (
 ) (get-pat-at t) get-pat.Post
 get-pat-sub-t17 t c = search needs
 
--- src/lib.rt:537:13
 get-pat-word-requires : (t : ℕ) → get-pat-lts.Need-word-requires (
   stop-reads.Asked,
   stop-reads.Learnt,
@@ -1208,7 +1147,6 @@ get-pat-word-requires : (t : ℕ) → get-pat-lts.Need-word-requires (
 ) (get-pat-at t) get-pat.Post
 get-pat-word-requires t c κs = search needs
 
--- src/lib.rt:540:14
 get-pat-text-of-requires : (t : ℕ) → get-pat-lts.Need-text-of-requires (
   stop-reads.Asked,
   stop-reads.Learnt,
@@ -1241,7 +1179,6 @@ get-pat-text-of-requires : (t : ℕ) → get-pat-lts.Need-text-of-requires (
 ) (get-pat-at t) get-pat.Post
 get-pat-text-of-requires t c κs = search needs
 
--- src/lib.rt:541:14
 get-pat-con-pat-requires : (t : ℕ) → get-pat-lts.Need-con-pat-requires (
   stop-reads.Asked,
   stop-reads.Learnt,
@@ -1274,7 +1211,6 @@ get-pat-con-pat-requires : (t : ℕ) → get-pat-lts.Need-con-pat-requires (
 ) (get-pat-at t) get-pat.Post
 get-pat-con-pat-requires t c κs = omega (arith, c .before .before .before .before .before .before .before .before .before .before .before .before .before .pre .0, c .before .before .before .before .before .before .before .if1 .left)
 
--- src/lib.rt:542:14
 get-pat-record-pat-requires : (t : ℕ) → get-pat-lts.Need-record-pat-requires (
   stop-reads.Asked,
   stop-reads.Learnt,
@@ -1307,7 +1243,6 @@ get-pat-record-pat-requires : (t : ℕ) → get-pat-lts.Need-record-pat-requires
 ) (get-pat-at t) get-pat.Post
 get-pat-record-pat-requires t c κs = omega (arith, c .before .before .before .before .before .before .before .before .before .before .before .before .before .pre .0, c .before .before .before .before .before .before .before .if1 .left)
 
--- src/lib.rt:543:14
 get-pat-paren-pat-requires : (t : ℕ) → get-pat-lts.Need-paren-pat-requires (
   stop-reads.Asked,
   stop-reads.Learnt,
@@ -1340,7 +1275,6 @@ get-pat-paren-pat-requires : (t : ℕ) → get-pat-lts.Need-paren-pat-requires (
 ) (get-pat-at t) get-pat.Post
 get-pat-paren-pat-requires t c κs = omega (arith, c .before .before .before .before .before .before .before .before .before .before .before .before .before .pre .0, c .before .before .before .before .before .before .before .if1 .left)
 
--- src/lib.rt:544:14
 get-pat-tuple-pat-requires : (t : ℕ) → get-pat-lts.Need-tuple-pat-requires (
   stop-reads.Asked,
   stop-reads.Learnt,
@@ -1373,7 +1307,6 @@ get-pat-tuple-pat-requires : (t : ℕ) → get-pat-lts.Need-tuple-pat-requires (
 ) (get-pat-at t) get-pat.Post
 get-pat-tuple-pat-requires t c κs = omega (arith, c .before .before .before .before .before .before .before .before .before .before .before .before .before .pre .0, c .before .before .before .before .before .before .before .if1 .left)
 
--- src/lib.rt:545:14
 get-pat-list-pat-requires : (t : ℕ) → get-pat-lts.Need-list-pat-requires (
   stop-reads.Asked,
   stop-reads.Learnt,
@@ -1406,7 +1339,6 @@ get-pat-list-pat-requires : (t : ℕ) → get-pat-lts.Need-list-pat-requires (
 ) (get-pat-at t) get-pat.Post
 get-pat-list-pat-requires t c κs = omega (arith, c .before .before .before .before .before .before .before .before .before .before .before .before .before .pre .0, c .before .before .before .before .before .before .before .if1 .left)
 
--- src/lib.rt:546:14
 get-pat-vector-pat-requires : (t : ℕ) → get-pat-lts.Need-vector-pat-requires (
   stop-reads.Asked,
   stop-reads.Learnt,
@@ -1439,7 +1371,6 @@ get-pat-vector-pat-requires : (t : ℕ) → get-pat-lts.Need-vector-pat-requires
 ) (get-pat-at t) get-pat.Post
 get-pat-vector-pat-requires t c κs = omega (arith, c .before .before .before .before .before .before .before .before .before .before .before .before .before .pre .0, c .before .before .before .before .before .before .before .if1 .left)
 
--- src/lib.rt:547:14
 get-pat-infix-pat-requires : (t : ℕ) → get-pat-lts.Need-infix-pat-requires (
   stop-reads.Asked,
   stop-reads.Learnt,
@@ -1472,7 +1403,6 @@ get-pat-infix-pat-requires : (t : ℕ) → get-pat-lts.Need-infix-pat-requires (
 ) (get-pat-at t) get-pat.Post
 get-pat-infix-pat-requires t c κs = omega (arith, c .before .before .before .before .before .before .before .before .before .before .before .before .before .pre .0, c .before .before .before .before .before .before .before .if1 .left)
 
--- src/lib.rt:548:14
 get-pat-typed-pat-requires : (t : ℕ) → get-pat-lts.Need-typed-pat-requires (
   stop-reads.Asked,
   stop-reads.Learnt,
@@ -1505,7 +1435,6 @@ get-pat-typed-pat-requires : (t : ℕ) → get-pat-lts.Need-typed-pat-requires (
 ) (get-pat-at t) get-pat.Post
 get-pat-typed-pat-requires t c κs = omega (arith, c .before .before .before .before .before .before .before .before .before .before .before .before .before .pre .0, c .before .before .before .before .before .before .before .if1 .left)
 
--- src/lib.rt:549:15
 get-pat-as-pat-requires : (t : ℕ) → get-pat-lts.Need-as-pat-requires (
   stop-reads.Asked,
   stop-reads.Learnt,
@@ -1538,7 +1467,6 @@ get-pat-as-pat-requires : (t : ℕ) → get-pat-lts.Need-as-pat-requires (
 ) (get-pat-at t) get-pat.Post
 get-pat-as-pat-requires t c κs = omega (arith, c .before .before .before .before .before .before .before .before .before .before .before .before .before .pre .0, c .before .before .before .before .before .before .before .if1 .left)
 
--- src/lib.rt:550:15
 get-pat-or-pat-requires : (t : ℕ) → get-pat-lts.Need-or-pat-requires (
   stop-reads.Asked,
   stop-reads.Learnt,
@@ -1571,7 +1499,6 @@ get-pat-or-pat-requires : (t : ℕ) → get-pat-lts.Need-or-pat-requires (
 ) (get-pat-at t) get-pat.Post
 get-pat-or-pat-requires t c κs = omega (arith, c .before .before .before .before .before .before .before .before .before .before .before .before .before .pre .0, c .before .before .before .before .before .before .before .if1 .left)
 
--- src/lib.rt:551:14
 get-pat-stop-requires-3 : (t : ℕ) → get-pat-lts.Need-stop-requires-3 (
   stop-reads.Asked,
   stop-reads.Learnt,
@@ -1604,7 +1531,6 @@ get-pat-stop-requires-3 : (t : ℕ) → get-pat-lts.Need-stop-requires-3 (
 ) (get-pat-at t) get-pat.Post
 get-pat-stop-requires-3 t c κs = search needs
 
--- src/lib.rt:510:1
 get-pat-same-length : (t : ℕ) → get-pat-lts.Need-same-length (
   stop-reads.Asked,
   stop-reads.Learnt,
@@ -1637,7 +1563,6 @@ get-pat-same-length : (t : ℕ) → get-pat-lts.Need-same-length (
 ) (get-pat-at t) get-pat.Post
 get-pat-same-length t c = c .before .before .word .kept .1 .1 .0
 
--- src/lib.rt:510:1
 get-pat-returns-3 : (t : ℕ) → get-pat-lts.Need-returns-3 (
   stop-reads.Asked,
   stop-reads.Learnt,
@@ -1671,7 +1596,6 @@ get-pat-returns-3 : (t : ℕ) → get-pat-lts.Need-returns-3 (
 unfolding Pat.pats Pat.pat
 get-pat-returns-3 t c = record { is = λ kinds. pat-form _ (c .before .before .before .before .before .before .before .before .before .before .if1 .left) (form-key (c .before .before .before .before .before .before .before .before .before .form .ensures) (c .before .before .before .before .before .before .before .k .given .1) (c .before .before .before .before .before .match2 .keys1) (last-sure (c .before .before .word .ensures))) }
 
--- src/lib.rt:510:1
 get-pat-same-length-2 : (t : ℕ) → get-pat-lts.Need-same-length-2 (
   stop-reads.Asked,
   stop-reads.Learnt,
@@ -1704,7 +1628,6 @@ get-pat-same-length-2 : (t : ℕ) → get-pat-lts.Need-same-length-2 (
 ) (get-pat-at t) get-pat.Post
 get-pat-same-length-2 t c = c .before .before .text-of .kept .1 .1 .1 .1 .1 .0
 
--- src/lib.rt:510:1
 get-pat-returns-4 : (t : ℕ) → get-pat-lts.Need-returns-4 (
   stop-reads.Asked,
   stop-reads.Learnt,
@@ -1738,7 +1661,6 @@ get-pat-returns-4 : (t : ℕ) → get-pat-lts.Need-returns-4 (
 unfolding Pat.pats Pat.pat
 get-pat-returns-4 t c = record { is = λ kinds. pat-form _ (c .before .before .before .before .before .before .before .before .before .before .if1 .left) (form-key (c .before .before .before .before .before .before .before .before .before .form .ensures) (c .before .before .before .before .before .before .before .k .given .1) (c .before .before .before .before .before .match2 .keys2) (plain (c .before .before .text-of .ensures))) }
 
--- src/lib.rt:510:1
 get-pat-same-length-3 : (t : ℕ) → get-pat-lts.Need-same-length-3 (
   stop-reads.Asked,
   stop-reads.Learnt,
@@ -1771,7 +1693,6 @@ get-pat-same-length-3 : (t : ℕ) → get-pat-lts.Need-same-length-3 (
 ) (get-pat-at t) get-pat.Post
 get-pat-same-length-3 t c = c .before .before .con-pat .kept .1 .1 .1 .1 .1 .0
 
--- src/lib.rt:510:1
 get-pat-returns-5 : (t : ℕ) → get-pat-lts.Need-returns-5 (
   stop-reads.Asked,
   stop-reads.Learnt,
@@ -1805,7 +1726,6 @@ get-pat-returns-5 : (t : ℕ) → get-pat-lts.Need-returns-5 (
 unfolding Pat.pats Pat.pat
 get-pat-returns-5 t c = record { is = λ kinds. pat-form _ (c .before .before .before .before .before .before .before .before .before .before .if1 .left) (form-key (c .before .before .before .before .before .before .before .before .before .form .ensures) (c .before .before .before .before .before .before .before .k .given .1) (c .before .before .before .before .before .match2 .keys3) (plain (c .before .before .con-pat .ensures))) }
 
--- src/lib.rt:510:1
 get-pat-same-length-4 : (t : ℕ) → get-pat-lts.Need-same-length-4 (
   stop-reads.Asked,
   stop-reads.Learnt,
@@ -1838,7 +1758,6 @@ get-pat-same-length-4 : (t : ℕ) → get-pat-lts.Need-same-length-4 (
 ) (get-pat-at t) get-pat.Post
 get-pat-same-length-4 t c = c .before .before .record-pat .kept .1 .1 .1 .1 .1 .0
 
--- src/lib.rt:510:1
 get-pat-returns-6 : (t : ℕ) → get-pat-lts.Need-returns-6 (
   stop-reads.Asked,
   stop-reads.Learnt,
@@ -1872,7 +1791,6 @@ get-pat-returns-6 : (t : ℕ) → get-pat-lts.Need-returns-6 (
 unfolding Pat.pats Pat.pat
 get-pat-returns-6 t c = record { is = λ kinds. pat-form _ (c .before .before .before .before .before .before .before .before .before .before .if1 .left) (form-key (c .before .before .before .before .before .before .before .before .before .form .ensures) (c .before .before .before .before .before .before .before .k .given .1) (c .before .before .before .before .before .match2 .keys4) (plain (c .before .before .record-pat .ensures))) }
 
--- src/lib.rt:510:1
 get-pat-same-length-5 : (t : ℕ) → get-pat-lts.Need-same-length-5 (
   stop-reads.Asked,
   stop-reads.Learnt,
@@ -1905,7 +1823,6 @@ get-pat-same-length-5 : (t : ℕ) → get-pat-lts.Need-same-length-5 (
 ) (get-pat-at t) get-pat.Post
 get-pat-same-length-5 t c = c .before .before .paren-pat .kept .1 .1 .1 .1 .1 .0
 
--- src/lib.rt:510:1
 get-pat-returns-7 : (t : ℕ) → get-pat-lts.Need-returns-7 (
   stop-reads.Asked,
   stop-reads.Learnt,
@@ -1939,7 +1856,6 @@ get-pat-returns-7 : (t : ℕ) → get-pat-lts.Need-returns-7 (
 unfolding Pat.pats Pat.pat
 get-pat-returns-7 t c = record { is = λ kinds. pat-form _ (c .before .before .before .before .before .before .before .before .before .before .if1 .left) (form-key (c .before .before .before .before .before .before .before .before .before .form .ensures) (c .before .before .before .before .before .before .before .k .given .1) (c .before .before .before .before .before .match2 .keys5) (plain (c .before .before .paren-pat .ensures))) }
 
--- src/lib.rt:510:1
 get-pat-same-length-6 : (t : ℕ) → get-pat-lts.Need-same-length-6 (
   stop-reads.Asked,
   stop-reads.Learnt,
@@ -1972,7 +1888,6 @@ get-pat-same-length-6 : (t : ℕ) → get-pat-lts.Need-same-length-6 (
 ) (get-pat-at t) get-pat.Post
 get-pat-same-length-6 t c = c .before .before .tuple-pat .kept .1 .1 .1 .1 .1 .0
 
--- src/lib.rt:510:1
 get-pat-returns-8 : (t : ℕ) → get-pat-lts.Need-returns-8 (
   stop-reads.Asked,
   stop-reads.Learnt,
@@ -2006,7 +1921,6 @@ get-pat-returns-8 : (t : ℕ) → get-pat-lts.Need-returns-8 (
 unfolding Pat.pats Pat.pat
 get-pat-returns-8 t c = record { is = λ kinds. pat-form _ (c .before .before .before .before .before .before .before .before .before .before .if1 .left) (form-key (c .before .before .before .before .before .before .before .before .before .form .ensures) (c .before .before .before .before .before .before .before .k .given .1) (c .before .before .before .before .before .match2 .keys6) (plain (c .before .before .tuple-pat .ensures))) }
 
--- src/lib.rt:510:1
 get-pat-same-length-7 : (t : ℕ) → get-pat-lts.Need-same-length-7 (
   stop-reads.Asked,
   stop-reads.Learnt,
@@ -2039,7 +1953,6 @@ get-pat-same-length-7 : (t : ℕ) → get-pat-lts.Need-same-length-7 (
 ) (get-pat-at t) get-pat.Post
 get-pat-same-length-7 t c = c .before .before .list-pat .kept .1 .1 .1 .1 .1 .0
 
--- src/lib.rt:510:1
 get-pat-returns-9 : (t : ℕ) → get-pat-lts.Need-returns-9 (
   stop-reads.Asked,
   stop-reads.Learnt,
@@ -2073,7 +1986,6 @@ get-pat-returns-9 : (t : ℕ) → get-pat-lts.Need-returns-9 (
 unfolding Pat.pats Pat.pat
 get-pat-returns-9 t c = record { is = λ kinds. pat-form _ (c .before .before .before .before .before .before .before .before .before .before .if1 .left) (form-key (c .before .before .before .before .before .before .before .before .before .form .ensures) (c .before .before .before .before .before .before .before .k .given .1) (c .before .before .before .before .before .match2 .keys7) (plain (c .before .before .list-pat .ensures))) }
 
--- src/lib.rt:510:1
 get-pat-same-length-8 : (t : ℕ) → get-pat-lts.Need-same-length-8 (
   stop-reads.Asked,
   stop-reads.Learnt,
@@ -2106,7 +2018,6 @@ get-pat-same-length-8 : (t : ℕ) → get-pat-lts.Need-same-length-8 (
 ) (get-pat-at t) get-pat.Post
 get-pat-same-length-8 t c = c .before .before .vector-pat .kept .1 .1 .1 .1 .1 .0
 
--- src/lib.rt:510:1
 get-pat-returns-10 : (t : ℕ) → get-pat-lts.Need-returns-10 (
   stop-reads.Asked,
   stop-reads.Learnt,
@@ -2140,7 +2051,6 @@ get-pat-returns-10 : (t : ℕ) → get-pat-lts.Need-returns-10 (
 unfolding Pat.pats Pat.pat
 get-pat-returns-10 t c = record { is = λ kinds. pat-form _ (c .before .before .before .before .before .before .before .before .before .before .if1 .left) (form-key (c .before .before .before .before .before .before .before .before .before .form .ensures) (c .before .before .before .before .before .before .before .k .given .1) (c .before .before .before .before .before .match2 .keys8) (plain (c .before .before .vector-pat .ensures))) }
 
--- src/lib.rt:510:1
 get-pat-same-length-9 : (t : ℕ) → get-pat-lts.Need-same-length-9 (
   stop-reads.Asked,
   stop-reads.Learnt,
@@ -2173,7 +2083,6 @@ get-pat-same-length-9 : (t : ℕ) → get-pat-lts.Need-same-length-9 (
 ) (get-pat-at t) get-pat.Post
 get-pat-same-length-9 t c = c .before .before .infix-pat .kept .1 .1 .1 .1 .1 .0
 
--- src/lib.rt:510:1
 get-pat-returns-11 : (t : ℕ) → get-pat-lts.Need-returns-11 (
   stop-reads.Asked,
   stop-reads.Learnt,
@@ -2207,7 +2116,6 @@ get-pat-returns-11 : (t : ℕ) → get-pat-lts.Need-returns-11 (
 unfolding Pat.pats Pat.pat
 get-pat-returns-11 t c = record { is = λ kinds. pat-form _ (c .before .before .before .before .before .before .before .before .before .before .if1 .left) (form-key (c .before .before .before .before .before .before .before .before .before .form .ensures) (c .before .before .before .before .before .before .before .k .given .1) (c .before .before .before .before .before .match2 .keys9) (plain (c .before .before .infix-pat .ensures))) }
 
--- src/lib.rt:510:1
 get-pat-same-length-10 : (t : ℕ) → get-pat-lts.Need-same-length-10 (
   stop-reads.Asked,
   stop-reads.Learnt,
@@ -2240,7 +2148,6 @@ get-pat-same-length-10 : (t : ℕ) → get-pat-lts.Need-same-length-10 (
 ) (get-pat-at t) get-pat.Post
 get-pat-same-length-10 t c = c .before .before .typed-pat .kept .1 .1 .1 .1 .1 .0
 
--- src/lib.rt:510:1
 get-pat-returns-12 : (t : ℕ) → get-pat-lts.Need-returns-12 (
   stop-reads.Asked,
   stop-reads.Learnt,
@@ -2274,7 +2181,6 @@ get-pat-returns-12 : (t : ℕ) → get-pat-lts.Need-returns-12 (
 unfolding Pat.pats Pat.pat
 get-pat-returns-12 t c = record { is = λ kinds. pat-form _ (c .before .before .before .before .before .before .before .before .before .before .if1 .left) (form-key (c .before .before .before .before .before .before .before .before .before .form .ensures) (c .before .before .before .before .before .before .before .k .given .1) (c .before .before .before .before .before .match2 .keys10) (plain (c .before .before .typed-pat .ensures))) }
 
--- src/lib.rt:510:1
 get-pat-same-length-11 : (t : ℕ) → get-pat-lts.Need-same-length-11 (
   stop-reads.Asked,
   stop-reads.Learnt,
@@ -2307,7 +2213,6 @@ get-pat-same-length-11 : (t : ℕ) → get-pat-lts.Need-same-length-11 (
 ) (get-pat-at t) get-pat.Post
 get-pat-same-length-11 t c = c .before .before .as-pat .kept .1 .1 .1 .1 .1 .0
 
--- src/lib.rt:510:1
 get-pat-returns-13 : (t : ℕ) → get-pat-lts.Need-returns-13 (
   stop-reads.Asked,
   stop-reads.Learnt,
@@ -2341,7 +2246,6 @@ get-pat-returns-13 : (t : ℕ) → get-pat-lts.Need-returns-13 (
 unfolding Pat.pats Pat.pat
 get-pat-returns-13 t c = record { is = λ kinds. pat-form _ (c .before .before .before .before .before .before .before .before .before .before .if1 .left) (form-key (c .before .before .before .before .before .before .before .before .before .form .ensures) (c .before .before .before .before .before .before .before .k .given .1) (c .before .before .before .before .before .match2 .keys11) (plain (c .before .before .as-pat .ensures))) }
 
--- src/lib.rt:510:1
 get-pat-same-length-12 : (t : ℕ) → get-pat-lts.Need-same-length-12 (
   stop-reads.Asked,
   stop-reads.Learnt,
@@ -2374,7 +2278,6 @@ get-pat-same-length-12 : (t : ℕ) → get-pat-lts.Need-same-length-12 (
 ) (get-pat-at t) get-pat.Post
 get-pat-same-length-12 t c = c .before .before .or-pat .kept .1 .1 .1 .1 .1 .0
 
--- src/lib.rt:510:1
 get-pat-returns-14 : (t : ℕ) → get-pat-lts.Need-returns-14 (
   stop-reads.Asked,
   stop-reads.Learnt,
@@ -2408,7 +2311,6 @@ get-pat-returns-14 : (t : ℕ) → get-pat-lts.Need-returns-14 (
 unfolding Pat.pats Pat.pat
 get-pat-returns-14 t c = record { is = λ kinds. pat-form _ (c .before .before .before .before .before .before .before .before .before .before .if1 .left) (form-key (c .before .before .before .before .before .before .before .before .before .form .ensures) (c .before .before .before .before .before .before .before .k .given .1) (c .before .before .before .before .before .match2 .keys12) (plain (c .before .before .or-pat .ensures))) }
 
--- src/lib.rt:510:1
 get-pat-returns-15 : (t : ℕ) → get-pat-lts.Need-returns-15 (
   stop-reads.Asked,
   stop-reads.Learnt,
@@ -2442,7 +2344,6 @@ get-pat-returns-15 : (t : ℕ) → get-pat-lts.Need-returns-15 (
 unfolding Pat.pats Pat.pat
 get-pat-returns-15 t c = record { is = λ kinds. pat-form _ (c .before .before .before .before .before .before .if1 .left) (by-same (form-is (c .before .before .before .before .before .form .ensures) (c .before .before .before .k .given .1)) (beyond (Pat.pats (walks (c .before .before .before .before .before .before .before .before .before .before .before .before .args .cfg .left - 1))) (c .before .before .before .k .given .0 .0) 12 refl (past (past (past (past (past (past (past (past (past (past (past (past zero-le (c .before .match2 .rest .0 .0 .0 .0 .0 .0 .0 .0 .0 .0 .0 .1)) (c .before .match2 .rest .0 .0 .0 .0 .0 .0 .0 .0 .0 .0 .1)) (c .before .match2 .rest .0 .0 .0 .0 .0 .0 .0 .0 .0 .1)) (c .before .match2 .rest .0 .0 .0 .0 .0 .0 .0 .0 .1)) (c .before .match2 .rest .0 .0 .0 .0 .0 .0 .0 .1)) (c .before .match2 .rest .0 .0 .0 .0 .0 .0 .1)) (c .before .match2 .rest .0 .0 .0 .0 .0 .1)) (c .before .match2 .rest .0 .0 .0 .0 .1)) (c .before .match2 .rest .0 .0 .0 .1)) (c .before .match2 .rest .0 .0 .1)) (c .before .match2 .rest .0 .1)) (c .before .match2 .rest .1)) (c .stop3 .ensures))) }
 
--- src/lib.rt:426:9
 infix-pat-get-pat-requires : (t : ℕ) → infix-pat-lts.Need-get-pat-requires (
   get-pat-below t,
   get-pat.Post,
@@ -2455,7 +2356,6 @@ infix-pat-get-pat-requires : (t : ℕ) → infix-pat-lts.Need-get-pat-requires (
 ) (infix-pat-at t) infix-pat.Post
 infix-pat-get-pat-requires t c κs = omega (arith, c .before .before .before .before .before .before .before .pre .0)
 
--- src/lib.rt:427:28
 infix-pat-told-requires : (t : ℕ) → infix-pat-lts.Need-told-requires (
   get-pat-below t,
   get-pat.Post,
@@ -2468,7 +2368,6 @@ infix-pat-told-requires : (t : ℕ) → infix-pat-lts.Need-told-requires (
 ) (infix-pat-at t) infix-pat.Post
 infix-pat-told-requires t c κs = search needs
 
--- src/lib.rt:427:22
 infix-pat-enum-known-s1 : (t : ℕ) → infix-pat-lts.Need-enum-known-s1 (
   get-pat-below t,
   get-pat.Post,
@@ -2481,7 +2380,6 @@ infix-pat-enum-known-s1 : (t : ℕ) → infix-pat-lts.Need-enum-known-s1 (
 ) (infix-pat-at t) infix-pat.Post
 infix-pat-enum-known-s1 t c = search needs
 
--- src/lib.rt:428:9
 infix-pat-enum-told : (t : ℕ) → infix-pat-lts.Need-enum-told (
   get-pat-below t,
   get-pat.Post,
@@ -2494,7 +2392,6 @@ infix-pat-enum-told : (t : ℕ) → infix-pat-lts.Need-enum-told (
 ) (infix-pat-at t) infix-pat.Post
 infix-pat-enum-told t c = search needs
 
--- src/lib.rt:428:9
 infix-pat-same-length : (t : ℕ) → infix-pat-lts.Need-same-length (
   get-pat-below t,
   get-pat.Post,
@@ -2507,7 +2404,6 @@ infix-pat-same-length : (t : ℕ) → infix-pat-lts.Need-same-length (
 ) (infix-pat-at t) infix-pat.Post
 infix-pat-same-length t c = c .before .before .before .before .before .get-pat .kept .1 .1 .1 .1 .1 .0
 
--- src/lib.rt:428:9
 infix-pat-returns : (t : ℕ) → infix-pat-lts.Need-returns (
   get-pat-below t,
   get-pat.Post,
@@ -2521,7 +2417,6 @@ infix-pat-returns : (t : ℕ) → infix-pat-lts.Need-returns (
 unfolding Pat.pat
 infix-pat-returns t c = record { is = λ kinds. then-stop (plain (c .before .before .before .before .before .get-pat .ensures)) (c .before .before .told .ensures) (c .enum-told .given .1) }
 
--- src/lib.rt:430:5
 infix-pat-word-requires : (t : ℕ) → infix-pat-lts.Need-word-requires (
   get-pat-below t,
   get-pat.Post,
@@ -2534,7 +2429,6 @@ infix-pat-word-requires : (t : ℕ) → infix-pat-lts.Need-word-requires (
 ) (infix-pat-at t) infix-pat.Post
 infix-pat-word-requires t c κs = search needs
 
--- src/lib.rt:431:9
 infix-pat-text-of-requires : (t : ℕ) → infix-pat-lts.Need-text-of-requires (
   get-pat-below t,
   get-pat.Post,
@@ -2547,7 +2441,6 @@ infix-pat-text-of-requires : (t : ℕ) → infix-pat-lts.Need-text-of-requires (
 ) (infix-pat-at t) infix-pat.Post
 infix-pat-text-of-requires t c κs = search needs
 
--- src/lib.rt:432:28
 infix-pat-told-requires-2 : (t : ℕ) → infix-pat-lts.Need-told-requires-2 (
   get-pat-below t,
   get-pat.Post,
@@ -2560,7 +2453,6 @@ infix-pat-told-requires-2 : (t : ℕ) → infix-pat-lts.Need-told-requires-2 (
 ) (infix-pat-at t) infix-pat.Post
 infix-pat-told-requires-2 t c κs = search needs
 
--- src/lib.rt:432:22
 infix-pat-enum-known-s2 : (t : ℕ) → infix-pat-lts.Need-enum-known-s2 (
   get-pat-below t,
   get-pat.Post,
@@ -2573,7 +2465,6 @@ infix-pat-enum-known-s2 : (t : ℕ) → infix-pat-lts.Need-enum-known-s2 (
 ) (infix-pat-at t) infix-pat.Post
 infix-pat-enum-known-s2 t c = search needs
 
--- src/lib.rt:433:9
 infix-pat-enum-told-2 : (t : ℕ) → infix-pat-lts.Need-enum-told-2 (
   get-pat-below t,
   get-pat.Post,
@@ -2586,7 +2477,6 @@ infix-pat-enum-told-2 : (t : ℕ) → infix-pat-lts.Need-enum-told-2 (
 ) (infix-pat-at t) infix-pat.Post
 infix-pat-enum-told-2 t c = search needs
 
--- src/lib.rt:433:9
 infix-pat-same-length-2 : (t : ℕ) → infix-pat-lts.Need-same-length-2 (
   get-pat-below t,
   get-pat.Post,
@@ -2599,7 +2489,6 @@ infix-pat-same-length-2 : (t : ℕ) → infix-pat-lts.Need-same-length-2 (
 ) (infix-pat-at t) infix-pat.Post
 infix-pat-same-length-2 t c = c .before .before .before .before .before .text-of .kept .1 .1 .1 .1 .1 .0 ∙ c .before .before .before .before .before .before .before .before .before .before .word .kept .1 .1 .0 ∙ c .before .before .before .before .before .before .before .before .before .before .before .before .before .before .before .before .before .before .before .get-pat .kept .1 .1 .1 .1 .1 .0
 
--- src/lib.rt:433:9
 infix-pat-returns-2 : (t : ℕ) → infix-pat-lts.Need-returns-2 (
   get-pat-below t,
   get-pat.Post,
@@ -2613,7 +2502,6 @@ infix-pat-returns-2 : (t : ℕ) → infix-pat-lts.Need-returns-2 (
 unfolding Pat.pat
 infix-pat-returns-2 t c = record { is = λ kinds. then-done (plain (c .before .before .before .before .before .before .before .before .before .before .before .before .before .before .before .before .before .before .before .get-pat .ensures)) (c .before .before .before .before .before .before .before .before .before .before .before .before .before .before .before .before .told .ensures) (c .before .before .before .before .before .before .before .before .before .before .before .before .before .before .s1 .given .1) (then-sure (c .before .before .before .before .before .before .before .before .before .before .word .ensures) (then-stop (plain (c .before .before .before .before .before .text-of .ensures)) (c .before .before .told2 .ensures) (c .enum-told2 .given .1))) }
 
--- src/lib.rt:435:5
 infix-pat-word-requires-2 : (t : ℕ) → infix-pat-lts.Need-word-requires-2 (
   get-pat-below t,
   get-pat.Post,
@@ -2626,7 +2514,6 @@ infix-pat-word-requires-2 : (t : ℕ) → infix-pat-lts.Need-word-requires-2 (
 ) (infix-pat-at t) infix-pat.Post
 infix-pat-word-requires-2 t c κs = search needs
 
--- src/lib.rt:436:5
 infix-pat-get-pat-requires-2 : (t : ℕ) → infix-pat-lts.Need-get-pat-requires-2 (
   get-pat-below t,
   get-pat.Post,
@@ -2639,7 +2526,6 @@ infix-pat-get-pat-requires-2 : (t : ℕ) → infix-pat-lts.Need-get-pat-requires
 ) (infix-pat-at t) infix-pat.Post
 infix-pat-get-pat-requires-2 t c κs = omega (arith, c .before .before .before .before .before .before .before .before .before .before .before .before .before .before .before .before .before .before .before .before .before .before .before .before .before .before .before .before .before .before .before .before .before .before .before .pre .0)
 
--- src/lib.rt:413:1
 infix-pat-same-length-3 : (t : ℕ) → infix-pat-lts.Need-same-length-3 (
   get-pat-below t,
   get-pat.Post,
@@ -2652,7 +2538,6 @@ infix-pat-same-length-3 : (t : ℕ) → infix-pat-lts.Need-same-length-3 (
 ) (infix-pat-at t) infix-pat.Post
 infix-pat-same-length-3 t c = c .before .before .get-pat2 .kept .1 .1 .1 .1 .1 .0 ∙ c .before .before .before .before .before .before .before .word2 .kept .1 .1 .0 ∙ c .before .before .before .before .before .before .before .before .before .before .before .before .before .before .before .before .text-of .kept .1 .1 .1 .1 .1 .0 ∙ c .before .before .before .before .before .before .before .before .before .before .before .before .before .before .before .before .before .before .before .before .before .word .kept .1 .1 .0 ∙ c .before .before .before .before .before .before .before .before .before .before .before .before .before .before .before .before .before .before .before .before .before .before .before .before .before .before .before .before .before .before .get-pat .kept .1 .1 .1 .1 .1 .0
 
--- src/lib.rt:413:1
 infix-pat-returns-3 : (t : ℕ) → infix-pat-lts.Need-returns-3 (
   get-pat-below t,
   get-pat.Post,
@@ -2666,7 +2551,6 @@ infix-pat-returns-3 : (t : ℕ) → infix-pat-lts.Need-returns-3 (
 unfolding Pat.pat
 infix-pat-returns-3 t c = record { is = λ kinds. then-done (plain (c .before .before .before .before .before .before .before .before .before .before .before .before .before .before .before .before .before .before .before .before .before .before .before .before .before .before .before .before .before .before .get-pat .ensures)) (c .before .before .before .before .before .before .before .before .before .before .before .before .before .before .before .before .before .before .before .before .before .before .before .before .before .before .before .told .ensures) (c .before .before .before .before .before .before .before .before .before .before .before .before .before .before .before .before .before .before .before .before .before .before .before .before .before .s1 .given .1) (then-sure (c .before .before .before .before .before .before .before .before .before .before .before .before .before .before .before .before .before .before .before .before .before .word .ensures) (then-done (plain (c .before .before .before .before .before .before .before .before .before .before .before .before .before .before .before .before .text-of .ensures)) (c .before .before .before .before .before .before .before .before .before .before .before .before .before .told2 .ensures) (c .before .before .before .before .before .before .before .before .before .before .before .s2 .given .1) (then-sure (c .before .before .before .before .before .before .before .word2 .ensures) (plain (c .before .before .get-pat2 .ensures))))) }
 
--- src/lib.rt:101:9
 lab-and-pat-text-of-requires : (t : ℕ) → lab-and-pat-lts.Need-text-of-requires (
   text-of-reads.Asked,
   text-of-reads.Learnt,
@@ -2679,7 +2563,6 @@ lab-and-pat-text-of-requires : (t : ℕ) → lab-and-pat-lts.Need-text-of-requir
 ) (lab-and-pat-at t) lab-and-pat.Post
 lab-and-pat-text-of-requires t c κs = search needs
 
--- src/lib.rt:102:28
 lab-and-pat-told-requires : (t : ℕ) → lab-and-pat-lts.Need-told-requires (
   text-of-reads.Asked,
   text-of-reads.Learnt,
@@ -2692,7 +2575,6 @@ lab-and-pat-told-requires : (t : ℕ) → lab-and-pat-lts.Need-told-requires (
 ) (lab-and-pat-at t) lab-and-pat.Post
 lab-and-pat-told-requires t c κs = search needs
 
--- src/lib.rt:102:22
 lab-and-pat-enum-known-s1 : (t : ℕ) → lab-and-pat-lts.Need-enum-known-s1 (
   text-of-reads.Asked,
   text-of-reads.Learnt,
@@ -2705,7 +2587,6 @@ lab-and-pat-enum-known-s1 : (t : ℕ) → lab-and-pat-lts.Need-enum-known-s1 (
 ) (lab-and-pat-at t) lab-and-pat.Post
 lab-and-pat-enum-known-s1 t c = search needs
 
--- src/lib.rt:103:9
 lab-and-pat-enum-told : (t : ℕ) → lab-and-pat-lts.Need-enum-told (
   text-of-reads.Asked,
   text-of-reads.Learnt,
@@ -2718,7 +2599,6 @@ lab-and-pat-enum-told : (t : ℕ) → lab-and-pat-lts.Need-enum-told (
 ) (lab-and-pat-at t) lab-and-pat.Post
 lab-and-pat-enum-told t c = search needs
 
--- src/lib.rt:103:9
 lab-and-pat-same-length : (t : ℕ) → lab-and-pat-lts.Need-same-length (
   text-of-reads.Asked,
   text-of-reads.Learnt,
@@ -2731,7 +2611,6 @@ lab-and-pat-same-length : (t : ℕ) → lab-and-pat-lts.Need-same-length (
 ) (lab-and-pat-at t) lab-and-pat.Post
 lab-and-pat-same-length t c = c .before .before .before .before .before .text-of .kept .1 .1 .1 .1 .1 .0
 
--- src/lib.rt:103:9
 lab-and-pat-returns : (t : ℕ) → lab-and-pat-lts.Need-returns (
   text-of-reads.Asked,
   text-of-reads.Learnt,
@@ -2745,7 +2624,6 @@ lab-and-pat-returns : (t : ℕ) → lab-and-pat-lts.Need-returns (
 unfolding Pat.LabAndPatPatRow
 lab-and-pat-returns t c = record { is = λ kinds. then-stop (plain (c .before .before .before .before .before .text-of .ensures)) (c .before .before .told .ensures) (c .enum-told .given .1) }
 
--- src/lib.rt:105:5
 lab-and-pat-word-requires : (t : ℕ) → lab-and-pat-lts.Need-word-requires (
   text-of-reads.Asked,
   text-of-reads.Learnt,
@@ -2758,7 +2636,6 @@ lab-and-pat-word-requires : (t : ℕ) → lab-and-pat-lts.Need-word-requires (
 ) (lab-and-pat-at t) lab-and-pat.Post
 lab-and-pat-word-requires t c κs = search needs
 
--- src/lib.rt:106:5
 lab-and-pat-get-pat-requires : (t : ℕ) → lab-and-pat-lts.Need-get-pat-requires (
   text-of-reads.Asked,
   text-of-reads.Learnt,
@@ -2771,7 +2648,6 @@ lab-and-pat-get-pat-requires : (t : ℕ) → lab-and-pat-lts.Need-get-pat-requir
 ) (lab-and-pat-at t) lab-and-pat.Post
 lab-and-pat-get-pat-requires t c κs = omega (arith, c .before .before .before .before .before .before .before .before .before .before .before .before .before .before .before .before .before .before .before .before .before .pre .0)
 
--- src/lib.rt:88:1
 lab-and-pat-same-length-2 : (t : ℕ) → lab-and-pat-lts.Need-same-length-2 (
   text-of-reads.Asked,
   text-of-reads.Learnt,
@@ -2784,7 +2660,6 @@ lab-and-pat-same-length-2 : (t : ℕ) → lab-and-pat-lts.Need-same-length-2 (
 ) (lab-and-pat-at t) lab-and-pat.Post
 lab-and-pat-same-length-2 t c = c .before .before .get-pat .kept .1 .1 .1 .1 .1 .0 ∙ c .before .before .before .before .before .before .before .word .kept .1 .1 .0 ∙ c .before .before .before .before .before .before .before .before .before .before .before .before .before .before .before .before .text-of .kept .1 .1 .1 .1 .1 .0
 
--- src/lib.rt:88:1
 lab-and-pat-returns-2 : (t : ℕ) → lab-and-pat-lts.Need-returns-2 (
   text-of-reads.Asked,
   text-of-reads.Learnt,
@@ -2798,7 +2673,6 @@ lab-and-pat-returns-2 : (t : ℕ) → lab-and-pat-lts.Need-returns-2 (
 unfolding Pat.LabAndPatPatRow
 lab-and-pat-returns-2 t c = record { is = λ kinds. then-done (plain (c .before .before .before .before .before .before .before .before .before .before .before .before .before .before .before .before .text-of .ensures)) (c .before .before .before .before .before .before .before .before .before .before .before .before .before .told .ensures) (c .before .before .before .before .before .before .before .before .before .before .before .s1 .given .1) (then-sure (c .before .before .before .before .before .before .before .word .ensures) (plain (c .before .before .get-pat .ensures))) }
 
--- src/lib.rt:166:9
 lab-pat-text-of-requires : (t : ℕ) → lab-pat-lts.Need-text-of-requires (
   text-of-reads.Asked,
   text-of-reads.Learnt,
@@ -2811,7 +2685,6 @@ lab-pat-text-of-requires : (t : ℕ) → lab-pat-lts.Need-text-of-requires (
 ) (lab-pat-at t) lab-pat.Post
 lab-pat-text-of-requires t c κs = search needs
 
--- src/lib.rt:167:28
 lab-pat-told-requires : (t : ℕ) → lab-pat-lts.Need-told-requires (
   text-of-reads.Asked,
   text-of-reads.Learnt,
@@ -2824,7 +2697,6 @@ lab-pat-told-requires : (t : ℕ) → lab-pat-lts.Need-told-requires (
 ) (lab-pat-at t) lab-pat.Post
 lab-pat-told-requires t c κs = search needs
 
--- src/lib.rt:167:22
 lab-pat-enum-known-s1 : (t : ℕ) → lab-pat-lts.Need-enum-known-s1 (
   text-of-reads.Asked,
   text-of-reads.Learnt,
@@ -2837,7 +2709,6 @@ lab-pat-enum-known-s1 : (t : ℕ) → lab-pat-lts.Need-enum-known-s1 (
 ) (lab-pat-at t) lab-pat.Post
 lab-pat-enum-known-s1 t c = search needs
 
--- src/lib.rt:168:9
 lab-pat-enum-told : (t : ℕ) → lab-pat-lts.Need-enum-told (
   text-of-reads.Asked,
   text-of-reads.Learnt,
@@ -2850,7 +2721,6 @@ lab-pat-enum-told : (t : ℕ) → lab-pat-lts.Need-enum-told (
 ) (lab-pat-at t) lab-pat.Post
 lab-pat-enum-told t c = search needs
 
--- src/lib.rt:168:9
 lab-pat-same-length : (t : ℕ) → lab-pat-lts.Need-same-length (
   text-of-reads.Asked,
   text-of-reads.Learnt,
@@ -2863,7 +2733,6 @@ lab-pat-same-length : (t : ℕ) → lab-pat-lts.Need-same-length (
 ) (lab-pat-at t) lab-pat.Post
 lab-pat-same-length t c = c .before .before .before .before .before .text-of .kept .1 .1 .1 .1 .1 .0
 
--- src/lib.rt:168:9
 lab-pat-returns : (t : ℕ) → lab-pat-lts.Need-returns (
   text-of-reads.Asked,
   text-of-reads.Learnt,
@@ -2877,7 +2746,6 @@ lab-pat-returns : (t : ℕ) → lab-pat-lts.Need-returns (
 unfolding Pat.LabPatRow
 lab-pat-returns t c = record { is = λ kinds. then-stop (plain (c .before .before .before .before .before .text-of .ensures)) (c .before .before .told .ensures) (c .enum-told .given .1) }
 
--- src/lib.rt:170:9
 lab-pat-ty-annotation-requires : (t : ℕ) → lab-pat-lts.Need-ty-annotation-requires (
   text-of-reads.Asked,
   text-of-reads.Learnt,
@@ -2890,7 +2758,6 @@ lab-pat-ty-annotation-requires : (t : ℕ) → lab-pat-lts.Need-ty-annotation-re
 ) (lab-pat-at t) lab-pat.Post
 lab-pat-ty-annotation-requires t c κs = search needs
 
--- src/lib.rt:171:28
 lab-pat-told-requires-2 : (t : ℕ) → lab-pat-lts.Need-told-requires-2 (
   text-of-reads.Asked,
   text-of-reads.Learnt,
@@ -2903,7 +2770,6 @@ lab-pat-told-requires-2 : (t : ℕ) → lab-pat-lts.Need-told-requires-2 (
 ) (lab-pat-at t) lab-pat.Post
 lab-pat-told-requires-2 t c κs = search needs
 
--- src/lib.rt:171:22
 lab-pat-enum-known-s2 : (t : ℕ) → lab-pat-lts.Need-enum-known-s2 (
   text-of-reads.Asked,
   text-of-reads.Learnt,
@@ -2916,7 +2782,6 @@ lab-pat-enum-known-s2 : (t : ℕ) → lab-pat-lts.Need-enum-known-s2 (
 ) (lab-pat-at t) lab-pat.Post
 lab-pat-enum-known-s2 t c = search needs
 
--- src/lib.rt:172:9
 lab-pat-enum-told-2 : (t : ℕ) → lab-pat-lts.Need-enum-told-2 (
   text-of-reads.Asked,
   text-of-reads.Learnt,
@@ -2929,7 +2794,6 @@ lab-pat-enum-told-2 : (t : ℕ) → lab-pat-lts.Need-enum-told-2 (
 ) (lab-pat-at t) lab-pat.Post
 lab-pat-enum-told-2 t c = search needs
 
--- src/lib.rt:172:9
 lab-pat-same-length-2 : (t : ℕ) → lab-pat-lts.Need-same-length-2 (
   text-of-reads.Asked,
   text-of-reads.Learnt,
@@ -2942,7 +2806,6 @@ lab-pat-same-length-2 : (t : ℕ) → lab-pat-lts.Need-same-length-2 (
 ) (lab-pat-at t) lab-pat.Post
 lab-pat-same-length-2 t c = c .before .before .before .before .before .ty-annotation .kept .1 .1 .1 .1 .1 .0 ∙ c .before .before .before .before .before .before .before .before .before .before .before .before .before .before .text-of .kept .1 .1 .1 .1 .1 .0
 
--- src/lib.rt:172:9
 lab-pat-returns-2 : (t : ℕ) → lab-pat-lts.Need-returns-2 (
   text-of-reads.Asked,
   text-of-reads.Learnt,
@@ -2956,7 +2819,6 @@ lab-pat-returns-2 : (t : ℕ) → lab-pat-lts.Need-returns-2 (
 unfolding Pat.LabPatRow
 lab-pat-returns-2 t c = record { is = λ kinds. then-done (plain (c .before .before .before .before .before .before .before .before .before .before .before .before .before .before .text-of .ensures)) (c .before .before .before .before .before .before .before .before .before .before .before .told .ensures) (c .before .before .before .before .before .before .before .before .before .s1 .given .1) (then-stop (plain (c .before .before .before .before .before .ty-annotation .ensures)) (c .before .before .told2 .ensures) (c .enum-told2 .given .1)) }
 
--- src/lib.rt:174:5
 lab-pat-as-tail-requires : (t : ℕ) → lab-pat-lts.Need-as-tail-requires (
   text-of-reads.Asked,
   text-of-reads.Learnt,
@@ -2969,7 +2831,6 @@ lab-pat-as-tail-requires : (t : ℕ) → lab-pat-lts.Need-as-tail-requires (
 ) (lab-pat-at t) lab-pat.Post
 lab-pat-as-tail-requires t c κs = omega (arith, c .before .before .before .before .before .before .before .before .before .before .before .before .before .before .before .before .before .before .before .before .before .before .before .before .before .pre .0)
 
--- src/lib.rt:153:1
 lab-pat-same-length-3 : (t : ℕ) → lab-pat-lts.Need-same-length-3 (
   text-of-reads.Asked,
   text-of-reads.Learnt,
@@ -2982,7 +2843,6 @@ lab-pat-same-length-3 : (t : ℕ) → lab-pat-lts.Need-same-length-3 (
 ) (lab-pat-at t) lab-pat.Post
 lab-pat-same-length-3 t c = c .before .before .as-tail .kept .1 .1 .1 .1 .1 .0 ∙ c .before .before .before .before .before .before .before .before .before .before .before .ty-annotation .kept .1 .1 .1 .1 .1 .0 ∙ c .before .before .before .before .before .before .before .before .before .before .before .before .before .before .before .before .before .before .before .before .text-of .kept .1 .1 .1 .1 .1 .0
 
--- src/lib.rt:153:1
 lab-pat-returns-3 : (t : ℕ) → lab-pat-lts.Need-returns-3 (
   text-of-reads.Asked,
   text-of-reads.Learnt,
@@ -2996,7 +2856,6 @@ lab-pat-returns-3 : (t : ℕ) → lab-pat-lts.Need-returns-3 (
 unfolding Pat.LabPatRow
 lab-pat-returns-3 t c = record { is = λ kinds. then-done (plain (c .before .before .before .before .before .before .before .before .before .before .before .before .before .before .before .before .before .before .before .before .text-of .ensures)) (c .before .before .before .before .before .before .before .before .before .before .before .before .before .before .before .before .before .told .ensures) (c .before .before .before .before .before .before .before .before .before .before .before .before .before .before .before .s1 .given .1) (then-done (plain (c .before .before .before .before .before .before .before .before .before .before .before .ty-annotation .ensures)) (c .before .before .before .before .before .before .before .before .told2 .ensures) (c .before .before .before .before .before .before .s2 .given .1) (plain (c .before .before .as-tail .ensures))) }
 
--- src/lib.rt:376:5
 list-pat-word-requires : (t : ℕ) → list-pat-lts.Need-word-requires (
   word-reads.Asked,
   word-reads.Learnt,
@@ -3007,7 +2866,6 @@ list-pat-word-requires : (t : ℕ) → list-pat-lts.Need-word-requires (
 ) (list-pat-at t) list-pat.Post
 list-pat-word-requires t c κs = search needs
 
--- src/lib.rt:377:9
 list-pat-pat-args-requires : (t : ℕ) → list-pat-lts.Need-pat-args-requires (
   word-reads.Asked,
   word-reads.Learnt,
@@ -3018,7 +2876,6 @@ list-pat-pat-args-requires : (t : ℕ) → list-pat-lts.Need-pat-args-requires (
 ) (list-pat-at t) list-pat.Post
 list-pat-pat-args-requires t c κs = omega (arith, c .before .before .before .before .before .before .before .before .before .before .before .before .pre .0)
 
--- src/lib.rt:378:28
 list-pat-told-requires : (t : ℕ) → list-pat-lts.Need-told-requires (
   word-reads.Asked,
   word-reads.Learnt,
@@ -3029,7 +2886,6 @@ list-pat-told-requires : (t : ℕ) → list-pat-lts.Need-told-requires (
 ) (list-pat-at t) list-pat.Post
 list-pat-told-requires t c κs = search needs
 
--- src/lib.rt:378:22
 list-pat-enum-known-s1 : (t : ℕ) → list-pat-lts.Need-enum-known-s1 (
   word-reads.Asked,
   word-reads.Learnt,
@@ -3040,7 +2896,6 @@ list-pat-enum-known-s1 : (t : ℕ) → list-pat-lts.Need-enum-known-s1 (
 ) (list-pat-at t) list-pat.Post
 list-pat-enum-known-s1 t c = search needs
 
--- src/lib.rt:379:9
 list-pat-enum-told : (t : ℕ) → list-pat-lts.Need-enum-told (
   word-reads.Asked,
   word-reads.Learnt,
@@ -3051,7 +2906,6 @@ list-pat-enum-told : (t : ℕ) → list-pat-lts.Need-enum-told (
 ) (list-pat-at t) list-pat.Post
 list-pat-enum-told t c = search needs
 
--- src/lib.rt:379:9
 list-pat-same-length : (t : ℕ) → list-pat-lts.Need-same-length (
   word-reads.Asked,
   word-reads.Learnt,
@@ -3062,7 +2916,6 @@ list-pat-same-length : (t : ℕ) → list-pat-lts.Need-same-length (
 ) (list-pat-at t) list-pat.Post
 list-pat-same-length t c = c .before .before .before .before .before .pat-args .kept .1 .1 .1 .1 .1 .0 ∙ c .before .before .before .before .before .before .before .before .before .before .word .kept .1 .1 .0
 
--- src/lib.rt:379:9
 list-pat-returns : (t : ℕ) → list-pat-lts.Need-returns (
   word-reads.Asked,
   word-reads.Learnt,
@@ -3074,7 +2927,6 @@ list-pat-returns : (t : ℕ) → list-pat-lts.Need-returns (
 unfolding Pat.pat
 list-pat-returns t c = record { is = λ kinds. then-sure (c .before .before .before .before .before .before .before .before .before .before .word .ensures) (then-stop (plain (c .before .before .before .before .before .pat-args .ensures)) (c .before .before .told .ensures) (c .enum-told .given .1)) }
 
--- src/lib.rt:381:5
 list-pat-word-requires-2 : (t : ℕ) → list-pat-lts.Need-word-requires-2 (
   word-reads.Asked,
   word-reads.Learnt,
@@ -3085,7 +2937,6 @@ list-pat-word-requires-2 : (t : ℕ) → list-pat-lts.Need-word-requires-2 (
 ) (list-pat-at t) list-pat.Post
 list-pat-word-requires-2 t c κs = search needs
 
--- src/lib.rt:363:1
 list-pat-same-length-2 : (t : ℕ) → list-pat-lts.Need-same-length-2 (
   word-reads.Asked,
   word-reads.Learnt,
@@ -3096,7 +2947,6 @@ list-pat-same-length-2 : (t : ℕ) → list-pat-lts.Need-same-length-2 (
 ) (list-pat-at t) list-pat.Post
 list-pat-same-length-2 t c = c .before .before .word2 .kept .1 .1 .0 ∙ c .before .before .before .before .before .before .before .before .before .before .before .pat-args .kept .1 .1 .1 .1 .1 .0 ∙ c .before .before .before .before .before .before .before .before .before .before .before .before .before .before .before .before .word .kept .1 .1 .0
 
--- src/lib.rt:363:1
 list-pat-returns-2 : (t : ℕ) → list-pat-lts.Need-returns-2 (
   word-reads.Asked,
   word-reads.Learnt,
@@ -3108,7 +2958,6 @@ list-pat-returns-2 : (t : ℕ) → list-pat-lts.Need-returns-2 (
 unfolding Pat.pat
 list-pat-returns-2 t c = record { is = λ kinds. then-sure (c .before .before .before .before .before .before .before .before .before .before .before .before .before .before .before .before .word .ensures) (then-done (plain (c .before .before .before .before .before .before .before .before .before .before .before .pat-args .ensures)) (c .before .before .before .before .before .before .before .before .told .ensures) (c .before .before .before .before .before .before .s1 .given .1) (last-sure (c .before .before .word2 .ensures))) }
 
--- src/lib.rt:501:9
 or-pat-get-pat-requires : (t : ℕ) → or-pat-lts.Need-get-pat-requires (
   get-pat-below t,
   get-pat.Post,
@@ -3119,7 +2968,6 @@ or-pat-get-pat-requires : (t : ℕ) → or-pat-lts.Need-get-pat-requires (
 ) (or-pat-at t) or-pat.Post
 or-pat-get-pat-requires t c κs = omega (arith, c .before .before .before .before .before .before .before .pre .0)
 
--- src/lib.rt:502:28
 or-pat-told-requires : (t : ℕ) → or-pat-lts.Need-told-requires (
   get-pat-below t,
   get-pat.Post,
@@ -3130,7 +2978,6 @@ or-pat-told-requires : (t : ℕ) → or-pat-lts.Need-told-requires (
 ) (or-pat-at t) or-pat.Post
 or-pat-told-requires t c κs = search needs
 
--- src/lib.rt:502:22
 or-pat-enum-known-s1 : (t : ℕ) → or-pat-lts.Need-enum-known-s1 (
   get-pat-below t,
   get-pat.Post,
@@ -3141,7 +2988,6 @@ or-pat-enum-known-s1 : (t : ℕ) → or-pat-lts.Need-enum-known-s1 (
 ) (or-pat-at t) or-pat.Post
 or-pat-enum-known-s1 t c = search needs
 
--- src/lib.rt:503:9
 or-pat-enum-told : (t : ℕ) → or-pat-lts.Need-enum-told (
   get-pat-below t,
   get-pat.Post,
@@ -3152,7 +2998,6 @@ or-pat-enum-told : (t : ℕ) → or-pat-lts.Need-enum-told (
 ) (or-pat-at t) or-pat.Post
 or-pat-enum-told t c = search needs
 
--- src/lib.rt:503:9
 or-pat-same-length : (t : ℕ) → or-pat-lts.Need-same-length (
   get-pat-below t,
   get-pat.Post,
@@ -3163,7 +3008,6 @@ or-pat-same-length : (t : ℕ) → or-pat-lts.Need-same-length (
 ) (or-pat-at t) or-pat.Post
 or-pat-same-length t c = c .before .before .before .before .before .get-pat .kept .1 .1 .1 .1 .1 .0
 
--- src/lib.rt:503:9
 or-pat-returns : (t : ℕ) → or-pat-lts.Need-returns (
   get-pat-below t,
   get-pat.Post,
@@ -3175,7 +3019,6 @@ or-pat-returns : (t : ℕ) → or-pat-lts.Need-returns (
 unfolding Pat.pat
 or-pat-returns t c = record { is = λ kinds. then-stop (plain (c .before .before .before .before .before .get-pat .ensures)) (c .before .before .told .ensures) (c .enum-told .given .1) }
 
--- src/lib.rt:505:5
 or-pat-word-requires : (t : ℕ) → or-pat-lts.Need-word-requires (
   get-pat-below t,
   get-pat.Post,
@@ -3186,7 +3029,6 @@ or-pat-word-requires : (t : ℕ) → or-pat-lts.Need-word-requires (
 ) (or-pat-at t) or-pat.Post
 or-pat-word-requires t c κs = search needs
 
--- src/lib.rt:506:5
 or-pat-get-pat-requires-2 : (t : ℕ) → or-pat-lts.Need-get-pat-requires-2 (
   get-pat-below t,
   get-pat.Post,
@@ -3197,7 +3039,6 @@ or-pat-get-pat-requires-2 : (t : ℕ) → or-pat-lts.Need-get-pat-requires-2 (
 ) (or-pat-at t) or-pat.Post
 or-pat-get-pat-requires-2 t c κs = omega (arith, c .before .before .before .before .before .before .before .before .before .before .before .before .before .before .before .before .before .before .before .before .before .pre .0)
 
--- src/lib.rt:488:1
 or-pat-same-length-2 : (t : ℕ) → or-pat-lts.Need-same-length-2 (
   get-pat-below t,
   get-pat.Post,
@@ -3208,7 +3049,6 @@ or-pat-same-length-2 : (t : ℕ) → or-pat-lts.Need-same-length-2 (
 ) (or-pat-at t) or-pat.Post
 or-pat-same-length-2 t c = c .before .before .get-pat2 .kept .1 .1 .1 .1 .1 .0 ∙ c .before .before .before .before .before .before .before .word .kept .1 .1 .0 ∙ c .before .before .before .before .before .before .before .before .before .before .before .before .before .before .before .before .get-pat .kept .1 .1 .1 .1 .1 .0
 
--- src/lib.rt:488:1
 or-pat-returns-2 : (t : ℕ) → or-pat-lts.Need-returns-2 (
   get-pat-below t,
   get-pat.Post,
@@ -3220,7 +3060,6 @@ or-pat-returns-2 : (t : ℕ) → or-pat-lts.Need-returns-2 (
 unfolding Pat.pat
 or-pat-returns-2 t c = record { is = λ kinds. then-done (plain (c .before .before .before .before .before .before .before .before .before .before .before .before .before .before .before .before .get-pat .ensures)) (c .before .before .before .before .before .before .before .before .before .before .before .before .before .told .ensures) (c .before .before .before .before .before .before .before .before .before .before .before .s1 .given .1) (then-sure (c .before .before .before .before .before .before .before .word .ensures) (plain (c .before .before .get-pat2 .ensures))) }
 
--- src/lib.rt:295:5
 paren-pat-word-requires : (t : ℕ) → paren-pat-lts.Need-word-requires (
   word-reads.Asked,
   word-reads.Learnt,
@@ -3231,7 +3070,6 @@ paren-pat-word-requires : (t : ℕ) → paren-pat-lts.Need-word-requires (
 ) (paren-pat-at t) paren-pat.Post
 paren-pat-word-requires t c κs = search needs
 
--- src/lib.rt:296:9
 paren-pat-get-pat-requires : (t : ℕ) → paren-pat-lts.Need-get-pat-requires (
   word-reads.Asked,
   word-reads.Learnt,
@@ -3242,7 +3080,6 @@ paren-pat-get-pat-requires : (t : ℕ) → paren-pat-lts.Need-get-pat-requires (
 ) (paren-pat-at t) paren-pat.Post
 paren-pat-get-pat-requires t c κs = omega (arith, c .before .before .before .before .before .before .before .before .before .before .before .before .pre .0)
 
--- src/lib.rt:297:28
 paren-pat-told-requires : (t : ℕ) → paren-pat-lts.Need-told-requires (
   word-reads.Asked,
   word-reads.Learnt,
@@ -3253,7 +3090,6 @@ paren-pat-told-requires : (t : ℕ) → paren-pat-lts.Need-told-requires (
 ) (paren-pat-at t) paren-pat.Post
 paren-pat-told-requires t c κs = search needs
 
--- src/lib.rt:297:22
 paren-pat-enum-known-s1 : (t : ℕ) → paren-pat-lts.Need-enum-known-s1 (
   word-reads.Asked,
   word-reads.Learnt,
@@ -3264,7 +3100,6 @@ paren-pat-enum-known-s1 : (t : ℕ) → paren-pat-lts.Need-enum-known-s1 (
 ) (paren-pat-at t) paren-pat.Post
 paren-pat-enum-known-s1 t c = search needs
 
--- src/lib.rt:298:9
 paren-pat-enum-told : (t : ℕ) → paren-pat-lts.Need-enum-told (
   word-reads.Asked,
   word-reads.Learnt,
@@ -3275,7 +3110,6 @@ paren-pat-enum-told : (t : ℕ) → paren-pat-lts.Need-enum-told (
 ) (paren-pat-at t) paren-pat.Post
 paren-pat-enum-told t c = search needs
 
--- src/lib.rt:298:9
 paren-pat-same-length : (t : ℕ) → paren-pat-lts.Need-same-length (
   word-reads.Asked,
   word-reads.Learnt,
@@ -3286,7 +3120,6 @@ paren-pat-same-length : (t : ℕ) → paren-pat-lts.Need-same-length (
 ) (paren-pat-at t) paren-pat.Post
 paren-pat-same-length t c = c .before .before .before .before .before .get-pat .kept .1 .1 .1 .1 .1 .0 ∙ c .before .before .before .before .before .before .before .before .before .before .word .kept .1 .1 .0
 
--- src/lib.rt:298:9
 paren-pat-returns : (t : ℕ) → paren-pat-lts.Need-returns (
   word-reads.Asked,
   word-reads.Learnt,
@@ -3298,7 +3131,6 @@ paren-pat-returns : (t : ℕ) → paren-pat-lts.Need-returns (
 unfolding Pat.pat
 paren-pat-returns t c = record { is = λ kinds. then-sure (c .before .before .before .before .before .before .before .before .before .before .word .ensures) (then-stop (plain (c .before .before .before .before .before .get-pat .ensures)) (c .before .before .told .ensures) (c .enum-told .given .1)) }
 
--- src/lib.rt:300:5
 paren-pat-word-requires-2 : (t : ℕ) → paren-pat-lts.Need-word-requires-2 (
   word-reads.Asked,
   word-reads.Learnt,
@@ -3309,7 +3141,6 @@ paren-pat-word-requires-2 : (t : ℕ) → paren-pat-lts.Need-word-requires-2 (
 ) (paren-pat-at t) paren-pat.Post
 paren-pat-word-requires-2 t c κs = search needs
 
--- src/lib.rt:282:1
 paren-pat-same-length-2 : (t : ℕ) → paren-pat-lts.Need-same-length-2 (
   word-reads.Asked,
   word-reads.Learnt,
@@ -3320,7 +3151,6 @@ paren-pat-same-length-2 : (t : ℕ) → paren-pat-lts.Need-same-length-2 (
 ) (paren-pat-at t) paren-pat.Post
 paren-pat-same-length-2 t c = c .before .before .word2 .kept .1 .1 .0 ∙ c .before .before .before .before .before .before .before .before .before .before .before .get-pat .kept .1 .1 .1 .1 .1 .0 ∙ c .before .before .before .before .before .before .before .before .before .before .before .before .before .before .before .before .word .kept .1 .1 .0
 
--- src/lib.rt:282:1
 paren-pat-returns-2 : (t : ℕ) → paren-pat-lts.Need-returns-2 (
   word-reads.Asked,
   word-reads.Learnt,
@@ -3339,7 +3169,6 @@ pat-args-Inv-loop run text rec starts lens out₀ mem₀ at cfg n s0 s₀ i₀ o
 abbrev pat-args-μ-loop : pat-args-lts.MeasureT-loop
 pat-args-μ-loop run text rec starts lens out₀ mem₀ at cfg n s0 s₀ i₀ out mem s i = n - i
 
--- src/lib.rt:318:27
 pat-args-list-requires : (t : ℕ) → pat-args-lts.Need-list-requires (
   list-reads.Asked,
   list-reads.Learnt,
@@ -3356,7 +3185,6 @@ pat-args-list-requires : (t : ℕ) → pat-args-lts.Need-list-requires (
 ) (pat-args-at t) pat-args.Post pat-args-Inv-loop pat-args-μ-loop
 pat-args-list-requires t c κs = search needs
 
--- src/lib.rt:318:18
 pat-args-enum-known-n : (t : ℕ) → pat-args-lts.Need-enum-known-n (
   list-reads.Asked,
   list-reads.Learnt,
@@ -3373,7 +3201,6 @@ pat-args-enum-known-n : (t : ℕ) → pat-args-lts.Need-enum-known-n (
 ) (pat-args-at t) pat-args.Post pat-args-Inv-loop pat-args-μ-loop
 pat-args-enum-known-n t c = search needs
 
--- src/lib.rt:319:9
 pat-args-enum-told : (t : ℕ) → pat-args-lts.Need-enum-told (
   list-reads.Asked,
   list-reads.Learnt,
@@ -3390,7 +3217,6 @@ pat-args-enum-told : (t : ℕ) → pat-args-lts.Need-enum-told (
 ) (pat-args-at t) pat-args.Post pat-args-Inv-loop pat-args-μ-loop
 pat-args-enum-told t c = search needs
 
--- src/lib.rt:319:9
 pat-args-stop-requires : (t : ℕ) → pat-args-lts.Need-stop-requires (
   list-reads.Asked,
   list-reads.Learnt,
@@ -3407,7 +3233,6 @@ pat-args-stop-requires : (t : ℕ) → pat-args-lts.Need-stop-requires (
 ) (pat-args-at t) pat-args.Post pat-args-Inv-loop pat-args-μ-loop
 pat-args-stop-requires t c κs = search needs
 
--- src/lib.rt:319:9
 pat-args-returns : (t : ℕ) → pat-args-lts.Need-returns (
   list-reads.Asked,
   list-reads.Learnt,
@@ -3425,7 +3250,6 @@ pat-args-returns : (t : ℕ) → pat-args-lts.Need-returns (
 unfolding Pat.pat-args Helpers.sep
 pat-args-returns t c = record { is = λ kinds. list-not (c .stop .ensures) (c .before .before .before .list .ensures) (c .before .enum-told .given .1) }
 
--- src/lib.rt:323:5
 pat-args-loop-holds : (t : ℕ) → pat-args-lts.Need-loop-holds (
   list-reads.Asked,
   list-reads.Learnt,
@@ -3442,7 +3266,6 @@ pat-args-loop-holds : (t : ℕ) → pat-args-lts.Need-loop-holds (
 ) (pat-args-at t) pat-args.Post pat-args-Inv-loop pat-args-μ-loop
 pat-args-loop-holds t c = (omega arith, λ kinds r m o h. h, refl)
 
--- src/lib.rt:324:9
 pat-args-between-requires : (t : ℕ) → pat-args-lts.Need-between-requires (
   list-reads.Asked,
   list-reads.Learnt,
@@ -3459,7 +3282,6 @@ pat-args-between-requires : (t : ℕ) → pat-args-lts.Need-between-requires (
 ) (pat-args-at t) pat-args.Post pat-args-Inv-loop pat-args-μ-loop
 pat-args-between-requires t c κs = search needs
 
--- src/lib.rt:325:13
 pat-args-group-requires : (t : ℕ) → pat-args-lts.Need-group-requires (
   list-reads.Asked,
   list-reads.Learnt,
@@ -3476,7 +3298,6 @@ pat-args-group-requires : (t : ℕ) → pat-args-lts.Need-group-requires (
 ) (pat-args-at t) pat-args.Post pat-args-Inv-loop pat-args-μ-loop
 pat-args-group-requires t c κs = search needs
 
--- src/lib.rt:326:32
 pat-args-told-requires : (t : ℕ) → pat-args-lts.Need-told-requires (
   list-reads.Asked,
   list-reads.Learnt,
@@ -3493,7 +3314,6 @@ pat-args-told-requires : (t : ℕ) → pat-args-lts.Need-told-requires (
 ) (pat-args-at t) pat-args.Post pat-args-Inv-loop pat-args-μ-loop
 pat-args-told-requires t c κs = search needs
 
--- src/lib.rt:326:26
 pat-args-enum-known-s1 : (t : ℕ) → pat-args-lts.Need-enum-known-s1 (
   list-reads.Asked,
   list-reads.Learnt,
@@ -3510,7 +3330,6 @@ pat-args-enum-known-s1 : (t : ℕ) → pat-args-lts.Need-enum-known-s1 (
 ) (pat-args-at t) pat-args.Post pat-args-Inv-loop pat-args-μ-loop
 pat-args-enum-known-s1 t c = search needs
 
--- src/lib.rt:327:13
 pat-args-enum-told-2 : (t : ℕ) → pat-args-lts.Need-enum-told-2 (
   list-reads.Asked,
   list-reads.Learnt,
@@ -3527,7 +3346,6 @@ pat-args-enum-told-2 : (t : ℕ) → pat-args-lts.Need-enum-told-2 (
 ) (pat-args-at t) pat-args.Post pat-args-Inv-loop pat-args-μ-loop
 pat-args-enum-told-2 t c = search needs
 
--- src/lib.rt:327:13
 pat-args-same-length : (t : ℕ) → pat-args-lts.Need-same-length (
   list-reads.Asked,
   list-reads.Learnt,
@@ -3544,7 +3362,6 @@ pat-args-same-length : (t : ℕ) → pat-args-lts.Need-same-length (
 ) (pat-args-at t) pat-args.Post pat-args-Inv-loop pat-args-μ-loop
 pat-args-same-length t c = c .before .before .before .before .before .before .between .kept .1 .1 .0 ∙ c .before .before .before .before .before .before .before .before .before .before .loop .inv .2
 
--- src/lib.rt:327:13
 pat-args-returns-2 : (t : ℕ) → pat-args-lts.Need-returns-2 (
   list-reads.Asked,
   list-reads.Learnt,
@@ -3562,7 +3379,6 @@ pat-args-returns-2 : (t : ℕ) → pat-args-lts.Need-returns-2 (
 unfolding Pat.pat-args Helpers.sep
 pat-args-returns-2 t c = record { is = λ kinds. by-same (list-is (c .before .before .before .before .before .before .before .before .before .before .before .before .before .before .list .ensures) (c .before .before .before .before .before .before .before .before .before .before .before .before .n .given .1)) (by-same (items-all _ _ _) (c .before .before .before .before .before .before .before .before .before .before .loop .inv .1 kinds _ _ _ (from-more _ _ (c .before .before .before .before .before .before .before .before .before .loop-test .taken) (then-sure (c .before .before .before .before .before .before .between .ensures) (then-stop (group-not (c .before .before .before .group .ensures) (c .before .before .told .ensures) (c .enum-told2 .given .1)) (c .before .before .told .ensures) (c .enum-told2 .given .1)))))) }
 
--- src/lib.rt:329:13
 pat-args-get-pat-requires : (t : ℕ) → pat-args-lts.Need-get-pat-requires (
   list-reads.Asked,
   list-reads.Learnt,
@@ -3579,7 +3395,6 @@ pat-args-get-pat-requires : (t : ℕ) → pat-args-lts.Need-get-pat-requires (
 ) (pat-args-at t) pat-args.Post pat-args-Inv-loop pat-args-μ-loop
 pat-args-get-pat-requires t c κs = omega (arith, c .before .before .before .before .before .before .before .before .before .before .before .before .before .before .before .before .before .before .before .before .before .before .before .pre .0)
 
--- src/lib.rt:330:32
 pat-args-told-requires-2 : (t : ℕ) → pat-args-lts.Need-told-requires-2 (
   list-reads.Asked,
   list-reads.Learnt,
@@ -3596,7 +3411,6 @@ pat-args-told-requires-2 : (t : ℕ) → pat-args-lts.Need-told-requires-2 (
 ) (pat-args-at t) pat-args.Post pat-args-Inv-loop pat-args-μ-loop
 pat-args-told-requires-2 t c κs = search needs
 
--- src/lib.rt:330:26
 pat-args-enum-known-s2 : (t : ℕ) → pat-args-lts.Need-enum-known-s2 (
   list-reads.Asked,
   list-reads.Learnt,
@@ -3613,7 +3427,6 @@ pat-args-enum-known-s2 : (t : ℕ) → pat-args-lts.Need-enum-known-s2 (
 ) (pat-args-at t) pat-args.Post pat-args-Inv-loop pat-args-μ-loop
 pat-args-enum-known-s2 t c = search needs
 
--- src/lib.rt:331:13
 pat-args-enum-told-3 : (t : ℕ) → pat-args-lts.Need-enum-told-3 (
   list-reads.Asked,
   list-reads.Learnt,
@@ -3630,7 +3443,6 @@ pat-args-enum-told-3 : (t : ℕ) → pat-args-lts.Need-enum-told-3 (
 ) (pat-args-at t) pat-args.Post pat-args-Inv-loop pat-args-μ-loop
 pat-args-enum-told-3 t c = search needs
 
--- src/lib.rt:331:13
 pat-args-same-length-2 : (t : ℕ) → pat-args-lts.Need-same-length-2 (
   list-reads.Asked,
   list-reads.Learnt,
@@ -3647,7 +3459,6 @@ pat-args-same-length-2 : (t : ℕ) → pat-args-lts.Need-same-length-2 (
 ) (pat-args-at t) pat-args.Post pat-args-Inv-loop pat-args-μ-loop
 pat-args-same-length-2 t c = c .before .before .before .before .before .get-pat .kept .1 .1 .1 .1 .1 .0 ∙ c .before .before .before .before .before .before .before .before .before .before .before .before .before .before .before .between .kept .1 .1 .0 ∙ c .before .before .before .before .before .before .before .before .before .before .before .before .before .before .before .before .before .before .before .loop .inv .2
 
--- src/lib.rt:331:13
 pat-args-returns-3 : (t : ℕ) → pat-args-lts.Need-returns-3 (
   list-reads.Asked,
   list-reads.Learnt,
@@ -3665,7 +3476,6 @@ pat-args-returns-3 : (t : ℕ) → pat-args-lts.Need-returns-3 (
 unfolding Pat.pat-args Helpers.sep
 pat-args-returns-3 t c = record { is = λ kinds. by-same (list-is (c .before .before .before .before .before .before .before .before .before .before .before .before .before .before .before .before .before .before .before .before .before .before .before .list .ensures) (c .before .before .before .before .before .before .before .before .before .before .before .before .before .before .before .before .before .before .before .before .before .n .given .1)) (by-same (items-all _ _ _) (c .before .before .before .before .before .before .before .before .before .before .before .before .before .before .before .before .before .before .before .loop .inv .1 kinds _ _ _ (from-more _ _ (c .before .before .before .before .before .before .before .before .before .before .before .before .before .before .before .before .before .before .loop-test .taken) (then-sure (c .before .before .before .before .before .before .before .before .before .before .before .before .before .before .before .between .ensures) (by-same (first-same (group-is (c .before .before .before .before .before .before .before .before .before .before .before .before .group .ensures) (c .before .before .before .before .before .before .before .before .before .before .before .told .ensures) (c .before .before .before .before .before .before .before .before .before .s1 .given .1))) (then-stop (plain (c .before .before .before .before .before .get-pat .ensures)) (c .before .before .told2 .ensures) (c .enum-told3 .given .1))))))) }
 
--- src/lib.rt:334:9
 pat-args-add-i : (t : ℕ) → pat-args-lts.Need-add-i (
   list-reads.Asked,
   list-reads.Learnt,
@@ -3682,7 +3492,6 @@ pat-args-add-i : (t : ℕ) → pat-args-lts.Need-add-i (
 ) (pat-args-at t) pat-args.Post pat-args-Inv-loop pat-args-μ-loop
 pat-args-add-i t c = omega (arith, c .before .before .before .before .before .before .before .before .before .before .before .before .before .before .before .before .before .before .before .loop-test .taken, c .before .before .before .before .before .before .before .before .before .before .before .before .before .before .before .before .before .before .before .before .before .known-told)
 
--- src/lib.rt:323:5
 pat-args-loop-less : (t : ℕ) → pat-args-lts.Need-loop-less (
   list-reads.Asked,
   list-reads.Learnt,
@@ -3699,7 +3508,6 @@ pat-args-loop-less : (t : ℕ) → pat-args-lts.Need-loop-less (
 ) (pat-args-at t) pat-args.Post pat-args-Inv-loop pat-args-μ-loop
 pat-args-loop-less t c = omega arith
 
--- src/lib.rt:323:5
 pat-args-loop-again : (t : ℕ) → pat-args-lts.Need-loop-again (
   list-reads.Asked,
   list-reads.Learnt,
@@ -3717,7 +3525,6 @@ pat-args-loop-again : (t : ℕ) → pat-args-lts.Need-loop-again (
 unfolding Pat.pat-args Helpers.sep
 pat-args-loop-again t c = (omega (arith, c .before .before .before .before .before .before .before .before .before .before .before .before .before .before .before .before .before .before .before .before .loop .inv .0), λ kinds r m o h. c .before .before .before .before .before .before .before .before .before .before .before .before .before .before .before .before .before .before .before .before .loop .inv .1 kinds r m o (from-more _ _ (c .before .before .before .before .before .before .before .before .before .before .before .before .before .before .before .before .before .before .before .loop-test .taken) (then-sure (c .before .before .before .before .before .before .before .before .before .before .before .before .before .before .before .before .between .ensures) (by-same (first-same (group-is (c .before .before .before .before .before .before .before .before .before .before .before .before .before .group .ensures) (c .before .before .before .before .before .before .before .before .before .before .before .before .told .ensures) (c .before .before .before .before .before .before .before .before .before .before .s1 .given .1))) (then-done (plain (c .before .before .before .before .before .before .get-pat .ensures)) (c .before .before .before .told2 .ensures) (c .before .s2 .given .1) h)))), c .before .before .before .before .before .before .get-pat .kept .1 .1 .1 .1 .1 .0 ∙ c .before .before .before .before .before .before .before .before .before .before .before .before .before .before .before .before .between .kept .1 .1 .0 ∙ c .before .before .before .before .before .before .before .before .before .before .before .before .before .before .before .before .before .before .before .before .loop .inv .2)
 
--- src/lib.rt:305:1
 pat-args-same-length-3 : (t : ℕ) → pat-args-lts.Need-same-length-3 (
   list-reads.Asked,
   list-reads.Learnt,
@@ -3734,7 +3541,6 @@ pat-args-same-length-3 : (t : ℕ) → pat-args-lts.Need-same-length-3 (
 ) (pat-args-at t) pat-args.Post pat-args-Inv-loop pat-args-μ-loop
 pat-args-same-length-3 t c = c .before .loop .inv .2
 
--- src/lib.rt:305:1
 pat-args-returns-4 : (t : ℕ) → pat-args-lts.Need-returns-4 (
   list-reads.Asked,
   list-reads.Learnt,
@@ -3752,7 +3558,6 @@ pat-args-returns-4 : (t : ℕ) → pat-args-lts.Need-returns-4 (
 unfolding Pat.pat-args Helpers.sep
 pat-args-returns-4 t c = record { is = λ kinds. by-same (list-is (c .before .before .before .before .before .list .ensures) (c .before .before .before .n .given .1)) (by-same (items-all _ _ _) (c .before .loop .inv .1 kinds _ _ _ (from-none _ _ (c .loop-test .left)))) }
 
--- src/lib.rt:272:5
 record-pat-word-requires : (t : ℕ) → record-pat-lts.Need-word-requires (
   word-reads.Asked,
   word-reads.Learnt,
@@ -3763,7 +3568,6 @@ record-pat-word-requires : (t : ℕ) → record-pat-lts.Need-word-requires (
 ) (record-pat-at t) record-pat.Post
 record-pat-word-requires t c κs = search needs
 
--- src/lib.rt:273:9
 record-pat-rows-requires : (t : ℕ) → record-pat-lts.Need-rows-requires (
   word-reads.Asked,
   word-reads.Learnt,
@@ -3774,7 +3578,6 @@ record-pat-rows-requires : (t : ℕ) → record-pat-lts.Need-rows-requires (
 ) (record-pat-at t) record-pat.Post
 record-pat-rows-requires t c κs = omega (arith, c .before .before .before .before .before .before .before .before .before .before .before .before .pre .0)
 
--- src/lib.rt:274:28
 record-pat-told-requires : (t : ℕ) → record-pat-lts.Need-told-requires (
   word-reads.Asked,
   word-reads.Learnt,
@@ -3785,7 +3588,6 @@ record-pat-told-requires : (t : ℕ) → record-pat-lts.Need-told-requires (
 ) (record-pat-at t) record-pat.Post
 record-pat-told-requires t c κs = search needs
 
--- src/lib.rt:274:22
 record-pat-enum-known-s1 : (t : ℕ) → record-pat-lts.Need-enum-known-s1 (
   word-reads.Asked,
   word-reads.Learnt,
@@ -3796,7 +3598,6 @@ record-pat-enum-known-s1 : (t : ℕ) → record-pat-lts.Need-enum-known-s1 (
 ) (record-pat-at t) record-pat.Post
 record-pat-enum-known-s1 t c = search needs
 
--- src/lib.rt:275:9
 record-pat-enum-told : (t : ℕ) → record-pat-lts.Need-enum-told (
   word-reads.Asked,
   word-reads.Learnt,
@@ -3807,7 +3608,6 @@ record-pat-enum-told : (t : ℕ) → record-pat-lts.Need-enum-told (
 ) (record-pat-at t) record-pat.Post
 record-pat-enum-told t c = search needs
 
--- src/lib.rt:275:9
 record-pat-same-length : (t : ℕ) → record-pat-lts.Need-same-length (
   word-reads.Asked,
   word-reads.Learnt,
@@ -3818,7 +3618,6 @@ record-pat-same-length : (t : ℕ) → record-pat-lts.Need-same-length (
 ) (record-pat-at t) record-pat.Post
 record-pat-same-length t c = c .before .before .before .before .before .rows .kept .1 .1 .1 .1 .1 .0 ∙ c .before .before .before .before .before .before .before .before .before .before .word .kept .1 .1 .0
 
--- src/lib.rt:275:9
 record-pat-returns : (t : ℕ) → record-pat-lts.Need-returns (
   word-reads.Asked,
   word-reads.Learnt,
@@ -3830,7 +3629,6 @@ record-pat-returns : (t : ℕ) → record-pat-lts.Need-returns (
 unfolding Pat.pat
 record-pat-returns t c = record { is = λ kinds. then-sure (c .before .before .before .before .before .before .before .before .before .before .word .ensures) (then-stop (plain (c .before .before .before .before .before .rows .ensures)) (c .before .before .told .ensures) (c .enum-told .given .1)) }
 
--- src/lib.rt:277:5
 record-pat-word-requires-2 : (t : ℕ) → record-pat-lts.Need-word-requires-2 (
   word-reads.Asked,
   word-reads.Learnt,
@@ -3841,7 +3639,6 @@ record-pat-word-requires-2 : (t : ℕ) → record-pat-lts.Need-word-requires-2 (
 ) (record-pat-at t) record-pat.Post
 record-pat-word-requires-2 t c κs = search needs
 
--- src/lib.rt:259:1
 record-pat-same-length-2 : (t : ℕ) → record-pat-lts.Need-same-length-2 (
   word-reads.Asked,
   word-reads.Learnt,
@@ -3852,7 +3649,6 @@ record-pat-same-length-2 : (t : ℕ) → record-pat-lts.Need-same-length-2 (
 ) (record-pat-at t) record-pat.Post
 record-pat-same-length-2 t c = c .before .before .word2 .kept .1 .1 .0 ∙ c .before .before .before .before .before .before .before .before .before .before .before .rows .kept .1 .1 .1 .1 .1 .0 ∙ c .before .before .before .before .before .before .before .before .before .before .before .before .before .before .before .before .word .kept .1 .1 .0
 
--- src/lib.rt:259:1
 record-pat-returns-2 : (t : ℕ) → record-pat-lts.Need-returns-2 (
   word-reads.Asked,
   word-reads.Learnt,
@@ -3864,7 +3660,6 @@ record-pat-returns-2 : (t : ℕ) → record-pat-lts.Need-returns-2 (
 unfolding Pat.pat
 record-pat-returns-2 t c = record { is = λ kinds. then-sure (c .before .before .before .before .before .before .before .before .before .before .before .before .before .before .before .before .word .ensures) (then-done (plain (c .before .before .before .before .before .before .before .before .before .before .before .rows .ensures)) (c .before .before .before .before .before .before .before .before .told .ensures) (c .before .before .before .before .before .before .s1 .given .1) (last-sure (c .before .before .word2 .ensures))) }
 
--- src/lib.rt:217:9
 row-group-requires : (t : ℕ) → row-lts.Need-group-requires (
   group-reads.Asked,
   group-reads.Learnt,
@@ -3879,7 +3674,6 @@ row-group-requires : (t : ℕ) → row-lts.Need-group-requires (
 ) (row-at t) row.Post
 row-group-requires t c κs = search needs
 
--- src/lib.rt:218:28
 row-told-requires : (t : ℕ) → row-lts.Need-told-requires (
   group-reads.Asked,
   group-reads.Learnt,
@@ -3894,7 +3688,6 @@ row-told-requires : (t : ℕ) → row-lts.Need-told-requires (
 ) (row-at t) row.Post
 row-told-requires t c κs = search needs
 
--- src/lib.rt:218:22
 row-enum-known-s1 : (t : ℕ) → row-lts.Need-enum-known-s1 (
   group-reads.Asked,
   group-reads.Learnt,
@@ -3909,7 +3702,6 @@ row-enum-known-s1 : (t : ℕ) → row-lts.Need-enum-known-s1 (
 ) (row-at t) row.Post
 row-enum-known-s1 t c = search needs
 
--- src/lib.rt:219:9
 row-enum-told : (t : ℕ) → row-lts.Need-enum-told (
   group-reads.Asked,
   group-reads.Learnt,
@@ -3924,7 +3716,6 @@ row-enum-told : (t : ℕ) → row-lts.Need-enum-told (
 ) (row-at t) row.Post
 row-enum-told t c = search needs
 
--- src/lib.rt:219:9
 row-returns : (t : ℕ) → row-lts.Need-returns (
   group-reads.Asked,
   group-reads.Learnt,
@@ -3940,7 +3731,6 @@ row-returns : (t : ℕ) → row-lts.Need-returns (
 unfolding Pat.pat-row
 row-returns t c = record { is = λ kinds. group-not (c .before .before .before .group .ensures) (c .before .before .told .ensures) (c .enum-told .given .1) }
 
--- src/lib.rt:221:27
 row-choice-requires : (t : ℕ) → row-lts.Need-choice-requires (
   group-reads.Asked,
   group-reads.Learnt,
@@ -3955,7 +3745,6 @@ row-choice-requires : (t : ℕ) → row-lts.Need-choice-requires (
 ) (row-at t) row.Post
 row-choice-requires t c κs = search needs
 
--- src/lib.rt:221:18
 row-enum-known-k : (t : ℕ) → row-lts.Need-enum-known-k (
   group-reads.Asked,
   group-reads.Learnt,
@@ -3970,7 +3759,6 @@ row-enum-known-k : (t : ℕ) → row-lts.Need-enum-known-k (
 ) (row-at t) row.Post
 row-enum-known-k t c = search needs
 
--- src/lib.rt:222:9
 row-enum-told-2 : (t : ℕ) → row-lts.Need-enum-told-2 (
   group-reads.Asked,
   group-reads.Learnt,
@@ -3985,7 +3773,6 @@ row-enum-told-2 : (t : ℕ) → row-lts.Need-enum-told-2 (
 ) (row-at t) row.Post
 row-enum-told-2 t c = search needs
 
--- src/lib.rt:222:9
 row-stop-requires : (t : ℕ) → row-lts.Need-stop-requires (
   group-reads.Asked,
   group-reads.Learnt,
@@ -4000,7 +3787,6 @@ row-stop-requires : (t : ℕ) → row-lts.Need-stop-requires (
 ) (row-at t) row.Post
 row-stop-requires t c κs = search needs
 
--- src/lib.rt:222:9
 row-returns-2 : (t : ℕ) → row-lts.Need-returns-2 (
   group-reads.Asked,
   group-reads.Learnt,
@@ -4016,7 +3802,6 @@ row-returns-2 : (t : ℕ) → row-lts.Need-returns-2 (
 unfolding Pat.pat-row
 row-returns-2 t c = record { is = λ kinds. by-same (group-is (c .before .before .before .before .before .before .before .before .group .ensures) (c .before .before .before .before .before .before .before .told .ensures) (c .before .before .before .before .before .s1 .given .1)) (choice-not (c .stop .ensures) (c .before .before .before .choice .ensures) (c .before .enum-told2 .given .1)) }
 
--- src/lib.rt:224:5
 row-row-inner-requires : (t : ℕ) → row-lts.Need-row-inner-requires (
   group-reads.Asked,
   group-reads.Learnt,
@@ -4031,7 +3816,6 @@ row-row-inner-requires : (t : ℕ) → row-lts.Need-row-inner-requires (
 ) (row-at t) row.Post
 row-row-inner-requires t c κs = omega (arith, c .before .before .before .before .before .before .before .before .before .before .before .before .before .before .before .before .pre .0)
 
--- src/lib.rt:204:1
 row-same-length : (t : ℕ) → row-lts.Need-same-length (
   group-reads.Asked,
   group-reads.Learnt,
@@ -4046,7 +3830,6 @@ row-same-length : (t : ℕ) → row-lts.Need-same-length (
 ) (row-at t) row.Post
 row-same-length t c = c .before .before .row-inner .kept .1 .1 .1 .1 .1 .0
 
--- src/lib.rt:204:1
 row-returns-3 : (t : ℕ) → row-lts.Need-returns-3 (
   group-reads.Asked,
   group-reads.Learnt,
@@ -4062,7 +3845,6 @@ row-returns-3 : (t : ℕ) → row-lts.Need-returns-3 (
 unfolding Pat.pat-row
 row-returns-3 t c = record { is = λ kinds. by-same (group-is (c .before .before .before .before .before .before .before .before .before .before .before .before .before .group .ensures) (c .before .before .before .before .before .before .before .before .before .before .before .before .told .ensures) (c .before .before .before .before .before .before .before .before .before .before .s1 .given .1)) (by-same (choice-is (c .before .before .before .before .before .before .before .before .choice .ensures) (c .before .before .before .before .before .before .k .given .1)) (plain (c .before .before .row-inner .ensures))) }
 
--- src/lib.rt:194:13
 row-inner-word-requires : (t : ℕ) → row-inner-lts.Need-word-requires (
   word-reads.Asked,
   word-reads.Learnt,
@@ -4075,7 +3857,6 @@ row-inner-word-requires : (t : ℕ) → row-inner-lts.Need-word-requires (
 ) (row-inner-at t) row-inner.Post
 row-inner-word-requires t c κs = search needs
 
--- src/lib.rt:197:14
 row-inner-lab-and-pat-requires : (t : ℕ) → row-inner-lts.Need-lab-and-pat-requires (
   word-reads.Asked,
   word-reads.Learnt,
@@ -4088,7 +3869,6 @@ row-inner-lab-and-pat-requires : (t : ℕ) → row-inner-lts.Need-lab-and-pat-re
 ) (row-inner-at t) row-inner.Post
 row-inner-lab-and-pat-requires t c κs = omega (arith, c .before .before .before .before .before .before .before .before .pre .0)
 
--- src/lib.rt:198:14
 row-inner-lab-pat-requires : (t : ℕ) → row-inner-lts.Need-lab-pat-requires (
   word-reads.Asked,
   word-reads.Learnt,
@@ -4101,7 +3881,6 @@ row-inner-lab-pat-requires : (t : ℕ) → row-inner-lts.Need-lab-pat-requires (
 ) (row-inner-at t) row-inner.Post
 row-inner-lab-pat-requires t c κs = omega (arith, c .before .before .before .before .before .before .before .before .pre .0)
 
--- src/lib.rt:199:14
 row-inner-stop-requires : (t : ℕ) → row-inner-lts.Need-stop-requires (
   word-reads.Asked,
   word-reads.Learnt,
@@ -4114,7 +3893,6 @@ row-inner-stop-requires : (t : ℕ) → row-inner-lts.Need-stop-requires (
 ) (row-inner-at t) row-inner.Post
 row-inner-stop-requires t c κs = search needs
 
--- src/lib.rt:178:1
 row-inner-same-length : (t : ℕ) → row-inner-lts.Need-same-length (
   word-reads.Asked,
   word-reads.Learnt,
@@ -4127,7 +3905,6 @@ row-inner-same-length : (t : ℕ) → row-inner-lts.Need-same-length (
 ) (row-inner-at t) row-inner.Post
 row-inner-same-length t c = c .before .before .word .kept .1 .1 .0
 
--- src/lib.rt:178:1
 row-inner-returns : (t : ℕ) → row-inner-lts.Need-returns (
   word-reads.Asked,
   word-reads.Learnt,
@@ -4141,7 +3918,6 @@ row-inner-returns : (t : ℕ) → row-inner-lts.Need-returns (
 unfolding Pat.pat-row-inner Pat.RestPatRow
 row-inner-returns t c = record { is = λ kinds. at-key (Pat.pat-row-inner (walks (c .before .before .before .before .before .before .before .before .before .before .before .args .cfg .left))) (c .before .before .before .before .before .match .keys1) (last-sure (c .before .before .word .ensures)) }
 
--- src/lib.rt:178:1
 row-inner-same-length-2 : (t : ℕ) → row-inner-lts.Need-same-length-2 (
   word-reads.Asked,
   word-reads.Learnt,
@@ -4154,7 +3930,6 @@ row-inner-same-length-2 : (t : ℕ) → row-inner-lts.Need-same-length-2 (
 ) (row-inner-at t) row-inner.Post
 row-inner-same-length-2 t c = c .before .before .lab-and-pat .kept .1 .1 .1 .1 .1 .0
 
--- src/lib.rt:178:1
 row-inner-returns-2 : (t : ℕ) → row-inner-lts.Need-returns-2 (
   word-reads.Asked,
   word-reads.Learnt,
@@ -4168,7 +3943,6 @@ row-inner-returns-2 : (t : ℕ) → row-inner-lts.Need-returns-2 (
 unfolding Pat.pat-row-inner Pat.RestPatRow
 row-inner-returns-2 t c = record { is = λ kinds. at-key (Pat.pat-row-inner (walks (c .before .before .before .before .before .before .before .before .before .before .before .args .cfg .left))) (c .before .before .before .before .before .match .keys2) (plain (c .before .before .lab-and-pat .ensures)) }
 
--- src/lib.rt:178:1
 row-inner-same-length-3 : (t : ℕ) → row-inner-lts.Need-same-length-3 (
   word-reads.Asked,
   word-reads.Learnt,
@@ -4181,7 +3955,6 @@ row-inner-same-length-3 : (t : ℕ) → row-inner-lts.Need-same-length-3 (
 ) (row-inner-at t) row-inner.Post
 row-inner-same-length-3 t c = c .before .before .lab-pat .kept .1 .1 .1 .1 .1 .0
 
--- src/lib.rt:178:1
 row-inner-returns-3 : (t : ℕ) → row-inner-lts.Need-returns-3 (
   word-reads.Asked,
   word-reads.Learnt,
@@ -4195,7 +3968,6 @@ row-inner-returns-3 : (t : ℕ) → row-inner-lts.Need-returns-3 (
 unfolding Pat.pat-row-inner Pat.RestPatRow
 row-inner-returns-3 t c = record { is = λ kinds. at-key (Pat.pat-row-inner (walks (c .before .before .before .before .before .before .before .before .before .before .before .args .cfg .left))) (c .before .before .before .before .before .match .keys3) (plain (c .before .before .lab-pat .ensures)) }
 
--- src/lib.rt:178:1
 row-inner-returns-4 : (t : ℕ) → row-inner-lts.Need-returns-4 (
   word-reads.Asked,
   word-reads.Learnt,
@@ -4216,7 +3988,6 @@ rows-Inv-loop run text rec starts lens out₀ mem₀ at cfg n s0 s₀ i₀ out m
 abbrev rows-μ-loop : rows-lts.MeasureT-loop
 rows-μ-loop run text rec starts lens out₀ mem₀ at cfg n s0 s₀ i₀ out mem s i = n - i
 
--- src/lib.rt:241:27
 rows-list-requires : (t : ℕ) → rows-lts.Need-list-requires (
   list-reads.Asked,
   list-reads.Learnt,
@@ -4231,7 +4002,6 @@ rows-list-requires : (t : ℕ) → rows-lts.Need-list-requires (
 ) (rows-at t) rows.Post rows-Inv-loop rows-μ-loop
 rows-list-requires t c κs = search needs
 
--- src/lib.rt:241:18
 rows-enum-known-n : (t : ℕ) → rows-lts.Need-enum-known-n (
   list-reads.Asked,
   list-reads.Learnt,
@@ -4246,7 +4016,6 @@ rows-enum-known-n : (t : ℕ) → rows-lts.Need-enum-known-n (
 ) (rows-at t) rows.Post rows-Inv-loop rows-μ-loop
 rows-enum-known-n t c = search needs
 
--- src/lib.rt:242:9
 rows-enum-told : (t : ℕ) → rows-lts.Need-enum-told (
   list-reads.Asked,
   list-reads.Learnt,
@@ -4261,7 +4030,6 @@ rows-enum-told : (t : ℕ) → rows-lts.Need-enum-told (
 ) (rows-at t) rows.Post rows-Inv-loop rows-μ-loop
 rows-enum-told t c = search needs
 
--- src/lib.rt:242:9
 rows-stop-requires : (t : ℕ) → rows-lts.Need-stop-requires (
   list-reads.Asked,
   list-reads.Learnt,
@@ -4276,7 +4044,6 @@ rows-stop-requires : (t : ℕ) → rows-lts.Need-stop-requires (
 ) (rows-at t) rows.Post rows-Inv-loop rows-μ-loop
 rows-stop-requires t c κs = search needs
 
--- src/lib.rt:242:9
 rows-returns : (t : ℕ) → rows-lts.Need-returns (
   list-reads.Asked,
   list-reads.Learnt,
@@ -4292,7 +4059,6 @@ rows-returns : (t : ℕ) → rows-lts.Need-returns (
 unfolding Pat.pat-rows Helpers.sep
 rows-returns t c = record { is = λ kinds. list-not (c .stop .ensures) (c .before .before .before .list .ensures) (c .before .enum-told .given .1) }
 
--- src/lib.rt:246:5
 rows-loop-holds : (t : ℕ) → rows-lts.Need-loop-holds (
   list-reads.Asked,
   list-reads.Learnt,
@@ -4307,7 +4073,6 @@ rows-loop-holds : (t : ℕ) → rows-lts.Need-loop-holds (
 ) (rows-at t) rows.Post rows-Inv-loop rows-μ-loop
 rows-loop-holds t c = (omega arith, λ kinds r m o h. h, refl)
 
--- src/lib.rt:247:9
 rows-between-requires : (t : ℕ) → rows-lts.Need-between-requires (
   list-reads.Asked,
   list-reads.Learnt,
@@ -4322,7 +4087,6 @@ rows-between-requires : (t : ℕ) → rows-lts.Need-between-requires (
 ) (rows-at t) rows.Post rows-Inv-loop rows-μ-loop
 rows-between-requires t c κs = search needs
 
--- src/lib.rt:248:13
 rows-row-requires : (t : ℕ) → rows-lts.Need-row-requires (
   list-reads.Asked,
   list-reads.Learnt,
@@ -4337,7 +4101,6 @@ rows-row-requires : (t : ℕ) → rows-lts.Need-row-requires (
 ) (rows-at t) rows.Post rows-Inv-loop rows-μ-loop
 rows-row-requires t c κs = omega (arith, c .before .before .before .before .before .before .before .before .before .before .before .before .before .before .before .before .before .before .pre .0)
 
--- src/lib.rt:249:32
 rows-told-requires : (t : ℕ) → rows-lts.Need-told-requires (
   list-reads.Asked,
   list-reads.Learnt,
@@ -4352,7 +4115,6 @@ rows-told-requires : (t : ℕ) → rows-lts.Need-told-requires (
 ) (rows-at t) rows.Post rows-Inv-loop rows-μ-loop
 rows-told-requires t c κs = search needs
 
--- src/lib.rt:249:26
 rows-enum-known-s1 : (t : ℕ) → rows-lts.Need-enum-known-s1 (
   list-reads.Asked,
   list-reads.Learnt,
@@ -4367,7 +4129,6 @@ rows-enum-known-s1 : (t : ℕ) → rows-lts.Need-enum-known-s1 (
 ) (rows-at t) rows.Post rows-Inv-loop rows-μ-loop
 rows-enum-known-s1 t c = search needs
 
--- src/lib.rt:250:13
 rows-enum-told-2 : (t : ℕ) → rows-lts.Need-enum-told-2 (
   list-reads.Asked,
   list-reads.Learnt,
@@ -4382,7 +4143,6 @@ rows-enum-told-2 : (t : ℕ) → rows-lts.Need-enum-told-2 (
 ) (rows-at t) rows.Post rows-Inv-loop rows-μ-loop
 rows-enum-told-2 t c = search needs
 
--- src/lib.rt:250:13
 rows-same-length : (t : ℕ) → rows-lts.Need-same-length (
   list-reads.Asked,
   list-reads.Learnt,
@@ -4397,7 +4157,6 @@ rows-same-length : (t : ℕ) → rows-lts.Need-same-length (
 ) (rows-at t) rows.Post rows-Inv-loop rows-μ-loop
 rows-same-length t c = c .before .before .before .before .before .row .kept .1 .1 .1 .1 .1 .0 ∙ c .before .before .before .before .before .before .before .before .before .before .between .kept .1 .1 .0 ∙ c .before .before .before .before .before .before .before .before .before .before .before .before .before .before .loop .inv .2
 
--- src/lib.rt:250:13
 rows-returns-2 : (t : ℕ) → rows-lts.Need-returns-2 (
   list-reads.Asked,
   list-reads.Learnt,
@@ -4413,7 +4172,6 @@ rows-returns-2 : (t : ℕ) → rows-lts.Need-returns-2 (
 unfolding Pat.pat-rows Helpers.sep
 rows-returns-2 t c = record { is = λ kinds. by-same (list-is (c .before .before .before .before .before .before .before .before .before .before .before .before .before .before .before .before .before .before .list .ensures) (c .before .before .before .before .before .before .before .before .before .before .before .before .before .before .before .before .n .given .1)) (by-same (items-all _ _ _) (c .before .before .before .before .before .before .before .before .before .before .before .before .before .before .loop .inv .1 kinds _ _ _ (from-more _ _ (c .before .before .before .before .before .before .before .before .before .before .before .before .before .loop-test .taken) (then-sure (c .before .before .before .before .before .before .before .before .before .before .between .ensures) (then-stop (plain (c .before .before .before .before .before .row .ensures)) (c .before .before .told .ensures) (c .enum-told2 .given .1)))))) }
 
--- src/lib.rt:253:9
 rows-add-i : (t : ℕ) → rows-lts.Need-add-i (
   list-reads.Asked,
   list-reads.Learnt,
@@ -4428,7 +4186,6 @@ rows-add-i : (t : ℕ) → rows-lts.Need-add-i (
 ) (rows-at t) rows.Post rows-Inv-loop rows-μ-loop
 rows-add-i t c = omega (arith, c .before .before .before .before .before .before .before .before .before .before .before .before .before .before .loop-test .taken, c .before .before .before .before .before .before .before .before .before .before .before .before .before .before .before .before .known-told)
 
--- src/lib.rt:246:5
 rows-loop-less : (t : ℕ) → rows-lts.Need-loop-less (
   list-reads.Asked,
   list-reads.Learnt,
@@ -4443,7 +4200,6 @@ rows-loop-less : (t : ℕ) → rows-lts.Need-loop-less (
 ) (rows-at t) rows.Post rows-Inv-loop rows-μ-loop
 rows-loop-less t c = omega arith
 
--- src/lib.rt:246:5
 rows-loop-again : (t : ℕ) → rows-lts.Need-loop-again (
   list-reads.Asked,
   list-reads.Learnt,
@@ -4459,7 +4215,6 @@ rows-loop-again : (t : ℕ) → rows-lts.Need-loop-again (
 unfolding Pat.pat-rows Helpers.sep
 rows-loop-again t c = (omega (arith, c .before .before .before .before .before .before .before .before .before .before .before .before .before .before .before .loop .inv .0), λ kinds r m o h. c .before .before .before .before .before .before .before .before .before .before .before .before .before .before .before .loop .inv .1 kinds r m o (from-more _ _ (c .before .before .before .before .before .before .before .before .before .before .before .before .before .before .loop-test .taken) (then-sure (c .before .before .before .before .before .before .before .before .before .before .before .between .ensures) (then-done (plain (c .before .before .before .before .before .before .row .ensures)) (c .before .before .before .told .ensures) (c .before .s1 .given .1) h))), c .before .before .before .before .before .before .row .kept .1 .1 .1 .1 .1 .0 ∙ c .before .before .before .before .before .before .before .before .before .before .before .between .kept .1 .1 .0 ∙ c .before .before .before .before .before .before .before .before .before .before .before .before .before .before .before .loop .inv .2)
 
--- src/lib.rt:228:1
 rows-same-length-2 : (t : ℕ) → rows-lts.Need-same-length-2 (
   list-reads.Asked,
   list-reads.Learnt,
@@ -4474,7 +4229,6 @@ rows-same-length-2 : (t : ℕ) → rows-lts.Need-same-length-2 (
 ) (rows-at t) rows.Post rows-Inv-loop rows-μ-loop
 rows-same-length-2 t c = c .before .loop .inv .2
 
--- src/lib.rt:228:1
 rows-returns-3 : (t : ℕ) → rows-lts.Need-returns-3 (
   list-reads.Asked,
   list-reads.Learnt,
@@ -4490,7 +4244,6 @@ rows-returns-3 : (t : ℕ) → rows-lts.Need-returns-3 (
 unfolding Pat.pat-rows Helpers.sep
 rows-returns-3 t c = record { is = λ kinds. by-same (list-is (c .before .before .before .before .before .list .ensures) (c .before .before .before .n .given .1)) (by-same (items-all _ _ _) (c .before .loop .inv .1 kinds _ _ _ (from-none _ _ (c .loop-test .left)))) }
 
--- src/lib.rt:353:5
 tuple-pat-word-requires : (t : ℕ) → tuple-pat-lts.Need-word-requires (
   word-reads.Asked,
   word-reads.Learnt,
@@ -4501,7 +4254,6 @@ tuple-pat-word-requires : (t : ℕ) → tuple-pat-lts.Need-word-requires (
 ) (tuple-pat-at t) tuple-pat.Post
 tuple-pat-word-requires t c κs = search needs
 
--- src/lib.rt:354:9
 tuple-pat-pat-args-requires : (t : ℕ) → tuple-pat-lts.Need-pat-args-requires (
   word-reads.Asked,
   word-reads.Learnt,
@@ -4512,7 +4264,6 @@ tuple-pat-pat-args-requires : (t : ℕ) → tuple-pat-lts.Need-pat-args-requires
 ) (tuple-pat-at t) tuple-pat.Post
 tuple-pat-pat-args-requires t c κs = omega (arith, c .before .before .before .before .before .before .before .before .before .before .before .before .pre .0)
 
--- src/lib.rt:355:28
 tuple-pat-told-requires : (t : ℕ) → tuple-pat-lts.Need-told-requires (
   word-reads.Asked,
   word-reads.Learnt,
@@ -4523,7 +4274,6 @@ tuple-pat-told-requires : (t : ℕ) → tuple-pat-lts.Need-told-requires (
 ) (tuple-pat-at t) tuple-pat.Post
 tuple-pat-told-requires t c κs = search needs
 
--- src/lib.rt:355:22
 tuple-pat-enum-known-s1 : (t : ℕ) → tuple-pat-lts.Need-enum-known-s1 (
   word-reads.Asked,
   word-reads.Learnt,
@@ -4534,7 +4284,6 @@ tuple-pat-enum-known-s1 : (t : ℕ) → tuple-pat-lts.Need-enum-known-s1 (
 ) (tuple-pat-at t) tuple-pat.Post
 tuple-pat-enum-known-s1 t c = search needs
 
--- src/lib.rt:356:9
 tuple-pat-enum-told : (t : ℕ) → tuple-pat-lts.Need-enum-told (
   word-reads.Asked,
   word-reads.Learnt,
@@ -4545,7 +4294,6 @@ tuple-pat-enum-told : (t : ℕ) → tuple-pat-lts.Need-enum-told (
 ) (tuple-pat-at t) tuple-pat.Post
 tuple-pat-enum-told t c = search needs
 
--- src/lib.rt:356:9
 tuple-pat-same-length : (t : ℕ) → tuple-pat-lts.Need-same-length (
   word-reads.Asked,
   word-reads.Learnt,
@@ -4556,7 +4304,6 @@ tuple-pat-same-length : (t : ℕ) → tuple-pat-lts.Need-same-length (
 ) (tuple-pat-at t) tuple-pat.Post
 tuple-pat-same-length t c = c .before .before .before .before .before .pat-args .kept .1 .1 .1 .1 .1 .0 ∙ c .before .before .before .before .before .before .before .before .before .before .word .kept .1 .1 .0
 
--- src/lib.rt:356:9
 tuple-pat-returns : (t : ℕ) → tuple-pat-lts.Need-returns (
   word-reads.Asked,
   word-reads.Learnt,
@@ -4568,7 +4315,6 @@ tuple-pat-returns : (t : ℕ) → tuple-pat-lts.Need-returns (
 unfolding Pat.pat
 tuple-pat-returns t c = record { is = λ kinds. then-sure (c .before .before .before .before .before .before .before .before .before .before .word .ensures) (then-stop (plain (c .before .before .before .before .before .pat-args .ensures)) (c .before .before .told .ensures) (c .enum-told .given .1)) }
 
--- src/lib.rt:358:5
 tuple-pat-word-requires-2 : (t : ℕ) → tuple-pat-lts.Need-word-requires-2 (
   word-reads.Asked,
   word-reads.Learnt,
@@ -4579,7 +4325,6 @@ tuple-pat-word-requires-2 : (t : ℕ) → tuple-pat-lts.Need-word-requires-2 (
 ) (tuple-pat-at t) tuple-pat.Post
 tuple-pat-word-requires-2 t c κs = search needs
 
--- src/lib.rt:340:1
 tuple-pat-same-length-2 : (t : ℕ) → tuple-pat-lts.Need-same-length-2 (
   word-reads.Asked,
   word-reads.Learnt,
@@ -4590,7 +4335,6 @@ tuple-pat-same-length-2 : (t : ℕ) → tuple-pat-lts.Need-same-length-2 (
 ) (tuple-pat-at t) tuple-pat.Post
 tuple-pat-same-length-2 t c = c .before .before .word2 .kept .1 .1 .0 ∙ c .before .before .before .before .before .before .before .before .before .before .before .pat-args .kept .1 .1 .1 .1 .1 .0 ∙ c .before .before .before .before .before .before .before .before .before .before .before .before .before .before .before .before .word .kept .1 .1 .0
 
--- src/lib.rt:340:1
 tuple-pat-returns-2 : (t : ℕ) → tuple-pat-lts.Need-returns-2 (
   word-reads.Asked,
   word-reads.Learnt,
@@ -4602,7 +4346,6 @@ tuple-pat-returns-2 : (t : ℕ) → tuple-pat-lts.Need-returns-2 (
 unfolding Pat.pat
 tuple-pat-returns-2 t c = record { is = λ kinds. then-sure (c .before .before .before .before .before .before .before .before .before .before .before .before .before .before .before .before .word .ensures) (then-done (plain (c .before .before .before .before .before .before .before .before .before .before .before .pat-args .ensures)) (c .before .before .before .before .before .before .before .before .told .ensures) (c .before .before .before .before .before .before .s1 .given .1) (last-sure (c .before .before .word2 .ensures))) }
 
--- src/lib.rt:453:9
 typed-pat-get-pat-requires : (t : ℕ) → typed-pat-lts.Need-get-pat-requires (
   get-pat-below t,
   get-pat.Post,
@@ -4615,7 +4358,6 @@ typed-pat-get-pat-requires : (t : ℕ) → typed-pat-lts.Need-get-pat-requires (
 ) (typed-pat-at t) typed-pat.Post
 typed-pat-get-pat-requires t c κs = omega (arith, c .before .before .before .before .before .before .before .pre .0)
 
--- src/lib.rt:454:28
 typed-pat-told-requires : (t : ℕ) → typed-pat-lts.Need-told-requires (
   get-pat-below t,
   get-pat.Post,
@@ -4628,7 +4370,6 @@ typed-pat-told-requires : (t : ℕ) → typed-pat-lts.Need-told-requires (
 ) (typed-pat-at t) typed-pat.Post
 typed-pat-told-requires t c κs = search needs
 
--- src/lib.rt:454:22
 typed-pat-enum-known-s1 : (t : ℕ) → typed-pat-lts.Need-enum-known-s1 (
   get-pat-below t,
   get-pat.Post,
@@ -4641,7 +4382,6 @@ typed-pat-enum-known-s1 : (t : ℕ) → typed-pat-lts.Need-enum-known-s1 (
 ) (typed-pat-at t) typed-pat.Post
 typed-pat-enum-known-s1 t c = search needs
 
--- src/lib.rt:455:9
 typed-pat-enum-told : (t : ℕ) → typed-pat-lts.Need-enum-told (
   get-pat-below t,
   get-pat.Post,
@@ -4654,7 +4394,6 @@ typed-pat-enum-told : (t : ℕ) → typed-pat-lts.Need-enum-told (
 ) (typed-pat-at t) typed-pat.Post
 typed-pat-enum-told t c = search needs
 
--- src/lib.rt:455:9
 typed-pat-same-length : (t : ℕ) → typed-pat-lts.Need-same-length (
   get-pat-below t,
   get-pat.Post,
@@ -4667,7 +4406,6 @@ typed-pat-same-length : (t : ℕ) → typed-pat-lts.Need-same-length (
 ) (typed-pat-at t) typed-pat.Post
 typed-pat-same-length t c = c .before .before .before .before .before .get-pat .kept .1 .1 .1 .1 .1 .0
 
--- src/lib.rt:455:9
 typed-pat-returns : (t : ℕ) → typed-pat-lts.Need-returns (
   get-pat-below t,
   get-pat.Post,
@@ -4681,7 +4419,6 @@ typed-pat-returns : (t : ℕ) → typed-pat-lts.Need-returns (
 unfolding Pat.pat
 typed-pat-returns t c = record { is = λ kinds. then-stop (plain (c .before .before .before .before .before .get-pat .ensures)) (c .before .before .told .ensures) (c .enum-told .given .1) }
 
--- src/lib.rt:457:5
 typed-pat-word-requires : (t : ℕ) → typed-pat-lts.Need-word-requires (
   get-pat-below t,
   get-pat.Post,
@@ -4694,7 +4431,6 @@ typed-pat-word-requires : (t : ℕ) → typed-pat-lts.Need-word-requires (
 ) (typed-pat-at t) typed-pat.Post
 typed-pat-word-requires t c κs = search needs
 
--- src/lib.rt:458:5
 typed-pat-get-ty-requires : (t : ℕ) → typed-pat-lts.Need-get-ty-requires (
   get-pat-below t,
   get-pat.Post,
@@ -4707,7 +4443,6 @@ typed-pat-get-ty-requires : (t : ℕ) → typed-pat-lts.Need-get-ty-requires (
 ) (typed-pat-at t) typed-pat.Post
 typed-pat-get-ty-requires t c κs = search needs
 
--- src/lib.rt:440:1
 typed-pat-same-length-2 : (t : ℕ) → typed-pat-lts.Need-same-length-2 (
   get-pat-below t,
   get-pat.Post,
@@ -4720,7 +4455,6 @@ typed-pat-same-length-2 : (t : ℕ) → typed-pat-lts.Need-same-length-2 (
 ) (typed-pat-at t) typed-pat.Post
 typed-pat-same-length-2 t c = c .before .before .get-ty .kept .1 .1 .1 .1 .1 .0 ∙ c .before .before .before .before .before .before .before .word .kept .1 .1 .0 ∙ c .before .before .before .before .before .before .before .before .before .before .before .before .before .before .before .before .get-pat .kept .1 .1 .1 .1 .1 .0
 
--- src/lib.rt:440:1
 typed-pat-returns-2 : (t : ℕ) → typed-pat-lts.Need-returns-2 (
   get-pat-below t,
   get-pat.Post,
@@ -4734,7 +4468,6 @@ typed-pat-returns-2 : (t : ℕ) → typed-pat-lts.Need-returns-2 (
 unfolding Pat.pat
 typed-pat-returns-2 t c = record { is = λ kinds. then-done (plain (c .before .before .before .before .before .before .before .before .before .before .before .before .before .before .before .before .get-pat .ensures)) (c .before .before .before .before .before .before .before .before .before .before .before .before .before .told .ensures) (c .before .before .before .before .before .before .before .before .before .before .before .s1 .given .1) (then-sure (c .before .before .before .before .before .before .before .word .ensures) (plain (c .before .before .get-ty .ensures))) }
 
--- src/lib.rt:399:5
 vector-pat-word-requires : (t : ℕ) → vector-pat-lts.Need-word-requires (
   word-reads.Asked,
   word-reads.Learnt,
@@ -4747,7 +4480,6 @@ vector-pat-word-requires : (t : ℕ) → vector-pat-lts.Need-word-requires (
 ) (vector-pat-at t) vector-pat.Post
 vector-pat-word-requires t c κs = search needs
 
--- src/lib.rt:400:9
 vector-pat-group-requires : (t : ℕ) → vector-pat-lts.Need-group-requires (
   word-reads.Asked,
   word-reads.Learnt,
@@ -4760,7 +4492,6 @@ vector-pat-group-requires : (t : ℕ) → vector-pat-lts.Need-group-requires (
 ) (vector-pat-at t) vector-pat.Post
 vector-pat-group-requires t c κs = search needs
 
--- src/lib.rt:401:28
 vector-pat-told-requires : (t : ℕ) → vector-pat-lts.Need-told-requires (
   word-reads.Asked,
   word-reads.Learnt,
@@ -4773,7 +4504,6 @@ vector-pat-told-requires : (t : ℕ) → vector-pat-lts.Need-told-requires (
 ) (vector-pat-at t) vector-pat.Post
 vector-pat-told-requires t c κs = search needs
 
--- src/lib.rt:401:22
 vector-pat-enum-known-s1 : (t : ℕ) → vector-pat-lts.Need-enum-known-s1 (
   word-reads.Asked,
   word-reads.Learnt,
@@ -4786,7 +4516,6 @@ vector-pat-enum-known-s1 : (t : ℕ) → vector-pat-lts.Need-enum-known-s1 (
 ) (vector-pat-at t) vector-pat.Post
 vector-pat-enum-known-s1 t c = search needs
 
--- src/lib.rt:402:9
 vector-pat-enum-told : (t : ℕ) → vector-pat-lts.Need-enum-told (
   word-reads.Asked,
   word-reads.Learnt,
@@ -4799,7 +4528,6 @@ vector-pat-enum-told : (t : ℕ) → vector-pat-lts.Need-enum-told (
 ) (vector-pat-at t) vector-pat.Post
 vector-pat-enum-told t c = search needs
 
--- src/lib.rt:402:9
 vector-pat-same-length : (t : ℕ) → vector-pat-lts.Need-same-length (
   word-reads.Asked,
   word-reads.Learnt,
@@ -4812,7 +4540,6 @@ vector-pat-same-length : (t : ℕ) → vector-pat-lts.Need-same-length (
 ) (vector-pat-at t) vector-pat.Post
 vector-pat-same-length t c = c .before .before .before .before .before .before .word .kept .1 .1 .0
 
--- src/lib.rt:402:9
 vector-pat-returns : (t : ℕ) → vector-pat-lts.Need-returns (
   word-reads.Asked,
   word-reads.Learnt,
@@ -4826,7 +4553,6 @@ vector-pat-returns : (t : ℕ) → vector-pat-lts.Need-returns (
 unfolding Pat.pat
 vector-pat-returns t c = record { is = λ kinds. then-sure (c .before .before .before .before .before .before .word .ensures) (then-stop (group-not (c .before .before .before .group .ensures) (c .before .before .told .ensures) (c .enum-told .given .1)) (c .before .before .told .ensures) (c .enum-told .given .1)) }
 
--- src/lib.rt:404:9
 vector-pat-pat-args-requires : (t : ℕ) → vector-pat-lts.Need-pat-args-requires (
   word-reads.Asked,
   word-reads.Learnt,
@@ -4839,7 +4565,6 @@ vector-pat-pat-args-requires : (t : ℕ) → vector-pat-lts.Need-pat-args-requir
 ) (vector-pat-at t) vector-pat.Post
 vector-pat-pat-args-requires t c κs = omega (arith, c .before .before .before .before .before .before .before .before .before .before .before .before .before .before .before .before .before .pre .0)
 
--- src/lib.rt:405:28
 vector-pat-told-requires-2 : (t : ℕ) → vector-pat-lts.Need-told-requires-2 (
   word-reads.Asked,
   word-reads.Learnt,
@@ -4852,7 +4577,6 @@ vector-pat-told-requires-2 : (t : ℕ) → vector-pat-lts.Need-told-requires-2 (
 ) (vector-pat-at t) vector-pat.Post
 vector-pat-told-requires-2 t c κs = search needs
 
--- src/lib.rt:405:22
 vector-pat-enum-known-s2 : (t : ℕ) → vector-pat-lts.Need-enum-known-s2 (
   word-reads.Asked,
   word-reads.Learnt,
@@ -4865,7 +4589,6 @@ vector-pat-enum-known-s2 : (t : ℕ) → vector-pat-lts.Need-enum-known-s2 (
 ) (vector-pat-at t) vector-pat.Post
 vector-pat-enum-known-s2 t c = search needs
 
--- src/lib.rt:406:9
 vector-pat-enum-told-2 : (t : ℕ) → vector-pat-lts.Need-enum-told-2 (
   word-reads.Asked,
   word-reads.Learnt,
@@ -4878,7 +4601,6 @@ vector-pat-enum-told-2 : (t : ℕ) → vector-pat-lts.Need-enum-told-2 (
 ) (vector-pat-at t) vector-pat.Post
 vector-pat-enum-told-2 t c = search needs
 
--- src/lib.rt:406:9
 vector-pat-same-length-2 : (t : ℕ) → vector-pat-lts.Need-same-length-2 (
   word-reads.Asked,
   word-reads.Learnt,
@@ -4891,7 +4613,6 @@ vector-pat-same-length-2 : (t : ℕ) → vector-pat-lts.Need-same-length-2 (
 ) (vector-pat-at t) vector-pat.Post
 vector-pat-same-length-2 t c = c .before .before .before .before .before .pat-args .kept .1 .1 .1 .1 .1 .0 ∙ c .before .before .before .before .before .before .before .before .before .before .before .before .before .before .before .word .kept .1 .1 .0
 
--- src/lib.rt:406:9
 vector-pat-returns-2 : (t : ℕ) → vector-pat-lts.Need-returns-2 (
   word-reads.Asked,
   word-reads.Learnt,
@@ -4905,7 +4626,6 @@ vector-pat-returns-2 : (t : ℕ) → vector-pat-lts.Need-returns-2 (
 unfolding Pat.pat
 vector-pat-returns-2 t c = record { is = λ kinds. then-sure (c .before .before .before .before .before .before .before .before .before .before .before .before .before .before .before .word .ensures) (by-same (first-same (group-is (c .before .before .before .before .before .before .before .before .before .before .before .before .group .ensures) (c .before .before .before .before .before .before .before .before .before .before .before .told .ensures) (c .before .before .before .before .before .before .before .before .before .s1 .given .1))) (then-stop (plain (c .before .before .before .before .before .pat-args .ensures)) (c .before .before .told2 .ensures) (c .enum-told2 .given .1))) }
 
--- src/lib.rt:408:5
 vector-pat-word-requires-2 : (t : ℕ) → vector-pat-lts.Need-word-requires-2 (
   word-reads.Asked,
   word-reads.Learnt,
@@ -4918,7 +4638,6 @@ vector-pat-word-requires-2 : (t : ℕ) → vector-pat-lts.Need-word-requires-2 (
 ) (vector-pat-at t) vector-pat.Post
 vector-pat-word-requires-2 t c κs = search needs
 
--- src/lib.rt:386:1
 vector-pat-same-length-3 : (t : ℕ) → vector-pat-lts.Need-same-length-3 (
   word-reads.Asked,
   word-reads.Learnt,
@@ -4931,7 +4650,6 @@ vector-pat-same-length-3 : (t : ℕ) → vector-pat-lts.Need-same-length-3 (
 ) (vector-pat-at t) vector-pat.Post
 vector-pat-same-length-3 t c = c .before .before .word2 .kept .1 .1 .0 ∙ c .before .before .before .before .before .before .before .before .before .before .before .pat-args .kept .1 .1 .1 .1 .1 .0 ∙ c .before .before .before .before .before .before .before .before .before .before .before .before .before .before .before .before .before .before .before .before .before .word .kept .1 .1 .0
 
--- src/lib.rt:386:1
 vector-pat-returns-3 : (t : ℕ) → vector-pat-lts.Need-returns-3 (
   word-reads.Asked,
   word-reads.Learnt,

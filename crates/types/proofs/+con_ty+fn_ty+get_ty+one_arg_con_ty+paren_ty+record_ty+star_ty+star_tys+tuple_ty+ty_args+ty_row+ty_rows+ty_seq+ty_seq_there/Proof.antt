@@ -221,7 +221,6 @@ ty-seq-there-below t =
     (falls 6 ty-seq-there-kinds.ps _<_ μ-ty-seq-there t)
     ty-seq-there.Pre
 
--- src/lib.rt:204:9
 con-ty-ty-seq-requires : (t : ℕ) → con-ty-lts.Need-ty-seq-requires (
   ty-seq-below t,
   ty-seq.Post,
@@ -232,7 +231,6 @@ con-ty-ty-seq-requires : (t : ℕ) → con-ty-lts.Need-ty-seq-requires (
 ) (con-ty-at t) con-ty.Post
 con-ty-ty-seq-requires t c κs = omega (arith, c .before .before .before .before .before .before .before .pre .0)
 
--- src/lib.rt:205:28
 con-ty-told-requires : (t : ℕ) → con-ty-lts.Need-told-requires (
   ty-seq-below t,
   ty-seq.Post,
@@ -243,7 +241,6 @@ con-ty-told-requires : (t : ℕ) → con-ty-lts.Need-told-requires (
 ) (con-ty-at t) con-ty.Post
 con-ty-told-requires t c κs = search needs
 
--- src/lib.rt:205:22
 con-ty-enum-known-s1 : (t : ℕ) → con-ty-lts.Need-enum-known-s1 (
   ty-seq-below t,
   ty-seq.Post,
@@ -254,7 +251,6 @@ con-ty-enum-known-s1 : (t : ℕ) → con-ty-lts.Need-enum-known-s1 (
 ) (con-ty-at t) con-ty.Post
 con-ty-enum-known-s1 t c = search needs
 
--- src/lib.rt:206:9
 con-ty-enum-told : (t : ℕ) → con-ty-lts.Need-enum-told (
   ty-seq-below t,
   ty-seq.Post,
@@ -265,7 +261,6 @@ con-ty-enum-told : (t : ℕ) → con-ty-lts.Need-enum-told (
 ) (con-ty-at t) con-ty.Post
 con-ty-enum-told t c = search needs
 
--- src/lib.rt:206:9
 con-ty-same-length : (t : ℕ) → con-ty-lts.Need-same-length (
   ty-seq-below t,
   ty-seq.Post,
@@ -276,7 +271,6 @@ con-ty-same-length : (t : ℕ) → con-ty-lts.Need-same-length (
 ) (con-ty-at t) con-ty.Post
 con-ty-same-length t c = c .before .before .before .before .before .ty-seq .kept .1 .1 .1 .1 .1 .0
 
--- src/lib.rt:206:9
 con-ty-returns : (t : ℕ) → con-ty-lts.Need-returns (
   ty-seq-below t,
   ty-seq.Post,
@@ -288,7 +282,6 @@ con-ty-returns : (t : ℕ) → con-ty-lts.Need-returns (
 unfolding Ty.ty
 con-ty-returns t c = record { is = λ kinds. then-stop (plain (c .before .before .before .before .before .ty-seq .ensures)) (c .before .before .told .ensures) (c .enum-told .given .1) }
 
--- src/lib.rt:208:5
 con-ty-path-requires : (t : ℕ) → con-ty-lts.Need-path-requires (
   ty-seq-below t,
   ty-seq.Post,
@@ -299,7 +292,6 @@ con-ty-path-requires : (t : ℕ) → con-ty-lts.Need-path-requires (
 ) (con-ty-at t) con-ty.Post
 con-ty-path-requires t c κs = search needs
 
--- src/lib.rt:191:1
 con-ty-same-length-2 : (t : ℕ) → con-ty-lts.Need-same-length-2 (
   ty-seq-below t,
   ty-seq.Post,
@@ -310,7 +302,6 @@ con-ty-same-length-2 : (t : ℕ) → con-ty-lts.Need-same-length-2 (
 ) (con-ty-at t) con-ty.Post
 con-ty-same-length-2 t c = c .before .before .path .kept .1 .1 .1 .1 .1 .0 ∙ c .before .before .before .before .before .before .before .before .before .before .before .ty-seq .kept .1 .1 .1 .1 .1 .0
 
--- src/lib.rt:191:1
 con-ty-returns-2 : (t : ℕ) → con-ty-lts.Need-returns-2 (
   ty-seq-below t,
   ty-seq.Post,
@@ -322,7 +313,6 @@ con-ty-returns-2 : (t : ℕ) → con-ty-lts.Need-returns-2 (
 unfolding Ty.ty
 con-ty-returns-2 t c = record { is = λ kinds. then-done (plain (c .before .before .before .before .before .before .before .before .before .before .before .ty-seq .ensures)) (c .before .before .before .before .before .before .before .before .told .ensures) (c .before .before .before .before .before .before .s1 .given .1) (plain (c .before .before .path .ensures)) }
 
--- src/lib.rt:322:9
 fn-ty-get-ty-requires : (t : ℕ) → fn-ty-lts.Need-get-ty-requires (
   get-ty-below t,
   get-ty.Post,
@@ -333,7 +323,6 @@ fn-ty-get-ty-requires : (t : ℕ) → fn-ty-lts.Need-get-ty-requires (
 ) (fn-ty-at t) fn-ty.Post
 fn-ty-get-ty-requires t c κs = omega (arith, c .before .before .before .before .before .before .before .pre .0)
 
--- src/lib.rt:323:28
 fn-ty-told-requires : (t : ℕ) → fn-ty-lts.Need-told-requires (
   get-ty-below t,
   get-ty.Post,
@@ -344,7 +333,6 @@ fn-ty-told-requires : (t : ℕ) → fn-ty-lts.Need-told-requires (
 ) (fn-ty-at t) fn-ty.Post
 fn-ty-told-requires t c κs = search needs
 
--- src/lib.rt:323:22
 fn-ty-enum-known-s1 : (t : ℕ) → fn-ty-lts.Need-enum-known-s1 (
   get-ty-below t,
   get-ty.Post,
@@ -355,7 +343,6 @@ fn-ty-enum-known-s1 : (t : ℕ) → fn-ty-lts.Need-enum-known-s1 (
 ) (fn-ty-at t) fn-ty.Post
 fn-ty-enum-known-s1 t c = search needs
 
--- src/lib.rt:324:9
 fn-ty-enum-told : (t : ℕ) → fn-ty-lts.Need-enum-told (
   get-ty-below t,
   get-ty.Post,
@@ -366,7 +353,6 @@ fn-ty-enum-told : (t : ℕ) → fn-ty-lts.Need-enum-told (
 ) (fn-ty-at t) fn-ty.Post
 fn-ty-enum-told t c = search needs
 
--- src/lib.rt:324:9
 fn-ty-same-length : (t : ℕ) → fn-ty-lts.Need-same-length (
   get-ty-below t,
   get-ty.Post,
@@ -377,7 +363,6 @@ fn-ty-same-length : (t : ℕ) → fn-ty-lts.Need-same-length (
 ) (fn-ty-at t) fn-ty.Post
 fn-ty-same-length t c = c .before .before .before .before .before .get-ty .kept .1 .1 .1 .1 .1 .0
 
--- src/lib.rt:324:9
 fn-ty-returns : (t : ℕ) → fn-ty-lts.Need-returns (
   get-ty-below t,
   get-ty.Post,
@@ -389,7 +374,6 @@ fn-ty-returns : (t : ℕ) → fn-ty-lts.Need-returns (
 unfolding Ty.ty
 fn-ty-returns t c = record { is = λ kinds. then-stop (plain (c .before .before .before .before .before .get-ty .ensures)) (c .before .before .told .ensures) (c .enum-told .given .1) }
 
--- src/lib.rt:326:5
 fn-ty-word-requires : (t : ℕ) → fn-ty-lts.Need-word-requires (
   get-ty-below t,
   get-ty.Post,
@@ -400,7 +384,6 @@ fn-ty-word-requires : (t : ℕ) → fn-ty-lts.Need-word-requires (
 ) (fn-ty-at t) fn-ty.Post
 fn-ty-word-requires t c κs = search needs
 
--- src/lib.rt:327:5
 fn-ty-get-ty-requires-2 : (t : ℕ) → fn-ty-lts.Need-get-ty-requires-2 (
   get-ty-below t,
   get-ty.Post,
@@ -411,7 +394,6 @@ fn-ty-get-ty-requires-2 : (t : ℕ) → fn-ty-lts.Need-get-ty-requires-2 (
 ) (fn-ty-at t) fn-ty.Post
 fn-ty-get-ty-requires-2 t c κs = omega (arith, c .before .before .before .before .before .before .before .before .before .before .before .before .before .before .before .before .before .before .before .before .before .pre .0)
 
--- src/lib.rt:309:1
 fn-ty-same-length-2 : (t : ℕ) → fn-ty-lts.Need-same-length-2 (
   get-ty-below t,
   get-ty.Post,
@@ -422,7 +404,6 @@ fn-ty-same-length-2 : (t : ℕ) → fn-ty-lts.Need-same-length-2 (
 ) (fn-ty-at t) fn-ty.Post
 fn-ty-same-length-2 t c = c .before .before .get-ty2 .kept .1 .1 .1 .1 .1 .0 ∙ c .before .before .before .before .before .before .before .word .kept .1 .1 .0 ∙ c .before .before .before .before .before .before .before .before .before .before .before .before .before .before .before .before .get-ty .kept .1 .1 .1 .1 .1 .0
 
--- src/lib.rt:309:1
 fn-ty-returns-2 : (t : ℕ) → fn-ty-lts.Need-returns-2 (
   get-ty-below t,
   get-ty.Post,
@@ -434,7 +415,6 @@ fn-ty-returns-2 : (t : ℕ) → fn-ty-lts.Need-returns-2 (
 unfolding Ty.ty
 fn-ty-returns-2 t c = record { is = λ kinds. then-done (plain (c .before .before .before .before .before .before .before .before .before .before .before .before .before .before .before .before .get-ty .ensures)) (c .before .before .before .before .before .before .before .before .before .before .before .before .before .told .ensures) (c .before .before .before .before .before .before .before .before .before .before .before .s1 .given .1) (then-sure (c .before .before .before .before .before .before .before .word .ensures) (plain (c .before .before .get-ty2 .ensures))) }
 
--- src/lib.rt:369:9
 get-ty-stop-requires : (t : ℕ) → get-ty-lts.Need-stop-requires (
   stop-reads.Asked,
   stop-reads.Learnt,
@@ -459,7 +439,6 @@ get-ty-stop-requires : (t : ℕ) → get-ty-lts.Need-stop-requires (
 ) (get-ty-at t) get-ty.Post
 get-ty-stop-requires t c κs = search needs
 
--- src/lib.rt:369:9
 get-ty-returns : (t : ℕ) → get-ty-lts.Need-returns (
   stop-reads.Asked,
   stop-reads.Learnt,
@@ -485,7 +464,6 @@ get-ty-returns : (t : ℕ) → get-ty-lts.Need-returns (
 unfolding Ty.tys Ty.ty
 get-ty-returns t c = record { is = λ kinds. ty-zero _ (c .before .if1 .taken) (c .stop .ensures) }
 
--- src/lib.rt:371:26
 get-ty-form-requires : (t : ℕ) → get-ty-lts.Need-form-requires (
   stop-reads.Asked,
   stop-reads.Learnt,
@@ -510,7 +488,6 @@ get-ty-form-requires : (t : ℕ) → get-ty-lts.Need-form-requires (
 ) (get-ty-at t) get-ty.Post
 get-ty-form-requires t c κs = search needs
 
--- src/lib.rt:371:18
 get-ty-enum-known-k : (t : ℕ) → get-ty-lts.Need-enum-known-k (
   stop-reads.Asked,
   stop-reads.Learnt,
@@ -535,7 +512,6 @@ get-ty-enum-known-k : (t : ℕ) → get-ty-lts.Need-enum-known-k (
 ) (get-ty-at t) get-ty.Post
 get-ty-enum-known-k t c = search needs
 
--- src/lib.rt:372:9
 get-ty-enum-told : (t : ℕ) → get-ty-lts.Need-enum-told (
   stop-reads.Asked,
   stop-reads.Learnt,
@@ -560,7 +536,6 @@ get-ty-enum-told : (t : ℕ) → get-ty-lts.Need-enum-told (
 ) (get-ty-at t) get-ty.Post
 get-ty-enum-told t c = search needs
 
--- src/lib.rt:372:9
 get-ty-stop-requires-2 : (t : ℕ) → get-ty-lts.Need-stop-requires-2 (
   stop-reads.Asked,
   stop-reads.Learnt,
@@ -585,7 +560,6 @@ get-ty-stop-requires-2 : (t : ℕ) → get-ty-lts.Need-stop-requires-2 (
 ) (get-ty-at t) get-ty.Post
 get-ty-stop-requires-2 t c κs = search needs
 
--- src/lib.rt:372:9
 get-ty-returns-2 : (t : ℕ) → get-ty-lts.Need-returns-2 (
   stop-reads.Asked,
   stop-reads.Learnt,
@@ -611,7 +585,6 @@ get-ty-returns-2 : (t : ℕ) → get-ty-lts.Need-returns-2 (
 unfolding Ty.tys Ty.ty
 get-ty-returns-2 t c = record { is = λ kinds. ty-form _ (c .before .before .before .before .if1 .left) (form-not (c .stop2 .ensures) (c .before .before .before .form .ensures) (c .before .enum-told .given .1)) }
 
--- src/lib.rt:377:15
 get-ty-sub-t17 : (t : ℕ) → get-ty-lts.Need-sub-t17 (
   stop-reads.Asked,
   stop-reads.Learnt,
@@ -636,7 +609,6 @@ get-ty-sub-t17 : (t : ℕ) → get-ty-lts.Need-sub-t17 (
 ) (get-ty-at t) get-ty.Post
 get-ty-sub-t17 t c = search needs
 
--- src/lib.rt:381:13
 get-ty-word-requires : (t : ℕ) → get-ty-lts.Need-word-requires (
   stop-reads.Asked,
   stop-reads.Learnt,
@@ -661,7 +633,6 @@ get-ty-word-requires : (t : ℕ) → get-ty-lts.Need-word-requires (
 ) (get-ty-at t) get-ty.Post
 get-ty-word-requires t c κs = search needs
 
--- src/lib.rt:385:13
 get-ty-word-requires-2 : (t : ℕ) → get-ty-lts.Need-word-requires-2 (
   stop-reads.Asked,
   stop-reads.Learnt,
@@ -686,7 +657,6 @@ get-ty-word-requires-2 : (t : ℕ) → get-ty-lts.Need-word-requires-2 (
 ) (get-ty-at t) get-ty.Post
 get-ty-word-requires-2 t c κs = search needs
 
--- src/lib.rt:388:14
 get-ty-text-of-requires : (t : ℕ) → get-ty-lts.Need-text-of-requires (
   stop-reads.Asked,
   stop-reads.Learnt,
@@ -711,7 +681,6 @@ get-ty-text-of-requires : (t : ℕ) → get-ty-lts.Need-text-of-requires (
 ) (get-ty-at t) get-ty.Post
 get-ty-text-of-requires t c κs = search needs
 
--- src/lib.rt:389:14
 get-ty-record-ty-requires : (t : ℕ) → get-ty-lts.Need-record-ty-requires (
   stop-reads.Asked,
   stop-reads.Learnt,
@@ -736,7 +705,6 @@ get-ty-record-ty-requires : (t : ℕ) → get-ty-lts.Need-record-ty-requires (
 ) (get-ty-at t) get-ty.Post
 get-ty-record-ty-requires t c κs = omega (arith, c .before .before .before .before .before .before .before .before .before .before .before .before .before .pre .0, c .before .before .before .before .before .before .before .if1 .left)
 
--- src/lib.rt:390:14
 get-ty-con-ty-requires : (t : ℕ) → get-ty-lts.Need-con-ty-requires (
   stop-reads.Asked,
   stop-reads.Learnt,
@@ -761,7 +729,6 @@ get-ty-con-ty-requires : (t : ℕ) → get-ty-lts.Need-con-ty-requires (
 ) (get-ty-at t) get-ty.Post
 get-ty-con-ty-requires t c κs = omega (arith, c .before .before .before .before .before .before .before .before .before .before .before .before .before .pre .0, c .before .before .before .before .before .before .before .if1 .left)
 
--- src/lib.rt:391:14
 get-ty-one-arg-con-ty-requires : (t : ℕ) → get-ty-lts.Need-one-arg-con-ty-requires (
   stop-reads.Asked,
   stop-reads.Learnt,
@@ -786,7 +753,6 @@ get-ty-one-arg-con-ty-requires : (t : ℕ) → get-ty-lts.Need-one-arg-con-ty-re
 ) (get-ty-at t) get-ty.Post
 get-ty-one-arg-con-ty-requires t c κs = omega (arith, c .before .before .before .before .before .before .before .before .before .before .before .before .before .pre .0, c .before .before .before .before .before .before .before .if1 .left)
 
--- src/lib.rt:392:14
 get-ty-tuple-ty-requires : (t : ℕ) → get-ty-lts.Need-tuple-ty-requires (
   stop-reads.Asked,
   stop-reads.Learnt,
@@ -811,7 +777,6 @@ get-ty-tuple-ty-requires : (t : ℕ) → get-ty-lts.Need-tuple-ty-requires (
 ) (get-ty-at t) get-ty.Post
 get-ty-tuple-ty-requires t c κs = omega (arith, c .before .before .before .before .before .before .before .before .before .before .before .before .before .pre .0, c .before .before .before .before .before .before .before .if1 .left)
 
--- src/lib.rt:393:14
 get-ty-fn-ty-requires : (t : ℕ) → get-ty-lts.Need-fn-ty-requires (
   stop-reads.Asked,
   stop-reads.Learnt,
@@ -836,7 +801,6 @@ get-ty-fn-ty-requires : (t : ℕ) → get-ty-lts.Need-fn-ty-requires (
 ) (get-ty-at t) get-ty.Post
 get-ty-fn-ty-requires t c κs = omega (arith, c .before .before .before .before .before .before .before .before .before .before .before .before .before .pre .0, c .before .before .before .before .before .before .before .if1 .left)
 
--- src/lib.rt:394:14
 get-ty-paren-ty-requires : (t : ℕ) → get-ty-lts.Need-paren-ty-requires (
   stop-reads.Asked,
   stop-reads.Learnt,
@@ -861,7 +825,6 @@ get-ty-paren-ty-requires : (t : ℕ) → get-ty-lts.Need-paren-ty-requires (
 ) (get-ty-at t) get-ty.Post
 get-ty-paren-ty-requires t c κs = omega (arith, c .before .before .before .before .before .before .before .before .before .before .before .before .before .pre .0, c .before .before .before .before .before .before .before .if1 .left)
 
--- src/lib.rt:395:14
 get-ty-stop-requires-3 : (t : ℕ) → get-ty-lts.Need-stop-requires-3 (
   stop-reads.Asked,
   stop-reads.Learnt,
@@ -886,7 +849,6 @@ get-ty-stop-requires-3 : (t : ℕ) → get-ty-lts.Need-stop-requires-3 (
 ) (get-ty-at t) get-ty.Post
 get-ty-stop-requires-3 t c κs = search needs
 
--- src/lib.rt:354:1
 get-ty-same-length : (t : ℕ) → get-ty-lts.Need-same-length (
   stop-reads.Asked,
   stop-reads.Learnt,
@@ -911,7 +873,6 @@ get-ty-same-length : (t : ℕ) → get-ty-lts.Need-same-length (
 ) (get-ty-at t) get-ty.Post
 get-ty-same-length t c = c .before .before .word .kept .1 .1 .0
 
--- src/lib.rt:354:1
 get-ty-returns-3 : (t : ℕ) → get-ty-lts.Need-returns-3 (
   stop-reads.Asked,
   stop-reads.Learnt,
@@ -937,7 +898,6 @@ get-ty-returns-3 : (t : ℕ) → get-ty-lts.Need-returns-3 (
 unfolding Ty.tys Ty.ty
 get-ty-returns-3 t c = record { is = λ kinds. ty-form _ (c .before .before .before .before .before .before .before .before .before .before .if1 .left) (form-key (c .before .before .before .before .before .before .before .before .before .form .ensures) (c .before .before .before .before .before .before .before .k .given .1) (c .before .before .before .before .before .match2 .keys1) (last-sure (c .before .before .word .ensures))) }
 
--- src/lib.rt:354:1
 get-ty-same-length-2 : (t : ℕ) → get-ty-lts.Need-same-length-2 (
   stop-reads.Asked,
   stop-reads.Learnt,
@@ -962,7 +922,6 @@ get-ty-same-length-2 : (t : ℕ) → get-ty-lts.Need-same-length-2 (
 ) (get-ty-at t) get-ty.Post
 get-ty-same-length-2 t c = c .before .before .word2 .kept .1 .1 .0
 
--- src/lib.rt:354:1
 get-ty-returns-4 : (t : ℕ) → get-ty-lts.Need-returns-4 (
   stop-reads.Asked,
   stop-reads.Learnt,
@@ -988,7 +947,6 @@ get-ty-returns-4 : (t : ℕ) → get-ty-lts.Need-returns-4 (
 unfolding Ty.tys Ty.ty
 get-ty-returns-4 t c = record { is = λ kinds. ty-form _ (c .before .before .before .before .before .before .before .before .before .before .if1 .left) (form-key (c .before .before .before .before .before .before .before .before .before .form .ensures) (c .before .before .before .before .before .before .before .k .given .1) (c .before .before .before .before .before .match2 .keys2) (last-sure (c .before .before .word2 .ensures))) }
 
--- src/lib.rt:354:1
 get-ty-same-length-3 : (t : ℕ) → get-ty-lts.Need-same-length-3 (
   stop-reads.Asked,
   stop-reads.Learnt,
@@ -1013,7 +971,6 @@ get-ty-same-length-3 : (t : ℕ) → get-ty-lts.Need-same-length-3 (
 ) (get-ty-at t) get-ty.Post
 get-ty-same-length-3 t c = c .before .before .text-of .kept .1 .1 .1 .1 .1 .0
 
--- src/lib.rt:354:1
 get-ty-returns-5 : (t : ℕ) → get-ty-lts.Need-returns-5 (
   stop-reads.Asked,
   stop-reads.Learnt,
@@ -1039,7 +996,6 @@ get-ty-returns-5 : (t : ℕ) → get-ty-lts.Need-returns-5 (
 unfolding Ty.tys Ty.ty
 get-ty-returns-5 t c = record { is = λ kinds. ty-form _ (c .before .before .before .before .before .before .before .before .before .before .if1 .left) (form-key (c .before .before .before .before .before .before .before .before .before .form .ensures) (c .before .before .before .before .before .before .before .k .given .1) (c .before .before .before .before .before .match2 .keys3) (plain (c .before .before .text-of .ensures))) }
 
--- src/lib.rt:354:1
 get-ty-same-length-4 : (t : ℕ) → get-ty-lts.Need-same-length-4 (
   stop-reads.Asked,
   stop-reads.Learnt,
@@ -1064,7 +1020,6 @@ get-ty-same-length-4 : (t : ℕ) → get-ty-lts.Need-same-length-4 (
 ) (get-ty-at t) get-ty.Post
 get-ty-same-length-4 t c = c .before .before .record-ty .kept .1 .1 .1 .1 .1 .0
 
--- src/lib.rt:354:1
 get-ty-returns-6 : (t : ℕ) → get-ty-lts.Need-returns-6 (
   stop-reads.Asked,
   stop-reads.Learnt,
@@ -1090,7 +1045,6 @@ get-ty-returns-6 : (t : ℕ) → get-ty-lts.Need-returns-6 (
 unfolding Ty.tys Ty.ty
 get-ty-returns-6 t c = record { is = λ kinds. ty-form _ (c .before .before .before .before .before .before .before .before .before .before .if1 .left) (form-key (c .before .before .before .before .before .before .before .before .before .form .ensures) (c .before .before .before .before .before .before .before .k .given .1) (c .before .before .before .before .before .match2 .keys4) (plain (c .before .before .record-ty .ensures))) }
 
--- src/lib.rt:354:1
 get-ty-same-length-5 : (t : ℕ) → get-ty-lts.Need-same-length-5 (
   stop-reads.Asked,
   stop-reads.Learnt,
@@ -1115,7 +1069,6 @@ get-ty-same-length-5 : (t : ℕ) → get-ty-lts.Need-same-length-5 (
 ) (get-ty-at t) get-ty.Post
 get-ty-same-length-5 t c = c .before .before .con-ty .kept .1 .1 .1 .1 .1 .0
 
--- src/lib.rt:354:1
 get-ty-returns-7 : (t : ℕ) → get-ty-lts.Need-returns-7 (
   stop-reads.Asked,
   stop-reads.Learnt,
@@ -1141,7 +1094,6 @@ get-ty-returns-7 : (t : ℕ) → get-ty-lts.Need-returns-7 (
 unfolding Ty.tys Ty.ty
 get-ty-returns-7 t c = record { is = λ kinds. ty-form _ (c .before .before .before .before .before .before .before .before .before .before .if1 .left) (form-key (c .before .before .before .before .before .before .before .before .before .form .ensures) (c .before .before .before .before .before .before .before .k .given .1) (c .before .before .before .before .before .match2 .keys5) (plain (c .before .before .con-ty .ensures))) }
 
--- src/lib.rt:354:1
 get-ty-same-length-6 : (t : ℕ) → get-ty-lts.Need-same-length-6 (
   stop-reads.Asked,
   stop-reads.Learnt,
@@ -1166,7 +1118,6 @@ get-ty-same-length-6 : (t : ℕ) → get-ty-lts.Need-same-length-6 (
 ) (get-ty-at t) get-ty.Post
 get-ty-same-length-6 t c = c .before .before .one-arg-con-ty .kept .1 .1 .1 .1 .1 .0
 
--- src/lib.rt:354:1
 get-ty-returns-8 : (t : ℕ) → get-ty-lts.Need-returns-8 (
   stop-reads.Asked,
   stop-reads.Learnt,
@@ -1192,7 +1143,6 @@ get-ty-returns-8 : (t : ℕ) → get-ty-lts.Need-returns-8 (
 unfolding Ty.tys Ty.ty
 get-ty-returns-8 t c = record { is = λ kinds. ty-form _ (c .before .before .before .before .before .before .before .before .before .before .if1 .left) (form-key (c .before .before .before .before .before .before .before .before .before .form .ensures) (c .before .before .before .before .before .before .before .k .given .1) (c .before .before .before .before .before .match2 .keys6) (plain (c .before .before .one-arg-con-ty .ensures))) }
 
--- src/lib.rt:354:1
 get-ty-same-length-7 : (t : ℕ) → get-ty-lts.Need-same-length-7 (
   stop-reads.Asked,
   stop-reads.Learnt,
@@ -1217,7 +1167,6 @@ get-ty-same-length-7 : (t : ℕ) → get-ty-lts.Need-same-length-7 (
 ) (get-ty-at t) get-ty.Post
 get-ty-same-length-7 t c = c .before .before .tuple-ty .kept .1 .1 .1 .1 .1 .0
 
--- src/lib.rt:354:1
 get-ty-returns-9 : (t : ℕ) → get-ty-lts.Need-returns-9 (
   stop-reads.Asked,
   stop-reads.Learnt,
@@ -1243,7 +1192,6 @@ get-ty-returns-9 : (t : ℕ) → get-ty-lts.Need-returns-9 (
 unfolding Ty.tys Ty.ty
 get-ty-returns-9 t c = record { is = λ kinds. ty-form _ (c .before .before .before .before .before .before .before .before .before .before .if1 .left) (form-key (c .before .before .before .before .before .before .before .before .before .form .ensures) (c .before .before .before .before .before .before .before .k .given .1) (c .before .before .before .before .before .match2 .keys7) (plain (c .before .before .tuple-ty .ensures))) }
 
--- src/lib.rt:354:1
 get-ty-same-length-8 : (t : ℕ) → get-ty-lts.Need-same-length-8 (
   stop-reads.Asked,
   stop-reads.Learnt,
@@ -1268,7 +1216,6 @@ get-ty-same-length-8 : (t : ℕ) → get-ty-lts.Need-same-length-8 (
 ) (get-ty-at t) get-ty.Post
 get-ty-same-length-8 t c = c .before .before .fn-ty .kept .1 .1 .1 .1 .1 .0
 
--- src/lib.rt:354:1
 get-ty-returns-10 : (t : ℕ) → get-ty-lts.Need-returns-10 (
   stop-reads.Asked,
   stop-reads.Learnt,
@@ -1294,7 +1241,6 @@ get-ty-returns-10 : (t : ℕ) → get-ty-lts.Need-returns-10 (
 unfolding Ty.tys Ty.ty
 get-ty-returns-10 t c = record { is = λ kinds. ty-form _ (c .before .before .before .before .before .before .before .before .before .before .if1 .left) (form-key (c .before .before .before .before .before .before .before .before .before .form .ensures) (c .before .before .before .before .before .before .before .k .given .1) (c .before .before .before .before .before .match2 .keys8) (plain (c .before .before .fn-ty .ensures))) }
 
--- src/lib.rt:354:1
 get-ty-same-length-9 : (t : ℕ) → get-ty-lts.Need-same-length-9 (
   stop-reads.Asked,
   stop-reads.Learnt,
@@ -1319,7 +1265,6 @@ get-ty-same-length-9 : (t : ℕ) → get-ty-lts.Need-same-length-9 (
 ) (get-ty-at t) get-ty.Post
 get-ty-same-length-9 t c = c .before .before .paren-ty .kept .1 .1 .1 .1 .1 .0
 
--- src/lib.rt:354:1
 get-ty-returns-11 : (t : ℕ) → get-ty-lts.Need-returns-11 (
   stop-reads.Asked,
   stop-reads.Learnt,
@@ -1345,7 +1290,6 @@ get-ty-returns-11 : (t : ℕ) → get-ty-lts.Need-returns-11 (
 unfolding Ty.tys Ty.ty
 get-ty-returns-11 t c = record { is = λ kinds. ty-form _ (c .before .before .before .before .before .before .before .before .before .before .if1 .left) (form-key (c .before .before .before .before .before .before .before .before .before .form .ensures) (c .before .before .before .before .before .before .before .k .given .1) (c .before .before .before .before .before .match2 .keys9) (plain (c .before .before .paren-ty .ensures))) }
 
--- src/lib.rt:354:1
 get-ty-returns-12 : (t : ℕ) → get-ty-lts.Need-returns-12 (
   stop-reads.Asked,
   stop-reads.Learnt,
@@ -1371,7 +1315,6 @@ get-ty-returns-12 : (t : ℕ) → get-ty-lts.Need-returns-12 (
 unfolding Ty.tys Ty.ty
 get-ty-returns-12 t c = record { is = λ kinds. ty-form _ (c .before .before .before .before .before .before .if1 .left) (by-same (form-is (c .before .before .before .before .before .form .ensures) (c .before .before .before .k .given .1)) (beyond (Ty.tys (walks (c .before .before .before .before .before .before .before .before .before .before .before .before .args .cfg .left - 1))) (c .before .before .before .k .given .0 .0) 9 refl (past (past (past (past (past (past (past (past (past zero-le (c .before .match2 .rest .0 .0 .0 .0 .0 .0 .0 .0 .1)) (c .before .match2 .rest .0 .0 .0 .0 .0 .0 .0 .1)) (c .before .match2 .rest .0 .0 .0 .0 .0 .0 .1)) (c .before .match2 .rest .0 .0 .0 .0 .0 .1)) (c .before .match2 .rest .0 .0 .0 .0 .1)) (c .before .match2 .rest .0 .0 .0 .1)) (c .before .match2 .rest .0 .0 .1)) (c .before .match2 .rest .0 .1)) (c .before .match2 .rest .1)) (c .stop3 .ensures))) }
 
--- src/lib.rt:225:9
 one-arg-con-ty-get-ty-requires : (t : ℕ) → one-arg-con-ty-lts.Need-get-ty-requires (
   get-ty-below t,
   get-ty.Post,
@@ -1384,7 +1327,6 @@ one-arg-con-ty-get-ty-requires : (t : ℕ) → one-arg-con-ty-lts.Need-get-ty-re
 ) (one-arg-con-ty-at t) one-arg-con-ty.Post
 one-arg-con-ty-get-ty-requires t c κs = omega (arith, c .before .before .before .before .before .before .before .pre .0)
 
--- src/lib.rt:226:28
 one-arg-con-ty-told-requires : (t : ℕ) → one-arg-con-ty-lts.Need-told-requires (
   get-ty-below t,
   get-ty.Post,
@@ -1397,7 +1339,6 @@ one-arg-con-ty-told-requires : (t : ℕ) → one-arg-con-ty-lts.Need-told-requir
 ) (one-arg-con-ty-at t) one-arg-con-ty.Post
 one-arg-con-ty-told-requires t c κs = search needs
 
--- src/lib.rt:226:22
 one-arg-con-ty-enum-known-s1 : (t : ℕ) → one-arg-con-ty-lts.Need-enum-known-s1 (
   get-ty-below t,
   get-ty.Post,
@@ -1410,7 +1351,6 @@ one-arg-con-ty-enum-known-s1 : (t : ℕ) → one-arg-con-ty-lts.Need-enum-known-
 ) (one-arg-con-ty-at t) one-arg-con-ty.Post
 one-arg-con-ty-enum-known-s1 t c = search needs
 
--- src/lib.rt:227:9
 one-arg-con-ty-enum-told : (t : ℕ) → one-arg-con-ty-lts.Need-enum-told (
   get-ty-below t,
   get-ty.Post,
@@ -1423,7 +1363,6 @@ one-arg-con-ty-enum-told : (t : ℕ) → one-arg-con-ty-lts.Need-enum-told (
 ) (one-arg-con-ty-at t) one-arg-con-ty.Post
 one-arg-con-ty-enum-told t c = search needs
 
--- src/lib.rt:227:9
 one-arg-con-ty-same-length : (t : ℕ) → one-arg-con-ty-lts.Need-same-length (
   get-ty-below t,
   get-ty.Post,
@@ -1436,7 +1375,6 @@ one-arg-con-ty-same-length : (t : ℕ) → one-arg-con-ty-lts.Need-same-length (
 ) (one-arg-con-ty-at t) one-arg-con-ty.Post
 one-arg-con-ty-same-length t c = c .before .before .before .before .before .get-ty .kept .1 .1 .1 .1 .1 .0
 
--- src/lib.rt:227:9
 one-arg-con-ty-returns : (t : ℕ) → one-arg-con-ty-lts.Need-returns (
   get-ty-below t,
   get-ty.Post,
@@ -1450,7 +1388,6 @@ one-arg-con-ty-returns : (t : ℕ) → one-arg-con-ty-lts.Need-returns (
 unfolding Ty.ty
 one-arg-con-ty-returns t c = record { is = λ kinds. then-stop (plain (c .before .before .before .before .before .get-ty .ensures)) (c .before .before .told .ensures) (c .enum-told .given .1) }
 
--- src/lib.rt:229:5
 one-arg-con-ty-word-requires : (t : ℕ) → one-arg-con-ty-lts.Need-word-requires (
   get-ty-below t,
   get-ty.Post,
@@ -1463,7 +1400,6 @@ one-arg-con-ty-word-requires : (t : ℕ) → one-arg-con-ty-lts.Need-word-requir
 ) (one-arg-con-ty-at t) one-arg-con-ty.Post
 one-arg-con-ty-word-requires t c κs = search needs
 
--- src/lib.rt:230:5
 one-arg-con-ty-path-requires : (t : ℕ) → one-arg-con-ty-lts.Need-path-requires (
   get-ty-below t,
   get-ty.Post,
@@ -1476,7 +1412,6 @@ one-arg-con-ty-path-requires : (t : ℕ) → one-arg-con-ty-lts.Need-path-requir
 ) (one-arg-con-ty-at t) one-arg-con-ty.Post
 one-arg-con-ty-path-requires t c κs = search needs
 
--- src/lib.rt:212:1
 one-arg-con-ty-same-length-2 : (t : ℕ) → one-arg-con-ty-lts.Need-same-length-2 (
   get-ty-below t,
   get-ty.Post,
@@ -1489,7 +1424,6 @@ one-arg-con-ty-same-length-2 : (t : ℕ) → one-arg-con-ty-lts.Need-same-length
 ) (one-arg-con-ty-at t) one-arg-con-ty.Post
 one-arg-con-ty-same-length-2 t c = c .before .before .path .kept .1 .1 .1 .1 .1 .0 ∙ c .before .before .before .before .before .before .before .word .kept .1 .1 .0 ∙ c .before .before .before .before .before .before .before .before .before .before .before .before .before .before .before .before .get-ty .kept .1 .1 .1 .1 .1 .0
 
--- src/lib.rt:212:1
 one-arg-con-ty-returns-2 : (t : ℕ) → one-arg-con-ty-lts.Need-returns-2 (
   get-ty-below t,
   get-ty.Post,
@@ -1503,7 +1437,6 @@ one-arg-con-ty-returns-2 : (t : ℕ) → one-arg-con-ty-lts.Need-returns-2 (
 unfolding Ty.ty
 one-arg-con-ty-returns-2 t c = record { is = λ kinds. then-done (plain (c .before .before .before .before .before .before .before .before .before .before .before .before .before .before .before .before .get-ty .ensures)) (c .before .before .before .before .before .before .before .before .before .before .before .before .before .told .ensures) (c .before .before .before .before .before .before .before .before .before .before .before .s1 .given .1) (then-sure (c .before .before .before .before .before .before .before .word .ensures) (plain (c .before .before .path .ensures))) }
 
--- src/lib.rt:344:5
 paren-ty-word-requires : (t : ℕ) → paren-ty-lts.Need-word-requires (
   word-reads.Asked,
   word-reads.Learnt,
@@ -1514,7 +1447,6 @@ paren-ty-word-requires : (t : ℕ) → paren-ty-lts.Need-word-requires (
 ) (paren-ty-at t) paren-ty.Post
 paren-ty-word-requires t c κs = search needs
 
--- src/lib.rt:345:9
 paren-ty-get-ty-requires : (t : ℕ) → paren-ty-lts.Need-get-ty-requires (
   word-reads.Asked,
   word-reads.Learnt,
@@ -1525,7 +1457,6 @@ paren-ty-get-ty-requires : (t : ℕ) → paren-ty-lts.Need-get-ty-requires (
 ) (paren-ty-at t) paren-ty.Post
 paren-ty-get-ty-requires t c κs = omega (arith, c .before .before .before .before .before .before .before .before .before .before .before .before .pre .0)
 
--- src/lib.rt:346:28
 paren-ty-told-requires : (t : ℕ) → paren-ty-lts.Need-told-requires (
   word-reads.Asked,
   word-reads.Learnt,
@@ -1536,7 +1467,6 @@ paren-ty-told-requires : (t : ℕ) → paren-ty-lts.Need-told-requires (
 ) (paren-ty-at t) paren-ty.Post
 paren-ty-told-requires t c κs = search needs
 
--- src/lib.rt:346:22
 paren-ty-enum-known-s1 : (t : ℕ) → paren-ty-lts.Need-enum-known-s1 (
   word-reads.Asked,
   word-reads.Learnt,
@@ -1547,7 +1477,6 @@ paren-ty-enum-known-s1 : (t : ℕ) → paren-ty-lts.Need-enum-known-s1 (
 ) (paren-ty-at t) paren-ty.Post
 paren-ty-enum-known-s1 t c = search needs
 
--- src/lib.rt:347:9
 paren-ty-enum-told : (t : ℕ) → paren-ty-lts.Need-enum-told (
   word-reads.Asked,
   word-reads.Learnt,
@@ -1558,7 +1487,6 @@ paren-ty-enum-told : (t : ℕ) → paren-ty-lts.Need-enum-told (
 ) (paren-ty-at t) paren-ty.Post
 paren-ty-enum-told t c = search needs
 
--- src/lib.rt:347:9
 paren-ty-same-length : (t : ℕ) → paren-ty-lts.Need-same-length (
   word-reads.Asked,
   word-reads.Learnt,
@@ -1569,7 +1497,6 @@ paren-ty-same-length : (t : ℕ) → paren-ty-lts.Need-same-length (
 ) (paren-ty-at t) paren-ty.Post
 paren-ty-same-length t c = c .before .before .before .before .before .get-ty .kept .1 .1 .1 .1 .1 .0 ∙ c .before .before .before .before .before .before .before .before .before .before .word .kept .1 .1 .0
 
--- src/lib.rt:347:9
 paren-ty-returns : (t : ℕ) → paren-ty-lts.Need-returns (
   word-reads.Asked,
   word-reads.Learnt,
@@ -1581,7 +1508,6 @@ paren-ty-returns : (t : ℕ) → paren-ty-lts.Need-returns (
 unfolding Ty.ty
 paren-ty-returns t c = record { is = λ kinds. then-sure (c .before .before .before .before .before .before .before .before .before .before .word .ensures) (then-stop (plain (c .before .before .before .before .before .get-ty .ensures)) (c .before .before .told .ensures) (c .enum-told .given .1)) }
 
--- src/lib.rt:349:5
 paren-ty-word-requires-2 : (t : ℕ) → paren-ty-lts.Need-word-requires-2 (
   word-reads.Asked,
   word-reads.Learnt,
@@ -1592,7 +1518,6 @@ paren-ty-word-requires-2 : (t : ℕ) → paren-ty-lts.Need-word-requires-2 (
 ) (paren-ty-at t) paren-ty.Post
 paren-ty-word-requires-2 t c κs = search needs
 
--- src/lib.rt:331:1
 paren-ty-same-length-2 : (t : ℕ) → paren-ty-lts.Need-same-length-2 (
   word-reads.Asked,
   word-reads.Learnt,
@@ -1603,7 +1528,6 @@ paren-ty-same-length-2 : (t : ℕ) → paren-ty-lts.Need-same-length-2 (
 ) (paren-ty-at t) paren-ty.Post
 paren-ty-same-length-2 t c = c .before .before .word2 .kept .1 .1 .0 ∙ c .before .before .before .before .before .before .before .before .before .before .before .get-ty .kept .1 .1 .1 .1 .1 .0 ∙ c .before .before .before .before .before .before .before .before .before .before .before .before .before .before .before .before .word .kept .1 .1 .0
 
--- src/lib.rt:331:1
 paren-ty-returns-2 : (t : ℕ) → paren-ty-lts.Need-returns-2 (
   word-reads.Asked,
   word-reads.Learnt,
@@ -1615,7 +1539,6 @@ paren-ty-returns-2 : (t : ℕ) → paren-ty-lts.Need-returns-2 (
 unfolding Ty.ty
 paren-ty-returns-2 t c = record { is = λ kinds. then-sure (c .before .before .before .before .before .before .before .before .before .before .before .before .before .before .before .before .word .ensures) (then-done (plain (c .before .before .before .before .before .before .before .before .before .before .before .get-ty .ensures)) (c .before .before .before .before .before .before .before .before .told .ensures) (c .before .before .before .before .before .before .s1 .given .1) (last-sure (c .before .before .word2 .ensures))) }
 
--- src/lib.rt:98:5
 record-ty-word-requires : (t : ℕ) → record-ty-lts.Need-word-requires (
   word-reads.Asked,
   word-reads.Learnt,
@@ -1626,7 +1549,6 @@ record-ty-word-requires : (t : ℕ) → record-ty-lts.Need-word-requires (
 ) (record-ty-at t) record-ty.Post
 record-ty-word-requires t c κs = search needs
 
--- src/lib.rt:99:9
 record-ty-ty-rows-requires : (t : ℕ) → record-ty-lts.Need-ty-rows-requires (
   word-reads.Asked,
   word-reads.Learnt,
@@ -1637,7 +1559,6 @@ record-ty-ty-rows-requires : (t : ℕ) → record-ty-lts.Need-ty-rows-requires (
 ) (record-ty-at t) record-ty.Post
 record-ty-ty-rows-requires t c κs = omega (arith, c .before .before .before .before .before .before .before .before .before .before .before .before .pre .0)
 
--- src/lib.rt:100:28
 record-ty-told-requires : (t : ℕ) → record-ty-lts.Need-told-requires (
   word-reads.Asked,
   word-reads.Learnt,
@@ -1648,7 +1569,6 @@ record-ty-told-requires : (t : ℕ) → record-ty-lts.Need-told-requires (
 ) (record-ty-at t) record-ty.Post
 record-ty-told-requires t c κs = search needs
 
--- src/lib.rt:100:22
 record-ty-enum-known-s1 : (t : ℕ) → record-ty-lts.Need-enum-known-s1 (
   word-reads.Asked,
   word-reads.Learnt,
@@ -1659,7 +1579,6 @@ record-ty-enum-known-s1 : (t : ℕ) → record-ty-lts.Need-enum-known-s1 (
 ) (record-ty-at t) record-ty.Post
 record-ty-enum-known-s1 t c = search needs
 
--- src/lib.rt:101:9
 record-ty-enum-told : (t : ℕ) → record-ty-lts.Need-enum-told (
   word-reads.Asked,
   word-reads.Learnt,
@@ -1670,7 +1589,6 @@ record-ty-enum-told : (t : ℕ) → record-ty-lts.Need-enum-told (
 ) (record-ty-at t) record-ty.Post
 record-ty-enum-told t c = search needs
 
--- src/lib.rt:101:9
 record-ty-same-length : (t : ℕ) → record-ty-lts.Need-same-length (
   word-reads.Asked,
   word-reads.Learnt,
@@ -1681,7 +1599,6 @@ record-ty-same-length : (t : ℕ) → record-ty-lts.Need-same-length (
 ) (record-ty-at t) record-ty.Post
 record-ty-same-length t c = c .before .before .before .before .before .ty-rows .kept .1 .1 .1 .1 .1 .0 ∙ c .before .before .before .before .before .before .before .before .before .before .word .kept .1 .1 .0
 
--- src/lib.rt:101:9
 record-ty-returns : (t : ℕ) → record-ty-lts.Need-returns (
   word-reads.Asked,
   word-reads.Learnt,
@@ -1693,7 +1610,6 @@ record-ty-returns : (t : ℕ) → record-ty-lts.Need-returns (
 unfolding Ty.ty
 record-ty-returns t c = record { is = λ kinds. then-sure (c .before .before .before .before .before .before .before .before .before .before .word .ensures) (then-stop (plain (c .before .before .before .before .before .ty-rows .ensures)) (c .before .before .told .ensures) (c .enum-told .given .1)) }
 
--- src/lib.rt:103:5
 record-ty-word-requires-2 : (t : ℕ) → record-ty-lts.Need-word-requires-2 (
   word-reads.Asked,
   word-reads.Learnt,
@@ -1704,7 +1620,6 @@ record-ty-word-requires-2 : (t : ℕ) → record-ty-lts.Need-word-requires-2 (
 ) (record-ty-at t) record-ty.Post
 record-ty-word-requires-2 t c κs = search needs
 
--- src/lib.rt:85:1
 record-ty-same-length-2 : (t : ℕ) → record-ty-lts.Need-same-length-2 (
   word-reads.Asked,
   word-reads.Learnt,
@@ -1715,7 +1630,6 @@ record-ty-same-length-2 : (t : ℕ) → record-ty-lts.Need-same-length-2 (
 ) (record-ty-at t) record-ty.Post
 record-ty-same-length-2 t c = c .before .before .word2 .kept .1 .1 .0 ∙ c .before .before .before .before .before .before .before .before .before .before .before .ty-rows .kept .1 .1 .1 .1 .1 .0 ∙ c .before .before .before .before .before .before .before .before .before .before .before .before .before .before .before .before .word .kept .1 .1 .0
 
--- src/lib.rt:85:1
 record-ty-returns-2 : (t : ℕ) → record-ty-lts.Need-returns-2 (
   word-reads.Asked,
   word-reads.Learnt,
@@ -1727,7 +1641,6 @@ record-ty-returns-2 : (t : ℕ) → record-ty-lts.Need-returns-2 (
 unfolding Ty.ty
 record-ty-returns-2 t c = record { is = λ kinds. then-sure (c .before .before .before .before .before .before .before .before .before .before .before .before .before .before .before .before .word .ensures) (then-done (plain (c .before .before .before .before .before .before .before .before .before .before .before .ty-rows .ensures)) (c .before .before .before .before .before .before .before .before .told .ensures) (c .before .before .before .before .before .before .s1 .given .1) (last-sure (c .before .before .word2 .ensures))) }
 
--- src/lib.rt:247:9
 star-ty-group-requires : (t : ℕ) → star-ty-lts.Need-group-requires (
   group-reads.Asked,
   group-reads.Learnt,
@@ -1740,7 +1653,6 @@ star-ty-group-requires : (t : ℕ) → star-ty-lts.Need-group-requires (
 ) (star-ty-at t) star-ty.Post
 star-ty-group-requires t c κs = search needs
 
--- src/lib.rt:248:28
 star-ty-told-requires : (t : ℕ) → star-ty-lts.Need-told-requires (
   group-reads.Asked,
   group-reads.Learnt,
@@ -1753,7 +1665,6 @@ star-ty-told-requires : (t : ℕ) → star-ty-lts.Need-told-requires (
 ) (star-ty-at t) star-ty.Post
 star-ty-told-requires t c κs = search needs
 
--- src/lib.rt:248:22
 star-ty-enum-known-s1 : (t : ℕ) → star-ty-lts.Need-enum-known-s1 (
   group-reads.Asked,
   group-reads.Learnt,
@@ -1766,7 +1677,6 @@ star-ty-enum-known-s1 : (t : ℕ) → star-ty-lts.Need-enum-known-s1 (
 ) (star-ty-at t) star-ty.Post
 star-ty-enum-known-s1 t c = search needs
 
--- src/lib.rt:249:9
 star-ty-enum-told : (t : ℕ) → star-ty-lts.Need-enum-told (
   group-reads.Asked,
   group-reads.Learnt,
@@ -1779,7 +1689,6 @@ star-ty-enum-told : (t : ℕ) → star-ty-lts.Need-enum-told (
 ) (star-ty-at t) star-ty.Post
 star-ty-enum-told t c = search needs
 
--- src/lib.rt:249:9
 star-ty-returns : (t : ℕ) → star-ty-lts.Need-returns (
   group-reads.Asked,
   group-reads.Learnt,
@@ -1793,7 +1702,6 @@ star-ty-returns : (t : ℕ) → star-ty-lts.Need-returns (
 unfolding Ty.star-ty
 star-ty-returns t c = record { is = λ kinds. group-not (c .before .before .before .group .ensures) (c .before .before .told .ensures) (c .enum-told .given .1) }
 
--- src/lib.rt:251:5
 star-ty-word-requires : (t : ℕ) → star-ty-lts.Need-word-requires (
   group-reads.Asked,
   group-reads.Learnt,
@@ -1806,7 +1714,6 @@ star-ty-word-requires : (t : ℕ) → star-ty-lts.Need-word-requires (
 ) (star-ty-at t) star-ty.Post
 star-ty-word-requires t c κs = search needs
 
--- src/lib.rt:252:5
 star-ty-get-ty-requires : (t : ℕ) → star-ty-lts.Need-get-ty-requires (
   group-reads.Asked,
   group-reads.Learnt,
@@ -1819,7 +1726,6 @@ star-ty-get-ty-requires : (t : ℕ) → star-ty-lts.Need-get-ty-requires (
 ) (star-ty-at t) star-ty.Post
 star-ty-get-ty-requires t c κs = omega (arith, c .before .before .before .before .before .before .before .before .before .before .before .before .before .before .before .before .before .pre .0)
 
--- src/lib.rt:234:1
 star-ty-same-length : (t : ℕ) → star-ty-lts.Need-same-length (
   group-reads.Asked,
   group-reads.Learnt,
@@ -1832,7 +1738,6 @@ star-ty-same-length : (t : ℕ) → star-ty-lts.Need-same-length (
 ) (star-ty-at t) star-ty.Post
 star-ty-same-length t c = c .before .before .get-ty .kept .1 .1 .1 .1 .1 .0 ∙ c .before .before .before .before .before .before .before .word .kept .1 .1 .0
 
--- src/lib.rt:234:1
 star-ty-returns-2 : (t : ℕ) → star-ty-lts.Need-returns-2 (
   group-reads.Asked,
   group-reads.Learnt,
@@ -1853,7 +1758,6 @@ star-tys-Inv-loop run text rec starts lens out₀ mem₀ at cfg n s0 s₀ i₀ o
 abbrev star-tys-μ-loop : star-tys-lts.MeasureT-loop
 star-tys-μ-loop run text rec starts lens out₀ mem₀ at cfg n s0 s₀ i₀ out mem s i = n - i
 
--- src/lib.rt:269:27
 star-tys-list-requires : (t : ℕ) → star-tys-lts.Need-list-requires (
   list-reads.Asked,
   list-reads.Learnt,
@@ -1866,7 +1770,6 @@ star-tys-list-requires : (t : ℕ) → star-tys-lts.Need-list-requires (
 ) (star-tys-at t) star-tys.Post star-tys-Inv-loop star-tys-μ-loop
 star-tys-list-requires t c κs = search needs
 
--- src/lib.rt:269:18
 star-tys-enum-known-n : (t : ℕ) → star-tys-lts.Need-enum-known-n (
   list-reads.Asked,
   list-reads.Learnt,
@@ -1879,7 +1782,6 @@ star-tys-enum-known-n : (t : ℕ) → star-tys-lts.Need-enum-known-n (
 ) (star-tys-at t) star-tys.Post star-tys-Inv-loop star-tys-μ-loop
 star-tys-enum-known-n t c = search needs
 
--- src/lib.rt:270:9
 star-tys-enum-told : (t : ℕ) → star-tys-lts.Need-enum-told (
   list-reads.Asked,
   list-reads.Learnt,
@@ -1892,7 +1794,6 @@ star-tys-enum-told : (t : ℕ) → star-tys-lts.Need-enum-told (
 ) (star-tys-at t) star-tys.Post star-tys-Inv-loop star-tys-μ-loop
 star-tys-enum-told t c = search needs
 
--- src/lib.rt:270:9
 star-tys-stop-requires : (t : ℕ) → star-tys-lts.Need-stop-requires (
   list-reads.Asked,
   list-reads.Learnt,
@@ -1905,7 +1806,6 @@ star-tys-stop-requires : (t : ℕ) → star-tys-lts.Need-stop-requires (
 ) (star-tys-at t) star-tys.Post star-tys-Inv-loop star-tys-μ-loop
 star-tys-stop-requires t c κs = search needs
 
--- src/lib.rt:270:9
 star-tys-returns : (t : ℕ) → star-tys-lts.Need-returns (
   list-reads.Asked,
   list-reads.Learnt,
@@ -1919,7 +1819,6 @@ star-tys-returns : (t : ℕ) → star-tys-lts.Need-returns (
 unfolding Ty.star-tys Helpers.for-each
 star-tys-returns t c = record { is = λ kinds. list-not (c .stop .ensures) (c .before .before .before .list .ensures) (c .before .enum-told .given .1) }
 
--- src/lib.rt:274:5
 star-tys-loop-holds : (t : ℕ) → star-tys-lts.Need-loop-holds (
   list-reads.Asked,
   list-reads.Learnt,
@@ -1932,7 +1831,6 @@ star-tys-loop-holds : (t : ℕ) → star-tys-lts.Need-loop-holds (
 ) (star-tys-at t) star-tys.Post star-tys-Inv-loop star-tys-μ-loop
 star-tys-loop-holds t c = (omega arith, λ kinds r m o h. h, refl)
 
--- src/lib.rt:275:13
 star-tys-star-ty-requires : (t : ℕ) → star-tys-lts.Need-star-ty-requires (
   list-reads.Asked,
   list-reads.Learnt,
@@ -1945,7 +1843,6 @@ star-tys-star-ty-requires : (t : ℕ) → star-tys-lts.Need-star-ty-requires (
 ) (star-tys-at t) star-tys.Post star-tys-Inv-loop star-tys-μ-loop
 star-tys-star-ty-requires t c κs = omega (arith, c .before .before .before .before .before .before .before .before .before .before .before .before .before .pre .0)
 
--- src/lib.rt:276:32
 star-tys-told-requires : (t : ℕ) → star-tys-lts.Need-told-requires (
   list-reads.Asked,
   list-reads.Learnt,
@@ -1958,7 +1855,6 @@ star-tys-told-requires : (t : ℕ) → star-tys-lts.Need-told-requires (
 ) (star-tys-at t) star-tys.Post star-tys-Inv-loop star-tys-μ-loop
 star-tys-told-requires t c κs = search needs
 
--- src/lib.rt:276:26
 star-tys-enum-known-s1 : (t : ℕ) → star-tys-lts.Need-enum-known-s1 (
   list-reads.Asked,
   list-reads.Learnt,
@@ -1971,7 +1867,6 @@ star-tys-enum-known-s1 : (t : ℕ) → star-tys-lts.Need-enum-known-s1 (
 ) (star-tys-at t) star-tys.Post star-tys-Inv-loop star-tys-μ-loop
 star-tys-enum-known-s1 t c = search needs
 
--- src/lib.rt:277:13
 star-tys-enum-told-2 : (t : ℕ) → star-tys-lts.Need-enum-told-2 (
   list-reads.Asked,
   list-reads.Learnt,
@@ -1984,7 +1879,6 @@ star-tys-enum-told-2 : (t : ℕ) → star-tys-lts.Need-enum-told-2 (
 ) (star-tys-at t) star-tys.Post star-tys-Inv-loop star-tys-μ-loop
 star-tys-enum-told-2 t c = search needs
 
--- src/lib.rt:277:13
 star-tys-same-length : (t : ℕ) → star-tys-lts.Need-same-length (
   list-reads.Asked,
   list-reads.Learnt,
@@ -1997,7 +1891,6 @@ star-tys-same-length : (t : ℕ) → star-tys-lts.Need-same-length (
 ) (star-tys-at t) star-tys.Post star-tys-Inv-loop star-tys-μ-loop
 star-tys-same-length t c = c .before .before .before .before .before .star-ty .kept .1 .1 .1 .1 .1 .0 ∙ c .before .before .before .before .before .before .before .before .before .loop .inv .2
 
--- src/lib.rt:277:13
 star-tys-returns-2 : (t : ℕ) → star-tys-lts.Need-returns-2 (
   list-reads.Asked,
   list-reads.Learnt,
@@ -2011,7 +1904,6 @@ star-tys-returns-2 : (t : ℕ) → star-tys-lts.Need-returns-2 (
 unfolding Ty.star-tys Helpers.for-each
 star-tys-returns-2 t c = record { is = λ kinds. by-same (list-is (c .before .before .before .before .before .before .before .before .before .before .before .before .before .list .ensures) (c .before .before .before .before .before .before .before .before .before .before .before .n .given .1)) (by-same (times-all _ _) (c .before .before .before .before .before .before .before .before .before .loop .inv .1 kinds _ _ _ (times-more _ (c .before .before .before .before .before .before .before .before .loop-test .taken) (then-stop (plain (c .before .before .before .before .before .star-ty .ensures)) (c .before .before .told .ensures) (c .enum-told2 .given .1))))) }
 
--- src/lib.rt:280:9
 star-tys-add-i : (t : ℕ) → star-tys-lts.Need-add-i (
   list-reads.Asked,
   list-reads.Learnt,
@@ -2024,7 +1916,6 @@ star-tys-add-i : (t : ℕ) → star-tys-lts.Need-add-i (
 ) (star-tys-at t) star-tys.Post star-tys-Inv-loop star-tys-μ-loop
 star-tys-add-i t c = omega (arith, c .before .before .before .before .before .before .before .before .before .loop-test .taken, c .before .before .before .before .before .before .before .before .before .before .before .known-told)
 
--- src/lib.rt:274:5
 star-tys-loop-less : (t : ℕ) → star-tys-lts.Need-loop-less (
   list-reads.Asked,
   list-reads.Learnt,
@@ -2037,7 +1928,6 @@ star-tys-loop-less : (t : ℕ) → star-tys-lts.Need-loop-less (
 ) (star-tys-at t) star-tys.Post star-tys-Inv-loop star-tys-μ-loop
 star-tys-loop-less t c = omega arith
 
--- src/lib.rt:274:5
 star-tys-loop-again : (t : ℕ) → star-tys-lts.Need-loop-again (
   list-reads.Asked,
   list-reads.Learnt,
@@ -2051,7 +1941,6 @@ star-tys-loop-again : (t : ℕ) → star-tys-lts.Need-loop-again (
 unfolding Ty.star-tys Helpers.for-each
 star-tys-loop-again t c = (omega (arith, c .before .before .before .before .before .before .before .before .before .before .loop .inv .0), λ kinds r m o h. c .before .before .before .before .before .before .before .before .before .before .loop .inv .1 kinds r m o (times-more _ (c .before .before .before .before .before .before .before .before .before .loop-test .taken) (then-done (plain (c .before .before .before .before .before .before .star-ty .ensures)) (c .before .before .before .told .ensures) (c .before .s1 .given .1) h)), c .before .before .before .before .before .before .star-ty .kept .1 .1 .1 .1 .1 .0 ∙ c .before .before .before .before .before .before .before .before .before .before .loop .inv .2)
 
--- src/lib.rt:256:1
 star-tys-same-length-2 : (t : ℕ) → star-tys-lts.Need-same-length-2 (
   list-reads.Asked,
   list-reads.Learnt,
@@ -2064,7 +1953,6 @@ star-tys-same-length-2 : (t : ℕ) → star-tys-lts.Need-same-length-2 (
 ) (star-tys-at t) star-tys.Post star-tys-Inv-loop star-tys-μ-loop
 star-tys-same-length-2 t c = c .before .loop .inv .2
 
--- src/lib.rt:256:1
 star-tys-returns-3 : (t : ℕ) → star-tys-lts.Need-returns-3 (
   list-reads.Asked,
   list-reads.Learnt,
@@ -2078,7 +1966,6 @@ star-tys-returns-3 : (t : ℕ) → star-tys-lts.Need-returns-3 (
 unfolding Ty.star-tys Helpers.for-each
 star-tys-returns-3 t c = record { is = λ kinds. by-same (list-is (c .before .before .before .before .before .list .ensures) (c .before .before .before .n .given .1)) (by-same (times-all _ _) (c .before .loop .inv .1 kinds _ _ _ (times-none _ (c .loop-test .left)))) }
 
--- src/lib.rt:300:9
 tuple-ty-get-ty-requires : (t : ℕ) → tuple-ty-lts.Need-get-ty-requires (
   get-ty-below t,
   get-ty.Post,
@@ -2091,7 +1978,6 @@ tuple-ty-get-ty-requires : (t : ℕ) → tuple-ty-lts.Need-get-ty-requires (
 ) (tuple-ty-at t) tuple-ty.Post
 tuple-ty-get-ty-requires t c κs = omega (arith, c .before .before .before .before .before .before .before .pre .0)
 
--- src/lib.rt:301:9
 tuple-ty-onwards-requires : (t : ℕ) → tuple-ty-lts.Need-onwards-requires (
   get-ty-below t,
   get-ty.Post,
@@ -2104,7 +1990,6 @@ tuple-ty-onwards-requires : (t : ℕ) → tuple-ty-lts.Need-onwards-requires (
 ) (tuple-ty-at t) tuple-ty.Post
 tuple-ty-onwards-requires t c κs = search needs
 
--- src/lib.rt:302:28
 tuple-ty-told-requires : (t : ℕ) → tuple-ty-lts.Need-told-requires (
   get-ty-below t,
   get-ty.Post,
@@ -2117,7 +2002,6 @@ tuple-ty-told-requires : (t : ℕ) → tuple-ty-lts.Need-told-requires (
 ) (tuple-ty-at t) tuple-ty.Post
 tuple-ty-told-requires t c κs = search needs
 
--- src/lib.rt:302:22
 tuple-ty-enum-known-s1 : (t : ℕ) → tuple-ty-lts.Need-enum-known-s1 (
   get-ty-below t,
   get-ty.Post,
@@ -2130,7 +2014,6 @@ tuple-ty-enum-known-s1 : (t : ℕ) → tuple-ty-lts.Need-enum-known-s1 (
 ) (tuple-ty-at t) tuple-ty.Post
 tuple-ty-enum-known-s1 t c = search needs
 
--- src/lib.rt:303:9
 tuple-ty-enum-told : (t : ℕ) → tuple-ty-lts.Need-enum-told (
   get-ty-below t,
   get-ty.Post,
@@ -2143,7 +2026,6 @@ tuple-ty-enum-told : (t : ℕ) → tuple-ty-lts.Need-enum-told (
 ) (tuple-ty-at t) tuple-ty.Post
 tuple-ty-enum-told t c = search needs
 
--- src/lib.rt:303:9
 tuple-ty-same-length : (t : ℕ) → tuple-ty-lts.Need-same-length (
   get-ty-below t,
   get-ty.Post,
@@ -2156,7 +2038,6 @@ tuple-ty-same-length : (t : ℕ) → tuple-ty-lts.Need-same-length (
 ) (tuple-ty-at t) tuple-ty.Post
 tuple-ty-same-length t c = c .before .before .before .before .before .before .get-ty .kept .1 .1 .1 .1 .1 .0
 
--- src/lib.rt:303:9
 tuple-ty-returns : (t : ℕ) → tuple-ty-lts.Need-returns (
   get-ty-below t,
   get-ty.Post,
@@ -2170,7 +2051,6 @@ tuple-ty-returns : (t : ℕ) → tuple-ty-lts.Need-returns (
 unfolding Ty.ty
 tuple-ty-returns t c = record { is = λ kinds. then-stop (dropped-by (plain (c .before .before .before .before .before .before .get-ty .ensures)) (c .before .before .before .onwards .ensures)) (c .before .before .told .ensures) (c .enum-told .given .1) }
 
--- src/lib.rt:305:5
 tuple-ty-star-tys-requires : (t : ℕ) → tuple-ty-lts.Need-star-tys-requires (
   get-ty-below t,
   get-ty.Post,
@@ -2183,7 +2063,6 @@ tuple-ty-star-tys-requires : (t : ℕ) → tuple-ty-lts.Need-star-tys-requires (
 ) (tuple-ty-at t) tuple-ty.Post
 tuple-ty-star-tys-requires t c κs = omega (arith, c .before .before .before .before .before .before .before .before .before .before .before .before .before .before .before .before .before .pre .0)
 
--- src/lib.rt:286:1
 tuple-ty-same-length-2 : (t : ℕ) → tuple-ty-lts.Need-same-length-2 (
   get-ty-below t,
   get-ty.Post,
@@ -2196,7 +2075,6 @@ tuple-ty-same-length-2 : (t : ℕ) → tuple-ty-lts.Need-same-length-2 (
 ) (tuple-ty-at t) tuple-ty.Post
 tuple-ty-same-length-2 t c = c .before .before .star-tys .kept .1 .1 .1 .1 .1 .0 ∙ c .before .before .before .before .before .before .before .before .before .before .before .before .get-ty .kept .1 .1 .1 .1 .1 .0
 
--- src/lib.rt:286:1
 tuple-ty-returns-2 : (t : ℕ) → tuple-ty-lts.Need-returns-2 (
   get-ty-below t,
   get-ty.Post,
@@ -2217,7 +2095,6 @@ ty-args-Inv-loop run text rec starts lens out₀ mem₀ at cfg n s0 s₀ i₀ ou
 abbrev ty-args-μ-loop : ty-args-lts.MeasureT-loop
 ty-args-μ-loop run text rec starts lens out₀ mem₀ at cfg n s0 s₀ i₀ out mem s i = n - i
 
--- src/lib.rt:121:27
 ty-args-list-requires : (t : ℕ) → ty-args-lts.Need-list-requires (
   list-reads.Asked,
   list-reads.Learnt,
@@ -2234,7 +2111,6 @@ ty-args-list-requires : (t : ℕ) → ty-args-lts.Need-list-requires (
 ) (ty-args-at t) ty-args.Post ty-args-Inv-loop ty-args-μ-loop
 ty-args-list-requires t c κs = search needs
 
--- src/lib.rt:121:18
 ty-args-enum-known-n : (t : ℕ) → ty-args-lts.Need-enum-known-n (
   list-reads.Asked,
   list-reads.Learnt,
@@ -2251,7 +2127,6 @@ ty-args-enum-known-n : (t : ℕ) → ty-args-lts.Need-enum-known-n (
 ) (ty-args-at t) ty-args.Post ty-args-Inv-loop ty-args-μ-loop
 ty-args-enum-known-n t c = search needs
 
--- src/lib.rt:122:9
 ty-args-enum-told : (t : ℕ) → ty-args-lts.Need-enum-told (
   list-reads.Asked,
   list-reads.Learnt,
@@ -2268,7 +2143,6 @@ ty-args-enum-told : (t : ℕ) → ty-args-lts.Need-enum-told (
 ) (ty-args-at t) ty-args.Post ty-args-Inv-loop ty-args-μ-loop
 ty-args-enum-told t c = search needs
 
--- src/lib.rt:122:9
 ty-args-stop-requires : (t : ℕ) → ty-args-lts.Need-stop-requires (
   list-reads.Asked,
   list-reads.Learnt,
@@ -2285,7 +2159,6 @@ ty-args-stop-requires : (t : ℕ) → ty-args-lts.Need-stop-requires (
 ) (ty-args-at t) ty-args.Post ty-args-Inv-loop ty-args-μ-loop
 ty-args-stop-requires t c κs = search needs
 
--- src/lib.rt:122:9
 ty-args-returns : (t : ℕ) → ty-args-lts.Need-returns (
   list-reads.Asked,
   list-reads.Learnt,
@@ -2303,7 +2176,6 @@ ty-args-returns : (t : ℕ) → ty-args-lts.Need-returns (
 unfolding Ty.ty-args Helpers.sep
 ty-args-returns t c = record { is = λ kinds. list-not (c .stop .ensures) (c .before .before .before .list .ensures) (c .before .enum-told .given .1) }
 
--- src/lib.rt:126:5
 ty-args-loop-holds : (t : ℕ) → ty-args-lts.Need-loop-holds (
   list-reads.Asked,
   list-reads.Learnt,
@@ -2320,7 +2192,6 @@ ty-args-loop-holds : (t : ℕ) → ty-args-lts.Need-loop-holds (
 ) (ty-args-at t) ty-args.Post ty-args-Inv-loop ty-args-μ-loop
 ty-args-loop-holds t c = (omega arith, λ kinds r m o h. h, refl)
 
--- src/lib.rt:127:9
 ty-args-between-requires : (t : ℕ) → ty-args-lts.Need-between-requires (
   list-reads.Asked,
   list-reads.Learnt,
@@ -2337,7 +2208,6 @@ ty-args-between-requires : (t : ℕ) → ty-args-lts.Need-between-requires (
 ) (ty-args-at t) ty-args.Post ty-args-Inv-loop ty-args-μ-loop
 ty-args-between-requires t c κs = search needs
 
--- src/lib.rt:128:13
 ty-args-group-requires : (t : ℕ) → ty-args-lts.Need-group-requires (
   list-reads.Asked,
   list-reads.Learnt,
@@ -2354,7 +2224,6 @@ ty-args-group-requires : (t : ℕ) → ty-args-lts.Need-group-requires (
 ) (ty-args-at t) ty-args.Post ty-args-Inv-loop ty-args-μ-loop
 ty-args-group-requires t c κs = search needs
 
--- src/lib.rt:129:32
 ty-args-told-requires : (t : ℕ) → ty-args-lts.Need-told-requires (
   list-reads.Asked,
   list-reads.Learnt,
@@ -2371,7 +2240,6 @@ ty-args-told-requires : (t : ℕ) → ty-args-lts.Need-told-requires (
 ) (ty-args-at t) ty-args.Post ty-args-Inv-loop ty-args-μ-loop
 ty-args-told-requires t c κs = search needs
 
--- src/lib.rt:129:26
 ty-args-enum-known-s1 : (t : ℕ) → ty-args-lts.Need-enum-known-s1 (
   list-reads.Asked,
   list-reads.Learnt,
@@ -2388,7 +2256,6 @@ ty-args-enum-known-s1 : (t : ℕ) → ty-args-lts.Need-enum-known-s1 (
 ) (ty-args-at t) ty-args.Post ty-args-Inv-loop ty-args-μ-loop
 ty-args-enum-known-s1 t c = search needs
 
--- src/lib.rt:130:13
 ty-args-enum-told-2 : (t : ℕ) → ty-args-lts.Need-enum-told-2 (
   list-reads.Asked,
   list-reads.Learnt,
@@ -2405,7 +2272,6 @@ ty-args-enum-told-2 : (t : ℕ) → ty-args-lts.Need-enum-told-2 (
 ) (ty-args-at t) ty-args.Post ty-args-Inv-loop ty-args-μ-loop
 ty-args-enum-told-2 t c = search needs
 
--- src/lib.rt:130:13
 ty-args-same-length : (t : ℕ) → ty-args-lts.Need-same-length (
   list-reads.Asked,
   list-reads.Learnt,
@@ -2422,7 +2288,6 @@ ty-args-same-length : (t : ℕ) → ty-args-lts.Need-same-length (
 ) (ty-args-at t) ty-args.Post ty-args-Inv-loop ty-args-μ-loop
 ty-args-same-length t c = c .before .before .before .before .before .before .between .kept .1 .1 .0 ∙ c .before .before .before .before .before .before .before .before .before .before .loop .inv .2
 
--- src/lib.rt:130:13
 ty-args-returns-2 : (t : ℕ) → ty-args-lts.Need-returns-2 (
   list-reads.Asked,
   list-reads.Learnt,
@@ -2440,7 +2305,6 @@ ty-args-returns-2 : (t : ℕ) → ty-args-lts.Need-returns-2 (
 unfolding Ty.ty-args Helpers.sep
 ty-args-returns-2 t c = record { is = λ kinds. by-same (list-is (c .before .before .before .before .before .before .before .before .before .before .before .before .before .before .list .ensures) (c .before .before .before .before .before .before .before .before .before .before .before .before .n .given .1)) (by-same (items-all _ _ _) (c .before .before .before .before .before .before .before .before .before .before .loop .inv .1 kinds _ _ _ (from-more _ _ (c .before .before .before .before .before .before .before .before .before .loop-test .taken) (then-sure (c .before .before .before .before .before .before .between .ensures) (then-stop (group-not (c .before .before .before .group .ensures) (c .before .before .told .ensures) (c .enum-told2 .given .1)) (c .before .before .told .ensures) (c .enum-told2 .given .1)))))) }
 
--- src/lib.rt:132:13
 ty-args-get-ty-requires : (t : ℕ) → ty-args-lts.Need-get-ty-requires (
   list-reads.Asked,
   list-reads.Learnt,
@@ -2457,7 +2321,6 @@ ty-args-get-ty-requires : (t : ℕ) → ty-args-lts.Need-get-ty-requires (
 ) (ty-args-at t) ty-args.Post ty-args-Inv-loop ty-args-μ-loop
 ty-args-get-ty-requires t c κs = omega (arith, c .before .before .before .before .before .before .before .before .before .before .before .before .before .before .before .before .before .before .before .before .before .before .before .pre .0)
 
--- src/lib.rt:133:32
 ty-args-told-requires-2 : (t : ℕ) → ty-args-lts.Need-told-requires-2 (
   list-reads.Asked,
   list-reads.Learnt,
@@ -2474,7 +2337,6 @@ ty-args-told-requires-2 : (t : ℕ) → ty-args-lts.Need-told-requires-2 (
 ) (ty-args-at t) ty-args.Post ty-args-Inv-loop ty-args-μ-loop
 ty-args-told-requires-2 t c κs = search needs
 
--- src/lib.rt:133:26
 ty-args-enum-known-s2 : (t : ℕ) → ty-args-lts.Need-enum-known-s2 (
   list-reads.Asked,
   list-reads.Learnt,
@@ -2491,7 +2353,6 @@ ty-args-enum-known-s2 : (t : ℕ) → ty-args-lts.Need-enum-known-s2 (
 ) (ty-args-at t) ty-args.Post ty-args-Inv-loop ty-args-μ-loop
 ty-args-enum-known-s2 t c = search needs
 
--- src/lib.rt:134:13
 ty-args-enum-told-3 : (t : ℕ) → ty-args-lts.Need-enum-told-3 (
   list-reads.Asked,
   list-reads.Learnt,
@@ -2508,7 +2369,6 @@ ty-args-enum-told-3 : (t : ℕ) → ty-args-lts.Need-enum-told-3 (
 ) (ty-args-at t) ty-args.Post ty-args-Inv-loop ty-args-μ-loop
 ty-args-enum-told-3 t c = search needs
 
--- src/lib.rt:134:13
 ty-args-same-length-2 : (t : ℕ) → ty-args-lts.Need-same-length-2 (
   list-reads.Asked,
   list-reads.Learnt,
@@ -2525,7 +2385,6 @@ ty-args-same-length-2 : (t : ℕ) → ty-args-lts.Need-same-length-2 (
 ) (ty-args-at t) ty-args.Post ty-args-Inv-loop ty-args-μ-loop
 ty-args-same-length-2 t c = c .before .before .before .before .before .get-ty .kept .1 .1 .1 .1 .1 .0 ∙ c .before .before .before .before .before .before .before .before .before .before .before .before .before .before .before .between .kept .1 .1 .0 ∙ c .before .before .before .before .before .before .before .before .before .before .before .before .before .before .before .before .before .before .before .loop .inv .2
 
--- src/lib.rt:134:13
 ty-args-returns-3 : (t : ℕ) → ty-args-lts.Need-returns-3 (
   list-reads.Asked,
   list-reads.Learnt,
@@ -2543,7 +2402,6 @@ ty-args-returns-3 : (t : ℕ) → ty-args-lts.Need-returns-3 (
 unfolding Ty.ty-args Helpers.sep
 ty-args-returns-3 t c = record { is = λ kinds. by-same (list-is (c .before .before .before .before .before .before .before .before .before .before .before .before .before .before .before .before .before .before .before .before .before .before .before .list .ensures) (c .before .before .before .before .before .before .before .before .before .before .before .before .before .before .before .before .before .before .before .before .before .n .given .1)) (by-same (items-all _ _ _) (c .before .before .before .before .before .before .before .before .before .before .before .before .before .before .before .before .before .before .before .loop .inv .1 kinds _ _ _ (from-more _ _ (c .before .before .before .before .before .before .before .before .before .before .before .before .before .before .before .before .before .before .loop-test .taken) (then-sure (c .before .before .before .before .before .before .before .before .before .before .before .before .before .before .before .between .ensures) (by-same (first-same (group-is (c .before .before .before .before .before .before .before .before .before .before .before .before .group .ensures) (c .before .before .before .before .before .before .before .before .before .before .before .told .ensures) (c .before .before .before .before .before .before .before .before .before .s1 .given .1))) (then-stop (plain (c .before .before .before .before .before .get-ty .ensures)) (c .before .before .told2 .ensures) (c .enum-told3 .given .1))))))) }
 
--- src/lib.rt:137:9
 ty-args-add-i : (t : ℕ) → ty-args-lts.Need-add-i (
   list-reads.Asked,
   list-reads.Learnt,
@@ -2560,7 +2418,6 @@ ty-args-add-i : (t : ℕ) → ty-args-lts.Need-add-i (
 ) (ty-args-at t) ty-args.Post ty-args-Inv-loop ty-args-μ-loop
 ty-args-add-i t c = omega (arith, c .before .before .before .before .before .before .before .before .before .before .before .before .before .before .before .before .before .before .before .loop-test .taken, c .before .before .before .before .before .before .before .before .before .before .before .before .before .before .before .before .before .before .before .before .before .known-told)
 
--- src/lib.rt:126:5
 ty-args-loop-less : (t : ℕ) → ty-args-lts.Need-loop-less (
   list-reads.Asked,
   list-reads.Learnt,
@@ -2577,7 +2434,6 @@ ty-args-loop-less : (t : ℕ) → ty-args-lts.Need-loop-less (
 ) (ty-args-at t) ty-args.Post ty-args-Inv-loop ty-args-μ-loop
 ty-args-loop-less t c = omega arith
 
--- src/lib.rt:126:5
 ty-args-loop-again : (t : ℕ) → ty-args-lts.Need-loop-again (
   list-reads.Asked,
   list-reads.Learnt,
@@ -2595,7 +2451,6 @@ ty-args-loop-again : (t : ℕ) → ty-args-lts.Need-loop-again (
 unfolding Ty.ty-args Helpers.sep
 ty-args-loop-again t c = (omega (arith, c .before .before .before .before .before .before .before .before .before .before .before .before .before .before .before .before .before .before .before .before .loop .inv .0), λ kinds r m o h. c .before .before .before .before .before .before .before .before .before .before .before .before .before .before .before .before .before .before .before .before .loop .inv .1 kinds r m o (from-more _ _ (c .before .before .before .before .before .before .before .before .before .before .before .before .before .before .before .before .before .before .before .loop-test .taken) (then-sure (c .before .before .before .before .before .before .before .before .before .before .before .before .before .before .before .before .between .ensures) (by-same (first-same (group-is (c .before .before .before .before .before .before .before .before .before .before .before .before .before .group .ensures) (c .before .before .before .before .before .before .before .before .before .before .before .before .told .ensures) (c .before .before .before .before .before .before .before .before .before .before .s1 .given .1))) (then-done (plain (c .before .before .before .before .before .before .get-ty .ensures)) (c .before .before .before .told2 .ensures) (c .before .s2 .given .1) h)))), c .before .before .before .before .before .before .get-ty .kept .1 .1 .1 .1 .1 .0 ∙ c .before .before .before .before .before .before .before .before .before .before .before .before .before .before .before .before .between .kept .1 .1 .0 ∙ c .before .before .before .before .before .before .before .before .before .before .before .before .before .before .before .before .before .before .before .before .loop .inv .2)
 
--- src/lib.rt:108:1
 ty-args-same-length-3 : (t : ℕ) → ty-args-lts.Need-same-length-3 (
   list-reads.Asked,
   list-reads.Learnt,
@@ -2612,7 +2467,6 @@ ty-args-same-length-3 : (t : ℕ) → ty-args-lts.Need-same-length-3 (
 ) (ty-args-at t) ty-args.Post ty-args-Inv-loop ty-args-μ-loop
 ty-args-same-length-3 t c = c .before .loop .inv .2
 
--- src/lib.rt:108:1
 ty-args-returns-4 : (t : ℕ) → ty-args-lts.Need-returns-4 (
   list-reads.Asked,
   list-reads.Learnt,
@@ -2630,7 +2484,6 @@ ty-args-returns-4 : (t : ℕ) → ty-args-lts.Need-returns-4 (
 unfolding Ty.ty-args Helpers.sep
 ty-args-returns-4 t c = record { is = λ kinds. by-same (list-is (c .before .before .before .before .before .list .ensures) (c .before .before .before .n .given .1)) (by-same (items-all _ _ _) (c .before .loop .inv .1 kinds _ _ _ (from-none _ _ (c .loop-test .left)))) }
 
--- src/lib.rt:41:9
 ty-row-group-requires : (t : ℕ) → ty-row-lts.Need-group-requires (
   group-reads.Asked,
   group-reads.Learnt,
@@ -2645,7 +2498,6 @@ ty-row-group-requires : (t : ℕ) → ty-row-lts.Need-group-requires (
 ) (ty-row-at t) ty-row.Post
 ty-row-group-requires t c κs = search needs
 
--- src/lib.rt:42:28
 ty-row-told-requires : (t : ℕ) → ty-row-lts.Need-told-requires (
   group-reads.Asked,
   group-reads.Learnt,
@@ -2660,7 +2512,6 @@ ty-row-told-requires : (t : ℕ) → ty-row-lts.Need-told-requires (
 ) (ty-row-at t) ty-row.Post
 ty-row-told-requires t c κs = search needs
 
--- src/lib.rt:42:22
 ty-row-enum-known-s1 : (t : ℕ) → ty-row-lts.Need-enum-known-s1 (
   group-reads.Asked,
   group-reads.Learnt,
@@ -2675,7 +2526,6 @@ ty-row-enum-known-s1 : (t : ℕ) → ty-row-lts.Need-enum-known-s1 (
 ) (ty-row-at t) ty-row.Post
 ty-row-enum-known-s1 t c = search needs
 
--- src/lib.rt:43:9
 ty-row-enum-told : (t : ℕ) → ty-row-lts.Need-enum-told (
   group-reads.Asked,
   group-reads.Learnt,
@@ -2690,7 +2540,6 @@ ty-row-enum-told : (t : ℕ) → ty-row-lts.Need-enum-told (
 ) (ty-row-at t) ty-row.Post
 ty-row-enum-told t c = search needs
 
--- src/lib.rt:43:9
 ty-row-returns : (t : ℕ) → ty-row-lts.Need-returns (
   group-reads.Asked,
   group-reads.Learnt,
@@ -2706,7 +2555,6 @@ ty-row-returns : (t : ℕ) → ty-row-lts.Need-returns (
 unfolding Ty.ty-row
 ty-row-returns t c = record { is = λ kinds. group-not (c .before .before .before .group .ensures) (c .before .before .told .ensures) (c .enum-told .given .1) }
 
--- src/lib.rt:45:9
 ty-row-text-of-requires : (t : ℕ) → ty-row-lts.Need-text-of-requires (
   group-reads.Asked,
   group-reads.Learnt,
@@ -2721,7 +2569,6 @@ ty-row-text-of-requires : (t : ℕ) → ty-row-lts.Need-text-of-requires (
 ) (ty-row-at t) ty-row.Post
 ty-row-text-of-requires t c κs = search needs
 
--- src/lib.rt:46:28
 ty-row-told-requires-2 : (t : ℕ) → ty-row-lts.Need-told-requires-2 (
   group-reads.Asked,
   group-reads.Learnt,
@@ -2736,7 +2583,6 @@ ty-row-told-requires-2 : (t : ℕ) → ty-row-lts.Need-told-requires-2 (
 ) (ty-row-at t) ty-row.Post
 ty-row-told-requires-2 t c κs = search needs
 
--- src/lib.rt:46:22
 ty-row-enum-known-s2 : (t : ℕ) → ty-row-lts.Need-enum-known-s2 (
   group-reads.Asked,
   group-reads.Learnt,
@@ -2751,7 +2597,6 @@ ty-row-enum-known-s2 : (t : ℕ) → ty-row-lts.Need-enum-known-s2 (
 ) (ty-row-at t) ty-row.Post
 ty-row-enum-known-s2 t c = search needs
 
--- src/lib.rt:47:9
 ty-row-enum-told-2 : (t : ℕ) → ty-row-lts.Need-enum-told-2 (
   group-reads.Asked,
   group-reads.Learnt,
@@ -2766,7 +2611,6 @@ ty-row-enum-told-2 : (t : ℕ) → ty-row-lts.Need-enum-told-2 (
 ) (ty-row-at t) ty-row.Post
 ty-row-enum-told-2 t c = search needs
 
--- src/lib.rt:47:9
 ty-row-same-length : (t : ℕ) → ty-row-lts.Need-same-length (
   group-reads.Asked,
   group-reads.Learnt,
@@ -2781,7 +2625,6 @@ ty-row-same-length : (t : ℕ) → ty-row-lts.Need-same-length (
 ) (ty-row-at t) ty-row.Post
 ty-row-same-length t c = c .before .before .before .before .before .text-of .kept .1 .1 .1 .1 .1 .0
 
--- src/lib.rt:47:9
 ty-row-returns-2 : (t : ℕ) → ty-row-lts.Need-returns-2 (
   group-reads.Asked,
   group-reads.Learnt,
@@ -2797,7 +2640,6 @@ ty-row-returns-2 : (t : ℕ) → ty-row-lts.Need-returns-2 (
 unfolding Ty.ty-row
 ty-row-returns-2 t c = record { is = λ kinds. by-same (group-is (c .before .before .before .before .before .before .before .before .before .before .before .before .group .ensures) (c .before .before .before .before .before .before .before .before .before .before .before .told .ensures) (c .before .before .before .before .before .before .before .before .before .s1 .given .1)) (then-stop (plain (c .before .before .before .before .before .text-of .ensures)) (c .before .before .told2 .ensures) (c .enum-told2 .given .1)) }
 
--- src/lib.rt:49:5
 ty-row-word-requires : (t : ℕ) → ty-row-lts.Need-word-requires (
   group-reads.Asked,
   group-reads.Learnt,
@@ -2812,7 +2654,6 @@ ty-row-word-requires : (t : ℕ) → ty-row-lts.Need-word-requires (
 ) (ty-row-at t) ty-row.Post
 ty-row-word-requires t c κs = search needs
 
--- src/lib.rt:50:5
 ty-row-get-ty-requires : (t : ℕ) → ty-row-lts.Need-get-ty-requires (
   group-reads.Asked,
   group-reads.Learnt,
@@ -2827,7 +2668,6 @@ ty-row-get-ty-requires : (t : ℕ) → ty-row-lts.Need-get-ty-requires (
 ) (ty-row-at t) ty-row.Post
 ty-row-get-ty-requires t c κs = omega (arith, c .before .before .before .before .before .before .before .before .before .before .before .before .before .before .before .before .before .before .before .before .before .before .before .before .before .before .pre .0)
 
--- src/lib.rt:28:1
 ty-row-same-length-2 : (t : ℕ) → ty-row-lts.Need-same-length-2 (
   group-reads.Asked,
   group-reads.Learnt,
@@ -2842,7 +2682,6 @@ ty-row-same-length-2 : (t : ℕ) → ty-row-lts.Need-same-length-2 (
 ) (ty-row-at t) ty-row.Post
 ty-row-same-length-2 t c = c .before .before .get-ty .kept .1 .1 .1 .1 .1 .0 ∙ c .before .before .before .before .before .before .before .word .kept .1 .1 .0 ∙ c .before .before .before .before .before .before .before .before .before .before .before .before .before .before .before .before .text-of .kept .1 .1 .1 .1 .1 .0
 
--- src/lib.rt:28:1
 ty-row-returns-3 : (t : ℕ) → ty-row-lts.Need-returns-3 (
   group-reads.Asked,
   group-reads.Learnt,
@@ -2865,7 +2704,6 @@ ty-rows-Inv-loop run text rec starts lens out₀ mem₀ at cfg n s0 s₀ i₀ ou
 abbrev ty-rows-μ-loop : ty-rows-lts.MeasureT-loop
 ty-rows-μ-loop run text rec starts lens out₀ mem₀ at cfg n s0 s₀ i₀ out mem s i = n - i
 
--- src/lib.rt:67:27
 ty-rows-list-requires : (t : ℕ) → ty-rows-lts.Need-list-requires (
   list-reads.Asked,
   list-reads.Learnt,
@@ -2880,7 +2718,6 @@ ty-rows-list-requires : (t : ℕ) → ty-rows-lts.Need-list-requires (
 ) (ty-rows-at t) ty-rows.Post ty-rows-Inv-loop ty-rows-μ-loop
 ty-rows-list-requires t c κs = search needs
 
--- src/lib.rt:67:18
 ty-rows-enum-known-n : (t : ℕ) → ty-rows-lts.Need-enum-known-n (
   list-reads.Asked,
   list-reads.Learnt,
@@ -2895,7 +2732,6 @@ ty-rows-enum-known-n : (t : ℕ) → ty-rows-lts.Need-enum-known-n (
 ) (ty-rows-at t) ty-rows.Post ty-rows-Inv-loop ty-rows-μ-loop
 ty-rows-enum-known-n t c = search needs
 
--- src/lib.rt:68:9
 ty-rows-enum-told : (t : ℕ) → ty-rows-lts.Need-enum-told (
   list-reads.Asked,
   list-reads.Learnt,
@@ -2910,7 +2746,6 @@ ty-rows-enum-told : (t : ℕ) → ty-rows-lts.Need-enum-told (
 ) (ty-rows-at t) ty-rows.Post ty-rows-Inv-loop ty-rows-μ-loop
 ty-rows-enum-told t c = search needs
 
--- src/lib.rt:68:9
 ty-rows-stop-requires : (t : ℕ) → ty-rows-lts.Need-stop-requires (
   list-reads.Asked,
   list-reads.Learnt,
@@ -2925,7 +2760,6 @@ ty-rows-stop-requires : (t : ℕ) → ty-rows-lts.Need-stop-requires (
 ) (ty-rows-at t) ty-rows.Post ty-rows-Inv-loop ty-rows-μ-loop
 ty-rows-stop-requires t c κs = search needs
 
--- src/lib.rt:68:9
 ty-rows-returns : (t : ℕ) → ty-rows-lts.Need-returns (
   list-reads.Asked,
   list-reads.Learnt,
@@ -2941,7 +2775,6 @@ ty-rows-returns : (t : ℕ) → ty-rows-lts.Need-returns (
 unfolding Ty.ty-rows Helpers.sep
 ty-rows-returns t c = record { is = λ kinds. list-not (c .stop .ensures) (c .before .before .before .list .ensures) (c .before .enum-told .given .1) }
 
--- src/lib.rt:72:5
 ty-rows-loop-holds : (t : ℕ) → ty-rows-lts.Need-loop-holds (
   list-reads.Asked,
   list-reads.Learnt,
@@ -2956,7 +2789,6 @@ ty-rows-loop-holds : (t : ℕ) → ty-rows-lts.Need-loop-holds (
 ) (ty-rows-at t) ty-rows.Post ty-rows-Inv-loop ty-rows-μ-loop
 ty-rows-loop-holds t c = (omega arith, λ kinds r m o h. h, refl)
 
--- src/lib.rt:73:9
 ty-rows-between-requires : (t : ℕ) → ty-rows-lts.Need-between-requires (
   list-reads.Asked,
   list-reads.Learnt,
@@ -2971,7 +2803,6 @@ ty-rows-between-requires : (t : ℕ) → ty-rows-lts.Need-between-requires (
 ) (ty-rows-at t) ty-rows.Post ty-rows-Inv-loop ty-rows-μ-loop
 ty-rows-between-requires t c κs = search needs
 
--- src/lib.rt:74:13
 ty-rows-ty-row-requires : (t : ℕ) → ty-rows-lts.Need-ty-row-requires (
   list-reads.Asked,
   list-reads.Learnt,
@@ -2986,7 +2817,6 @@ ty-rows-ty-row-requires : (t : ℕ) → ty-rows-lts.Need-ty-row-requires (
 ) (ty-rows-at t) ty-rows.Post ty-rows-Inv-loop ty-rows-μ-loop
 ty-rows-ty-row-requires t c κs = omega (arith, c .before .before .before .before .before .before .before .before .before .before .before .before .before .before .before .before .before .before .pre .0)
 
--- src/lib.rt:75:32
 ty-rows-told-requires : (t : ℕ) → ty-rows-lts.Need-told-requires (
   list-reads.Asked,
   list-reads.Learnt,
@@ -3001,7 +2831,6 @@ ty-rows-told-requires : (t : ℕ) → ty-rows-lts.Need-told-requires (
 ) (ty-rows-at t) ty-rows.Post ty-rows-Inv-loop ty-rows-μ-loop
 ty-rows-told-requires t c κs = search needs
 
--- src/lib.rt:75:26
 ty-rows-enum-known-s1 : (t : ℕ) → ty-rows-lts.Need-enum-known-s1 (
   list-reads.Asked,
   list-reads.Learnt,
@@ -3016,7 +2845,6 @@ ty-rows-enum-known-s1 : (t : ℕ) → ty-rows-lts.Need-enum-known-s1 (
 ) (ty-rows-at t) ty-rows.Post ty-rows-Inv-loop ty-rows-μ-loop
 ty-rows-enum-known-s1 t c = search needs
 
--- src/lib.rt:76:13
 ty-rows-enum-told-2 : (t : ℕ) → ty-rows-lts.Need-enum-told-2 (
   list-reads.Asked,
   list-reads.Learnt,
@@ -3031,7 +2859,6 @@ ty-rows-enum-told-2 : (t : ℕ) → ty-rows-lts.Need-enum-told-2 (
 ) (ty-rows-at t) ty-rows.Post ty-rows-Inv-loop ty-rows-μ-loop
 ty-rows-enum-told-2 t c = search needs
 
--- src/lib.rt:76:13
 ty-rows-same-length : (t : ℕ) → ty-rows-lts.Need-same-length (
   list-reads.Asked,
   list-reads.Learnt,
@@ -3046,7 +2873,6 @@ ty-rows-same-length : (t : ℕ) → ty-rows-lts.Need-same-length (
 ) (ty-rows-at t) ty-rows.Post ty-rows-Inv-loop ty-rows-μ-loop
 ty-rows-same-length t c = c .before .before .before .before .before .ty-row .kept .1 .1 .1 .1 .1 .0 ∙ c .before .before .before .before .before .before .before .before .before .before .between .kept .1 .1 .0 ∙ c .before .before .before .before .before .before .before .before .before .before .before .before .before .before .loop .inv .2
 
--- src/lib.rt:76:13
 ty-rows-returns-2 : (t : ℕ) → ty-rows-lts.Need-returns-2 (
   list-reads.Asked,
   list-reads.Learnt,
@@ -3062,7 +2888,6 @@ ty-rows-returns-2 : (t : ℕ) → ty-rows-lts.Need-returns-2 (
 unfolding Ty.ty-rows Helpers.sep
 ty-rows-returns-2 t c = record { is = λ kinds. by-same (list-is (c .before .before .before .before .before .before .before .before .before .before .before .before .before .before .before .before .before .before .list .ensures) (c .before .before .before .before .before .before .before .before .before .before .before .before .before .before .before .before .n .given .1)) (by-same (items-all _ _ _) (c .before .before .before .before .before .before .before .before .before .before .before .before .before .before .loop .inv .1 kinds _ _ _ (from-more _ _ (c .before .before .before .before .before .before .before .before .before .before .before .before .before .loop-test .taken) (then-sure (c .before .before .before .before .before .before .before .before .before .before .between .ensures) (then-stop (plain (c .before .before .before .before .before .ty-row .ensures)) (c .before .before .told .ensures) (c .enum-told2 .given .1)))))) }
 
--- src/lib.rt:79:9
 ty-rows-add-i : (t : ℕ) → ty-rows-lts.Need-add-i (
   list-reads.Asked,
   list-reads.Learnt,
@@ -3077,7 +2902,6 @@ ty-rows-add-i : (t : ℕ) → ty-rows-lts.Need-add-i (
 ) (ty-rows-at t) ty-rows.Post ty-rows-Inv-loop ty-rows-μ-loop
 ty-rows-add-i t c = omega (arith, c .before .before .before .before .before .before .before .before .before .before .before .before .before .before .loop-test .taken, c .before .before .before .before .before .before .before .before .before .before .before .before .before .before .before .before .known-told)
 
--- src/lib.rt:72:5
 ty-rows-loop-less : (t : ℕ) → ty-rows-lts.Need-loop-less (
   list-reads.Asked,
   list-reads.Learnt,
@@ -3092,7 +2916,6 @@ ty-rows-loop-less : (t : ℕ) → ty-rows-lts.Need-loop-less (
 ) (ty-rows-at t) ty-rows.Post ty-rows-Inv-loop ty-rows-μ-loop
 ty-rows-loop-less t c = omega arith
 
--- src/lib.rt:72:5
 ty-rows-loop-again : (t : ℕ) → ty-rows-lts.Need-loop-again (
   list-reads.Asked,
   list-reads.Learnt,
@@ -3108,7 +2931,6 @@ ty-rows-loop-again : (t : ℕ) → ty-rows-lts.Need-loop-again (
 unfolding Ty.ty-rows Helpers.sep
 ty-rows-loop-again t c = (omega (arith, c .before .before .before .before .before .before .before .before .before .before .before .before .before .before .before .loop .inv .0), λ kinds r m o h. c .before .before .before .before .before .before .before .before .before .before .before .before .before .before .before .loop .inv .1 kinds r m o (from-more _ _ (c .before .before .before .before .before .before .before .before .before .before .before .before .before .before .loop-test .taken) (then-sure (c .before .before .before .before .before .before .before .before .before .before .before .between .ensures) (then-done (plain (c .before .before .before .before .before .before .ty-row .ensures)) (c .before .before .before .told .ensures) (c .before .s1 .given .1) h))), c .before .before .before .before .before .before .ty-row .kept .1 .1 .1 .1 .1 .0 ∙ c .before .before .before .before .before .before .before .before .before .before .before .between .kept .1 .1 .0 ∙ c .before .before .before .before .before .before .before .before .before .before .before .before .before .before .before .loop .inv .2)
 
--- src/lib.rt:54:1
 ty-rows-same-length-2 : (t : ℕ) → ty-rows-lts.Need-same-length-2 (
   list-reads.Asked,
   list-reads.Learnt,
@@ -3123,7 +2945,6 @@ ty-rows-same-length-2 : (t : ℕ) → ty-rows-lts.Need-same-length-2 (
 ) (ty-rows-at t) ty-rows.Post ty-rows-Inv-loop ty-rows-μ-loop
 ty-rows-same-length-2 t c = c .before .loop .inv .2
 
--- src/lib.rt:54:1
 ty-rows-returns-3 : (t : ℕ) → ty-rows-lts.Need-returns-3 (
   list-reads.Asked,
   list-reads.Learnt,
@@ -3139,7 +2960,6 @@ ty-rows-returns-3 : (t : ℕ) → ty-rows-lts.Need-returns-3 (
 unfolding Ty.ty-rows Helpers.sep
 ty-rows-returns-3 t c = record { is = λ kinds. by-same (list-is (c .before .before .before .before .before .list .ensures) (c .before .before .before .n .given .1)) (by-same (items-all _ _ _) (c .before .loop .inv .1 kinds _ _ _ (from-none _ _ (c .loop-test .left)))) }
 
--- src/lib.rt:156:9
 ty-seq-absent-requires : (t : ℕ) → ty-seq-lts.Need-absent-requires (
   absent-reads.Asked,
   absent-reads.Learnt,
@@ -3148,7 +2968,6 @@ ty-seq-absent-requires : (t : ℕ) → ty-seq-lts.Need-absent-requires (
 ) (ty-seq-at t) ty-seq.Post
 ty-seq-absent-requires t c κs = search needs
 
--- src/lib.rt:158:20
 ty-seq-enum-known-gone : (t : ℕ) → ty-seq-lts.Need-enum-known-gone (
   absent-reads.Asked,
   absent-reads.Learnt,
@@ -3157,7 +2976,6 @@ ty-seq-enum-known-gone : (t : ℕ) → ty-seq-lts.Need-enum-known-gone (
 ) (ty-seq-at t) ty-seq.Post
 ty-seq-enum-known-gone t c = search needs
 
--- src/lib.rt:159:67
 ty-seq-enum-told : (t : ℕ) → ty-seq-lts.Need-enum-told (
   absent-reads.Asked,
   absent-reads.Learnt,
@@ -3166,7 +2984,6 @@ ty-seq-enum-told : (t : ℕ) → ty-seq-lts.Need-enum-told (
 ) (ty-seq-at t) ty-seq.Post
 ty-seq-enum-told t c = search needs
 
--- src/lib.rt:159:24
 ty-seq-ty-seq-there-requires : (t : ℕ) → ty-seq-lts.Need-ty-seq-there-requires (
   absent-reads.Asked,
   absent-reads.Learnt,
@@ -3175,7 +2992,6 @@ ty-seq-ty-seq-there-requires : (t : ℕ) → ty-seq-lts.Need-ty-seq-there-requir
 ) (ty-seq-at t) ty-seq.Post
 ty-seq-ty-seq-there-requires t c κs = omega (arith, c .before .before .before .before .before .before .before .before .before .before .pre .0)
 
--- src/lib.rt:143:1
 ty-seq-returns : (t : ℕ) → ty-seq-lts.Need-returns (
   absent-reads.Asked,
   absent-reads.Learnt,
@@ -3185,7 +3001,6 @@ ty-seq-returns : (t : ℕ) → ty-seq-lts.Need-returns (
 unfolding Ty.ty-seq
 ty-seq-returns t c = record { is = λ kinds. maybe-past (c .before .before .before .absent .ensures) (c .before .gone .given .1) }
 
--- src/lib.rt:143:1
 ty-seq-same-length : (t : ℕ) → ty-seq-lts.Need-same-length (
   absent-reads.Asked,
   absent-reads.Learnt,
@@ -3194,7 +3009,6 @@ ty-seq-same-length : (t : ℕ) → ty-seq-lts.Need-same-length (
 ) (ty-seq-at t) ty-seq.Post
 ty-seq-same-length t c = c .before .before .ty-seq-there .kept .1 .1 .1 .1 .1 .0
 
--- src/lib.rt:143:1
 ty-seq-returns-2 : (t : ℕ) → ty-seq-lts.Need-returns-2 (
   absent-reads.Asked,
   absent-reads.Learnt,
@@ -3204,7 +3018,6 @@ ty-seq-returns-2 : (t : ℕ) → ty-seq-lts.Need-returns-2 (
 unfolding Ty.ty-seq
 ty-seq-returns-2 t c = record { is = λ kinds. by-same (maybe-there (c .before .before .before .before .before .before .before .absent .ensures) (c .before .before .before .before .before .enum-told .given .1)) (plain (c .before .before .ty-seq-there .ensures)) }
 
--- src/lib.rt:177:9
 ty-seq-there-group-requires : (t : ℕ) → ty-seq-there-lts.Need-group-requires (
   group-reads.Asked,
   group-reads.Learnt,
@@ -3217,7 +3030,6 @@ ty-seq-there-group-requires : (t : ℕ) → ty-seq-there-lts.Need-group-requires
 ) (ty-seq-there-at t) ty-seq-there.Post
 ty-seq-there-group-requires t c κs = search needs
 
--- src/lib.rt:178:28
 ty-seq-there-told-requires : (t : ℕ) → ty-seq-there-lts.Need-told-requires (
   group-reads.Asked,
   group-reads.Learnt,
@@ -3230,7 +3042,6 @@ ty-seq-there-told-requires : (t : ℕ) → ty-seq-there-lts.Need-told-requires (
 ) (ty-seq-there-at t) ty-seq-there.Post
 ty-seq-there-told-requires t c κs = search needs
 
--- src/lib.rt:178:22
 ty-seq-there-enum-known-s1 : (t : ℕ) → ty-seq-there-lts.Need-enum-known-s1 (
   group-reads.Asked,
   group-reads.Learnt,
@@ -3243,7 +3054,6 @@ ty-seq-there-enum-known-s1 : (t : ℕ) → ty-seq-there-lts.Need-enum-known-s1 (
 ) (ty-seq-there-at t) ty-seq-there.Post
 ty-seq-there-enum-known-s1 t c = search needs
 
--- src/lib.rt:179:9
 ty-seq-there-enum-told : (t : ℕ) → ty-seq-there-lts.Need-enum-told (
   group-reads.Asked,
   group-reads.Learnt,
@@ -3256,7 +3066,6 @@ ty-seq-there-enum-told : (t : ℕ) → ty-seq-there-lts.Need-enum-told (
 ) (ty-seq-there-at t) ty-seq-there.Post
 ty-seq-there-enum-told t c = search needs
 
--- src/lib.rt:179:9
 ty-seq-there-returns : (t : ℕ) → ty-seq-there-lts.Need-returns (
   group-reads.Asked,
   group-reads.Learnt,
@@ -3270,7 +3079,6 @@ ty-seq-there-returns : (t : ℕ) → ty-seq-there-lts.Need-returns (
 unfolding Ty.ty-seq-there
 ty-seq-there-returns t c = record { is = λ kinds. group-not (c .before .before .before .group .ensures) (c .before .before .told .ensures) (c .enum-told .given .1) }
 
--- src/lib.rt:181:5
 ty-seq-there-word-requires : (t : ℕ) → ty-seq-there-lts.Need-word-requires (
   group-reads.Asked,
   group-reads.Learnt,
@@ -3283,7 +3091,6 @@ ty-seq-there-word-requires : (t : ℕ) → ty-seq-there-lts.Need-word-requires (
 ) (ty-seq-there-at t) ty-seq-there.Post
 ty-seq-there-word-requires t c κs = search needs
 
--- src/lib.rt:182:9
 ty-seq-there-ty-args-requires : (t : ℕ) → ty-seq-there-lts.Need-ty-args-requires (
   group-reads.Asked,
   group-reads.Learnt,
@@ -3296,7 +3103,6 @@ ty-seq-there-ty-args-requires : (t : ℕ) → ty-seq-there-lts.Need-ty-args-requ
 ) (ty-seq-there-at t) ty-seq-there.Post
 ty-seq-there-ty-args-requires t c κs = omega (arith, c .before .before .before .before .before .before .before .before .before .before .before .before .before .before .before .before .before .pre .0)
 
--- src/lib.rt:183:28
 ty-seq-there-told-requires-2 : (t : ℕ) → ty-seq-there-lts.Need-told-requires-2 (
   group-reads.Asked,
   group-reads.Learnt,
@@ -3309,7 +3115,6 @@ ty-seq-there-told-requires-2 : (t : ℕ) → ty-seq-there-lts.Need-told-requires
 ) (ty-seq-there-at t) ty-seq-there.Post
 ty-seq-there-told-requires-2 t c κs = search needs
 
--- src/lib.rt:183:22
 ty-seq-there-enum-known-s2 : (t : ℕ) → ty-seq-there-lts.Need-enum-known-s2 (
   group-reads.Asked,
   group-reads.Learnt,
@@ -3322,7 +3127,6 @@ ty-seq-there-enum-known-s2 : (t : ℕ) → ty-seq-there-lts.Need-enum-known-s2 (
 ) (ty-seq-there-at t) ty-seq-there.Post
 ty-seq-there-enum-known-s2 t c = search needs
 
--- src/lib.rt:184:9
 ty-seq-there-enum-told-2 : (t : ℕ) → ty-seq-there-lts.Need-enum-told-2 (
   group-reads.Asked,
   group-reads.Learnt,
@@ -3335,7 +3139,6 @@ ty-seq-there-enum-told-2 : (t : ℕ) → ty-seq-there-lts.Need-enum-told-2 (
 ) (ty-seq-there-at t) ty-seq-there.Post
 ty-seq-there-enum-told-2 t c = search needs
 
--- src/lib.rt:184:9
 ty-seq-there-same-length : (t : ℕ) → ty-seq-there-lts.Need-same-length (
   group-reads.Asked,
   group-reads.Learnt,
@@ -3348,7 +3151,6 @@ ty-seq-there-same-length : (t : ℕ) → ty-seq-there-lts.Need-same-length (
 ) (ty-seq-there-at t) ty-seq-there.Post
 ty-seq-there-same-length t c = c .before .before .before .before .before .ty-args .kept .1 .1 .1 .1 .1 .0 ∙ c .before .before .before .before .before .before .before .before .before .before .word .kept .1 .1 .0
 
--- src/lib.rt:184:9
 ty-seq-there-returns-2 : (t : ℕ) → ty-seq-there-lts.Need-returns-2 (
   group-reads.Asked,
   group-reads.Learnt,
@@ -3362,7 +3164,6 @@ ty-seq-there-returns-2 : (t : ℕ) → ty-seq-there-lts.Need-returns-2 (
 unfolding Ty.ty-seq-there
 ty-seq-there-returns-2 t c = record { is = λ kinds. by-same (group-is (c .before .before .before .before .before .before .before .before .before .before .before .before .before .before .before .before .before .group .ensures) (c .before .before .before .before .before .before .before .before .before .before .before .before .before .before .before .before .told .ensures) (c .before .before .before .before .before .before .before .before .before .before .before .before .before .before .s1 .given .1)) (then-sure (c .before .before .before .before .before .before .before .before .before .before .word .ensures) (then-stop (plain (c .before .before .before .before .before .ty-args .ensures)) (c .before .before .told2 .ensures) (c .enum-told2 .given .1))) }
 
--- src/lib.rt:186:5
 ty-seq-there-word-requires-2 : (t : ℕ) → ty-seq-there-lts.Need-word-requires-2 (
   group-reads.Asked,
   group-reads.Learnt,
@@ -3375,7 +3176,6 @@ ty-seq-there-word-requires-2 : (t : ℕ) → ty-seq-there-lts.Need-word-requires
 ) (ty-seq-there-at t) ty-seq-there.Post
 ty-seq-there-word-requires-2 t c κs = search needs
 
--- src/lib.rt:164:1
 ty-seq-there-same-length-2 : (t : ℕ) → ty-seq-there-lts.Need-same-length-2 (
   group-reads.Asked,
   group-reads.Learnt,
@@ -3388,7 +3188,6 @@ ty-seq-there-same-length-2 : (t : ℕ) → ty-seq-there-lts.Need-same-length-2 (
 ) (ty-seq-there-at t) ty-seq-there.Post
 ty-seq-there-same-length-2 t c = c .before .before .word2 .kept .1 .1 .0 ∙ c .before .before .before .before .before .before .before .before .before .before .before .ty-args .kept .1 .1 .1 .1 .1 .0 ∙ c .before .before .before .before .before .before .before .before .before .before .before .before .before .before .before .before .word .kept .1 .1 .0
 
--- src/lib.rt:164:1
 ty-seq-there-returns-3 : (t : ℕ) → ty-seq-there-lts.Need-returns-3 (
   group-reads.Asked,
   group-reads.Learnt,

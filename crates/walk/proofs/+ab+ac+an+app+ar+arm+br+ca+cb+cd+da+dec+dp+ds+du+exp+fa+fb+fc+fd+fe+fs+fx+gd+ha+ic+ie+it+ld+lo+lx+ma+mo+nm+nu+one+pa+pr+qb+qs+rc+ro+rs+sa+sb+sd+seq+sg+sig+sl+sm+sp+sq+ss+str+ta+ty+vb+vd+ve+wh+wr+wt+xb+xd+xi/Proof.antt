@@ -883,7 +883,6 @@ xi-at t = and 7 xi-kinds.ps (is 7 xi-kinds.ps μ-xi t) xi.Pre
 abbrev xi-below : ℕ → In 7 xi-kinds.ps
 xi-below t = and 7 xi-kinds.ps (falls 7 xi-kinds.ps _<_ μ-xi t) xi.Pre
 
--- src/lib.rt:1523:5
 ab-word-requires : (t : ℕ) → ab-lts.Need-word-requires (
   word-reads.Asked,
   word-reads.Learnt,
@@ -898,7 +897,6 @@ ab-word-requires : (t : ℕ) → ab-lts.Need-word-requires (
 ) (ab-at t) ab.Post
 ab-word-requires t c κs = search needs
 
--- src/lib.rt:1524:9
 ab-dat-binds-requires : (t : ℕ) → ab-lts.Need-dat-binds-requires (
   word-reads.Asked,
   word-reads.Learnt,
@@ -913,7 +911,6 @@ ab-dat-binds-requires : (t : ℕ) → ab-lts.Need-dat-binds-requires (
 ) (ab-at t) ab.Post
 ab-dat-binds-requires t c κs = omega (arith, c .before .before .before .before .before .before .before .before .before .before .before .before .before .pre .1)
 
--- src/lib.rt:1525:28
 ab-told-requires : (t : ℕ) → ab-lts.Need-told-requires (
   word-reads.Asked,
   word-reads.Learnt,
@@ -928,7 +925,6 @@ ab-told-requires : (t : ℕ) → ab-lts.Need-told-requires (
 ) (ab-at t) ab.Post
 ab-told-requires t c κs = search needs
 
--- src/lib.rt:1525:22
 ab-enum-known-s1 : (t : ℕ) → ab-lts.Need-enum-known-s1 (
   word-reads.Asked,
   word-reads.Learnt,
@@ -943,7 +939,6 @@ ab-enum-known-s1 : (t : ℕ) → ab-lts.Need-enum-known-s1 (
 ) (ab-at t) ab.Post
 ab-enum-known-s1 t c = search needs
 
--- src/lib.rt:1526:9
 ab-enum-told : (t : ℕ) → ab-lts.Need-enum-told (
   word-reads.Asked,
   word-reads.Learnt,
@@ -958,7 +953,6 @@ ab-enum-told : (t : ℕ) → ab-lts.Need-enum-told (
 ) (ab-at t) ab.Post
 ab-enum-told t c = search needs
 
--- src/lib.rt:1526:9
 ab-same-length : (t : ℕ) → ab-lts.Need-same-length (
   word-reads.Asked,
   word-reads.Learnt,
@@ -973,7 +967,6 @@ ab-same-length : (t : ℕ) → ab-lts.Need-same-length (
 ) (ab-at t) ab.Post
 ab-same-length t c = c .before .before .before .before .before .dat-binds .kept .1 .1 .1 .1 .1 .0 ∙ c .before .before .before .before .before .before .before .before .before .before .word .kept .1 .1 .0
 
--- src/lib.rt:1526:9
 ab-returns : (t : ℕ) → ab-lts.Need-returns (
   word-reads.Asked,
   word-reads.Learnt,
@@ -989,7 +982,6 @@ ab-returns : (t : ℕ) → ab-lts.Need-returns (
 unfolding DecOne.dec-one
 ab-returns t c = record { is = then-sure (c .before .before .before .before .before .before .before .before .before .before .word .ensures) (then-stop (plain (c .before .before .before .before .before .dat-binds .ensures)) (c .before .before .told .ensures) (c .enum-told .given .1)) }
 
--- src/lib.rt:1528:9
 ab-with-type-requires : (t : ℕ) → ab-lts.Need-with-type-requires (
   word-reads.Asked,
   word-reads.Learnt,
@@ -1004,7 +996,6 @@ ab-with-type-requires : (t : ℕ) → ab-lts.Need-with-type-requires (
 ) (ab-at t) ab.Post
 ab-with-type-requires t c κs = search needs
 
--- src/lib.rt:1529:28
 ab-told-requires-2 : (t : ℕ) → ab-lts.Need-told-requires-2 (
   word-reads.Asked,
   word-reads.Learnt,
@@ -1019,7 +1010,6 @@ ab-told-requires-2 : (t : ℕ) → ab-lts.Need-told-requires-2 (
 ) (ab-at t) ab.Post
 ab-told-requires-2 t c κs = search needs
 
--- src/lib.rt:1529:22
 ab-enum-known-s2 : (t : ℕ) → ab-lts.Need-enum-known-s2 (
   word-reads.Asked,
   word-reads.Learnt,
@@ -1034,7 +1024,6 @@ ab-enum-known-s2 : (t : ℕ) → ab-lts.Need-enum-known-s2 (
 ) (ab-at t) ab.Post
 ab-enum-known-s2 t c = search needs
 
--- src/lib.rt:1530:9
 ab-enum-told-2 : (t : ℕ) → ab-lts.Need-enum-told-2 (
   word-reads.Asked,
   word-reads.Learnt,
@@ -1049,7 +1038,6 @@ ab-enum-told-2 : (t : ℕ) → ab-lts.Need-enum-told-2 (
 ) (ab-at t) ab.Post
 ab-enum-told-2 t c = search needs
 
--- src/lib.rt:1530:9
 ab-same-length-2 : (t : ℕ) → ab-lts.Need-same-length-2 (
   word-reads.Asked,
   word-reads.Learnt,
@@ -1064,7 +1052,6 @@ ab-same-length-2 : (t : ℕ) → ab-lts.Need-same-length-2 (
 ) (ab-at t) ab.Post
 ab-same-length-2 t c = c .before .before .before .before .before .with-type .kept .1 .1 .1 .1 .1 .0 ∙ c .before .before .before .before .before .before .before .before .before .before .before .before .before .before .dat-binds .kept .1 .1 .1 .1 .1 .0 ∙ c .before .before .before .before .before .before .before .before .before .before .before .before .before .before .before .before .before .before .before .word .kept .1 .1 .0
 
--- src/lib.rt:1530:9
 ab-returns-2 : (t : ℕ) → ab-lts.Need-returns-2 (
   word-reads.Asked,
   word-reads.Learnt,
@@ -1080,7 +1067,6 @@ ab-returns-2 : (t : ℕ) → ab-lts.Need-returns-2 (
 unfolding DecOne.dec-one
 ab-returns-2 t c = record { is = then-sure (c .before .before .before .before .before .before .before .before .before .before .before .before .before .before .before .before .before .before .before .word .ensures) (then-done (plain (c .before .before .before .before .before .before .before .before .before .before .before .before .before .before .dat-binds .ensures)) (c .before .before .before .before .before .before .before .before .before .before .before .told .ensures) (c .before .before .before .before .before .before .before .before .before .s1 .given .1) (then-stop (plain (c .before .before .before .before .before .with-type .ensures)) (c .before .before .told2 .ensures) (c .enum-told2 .given .1))) }
 
--- src/lib.rt:1532:5
 ab-word-requires-2 : (t : ℕ) → ab-lts.Need-word-requires-2 (
   word-reads.Asked,
   word-reads.Learnt,
@@ -1095,7 +1081,6 @@ ab-word-requires-2 : (t : ℕ) → ab-lts.Need-word-requires-2 (
 ) (ab-at t) ab.Post
 ab-word-requires-2 t c κs = search needs
 
--- src/lib.rt:1533:9
 ab-ds-requires : (t : ℕ) → ab-lts.Need-ds-requires (
   word-reads.Asked,
   word-reads.Learnt,
@@ -1110,7 +1095,6 @@ ab-ds-requires : (t : ℕ) → ab-lts.Need-ds-requires (
 ) (ab-at t) ab.Post
 ab-ds-requires t c κs = omega (arith, c .before .before .before .before .before .before .before .before .before .before .before .before .before .before .before .before .before .before .before .before .before .before .before .before .before .before .before .before .before .before .before .before .before .before .before .before .pre .0, c .before .before .before .before .before .before .before .before .before .before .before .before .before .before .before .before .before .before .before .before .before .before .before .before .before .before .before .before .before .before .before .before .before .before .before .before .pre .1)
 
--- src/lib.rt:1534:28
 ab-told-requires-3 : (t : ℕ) → ab-lts.Need-told-requires-3 (
   word-reads.Asked,
   word-reads.Learnt,
@@ -1125,7 +1109,6 @@ ab-told-requires-3 : (t : ℕ) → ab-lts.Need-told-requires-3 (
 ) (ab-at t) ab.Post
 ab-told-requires-3 t c κs = search needs
 
--- src/lib.rt:1534:22
 ab-enum-known-s3 : (t : ℕ) → ab-lts.Need-enum-known-s3 (
   word-reads.Asked,
   word-reads.Learnt,
@@ -1140,7 +1123,6 @@ ab-enum-known-s3 : (t : ℕ) → ab-lts.Need-enum-known-s3 (
 ) (ab-at t) ab.Post
 ab-enum-known-s3 t c = search needs
 
--- src/lib.rt:1535:9
 ab-enum-told-3 : (t : ℕ) → ab-lts.Need-enum-told-3 (
   word-reads.Asked,
   word-reads.Learnt,
@@ -1155,7 +1137,6 @@ ab-enum-told-3 : (t : ℕ) → ab-lts.Need-enum-told-3 (
 ) (ab-at t) ab.Post
 ab-enum-told-3 t c = search needs
 
--- src/lib.rt:1535:9
 ab-same-length-3 : (t : ℕ) → ab-lts.Need-same-length-3 (
   word-reads.Asked,
   word-reads.Learnt,
@@ -1170,7 +1151,6 @@ ab-same-length-3 : (t : ℕ) → ab-lts.Need-same-length-3 (
 ) (ab-at t) ab.Post
 ab-same-length-3 t c = c .before .before .before .before .before .ds .kept .1 .1 .1 .1 .1 .1 .0 ∙ c .before .before .before .before .before .before .before .before .before .before .word2 .kept .1 .1 .0 ∙ c .before .before .before .before .before .before .before .before .before .before .before .before .before .before .before .before .before .before .before .with-type .kept .1 .1 .1 .1 .1 .0 ∙ c .before .before .before .before .before .before .before .before .before .before .before .before .before .before .before .before .before .before .before .before .before .before .before .before .before .before .before .before .dat-binds .kept .1 .1 .1 .1 .1 .0 ∙ c .before .before .before .before .before .before .before .before .before .before .before .before .before .before .before .before .before .before .before .before .before .before .before .before .before .before .before .before .before .before .before .before .before .word .kept .1 .1 .0
 
--- src/lib.rt:1535:9
 ab-returns-3 : (t : ℕ) → ab-lts.Need-returns-3 (
   word-reads.Asked,
   word-reads.Learnt,
@@ -1186,7 +1166,6 @@ ab-returns-3 : (t : ℕ) → ab-lts.Need-returns-3 (
 unfolding DecOne.dec-one
 ab-returns-3 t c = record { is = then-sure (c .before .before .before .before .before .before .before .before .before .before .before .before .before .before .before .before .before .before .before .before .before .before .before .before .before .before .before .before .before .before .before .before .before .word .ensures) (then-done (plain (c .before .before .before .before .before .before .before .before .before .before .before .before .before .before .before .before .before .before .before .before .before .before .before .before .before .before .before .before .dat-binds .ensures)) (c .before .before .before .before .before .before .before .before .before .before .before .before .before .before .before .before .before .before .before .before .before .before .before .before .before .told .ensures) (c .before .before .before .before .before .before .before .before .before .before .before .before .before .before .before .before .before .before .before .before .before .before .before .s1 .given .1) (then-done (plain (c .before .before .before .before .before .before .before .before .before .before .before .before .before .before .before .before .before .before .before .with-type .ensures)) (c .before .before .before .before .before .before .before .before .before .before .before .before .before .before .before .before .told2 .ensures) (c .before .before .before .before .before .before .before .before .before .before .before .before .before .before .s2 .given .1) (then-sure (c .before .before .before .before .before .before .before .before .before .before .word2 .ensures) (then-stop (c .before .before .before .before .before .ds .ensures .is) (c .before .before .told3 .ensures) (c .enum-told3 .given .1))))) }
 
--- src/lib.rt:1537:5
 ab-word-requires-3 : (t : ℕ) → ab-lts.Need-word-requires-3 (
   word-reads.Asked,
   word-reads.Learnt,
@@ -1201,7 +1180,6 @@ ab-word-requires-3 : (t : ℕ) → ab-lts.Need-word-requires-3 (
 ) (ab-at t) ab.Post
 ab-word-requires-3 t c κs = search needs
 
--- src/lib.rt:1508:1
 ab-same-length-4 : (t : ℕ) → ab-lts.Need-same-length-4 (
   word-reads.Asked,
   word-reads.Learnt,
@@ -1216,7 +1194,6 @@ ab-same-length-4 : (t : ℕ) → ab-lts.Need-same-length-4 (
 ) (ab-at t) ab.Post
 ab-same-length-4 t c = c .before .before .word3 .kept .1 .1 .0 ∙ c .before .before .before .before .before .before .before .before .before .before .before .ds .kept .1 .1 .1 .1 .1 .1 .0 ∙ c .before .before .before .before .before .before .before .before .before .before .before .before .before .before .before .before .word2 .kept .1 .1 .0 ∙ c .before .before .before .before .before .before .before .before .before .before .before .before .before .before .before .before .before .before .before .before .before .before .before .before .before .with-type .kept .1 .1 .1 .1 .1 .0 ∙ c .before .before .before .before .before .before .before .before .before .before .before .before .before .before .before .before .before .before .before .before .before .before .before .before .before .before .before .before .before .before .before .before .before .before .dat-binds .kept .1 .1 .1 .1 .1 .0 ∙ c .before .before .before .before .before .before .before .before .before .before .before .before .before .before .before .before .before .before .before .before .before .before .before .before .before .before .before .before .before .before .before .before .before .before .before .before .before .before .before .word .kept .1 .1 .0
 
--- src/lib.rt:1508:1
 ab-returns-4 : (t : ℕ) → ab-lts.Need-returns-4 (
   word-reads.Asked,
   word-reads.Learnt,
@@ -1232,7 +1209,6 @@ ab-returns-4 : (t : ℕ) → ab-lts.Need-returns-4 (
 unfolding DecOne.dec-one
 ab-returns-4 t c = record { is = then-sure (c .before .before .before .before .before .before .before .before .before .before .before .before .before .before .before .before .before .before .before .before .before .before .before .before .before .before .before .before .before .before .before .before .before .before .before .before .before .before .before .word .ensures) (then-done (plain (c .before .before .before .before .before .before .before .before .before .before .before .before .before .before .before .before .before .before .before .before .before .before .before .before .before .before .before .before .before .before .before .before .before .before .dat-binds .ensures)) (c .before .before .before .before .before .before .before .before .before .before .before .before .before .before .before .before .before .before .before .before .before .before .before .before .before .before .before .before .before .before .before .told .ensures) (c .before .before .before .before .before .before .before .before .before .before .before .before .before .before .before .before .before .before .before .before .before .before .before .before .before .before .before .before .before .s1 .given .1) (then-done (plain (c .before .before .before .before .before .before .before .before .before .before .before .before .before .before .before .before .before .before .before .before .before .before .before .before .before .with-type .ensures)) (c .before .before .before .before .before .before .before .before .before .before .before .before .before .before .before .before .before .before .before .before .before .before .told2 .ensures) (c .before .before .before .before .before .before .before .before .before .before .before .before .before .before .before .before .before .before .before .before .s2 .given .1) (then-sure (c .before .before .before .before .before .before .before .before .before .before .before .before .before .before .before .before .word2 .ensures) (then-done (c .before .before .before .before .before .before .before .before .before .before .before .ds .ensures .is) (c .before .before .before .before .before .before .before .before .told3 .ensures) (c .before .before .before .before .before .before .s3 .given .1) (last-sure (c .before .before .word3 .ensures)))))) }
 
--- src/lib.rt:2198:29
 ac-absent-requires : (t : ℕ) → ac-lts.Need-absent-requires (
   absent-reads.Asked,
   absent-reads.Learnt,
@@ -1241,7 +1217,6 @@ ac-absent-requires : (t : ℕ) → ac-lts.Need-absent-requires (
 ) (ac-at t) ac.Post
 ac-absent-requires t c κs = search needs
 
--- src/lib.rt:2198:23
 ac-enum-known-s0 : (t : ℕ) → ac-lts.Need-enum-known-s0 (
   absent-reads.Asked,
   absent-reads.Learnt,
@@ -1250,7 +1225,6 @@ ac-enum-known-s0 : (t : ℕ) → ac-lts.Need-enum-known-s0 (
 ) (ac-at t) ac.Post
 ac-enum-known-s0 t c = search needs
 
--- src/lib.rt:2199:9
 ac-returns : (t : ℕ) → ac-lts.Need-returns (
   absent-reads.Asked,
   absent-reads.Learnt,
@@ -1267,7 +1241,6 @@ ac-enum-told : (t : ℕ) → ac-lts.Need-enum-told (
 ) (ac-at t) ac.Post
 ac-enum-told t c = search needs
 
--- src/lib.rt:2201:5
 ac-ta-requires : (t : ℕ) → ac-lts.Need-ta-requires (
   absent-reads.Asked,
   absent-reads.Learnt,
@@ -1276,7 +1249,6 @@ ac-ta-requires : (t : ℕ) → ac-lts.Need-ta-requires (
 ) (ac-at t) ac.Post
 ac-ta-requires t c κs = omega (arith, c .before .before .before .before .before .before .before .before .before .before .before .pre .0, c .before .before .before .before .before .before .before .before .before .before .before .pre .1)
 
--- src/lib.rt:2183:1
 ac-same-length : (t : ℕ) → ac-lts.Need-same-length (
   absent-reads.Asked,
   absent-reads.Learnt,
@@ -1285,7 +1257,6 @@ ac-same-length : (t : ℕ) → ac-lts.Need-same-length (
 ) (ac-at t) ac.Post
 ac-same-length t c = c .before .before .ta .kept .1 .1 .1 .1 .1 .1 .0
 
--- src/lib.rt:2183:1
 ac-returns-2 : (t : ℕ) → ac-lts.Need-returns-2 (
   absent-reads.Asked,
   absent-reads.Learnt,
@@ -1294,7 +1265,6 @@ ac-returns-2 : (t : ℕ) → ac-lts.Need-returns-2 (
 ) (ac-at t) ac.Post
 ac-returns-2 t c = record { is = by-same (maybe-there (c .before .before .before .before .before .before .before .absent .ensures) (c .before .before .before .before .before .enum-told .given .1)) (c .before .before .ta .ensures .is) }
 
--- src/lib.rt:2146:9
 an-str-requires : (t : ℕ) → an-lts.Need-str-requires (
   str-below t,
   str.Post,
@@ -1305,7 +1275,6 @@ an-str-requires : (t : ℕ) → an-lts.Need-str-requires (
 ) (an-at t) an.Post
 an-str-requires t c κs = omega (arith, c .before .before .before .before .before .before .before .before .pre .0, c .before .before .before .before .before .before .before .before .pre .1)
 
--- src/lib.rt:2147:28
 an-told-requires : (t : ℕ) → an-lts.Need-told-requires (
   str-below t,
   str.Post,
@@ -1316,7 +1285,6 @@ an-told-requires : (t : ℕ) → an-lts.Need-told-requires (
 ) (an-at t) an.Post
 an-told-requires t c κs = search needs
 
--- src/lib.rt:2147:22
 an-enum-known-s1 : (t : ℕ) → an-lts.Need-enum-known-s1 (
   str-below t,
   str.Post,
@@ -1327,7 +1295,6 @@ an-enum-known-s1 : (t : ℕ) → an-lts.Need-enum-known-s1 (
 ) (an-at t) an.Post
 an-enum-known-s1 t c = search needs
 
--- src/lib.rt:2148:9
 an-enum-told : (t : ℕ) → an-lts.Need-enum-told (
   str-below t,
   str.Post,
@@ -1338,7 +1305,6 @@ an-enum-told : (t : ℕ) → an-lts.Need-enum-told (
 ) (an-at t) an.Post
 an-enum-told t c = search needs
 
--- src/lib.rt:2148:9
 an-same-length : (t : ℕ) → an-lts.Need-same-length (
   str-below t,
   str.Post,
@@ -1349,7 +1315,6 @@ an-same-length : (t : ℕ) → an-lts.Need-same-length (
 ) (an-at t) an.Post
 an-same-length t c = c .before .before .before .before .before .str .kept .1 .1 .1 .1 .1 .1 .0
 
--- src/lib.rt:2148:9
 an-returns : (t : ℕ) → an-lts.Need-returns (
   str-below t,
   str.Post,
@@ -1361,7 +1326,6 @@ an-returns : (t : ℕ) → an-lts.Need-returns (
 unfolding StrExp.str-exp
 an-returns t c = record { is = then-stop (c .before .before .before .before .before .str .ensures .is) (c .before .before .told .ensures) (c .enum-told .given .1) }
 
--- src/lib.rt:2150:5
 an-ta-requires : (t : ℕ) → an-lts.Need-ta-requires (
   str-below t,
   str.Post,
@@ -1372,7 +1336,6 @@ an-ta-requires : (t : ℕ) → an-lts.Need-ta-requires (
 ) (an-at t) an.Post
 an-ta-requires t c κs = omega (arith, c .before .before .before .before .before .before .before .before .before .before .before .before .before .before .before .before .before .pre .0, c .before .before .before .before .before .before .before .before .before .before .before .before .before .before .before .before .before .pre .1)
 
--- src/lib.rt:2131:1
 an-same-length-2 : (t : ℕ) → an-lts.Need-same-length-2 (
   str-below t,
   str.Post,
@@ -1383,7 +1346,6 @@ an-same-length-2 : (t : ℕ) → an-lts.Need-same-length-2 (
 ) (an-at t) an.Post
 an-same-length-2 t c = c .before .before .ta .kept .1 .1 .1 .1 .1 .1 .0 ∙ c .before .before .before .before .before .before .before .before .before .before .before .str .kept .1 .1 .1 .1 .1 .1 .0
 
--- src/lib.rt:2131:1
 an-returns-2 : (t : ℕ) → an-lts.Need-returns-2 (
   str-below t,
   str.Post,
@@ -1395,7 +1357,6 @@ an-returns-2 : (t : ℕ) → an-lts.Need-returns-2 (
 unfolding StrExp.str-exp
 an-returns-2 t c = record { is = then-done (c .before .before .before .before .before .before .before .before .before .before .before .str .ensures .is) (c .before .before .before .before .before .before .before .before .told .ensures) (c .before .before .before .before .before .before .s1 .given .1) (c .before .before .ta .ensures .is) }
 
--- src/lib.rt:535:9
 app-exp-requires : (t : ℕ) → app-lts.Need-exp-requires (
   exp-below t,
   exp.Post,
@@ -1416,7 +1377,6 @@ app-exp-requires : (t : ℕ) → app-lts.Need-exp-requires (
 ) (app-at t) app.Post
 app-exp-requires t c κs = omega (arith, c .before .before .before .before .before .before .before .before .pre .0, c .before .before .before .before .before .before .before .before .pre .1)
 
--- src/lib.rt:536:28
 app-told-requires : (t : ℕ) → app-lts.Need-told-requires (
   exp-below t,
   exp.Post,
@@ -1437,7 +1397,6 @@ app-told-requires : (t : ℕ) → app-lts.Need-told-requires (
 ) (app-at t) app.Post
 app-told-requires t c κs = search needs
 
--- src/lib.rt:536:22
 app-enum-known-s1 : (t : ℕ) → app-lts.Need-enum-known-s1 (
   exp-below t,
   exp.Post,
@@ -1458,7 +1417,6 @@ app-enum-known-s1 : (t : ℕ) → app-lts.Need-enum-known-s1 (
 ) (app-at t) app.Post
 app-enum-known-s1 t c = search needs
 
--- src/lib.rt:537:33
 app-enum-told : (t : ℕ) → app-lts.Need-enum-told (
   exp-below t,
   exp.Post,
@@ -1479,7 +1437,6 @@ app-enum-told : (t : ℕ) → app-lts.Need-enum-told (
 ) (app-at t) app.Post
 app-enum-told t c = search needs
 
--- src/lib.rt:537:9
 app-asked-first-requires : (t : ℕ) → app-lts.Need-asked-first-requires (
   exp-below t,
   exp.Post,
@@ -1500,7 +1457,6 @@ app-asked-first-requires : (t : ℕ) → app-lts.Need-asked-first-requires (
 ) (app-at t) app.Post
 app-asked-first-requires t c κs = search needs
 
--- src/lib.rt:537:9
 app-same-length : (t : ℕ) → app-lts.Need-same-length (
   exp-below t,
   exp.Post,
@@ -1521,7 +1477,6 @@ app-same-length : (t : ℕ) → app-lts.Need-same-length (
 ) (app-at t) app.Post
 app-same-length t c = c .before .before .before .before .before .before .exp .kept .1 .1 .1 .1 .1 .1 .0
 
--- src/lib.rt:537:9
 app-returns : (t : ℕ) → app-lts.Need-returns (
   exp-below t,
   exp.Post,
@@ -1543,7 +1498,6 @@ app-returns : (t : ℕ) → app-lts.Need-returns (
 unfolding Exp.exp
 app-returns t c = record { is = application-stop (c .before .before .before .before .before .before .exp .ensures .is) (c .before .before .before .told .ensures) (c .before .enum-told .given .1) (c .asked-first .ensures) }
 
--- src/lib.rt:539:9
 app-heads-behind-requires : (t : ℕ) → app-lts.Need-heads-behind-requires (
   exp-below t,
   exp.Post,
@@ -1564,7 +1518,6 @@ app-heads-behind-requires : (t : ℕ) → app-lts.Need-heads-behind-requires (
 ) (app-at t) app.Post
 app-heads-behind-requires t c κs = search needs
 
--- src/lib.rt:540:23
 app-enum-known-seen : (t : ℕ) → app-lts.Need-enum-known-seen (
   exp-below t,
   exp.Post,
@@ -1585,7 +1538,6 @@ app-enum-known-seen : (t : ℕ) → app-lts.Need-enum-known-seen (
 ) (app-at t) app.Post
 app-enum-known-seen t c = search needs
 
--- src/lib.rt:541:9
 app-enum-told-2 : (t : ℕ) → app-lts.Need-enum-told-2 (
   exp-below t,
   exp.Post,
@@ -1606,7 +1558,6 @@ app-enum-told-2 : (t : ℕ) → app-lts.Need-enum-told-2 (
 ) (app-at t) app.Post
 app-enum-told-2 t c = search needs
 
--- src/lib.rt:541:9
 app-missing-requires : (t : ℕ) → app-lts.Need-missing-requires (
   exp-below t,
   exp.Post,
@@ -1627,7 +1578,6 @@ app-missing-requires : (t : ℕ) → app-lts.Need-missing-requires (
 ) (app-at t) app.Post
 app-missing-requires t c κs = search needs
 
--- src/lib.rt:541:9
 app-same-length-2 : (t : ℕ) → app-lts.Need-same-length-2 (
   exp-below t,
   exp.Post,
@@ -1648,7 +1598,6 @@ app-same-length-2 : (t : ℕ) → app-lts.Need-same-length-2 (
 ) (app-at t) app.Post
 app-same-length-2 t c = c .before .before .before .before .before .before .before .before .before .before .exp .kept .1 .1 .1 .1 .1 .1 .0
 
--- src/lib.rt:541:9
 app-returns-2 : (t : ℕ) → app-lts.Need-returns-2 (
   exp-below t,
   exp.Post,
@@ -1670,7 +1619,6 @@ app-returns-2 : (t : ℕ) → app-lts.Need-returns-2 (
 unfolding Exp.exp
 app-returns-2 t c = record { is = application-missing (seen-behind (c .before .before .before .before .before .before .before .before .before .before .before .before .before .before .before .before .before .before .before .args .cfg .left) (cfgOf (c .before .before .before .before .before .before .before .before .before .before .before .before .before .before .before .before .before .before .before .args .cfg)) (omega (arith, c .before .before .before .before .before .before .before .before .before .before .before .before .before .before .before .before .before .before .before .pre)) (c .before .before .before .before .before .before .before .before .before .before .exp .ensures .is) (c .before .before .before .before .before .before .before .told .ensures) (c .before .before .before .before .before .s1 .given .1) (c .before .before .before .heads-behind .ensures)) (c .before .enum-told2 .given .1) (missed (c .missing .ensures) (c .before .enum-told2 .given .1)) }
 
--- src/lib.rt:543:9
 app-func-is-bang-requires : (t : ℕ) → app-lts.Need-func-is-bang-requires (
   exp-below t,
   exp.Post,
@@ -1691,7 +1639,6 @@ app-func-is-bang-requires : (t : ℕ) → app-lts.Need-func-is-bang-requires (
 ) (app-at t) app.Post
 app-func-is-bang-requires t c κs = search needs
 
--- src/lib.rt:544:9
 app-arg-is-symbolic-requires : (t : ℕ) → app-lts.Need-arg-is-symbolic-requires (
   exp-below t,
   exp.Post,
@@ -1712,7 +1659,6 @@ app-arg-is-symbolic-requires : (t : ℕ) → app-lts.Need-arg-is-symbolic-requir
 ) (app-at t) app.Post
 app-arg-is-symbolic-requires t c κs = search needs
 
--- src/lib.rt:545:5
 app-app-space-requires : (t : ℕ) → app-lts.Need-app-space-requires (
   exp-below t,
   exp.Post,
@@ -1733,7 +1679,6 @@ app-app-space-requires : (t : ℕ) → app-lts.Need-app-space-requires (
 ) (app-at t) app.Post
 app-app-space-requires t c κs = search needs
 
--- src/lib.rt:546:5
 app-exp-requires-2 : (t : ℕ) → app-lts.Need-exp-requires-2 (
   exp-below t,
   exp.Post,
@@ -1754,7 +1699,6 @@ app-exp-requires-2 : (t : ℕ) → app-lts.Need-exp-requires-2 (
 ) (app-at t) app.Post
 app-exp-requires-2 t c κs = omega (arith, c .before .before .before .before .before .before .before .before .before .before .before .before .before .before .before .before .before .before .before .before .before .before .before .before .before .before .before .before .pre .0, c .before .before .before .before .before .before .before .before .before .before .before .before .before .before .before .before .before .before .before .before .before .before .before .before .before .before .before .before .pre .1)
 
--- src/lib.rt:520:1
 app-same-length-3 : (t : ℕ) → app-lts.Need-same-length-3 (
   exp-below t,
   exp.Post,
@@ -1775,7 +1719,6 @@ app-same-length-3 : (t : ℕ) → app-lts.Need-same-length-3 (
 ) (app-at t) app.Post
 app-same-length-3 t c = c .before .before .exp2 .kept .1 .1 .1 .1 .1 .1 .0 ∙ c .before .before .before .before .before .before .before .app-space .kept .1 .1 .0 ∙ c .before .before .before .before .before .before .before .before .before .before .before .before .before .before .before .before .before .before .before .before .before .before .exp .kept .1 .1 .1 .1 .1 .1 .0
 
--- src/lib.rt:520:1
 app-returns-3 : (t : ℕ) → app-lts.Need-returns-3 (
   exp-below t,
   exp.Post,
@@ -1804,7 +1747,6 @@ ar-Inv-loop run text rec kinds starts lens out₀ mem₀ at cfg n s0 s₀ i₀ o
 abbrev ar-μ-loop : ar-lts.MeasureT-loop
 ar-μ-loop run text rec kinds starts lens out₀ mem₀ at cfg n s0 s₀ i₀ out mem s i = n - i
 
--- src/lib.rt:249:27
 ar-list-requires : (t : ℕ) → ar-lts.Need-list-requires (
   list-reads.Asked,
   list-reads.Learnt,
@@ -1821,7 +1763,6 @@ ar-list-requires : (t : ℕ) → ar-lts.Need-list-requires (
 ) (ar-at t) ar.Post ar-Inv-loop ar-μ-loop
 ar-list-requires t c κs = search needs
 
--- src/lib.rt:249:18
 ar-enum-known-n : (t : ℕ) → ar-lts.Need-enum-known-n (
   list-reads.Asked,
   list-reads.Learnt,
@@ -1838,7 +1779,6 @@ ar-enum-known-n : (t : ℕ) → ar-lts.Need-enum-known-n (
 ) (ar-at t) ar.Post ar-Inv-loop ar-μ-loop
 ar-enum-known-n t c = search needs
 
--- src/lib.rt:250:9
 ar-enum-told : (t : ℕ) → ar-lts.Need-enum-told (
   list-reads.Asked,
   list-reads.Learnt,
@@ -1855,7 +1795,6 @@ ar-enum-told : (t : ℕ) → ar-lts.Need-enum-told (
 ) (ar-at t) ar.Post ar-Inv-loop ar-μ-loop
 ar-enum-told t c = search needs
 
--- src/lib.rt:250:9
 ar-stop-requires : (t : ℕ) → ar-lts.Need-stop-requires (
   list-reads.Asked,
   list-reads.Learnt,
@@ -1872,7 +1811,6 @@ ar-stop-requires : (t : ℕ) → ar-lts.Need-stop-requires (
 ) (ar-at t) ar.Post ar-Inv-loop ar-μ-loop
 ar-stop-requires t c κs = search needs
 
--- src/lib.rt:250:9
 ar-returns : (t : ℕ) → ar-lts.Need-returns (
   list-reads.Asked,
   list-reads.Learnt,
@@ -1890,7 +1828,6 @@ ar-returns : (t : ℕ) → ar-lts.Need-returns (
 unfolding Exp.exp-args Helpers.sep
 ar-returns t c = record { is = list-not (c .stop .ensures) (c .before .before .before .list .ensures) (c .before .enum-told .given .1) }
 
--- src/lib.rt:254:5
 ar-loop-holds : (t : ℕ) → ar-lts.Need-loop-holds (
   list-reads.Asked,
   list-reads.Learnt,
@@ -1907,7 +1844,6 @@ ar-loop-holds : (t : ℕ) → ar-lts.Need-loop-holds (
 ) (ar-at t) ar.Post ar-Inv-loop ar-μ-loop
 ar-loop-holds t c = (omega arith, λ r m o h. h, refl)
 
--- src/lib.rt:255:9
 ar-between-requires : (t : ℕ) → ar-lts.Need-between-requires (
   list-reads.Asked,
   list-reads.Learnt,
@@ -1924,7 +1860,6 @@ ar-between-requires : (t : ℕ) → ar-lts.Need-between-requires (
 ) (ar-at t) ar.Post ar-Inv-loop ar-μ-loop
 ar-between-requires t c κs = search needs
 
--- src/lib.rt:256:13
 ar-group-requires : (t : ℕ) → ar-lts.Need-group-requires (
   list-reads.Asked,
   list-reads.Learnt,
@@ -1941,7 +1876,6 @@ ar-group-requires : (t : ℕ) → ar-lts.Need-group-requires (
 ) (ar-at t) ar.Post ar-Inv-loop ar-μ-loop
 ar-group-requires t c κs = search needs
 
--- src/lib.rt:257:32
 ar-told-requires : (t : ℕ) → ar-lts.Need-told-requires (
   list-reads.Asked,
   list-reads.Learnt,
@@ -1958,7 +1892,6 @@ ar-told-requires : (t : ℕ) → ar-lts.Need-told-requires (
 ) (ar-at t) ar.Post ar-Inv-loop ar-μ-loop
 ar-told-requires t c κs = search needs
 
--- src/lib.rt:257:26
 ar-enum-known-s1 : (t : ℕ) → ar-lts.Need-enum-known-s1 (
   list-reads.Asked,
   list-reads.Learnt,
@@ -1975,7 +1908,6 @@ ar-enum-known-s1 : (t : ℕ) → ar-lts.Need-enum-known-s1 (
 ) (ar-at t) ar.Post ar-Inv-loop ar-μ-loop
 ar-enum-known-s1 t c = search needs
 
--- src/lib.rt:258:13
 ar-enum-told-2 : (t : ℕ) → ar-lts.Need-enum-told-2 (
   list-reads.Asked,
   list-reads.Learnt,
@@ -1992,7 +1924,6 @@ ar-enum-told-2 : (t : ℕ) → ar-lts.Need-enum-told-2 (
 ) (ar-at t) ar.Post ar-Inv-loop ar-μ-loop
 ar-enum-told-2 t c = search needs
 
--- src/lib.rt:258:13
 ar-same-length : (t : ℕ) → ar-lts.Need-same-length (
   list-reads.Asked,
   list-reads.Learnt,
@@ -2009,7 +1940,6 @@ ar-same-length : (t : ℕ) → ar-lts.Need-same-length (
 ) (ar-at t) ar.Post ar-Inv-loop ar-μ-loop
 ar-same-length t c = c .before .before .before .before .before .before .between .kept .1 .1 .0 ∙ c .before .before .before .before .before .before .before .before .before .before .loop .inv .2
 
--- src/lib.rt:258:13
 ar-returns-2 : (t : ℕ) → ar-lts.Need-returns-2 (
   list-reads.Asked,
   list-reads.Learnt,
@@ -2027,7 +1957,6 @@ ar-returns-2 : (t : ℕ) → ar-lts.Need-returns-2 (
 unfolding Exp.exp-args Helpers.sep
 ar-returns-2 t c = record { is = by-same (list-is (c .before .before .before .before .before .before .before .before .before .before .before .before .before .before .list .ensures) (c .before .before .before .before .before .before .before .before .before .before .before .before .n .given .1)) (by-same (items-all _ _ _) (c .before .before .before .before .before .before .before .before .before .before .loop .inv .1 _ _ _ (from-more _ _ (c .before .before .before .before .before .before .before .before .before .loop-test .taken) (then-sure (c .before .before .before .before .before .before .between .ensures) (then-stop (group-not (c .before .before .before .group .ensures) (c .before .before .told .ensures) (c .enum-told2 .given .1)) (c .before .before .told .ensures) (c .enum-told2 .given .1)))))) }
 
--- src/lib.rt:260:13
 ar-exp-requires : (t : ℕ) → ar-lts.Need-exp-requires (
   list-reads.Asked,
   list-reads.Learnt,
@@ -2044,7 +1973,6 @@ ar-exp-requires : (t : ℕ) → ar-lts.Need-exp-requires (
 ) (ar-at t) ar.Post ar-Inv-loop ar-μ-loop
 ar-exp-requires t c κs = omega (arith, c .before .before .before .before .before .before .before .before .before .before .before .before .before .before .before .before .before .before .before .before .before .before .before .before .pre .0, c .before .before .before .before .before .before .before .before .before .before .before .before .before .before .before .before .before .before .before .before .before .before .before .before .pre .1)
 
--- src/lib.rt:261:32
 ar-told-requires-2 : (t : ℕ) → ar-lts.Need-told-requires-2 (
   list-reads.Asked,
   list-reads.Learnt,
@@ -2061,7 +1989,6 @@ ar-told-requires-2 : (t : ℕ) → ar-lts.Need-told-requires-2 (
 ) (ar-at t) ar.Post ar-Inv-loop ar-μ-loop
 ar-told-requires-2 t c κs = search needs
 
--- src/lib.rt:261:26
 ar-enum-known-s2 : (t : ℕ) → ar-lts.Need-enum-known-s2 (
   list-reads.Asked,
   list-reads.Learnt,
@@ -2078,7 +2005,6 @@ ar-enum-known-s2 : (t : ℕ) → ar-lts.Need-enum-known-s2 (
 ) (ar-at t) ar.Post ar-Inv-loop ar-μ-loop
 ar-enum-known-s2 t c = search needs
 
--- src/lib.rt:262:13
 ar-enum-told-3 : (t : ℕ) → ar-lts.Need-enum-told-3 (
   list-reads.Asked,
   list-reads.Learnt,
@@ -2095,7 +2021,6 @@ ar-enum-told-3 : (t : ℕ) → ar-lts.Need-enum-told-3 (
 ) (ar-at t) ar.Post ar-Inv-loop ar-μ-loop
 ar-enum-told-3 t c = search needs
 
--- src/lib.rt:262:13
 ar-same-length-2 : (t : ℕ) → ar-lts.Need-same-length-2 (
   list-reads.Asked,
   list-reads.Learnt,
@@ -2112,7 +2037,6 @@ ar-same-length-2 : (t : ℕ) → ar-lts.Need-same-length-2 (
 ) (ar-at t) ar.Post ar-Inv-loop ar-μ-loop
 ar-same-length-2 t c = c .before .before .before .before .before .exp .kept .1 .1 .1 .1 .1 .1 .0 ∙ c .before .before .before .before .before .before .before .before .before .before .before .before .before .before .before .between .kept .1 .1 .0 ∙ c .before .before .before .before .before .before .before .before .before .before .before .before .before .before .before .before .before .before .before .loop .inv .2
 
--- src/lib.rt:262:13
 ar-returns-3 : (t : ℕ) → ar-lts.Need-returns-3 (
   list-reads.Asked,
   list-reads.Learnt,
@@ -2130,7 +2054,6 @@ ar-returns-3 : (t : ℕ) → ar-lts.Need-returns-3 (
 unfolding Exp.exp-args Helpers.sep
 ar-returns-3 t c = record { is = by-same (list-is (c .before .before .before .before .before .before .before .before .before .before .before .before .before .before .before .before .before .before .before .before .before .before .before .list .ensures) (c .before .before .before .before .before .before .before .before .before .before .before .before .before .before .before .before .before .before .before .before .before .n .given .1)) (by-same (items-all _ _ _) (c .before .before .before .before .before .before .before .before .before .before .before .before .before .before .before .before .before .before .before .loop .inv .1 _ _ _ (from-more _ _ (c .before .before .before .before .before .before .before .before .before .before .before .before .before .before .before .before .before .before .loop-test .taken) (then-sure (c .before .before .before .before .before .before .before .before .before .before .before .before .before .before .before .between .ensures) (by-same (first-same (group-is (c .before .before .before .before .before .before .before .before .before .before .before .before .group .ensures) (c .before .before .before .before .before .before .before .before .before .before .before .told .ensures) (c .before .before .before .before .before .before .before .before .before .s1 .given .1))) (then-stop (c .before .before .before .before .before .exp .ensures .is) (c .before .before .told2 .ensures) (c .enum-told3 .given .1))))))) }
 
--- src/lib.rt:265:9
 ar-add-i : (t : ℕ) → ar-lts.Need-add-i (
   list-reads.Asked,
   list-reads.Learnt,
@@ -2147,7 +2070,6 @@ ar-add-i : (t : ℕ) → ar-lts.Need-add-i (
 ) (ar-at t) ar.Post ar-Inv-loop ar-μ-loop
 ar-add-i t c = omega (arith, c .before .before .before .before .before .before .before .before .before .before .before .before .before .before .before .before .before .before .before .loop-test .taken, c .before .before .before .before .before .before .before .before .before .before .before .before .before .before .before .before .before .before .before .before .before .known-told)
 
--- src/lib.rt:254:5
 ar-loop-less : (t : ℕ) → ar-lts.Need-loop-less (
   list-reads.Asked,
   list-reads.Learnt,
@@ -2164,7 +2086,6 @@ ar-loop-less : (t : ℕ) → ar-lts.Need-loop-less (
 ) (ar-at t) ar.Post ar-Inv-loop ar-μ-loop
 ar-loop-less t c = omega arith
 
--- src/lib.rt:254:5
 ar-loop-again : (t : ℕ) → ar-lts.Need-loop-again (
   list-reads.Asked,
   list-reads.Learnt,
@@ -2182,7 +2103,6 @@ ar-loop-again : (t : ℕ) → ar-lts.Need-loop-again (
 unfolding Exp.exp-args Helpers.sep
 ar-loop-again t c = (omega (arith, c .before .before .before .before .before .before .before .before .before .before .before .before .before .before .before .before .before .before .before .before .loop .inv .0), λ r m o h. c .before .before .before .before .before .before .before .before .before .before .before .before .before .before .before .before .before .before .before .before .loop .inv .1 r m o (from-more _ _ (c .before .before .before .before .before .before .before .before .before .before .before .before .before .before .before .before .before .before .before .loop-test .taken) (then-sure (c .before .before .before .before .before .before .before .before .before .before .before .before .before .before .before .before .between .ensures) (by-same (first-same (group-is (c .before .before .before .before .before .before .before .before .before .before .before .before .before .group .ensures) (c .before .before .before .before .before .before .before .before .before .before .before .before .told .ensures) (c .before .before .before .before .before .before .before .before .before .before .s1 .given .1))) (then-done (c .before .before .before .before .before .before .exp .ensures .is) (c .before .before .before .told2 .ensures) (c .before .s2 .given .1) h)))), c .before .before .before .before .before .before .exp .kept .1 .1 .1 .1 .1 .1 .0 ∙ c .before .before .before .before .before .before .before .before .before .before .before .before .before .before .before .before .between .kept .1 .1 .0 ∙ c .before .before .before .before .before .before .before .before .before .before .before .before .before .before .before .before .before .before .before .before .loop .inv .2)
 
--- src/lib.rt:234:1
 ar-same-length-3 : (t : ℕ) → ar-lts.Need-same-length-3 (
   list-reads.Asked,
   list-reads.Learnt,
@@ -2199,7 +2119,6 @@ ar-same-length-3 : (t : ℕ) → ar-lts.Need-same-length-3 (
 ) (ar-at t) ar.Post ar-Inv-loop ar-μ-loop
 ar-same-length-3 t c = c .before .loop .inv .2
 
--- src/lib.rt:234:1
 ar-returns-4 : (t : ℕ) → ar-lts.Need-returns-4 (
   list-reads.Asked,
   list-reads.Learnt,
@@ -2217,7 +2136,6 @@ ar-returns-4 : (t : ℕ) → ar-lts.Need-returns-4 (
 unfolding Exp.exp-args Helpers.sep
 ar-returns-4 t c = record { is = by-same (list-is (c .before .before .before .before .before .list .ensures) (c .before .before .before .n .given .1)) (by-same (items-all _ _ _) (c .before .loop .inv .1 _ _ _ (from-none _ _ (c .loop-test .left)))) }
 
--- src/lib.rt:833:9
 arm-group-requires : (t : ℕ) → arm-lts.Need-group-requires (
   group-reads.Asked,
   group-reads.Learnt,
@@ -2244,7 +2162,6 @@ arm-group-requires : (t : ℕ) → arm-lts.Need-group-requires (
 ) (arm-at t) arm.Post
 arm-group-requires t c κs = search needs
 
--- src/lib.rt:834:28
 arm-told-requires : (t : ℕ) → arm-lts.Need-told-requires (
   group-reads.Asked,
   group-reads.Learnt,
@@ -2271,7 +2188,6 @@ arm-told-requires : (t : ℕ) → arm-lts.Need-told-requires (
 ) (arm-at t) arm.Post
 arm-told-requires t c κs = search needs
 
--- src/lib.rt:834:22
 arm-enum-known-s1 : (t : ℕ) → arm-lts.Need-enum-known-s1 (
   group-reads.Asked,
   group-reads.Learnt,
@@ -2298,7 +2214,6 @@ arm-enum-known-s1 : (t : ℕ) → arm-lts.Need-enum-known-s1 (
 ) (arm-at t) arm.Post
 arm-enum-known-s1 t c = search needs
 
--- src/lib.rt:835:9
 arm-enum-told : (t : ℕ) → arm-lts.Need-enum-told (
   group-reads.Asked,
   group-reads.Learnt,
@@ -2325,7 +2240,6 @@ arm-enum-told : (t : ℕ) → arm-lts.Need-enum-told (
 ) (arm-at t) arm.Post
 arm-enum-told t c = search needs
 
--- src/lib.rt:835:9
 arm-returns : (t : ℕ) → arm-lts.Need-returns (
   group-reads.Asked,
   group-reads.Learnt,
@@ -2353,7 +2267,6 @@ arm-returns : (t : ℕ) → arm-lts.Need-returns (
 unfolding Exp.get-matcher-arm Exp.get-body-exp-level Exp.indented-levels Helpers.indent-deeper Helpers.deepen
 arm-returns t c = record { is = group-not (c .before .before .before .group .ensures) (c .before .before .told .ensures) (c .enum-told .given .1) }
 
--- src/lib.rt:837:9
 arm-get-pat-requires : (t : ℕ) → arm-lts.Need-get-pat-requires (
   group-reads.Asked,
   group-reads.Learnt,
@@ -2380,7 +2293,6 @@ arm-get-pat-requires : (t : ℕ) → arm-lts.Need-get-pat-requires (
 ) (arm-at t) arm.Post
 arm-get-pat-requires t c κs = search needs
 
--- src/lib.rt:838:28
 arm-told-requires-2 : (t : ℕ) → arm-lts.Need-told-requires-2 (
   group-reads.Asked,
   group-reads.Learnt,
@@ -2407,7 +2319,6 @@ arm-told-requires-2 : (t : ℕ) → arm-lts.Need-told-requires-2 (
 ) (arm-at t) arm.Post
 arm-told-requires-2 t c κs = search needs
 
--- src/lib.rt:838:22
 arm-enum-known-s2 : (t : ℕ) → arm-lts.Need-enum-known-s2 (
   group-reads.Asked,
   group-reads.Learnt,
@@ -2434,7 +2345,6 @@ arm-enum-known-s2 : (t : ℕ) → arm-lts.Need-enum-known-s2 (
 ) (arm-at t) arm.Post
 arm-enum-known-s2 t c = search needs
 
--- src/lib.rt:839:9
 arm-enum-told-2 : (t : ℕ) → arm-lts.Need-enum-told-2 (
   group-reads.Asked,
   group-reads.Learnt,
@@ -2461,7 +2371,6 @@ arm-enum-told-2 : (t : ℕ) → arm-lts.Need-enum-told-2 (
 ) (arm-at t) arm.Post
 arm-enum-told-2 t c = search needs
 
--- src/lib.rt:839:9
 arm-same-length : (t : ℕ) → arm-lts.Need-same-length (
   group-reads.Asked,
   group-reads.Learnt,
@@ -2488,7 +2397,6 @@ arm-same-length : (t : ℕ) → arm-lts.Need-same-length (
 ) (arm-at t) arm.Post
 arm-same-length t c = c .before .before .before .before .before .get-pat .kept .1 .1 .1 .1 .1 .0
 
--- src/lib.rt:839:9
 arm-returns-2 : (t : ℕ) → arm-lts.Need-returns-2 (
   group-reads.Asked,
   group-reads.Learnt,
@@ -2516,7 +2424,6 @@ arm-returns-2 : (t : ℕ) → arm-lts.Need-returns-2 (
 unfolding Exp.get-matcher-arm Exp.get-body-exp-level Exp.indented-levels Helpers.indent-deeper Helpers.deepen
 arm-returns-2 t c = record { is = by-same (group-is (c .before .before .before .before .before .before .before .before .before .before .before .before .group .ensures) (c .before .before .before .before .before .before .before .before .before .before .before .told .ensures) (c .before .before .before .before .before .before .before .before .before .s1 .given .1)) (then-stop (plain (c .before .before .before .before .before .get-pat .ensures)) (c .before .before .told2 .ensures) (c .enum-told2 .given .1)) }
 
--- src/lib.rt:841:5
 arm-word-requires : (t : ℕ) → arm-lts.Need-word-requires (
   group-reads.Asked,
   group-reads.Learnt,
@@ -2543,7 +2450,6 @@ arm-word-requires : (t : ℕ) → arm-lts.Need-word-requires (
 ) (arm-at t) arm.Post
 arm-word-requires t c κs = search needs
 
--- src/lib.rt:842:28
 arm-expression-requires : (t : ℕ) → arm-lts.Need-expression-requires (
   group-reads.Asked,
   group-reads.Learnt,
@@ -2570,7 +2476,6 @@ arm-expression-requires : (t : ℕ) → arm-lts.Need-expression-requires (
 ) (arm-at t) arm.Post
 arm-expression-requires t c κs = search needs
 
--- src/lib.rt:842:18
 arm-enum-known--k : (t : ℕ) → arm-lts.Need-enum-known--k (
   group-reads.Asked,
   group-reads.Learnt,
@@ -2597,7 +2502,6 @@ arm-enum-known--k : (t : ℕ) → arm-lts.Need-enum-known--k (
 ) (arm-at t) arm.Post
 arm-enum-known--k t c = search needs
 
--- src/lib.rt:843:9
 arm-enum-told-3 : (t : ℕ) → arm-lts.Need-enum-told-3 (
   group-reads.Asked,
   group-reads.Learnt,
@@ -2624,7 +2528,6 @@ arm-enum-told-3 : (t : ℕ) → arm-lts.Need-enum-told-3 (
 ) (arm-at t) arm.Post
 arm-enum-told-3 t c = search needs
 
--- src/lib.rt:843:9
 arm-stop-requires : (t : ℕ) → arm-lts.Need-stop-requires (
   group-reads.Asked,
   group-reads.Learnt,
@@ -2651,7 +2554,6 @@ arm-stop-requires : (t : ℕ) → arm-lts.Need-stop-requires (
 ) (arm-at t) arm.Post
 arm-stop-requires t c κs = search needs
 
--- src/lib.rt:843:9
 arm-same-length-2 : (t : ℕ) → arm-lts.Need-same-length-2 (
   group-reads.Asked,
   group-reads.Learnt,
@@ -2678,7 +2580,6 @@ arm-same-length-2 : (t : ℕ) → arm-lts.Need-same-length-2 (
 ) (arm-at t) arm.Post
 arm-same-length-2 t c = c .before .before .before .before .before .before .word .kept .1 .1 .0 ∙ c .before .before .before .before .before .before .before .before .before .before .before .before .before .before .before .get-pat .kept .1 .1 .1 .1 .1 .0
 
--- src/lib.rt:843:9
 arm-returns-3 : (t : ℕ) → arm-lts.Need-returns-3 (
   group-reads.Asked,
   group-reads.Learnt,
@@ -2706,7 +2607,6 @@ arm-returns-3 : (t : ℕ) → arm-lts.Need-returns-3 (
 unfolding Exp.get-matcher-arm Exp.get-body-exp-level Exp.indented-levels Helpers.indent-deeper Helpers.deepen
 arm-returns-3 t c = record { is = by-same (group-is (c .before .before .before .before .before .before .before .before .before .before .before .before .before .before .before .before .before .before .before .before .before .before .group .ensures) (c .before .before .before .before .before .before .before .before .before .before .before .before .before .before .before .before .before .before .before .before .before .told .ensures) (c .before .before .before .before .before .before .before .before .before .before .before .before .before .before .before .before .before .before .before .s1 .given .1)) (then-done (plain (c .before .before .before .before .before .before .before .before .before .before .before .before .before .before .before .get-pat .ensures)) (c .before .before .before .before .before .before .before .before .before .before .before .before .told2 .ensures) (c .before .before .before .before .before .before .before .before .before .before .s2 .given .1) (then-sure (c .before .before .before .before .before .before .word .ensures) (look-not (c .stop .ensures) (c .before .before .before .expression .ensures) (c .before .enum-told3 .given .1)))) }
 
--- src/lib.rt:845:8
 arm-body-exp-needs-newline-requires : (t : ℕ) → arm-lts.Need-body-exp-needs-newline-requires (
   group-reads.Asked,
   group-reads.Learnt,
@@ -2733,7 +2633,6 @@ arm-body-exp-needs-newline-requires : (t : ℕ) → arm-lts.Need-body-exp-needs-
 ) (arm-at t) arm.Post
 arm-body-exp-needs-newline-requires t c κs = search needs
 
--- src/lib.rt:846:9
 arm-word-requires-2 : (t : ℕ) → arm-lts.Need-word-requires-2 (
   group-reads.Asked,
   group-reads.Learnt,
@@ -2760,7 +2659,6 @@ arm-word-requires-2 : (t : ℕ) → arm-lts.Need-word-requires-2 (
 ) (arm-at t) arm.Post
 arm-word-requires-2 t c κs = search needs
 
--- src/lib.rt:847:9
 arm-deepen-requires : (t : ℕ) → arm-lts.Need-deepen-requires (
   group-reads.Asked,
   group-reads.Learnt,
@@ -2787,7 +2685,6 @@ arm-deepen-requires : (t : ℕ) → arm-lts.Need-deepen-requires (
 ) (arm-at t) arm.Post
 arm-deepen-requires t c κs = omega (arith, c .before .before .before .before .before .before .before .before .before .before .before .before .before .before .before .before .before .before .before .before .before .before .before .before .before .before .before .before .before .before .before .before .before .before .before .before .before .pre .1)
 
--- src/lib.rt:848:13
 arm-indented-requires : (t : ℕ) → arm-lts.Need-indented-requires (
   group-reads.Asked,
   group-reads.Learnt,
@@ -2814,7 +2711,6 @@ arm-indented-requires : (t : ℕ) → arm-lts.Need-indented-requires (
 ) (arm-at t) arm.Post
 arm-indented-requires t c κs = omega (arith, c .before .before .before .before .before .before .before .before .before .before .before .before .before .before .before .before .before .before .before .before .before .before .before .before .before .before .before .before .before .before .before .before .before .before .before .before .before .before .pre .1)
 
--- src/lib.rt:849:9
 arm-dp-requires : (t : ℕ) → arm-lts.Need-dp-requires (
   group-reads.Asked,
   group-reads.Learnt,
@@ -2841,7 +2737,6 @@ arm-dp-requires : (t : ℕ) → arm-lts.Need-dp-requires (
 ) (arm-at t) arm.Post
 arm-dp-requires t c κs = omega (arith, c .before .before .before .before .before .before .before .before .before .before .before .before .before .before .before .before .before .before .before .before .before .before .before .before .before .before .before .before .before .before .before .before .before .before .before .before .before .before .before .before .before .pre .0, c .before .before .before .before .before .before .before .before .before .before .before .before .before .before .before .before .before .before .before .before .before .before .before .before .before .before .before .before .before .before .before .before .before .before .before .before .before .before .before .before .before .pre .1, deep-depth (c .before .before .indented .ensures), deep-left (c .before .before .indented .ensures))
 
--- src/lib.rt:849:9
 arm-same-length-3 : (t : ℕ) → arm-lts.Need-same-length-3 (
   group-reads.Asked,
   group-reads.Learnt,
@@ -2868,7 +2763,6 @@ arm-same-length-3 : (t : ℕ) → arm-lts.Need-same-length-3 (
 ) (arm-at t) arm.Post
 arm-same-length-3 t c = c .before .before .dp .kept .1 .1 .1 .1 .1 .1 .0 ∙ c .before .before .before .before .before .before .before .before .before .before .word2 .kept .1 .1 .0 ∙ c .before .before .before .before .before .before .before .before .before .before .before .before .before .before .before .before .before .before .before .before .before .word .kept .1 .1 .0 ∙ c .before .before .before .before .before .before .before .before .before .before .before .before .before .before .before .before .before .before .before .before .before .before .before .before .before .before .before .before .before .before .get-pat .kept .1 .1 .1 .1 .1 .0
 
--- src/lib.rt:849:9
 arm-returns-4 : (t : ℕ) → arm-lts.Need-returns-4 (
   group-reads.Asked,
   group-reads.Learnt,
@@ -2896,7 +2790,6 @@ arm-returns-4 : (t : ℕ) → arm-lts.Need-returns-4 (
 unfolding Exp.get-matcher-arm Exp.get-body-exp-level Exp.indented-levels Helpers.indent-deeper Helpers.deepen
 arm-returns-4 t c = record { is = by-same (group-is (c .before .before .before .before .before .before .before .before .before .before .before .before .before .before .before .before .before .before .before .before .before .before .before .before .before .before .before .before .before .before .before .before .before .before .before .before .before .group .ensures) (c .before .before .before .before .before .before .before .before .before .before .before .before .before .before .before .before .before .before .before .before .before .before .before .before .before .before .before .before .before .before .before .before .before .before .before .before .told .ensures) (c .before .before .before .before .before .before .before .before .before .before .before .before .before .before .before .before .before .before .before .before .before .before .before .before .before .before .before .before .before .before .before .before .before .before .s1 .given .1)) (then-done (plain (c .before .before .before .before .before .before .before .before .before .before .before .before .before .before .before .before .before .before .before .before .before .before .before .before .before .before .before .before .before .before .get-pat .ensures)) (c .before .before .before .before .before .before .before .before .before .before .before .before .before .before .before .before .before .before .before .before .before .before .before .before .before .before .before .told2 .ensures) (c .before .before .before .before .before .before .before .before .before .before .before .before .before .before .before .before .before .before .before .before .before .before .before .before .before .s2 .given .1) (then-sure (c .before .before .before .before .before .before .before .before .before .before .before .before .before .before .before .before .before .before .before .before .before .word .ensures) (by-same (look-yes (c .before .before .before .before .before .before .before .before .before .before .before .before .before .before .before .before .before .before .expression .ensures) (c .before .before .before .before .before .before .before .before .before .before .before .before .before .before .before .before .-k .given .1) (c .before .before .before .before .before .before .before .before .before .before .before .before .before .before .body-exp-needs-newline .ensures) (c .before .before .before .before .before .before .before .before .before .before .before .before .before .if1 .taken)) (then-sure (c .before .before .before .before .before .before .before .before .before .before .word2 .ensures) (then-sure (sure-formed (c .before .before .before .before .before .before .deepen .ensures)) (along (c .before .before .before .before .before .indented .ensures) (c .before .before .dp .ensures))))))) }
 
--- src/lib.rt:851:5
 arm-word-requires-3 : (t : ℕ) → arm-lts.Need-word-requires-3 (
   group-reads.Asked,
   group-reads.Learnt,
@@ -2923,7 +2816,6 @@ arm-word-requires-3 : (t : ℕ) → arm-lts.Need-word-requires-3 (
 ) (arm-at t) arm.Post
 arm-word-requires-3 t c κs = search needs
 
--- src/lib.rt:852:5
 arm-exp-requires : (t : ℕ) → arm-lts.Need-exp-requires (
   group-reads.Asked,
   group-reads.Learnt,
@@ -2950,7 +2842,6 @@ arm-exp-requires : (t : ℕ) → arm-lts.Need-exp-requires (
 ) (arm-at t) arm.Post
 arm-exp-requires t c κs = omega (arith, c .before .before .before .before .before .before .before .before .before .before .before .before .before .before .before .before .before .before .before .before .before .before .before .before .before .before .before .before .before .before .before .before .before .before .before .before .before .before .pre .0, c .before .before .before .before .before .before .before .before .before .before .before .before .before .before .before .before .before .before .before .before .before .before .before .before .before .before .before .before .before .before .before .before .before .before .before .before .before .before .pre .1)
 
--- src/lib.rt:818:1
 arm-same-length-4 : (t : ℕ) → arm-lts.Need-same-length-4 (
   group-reads.Asked,
   group-reads.Learnt,
@@ -2977,7 +2868,6 @@ arm-same-length-4 : (t : ℕ) → arm-lts.Need-same-length-4 (
 ) (arm-at t) arm.Post
 arm-same-length-4 t c = c .before .before .exp .kept .1 .1 .1 .1 .1 .1 .0 ∙ c .before .before .before .before .before .before .before .word3 .kept .1 .1 .0 ∙ c .before .before .before .before .before .before .before .before .before .before .before .before .before .before .before .before .before .before .word .kept .1 .1 .0 ∙ c .before .before .before .before .before .before .before .before .before .before .before .before .before .before .before .before .before .before .before .before .before .before .before .before .before .before .before .get-pat .kept .1 .1 .1 .1 .1 .0
 
--- src/lib.rt:818:1
 arm-returns-5 : (t : ℕ) → arm-lts.Need-returns-5 (
   group-reads.Asked,
   group-reads.Learnt,
@@ -3005,7 +2895,6 @@ arm-returns-5 : (t : ℕ) → arm-lts.Need-returns-5 (
 unfolding Exp.get-matcher-arm Exp.get-body-exp-level Exp.indented-levels Helpers.indent-deeper Helpers.deepen
 arm-returns-5 t c = record { is = by-same (group-is (c .before .before .before .before .before .before .before .before .before .before .before .before .before .before .before .before .before .before .before .before .before .before .before .before .before .before .before .before .before .before .before .before .before .before .group .ensures) (c .before .before .before .before .before .before .before .before .before .before .before .before .before .before .before .before .before .before .before .before .before .before .before .before .before .before .before .before .before .before .before .before .before .told .ensures) (c .before .before .before .before .before .before .before .before .before .before .before .before .before .before .before .before .before .before .before .before .before .before .before .before .before .before .before .before .before .before .before .s1 .given .1)) (then-done (plain (c .before .before .before .before .before .before .before .before .before .before .before .before .before .before .before .before .before .before .before .before .before .before .before .before .before .before .before .get-pat .ensures)) (c .before .before .before .before .before .before .before .before .before .before .before .before .before .before .before .before .before .before .before .before .before .before .before .before .told2 .ensures) (c .before .before .before .before .before .before .before .before .before .before .before .before .before .before .before .before .before .before .before .before .before .before .s2 .given .1) (then-sure (c .before .before .before .before .before .before .before .before .before .before .before .before .before .before .before .before .before .before .word .ensures) (by-same (look-no (c .before .before .before .before .before .before .before .before .before .before .before .before .before .before .before .expression .ensures) (c .before .before .before .before .before .before .before .before .before .before .before .before .before .-k .given .1) (c .before .before .before .before .before .before .before .before .before .before .before .body-exp-needs-newline .ensures) (c .before .before .before .before .before .before .before .before .before .before .if1 .left)) (then-sure (c .before .before .before .before .before .before .before .word3 .ensures) (c .before .before .exp .ensures .is))))) }
 
--- src/lib.rt:288:5
 br-word-requires : (t : ℕ) → br-lts.Need-word-requires (
   word-reads.Asked,
   word-reads.Learnt,
@@ -3016,7 +2905,6 @@ br-word-requires : (t : ℕ) → br-lts.Need-word-requires (
 ) (br-at t) br.Post
 br-word-requires t c κs = search needs
 
--- src/lib.rt:289:9
 br-ar-requires : (t : ℕ) → br-lts.Need-ar-requires (
   word-reads.Asked,
   word-reads.Learnt,
@@ -3027,7 +2915,6 @@ br-ar-requires : (t : ℕ) → br-lts.Need-ar-requires (
 ) (br-at t) br.Post
 br-ar-requires t c κs = omega (arith, c .before .before .before .before .before .before .before .before .before .before .before .before .before .pre .0, c .before .before .before .before .before .before .before .before .before .before .before .before .before .pre .1)
 
--- src/lib.rt:290:28
 br-told-requires : (t : ℕ) → br-lts.Need-told-requires (
   word-reads.Asked,
   word-reads.Learnt,
@@ -3038,7 +2925,6 @@ br-told-requires : (t : ℕ) → br-lts.Need-told-requires (
 ) (br-at t) br.Post
 br-told-requires t c κs = search needs
 
--- src/lib.rt:290:22
 br-enum-known-s1 : (t : ℕ) → br-lts.Need-enum-known-s1 (
   word-reads.Asked,
   word-reads.Learnt,
@@ -3049,7 +2935,6 @@ br-enum-known-s1 : (t : ℕ) → br-lts.Need-enum-known-s1 (
 ) (br-at t) br.Post
 br-enum-known-s1 t c = search needs
 
--- src/lib.rt:291:9
 br-enum-told : (t : ℕ) → br-lts.Need-enum-told (
   word-reads.Asked,
   word-reads.Learnt,
@@ -3060,7 +2945,6 @@ br-enum-told : (t : ℕ) → br-lts.Need-enum-told (
 ) (br-at t) br.Post
 br-enum-told t c = search needs
 
--- src/lib.rt:291:9
 br-same-length : (t : ℕ) → br-lts.Need-same-length (
   word-reads.Asked,
   word-reads.Learnt,
@@ -3071,7 +2955,6 @@ br-same-length : (t : ℕ) → br-lts.Need-same-length (
 ) (br-at t) br.Post
 br-same-length t c = c .before .before .before .before .before .ar .kept .1 .1 .1 .1 .1 .1 .0 ∙ c .before .before .before .before .before .before .before .before .before .before .word .kept .1 .1 .0
 
--- src/lib.rt:291:9
 br-returns : (t : ℕ) → br-lts.Need-returns (
   word-reads.Asked,
   word-reads.Learnt,
@@ -3082,7 +2965,6 @@ br-returns : (t : ℕ) → br-lts.Need-returns (
 ) (br-at t) br.Post
 br-returns t c = record { is = then-sure (c .before .before .before .before .before .before .before .before .before .before .word .ensures) (then-stop (c .before .before .before .before .before .ar .ensures .is) (c .before .before .told .ensures) (c .enum-told .given .1)) }
 
--- src/lib.rt:293:5
 br-word-requires-2 : (t : ℕ) → br-lts.Need-word-requires-2 (
   word-reads.Asked,
   word-reads.Learnt,
@@ -3093,7 +2975,6 @@ br-word-requires-2 : (t : ℕ) → br-lts.Need-word-requires-2 (
 ) (br-at t) br.Post
 br-word-requires-2 t c κs = search needs
 
--- src/lib.rt:271:1
 br-same-length-2 : (t : ℕ) → br-lts.Need-same-length-2 (
   word-reads.Asked,
   word-reads.Learnt,
@@ -3104,7 +2985,6 @@ br-same-length-2 : (t : ℕ) → br-lts.Need-same-length-2 (
 ) (br-at t) br.Post
 br-same-length-2 t c = c .before .before .word2 .kept .1 .1 .0 ∙ c .before .before .before .before .before .before .before .before .before .before .before .ar .kept .1 .1 .1 .1 .1 .1 .0 ∙ c .before .before .before .before .before .before .before .before .before .before .before .before .before .before .before .before .word .kept .1 .1 .0
 
--- src/lib.rt:271:1
 br-returns-2 : (t : ℕ) → br-lts.Need-returns-2 (
   word-reads.Asked,
   word-reads.Learnt,
@@ -3115,7 +2995,6 @@ br-returns-2 : (t : ℕ) → br-lts.Need-returns-2 (
 ) (br-at t) br.Post
 br-returns-2 t c = record { is = then-sure (c .before .before .before .before .before .before .before .before .before .before .before .before .before .before .before .before .word .ensures) (then-done (c .before .before .before .before .before .before .before .before .before .before .before .ar .ensures .is) (c .before .before .before .before .before .before .before .before .told .ensures) (c .before .before .before .before .before .before .s1 .given .1) (last-sure (c .before .before .word2 .ensures))) }
 
--- src/lib.rt:698:5
 ca-word-requires : (t : ℕ) → ca-lts.Need-word-requires (
   word-reads.Asked,
   word-reads.Learnt,
@@ -3124,7 +3003,6 @@ ca-word-requires : (t : ℕ) → ca-lts.Need-word-requires (
 ) (ca-at t) ca.Post
 ca-word-requires t c κs = search needs
 
--- src/lib.rt:699:5
 ca-ha-requires : (t : ℕ) → ca-lts.Need-ha-requires (
   word-reads.Asked,
   word-reads.Learnt,
@@ -3133,7 +3011,6 @@ ca-ha-requires : (t : ℕ) → ca-lts.Need-ha-requires (
 ) (ca-at t) ca.Post
 ca-ha-requires t c κs = omega (arith, c .before .before .before .before .before .before .before .before .before .before .before .before .before .pre .0, c .before .before .before .before .before .before .before .before .before .before .before .before .before .pre .1)
 
--- src/lib.rt:683:1
 ca-same-length : (t : ℕ) → ca-lts.Need-same-length (
   word-reads.Asked,
   word-reads.Learnt,
@@ -3142,7 +3019,6 @@ ca-same-length : (t : ℕ) → ca-lts.Need-same-length (
 ) (ca-at t) ca.Post
 ca-same-length t c = c .before .before .ha .kept .1 .1 .1 .1 .1 .1 .0 ∙ c .before .before .before .before .before .before .before .word .kept .1 .1 .0
 
--- src/lib.rt:683:1
 ca-returns : (t : ℕ) → ca-lts.Need-returns (
   word-reads.Asked,
   word-reads.Learnt,
@@ -3152,7 +3028,6 @@ ca-returns : (t : ℕ) → ca-lts.Need-returns (
 unfolding Exp.exp
 ca-returns t c = record { is = then-sure (c .before .before .before .before .before .before .before .word .ensures) (c .before .before .ha .ensures .is) }
 
--- src/lib.rt:1904:9
 cb-group-requires : (t : ℕ) → cb-lts.Need-group-requires (
   group-reads.Asked,
   group-reads.Learnt,
@@ -3171,7 +3046,6 @@ cb-group-requires : (t : ℕ) → cb-lts.Need-group-requires (
 ) (cb-at t) cb.Post
 cb-group-requires t c κs = search needs
 
--- src/lib.rt:1905:28
 cb-told-requires : (t : ℕ) → cb-lts.Need-told-requires (
   group-reads.Asked,
   group-reads.Learnt,
@@ -3190,7 +3064,6 @@ cb-told-requires : (t : ℕ) → cb-lts.Need-told-requires (
 ) (cb-at t) cb.Post
 cb-told-requires t c κs = search needs
 
--- src/lib.rt:1905:22
 cb-enum-known-s1 : (t : ℕ) → cb-lts.Need-enum-known-s1 (
   group-reads.Asked,
   group-reads.Learnt,
@@ -3209,7 +3082,6 @@ cb-enum-known-s1 : (t : ℕ) → cb-lts.Need-enum-known-s1 (
 ) (cb-at t) cb.Post
 cb-enum-known-s1 t c = search needs
 
--- src/lib.rt:1906:9
 cb-enum-told : (t : ℕ) → cb-lts.Need-enum-told (
   group-reads.Asked,
   group-reads.Learnt,
@@ -3228,7 +3100,6 @@ cb-enum-told : (t : ℕ) → cb-lts.Need-enum-told (
 ) (cb-at t) cb.Post
 cb-enum-told t c = search needs
 
--- src/lib.rt:1906:9
 cb-returns : (t : ℕ) → cb-lts.Need-returns (
   group-reads.Asked,
   group-reads.Learnt,
@@ -3248,7 +3119,6 @@ cb-returns : (t : ℕ) → cb-lts.Need-returns (
 unfolding DecOne.functor-bind
 cb-returns t c = record { is = group-not (c .before .before .before .group .ensures) (c .before .before .told .ensures) (c .enum-told .given .1) }
 
--- src/lib.rt:1908:9
 cb-text-of-requires : (t : ℕ) → cb-lts.Need-text-of-requires (
   group-reads.Asked,
   group-reads.Learnt,
@@ -3267,7 +3137,6 @@ cb-text-of-requires : (t : ℕ) → cb-lts.Need-text-of-requires (
 ) (cb-at t) cb.Post
 cb-text-of-requires t c κs = search needs
 
--- src/lib.rt:1909:28
 cb-told-requires-2 : (t : ℕ) → cb-lts.Need-told-requires-2 (
   group-reads.Asked,
   group-reads.Learnt,
@@ -3286,7 +3155,6 @@ cb-told-requires-2 : (t : ℕ) → cb-lts.Need-told-requires-2 (
 ) (cb-at t) cb.Post
 cb-told-requires-2 t c κs = search needs
 
--- src/lib.rt:1909:22
 cb-enum-known-s2 : (t : ℕ) → cb-lts.Need-enum-known-s2 (
   group-reads.Asked,
   group-reads.Learnt,
@@ -3305,7 +3173,6 @@ cb-enum-known-s2 : (t : ℕ) → cb-lts.Need-enum-known-s2 (
 ) (cb-at t) cb.Post
 cb-enum-known-s2 t c = search needs
 
--- src/lib.rt:1910:9
 cb-enum-told-2 : (t : ℕ) → cb-lts.Need-enum-told-2 (
   group-reads.Asked,
   group-reads.Learnt,
@@ -3324,7 +3191,6 @@ cb-enum-told-2 : (t : ℕ) → cb-lts.Need-enum-told-2 (
 ) (cb-at t) cb.Post
 cb-enum-told-2 t c = search needs
 
--- src/lib.rt:1910:9
 cb-same-length : (t : ℕ) → cb-lts.Need-same-length (
   group-reads.Asked,
   group-reads.Learnt,
@@ -3343,7 +3209,6 @@ cb-same-length : (t : ℕ) → cb-lts.Need-same-length (
 ) (cb-at t) cb.Post
 cb-same-length t c = c .before .before .before .before .before .text-of .kept .1 .1 .1 .1 .1 .0
 
--- src/lib.rt:1910:9
 cb-returns-2 : (t : ℕ) → cb-lts.Need-returns-2 (
   group-reads.Asked,
   group-reads.Learnt,
@@ -3363,7 +3228,6 @@ cb-returns-2 : (t : ℕ) → cb-lts.Need-returns-2 (
 unfolding DecOne.functor-bind
 cb-returns-2 t c = record { is = by-same (group-is (c .before .before .before .before .before .before .before .before .before .before .before .before .group .ensures) (c .before .before .before .before .before .before .before .before .before .before .before .told .ensures) (c .before .before .before .before .before .before .before .before .before .s1 .given .1)) (then-stop (plain (c .before .before .before .before .before .text-of .ensures)) (c .before .before .told2 .ensures) (c .enum-told2 .given .1)) }
 
--- src/lib.rt:1912:5
 cb-word-requires : (t : ℕ) → cb-lts.Need-word-requires (
   group-reads.Asked,
   group-reads.Learnt,
@@ -3382,7 +3246,6 @@ cb-word-requires : (t : ℕ) → cb-lts.Need-word-requires (
 ) (cb-at t) cb.Post
 cb-word-requires t c κs = search needs
 
--- src/lib.rt:1913:9
 cb-fs-requires : (t : ℕ) → cb-lts.Need-fs-requires (
   group-reads.Asked,
   group-reads.Learnt,
@@ -3401,7 +3264,6 @@ cb-fs-requires : (t : ℕ) → cb-lts.Need-fs-requires (
 ) (cb-at t) cb.Post
 cb-fs-requires t c κs = omega (arith, c .before .before .before .before .before .before .before .before .before .before .before .before .before .before .before .before .before .before .before .before .before .before .before .before .before .before .before .pre .0, c .before .before .before .before .before .before .before .before .before .before .before .before .before .before .before .before .before .before .before .before .before .before .before .before .before .before .before .pre .1)
 
--- src/lib.rt:1914:28
 cb-told-requires-3 : (t : ℕ) → cb-lts.Need-told-requires-3 (
   group-reads.Asked,
   group-reads.Learnt,
@@ -3420,7 +3282,6 @@ cb-told-requires-3 : (t : ℕ) → cb-lts.Need-told-requires-3 (
 ) (cb-at t) cb.Post
 cb-told-requires-3 t c κs = search needs
 
--- src/lib.rt:1914:22
 cb-enum-known-s3 : (t : ℕ) → cb-lts.Need-enum-known-s3 (
   group-reads.Asked,
   group-reads.Learnt,
@@ -3439,7 +3300,6 @@ cb-enum-known-s3 : (t : ℕ) → cb-lts.Need-enum-known-s3 (
 ) (cb-at t) cb.Post
 cb-enum-known-s3 t c = search needs
 
--- src/lib.rt:1915:9
 cb-enum-told-3 : (t : ℕ) → cb-lts.Need-enum-told-3 (
   group-reads.Asked,
   group-reads.Learnt,
@@ -3458,7 +3318,6 @@ cb-enum-told-3 : (t : ℕ) → cb-lts.Need-enum-told-3 (
 ) (cb-at t) cb.Post
 cb-enum-told-3 t c = search needs
 
--- src/lib.rt:1915:9
 cb-same-length-2 : (t : ℕ) → cb-lts.Need-same-length-2 (
   group-reads.Asked,
   group-reads.Learnt,
@@ -3477,7 +3336,6 @@ cb-same-length-2 : (t : ℕ) → cb-lts.Need-same-length-2 (
 ) (cb-at t) cb.Post
 cb-same-length-2 t c = c .before .before .before .before .before .fs .kept .1 .1 .1 .1 .1 .1 .0 ∙ c .before .before .before .before .before .before .before .before .before .before .word .kept .1 .1 .0 ∙ c .before .before .before .before .before .before .before .before .before .before .before .before .before .before .before .before .before .before .before .text-of .kept .1 .1 .1 .1 .1 .0
 
--- src/lib.rt:1915:9
 cb-returns-3 : (t : ℕ) → cb-lts.Need-returns-3 (
   group-reads.Asked,
   group-reads.Learnt,
@@ -3497,7 +3355,6 @@ cb-returns-3 : (t : ℕ) → cb-lts.Need-returns-3 (
 unfolding DecOne.functor-bind
 cb-returns-3 t c = record { is = by-same (group-is (c .before .before .before .before .before .before .before .before .before .before .before .before .before .before .before .before .before .before .before .before .before .before .before .before .before .before .group .ensures) (c .before .before .before .before .before .before .before .before .before .before .before .before .before .before .before .before .before .before .before .before .before .before .before .before .before .told .ensures) (c .before .before .before .before .before .before .before .before .before .before .before .before .before .before .before .before .before .before .before .before .before .before .before .s1 .given .1)) (then-done (plain (c .before .before .before .before .before .before .before .before .before .before .before .before .before .before .before .before .before .before .before .text-of .ensures)) (c .before .before .before .before .before .before .before .before .before .before .before .before .before .before .before .before .told2 .ensures) (c .before .before .before .before .before .before .before .before .before .before .before .before .before .before .s2 .given .1) (then-sure (c .before .before .before .before .before .before .before .before .before .before .word .ensures) (then-stop (c .before .before .before .before .before .fs .ensures .is) (c .before .before .told3 .ensures) (c .enum-told3 .given .1)))) }
 
--- src/lib.rt:1917:5
 cb-word-requires-2 : (t : ℕ) → cb-lts.Need-word-requires-2 (
   group-reads.Asked,
   group-reads.Learnt,
@@ -3516,7 +3373,6 @@ cb-word-requires-2 : (t : ℕ) → cb-lts.Need-word-requires-2 (
 ) (cb-at t) cb.Post
 cb-word-requires-2 t c κs = search needs
 
--- src/lib.rt:1918:9
 cb-ac-requires : (t : ℕ) → cb-lts.Need-ac-requires (
   group-reads.Asked,
   group-reads.Learnt,
@@ -3535,7 +3391,6 @@ cb-ac-requires : (t : ℕ) → cb-lts.Need-ac-requires (
 ) (cb-at t) cb.Post
 cb-ac-requires t c κs = omega (arith, c .before .before .before .before .before .before .before .before .before .before .before .before .before .before .before .before .before .before .before .before .before .before .before .before .before .before .before .before .before .before .before .before .before .before .before .before .before .before .before .before .before .pre .0, c .before .before .before .before .before .before .before .before .before .before .before .before .before .before .before .before .before .before .before .before .before .before .before .before .before .before .before .before .before .before .before .before .before .before .before .before .before .before .before .before .before .pre .1)
 
--- src/lib.rt:1919:28
 cb-told-requires-4 : (t : ℕ) → cb-lts.Need-told-requires-4 (
   group-reads.Asked,
   group-reads.Learnt,
@@ -3554,7 +3409,6 @@ cb-told-requires-4 : (t : ℕ) → cb-lts.Need-told-requires-4 (
 ) (cb-at t) cb.Post
 cb-told-requires-4 t c κs = search needs
 
--- src/lib.rt:1919:22
 cb-enum-known-s4 : (t : ℕ) → cb-lts.Need-enum-known-s4 (
   group-reads.Asked,
   group-reads.Learnt,
@@ -3573,7 +3427,6 @@ cb-enum-known-s4 : (t : ℕ) → cb-lts.Need-enum-known-s4 (
 ) (cb-at t) cb.Post
 cb-enum-known-s4 t c = search needs
 
--- src/lib.rt:1920:9
 cb-enum-told-4 : (t : ℕ) → cb-lts.Need-enum-told-4 (
   group-reads.Asked,
   group-reads.Learnt,
@@ -3592,7 +3445,6 @@ cb-enum-told-4 : (t : ℕ) → cb-lts.Need-enum-told-4 (
 ) (cb-at t) cb.Post
 cb-enum-told-4 t c = search needs
 
--- src/lib.rt:1920:9
 cb-same-length-3 : (t : ℕ) → cb-lts.Need-same-length-3 (
   group-reads.Asked,
   group-reads.Learnt,
@@ -3611,7 +3463,6 @@ cb-same-length-3 : (t : ℕ) → cb-lts.Need-same-length-3 (
 ) (cb-at t) cb.Post
 cb-same-length-3 t c = c .before .before .before .before .before .ac .kept .1 .1 .1 .1 .1 .1 .0 ∙ c .before .before .before .before .before .before .before .before .before .before .word2 .kept .1 .1 .0 ∙ c .before .before .before .before .before .before .before .before .before .before .before .before .before .before .before .before .before .before .before .fs .kept .1 .1 .1 .1 .1 .1 .0 ∙ c .before .before .before .before .before .before .before .before .before .before .before .before .before .before .before .before .before .before .before .before .before .before .before .before .word .kept .1 .1 .0 ∙ c .before .before .before .before .before .before .before .before .before .before .before .before .before .before .before .before .before .before .before .before .before .before .before .before .before .before .before .before .before .before .before .before .before .text-of .kept .1 .1 .1 .1 .1 .0
 
--- src/lib.rt:1920:9
 cb-returns-4 : (t : ℕ) → cb-lts.Need-returns-4 (
   group-reads.Asked,
   group-reads.Learnt,
@@ -3631,7 +3482,6 @@ cb-returns-4 : (t : ℕ) → cb-lts.Need-returns-4 (
 unfolding DecOne.functor-bind
 cb-returns-4 t c = record { is = by-same (group-is (c .before .before .before .before .before .before .before .before .before .before .before .before .before .before .before .before .before .before .before .before .before .before .before .before .before .before .before .before .before .before .before .before .before .before .before .before .before .before .before .before .group .ensures) (c .before .before .before .before .before .before .before .before .before .before .before .before .before .before .before .before .before .before .before .before .before .before .before .before .before .before .before .before .before .before .before .before .before .before .before .before .before .before .before .told .ensures) (c .before .before .before .before .before .before .before .before .before .before .before .before .before .before .before .before .before .before .before .before .before .before .before .before .before .before .before .before .before .before .before .before .before .before .before .before .before .s1 .given .1)) (then-done (plain (c .before .before .before .before .before .before .before .before .before .before .before .before .before .before .before .before .before .before .before .before .before .before .before .before .before .before .before .before .before .before .before .before .before .text-of .ensures)) (c .before .before .before .before .before .before .before .before .before .before .before .before .before .before .before .before .before .before .before .before .before .before .before .before .before .before .before .before .before .before .told2 .ensures) (c .before .before .before .before .before .before .before .before .before .before .before .before .before .before .before .before .before .before .before .before .before .before .before .before .before .before .before .before .s2 .given .1) (then-sure (c .before .before .before .before .before .before .before .before .before .before .before .before .before .before .before .before .before .before .before .before .before .before .before .before .word .ensures) (then-done (c .before .before .before .before .before .before .before .before .before .before .before .before .before .before .before .before .before .before .before .fs .ensures .is) (c .before .before .before .before .before .before .before .before .before .before .before .before .before .before .before .before .told3 .ensures) (c .before .before .before .before .before .before .before .before .before .before .before .before .before .before .s3 .given .1) (then-sure (c .before .before .before .before .before .before .before .before .before .before .word2 .ensures) (then-stop (c .before .before .before .before .before .ac .ensures .is) (c .before .before .told4 .ensures) (c .enum-told4 .given .1)))))) }
 
--- src/lib.rt:1922:5
 cb-word-requires-3 : (t : ℕ) → cb-lts.Need-word-requires-3 (
   group-reads.Asked,
   group-reads.Learnt,
@@ -3650,7 +3500,6 @@ cb-word-requires-3 : (t : ℕ) → cb-lts.Need-word-requires-3 (
 ) (cb-at t) cb.Post
 cb-word-requires-3 t c κs = search needs
 
--- src/lib.rt:1923:5
 cb-str-requires : (t : ℕ) → cb-lts.Need-str-requires (
   group-reads.Asked,
   group-reads.Learnt,
@@ -3669,7 +3518,6 @@ cb-str-requires : (t : ℕ) → cb-lts.Need-str-requires (
 ) (cb-at t) cb.Post
 cb-str-requires t c κs = omega (arith, c .before .before .before .before .before .before .before .before .before .before .before .before .before .before .before .before .before .before .before .before .before .before .before .before .before .before .before .before .before .before .before .before .before .before .before .before .before .before .before .before .before .before .before .before .before .before .before .before .before .before .before .before .before .before .before .pre .0, c .before .before .before .before .before .before .before .before .before .before .before .before .before .before .before .before .before .before .before .before .before .before .before .before .before .before .before .before .before .before .before .before .before .before .before .before .before .before .before .before .before .before .before .before .before .before .before .before .before .before .before .before .before .before .before .pre .1)
 
--- src/lib.rt:1889:1
 cb-same-length-4 : (t : ℕ) → cb-lts.Need-same-length-4 (
   group-reads.Asked,
   group-reads.Learnt,
@@ -3688,7 +3536,6 @@ cb-same-length-4 : (t : ℕ) → cb-lts.Need-same-length-4 (
 ) (cb-at t) cb.Post
 cb-same-length-4 t c = c .before .before .str .kept .1 .1 .1 .1 .1 .1 .0 ∙ c .before .before .before .before .before .before .before .word3 .kept .1 .1 .0 ∙ c .before .before .before .before .before .before .before .before .before .before .before .before .before .before .before .before .ac .kept .1 .1 .1 .1 .1 .1 .0 ∙ c .before .before .before .before .before .before .before .before .before .before .before .before .before .before .before .before .before .before .before .before .before .word2 .kept .1 .1 .0 ∙ c .before .before .before .before .before .before .before .before .before .before .before .before .before .before .before .before .before .before .before .before .before .before .before .before .before .before .before .before .before .before .fs .kept .1 .1 .1 .1 .1 .1 .0 ∙ c .before .before .before .before .before .before .before .before .before .before .before .before .before .before .before .before .before .before .before .before .before .before .before .before .before .before .before .before .before .before .before .before .before .before .before .word .kept .1 .1 .0 ∙ c .before .before .before .before .before .before .before .before .before .before .before .before .before .before .before .before .before .before .before .before .before .before .before .before .before .before .before .before .before .before .before .before .before .before .before .before .before .before .before .before .before .before .before .before .text-of .kept .1 .1 .1 .1 .1 .0
 
--- src/lib.rt:1889:1
 cb-returns-5 : (t : ℕ) → cb-lts.Need-returns-5 (
   group-reads.Asked,
   group-reads.Learnt,
@@ -3715,7 +3562,6 @@ cd-Inv-loop run text rec kinds starts lens out₀ mem₀ at cfg n s1 s₀ i₀ o
 abbrev cd-μ-loop : cd-lts.MeasureT-loop
 cd-μ-loop run text rec kinds starts lens out₀ mem₀ at cfg n s1 s₀ i₀ out mem s i = n - i
 
--- src/lib.rt:1870:5
 cd-word-requires : (t : ℕ) → cd-lts.Need-word-requires (
   word-reads.Asked,
   word-reads.Learnt,
@@ -3732,7 +3578,6 @@ cd-word-requires : (t : ℕ) → cd-lts.Need-word-requires (
 ) (cd-at t) cd.Post cd-Inv-loop cd-μ-loop
 cd-word-requires t c κs = search needs
 
--- src/lib.rt:1871:27
 cd-list-requires : (t : ℕ) → cd-lts.Need-list-requires (
   word-reads.Asked,
   word-reads.Learnt,
@@ -3749,7 +3594,6 @@ cd-list-requires : (t : ℕ) → cd-lts.Need-list-requires (
 ) (cd-at t) cd.Post cd-Inv-loop cd-μ-loop
 cd-list-requires t c κs = search needs
 
--- src/lib.rt:1871:18
 cd-enum-known-n : (t : ℕ) → cd-lts.Need-enum-known-n (
   word-reads.Asked,
   word-reads.Learnt,
@@ -3766,7 +3610,6 @@ cd-enum-known-n : (t : ℕ) → cd-lts.Need-enum-known-n (
 ) (cd-at t) cd.Post cd-Inv-loop cd-μ-loop
 cd-enum-known-n t c = search needs
 
--- src/lib.rt:1872:9
 cd-enum-told : (t : ℕ) → cd-lts.Need-enum-told (
   word-reads.Asked,
   word-reads.Learnt,
@@ -3783,7 +3626,6 @@ cd-enum-told : (t : ℕ) → cd-lts.Need-enum-told (
 ) (cd-at t) cd.Post cd-Inv-loop cd-μ-loop
 cd-enum-told t c = search needs
 
--- src/lib.rt:1872:9
 cd-stop-requires : (t : ℕ) → cd-lts.Need-stop-requires (
   word-reads.Asked,
   word-reads.Learnt,
@@ -3800,7 +3642,6 @@ cd-stop-requires : (t : ℕ) → cd-lts.Need-stop-requires (
 ) (cd-at t) cd.Post cd-Inv-loop cd-μ-loop
 cd-stop-requires t c κs = search needs
 
--- src/lib.rt:1872:9
 cd-same-length : (t : ℕ) → cd-lts.Need-same-length (
   word-reads.Asked,
   word-reads.Learnt,
@@ -3817,7 +3658,6 @@ cd-same-length : (t : ℕ) → cd-lts.Need-same-length (
 ) (cd-at t) cd.Post cd-Inv-loop cd-μ-loop
 cd-same-length t c = c .before .before .before .before .before .before .word .kept .1 .1 .0
 
--- src/lib.rt:1872:9
 cd-returns : (t : ℕ) → cd-lts.Need-returns (
   word-reads.Asked,
   word-reads.Learnt,
@@ -3835,7 +3675,6 @@ cd-returns : (t : ℕ) → cd-lts.Need-returns (
 unfolding DecOne.dec-one Helpers.sep-with-lines
 cd-returns t c = record { is = then-sure (c .before .before .before .before .before .before .word .ensures) (list-not (c .stop .ensures) (c .before .before .before .list .ensures) (c .before .enum-told .given .1)) }
 
--- src/lib.rt:1876:5
 cd-loop-holds : (t : ℕ) → cd-lts.Need-loop-holds (
   word-reads.Asked,
   word-reads.Learnt,
@@ -3852,7 +3691,6 @@ cd-loop-holds : (t : ℕ) → cd-lts.Need-loop-holds (
 ) (cd-at t) cd.Post cd-Inv-loop cd-μ-loop
 cd-loop-holds t c = (omega arith, λ r m o h. h, refl)
 
--- src/lib.rt:1877:9
 cd-new-line-requires : (t : ℕ) → cd-lts.Need-new-line-requires (
   word-reads.Asked,
   word-reads.Learnt,
@@ -3869,7 +3707,6 @@ cd-new-line-requires : (t : ℕ) → cd-lts.Need-new-line-requires (
 ) (cd-at t) cd.Post cd-Inv-loop cd-μ-loop
 cd-new-line-requires t c κs = search needs
 
--- src/lib.rt:1878:13
 cd-cb-requires : (t : ℕ) → cd-lts.Need-cb-requires (
   word-reads.Asked,
   word-reads.Learnt,
@@ -3886,7 +3723,6 @@ cd-cb-requires : (t : ℕ) → cd-lts.Need-cb-requires (
 ) (cd-at t) cd.Post cd-Inv-loop cd-μ-loop
 cd-cb-requires t c κs = omega (arith, c .before .before .before .before .before .before .before .before .before .before .before .before .before .before .before .before .before .before .before .before .before .before .before .before .pre .0, c .before .before .before .before .before .before .before .before .before .before .before .before .before .before .before .before .before .before .before .before .before .before .before .before .pre .1)
 
--- src/lib.rt:1879:32
 cd-told-requires : (t : ℕ) → cd-lts.Need-told-requires (
   word-reads.Asked,
   word-reads.Learnt,
@@ -3903,7 +3739,6 @@ cd-told-requires : (t : ℕ) → cd-lts.Need-told-requires (
 ) (cd-at t) cd.Post cd-Inv-loop cd-μ-loop
 cd-told-requires t c κs = search needs
 
--- src/lib.rt:1879:26
 cd-enum-known-s2 : (t : ℕ) → cd-lts.Need-enum-known-s2 (
   word-reads.Asked,
   word-reads.Learnt,
@@ -3920,7 +3755,6 @@ cd-enum-known-s2 : (t : ℕ) → cd-lts.Need-enum-known-s2 (
 ) (cd-at t) cd.Post cd-Inv-loop cd-μ-loop
 cd-enum-known-s2 t c = search needs
 
--- src/lib.rt:1880:13
 cd-enum-told-2 : (t : ℕ) → cd-lts.Need-enum-told-2 (
   word-reads.Asked,
   word-reads.Learnt,
@@ -3937,7 +3771,6 @@ cd-enum-told-2 : (t : ℕ) → cd-lts.Need-enum-told-2 (
 ) (cd-at t) cd.Post cd-Inv-loop cd-μ-loop
 cd-enum-told-2 t c = search needs
 
--- src/lib.rt:1880:13
 cd-same-length-2 : (t : ℕ) → cd-lts.Need-same-length-2 (
   word-reads.Asked,
   word-reads.Learnt,
@@ -3954,7 +3787,6 @@ cd-same-length-2 : (t : ℕ) → cd-lts.Need-same-length-2 (
 ) (cd-at t) cd.Post cd-Inv-loop cd-μ-loop
 cd-same-length-2 t c = c .before .before .before .before .before .cb .kept .1 .1 .1 .1 .1 .1 .0 ∙ c .before .before .before .before .before .before .before .before .before .before .new-line .kept .1 .1 .0 ∙ c .before .before .before .before .before .before .before .before .before .before .before .before .before .before .loop .inv .2 ∙ c .before .before .before .before .before .before .before .before .before .before .before .before .before .before .before .before .before .before .before .before .before .word .kept .1 .1 .0
 
--- src/lib.rt:1880:13
 cd-returns-2 : (t : ℕ) → cd-lts.Need-returns-2 (
   word-reads.Asked,
   word-reads.Learnt,
@@ -3972,7 +3804,6 @@ cd-returns-2 : (t : ℕ) → cd-lts.Need-returns-2 (
 unfolding DecOne.dec-one Helpers.sep-with-lines
 cd-returns-2 t c = record { is = then-sure (c .before .before .before .before .before .before .before .before .before .before .before .before .before .before .before .before .before .before .before .before .before .word .ensures) (by-same (list-is (c .before .before .before .before .before .before .before .before .before .before .before .before .before .before .before .before .before .before .list .ensures) (c .before .before .before .before .before .before .before .before .before .before .before .before .before .before .before .before .n .given .1)) (by-same (items-all _ _ _) (c .before .before .before .before .before .before .before .before .before .before .before .before .before .before .loop .inv .1 _ _ _ (from-more _ _ (c .before .before .before .before .before .before .before .before .before .before .before .before .before .loop-test .taken) (then-sure (c .before .before .before .before .before .before .before .before .before .before .new-line .ensures) (then-stop (c .before .before .before .before .before .cb .ensures .is) (c .before .before .told .ensures) (c .enum-told2 .given .1))))))) }
 
--- src/lib.rt:1883:9
 cd-add-i : (t : ℕ) → cd-lts.Need-add-i (
   word-reads.Asked,
   word-reads.Learnt,
@@ -3989,7 +3820,6 @@ cd-add-i : (t : ℕ) → cd-lts.Need-add-i (
 ) (cd-at t) cd.Post cd-Inv-loop cd-μ-loop
 cd-add-i t c = omega (arith, c .before .before .before .before .before .before .before .before .before .before .before .before .before .before .loop-test .taken, c .before .before .before .before .before .before .before .before .before .before .before .before .before .before .before .before .known-told)
 
--- src/lib.rt:1876:5
 cd-loop-less : (t : ℕ) → cd-lts.Need-loop-less (
   word-reads.Asked,
   word-reads.Learnt,
@@ -4006,7 +3836,6 @@ cd-loop-less : (t : ℕ) → cd-lts.Need-loop-less (
 ) (cd-at t) cd.Post cd-Inv-loop cd-μ-loop
 cd-loop-less t c = omega arith
 
--- src/lib.rt:1876:5
 cd-loop-again : (t : ℕ) → cd-lts.Need-loop-again (
   word-reads.Asked,
   word-reads.Learnt,
@@ -4024,7 +3853,6 @@ cd-loop-again : (t : ℕ) → cd-lts.Need-loop-again (
 unfolding DecOne.dec-one Helpers.sep-with-lines
 cd-loop-again t c = (omega (arith, c .before .before .before .before .before .before .before .before .before .before .before .before .before .before .before .loop .inv .0), λ r m o h. c .before .before .before .before .before .before .before .before .before .before .before .before .before .before .before .loop .inv .1 r m o (from-more _ _ (c .before .before .before .before .before .before .before .before .before .before .before .before .before .before .loop-test .taken) (then-sure (c .before .before .before .before .before .before .before .before .before .before .before .new-line .ensures) (then-done (c .before .before .before .before .before .before .cb .ensures .is) (c .before .before .before .told .ensures) (c .before .s2 .given .1) h))), c .before .before .before .before .before .before .cb .kept .1 .1 .1 .1 .1 .1 .0 ∙ c .before .before .before .before .before .before .before .before .before .before .before .new-line .kept .1 .1 .0 ∙ c .before .before .before .before .before .before .before .before .before .before .before .before .before .before .before .loop .inv .2)
 
--- src/lib.rt:1855:1
 cd-same-length-3 : (t : ℕ) → cd-lts.Need-same-length-3 (
   word-reads.Asked,
   word-reads.Learnt,
@@ -4041,7 +3869,6 @@ cd-same-length-3 : (t : ℕ) → cd-lts.Need-same-length-3 (
 ) (cd-at t) cd.Post cd-Inv-loop cd-μ-loop
 cd-same-length-3 t c = c .before .loop .inv .2 ∙ c .before .before .before .before .before .before .before .before .word .kept .1 .1 .0
 
--- src/lib.rt:1855:1
 cd-returns-3 : (t : ℕ) → cd-lts.Need-returns-3 (
   word-reads.Asked,
   word-reads.Learnt,
@@ -4059,7 +3886,6 @@ cd-returns-3 : (t : ℕ) → cd-lts.Need-returns-3 (
 unfolding DecOne.dec-one Helpers.sep-with-lines
 cd-returns-3 t c = record { is = then-sure (c .before .before .before .before .before .before .before .before .word .ensures) (by-same (list-is (c .before .before .before .before .before .list .ensures) (c .before .before .before .n .given .1)) (by-same (items-all _ _ _) (c .before .loop .inv .1 _ _ _ (from-none _ _ (c .loop-test .left))))) }
 
--- src/lib.rt:2047:5
 da-word-requires : (t : ℕ) → da-lts.Need-word-requires (
   word-reads.Asked,
   word-reads.Learnt,
@@ -4074,7 +3900,6 @@ da-word-requires : (t : ℕ) → da-lts.Need-word-requires (
 ) (da-at t) da.Post
 da-word-requires t c κs = search needs
 
--- src/lib.rt:2048:5
 da-indent-deeper-requires : (t : ℕ) → da-lts.Need-indent-deeper-requires (
   word-reads.Asked,
   word-reads.Learnt,
@@ -4089,7 +3914,6 @@ da-indent-deeper-requires : (t : ℕ) → da-lts.Need-indent-deeper-requires (
 ) (da-at t) da.Post
 da-indent-deeper-requires t c κs = omega (arith, c .before .before .before .before .before .before .before .before .before .before .before .before .before .pre .1)
 
--- src/lib.rt:2049:9
 da-indented-requires : (t : ℕ) → da-lts.Need-indented-requires (
   word-reads.Asked,
   word-reads.Learnt,
@@ -4104,7 +3928,6 @@ da-indented-requires : (t : ℕ) → da-lts.Need-indented-requires (
 ) (da-at t) da.Post
 da-indented-requires t c κs = omega (arith, c .before .before .before .before .before .before .before .before .before .before .before .before .before .before .before .before .pre .1)
 
--- src/lib.rt:2050:9
 da-dec-requires : (t : ℕ) → da-lts.Need-dec-requires (
   word-reads.Asked,
   word-reads.Learnt,
@@ -4119,7 +3942,6 @@ da-dec-requires : (t : ℕ) → da-lts.Need-dec-requires (
 ) (da-at t) da.Post
 da-dec-requires t c κs = omega (arith, c .before .before .before .before .before .before .before .before .before .before .before .before .before .before .before .before .before .before .before .pre .0, c .before .before .before .before .before .before .before .before .before .before .before .before .before .before .before .before .before .before .before .pre .1, deep-depth (c .before .before .indented .ensures), deep-left (c .before .before .indented .ensures))
 
--- src/lib.rt:2051:28
 da-told-requires : (t : ℕ) → da-lts.Need-told-requires (
   word-reads.Asked,
   word-reads.Learnt,
@@ -4134,7 +3956,6 @@ da-told-requires : (t : ℕ) → da-lts.Need-told-requires (
 ) (da-at t) da.Post
 da-told-requires t c κs = search needs
 
--- src/lib.rt:2051:22
 da-enum-known-s1 : (t : ℕ) → da-lts.Need-enum-known-s1 (
   word-reads.Asked,
   word-reads.Learnt,
@@ -4149,7 +3970,6 @@ da-enum-known-s1 : (t : ℕ) → da-lts.Need-enum-known-s1 (
 ) (da-at t) da.Post
 da-enum-known-s1 t c = search needs
 
--- src/lib.rt:2052:9
 da-enum-told : (t : ℕ) → da-lts.Need-enum-told (
   word-reads.Asked,
   word-reads.Learnt,
@@ -4164,7 +3984,6 @@ da-enum-told : (t : ℕ) → da-lts.Need-enum-told (
 ) (da-at t) da.Post
 da-enum-told t c = search needs
 
--- src/lib.rt:2052:9
 da-same-length : (t : ℕ) → da-lts.Need-same-length (
   word-reads.Asked,
   word-reads.Learnt,
@@ -4179,7 +3998,6 @@ da-same-length : (t : ℕ) → da-lts.Need-same-length (
 ) (da-at t) da.Post
 da-same-length t c = c .before .before .before .before .before .dec .kept .1 .1 .1 .1 .1 .1 .0 ∙ c .before .before .before .before .before .before .before .before .before .before .before .indent-deeper .kept .0 ∙ c .before .before .before .before .before .before .before .before .before .before .before .before .before .before .before .before .word .kept .1 .1 .0
 
--- src/lib.rt:2052:9
 da-returns : (t : ℕ) → da-lts.Need-returns (
   word-reads.Asked,
   word-reads.Learnt,
@@ -4195,7 +4013,6 @@ da-returns : (t : ℕ) → da-lts.Need-returns (
 unfolding GetDec.dec-arg Helpers.indent-deeper Helpers.deepen
 da-returns t c = record { is = then-sure (c .before .before .before .before .before .before .before .before .before .before .before .before .before .before .before .before .word .ensures) (then-both (c .before .before .before .before .before .before .before .before .before .before .before .indent-deeper .ensures _) (then-stop (along (c .before .before .before .before .before .before .before .before .indented .ensures) (c .before .before .before .before .before .dec .ensures)) (c .before .before .told .ensures) (c .enum-told .given .1))) }
 
--- src/lib.rt:2054:5
 da-word-requires-2 : (t : ℕ) → da-lts.Need-word-requires-2 (
   word-reads.Asked,
   word-reads.Learnt,
@@ -4210,7 +4027,6 @@ da-word-requires-2 : (t : ℕ) → da-lts.Need-word-requires-2 (
 ) (da-at t) da.Post
 da-word-requires-2 t c κs = search needs
 
--- src/lib.rt:2032:1
 da-same-length-2 : (t : ℕ) → da-lts.Need-same-length-2 (
   word-reads.Asked,
   word-reads.Learnt,
@@ -4225,7 +4041,6 @@ da-same-length-2 : (t : ℕ) → da-lts.Need-same-length-2 (
 ) (da-at t) da.Post
 da-same-length-2 t c = c .before .before .word2 .kept .1 .1 .0 ∙ c .before .before .before .before .before .before .before .before .before .before .before .dec .kept .1 .1 .1 .1 .1 .1 .0 ∙ c .before .before .before .before .before .before .before .before .before .before .before .before .before .before .before .before .before .indent-deeper .kept .0 ∙ c .before .before .before .before .before .before .before .before .before .before .before .before .before .before .before .before .before .before .before .before .before .before .word .kept .1 .1 .0
 
--- src/lib.rt:2032:1
 da-returns-2 : (t : ℕ) → da-lts.Need-returns-2 (
   word-reads.Asked,
   word-reads.Learnt,
@@ -4241,7 +4056,6 @@ da-returns-2 : (t : ℕ) → da-lts.Need-returns-2 (
 unfolding GetDec.dec-arg Helpers.indent-deeper Helpers.deepen
 da-returns-2 t c = record { is = then-sure (c .before .before .before .before .before .before .before .before .before .before .before .before .before .before .before .before .before .before .before .before .before .before .word .ensures) (then-both (c .before .before .before .before .before .before .before .before .before .before .before .before .before .before .before .before .before .indent-deeper .ensures _) (then-done (along (c .before .before .before .before .before .before .before .before .before .before .before .before .before .before .indented .ensures) (c .before .before .before .before .before .before .before .before .before .before .before .dec .ensures)) (c .before .before .before .before .before .before .before .before .told .ensures) (c .before .before .before .before .before .before .s1 .given .1) (last-sure (c .before .before .word2 .ensures)))) }
 
--- src/lib.rt:1135:9
 dec-group-requires : (t : ℕ) → dec-lts.Need-group-requires (
   group-reads.Asked,
   group-reads.Learnt,
@@ -4256,7 +4070,6 @@ dec-group-requires : (t : ℕ) → dec-lts.Need-group-requires (
 ) (dec-at t) dec.Post
 dec-group-requires t c κs = search needs
 
--- src/lib.rt:1136:28
 dec-told-requires : (t : ℕ) → dec-lts.Need-told-requires (
   group-reads.Asked,
   group-reads.Learnt,
@@ -4271,7 +4084,6 @@ dec-told-requires : (t : ℕ) → dec-lts.Need-told-requires (
 ) (dec-at t) dec.Post
 dec-told-requires t c κs = search needs
 
--- src/lib.rt:1136:22
 dec-enum-known-s1 : (t : ℕ) → dec-lts.Need-enum-known-s1 (
   group-reads.Asked,
   group-reads.Learnt,
@@ -4286,7 +4098,6 @@ dec-enum-known-s1 : (t : ℕ) → dec-lts.Need-enum-known-s1 (
 ) (dec-at t) dec.Post
 dec-enum-known-s1 t c = search needs
 
--- src/lib.rt:1137:9
 dec-enum-told : (t : ℕ) → dec-lts.Need-enum-told (
   group-reads.Asked,
   group-reads.Learnt,
@@ -4301,7 +4112,6 @@ dec-enum-told : (t : ℕ) → dec-lts.Need-enum-told (
 ) (dec-at t) dec.Post
 dec-enum-told t c = search needs
 
--- src/lib.rt:1137:9
 dec-returns : (t : ℕ) → dec-lts.Need-returns (
   group-reads.Asked,
   group-reads.Learnt,
@@ -4317,7 +4127,6 @@ dec-returns : (t : ℕ) → dec-lts.Need-returns (
 unfolding GetDec.dec Helpers.semicolon
 dec-returns t c = record { is = then-stop (group-not (c .before .before .before .group .ensures) (c .before .before .told .ensures) (c .enum-told .given .1)) (c .before .before .told .ensures) (c .enum-told .given .1) }
 
--- src/lib.rt:1139:9
 dec-qs-requires : (t : ℕ) → dec-lts.Need-qs-requires (
   group-reads.Asked,
   group-reads.Learnt,
@@ -4332,7 +4141,6 @@ dec-qs-requires : (t : ℕ) → dec-lts.Need-qs-requires (
 ) (dec-at t) dec.Post
 dec-qs-requires t c κs = omega (arith, c .before .before .before .before .before .before .before .before .before .before .before .before .before .pre .0, c .before .before .before .before .before .before .before .before .before .before .before .before .before .pre .1)
 
--- src/lib.rt:1140:28
 dec-told-requires-2 : (t : ℕ) → dec-lts.Need-told-requires-2 (
   group-reads.Asked,
   group-reads.Learnt,
@@ -4347,7 +4155,6 @@ dec-told-requires-2 : (t : ℕ) → dec-lts.Need-told-requires-2 (
 ) (dec-at t) dec.Post
 dec-told-requires-2 t c κs = search needs
 
--- src/lib.rt:1140:22
 dec-enum-known-s2 : (t : ℕ) → dec-lts.Need-enum-known-s2 (
   group-reads.Asked,
   group-reads.Learnt,
@@ -4362,7 +4169,6 @@ dec-enum-known-s2 : (t : ℕ) → dec-lts.Need-enum-known-s2 (
 ) (dec-at t) dec.Post
 dec-enum-known-s2 t c = search needs
 
--- src/lib.rt:1141:9
 dec-enum-told-2 : (t : ℕ) → dec-lts.Need-enum-told-2 (
   group-reads.Asked,
   group-reads.Learnt,
@@ -4377,7 +4183,6 @@ dec-enum-told-2 : (t : ℕ) → dec-lts.Need-enum-told-2 (
 ) (dec-at t) dec.Post
 dec-enum-told-2 t c = search needs
 
--- src/lib.rt:1141:9
 dec-same-length : (t : ℕ) → dec-lts.Need-same-length (
   group-reads.Asked,
   group-reads.Learnt,
@@ -4392,7 +4197,6 @@ dec-same-length : (t : ℕ) → dec-lts.Need-same-length (
 ) (dec-at t) dec.Post
 dec-same-length t c = c .before .before .before .before .before .qs .kept .1 .1 .1 .1 .1 .1 .0
 
--- src/lib.rt:1141:9
 dec-returns-2 : (t : ℕ) → dec-lts.Need-returns-2 (
   group-reads.Asked,
   group-reads.Learnt,
@@ -4408,7 +4212,6 @@ dec-returns-2 : (t : ℕ) → dec-lts.Need-returns-2 (
 unfolding GetDec.dec Helpers.semicolon
 dec-returns-2 t c = record { is = by-same (first-same (group-is (c .before .before .before .before .before .before .before .before .before .before .before .before .group .ensures) (c .before .before .before .before .before .before .before .before .before .before .before .told .ensures) (c .before .before .before .before .before .before .before .before .before .s1 .given .1))) (regroup (then-stop (c .before .before .before .before .before .qs .ensures .is) (c .before .before .told2 .ensures) (c .enum-told2 .given .1))) }
 
--- src/lib.rt:1143:9
 dec-sharing-tails-requires : (t : ℕ) → dec-lts.Need-sharing-tails-requires (
   group-reads.Asked,
   group-reads.Learnt,
@@ -4423,7 +4226,6 @@ dec-sharing-tails-requires : (t : ℕ) → dec-lts.Need-sharing-tails-requires (
 ) (dec-at t) dec.Post
 dec-sharing-tails-requires t c κs = search needs
 
--- src/lib.rt:1144:28
 dec-told-requires-3 : (t : ℕ) → dec-lts.Need-told-requires-3 (
   group-reads.Asked,
   group-reads.Learnt,
@@ -4438,7 +4240,6 @@ dec-told-requires-3 : (t : ℕ) → dec-lts.Need-told-requires-3 (
 ) (dec-at t) dec.Post
 dec-told-requires-3 t c κs = search needs
 
--- src/lib.rt:1144:22
 dec-enum-known-s3 : (t : ℕ) → dec-lts.Need-enum-known-s3 (
   group-reads.Asked,
   group-reads.Learnt,
@@ -4453,7 +4254,6 @@ dec-enum-known-s3 : (t : ℕ) → dec-lts.Need-enum-known-s3 (
 ) (dec-at t) dec.Post
 dec-enum-known-s3 t c = search needs
 
--- src/lib.rt:1145:9
 dec-enum-told-3 : (t : ℕ) → dec-lts.Need-enum-told-3 (
   group-reads.Asked,
   group-reads.Learnt,
@@ -4468,7 +4268,6 @@ dec-enum-told-3 : (t : ℕ) → dec-lts.Need-enum-told-3 (
 ) (dec-at t) dec.Post
 dec-enum-told-3 t c = search needs
 
--- src/lib.rt:1145:9
 dec-same-length-2 : (t : ℕ) → dec-lts.Need-same-length-2 (
   group-reads.Asked,
   group-reads.Learnt,
@@ -4483,7 +4282,6 @@ dec-same-length-2 : (t : ℕ) → dec-lts.Need-same-length-2 (
 ) (dec-at t) dec.Post
 dec-same-length-2 t c = c .before .before .before .before .before .sharing-tails .kept .1 .1 .1 .1 .1 .0 ∙ c .before .before .before .before .before .before .before .before .before .before .before .before .before .before .qs .kept .1 .1 .1 .1 .1 .1 .0
 
--- src/lib.rt:1145:9
 dec-returns-3 : (t : ℕ) → dec-lts.Need-returns-3 (
   group-reads.Asked,
   group-reads.Learnt,
@@ -4499,7 +4297,6 @@ dec-returns-3 : (t : ℕ) → dec-lts.Need-returns-3 (
 unfolding GetDec.dec Helpers.semicolon
 dec-returns-3 t c = record { is = by-same (first-same (group-is (c .before .before .before .before .before .before .before .before .before .before .before .before .before .before .before .before .before .before .before .before .before .group .ensures) (c .before .before .before .before .before .before .before .before .before .before .before .before .before .before .before .before .before .before .before .before .told .ensures) (c .before .before .before .before .before .before .before .before .before .before .before .before .before .before .before .before .before .before .s1 .given .1))) (regroup (then-done (c .before .before .before .before .before .before .before .before .before .before .before .before .before .before .qs .ensures .is) (c .before .before .before .before .before .before .before .before .before .before .before .told2 .ensures) (c .before .before .before .before .before .before .before .before .before .s2 .given .1) (then-stop (plain (c .before .before .before .before .before .sharing-tails .ensures)) (c .before .before .told3 .ensures) (c .enum-told3 .given .1)))) }
 
--- src/lib.rt:1147:5
 dec-word-if-requires : (t : ℕ) → dec-lts.Need-word-if-requires (
   group-reads.Asked,
   group-reads.Learnt,
@@ -4514,7 +4311,6 @@ dec-word-if-requires : (t : ℕ) → dec-lts.Need-word-if-requires (
 ) (dec-at t) dec.Post
 dec-word-if-requires t c κs = search needs
 
--- src/lib.rt:1120:1
 dec-same-length-3 : (t : ℕ) → dec-lts.Need-same-length-3 (
   group-reads.Asked,
   group-reads.Learnt,
@@ -4529,7 +4325,6 @@ dec-same-length-3 : (t : ℕ) → dec-lts.Need-same-length-3 (
 ) (dec-at t) dec.Post
 dec-same-length-3 t c = c .before .before .word-if .kept .1 .1 .1 .1 .1 .0 ∙ c .before .before .before .before .before .before .before .before .before .before .before .sharing-tails .kept .1 .1 .1 .1 .1 .0 ∙ c .before .before .before .before .before .before .before .before .before .before .before .before .before .before .before .before .before .before .before .before .qs .kept .1 .1 .1 .1 .1 .1 .0
 
--- src/lib.rt:1120:1
 dec-returns-4 : (t : ℕ) → dec-lts.Need-returns-4 (
   group-reads.Asked,
   group-reads.Learnt,
@@ -4545,7 +4340,6 @@ dec-returns-4 : (t : ℕ) → dec-lts.Need-returns-4 (
 unfolding GetDec.dec Helpers.semicolon
 dec-returns-4 t c = record { is = by-same (first-same (group-is (c .before .before .before .before .before .before .before .before .before .before .before .before .before .before .before .before .before .before .before .before .before .before .before .before .before .before .before .group .ensures) (c .before .before .before .before .before .before .before .before .before .before .before .before .before .before .before .before .before .before .before .before .before .before .before .before .before .before .told .ensures) (c .before .before .before .before .before .before .before .before .before .before .before .before .before .before .before .before .before .before .before .before .before .before .before .before .s1 .given .1))) (regroup (then-done (c .before .before .before .before .before .before .before .before .before .before .before .before .before .before .before .before .before .before .before .before .qs .ensures .is) (c .before .before .before .before .before .before .before .before .before .before .before .before .before .before .before .before .before .told2 .ensures) (c .before .before .before .before .before .before .before .before .before .before .before .before .before .before .before .s2 .given .1) (then-done (plain (c .before .before .before .before .before .before .before .before .before .before .before .sharing-tails .ensures)) (c .before .before .before .before .before .before .before .before .told3 .ensures) (c .before .before .before .before .before .before .s3 .given .1) (plain (c .before .before .word-if .ensures))))) }
 
--- src/lib.rt:871:5
 dp-indent-deeper-requires : (t : ℕ) → dp-lts.Need-indent-deeper-requires (
   indent-deeper-reads.Asked,
   indent-deeper-reads.Learnt,
@@ -4556,7 +4350,6 @@ dp-indent-deeper-requires : (t : ℕ) → dp-lts.Need-indent-deeper-requires (
 ) (dp-at t) dp.Post
 dp-indent-deeper-requires t c κs = omega (arith, c .before .before .before .before .before .before .before .before .pre .1)
 
--- src/lib.rt:872:9
 dp-indented-requires : (t : ℕ) → dp-lts.Need-indented-requires (
   indent-deeper-reads.Asked,
   indent-deeper-reads.Learnt,
@@ -4567,7 +4360,6 @@ dp-indented-requires : (t : ℕ) → dp-lts.Need-indented-requires (
 ) (dp-at t) dp.Post
 dp-indented-requires t c κs = omega (arith, c .before .before .before .before .before .before .before .before .before .before .before .pre .1)
 
--- src/lib.rt:873:5
 dp-exp-requires : (t : ℕ) → dp-lts.Need-exp-requires (
   indent-deeper-reads.Asked,
   indent-deeper-reads.Learnt,
@@ -4578,7 +4370,6 @@ dp-exp-requires : (t : ℕ) → dp-lts.Need-exp-requires (
 ) (dp-at t) dp.Post
 dp-exp-requires t c κs = omega (arith, c .before .before .before .before .before .before .before .before .before .before .before .before .before .before .pre .0, c .before .before .before .before .before .before .before .before .before .before .before .before .before .before .pre .1, deep-depth (c .before .before .indented .ensures), deep-left (c .before .before .indented .ensures))
 
--- src/lib.rt:856:1
 dp-same-length : (t : ℕ) → dp-lts.Need-same-length (
   indent-deeper-reads.Asked,
   indent-deeper-reads.Learnt,
@@ -4589,7 +4380,6 @@ dp-same-length : (t : ℕ) → dp-lts.Need-same-length (
 ) (dp-at t) dp.Post
 dp-same-length t c = c .before .before .exp .kept .1 .1 .1 .1 .1 .1 .0 ∙ c .before .before .before .before .before .before .before .before .indent-deeper .kept .0
 
--- src/lib.rt:856:1
 dp-returns : (t : ℕ) → dp-lts.Need-returns (
   indent-deeper-reads.Asked,
   indent-deeper-reads.Learnt,
@@ -4608,7 +4398,6 @@ ds-Inv-loop run text rec kinds starts lens out₀ mem₀ at cfg n s0 s₀ i₀ o
 abbrev ds-μ-loop : ds-lts.MeasureT-loop
 ds-μ-loop run text rec kinds starts lens out₀ mem₀ at cfg n s0 s₀ i₀ out mem s i = n - i
 
--- src/lib.rt:1098:27
 ds-list-requires : (t : ℕ) → ds-lts.Need-list-requires (
   list-reads.Asked,
   list-reads.Learnt,
@@ -4625,7 +4414,6 @@ ds-list-requires : (t : ℕ) → ds-lts.Need-list-requires (
 ) (ds-at t) ds.Post ds-Inv-loop ds-μ-loop
 ds-list-requires t c κs = search needs
 
--- src/lib.rt:1098:18
 ds-enum-known-n : (t : ℕ) → ds-lts.Need-enum-known-n (
   list-reads.Asked,
   list-reads.Learnt,
@@ -4642,7 +4430,6 @@ ds-enum-known-n : (t : ℕ) → ds-lts.Need-enum-known-n (
 ) (ds-at t) ds.Post ds-Inv-loop ds-μ-loop
 ds-enum-known-n t c = search needs
 
--- src/lib.rt:1099:9
 ds-enum-told : (t : ℕ) → ds-lts.Need-enum-told (
   list-reads.Asked,
   list-reads.Learnt,
@@ -4659,7 +4446,6 @@ ds-enum-told : (t : ℕ) → ds-lts.Need-enum-told (
 ) (ds-at t) ds.Post ds-Inv-loop ds-μ-loop
 ds-enum-told t c = search needs
 
--- src/lib.rt:1099:9
 ds-stop-requires : (t : ℕ) → ds-lts.Need-stop-requires (
   list-reads.Asked,
   list-reads.Learnt,
@@ -4676,7 +4462,6 @@ ds-stop-requires : (t : ℕ) → ds-lts.Need-stop-requires (
 ) (ds-at t) ds.Post ds-Inv-loop ds-μ-loop
 ds-stop-requires t c κs = search needs
 
--- src/lib.rt:1099:9
 ds-returns : (t : ℕ) → ds-lts.Need-returns (
   list-reads.Asked,
   list-reads.Learnt,
@@ -4694,7 +4479,6 @@ ds-returns : (t : ℕ) → ds-lts.Need-returns (
 unfolding GetDec.get-dec Helpers.sep-with-lines
 ds-returns t c = record { is = list-not (c .stop .ensures) (c .before .before .before .list .ensures) (c .before .enum-told .given .1) }
 
--- src/lib.rt:1103:5
 ds-loop-holds : (t : ℕ) → ds-lts.Need-loop-holds (
   list-reads.Asked,
   list-reads.Learnt,
@@ -4711,7 +4495,6 @@ ds-loop-holds : (t : ℕ) → ds-lts.Need-loop-holds (
 ) (ds-at t) ds.Post ds-Inv-loop ds-μ-loop
 ds-loop-holds t c = (omega arith, λ r m o h. h, refl)
 
--- src/lib.rt:1104:9
 ds-new-line-requires : (t : ℕ) → ds-lts.Need-new-line-requires (
   list-reads.Asked,
   list-reads.Learnt,
@@ -4728,7 +4511,6 @@ ds-new-line-requires : (t : ℕ) → ds-lts.Need-new-line-requires (
 ) (ds-at t) ds.Post ds-Inv-loop ds-μ-loop
 ds-new-line-requires t c κs = search needs
 
--- src/lib.rt:1105:13
 ds-group-requires : (t : ℕ) → ds-lts.Need-group-requires (
   list-reads.Asked,
   list-reads.Learnt,
@@ -4745,7 +4527,6 @@ ds-group-requires : (t : ℕ) → ds-lts.Need-group-requires (
 ) (ds-at t) ds.Post ds-Inv-loop ds-μ-loop
 ds-group-requires t c κs = search needs
 
--- src/lib.rt:1106:32
 ds-told-requires : (t : ℕ) → ds-lts.Need-told-requires (
   list-reads.Asked,
   list-reads.Learnt,
@@ -4762,7 +4543,6 @@ ds-told-requires : (t : ℕ) → ds-lts.Need-told-requires (
 ) (ds-at t) ds.Post ds-Inv-loop ds-μ-loop
 ds-told-requires t c κs = search needs
 
--- src/lib.rt:1106:26
 ds-enum-known-s1 : (t : ℕ) → ds-lts.Need-enum-known-s1 (
   list-reads.Asked,
   list-reads.Learnt,
@@ -4779,7 +4559,6 @@ ds-enum-known-s1 : (t : ℕ) → ds-lts.Need-enum-known-s1 (
 ) (ds-at t) ds.Post ds-Inv-loop ds-μ-loop
 ds-enum-known-s1 t c = search needs
 
--- src/lib.rt:1107:13
 ds-enum-told-2 : (t : ℕ) → ds-lts.Need-enum-told-2 (
   list-reads.Asked,
   list-reads.Learnt,
@@ -4796,7 +4575,6 @@ ds-enum-told-2 : (t : ℕ) → ds-lts.Need-enum-told-2 (
 ) (ds-at t) ds.Post ds-Inv-loop ds-μ-loop
 ds-enum-told-2 t c = search needs
 
--- src/lib.rt:1107:13
 ds-same-length : (t : ℕ) → ds-lts.Need-same-length (
   list-reads.Asked,
   list-reads.Learnt,
@@ -4813,7 +4591,6 @@ ds-same-length : (t : ℕ) → ds-lts.Need-same-length (
 ) (ds-at t) ds.Post ds-Inv-loop ds-μ-loop
 ds-same-length t c = c .before .before .before .before .before .before .new-line .kept .1 .1 .0 ∙ c .before .before .before .before .before .before .before .before .before .before .loop .inv .2
 
--- src/lib.rt:1107:13
 ds-returns-2 : (t : ℕ) → ds-lts.Need-returns-2 (
   list-reads.Asked,
   list-reads.Learnt,
@@ -4831,7 +4608,6 @@ ds-returns-2 : (t : ℕ) → ds-lts.Need-returns-2 (
 unfolding GetDec.get-dec Helpers.sep-with-lines
 ds-returns-2 t c = record { is = by-same (list-is (c .before .before .before .before .before .before .before .before .before .before .before .before .before .before .list .ensures) (c .before .before .before .before .before .before .before .before .before .before .before .before .n .given .1)) (by-same (items-all _ _ _) (c .before .before .before .before .before .before .before .before .before .before .loop .inv .1 _ _ _ (from-more _ _ (c .before .before .before .before .before .before .before .before .before .loop-test .taken) (then-sure (c .before .before .before .before .before .before .new-line .ensures) (then-stop (group-not (c .before .before .before .group .ensures) (c .before .before .told .ensures) (c .enum-told2 .given .1)) (c .before .before .told .ensures) (c .enum-told2 .given .1)))))) }
 
--- src/lib.rt:1109:13
 ds-dec-requires : (t : ℕ) → ds-lts.Need-dec-requires (
   list-reads.Asked,
   list-reads.Learnt,
@@ -4848,7 +4624,6 @@ ds-dec-requires : (t : ℕ) → ds-lts.Need-dec-requires (
 ) (ds-at t) ds.Post ds-Inv-loop ds-μ-loop
 ds-dec-requires t c κs = omega (arith, c .before .before .before .before .before .before .before .before .before .before .before .before .before .before .before .before .before .before .before .before .before .before .before .before .pre .0, c .before .before .before .before .before .before .before .before .before .before .before .before .before .before .before .before .before .before .before .before .before .before .before .before .pre .1)
 
--- src/lib.rt:1110:32
 ds-told-requires-2 : (t : ℕ) → ds-lts.Need-told-requires-2 (
   list-reads.Asked,
   list-reads.Learnt,
@@ -4865,7 +4640,6 @@ ds-told-requires-2 : (t : ℕ) → ds-lts.Need-told-requires-2 (
 ) (ds-at t) ds.Post ds-Inv-loop ds-μ-loop
 ds-told-requires-2 t c κs = search needs
 
--- src/lib.rt:1110:26
 ds-enum-known-s2 : (t : ℕ) → ds-lts.Need-enum-known-s2 (
   list-reads.Asked,
   list-reads.Learnt,
@@ -4882,7 +4656,6 @@ ds-enum-known-s2 : (t : ℕ) → ds-lts.Need-enum-known-s2 (
 ) (ds-at t) ds.Post ds-Inv-loop ds-μ-loop
 ds-enum-known-s2 t c = search needs
 
--- src/lib.rt:1111:13
 ds-enum-told-3 : (t : ℕ) → ds-lts.Need-enum-told-3 (
   list-reads.Asked,
   list-reads.Learnt,
@@ -4899,7 +4672,6 @@ ds-enum-told-3 : (t : ℕ) → ds-lts.Need-enum-told-3 (
 ) (ds-at t) ds.Post ds-Inv-loop ds-μ-loop
 ds-enum-told-3 t c = search needs
 
--- src/lib.rt:1111:13
 ds-same-length-2 : (t : ℕ) → ds-lts.Need-same-length-2 (
   list-reads.Asked,
   list-reads.Learnt,
@@ -4916,7 +4688,6 @@ ds-same-length-2 : (t : ℕ) → ds-lts.Need-same-length-2 (
 ) (ds-at t) ds.Post ds-Inv-loop ds-μ-loop
 ds-same-length-2 t c = c .before .before .before .before .before .dec .kept .1 .1 .1 .1 .1 .1 .0 ∙ c .before .before .before .before .before .before .before .before .before .before .before .before .before .before .before .new-line .kept .1 .1 .0 ∙ c .before .before .before .before .before .before .before .before .before .before .before .before .before .before .before .before .before .before .before .loop .inv .2
 
--- src/lib.rt:1111:13
 ds-returns-3 : (t : ℕ) → ds-lts.Need-returns-3 (
   list-reads.Asked,
   list-reads.Learnt,
@@ -4934,7 +4705,6 @@ ds-returns-3 : (t : ℕ) → ds-lts.Need-returns-3 (
 unfolding GetDec.get-dec Helpers.sep-with-lines
 ds-returns-3 t c = record { is = by-same (list-is (c .before .before .before .before .before .before .before .before .before .before .before .before .before .before .before .before .before .before .before .before .before .before .before .list .ensures) (c .before .before .before .before .before .before .before .before .before .before .before .before .before .before .before .before .before .before .before .before .before .n .given .1)) (by-same (items-all _ _ _) (c .before .before .before .before .before .before .before .before .before .before .before .before .before .before .before .before .before .before .before .loop .inv .1 _ _ _ (from-more _ _ (c .before .before .before .before .before .before .before .before .before .before .before .before .before .before .before .before .before .before .loop-test .taken) (then-sure (c .before .before .before .before .before .before .before .before .before .before .before .before .before .before .before .new-line .ensures) (by-same (first-same (group-is (c .before .before .before .before .before .before .before .before .before .before .before .before .group .ensures) (c .before .before .before .before .before .before .before .before .before .before .before .told .ensures) (c .before .before .before .before .before .before .before .before .before .s1 .given .1))) (then-stop (c .before .before .before .before .before .dec .ensures .is) (c .before .before .told2 .ensures) (c .enum-told3 .given .1))))))) }
 
--- src/lib.rt:1114:9
 ds-add-i : (t : ℕ) → ds-lts.Need-add-i (
   list-reads.Asked,
   list-reads.Learnt,
@@ -4951,7 +4721,6 @@ ds-add-i : (t : ℕ) → ds-lts.Need-add-i (
 ) (ds-at t) ds.Post ds-Inv-loop ds-μ-loop
 ds-add-i t c = omega (arith, c .before .before .before .before .before .before .before .before .before .before .before .before .before .before .before .before .before .before .before .loop-test .taken, c .before .before .before .before .before .before .before .before .before .before .before .before .before .before .before .before .before .before .before .before .before .known-told)
 
--- src/lib.rt:1103:5
 ds-loop-less : (t : ℕ) → ds-lts.Need-loop-less (
   list-reads.Asked,
   list-reads.Learnt,
@@ -4968,7 +4737,6 @@ ds-loop-less : (t : ℕ) → ds-lts.Need-loop-less (
 ) (ds-at t) ds.Post ds-Inv-loop ds-μ-loop
 ds-loop-less t c = omega arith
 
--- src/lib.rt:1103:5
 ds-loop-again : (t : ℕ) → ds-lts.Need-loop-again (
   list-reads.Asked,
   list-reads.Learnt,
@@ -4986,7 +4754,6 @@ ds-loop-again : (t : ℕ) → ds-lts.Need-loop-again (
 unfolding GetDec.get-dec Helpers.sep-with-lines
 ds-loop-again t c = (omega (arith, c .before .before .before .before .before .before .before .before .before .before .before .before .before .before .before .before .before .before .before .before .loop .inv .0), λ r m o h. c .before .before .before .before .before .before .before .before .before .before .before .before .before .before .before .before .before .before .before .before .loop .inv .1 r m o (from-more _ _ (c .before .before .before .before .before .before .before .before .before .before .before .before .before .before .before .before .before .before .before .loop-test .taken) (then-sure (c .before .before .before .before .before .before .before .before .before .before .before .before .before .before .before .before .new-line .ensures) (by-same (first-same (group-is (c .before .before .before .before .before .before .before .before .before .before .before .before .before .group .ensures) (c .before .before .before .before .before .before .before .before .before .before .before .before .told .ensures) (c .before .before .before .before .before .before .before .before .before .before .s1 .given .1))) (then-done (c .before .before .before .before .before .before .dec .ensures .is) (c .before .before .before .told2 .ensures) (c .before .s2 .given .1) h)))), c .before .before .before .before .before .before .dec .kept .1 .1 .1 .1 .1 .1 .0 ∙ c .before .before .before .before .before .before .before .before .before .before .before .before .before .before .before .before .new-line .kept .1 .1 .0 ∙ c .before .before .before .before .before .before .before .before .before .before .before .before .before .before .before .before .before .before .before .before .loop .inv .2)
 
--- src/lib.rt:1083:1
 ds-same-length-3 : (t : ℕ) → ds-lts.Need-same-length-3 (
   list-reads.Asked,
   list-reads.Learnt,
@@ -5003,7 +4770,6 @@ ds-same-length-3 : (t : ℕ) → ds-lts.Need-same-length-3 (
 ) (ds-at t) ds.Post ds-Inv-loop ds-μ-loop
 ds-same-length-3 t c = c .before .loop .inv .2
 
--- src/lib.rt:1083:1
 ds-returns-4 : (t : ℕ) → ds-lts.Need-returns-4 (
   list-reads.Asked,
   list-reads.Learnt,
@@ -5021,7 +4787,6 @@ ds-returns-4 : (t : ℕ) → ds-lts.Need-returns-4 (
 unfolding GetDec.get-dec Helpers.sep-with-lines
 ds-returns-4 t c = record { is = by-same (list-is (c .before .before .before .before .before .list .ensures) (c .before .before .before .n .given .1)) (by-same (items-all _ _ _) (c .before .loop .inv .1 _ _ _ (from-none _ _ (c .loop-test .left)))) }
 
--- src/lib.rt:617:9
 du-exp-requires : (t : ℕ) → du-lts.Need-exp-requires (
   exp-below t,
   exp.Post,
@@ -5032,7 +4797,6 @@ du-exp-requires : (t : ℕ) → du-lts.Need-exp-requires (
 ) (du-at t) du.Post
 du-exp-requires t c κs = omega (arith, c .before .before .before .before .before .before .before .before .pre .0, c .before .before .before .before .before .before .before .before .pre .1)
 
--- src/lib.rt:618:28
 du-told-requires : (t : ℕ) → du-lts.Need-told-requires (
   exp-below t,
   exp.Post,
@@ -5043,7 +4807,6 @@ du-told-requires : (t : ℕ) → du-lts.Need-told-requires (
 ) (du-at t) du.Post
 du-told-requires t c κs = search needs
 
--- src/lib.rt:618:22
 du-enum-known-s1 : (t : ℕ) → du-lts.Need-enum-known-s1 (
   exp-below t,
   exp.Post,
@@ -5054,7 +4817,6 @@ du-enum-known-s1 : (t : ℕ) → du-lts.Need-enum-known-s1 (
 ) (du-at t) du.Post
 du-enum-known-s1 t c = search needs
 
--- src/lib.rt:619:9
 du-enum-told : (t : ℕ) → du-lts.Need-enum-told (
   exp-below t,
   exp.Post,
@@ -5065,7 +4827,6 @@ du-enum-told : (t : ℕ) → du-lts.Need-enum-told (
 ) (du-at t) du.Post
 du-enum-told t c = search needs
 
--- src/lib.rt:619:9
 du-same-length : (t : ℕ) → du-lts.Need-same-length (
   exp-below t,
   exp.Post,
@@ -5076,7 +4837,6 @@ du-same-length : (t : ℕ) → du-lts.Need-same-length (
 ) (du-at t) du.Post
 du-same-length t c = c .before .before .before .before .before .exp .kept .1 .1 .1 .1 .1 .1 .0
 
--- src/lib.rt:619:9
 du-returns : (t : ℕ) → du-lts.Need-returns (
   exp-below t,
   exp.Post,
@@ -5087,7 +4847,6 @@ du-returns : (t : ℕ) → du-lts.Need-returns (
 ) (du-at t) du.Post
 du-returns t c = record { is = then-stop (c .before .before .before .before .before .exp .ensures .is) (c .before .before .told .ensures) (c .enum-told .given .1) }
 
--- src/lib.rt:621:5
 du-word-requires : (t : ℕ) → du-lts.Need-word-requires (
   exp-below t,
   exp.Post,
@@ -5098,7 +4857,6 @@ du-word-requires : (t : ℕ) → du-lts.Need-word-requires (
 ) (du-at t) du.Post
 du-word-requires t c κs = search needs
 
--- src/lib.rt:622:5
 du-exp-requires-2 : (t : ℕ) → du-lts.Need-exp-requires-2 (
   exp-below t,
   exp.Post,
@@ -5109,7 +4867,6 @@ du-exp-requires-2 : (t : ℕ) → du-lts.Need-exp-requires-2 (
 ) (du-at t) du.Post
 du-exp-requires-2 t c κs = omega (arith, c .before .before .before .before .before .before .before .before .before .before .before .before .before .before .before .before .before .before .before .before .before .before .pre .0, c .before .before .before .before .before .before .before .before .before .before .before .before .before .before .before .before .before .before .before .before .before .before .pre .1)
 
--- src/lib.rt:601:1
 du-same-length-2 : (t : ℕ) → du-lts.Need-same-length-2 (
   exp-below t,
   exp.Post,
@@ -5120,7 +4877,6 @@ du-same-length-2 : (t : ℕ) → du-lts.Need-same-length-2 (
 ) (du-at t) du.Post
 du-same-length-2 t c = c .before .before .exp2 .kept .1 .1 .1 .1 .1 .1 .0 ∙ c .before .before .before .before .before .before .before .word .kept .1 .1 .0 ∙ c .before .before .before .before .before .before .before .before .before .before .before .before .before .before .before .before .exp .kept .1 .1 .1 .1 .1 .1 .0
 
--- src/lib.rt:601:1
 du-returns-2 : (t : ℕ) → du-lts.Need-returns-2 (
   exp-below t,
   exp.Post,
@@ -5131,7 +4887,6 @@ du-returns-2 : (t : ℕ) → du-lts.Need-returns-2 (
 ) (du-at t) du.Post
 du-returns-2 t c = record { is = then-done (c .before .before .before .before .before .before .before .before .before .before .before .before .before .before .before .before .exp .ensures .is) (c .before .before .before .before .before .before .before .before .before .before .before .before .before .told .ensures) (c .before .before .before .before .before .before .before .before .before .before .before .s1 .given .1) (then-sure (c .before .before .before .before .before .before .before .word .ensures) (c .before .before .exp2 .ensures .is)) }
 
--- src/lib.rt:967:9
 exp-stop-requires : (t : ℕ) → exp-lts.Need-stop-requires (
   stop-reads.Asked,
   stop-reads.Learnt,
@@ -5180,7 +4935,6 @@ exp-stop-requires : (t : ℕ) → exp-lts.Need-stop-requires (
 ) (exp-at t) exp.Post
 exp-stop-requires t c κs = search needs
 
--- src/lib.rt:967:9
 exp-returns : (t : ℕ) → exp-lts.Need-returns (
   stop-reads.Asked,
   stop-reads.Learnt,
@@ -5230,7 +4984,6 @@ exp-returns : (t : ℕ) → exp-lts.Need-returns (
 unfolding Exp.exps Exp.exp
 exp-returns t c = record { is = exp-zero _ _ (c .before .if1 .taken) (c .stop .ensures) }
 
--- src/lib.rt:969:26
 exp-form-requires : (t : ℕ) → exp-lts.Need-form-requires (
   stop-reads.Asked,
   stop-reads.Learnt,
@@ -5279,7 +5032,6 @@ exp-form-requires : (t : ℕ) → exp-lts.Need-form-requires (
 ) (exp-at t) exp.Post
 exp-form-requires t c κs = search needs
 
--- src/lib.rt:969:18
 exp-enum-known-k : (t : ℕ) → exp-lts.Need-enum-known-k (
   stop-reads.Asked,
   stop-reads.Learnt,
@@ -5328,7 +5080,6 @@ exp-enum-known-k : (t : ℕ) → exp-lts.Need-enum-known-k (
 ) (exp-at t) exp.Post
 exp-enum-known-k t c = search needs
 
--- src/lib.rt:970:9
 exp-enum-told : (t : ℕ) → exp-lts.Need-enum-told (
   stop-reads.Asked,
   stop-reads.Learnt,
@@ -5377,7 +5128,6 @@ exp-enum-told : (t : ℕ) → exp-lts.Need-enum-told (
 ) (exp-at t) exp.Post
 exp-enum-told t c = search needs
 
--- src/lib.rt:970:9
 exp-stop-requires-2 : (t : ℕ) → exp-lts.Need-stop-requires-2 (
   stop-reads.Asked,
   stop-reads.Learnt,
@@ -5426,7 +5176,6 @@ exp-stop-requires-2 : (t : ℕ) → exp-lts.Need-stop-requires-2 (
 ) (exp-at t) exp.Post
 exp-stop-requires-2 t c κs = search needs
 
--- src/lib.rt:970:9
 exp-returns-2 : (t : ℕ) → exp-lts.Need-returns-2 (
   stop-reads.Asked,
   stop-reads.Learnt,
@@ -5476,7 +5225,6 @@ exp-returns-2 : (t : ℕ) → exp-lts.Need-returns-2 (
 unfolding Exp.exps Exp.exp
 exp-returns-2 t c = record { is = exp-form _ _ (c .before .before .before .before .if1 .left) (form-not (c .stop2 .ensures) (c .before .before .before .form .ensures) (c .before .enum-told .given .1)) }
 
--- src/lib.rt:975:15
 exp-sub-t18 : (t : ℕ) → exp-lts.Need-sub-t18 (
   stop-reads.Asked,
   stop-reads.Learnt,
@@ -5525,7 +5273,6 @@ exp-sub-t18 : (t : ℕ) → exp-lts.Need-sub-t18 (
 ) (exp-at t) exp.Post
 exp-sub-t18 t c = search needs
 
--- src/lib.rt:979:13
 exp-word-requires : (t : ℕ) → exp-lts.Need-word-requires (
   stop-reads.Asked,
   stop-reads.Learnt,
@@ -5574,7 +5321,6 @@ exp-word-requires : (t : ℕ) → exp-lts.Need-word-requires (
 ) (exp-at t) exp.Post
 exp-word-requires t c κs = search needs
 
--- src/lib.rt:983:13
 exp-word-requires-2 : (t : ℕ) → exp-lts.Need-word-requires-2 (
   stop-reads.Asked,
   stop-reads.Learnt,
@@ -5623,7 +5369,6 @@ exp-word-requires-2 : (t : ℕ) → exp-lts.Need-word-requires-2 (
 ) (exp-at t) exp.Post
 exp-word-requires-2 t c κs = search needs
 
--- src/lib.rt:987:13
 exp-word-requires-3 : (t : ℕ) → exp-lts.Need-word-requires-3 (
   stop-reads.Asked,
   stop-reads.Learnt,
@@ -5672,7 +5417,6 @@ exp-word-requires-3 : (t : ℕ) → exp-lts.Need-word-requires-3 (
 ) (exp-at t) exp.Post
 exp-word-requires-3 t c κs = search needs
 
--- src/lib.rt:991:13
 exp-word-requires-4 : (t : ℕ) → exp-lts.Need-word-requires-4 (
   stop-reads.Asked,
   stop-reads.Learnt,
@@ -5721,7 +5465,6 @@ exp-word-requires-4 : (t : ℕ) → exp-lts.Need-word-requires-4 (
 ) (exp-at t) exp.Post
 exp-word-requires-4 t c κs = search needs
 
--- src/lib.rt:994:14
 exp-text-of-requires : (t : ℕ) → exp-lts.Need-text-of-requires (
   stop-reads.Asked,
   stop-reads.Learnt,
@@ -5770,7 +5513,6 @@ exp-text-of-requires : (t : ℕ) → exp-lts.Need-text-of-requires (
 ) (exp-at t) exp.Post
 exp-text-of-requires t c κs = search needs
 
--- src/lib.rt:995:14
 exp-op-path-requires : (t : ℕ) → exp-lts.Need-op-path-requires (
   stop-reads.Asked,
   stop-reads.Learnt,
@@ -5819,7 +5561,6 @@ exp-op-path-requires : (t : ℕ) → exp-lts.Need-op-path-requires (
 ) (exp-at t) exp.Post
 exp-op-path-requires t c κs = search needs
 
--- src/lib.rt:996:14
 exp-rc-requires : (t : ℕ) → exp-lts.Need-rc-requires (
   stop-reads.Asked,
   stop-reads.Learnt,
@@ -5868,7 +5609,6 @@ exp-rc-requires : (t : ℕ) → exp-lts.Need-rc-requires (
 ) (exp-at t) exp.Post
 exp-rc-requires t c κs = omega (arith, c .before .before .before .before .before .before .before .before .before .before .before .before .before .before .pre .0, c .before .before .before .before .before .before .before .before .before .before .before .before .before .before .pre .1, c .before .before .before .before .before .before .before .if1 .left)
 
--- src/lib.rt:997:14
 exp-selector-exp-requires : (t : ℕ) → exp-lts.Need-selector-exp-requires (
   stop-reads.Asked,
   stop-reads.Learnt,
@@ -5917,7 +5657,6 @@ exp-selector-exp-requires : (t : ℕ) → exp-lts.Need-selector-exp-requires (
 ) (exp-at t) exp.Post
 exp-selector-exp-requires t c κs = search needs
 
--- src/lib.rt:998:14
 exp-pa-requires : (t : ℕ) → exp-lts.Need-pa-requires (
   stop-reads.Asked,
   stop-reads.Learnt,
@@ -5966,7 +5705,6 @@ exp-pa-requires : (t : ℕ) → exp-lts.Need-pa-requires (
 ) (exp-at t) exp.Post
 exp-pa-requires t c κs = omega (arith, c .before .before .before .before .before .before .before .before .before .before .before .before .before .before .pre .0, c .before .before .before .before .before .before .before .before .before .before .before .before .before .before .pre .1, c .before .before .before .before .before .before .before .if1 .left)
 
--- src/lib.rt:999:14
 exp-br-requires : (t : ℕ) → exp-lts.Need-br-requires (
   stop-reads.Asked,
   stop-reads.Learnt,
@@ -6015,7 +5753,6 @@ exp-br-requires : (t : ℕ) → exp-lts.Need-br-requires (
 ) (exp-at t) exp.Post
 exp-br-requires t c κs = omega (arith, c .before .before .before .before .before .before .before .before .before .before .before .before .before .before .pre .0, c .before .before .before .before .before .before .before .before .before .before .before .before .before .before .pre .1, c .before .before .before .before .before .before .before .if1 .left)
 
--- src/lib.rt:1013:15
 exp-br-requires-2 : (t : ℕ) → exp-lts.Need-br-requires-2 (
   stop-reads.Asked,
   stop-reads.Learnt,
@@ -6064,7 +5801,6 @@ exp-br-requires-2 : (t : ℕ) → exp-lts.Need-br-requires-2 (
 ) (exp-at t) exp.Post
 exp-br-requires-2 t c κs = omega (arith, c .before .before .before .before .before .before .before .before .before .before .before .before .before .before .pre .0, c .before .before .before .before .before .before .before .before .before .before .before .before .before .before .pre .1, c .before .before .before .before .before .before .before .if1 .left)
 
--- src/lib.rt:1027:15
 exp-ve-requires : (t : ℕ) → exp-lts.Need-ve-requires (
   stop-reads.Asked,
   stop-reads.Learnt,
@@ -6113,7 +5849,6 @@ exp-ve-requires : (t : ℕ) → exp-lts.Need-ve-requires (
 ) (exp-at t) exp.Post
 exp-ve-requires t c κs = omega (arith, c .before .before .before .before .before .before .before .before .before .before .before .before .before .before .pre .0, c .before .before .before .before .before .before .before .before .before .before .before .before .before .before .pre .1, c .before .before .before .before .before .before .before .if1 .left)
 
--- src/lib.rt:1028:15
 exp-seq-requires : (t : ℕ) → exp-lts.Need-seq-requires (
   stop-reads.Asked,
   stop-reads.Learnt,
@@ -6162,7 +5897,6 @@ exp-seq-requires : (t : ℕ) → exp-lts.Need-seq-requires (
 ) (exp-at t) exp.Post
 exp-seq-requires t c κs = omega (arith, c .before .before .before .before .before .before .before .before .before .before .before .before .before .before .pre .0, c .before .before .before .before .before .before .before .before .before .before .before .before .before .before .pre .1, c .before .before .before .before .before .before .before .if1 .left)
 
--- src/lib.rt:1029:15
 exp-lx-requires : (t : ℕ) → exp-lts.Need-lx-requires (
   stop-reads.Asked,
   stop-reads.Learnt,
@@ -6211,7 +5945,6 @@ exp-lx-requires : (t : ℕ) → exp-lts.Need-lx-requires (
 ) (exp-at t) exp.Post
 exp-lx-requires t c κs = omega (arith, c .before .before .before .before .before .before .before .before .before .before .before .before .before .before .pre .0, c .before .before .before .before .before .before .before .before .before .before .before .before .before .before .pre .1, c .before .before .before .before .before .before .before .if1 .left)
 
--- src/lib.rt:1030:15
 exp-app-requires : (t : ℕ) → exp-lts.Need-app-requires (
   stop-reads.Asked,
   stop-reads.Learnt,
@@ -6260,7 +5993,6 @@ exp-app-requires : (t : ℕ) → exp-lts.Need-app-requires (
 ) (exp-at t) exp.Post
 exp-app-requires t c κs = omega (arith, c .before .before .before .before .before .before .before .before .before .before .before .before .before .before .pre .0, c .before .before .before .before .before .before .before .before .before .before .before .before .before .before .pre .1, c .before .before .before .before .before .before .before .if1 .left)
 
--- src/lib.rt:1031:15
 exp-fx-requires : (t : ℕ) → exp-lts.Need-fx-requires (
   stop-reads.Asked,
   stop-reads.Learnt,
@@ -6309,7 +6041,6 @@ exp-fx-requires : (t : ℕ) → exp-lts.Need-fx-requires (
 ) (exp-at t) exp.Post
 exp-fx-requires t c κs = omega (arith, c .before .before .before .before .before .before .before .before .before .before .before .before .before .before .pre .0, c .before .before .before .before .before .before .before .before .before .before .before .before .before .before .pre .1, c .before .before .before .before .before .before .before .if1 .left)
 
--- src/lib.rt:1032:15
 exp-ty-requires : (t : ℕ) → exp-lts.Need-ty-requires (
   stop-reads.Asked,
   stop-reads.Learnt,
@@ -6358,7 +6089,6 @@ exp-ty-requires : (t : ℕ) → exp-lts.Need-ty-requires (
 ) (exp-at t) exp.Post
 exp-ty-requires t c κs = omega (arith, c .before .before .before .before .before .before .before .before .before .before .before .before .before .before .pre .0, c .before .before .before .before .before .before .before .before .before .before .before .before .before .before .pre .1, c .before .before .before .before .before .before .before .if1 .left)
 
--- src/lib.rt:1033:15
 exp-du-requires : (t : ℕ) → exp-lts.Need-du-requires (
   stop-reads.Asked,
   stop-reads.Learnt,
@@ -6407,7 +6137,6 @@ exp-du-requires : (t : ℕ) → exp-lts.Need-du-requires (
 ) (exp-at t) exp.Post
 exp-du-requires t c κs = omega (arith, c .before .before .before .before .before .before .before .before .before .before .before .before .before .before .pre .0, c .before .before .before .before .before .before .before .before .before .before .before .before .before .before .pre .1, c .before .before .before .before .before .before .before .if1 .left)
 
--- src/lib.rt:1046:15
 exp-du-requires-2 : (t : ℕ) → exp-lts.Need-du-requires-2 (
   stop-reads.Asked,
   stop-reads.Learnt,
@@ -6456,7 +6185,6 @@ exp-du-requires-2 : (t : ℕ) → exp-lts.Need-du-requires-2 (
 ) (exp-at t) exp.Post
 exp-du-requires-2 t c κs = omega (arith, c .before .before .before .before .before .before .before .before .before .before .before .before .before .before .pre .0, c .before .before .before .before .before .before .before .before .before .before .before .before .before .before .pre .1, c .before .before .before .before .before .before .before .if1 .left)
 
--- src/lib.rt:1059:15
 exp-ha-requires : (t : ℕ) → exp-lts.Need-ha-requires (
   stop-reads.Asked,
   stop-reads.Learnt,
@@ -6505,7 +6233,6 @@ exp-ha-requires : (t : ℕ) → exp-lts.Need-ha-requires (
 ) (exp-at t) exp.Post
 exp-ha-requires t c κs = omega (arith, c .before .before .before .before .before .before .before .before .before .before .before .before .before .before .pre .0, c .before .before .before .before .before .before .before .before .before .before .before .before .before .before .pre .1, c .before .before .before .before .before .before .before .if1 .left)
 
--- src/lib.rt:1072:15
 exp-pr-requires : (t : ℕ) → exp-lts.Need-pr-requires (
   stop-reads.Asked,
   stop-reads.Learnt,
@@ -6554,7 +6281,6 @@ exp-pr-requires : (t : ℕ) → exp-lts.Need-pr-requires (
 ) (exp-at t) exp.Post
 exp-pr-requires t c κs = omega (arith, c .before .before .before .before .before .before .before .before .before .before .before .before .before .before .pre .0, c .before .before .before .before .before .before .before .before .before .before .before .before .before .before .pre .1, c .before .before .before .before .before .before .before .if1 .left)
 
--- src/lib.rt:1073:15
 exp-ie-requires : (t : ℕ) → exp-lts.Need-ie-requires (
   stop-reads.Asked,
   stop-reads.Learnt,
@@ -6603,7 +6329,6 @@ exp-ie-requires : (t : ℕ) → exp-lts.Need-ie-requires (
 ) (exp-at t) exp.Post
 exp-ie-requires t c κs = omega (arith, c .before .before .before .before .before .before .before .before .before .before .before .before .before .before .pre .0, c .before .before .before .before .before .before .before .before .before .before .before .before .before .before .pre .1, c .before .before .before .before .before .before .before .if1 .left)
 
--- src/lib.rt:1074:15
 exp-wh-requires : (t : ℕ) → exp-lts.Need-wh-requires (
   stop-reads.Asked,
   stop-reads.Learnt,
@@ -6652,7 +6377,6 @@ exp-wh-requires : (t : ℕ) → exp-lts.Need-wh-requires (
 ) (exp-at t) exp.Post
 exp-wh-requires t c κs = omega (arith, c .before .before .before .before .before .before .before .before .before .before .before .before .before .before .pre .0, c .before .before .before .before .before .before .before .before .before .before .before .before .before .before .pre .1, c .before .before .before .before .before .before .before .if1 .left)
 
--- src/lib.rt:1075:15
 exp-ca-requires : (t : ℕ) → exp-lts.Need-ca-requires (
   stop-reads.Asked,
   stop-reads.Learnt,
@@ -6701,7 +6425,6 @@ exp-ca-requires : (t : ℕ) → exp-lts.Need-ca-requires (
 ) (exp-at t) exp.Post
 exp-ca-requires t c κs = omega (arith, c .before .before .before .before .before .before .before .before .before .before .before .before .before .before .pre .0, c .before .before .before .before .before .before .before .before .before .before .before .before .before .before .pre .1, c .before .before .before .before .before .before .before .if1 .left)
 
--- src/lib.rt:1076:15
 exp-fe-requires : (t : ℕ) → exp-lts.Need-fe-requires (
   stop-reads.Asked,
   stop-reads.Learnt,
@@ -6750,7 +6473,6 @@ exp-fe-requires : (t : ℕ) → exp-lts.Need-fe-requires (
 ) (exp-at t) exp.Post
 exp-fe-requires t c κs = omega (arith, c .before .before .before .before .before .before .before .before .before .before .before .before .before .before .pre .0, c .before .before .before .before .before .before .before .before .before .before .before .before .before .before .pre .1, c .before .before .before .before .before .before .before .if1 .left)
 
--- src/lib.rt:1077:14
 exp-stop-requires-3 : (t : ℕ) → exp-lts.Need-stop-requires-3 (
   stop-reads.Asked,
   stop-reads.Learnt,
@@ -6799,7 +6521,6 @@ exp-stop-requires-3 : (t : ℕ) → exp-lts.Need-stop-requires-3 (
 ) (exp-at t) exp.Post
 exp-stop-requires-3 t c κs = search needs
 
--- src/lib.rt:950:1
 exp-same-length : (t : ℕ) → exp-lts.Need-same-length (
   stop-reads.Asked,
   stop-reads.Learnt,
@@ -6848,7 +6569,6 @@ exp-same-length : (t : ℕ) → exp-lts.Need-same-length (
 ) (exp-at t) exp.Post
 exp-same-length t c = c .before .before .word .kept .1 .1 .0
 
--- src/lib.rt:950:1
 exp-returns-3 : (t : ℕ) → exp-lts.Need-returns-3 (
   stop-reads.Asked,
   stop-reads.Learnt,
@@ -6898,7 +6618,6 @@ exp-returns-3 : (t : ℕ) → exp-lts.Need-returns-3 (
 unfolding Exp.exps Exp.exp
 exp-returns-3 t c = record { is = exp-form _ _ (c .before .before .before .before .before .before .before .before .before .before .if1 .left) (form-key (c .before .before .before .before .before .before .before .before .before .form .ensures) (c .before .before .before .before .before .before .before .k .given .1) (c .before .before .before .before .before .match2 .keys1) (last-sure (c .before .before .word .ensures))) }
 
--- src/lib.rt:950:1
 exp-same-length-2 : (t : ℕ) → exp-lts.Need-same-length-2 (
   stop-reads.Asked,
   stop-reads.Learnt,
@@ -6947,7 +6666,6 @@ exp-same-length-2 : (t : ℕ) → exp-lts.Need-same-length-2 (
 ) (exp-at t) exp.Post
 exp-same-length-2 t c = c .before .before .word2 .kept .1 .1 .0
 
--- src/lib.rt:950:1
 exp-returns-4 : (t : ℕ) → exp-lts.Need-returns-4 (
   stop-reads.Asked,
   stop-reads.Learnt,
@@ -6997,7 +6715,6 @@ exp-returns-4 : (t : ℕ) → exp-lts.Need-returns-4 (
 unfolding Exp.exps Exp.exp
 exp-returns-4 t c = record { is = exp-form _ _ (c .before .before .before .before .before .before .before .before .before .before .if1 .left) (form-key (c .before .before .before .before .before .before .before .before .before .form .ensures) (c .before .before .before .before .before .before .before .k .given .1) (c .before .before .before .before .before .match2 .keys2) (last-sure (c .before .before .word2 .ensures))) }
 
--- src/lib.rt:950:1
 exp-same-length-3 : (t : ℕ) → exp-lts.Need-same-length-3 (
   stop-reads.Asked,
   stop-reads.Learnt,
@@ -7046,7 +6763,6 @@ exp-same-length-3 : (t : ℕ) → exp-lts.Need-same-length-3 (
 ) (exp-at t) exp.Post
 exp-same-length-3 t c = c .before .before .word3 .kept .1 .1 .0
 
--- src/lib.rt:950:1
 exp-returns-5 : (t : ℕ) → exp-lts.Need-returns-5 (
   stop-reads.Asked,
   stop-reads.Learnt,
@@ -7096,7 +6812,6 @@ exp-returns-5 : (t : ℕ) → exp-lts.Need-returns-5 (
 unfolding Exp.exps Exp.exp
 exp-returns-5 t c = record { is = exp-form _ _ (c .before .before .before .before .before .before .before .before .before .before .if1 .left) (form-key (c .before .before .before .before .before .before .before .before .before .form .ensures) (c .before .before .before .before .before .before .before .k .given .1) (c .before .before .before .before .before .match2 .keys3) (last-sure (c .before .before .word3 .ensures))) }
 
--- src/lib.rt:950:1
 exp-same-length-4 : (t : ℕ) → exp-lts.Need-same-length-4 (
   stop-reads.Asked,
   stop-reads.Learnt,
@@ -7145,7 +6860,6 @@ exp-same-length-4 : (t : ℕ) → exp-lts.Need-same-length-4 (
 ) (exp-at t) exp.Post
 exp-same-length-4 t c = c .before .before .word4 .kept .1 .1 .0
 
--- src/lib.rt:950:1
 exp-returns-6 : (t : ℕ) → exp-lts.Need-returns-6 (
   stop-reads.Asked,
   stop-reads.Learnt,
@@ -7195,7 +6909,6 @@ exp-returns-6 : (t : ℕ) → exp-lts.Need-returns-6 (
 unfolding Exp.exps Exp.exp
 exp-returns-6 t c = record { is = exp-form _ _ (c .before .before .before .before .before .before .before .before .before .before .if1 .left) (form-key (c .before .before .before .before .before .before .before .before .before .form .ensures) (c .before .before .before .before .before .before .before .k .given .1) (c .before .before .before .before .before .match2 .keys4) (last-sure (c .before .before .word4 .ensures))) }
 
--- src/lib.rt:950:1
 exp-same-length-5 : (t : ℕ) → exp-lts.Need-same-length-5 (
   stop-reads.Asked,
   stop-reads.Learnt,
@@ -7244,7 +6957,6 @@ exp-same-length-5 : (t : ℕ) → exp-lts.Need-same-length-5 (
 ) (exp-at t) exp.Post
 exp-same-length-5 t c = c .before .before .text-of .kept .1 .1 .1 .1 .1 .0
 
--- src/lib.rt:950:1
 exp-returns-7 : (t : ℕ) → exp-lts.Need-returns-7 (
   stop-reads.Asked,
   stop-reads.Learnt,
@@ -7294,7 +7006,6 @@ exp-returns-7 : (t : ℕ) → exp-lts.Need-returns-7 (
 unfolding Exp.exps Exp.exp
 exp-returns-7 t c = record { is = exp-form _ _ (c .before .before .before .before .before .before .before .before .before .before .if1 .left) (form-key (c .before .before .before .before .before .before .before .before .before .form .ensures) (c .before .before .before .before .before .before .before .k .given .1) (c .before .before .before .before .before .match2 .keys5) (plain (c .before .before .text-of .ensures))) }
 
--- src/lib.rt:950:1
 exp-same-length-6 : (t : ℕ) → exp-lts.Need-same-length-6 (
   stop-reads.Asked,
   stop-reads.Learnt,
@@ -7343,7 +7054,6 @@ exp-same-length-6 : (t : ℕ) → exp-lts.Need-same-length-6 (
 ) (exp-at t) exp.Post
 exp-same-length-6 t c = c .before .before .op-path .kept .1 .1 .1 .1 .1 .0
 
--- src/lib.rt:950:1
 exp-returns-8 : (t : ℕ) → exp-lts.Need-returns-8 (
   stop-reads.Asked,
   stop-reads.Learnt,
@@ -7393,7 +7103,6 @@ exp-returns-8 : (t : ℕ) → exp-lts.Need-returns-8 (
 unfolding Exp.exps Exp.exp
 exp-returns-8 t c = record { is = exp-form _ _ (c .before .before .before .before .before .before .before .before .before .before .if1 .left) (form-key (c .before .before .before .before .before .before .before .before .before .form .ensures) (c .before .before .before .before .before .before .before .k .given .1) (c .before .before .before .before .before .match2 .keys6) (plain (c .before .before .op-path .ensures))) }
 
--- src/lib.rt:950:1
 exp-same-length-7 : (t : ℕ) → exp-lts.Need-same-length-7 (
   stop-reads.Asked,
   stop-reads.Learnt,
@@ -7442,7 +7151,6 @@ exp-same-length-7 : (t : ℕ) → exp-lts.Need-same-length-7 (
 ) (exp-at t) exp.Post
 exp-same-length-7 t c = c .before .before .rc .kept .1 .1 .1 .1 .1 .1 .0
 
--- src/lib.rt:950:1
 exp-returns-9 : (t : ℕ) → exp-lts.Need-returns-9 (
   stop-reads.Asked,
   stop-reads.Learnt,
@@ -7492,7 +7200,6 @@ exp-returns-9 : (t : ℕ) → exp-lts.Need-returns-9 (
 unfolding Exp.exps Exp.exp
 exp-returns-9 t c = record { is = exp-form _ _ (c .before .before .before .before .before .before .before .before .before .before .if1 .left) (form-key (c .before .before .before .before .before .before .before .before .before .form .ensures) (c .before .before .before .before .before .before .before .k .given .1) (c .before .before .before .before .before .match2 .keys7) (c .before .before .rc .ensures .is)) }
 
--- src/lib.rt:950:1
 exp-same-length-8 : (t : ℕ) → exp-lts.Need-same-length-8 (
   stop-reads.Asked,
   stop-reads.Learnt,
@@ -7541,7 +7248,6 @@ exp-same-length-8 : (t : ℕ) → exp-lts.Need-same-length-8 (
 ) (exp-at t) exp.Post
 exp-same-length-8 t c = c .before .before .selector-exp .kept .1 .1 .1 .1 .1 .0
 
--- src/lib.rt:950:1
 exp-returns-10 : (t : ℕ) → exp-lts.Need-returns-10 (
   stop-reads.Asked,
   stop-reads.Learnt,
@@ -7591,7 +7297,6 @@ exp-returns-10 : (t : ℕ) → exp-lts.Need-returns-10 (
 unfolding Exp.exps Exp.exp
 exp-returns-10 t c = record { is = exp-form _ _ (c .before .before .before .before .before .before .before .before .before .before .if1 .left) (form-key (c .before .before .before .before .before .before .before .before .before .form .ensures) (c .before .before .before .before .before .before .before .k .given .1) (c .before .before .before .before .before .match2 .keys8) (plain (c .before .before .selector-exp .ensures))) }
 
--- src/lib.rt:950:1
 exp-same-length-9 : (t : ℕ) → exp-lts.Need-same-length-9 (
   stop-reads.Asked,
   stop-reads.Learnt,
@@ -7640,7 +7345,6 @@ exp-same-length-9 : (t : ℕ) → exp-lts.Need-same-length-9 (
 ) (exp-at t) exp.Post
 exp-same-length-9 t c = c .before .before .pa .kept .1 .1 .1 .1 .1 .1 .0
 
--- src/lib.rt:950:1
 exp-returns-11 : (t : ℕ) → exp-lts.Need-returns-11 (
   stop-reads.Asked,
   stop-reads.Learnt,
@@ -7690,7 +7394,6 @@ exp-returns-11 : (t : ℕ) → exp-lts.Need-returns-11 (
 unfolding Exp.exps Exp.exp
 exp-returns-11 t c = record { is = exp-form _ _ (c .before .before .before .before .before .before .before .before .before .before .if1 .left) (form-key (c .before .before .before .before .before .before .before .before .before .form .ensures) (c .before .before .before .before .before .before .before .k .given .1) (c .before .before .before .before .before .match2 .keys9) (c .before .before .pa .ensures .is)) }
 
--- src/lib.rt:950:1
 exp-same-length-10 : (t : ℕ) → exp-lts.Need-same-length-10 (
   stop-reads.Asked,
   stop-reads.Learnt,
@@ -7739,7 +7442,6 @@ exp-same-length-10 : (t : ℕ) → exp-lts.Need-same-length-10 (
 ) (exp-at t) exp.Post
 exp-same-length-10 t c = c .before .before .br .kept .1 .1 .1 .1 .1 .1 .0
 
--- src/lib.rt:950:1
 exp-returns-12 : (t : ℕ) → exp-lts.Need-returns-12 (
   stop-reads.Asked,
   stop-reads.Learnt,
@@ -7789,7 +7491,6 @@ exp-returns-12 : (t : ℕ) → exp-lts.Need-returns-12 (
 unfolding Exp.exps Exp.exp
 exp-returns-12 t c = record { is = exp-form _ _ (c .before .before .before .before .before .before .before .before .before .before .if1 .left) (form-key (c .before .before .before .before .before .before .before .before .before .form .ensures) (c .before .before .before .before .before .before .before .k .given .1) (c .before .before .before .before .before .match2 .keys10) (c .before .before .br .ensures .is)) }
 
--- src/lib.rt:950:1
 exp-same-length-11 : (t : ℕ) → exp-lts.Need-same-length-11 (
   stop-reads.Asked,
   stop-reads.Learnt,
@@ -7838,7 +7539,6 @@ exp-same-length-11 : (t : ℕ) → exp-lts.Need-same-length-11 (
 ) (exp-at t) exp.Post
 exp-same-length-11 t c = c .before .before .br2 .kept .1 .1 .1 .1 .1 .1 .0
 
--- src/lib.rt:950:1
 exp-returns-13 : (t : ℕ) → exp-lts.Need-returns-13 (
   stop-reads.Asked,
   stop-reads.Learnt,
@@ -7888,7 +7588,6 @@ exp-returns-13 : (t : ℕ) → exp-lts.Need-returns-13 (
 unfolding Exp.exps Exp.exp
 exp-returns-13 t c = record { is = exp-form _ _ (c .before .before .before .before .before .before .before .before .before .before .if1 .left) (form-key (c .before .before .before .before .before .before .before .before .before .form .ensures) (c .before .before .before .before .before .before .before .k .given .1) (c .before .before .before .before .before .match2 .keys11) (c .before .before .br2 .ensures .is)) }
 
--- src/lib.rt:950:1
 exp-same-length-12 : (t : ℕ) → exp-lts.Need-same-length-12 (
   stop-reads.Asked,
   stop-reads.Learnt,
@@ -7937,7 +7636,6 @@ exp-same-length-12 : (t : ℕ) → exp-lts.Need-same-length-12 (
 ) (exp-at t) exp.Post
 exp-same-length-12 t c = c .before .before .ve .kept .1 .1 .1 .1 .1 .1 .0
 
--- src/lib.rt:950:1
 exp-returns-14 : (t : ℕ) → exp-lts.Need-returns-14 (
   stop-reads.Asked,
   stop-reads.Learnt,
@@ -7987,7 +7685,6 @@ exp-returns-14 : (t : ℕ) → exp-lts.Need-returns-14 (
 unfolding Exp.exps Exp.exp
 exp-returns-14 t c = record { is = exp-form _ _ (c .before .before .before .before .before .before .before .before .before .before .if1 .left) (form-key (c .before .before .before .before .before .before .before .before .before .form .ensures) (c .before .before .before .before .before .before .before .k .given .1) (c .before .before .before .before .before .match2 .keys12) (c .before .before .ve .ensures .is)) }
 
--- src/lib.rt:950:1
 exp-same-length-13 : (t : ℕ) → exp-lts.Need-same-length-13 (
   stop-reads.Asked,
   stop-reads.Learnt,
@@ -8036,7 +7733,6 @@ exp-same-length-13 : (t : ℕ) → exp-lts.Need-same-length-13 (
 ) (exp-at t) exp.Post
 exp-same-length-13 t c = c .before .before .seq .kept .1 .1 .1 .1 .1 .1 .0
 
--- src/lib.rt:950:1
 exp-returns-15 : (t : ℕ) → exp-lts.Need-returns-15 (
   stop-reads.Asked,
   stop-reads.Learnt,
@@ -8086,7 +7782,6 @@ exp-returns-15 : (t : ℕ) → exp-lts.Need-returns-15 (
 unfolding Exp.exps Exp.exp
 exp-returns-15 t c = record { is = exp-form _ _ (c .before .before .before .before .before .before .before .before .before .before .if1 .left) (form-key (c .before .before .before .before .before .before .before .before .before .form .ensures) (c .before .before .before .before .before .before .before .k .given .1) (c .before .before .before .before .before .match2 .keys13) (c .before .before .seq .ensures .is)) }
 
--- src/lib.rt:950:1
 exp-same-length-14 : (t : ℕ) → exp-lts.Need-same-length-14 (
   stop-reads.Asked,
   stop-reads.Learnt,
@@ -8135,7 +7830,6 @@ exp-same-length-14 : (t : ℕ) → exp-lts.Need-same-length-14 (
 ) (exp-at t) exp.Post
 exp-same-length-14 t c = c .before .before .lx .kept .1 .1 .1 .1 .1 .1 .0
 
--- src/lib.rt:950:1
 exp-returns-16 : (t : ℕ) → exp-lts.Need-returns-16 (
   stop-reads.Asked,
   stop-reads.Learnt,
@@ -8185,7 +7879,6 @@ exp-returns-16 : (t : ℕ) → exp-lts.Need-returns-16 (
 unfolding Exp.exps Exp.exp
 exp-returns-16 t c = record { is = exp-form _ _ (c .before .before .before .before .before .before .before .before .before .before .if1 .left) (form-key (c .before .before .before .before .before .before .before .before .before .form .ensures) (c .before .before .before .before .before .before .before .k .given .1) (c .before .before .before .before .before .match2 .keys14) (c .before .before .lx .ensures .is)) }
 
--- src/lib.rt:950:1
 exp-same-length-15 : (t : ℕ) → exp-lts.Need-same-length-15 (
   stop-reads.Asked,
   stop-reads.Learnt,
@@ -8234,7 +7927,6 @@ exp-same-length-15 : (t : ℕ) → exp-lts.Need-same-length-15 (
 ) (exp-at t) exp.Post
 exp-same-length-15 t c = c .before .before .app .kept .1 .1 .1 .1 .1 .1 .0
 
--- src/lib.rt:950:1
 exp-returns-17 : (t : ℕ) → exp-lts.Need-returns-17 (
   stop-reads.Asked,
   stop-reads.Learnt,
@@ -8284,7 +7976,6 @@ exp-returns-17 : (t : ℕ) → exp-lts.Need-returns-17 (
 unfolding Exp.exps Exp.exp
 exp-returns-17 t c = record { is = exp-form _ _ (c .before .before .before .before .before .before .before .before .before .before .if1 .left) (form-key (c .before .before .before .before .before .before .before .before .before .form .ensures) (c .before .before .before .before .before .before .before .k .given .1) (c .before .before .before .before .before .match2 .keys15) (c .before .before .app .ensures .is)) }
 
--- src/lib.rt:950:1
 exp-same-length-16 : (t : ℕ) → exp-lts.Need-same-length-16 (
   stop-reads.Asked,
   stop-reads.Learnt,
@@ -8333,7 +8024,6 @@ exp-same-length-16 : (t : ℕ) → exp-lts.Need-same-length-16 (
 ) (exp-at t) exp.Post
 exp-same-length-16 t c = c .before .before .fx .kept .1 .1 .1 .1 .1 .1 .0
 
--- src/lib.rt:950:1
 exp-returns-18 : (t : ℕ) → exp-lts.Need-returns-18 (
   stop-reads.Asked,
   stop-reads.Learnt,
@@ -8383,7 +8073,6 @@ exp-returns-18 : (t : ℕ) → exp-lts.Need-returns-18 (
 unfolding Exp.exps Exp.exp
 exp-returns-18 t c = record { is = exp-form _ _ (c .before .before .before .before .before .before .before .before .before .before .if1 .left) (form-key (c .before .before .before .before .before .before .before .before .before .form .ensures) (c .before .before .before .before .before .before .before .k .given .1) (c .before .before .before .before .before .match2 .keys16) (c .before .before .fx .ensures .is)) }
 
--- src/lib.rt:950:1
 exp-same-length-17 : (t : ℕ) → exp-lts.Need-same-length-17 (
   stop-reads.Asked,
   stop-reads.Learnt,
@@ -8432,7 +8121,6 @@ exp-same-length-17 : (t : ℕ) → exp-lts.Need-same-length-17 (
 ) (exp-at t) exp.Post
 exp-same-length-17 t c = c .before .before .ty .kept .1 .1 .1 .1 .1 .1 .0
 
--- src/lib.rt:950:1
 exp-returns-19 : (t : ℕ) → exp-lts.Need-returns-19 (
   stop-reads.Asked,
   stop-reads.Learnt,
@@ -8482,7 +8170,6 @@ exp-returns-19 : (t : ℕ) → exp-lts.Need-returns-19 (
 unfolding Exp.exps Exp.exp
 exp-returns-19 t c = record { is = exp-form _ _ (c .before .before .before .before .before .before .before .before .before .before .if1 .left) (form-key (c .before .before .before .before .before .before .before .before .before .form .ensures) (c .before .before .before .before .before .before .before .k .given .1) (c .before .before .before .before .before .match2 .keys17) (c .before .before .ty .ensures .is)) }
 
--- src/lib.rt:950:1
 exp-same-length-18 : (t : ℕ) → exp-lts.Need-same-length-18 (
   stop-reads.Asked,
   stop-reads.Learnt,
@@ -8531,7 +8218,6 @@ exp-same-length-18 : (t : ℕ) → exp-lts.Need-same-length-18 (
 ) (exp-at t) exp.Post
 exp-same-length-18 t c = c .before .before .du .kept .1 .1 .1 .1 .1 .1 .0
 
--- src/lib.rt:950:1
 exp-returns-20 : (t : ℕ) → exp-lts.Need-returns-20 (
   stop-reads.Asked,
   stop-reads.Learnt,
@@ -8581,7 +8267,6 @@ exp-returns-20 : (t : ℕ) → exp-lts.Need-returns-20 (
 unfolding Exp.exps Exp.exp
 exp-returns-20 t c = record { is = exp-form _ _ (c .before .before .before .before .before .before .before .before .before .before .if1 .left) (form-key (c .before .before .before .before .before .before .before .before .before .form .ensures) (c .before .before .before .before .before .before .before .k .given .1) (c .before .before .before .before .before .match2 .keys18) (c .before .before .du .ensures .is)) }
 
--- src/lib.rt:950:1
 exp-same-length-19 : (t : ℕ) → exp-lts.Need-same-length-19 (
   stop-reads.Asked,
   stop-reads.Learnt,
@@ -8630,7 +8315,6 @@ exp-same-length-19 : (t : ℕ) → exp-lts.Need-same-length-19 (
 ) (exp-at t) exp.Post
 exp-same-length-19 t c = c .before .before .du2 .kept .1 .1 .1 .1 .1 .1 .0
 
--- src/lib.rt:950:1
 exp-returns-21 : (t : ℕ) → exp-lts.Need-returns-21 (
   stop-reads.Asked,
   stop-reads.Learnt,
@@ -8680,7 +8364,6 @@ exp-returns-21 : (t : ℕ) → exp-lts.Need-returns-21 (
 unfolding Exp.exps Exp.exp
 exp-returns-21 t c = record { is = exp-form _ _ (c .before .before .before .before .before .before .before .before .before .before .if1 .left) (form-key (c .before .before .before .before .before .before .before .before .before .form .ensures) (c .before .before .before .before .before .before .before .k .given .1) (c .before .before .before .before .before .match2 .keys19) (c .before .before .du2 .ensures .is)) }
 
--- src/lib.rt:950:1
 exp-same-length-20 : (t : ℕ) → exp-lts.Need-same-length-20 (
   stop-reads.Asked,
   stop-reads.Learnt,
@@ -8729,7 +8412,6 @@ exp-same-length-20 : (t : ℕ) → exp-lts.Need-same-length-20 (
 ) (exp-at t) exp.Post
 exp-same-length-20 t c = c .before .before .ha .kept .1 .1 .1 .1 .1 .1 .0
 
--- src/lib.rt:950:1
 exp-returns-22 : (t : ℕ) → exp-lts.Need-returns-22 (
   stop-reads.Asked,
   stop-reads.Learnt,
@@ -8779,7 +8461,6 @@ exp-returns-22 : (t : ℕ) → exp-lts.Need-returns-22 (
 unfolding Exp.exps Exp.exp
 exp-returns-22 t c = record { is = exp-form _ _ (c .before .before .before .before .before .before .before .before .before .before .if1 .left) (form-key (c .before .before .before .before .before .before .before .before .before .form .ensures) (c .before .before .before .before .before .before .before .k .given .1) (c .before .before .before .before .before .match2 .keys20) (c .before .before .ha .ensures .is)) }
 
--- src/lib.rt:950:1
 exp-same-length-21 : (t : ℕ) → exp-lts.Need-same-length-21 (
   stop-reads.Asked,
   stop-reads.Learnt,
@@ -8828,7 +8509,6 @@ exp-same-length-21 : (t : ℕ) → exp-lts.Need-same-length-21 (
 ) (exp-at t) exp.Post
 exp-same-length-21 t c = c .before .before .pr .kept .1 .1 .1 .1 .1 .1 .0
 
--- src/lib.rt:950:1
 exp-returns-23 : (t : ℕ) → exp-lts.Need-returns-23 (
   stop-reads.Asked,
   stop-reads.Learnt,
@@ -8878,7 +8558,6 @@ exp-returns-23 : (t : ℕ) → exp-lts.Need-returns-23 (
 unfolding Exp.exps Exp.exp
 exp-returns-23 t c = record { is = exp-form _ _ (c .before .before .before .before .before .before .before .before .before .before .if1 .left) (form-key (c .before .before .before .before .before .before .before .before .before .form .ensures) (c .before .before .before .before .before .before .before .k .given .1) (c .before .before .before .before .before .match2 .keys21) (c .before .before .pr .ensures .is)) }
 
--- src/lib.rt:950:1
 exp-same-length-22 : (t : ℕ) → exp-lts.Need-same-length-22 (
   stop-reads.Asked,
   stop-reads.Learnt,
@@ -8927,7 +8606,6 @@ exp-same-length-22 : (t : ℕ) → exp-lts.Need-same-length-22 (
 ) (exp-at t) exp.Post
 exp-same-length-22 t c = c .before .before .ie .kept .1 .1 .1 .1 .1 .1 .0
 
--- src/lib.rt:950:1
 exp-returns-24 : (t : ℕ) → exp-lts.Need-returns-24 (
   stop-reads.Asked,
   stop-reads.Learnt,
@@ -8977,7 +8655,6 @@ exp-returns-24 : (t : ℕ) → exp-lts.Need-returns-24 (
 unfolding Exp.exps Exp.exp
 exp-returns-24 t c = record { is = exp-form _ _ (c .before .before .before .before .before .before .before .before .before .before .if1 .left) (form-key (c .before .before .before .before .before .before .before .before .before .form .ensures) (c .before .before .before .before .before .before .before .k .given .1) (c .before .before .before .before .before .match2 .keys22) (c .before .before .ie .ensures .is)) }
 
--- src/lib.rt:950:1
 exp-same-length-23 : (t : ℕ) → exp-lts.Need-same-length-23 (
   stop-reads.Asked,
   stop-reads.Learnt,
@@ -9026,7 +8703,6 @@ exp-same-length-23 : (t : ℕ) → exp-lts.Need-same-length-23 (
 ) (exp-at t) exp.Post
 exp-same-length-23 t c = c .before .before .wh .kept .1 .1 .1 .1 .1 .1 .0
 
--- src/lib.rt:950:1
 exp-returns-25 : (t : ℕ) → exp-lts.Need-returns-25 (
   stop-reads.Asked,
   stop-reads.Learnt,
@@ -9076,7 +8752,6 @@ exp-returns-25 : (t : ℕ) → exp-lts.Need-returns-25 (
 unfolding Exp.exps Exp.exp
 exp-returns-25 t c = record { is = exp-form _ _ (c .before .before .before .before .before .before .before .before .before .before .if1 .left) (form-key (c .before .before .before .before .before .before .before .before .before .form .ensures) (c .before .before .before .before .before .before .before .k .given .1) (c .before .before .before .before .before .match2 .keys23) (c .before .before .wh .ensures .is)) }
 
--- src/lib.rt:950:1
 exp-same-length-24 : (t : ℕ) → exp-lts.Need-same-length-24 (
   stop-reads.Asked,
   stop-reads.Learnt,
@@ -9125,7 +8800,6 @@ exp-same-length-24 : (t : ℕ) → exp-lts.Need-same-length-24 (
 ) (exp-at t) exp.Post
 exp-same-length-24 t c = c .before .before .ca .kept .1 .1 .1 .1 .1 .1 .0
 
--- src/lib.rt:950:1
 exp-returns-26 : (t : ℕ) → exp-lts.Need-returns-26 (
   stop-reads.Asked,
   stop-reads.Learnt,
@@ -9175,7 +8849,6 @@ exp-returns-26 : (t : ℕ) → exp-lts.Need-returns-26 (
 unfolding Exp.exps Exp.exp
 exp-returns-26 t c = record { is = exp-form _ _ (c .before .before .before .before .before .before .before .before .before .before .if1 .left) (form-key (c .before .before .before .before .before .before .before .before .before .form .ensures) (c .before .before .before .before .before .before .before .k .given .1) (c .before .before .before .before .before .match2 .keys24) (c .before .before .ca .ensures .is)) }
 
--- src/lib.rt:950:1
 exp-same-length-25 : (t : ℕ) → exp-lts.Need-same-length-25 (
   stop-reads.Asked,
   stop-reads.Learnt,
@@ -9224,7 +8897,6 @@ exp-same-length-25 : (t : ℕ) → exp-lts.Need-same-length-25 (
 ) (exp-at t) exp.Post
 exp-same-length-25 t c = c .before .before .fe .kept .1 .1 .1 .1 .1 .1 .0
 
--- src/lib.rt:950:1
 exp-returns-27 : (t : ℕ) → exp-lts.Need-returns-27 (
   stop-reads.Asked,
   stop-reads.Learnt,
@@ -9274,7 +8946,6 @@ exp-returns-27 : (t : ℕ) → exp-lts.Need-returns-27 (
 unfolding Exp.exps Exp.exp
 exp-returns-27 t c = record { is = exp-form _ _ (c .before .before .before .before .before .before .before .before .before .before .if1 .left) (form-key (c .before .before .before .before .before .before .before .before .before .form .ensures) (c .before .before .before .before .before .before .before .k .given .1) (c .before .before .before .before .before .match2 .keys25) (c .before .before .fe .ensures .is)) }
 
--- src/lib.rt:950:1
 exp-returns-28 : (t : ℕ) → exp-lts.Need-returns-28 (
   stop-reads.Asked,
   stop-reads.Learnt,
@@ -9324,7 +8995,6 @@ exp-returns-28 : (t : ℕ) → exp-lts.Need-returns-28 (
 unfolding Exp.exps Exp.exp
 exp-returns-28 t c = record { is = exp-form _ _ (c .before .before .before .before .before .before .if1 .left) (by-same (form-is (c .before .before .before .before .before .form .ensures) (c .before .before .before .k .given .1)) (beyond (Exp.exps (walks (c .before .before .before .before .before .before .before .before .before .before .before .before .before .args .cfg .left - 1)) (cfgOf (c .before .before .before .before .before .before .before .before .before .before .before .before .before .args .cfg))) (c .before .before .before .k .given .0 .0) 25 refl (past (past (past (past (past (past (past (past (past (past (past (past (past (past (past (past (past (past (past (past (past (past (past (past (past zero-le (c .before .match2 .rest .0 .0 .0 .0 .0 .0 .0 .0 .0 .0 .0 .0 .0 .0 .0 .0 .0 .0 .0 .0 .0 .0 .0 .0 .1)) (c .before .match2 .rest .0 .0 .0 .0 .0 .0 .0 .0 .0 .0 .0 .0 .0 .0 .0 .0 .0 .0 .0 .0 .0 .0 .0 .1)) (c .before .match2 .rest .0 .0 .0 .0 .0 .0 .0 .0 .0 .0 .0 .0 .0 .0 .0 .0 .0 .0 .0 .0 .0 .0 .1)) (c .before .match2 .rest .0 .0 .0 .0 .0 .0 .0 .0 .0 .0 .0 .0 .0 .0 .0 .0 .0 .0 .0 .0 .0 .1)) (c .before .match2 .rest .0 .0 .0 .0 .0 .0 .0 .0 .0 .0 .0 .0 .0 .0 .0 .0 .0 .0 .0 .0 .1)) (c .before .match2 .rest .0 .0 .0 .0 .0 .0 .0 .0 .0 .0 .0 .0 .0 .0 .0 .0 .0 .0 .0 .1)) (c .before .match2 .rest .0 .0 .0 .0 .0 .0 .0 .0 .0 .0 .0 .0 .0 .0 .0 .0 .0 .0 .1)) (c .before .match2 .rest .0 .0 .0 .0 .0 .0 .0 .0 .0 .0 .0 .0 .0 .0 .0 .0 .0 .1)) (c .before .match2 .rest .0 .0 .0 .0 .0 .0 .0 .0 .0 .0 .0 .0 .0 .0 .0 .0 .1)) (c .before .match2 .rest .0 .0 .0 .0 .0 .0 .0 .0 .0 .0 .0 .0 .0 .0 .0 .1)) (c .before .match2 .rest .0 .0 .0 .0 .0 .0 .0 .0 .0 .0 .0 .0 .0 .0 .1)) (c .before .match2 .rest .0 .0 .0 .0 .0 .0 .0 .0 .0 .0 .0 .0 .0 .1)) (c .before .match2 .rest .0 .0 .0 .0 .0 .0 .0 .0 .0 .0 .0 .0 .1)) (c .before .match2 .rest .0 .0 .0 .0 .0 .0 .0 .0 .0 .0 .0 .1)) (c .before .match2 .rest .0 .0 .0 .0 .0 .0 .0 .0 .0 .0 .1)) (c .before .match2 .rest .0 .0 .0 .0 .0 .0 .0 .0 .0 .1)) (c .before .match2 .rest .0 .0 .0 .0 .0 .0 .0 .0 .1)) (c .before .match2 .rest .0 .0 .0 .0 .0 .0 .0 .1)) (c .before .match2 .rest .0 .0 .0 .0 .0 .0 .1)) (c .before .match2 .rest .0 .0 .0 .0 .0 .1)) (c .before .match2 .rest .0 .0 .0 .0 .1)) (c .before .match2 .rest .0 .0 .0 .1)) (c .before .match2 .rest .0 .0 .1)) (c .before .match2 .rest .0 .1)) (c .before .match2 .rest .1)) (c .stop3 .ensures))) }
 
--- src/lib.rt:1979:14
 fa-nm-requires : (t : ℕ) → fa-lts.Need-nm-requires (
   nm-below t,
   nm.Post,
@@ -9335,7 +9005,6 @@ fa-nm-requires : (t : ℕ) → fa-lts.Need-nm-requires (
 ) (fa-at t) fa.Post
 fa-nm-requires t c κs = omega (arith, c .before .before .before .before .before .before .before .before .before .pre .0, c .before .before .before .before .before .before .before .before .before .pre .1)
 
--- src/lib.rt:1992:14
 fa-da-requires : (t : ℕ) → fa-lts.Need-da-requires (
   nm-below t,
   nm.Post,
@@ -9346,7 +9015,6 @@ fa-da-requires : (t : ℕ) → fa-lts.Need-da-requires (
 ) (fa-at t) fa.Post
 fa-da-requires t c κs = omega (arith, c .before .before .before .before .before .before .before .before .before .pre .0, c .before .before .before .before .before .before .before .before .before .pre .1)
 
--- src/lib.rt:1993:14
 fa-stop-requires : (t : ℕ) → fa-lts.Need-stop-requires (
   nm-below t,
   nm.Post,
@@ -9357,7 +9025,6 @@ fa-stop-requires : (t : ℕ) → fa-lts.Need-stop-requires (
 ) (fa-at t) fa.Post
 fa-stop-requires t c κs = search needs
 
--- src/lib.rt:1962:1
 fa-same-length : (t : ℕ) → fa-lts.Need-same-length (
   nm-below t,
   nm.Post,
@@ -9368,7 +9035,6 @@ fa-same-length : (t : ℕ) → fa-lts.Need-same-length (
 ) (fa-at t) fa.Post
 fa-same-length t c = c .before .before .nm .kept .1 .1 .1 .1 .1 .1 .0
 
--- src/lib.rt:1962:1
 fa-returns : (t : ℕ) → fa-lts.Need-returns (
   nm-below t,
   nm.Post,
@@ -9380,7 +9046,6 @@ fa-returns : (t : ℕ) → fa-lts.Need-returns (
 unfolding DecOne.functor-arg
 fa-returns t c = record { is = at-key (λ i. DecOne.functor-arg (walks (c .before .before .before .before .before .before .before .before .before .before .before .before .args .cfg .left)) (cfgOf (c .before .before .before .before .before .before .before .before .before .before .before .before .args .cfg)) i) (c .before .before .before .before .before .match .keys1) (c .before .before .nm .ensures .is) }
 
--- src/lib.rt:1962:1
 fa-same-length-2 : (t : ℕ) → fa-lts.Need-same-length-2 (
   nm-below t,
   nm.Post,
@@ -9391,7 +9056,6 @@ fa-same-length-2 : (t : ℕ) → fa-lts.Need-same-length-2 (
 ) (fa-at t) fa.Post
 fa-same-length-2 t c = c .before .before .da .kept .1 .1 .1 .1 .1 .1 .0
 
--- src/lib.rt:1962:1
 fa-returns-2 : (t : ℕ) → fa-lts.Need-returns-2 (
   nm-below t,
   nm.Post,
@@ -9403,7 +9067,6 @@ fa-returns-2 : (t : ℕ) → fa-lts.Need-returns-2 (
 unfolding DecOne.functor-arg
 fa-returns-2 t c = record { is = at-key (λ i. DecOne.functor-arg (walks (c .before .before .before .before .before .before .before .before .before .before .before .before .args .cfg .left)) (cfgOf (c .before .before .before .before .before .before .before .before .before .before .before .before .args .cfg)) i) (c .before .before .before .before .before .match .keys2) (c .before .before .da .ensures .is) }
 
--- src/lib.rt:1962:1
 fa-returns-3 : (t : ℕ) → fa-lts.Need-returns-3 (
   nm-below t,
   nm.Post,
@@ -9422,7 +9085,6 @@ fb-Inv-loop run text rec kinds starts lens out₀ mem₀ at cfg r1 s1 n s2 s₀ 
 abbrev fb-μ-loop : fb-lts.MeasureT-loop
 fb-μ-loop run text rec kinds starts lens out₀ mem₀ at cfg r1 s1 n s2 s₀ i₀ out mem s i = n - i
 
--- src/lib.rt:1450:9
 fb-group-requires : (t : ℕ) → fb-lts.Need-group-requires (
   group-reads.Asked,
   group-reads.Learnt,
@@ -9441,7 +9103,6 @@ fb-group-requires : (t : ℕ) → fb-lts.Need-group-requires (
 ) (fb-at t) fb.Post fb-Inv-loop fb-μ-loop
 fb-group-requires t c κs = search needs
 
--- src/lib.rt:1451:28
 fb-told-requires : (t : ℕ) → fb-lts.Need-told-requires (
   group-reads.Asked,
   group-reads.Learnt,
@@ -9460,7 +9121,6 @@ fb-told-requires : (t : ℕ) → fb-lts.Need-told-requires (
 ) (fb-at t) fb.Post fb-Inv-loop fb-μ-loop
 fb-told-requires t c κs = search needs
 
--- src/lib.rt:1451:22
 fb-enum-known-s1 : (t : ℕ) → fb-lts.Need-enum-known-s1 (
   group-reads.Asked,
   group-reads.Learnt,
@@ -9479,7 +9139,6 @@ fb-enum-known-s1 : (t : ℕ) → fb-lts.Need-enum-known-s1 (
 ) (fb-at t) fb.Post fb-Inv-loop fb-μ-loop
 fb-enum-known-s1 t c = search needs
 
--- src/lib.rt:1452:9
 fb-enum-told : (t : ℕ) → fb-lts.Need-enum-told (
   group-reads.Asked,
   group-reads.Learnt,
@@ -9498,7 +9157,6 @@ fb-enum-told : (t : ℕ) → fb-lts.Need-enum-told (
 ) (fb-at t) fb.Post fb-Inv-loop fb-μ-loop
 fb-enum-told t c = search needs
 
--- src/lib.rt:1452:9
 fb-returns : (t : ℕ) → fb-lts.Need-returns (
   group-reads.Asked,
   group-reads.Learnt,
@@ -9518,7 +9176,6 @@ fb-returns : (t : ℕ) → fb-lts.Need-returns (
 unfolding DecOne.fun-bind Helpers.indent-deeper Helpers.deepen Helpers.sep-with-lines
 fb-returns t c = record { is = group-not (c .before .before .before .group .ensures) (c .before .before .told .ensures) (c .enum-told .given .1) }
 
--- src/lib.rt:1454:5
 fb-deepen-requires : (t : ℕ) → fb-lts.Need-deepen-requires (
   group-reads.Asked,
   group-reads.Learnt,
@@ -9537,7 +9194,6 @@ fb-deepen-requires : (t : ℕ) → fb-lts.Need-deepen-requires (
 ) (fb-at t) fb.Post fb-Inv-loop fb-μ-loop
 fb-deepen-requires t c κs = omega (arith, c .before .before .before .before .before .before .before .before .before .before .before .before .pre .1)
 
--- src/lib.rt:1455:27
 fb-list-requires : (t : ℕ) → fb-lts.Need-list-requires (
   group-reads.Asked,
   group-reads.Learnt,
@@ -9556,7 +9212,6 @@ fb-list-requires : (t : ℕ) → fb-lts.Need-list-requires (
 ) (fb-at t) fb.Post fb-Inv-loop fb-μ-loop
 fb-list-requires t c κs = search needs
 
--- src/lib.rt:1455:18
 fb-enum-known-n : (t : ℕ) → fb-lts.Need-enum-known-n (
   group-reads.Asked,
   group-reads.Learnt,
@@ -9575,7 +9230,6 @@ fb-enum-known-n : (t : ℕ) → fb-lts.Need-enum-known-n (
 ) (fb-at t) fb.Post fb-Inv-loop fb-μ-loop
 fb-enum-known-n t c = search needs
 
--- src/lib.rt:1456:9
 fb-enum-told-2 : (t : ℕ) → fb-lts.Need-enum-told-2 (
   group-reads.Asked,
   group-reads.Learnt,
@@ -9594,7 +9248,6 @@ fb-enum-told-2 : (t : ℕ) → fb-lts.Need-enum-told-2 (
 ) (fb-at t) fb.Post fb-Inv-loop fb-μ-loop
 fb-enum-told-2 t c = search needs
 
--- src/lib.rt:1456:9
 fb-stop-requires : (t : ℕ) → fb-lts.Need-stop-requires (
   group-reads.Asked,
   group-reads.Learnt,
@@ -9613,7 +9266,6 @@ fb-stop-requires : (t : ℕ) → fb-lts.Need-stop-requires (
 ) (fb-at t) fb.Post fb-Inv-loop fb-μ-loop
 fb-stop-requires t c κs = search needs
 
--- src/lib.rt:1456:9
 fb-returns-2 : (t : ℕ) → fb-lts.Need-returns-2 (
   group-reads.Asked,
   group-reads.Learnt,
@@ -9633,7 +9285,6 @@ fb-returns-2 : (t : ℕ) → fb-lts.Need-returns-2 (
 unfolding DecOne.fun-bind Helpers.indent-deeper Helpers.deepen Helpers.sep-with-lines
 fb-returns-2 t c = record { is = by-same (group-is (c .before .before .before .before .before .before .before .before .before .before .group .ensures) (c .before .before .before .before .before .before .before .before .before .told .ensures) (c .before .before .before .before .before .before .before .s1 .given .1)) (then-sure (sure-formed (c .before .before .before .before .deepen .ensures)) (list-not (c .stop .ensures) (c .before .before .before .list .ensures) (c .before .enum-told2 .given .1))) }
 
--- src/lib.rt:1460:5
 fb-loop-holds : (t : ℕ) → fb-lts.Need-loop-holds (
   group-reads.Asked,
   group-reads.Learnt,
@@ -9652,7 +9303,6 @@ fb-loop-holds : (t : ℕ) → fb-lts.Need-loop-holds (
 ) (fb-at t) fb.Post fb-Inv-loop fb-μ-loop
 fb-loop-holds t c = (omega arith, λ r m o h. h, refl)
 
--- src/lib.rt:1461:9
 fb-new-line-in-requires : (t : ℕ) → fb-lts.Need-new-line-in-requires (
   group-reads.Asked,
   group-reads.Learnt,
@@ -9671,7 +9321,6 @@ fb-new-line-in-requires : (t : ℕ) → fb-lts.Need-new-line-in-requires (
 ) (fb-at t) fb.Post fb-Inv-loop fb-μ-loop
 fb-new-line-in-requires t c κs = omega (arith, c .before .before .before .before .before .before .before .before .before .before .before .before .before .before .before .before .before .before .before .before .before .pre .1)
 
--- src/lib.rt:1462:13
 fb-fc-requires : (t : ℕ) → fb-lts.Need-fc-requires (
   group-reads.Asked,
   group-reads.Learnt,
@@ -9690,7 +9339,6 @@ fb-fc-requires : (t : ℕ) → fb-lts.Need-fc-requires (
 ) (fb-at t) fb.Post fb-Inv-loop fb-μ-loop
 fb-fc-requires t c κs = omega (arith, c .before .before .before .before .before .before .before .before .before .before .before .before .before .before .before .before .before .before .before .before .before .before .before .before .before .before .pre .0, c .before .before .before .before .before .before .before .before .before .before .before .before .before .before .before .before .before .before .before .before .before .before .before .before .before .before .pre .1)
 
--- src/lib.rt:1463:32
 fb-told-requires-2 : (t : ℕ) → fb-lts.Need-told-requires-2 (
   group-reads.Asked,
   group-reads.Learnt,
@@ -9709,7 +9357,6 @@ fb-told-requires-2 : (t : ℕ) → fb-lts.Need-told-requires-2 (
 ) (fb-at t) fb.Post fb-Inv-loop fb-μ-loop
 fb-told-requires-2 t c κs = search needs
 
--- src/lib.rt:1463:26
 fb-enum-known-s3 : (t : ℕ) → fb-lts.Need-enum-known-s3 (
   group-reads.Asked,
   group-reads.Learnt,
@@ -9728,7 +9375,6 @@ fb-enum-known-s3 : (t : ℕ) → fb-lts.Need-enum-known-s3 (
 ) (fb-at t) fb.Post fb-Inv-loop fb-μ-loop
 fb-enum-known-s3 t c = search needs
 
--- src/lib.rt:1464:13
 fb-enum-told-3 : (t : ℕ) → fb-lts.Need-enum-told-3 (
   group-reads.Asked,
   group-reads.Learnt,
@@ -9747,7 +9393,6 @@ fb-enum-told-3 : (t : ℕ) → fb-lts.Need-enum-told-3 (
 ) (fb-at t) fb.Post fb-Inv-loop fb-μ-loop
 fb-enum-told-3 t c = search needs
 
--- src/lib.rt:1464:13
 fb-same-length : (t : ℕ) → fb-lts.Need-same-length (
   group-reads.Asked,
   group-reads.Learnt,
@@ -9766,7 +9411,6 @@ fb-same-length : (t : ℕ) → fb-lts.Need-same-length (
 ) (fb-at t) fb.Post fb-Inv-loop fb-μ-loop
 fb-same-length t c = c .before .before .before .before .before .fc .kept .1 .1 .1 .1 .1 .1 .0 ∙ c .before .before .before .before .before .before .before .before .before .before .new-line-in .kept .1 .1 .0 ∙ c .before .before .before .before .before .before .before .before .before .before .before .before .before .before .loop .inv .2
 
--- src/lib.rt:1464:13
 fb-returns-3 : (t : ℕ) → fb-lts.Need-returns-3 (
   group-reads.Asked,
   group-reads.Learnt,
@@ -9786,7 +9430,6 @@ fb-returns-3 : (t : ℕ) → fb-lts.Need-returns-3 (
 unfolding DecOne.fun-bind Helpers.indent-deeper Helpers.deepen Helpers.sep-with-lines
 fb-returns-3 t c = record { is = by-same (group-is (c .before .before .before .before .before .before .before .before .before .before .before .before .before .before .before .before .before .before .before .before .before .before .before .before .before .group .ensures) (c .before .before .before .before .before .before .before .before .before .before .before .before .before .before .before .before .before .before .before .before .before .before .before .before .told .ensures) (c .before .before .before .before .before .before .before .before .before .before .before .before .before .before .before .before .before .before .before .before .before .before .s1 .given .1)) (then-sure (sure-formed (c .before .before .before .before .before .before .before .before .before .before .before .before .before .before .before .before .before .before .before .deepen .ensures)) (by-same (list-is (c .before .before .before .before .before .before .before .before .before .before .before .before .before .before .before .before .before .before .list .ensures) (c .before .before .before .before .before .before .before .before .before .before .before .before .before .before .before .before .n .given .1)) (by-same (items-all _ _ _) (c .before .before .before .before .before .before .before .before .before .before .before .before .before .before .loop .inv .1 _ _ _ (from-more _ _ (c .before .before .before .before .before .before .before .before .before .before .before .before .before .loop-test .taken) (then-sure (c .before .before .before .before .before .before .before .before .before .before .new-line-in .ensures) (then-stop (c .before .before .before .before .before .fc .ensures .is) (c .before .before .told2 .ensures) (c .enum-told3 .given .1)))))))) }
 
--- src/lib.rt:1467:9
 fb-add-i : (t : ℕ) → fb-lts.Need-add-i (
   group-reads.Asked,
   group-reads.Learnt,
@@ -9805,7 +9448,6 @@ fb-add-i : (t : ℕ) → fb-lts.Need-add-i (
 ) (fb-at t) fb.Post fb-Inv-loop fb-μ-loop
 fb-add-i t c = omega (arith, c .before .before .before .before .before .before .before .before .before .before .before .before .before .before .loop-test .taken, c .before .before .before .before .before .before .before .before .before .before .before .before .before .before .before .before .known-told2)
 
--- src/lib.rt:1460:5
 fb-loop-less : (t : ℕ) → fb-lts.Need-loop-less (
   group-reads.Asked,
   group-reads.Learnt,
@@ -9824,7 +9466,6 @@ fb-loop-less : (t : ℕ) → fb-lts.Need-loop-less (
 ) (fb-at t) fb.Post fb-Inv-loop fb-μ-loop
 fb-loop-less t c = omega arith
 
--- src/lib.rt:1460:5
 fb-loop-again : (t : ℕ) → fb-lts.Need-loop-again (
   group-reads.Asked,
   group-reads.Learnt,
@@ -9844,7 +9485,6 @@ fb-loop-again : (t : ℕ) → fb-lts.Need-loop-again (
 unfolding DecOne.fun-bind Helpers.indent-deeper Helpers.deepen Helpers.sep-with-lines
 fb-loop-again t c = (omega (arith, c .before .before .before .before .before .before .before .before .before .before .before .before .before .before .before .loop .inv .0), λ r m o h. c .before .before .before .before .before .before .before .before .before .before .before .before .before .before .before .loop .inv .1 r m o (from-more _ _ (c .before .before .before .before .before .before .before .before .before .before .before .before .before .before .loop-test .taken) (then-sure (c .before .before .before .before .before .before .before .before .before .before .before .new-line-in .ensures) (then-done (c .before .before .before .before .before .before .fc .ensures .is) (c .before .before .before .told2 .ensures) (c .before .s3 .given .1) h))), c .before .before .before .before .before .before .fc .kept .1 .1 .1 .1 .1 .1 .0 ∙ c .before .before .before .before .before .before .before .before .before .before .before .new-line-in .kept .1 .1 .0 ∙ c .before .before .before .before .before .before .before .before .before .before .before .before .before .before .before .loop .inv .2)
 
--- src/lib.rt:1435:1
 fb-same-length-2 : (t : ℕ) → fb-lts.Need-same-length-2 (
   group-reads.Asked,
   group-reads.Learnt,
@@ -9863,7 +9503,6 @@ fb-same-length-2 : (t : ℕ) → fb-lts.Need-same-length-2 (
 ) (fb-at t) fb.Post fb-Inv-loop fb-μ-loop
 fb-same-length-2 t c = c .before .loop .inv .2
 
--- src/lib.rt:1435:1
 fb-returns-4 : (t : ℕ) → fb-lts.Need-returns-4 (
   group-reads.Asked,
   group-reads.Learnt,
@@ -9883,7 +9522,6 @@ fb-returns-4 : (t : ℕ) → fb-lts.Need-returns-4 (
 unfolding DecOne.fun-bind Helpers.indent-deeper Helpers.deepen Helpers.sep-with-lines
 fb-returns-4 t c = record { is = by-same (group-is (c .before .before .before .before .before .before .before .before .before .before .before .before .group .ensures) (c .before .before .before .before .before .before .before .before .before .before .before .told .ensures) (c .before .before .before .before .before .before .before .before .before .s1 .given .1)) (then-sure (sure-formed (c .before .before .before .before .before .before .deepen .ensures)) (by-same (list-is (c .before .before .before .before .before .list .ensures) (c .before .before .before .n .given .1)) (by-same (items-all _ _ _) (c .before .loop .inv .1 _ _ _ (from-none _ _ (c .loop-test .left)))))) }
 
--- src/lib.rt:1488:9
 fc-group-requires : (t : ℕ) → fc-lts.Need-group-requires (
   group-reads.Asked,
   group-reads.Learnt,
@@ -9900,7 +9538,6 @@ fc-group-requires : (t : ℕ) → fc-lts.Need-group-requires (
 ) (fc-at t) fc.Post
 fc-group-requires t c κs = search needs
 
--- src/lib.rt:1489:28
 fc-told-requires : (t : ℕ) → fc-lts.Need-told-requires (
   group-reads.Asked,
   group-reads.Learnt,
@@ -9917,7 +9554,6 @@ fc-told-requires : (t : ℕ) → fc-lts.Need-told-requires (
 ) (fc-at t) fc.Post
 fc-told-requires t c κs = search needs
 
--- src/lib.rt:1489:22
 fc-enum-known-s1 : (t : ℕ) → fc-lts.Need-enum-known-s1 (
   group-reads.Asked,
   group-reads.Learnt,
@@ -9934,7 +9570,6 @@ fc-enum-known-s1 : (t : ℕ) → fc-lts.Need-enum-known-s1 (
 ) (fc-at t) fc.Post
 fc-enum-known-s1 t c = search needs
 
--- src/lib.rt:1490:9
 fc-enum-told : (t : ℕ) → fc-lts.Need-enum-told (
   group-reads.Asked,
   group-reads.Learnt,
@@ -9951,7 +9586,6 @@ fc-enum-told : (t : ℕ) → fc-lts.Need-enum-told (
 ) (fc-at t) fc.Post
 fc-enum-told t c = search needs
 
--- src/lib.rt:1490:9
 fc-returns : (t : ℕ) → fc-lts.Need-returns (
   group-reads.Asked,
   group-reads.Learnt,
@@ -9969,7 +9603,6 @@ fc-returns : (t : ℕ) → fc-lts.Need-returns (
 unfolding DecOne.fun-bind-case
 fc-returns t c = record { is = group-not (c .before .before .before .group .ensures) (c .before .before .told .ensures) (c .enum-told .given .1) }
 
--- src/lib.rt:1492:9
 fc-case-head-requires : (t : ℕ) → fc-lts.Need-case-head-requires (
   group-reads.Asked,
   group-reads.Learnt,
@@ -9986,7 +9619,6 @@ fc-case-head-requires : (t : ℕ) → fc-lts.Need-case-head-requires (
 ) (fc-at t) fc.Post
 fc-case-head-requires t c κs = search needs
 
--- src/lib.rt:1493:28
 fc-told-requires-2 : (t : ℕ) → fc-lts.Need-told-requires-2 (
   group-reads.Asked,
   group-reads.Learnt,
@@ -10003,7 +9635,6 @@ fc-told-requires-2 : (t : ℕ) → fc-lts.Need-told-requires-2 (
 ) (fc-at t) fc.Post
 fc-told-requires-2 t c κs = search needs
 
--- src/lib.rt:1493:22
 fc-enum-known-s2 : (t : ℕ) → fc-lts.Need-enum-known-s2 (
   group-reads.Asked,
   group-reads.Learnt,
@@ -10020,7 +9651,6 @@ fc-enum-known-s2 : (t : ℕ) → fc-lts.Need-enum-known-s2 (
 ) (fc-at t) fc.Post
 fc-enum-known-s2 t c = search needs
 
--- src/lib.rt:1494:9
 fc-enum-told-2 : (t : ℕ) → fc-lts.Need-enum-told-2 (
   group-reads.Asked,
   group-reads.Learnt,
@@ -10037,7 +9667,6 @@ fc-enum-told-2 : (t : ℕ) → fc-lts.Need-enum-told-2 (
 ) (fc-at t) fc.Post
 fc-enum-told-2 t c = search needs
 
--- src/lib.rt:1494:9
 fc-same-length : (t : ℕ) → fc-lts.Need-same-length (
   group-reads.Asked,
   group-reads.Learnt,
@@ -10054,7 +9683,6 @@ fc-same-length : (t : ℕ) → fc-lts.Need-same-length (
 ) (fc-at t) fc.Post
 fc-same-length t c = c .before .before .before .before .before .case-head .kept .1 .1 .1 .1 .1 .0
 
--- src/lib.rt:1494:9
 fc-returns-2 : (t : ℕ) → fc-lts.Need-returns-2 (
   group-reads.Asked,
   group-reads.Learnt,
@@ -10072,7 +9700,6 @@ fc-returns-2 : (t : ℕ) → fc-lts.Need-returns-2 (
 unfolding DecOne.fun-bind-case
 fc-returns-2 t c = record { is = by-same (group-is (c .before .before .before .before .before .before .before .before .before .before .before .before .group .ensures) (c .before .before .before .before .before .before .before .before .before .before .before .told .ensures) (c .before .before .before .before .before .before .before .before .before .s1 .given .1)) (then-stop (plain (c .before .before .before .before .before .case-head .ensures)) (c .before .before .told2 .ensures) (c .enum-told2 .given .1)) }
 
--- src/lib.rt:1496:9
 fc-case-pats-requires : (t : ℕ) → fc-lts.Need-case-pats-requires (
   group-reads.Asked,
   group-reads.Learnt,
@@ -10089,7 +9716,6 @@ fc-case-pats-requires : (t : ℕ) → fc-lts.Need-case-pats-requires (
 ) (fc-at t) fc.Post
 fc-case-pats-requires t c κs = search needs
 
--- src/lib.rt:1497:28
 fc-told-requires-3 : (t : ℕ) → fc-lts.Need-told-requires-3 (
   group-reads.Asked,
   group-reads.Learnt,
@@ -10106,7 +9732,6 @@ fc-told-requires-3 : (t : ℕ) → fc-lts.Need-told-requires-3 (
 ) (fc-at t) fc.Post
 fc-told-requires-3 t c κs = search needs
 
--- src/lib.rt:1497:22
 fc-enum-known-s3 : (t : ℕ) → fc-lts.Need-enum-known-s3 (
   group-reads.Asked,
   group-reads.Learnt,
@@ -10123,7 +9748,6 @@ fc-enum-known-s3 : (t : ℕ) → fc-lts.Need-enum-known-s3 (
 ) (fc-at t) fc.Post
 fc-enum-known-s3 t c = search needs
 
--- src/lib.rt:1498:9
 fc-enum-told-3 : (t : ℕ) → fc-lts.Need-enum-told-3 (
   group-reads.Asked,
   group-reads.Learnt,
@@ -10140,7 +9764,6 @@ fc-enum-told-3 : (t : ℕ) → fc-lts.Need-enum-told-3 (
 ) (fc-at t) fc.Post
 fc-enum-told-3 t c = search needs
 
--- src/lib.rt:1498:9
 fc-same-length-2 : (t : ℕ) → fc-lts.Need-same-length-2 (
   group-reads.Asked,
   group-reads.Learnt,
@@ -10157,7 +9780,6 @@ fc-same-length-2 : (t : ℕ) → fc-lts.Need-same-length-2 (
 ) (fc-at t) fc.Post
 fc-same-length-2 t c = c .before .before .before .before .before .case-pats .kept .1 .1 .1 .1 .1 .0 ∙ c .before .before .before .before .before .before .before .before .before .before .before .before .before .before .case-head .kept .1 .1 .1 .1 .1 .0
 
--- src/lib.rt:1498:9
 fc-returns-3 : (t : ℕ) → fc-lts.Need-returns-3 (
   group-reads.Asked,
   group-reads.Learnt,
@@ -10175,7 +9797,6 @@ fc-returns-3 : (t : ℕ) → fc-lts.Need-returns-3 (
 unfolding DecOne.fun-bind-case
 fc-returns-3 t c = record { is = by-same (group-is (c .before .before .before .before .before .before .before .before .before .before .before .before .before .before .before .before .before .before .before .before .before .group .ensures) (c .before .before .before .before .before .before .before .before .before .before .before .before .before .before .before .before .before .before .before .before .told .ensures) (c .before .before .before .before .before .before .before .before .before .before .before .before .before .before .before .before .before .before .s1 .given .1)) (then-done (plain (c .before .before .before .before .before .before .before .before .before .before .before .before .before .before .case-head .ensures)) (c .before .before .before .before .before .before .before .before .before .before .before .told2 .ensures) (c .before .before .before .before .before .before .before .before .before .s2 .given .1) (then-stop (plain (c .before .before .before .before .before .case-pats .ensures)) (c .before .before .told3 .ensures) (c .enum-told3 .given .1))) }
 
--- src/lib.rt:1500:9
 fc-ty-annotation-requires : (t : ℕ) → fc-lts.Need-ty-annotation-requires (
   group-reads.Asked,
   group-reads.Learnt,
@@ -10192,7 +9813,6 @@ fc-ty-annotation-requires : (t : ℕ) → fc-lts.Need-ty-annotation-requires (
 ) (fc-at t) fc.Post
 fc-ty-annotation-requires t c κs = search needs
 
--- src/lib.rt:1501:28
 fc-told-requires-4 : (t : ℕ) → fc-lts.Need-told-requires-4 (
   group-reads.Asked,
   group-reads.Learnt,
@@ -10209,7 +9829,6 @@ fc-told-requires-4 : (t : ℕ) → fc-lts.Need-told-requires-4 (
 ) (fc-at t) fc.Post
 fc-told-requires-4 t c κs = search needs
 
--- src/lib.rt:1501:22
 fc-enum-known-s4 : (t : ℕ) → fc-lts.Need-enum-known-s4 (
   group-reads.Asked,
   group-reads.Learnt,
@@ -10226,7 +9845,6 @@ fc-enum-known-s4 : (t : ℕ) → fc-lts.Need-enum-known-s4 (
 ) (fc-at t) fc.Post
 fc-enum-known-s4 t c = search needs
 
--- src/lib.rt:1502:9
 fc-enum-told-4 : (t : ℕ) → fc-lts.Need-enum-told-4 (
   group-reads.Asked,
   group-reads.Learnt,
@@ -10243,7 +9861,6 @@ fc-enum-told-4 : (t : ℕ) → fc-lts.Need-enum-told-4 (
 ) (fc-at t) fc.Post
 fc-enum-told-4 t c = search needs
 
--- src/lib.rt:1502:9
 fc-same-length-3 : (t : ℕ) → fc-lts.Need-same-length-3 (
   group-reads.Asked,
   group-reads.Learnt,
@@ -10260,7 +9877,6 @@ fc-same-length-3 : (t : ℕ) → fc-lts.Need-same-length-3 (
 ) (fc-at t) fc.Post
 fc-same-length-3 t c = c .before .before .before .before .before .ty-annotation .kept .1 .1 .1 .1 .1 .0 ∙ c .before .before .before .before .before .before .before .before .before .before .before .before .before .before .case-pats .kept .1 .1 .1 .1 .1 .0 ∙ c .before .before .before .before .before .before .before .before .before .before .before .before .before .before .before .before .before .before .before .before .before .before .before .case-head .kept .1 .1 .1 .1 .1 .0
 
--- src/lib.rt:1502:9
 fc-returns-4 : (t : ℕ) → fc-lts.Need-returns-4 (
   group-reads.Asked,
   group-reads.Learnt,
@@ -10278,7 +9894,6 @@ fc-returns-4 : (t : ℕ) → fc-lts.Need-returns-4 (
 unfolding DecOne.fun-bind-case
 fc-returns-4 t c = record { is = by-same (group-is (c .before .before .before .before .before .before .before .before .before .before .before .before .before .before .before .before .before .before .before .before .before .before .before .before .before .before .before .before .before .before .group .ensures) (c .before .before .before .before .before .before .before .before .before .before .before .before .before .before .before .before .before .before .before .before .before .before .before .before .before .before .before .before .before .told .ensures) (c .before .before .before .before .before .before .before .before .before .before .before .before .before .before .before .before .before .before .before .before .before .before .before .before .before .before .before .s1 .given .1)) (then-done (plain (c .before .before .before .before .before .before .before .before .before .before .before .before .before .before .before .before .before .before .before .before .before .before .before .case-head .ensures)) (c .before .before .before .before .before .before .before .before .before .before .before .before .before .before .before .before .before .before .before .before .told2 .ensures) (c .before .before .before .before .before .before .before .before .before .before .before .before .before .before .before .before .before .before .s2 .given .1) (then-done (plain (c .before .before .before .before .before .before .before .before .before .before .before .before .before .before .case-pats .ensures)) (c .before .before .before .before .before .before .before .before .before .before .before .told3 .ensures) (c .before .before .before .before .before .before .before .before .before .s3 .given .1) (then-stop (plain (c .before .before .before .before .before .ty-annotation .ensures)) (c .before .before .told4 .ensures) (c .enum-told4 .given .1)))) }
 
--- src/lib.rt:1504:5
 fc-qb-requires : (t : ℕ) → fc-lts.Need-qb-requires (
   group-reads.Asked,
   group-reads.Learnt,
@@ -10295,7 +9910,6 @@ fc-qb-requires : (t : ℕ) → fc-lts.Need-qb-requires (
 ) (fc-at t) fc.Post
 fc-qb-requires t c κs = omega (arith, c .before .before .before .before .before .before .before .before .before .before .before .before .before .before .before .before .before .before .before .before .before .before .before .before .before .before .before .before .before .before .before .before .before .before .before .before .before .before .before .before .pre .0, c .before .before .before .before .before .before .before .before .before .before .before .before .before .before .before .before .before .before .before .before .before .before .before .before .before .before .before .before .before .before .before .before .before .before .before .before .before .before .before .before .pre .1)
 
--- src/lib.rt:1473:1
 fc-same-length-4 : (t : ℕ) → fc-lts.Need-same-length-4 (
   group-reads.Asked,
   group-reads.Learnt,
@@ -10312,7 +9926,6 @@ fc-same-length-4 : (t : ℕ) → fc-lts.Need-same-length-4 (
 ) (fc-at t) fc.Post
 fc-same-length-4 t c = c .before .before .qb .kept .1 .1 .1 .1 .1 .1 .0 ∙ c .before .before .before .before .before .before .before .before .before .before .before .ty-annotation .kept .1 .1 .1 .1 .1 .0 ∙ c .before .before .before .before .before .before .before .before .before .before .before .before .before .before .before .before .before .before .before .before .case-pats .kept .1 .1 .1 .1 .1 .0 ∙ c .before .before .before .before .before .before .before .before .before .before .before .before .before .before .before .before .before .before .before .before .before .before .before .before .before .before .before .before .before .case-head .kept .1 .1 .1 .1 .1 .0
 
--- src/lib.rt:1473:1
 fc-returns-5 : (t : ℕ) → fc-lts.Need-returns-5 (
   group-reads.Asked,
   group-reads.Learnt,
@@ -10337,7 +9950,6 @@ fd-Inv-loop run text rec kinds starts lens out₀ mem₀ at cfg r1 s1 n s2 s₀ 
 abbrev fd-μ-loop : fd-lts.MeasureT-loop
 fd-μ-loop run text rec kinds starts lens out₀ mem₀ at cfg r1 s1 n s2 s₀ i₀ out mem s i = n - i
 
--- src/lib.rt:1412:5
 fd-word-requires : (t : ℕ) → fd-lts.Need-word-requires (
   word-reads.Asked,
   word-reads.Learnt,
@@ -10356,7 +9968,6 @@ fd-word-requires : (t : ℕ) → fd-lts.Need-word-requires (
 ) (fd-at t) fd.Post fd-Inv-loop fd-μ-loop
 fd-word-requires t c κs = search needs
 
--- src/lib.rt:1413:9
 fd-ty-var-seq-requires : (t : ℕ) → fd-lts.Need-ty-var-seq-requires (
   word-reads.Asked,
   word-reads.Learnt,
@@ -10375,7 +9986,6 @@ fd-ty-var-seq-requires : (t : ℕ) → fd-lts.Need-ty-var-seq-requires (
 ) (fd-at t) fd.Post fd-Inv-loop fd-μ-loop
 fd-ty-var-seq-requires t c κs = search needs
 
--- src/lib.rt:1414:28
 fd-told-requires : (t : ℕ) → fd-lts.Need-told-requires (
   word-reads.Asked,
   word-reads.Learnt,
@@ -10394,7 +10004,6 @@ fd-told-requires : (t : ℕ) → fd-lts.Need-told-requires (
 ) (fd-at t) fd.Post fd-Inv-loop fd-μ-loop
 fd-told-requires t c κs = search needs
 
--- src/lib.rt:1414:22
 fd-enum-known-s1 : (t : ℕ) → fd-lts.Need-enum-known-s1 (
   word-reads.Asked,
   word-reads.Learnt,
@@ -10413,7 +10022,6 @@ fd-enum-known-s1 : (t : ℕ) → fd-lts.Need-enum-known-s1 (
 ) (fd-at t) fd.Post fd-Inv-loop fd-μ-loop
 fd-enum-known-s1 t c = search needs
 
--- src/lib.rt:1415:9
 fd-enum-told : (t : ℕ) → fd-lts.Need-enum-told (
   word-reads.Asked,
   word-reads.Learnt,
@@ -10432,7 +10040,6 @@ fd-enum-told : (t : ℕ) → fd-lts.Need-enum-told (
 ) (fd-at t) fd.Post fd-Inv-loop fd-μ-loop
 fd-enum-told t c = search needs
 
--- src/lib.rt:1415:9
 fd-same-length : (t : ℕ) → fd-lts.Need-same-length (
   word-reads.Asked,
   word-reads.Learnt,
@@ -10451,7 +10058,6 @@ fd-same-length : (t : ℕ) → fd-lts.Need-same-length (
 ) (fd-at t) fd.Post fd-Inv-loop fd-μ-loop
 fd-same-length t c = c .before .before .before .before .before .ty-var-seq .kept .1 .1 .1 .1 .1 .0 ∙ c .before .before .before .before .before .before .before .before .before .before .word .kept .1 .1 .0
 
--- src/lib.rt:1415:9
 fd-returns : (t : ℕ) → fd-lts.Need-returns (
   word-reads.Asked,
   word-reads.Learnt,
@@ -10471,7 +10077,6 @@ fd-returns : (t : ℕ) → fd-lts.Need-returns (
 unfolding DecOne.dec-one Helpers.sep-with-lines
 fd-returns t c = record { is = then-sure (c .before .before .before .before .before .before .before .before .before .before .word .ensures) (then-stop (plain (c .before .before .before .before .before .ty-var-seq .ensures)) (c .before .before .told .ensures) (c .enum-told .given .1)) }
 
--- src/lib.rt:1417:27
 fd-list-requires : (t : ℕ) → fd-lts.Need-list-requires (
   word-reads.Asked,
   word-reads.Learnt,
@@ -10490,7 +10095,6 @@ fd-list-requires : (t : ℕ) → fd-lts.Need-list-requires (
 ) (fd-at t) fd.Post fd-Inv-loop fd-μ-loop
 fd-list-requires t c κs = search needs
 
--- src/lib.rt:1417:18
 fd-enum-known-n : (t : ℕ) → fd-lts.Need-enum-known-n (
   word-reads.Asked,
   word-reads.Learnt,
@@ -10509,7 +10113,6 @@ fd-enum-known-n : (t : ℕ) → fd-lts.Need-enum-known-n (
 ) (fd-at t) fd.Post fd-Inv-loop fd-μ-loop
 fd-enum-known-n t c = search needs
 
--- src/lib.rt:1418:9
 fd-enum-told-2 : (t : ℕ) → fd-lts.Need-enum-told-2 (
   word-reads.Asked,
   word-reads.Learnt,
@@ -10528,7 +10131,6 @@ fd-enum-told-2 : (t : ℕ) → fd-lts.Need-enum-told-2 (
 ) (fd-at t) fd.Post fd-Inv-loop fd-μ-loop
 fd-enum-told-2 t c = search needs
 
--- src/lib.rt:1418:9
 fd-stop-requires : (t : ℕ) → fd-lts.Need-stop-requires (
   word-reads.Asked,
   word-reads.Learnt,
@@ -10547,7 +10149,6 @@ fd-stop-requires : (t : ℕ) → fd-lts.Need-stop-requires (
 ) (fd-at t) fd.Post fd-Inv-loop fd-μ-loop
 fd-stop-requires t c κs = search needs
 
--- src/lib.rt:1418:9
 fd-same-length-2 : (t : ℕ) → fd-lts.Need-same-length-2 (
   word-reads.Asked,
   word-reads.Learnt,
@@ -10566,7 +10167,6 @@ fd-same-length-2 : (t : ℕ) → fd-lts.Need-same-length-2 (
 ) (fd-at t) fd.Post fd-Inv-loop fd-μ-loop
 fd-same-length-2 t c = c .before .before .before .before .before .before .before .before .before .before .ty-var-seq .kept .1 .1 .1 .1 .1 .0 ∙ c .before .before .before .before .before .before .before .before .before .before .before .before .before .before .before .word .kept .1 .1 .0
 
--- src/lib.rt:1418:9
 fd-returns-2 : (t : ℕ) → fd-lts.Need-returns-2 (
   word-reads.Asked,
   word-reads.Learnt,
@@ -10586,7 +10186,6 @@ fd-returns-2 : (t : ℕ) → fd-lts.Need-returns-2 (
 unfolding DecOne.dec-one Helpers.sep-with-lines
 fd-returns-2 t c = record { is = then-sure (c .before .before .before .before .before .before .before .before .before .before .before .before .before .before .before .word .ensures) (then-done (plain (c .before .before .before .before .before .before .before .before .before .before .ty-var-seq .ensures)) (c .before .before .before .before .before .before .before .told .ensures) (c .before .before .before .before .before .s1 .given .1) (list-not (c .stop .ensures) (c .before .before .before .list .ensures) (c .before .enum-told2 .given .1))) }
 
--- src/lib.rt:1422:5
 fd-loop-holds : (t : ℕ) → fd-lts.Need-loop-holds (
   word-reads.Asked,
   word-reads.Learnt,
@@ -10605,7 +10204,6 @@ fd-loop-holds : (t : ℕ) → fd-lts.Need-loop-holds (
 ) (fd-at t) fd.Post fd-Inv-loop fd-μ-loop
 fd-loop-holds t c = (omega arith, λ r m o h. h, refl)
 
--- src/lib.rt:1423:9
 fd-new-line-requires : (t : ℕ) → fd-lts.Need-new-line-requires (
   word-reads.Asked,
   word-reads.Learnt,
@@ -10624,7 +10222,6 @@ fd-new-line-requires : (t : ℕ) → fd-lts.Need-new-line-requires (
 ) (fd-at t) fd.Post fd-Inv-loop fd-μ-loop
 fd-new-line-requires t c κs = search needs
 
--- src/lib.rt:1424:13
 fd-fb-requires : (t : ℕ) → fd-lts.Need-fb-requires (
   word-reads.Asked,
   word-reads.Learnt,
@@ -10643,7 +10240,6 @@ fd-fb-requires : (t : ℕ) → fd-lts.Need-fb-requires (
 ) (fd-at t) fd.Post fd-Inv-loop fd-μ-loop
 fd-fb-requires t c κs = omega (arith, c .before .before .before .before .before .before .before .before .before .before .before .before .before .before .before .before .before .before .before .before .before .before .before .before .before .before .before .before .before .before .before .before .before .pre .0, c .before .before .before .before .before .before .before .before .before .before .before .before .before .before .before .before .before .before .before .before .before .before .before .before .before .before .before .before .before .before .before .before .before .pre .1)
 
--- src/lib.rt:1425:32
 fd-told-requires-2 : (t : ℕ) → fd-lts.Need-told-requires-2 (
   word-reads.Asked,
   word-reads.Learnt,
@@ -10662,7 +10258,6 @@ fd-told-requires-2 : (t : ℕ) → fd-lts.Need-told-requires-2 (
 ) (fd-at t) fd.Post fd-Inv-loop fd-μ-loop
 fd-told-requires-2 t c κs = search needs
 
--- src/lib.rt:1425:26
 fd-enum-known-s3 : (t : ℕ) → fd-lts.Need-enum-known-s3 (
   word-reads.Asked,
   word-reads.Learnt,
@@ -10681,7 +10276,6 @@ fd-enum-known-s3 : (t : ℕ) → fd-lts.Need-enum-known-s3 (
 ) (fd-at t) fd.Post fd-Inv-loop fd-μ-loop
 fd-enum-known-s3 t c = search needs
 
--- src/lib.rt:1426:13
 fd-enum-told-3 : (t : ℕ) → fd-lts.Need-enum-told-3 (
   word-reads.Asked,
   word-reads.Learnt,
@@ -10700,7 +10294,6 @@ fd-enum-told-3 : (t : ℕ) → fd-lts.Need-enum-told-3 (
 ) (fd-at t) fd.Post fd-Inv-loop fd-μ-loop
 fd-enum-told-3 t c = search needs
 
--- src/lib.rt:1426:13
 fd-same-length-3 : (t : ℕ) → fd-lts.Need-same-length-3 (
   word-reads.Asked,
   word-reads.Learnt,
@@ -10719,7 +10312,6 @@ fd-same-length-3 : (t : ℕ) → fd-lts.Need-same-length-3 (
 ) (fd-at t) fd.Post fd-Inv-loop fd-μ-loop
 fd-same-length-3 t c = c .before .before .before .before .before .fb .kept .1 .1 .1 .1 .1 .1 .0 ∙ c .before .before .before .before .before .before .before .before .before .before .new-line .kept .1 .1 .0 ∙ c .before .before .before .before .before .before .before .before .before .before .before .before .before .before .loop .inv .2 ∙ c .before .before .before .before .before .before .before .before .before .before .before .before .before .before .before .before .before .before .before .before .before .before .before .before .before .ty-var-seq .kept .1 .1 .1 .1 .1 .0 ∙ c .before .before .before .before .before .before .before .before .before .before .before .before .before .before .before .before .before .before .before .before .before .before .before .before .before .before .before .before .before .before .word .kept .1 .1 .0
 
--- src/lib.rt:1426:13
 fd-returns-3 : (t : ℕ) → fd-lts.Need-returns-3 (
   word-reads.Asked,
   word-reads.Learnt,
@@ -10739,7 +10331,6 @@ fd-returns-3 : (t : ℕ) → fd-lts.Need-returns-3 (
 unfolding DecOne.dec-one Helpers.sep-with-lines
 fd-returns-3 t c = record { is = then-sure (c .before .before .before .before .before .before .before .before .before .before .before .before .before .before .before .before .before .before .before .before .before .before .before .before .before .before .before .before .before .before .word .ensures) (then-done (plain (c .before .before .before .before .before .before .before .before .before .before .before .before .before .before .before .before .before .before .before .before .before .before .before .before .before .ty-var-seq .ensures)) (c .before .before .before .before .before .before .before .before .before .before .before .before .before .before .before .before .before .before .before .before .before .before .told .ensures) (c .before .before .before .before .before .before .before .before .before .before .before .before .before .before .before .before .before .before .before .before .s1 .given .1) (by-same (list-is (c .before .before .before .before .before .before .before .before .before .before .before .before .before .before .before .before .before .before .list .ensures) (c .before .before .before .before .before .before .before .before .before .before .before .before .before .before .before .before .n .given .1)) (by-same (items-all _ _ _) (c .before .before .before .before .before .before .before .before .before .before .before .before .before .before .loop .inv .1 _ _ _ (from-more _ _ (c .before .before .before .before .before .before .before .before .before .before .before .before .before .loop-test .taken) (then-sure (c .before .before .before .before .before .before .before .before .before .before .new-line .ensures) (then-stop (c .before .before .before .before .before .fb .ensures .is) (c .before .before .told2 .ensures) (c .enum-told3 .given .1)))))))) }
 
--- src/lib.rt:1429:9
 fd-add-i : (t : ℕ) → fd-lts.Need-add-i (
   word-reads.Asked,
   word-reads.Learnt,
@@ -10758,7 +10349,6 @@ fd-add-i : (t : ℕ) → fd-lts.Need-add-i (
 ) (fd-at t) fd.Post fd-Inv-loop fd-μ-loop
 fd-add-i t c = omega (arith, c .before .before .before .before .before .before .before .before .before .before .before .before .before .before .loop-test .taken, c .before .before .before .before .before .before .before .before .before .before .before .before .before .before .before .before .known-told2)
 
--- src/lib.rt:1422:5
 fd-loop-less : (t : ℕ) → fd-lts.Need-loop-less (
   word-reads.Asked,
   word-reads.Learnt,
@@ -10777,7 +10367,6 @@ fd-loop-less : (t : ℕ) → fd-lts.Need-loop-less (
 ) (fd-at t) fd.Post fd-Inv-loop fd-μ-loop
 fd-loop-less t c = omega arith
 
--- src/lib.rt:1422:5
 fd-loop-again : (t : ℕ) → fd-lts.Need-loop-again (
   word-reads.Asked,
   word-reads.Learnt,
@@ -10797,7 +10386,6 @@ fd-loop-again : (t : ℕ) → fd-lts.Need-loop-again (
 unfolding DecOne.dec-one Helpers.sep-with-lines
 fd-loop-again t c = (omega (arith, c .before .before .before .before .before .before .before .before .before .before .before .before .before .before .before .loop .inv .0), λ r m o h. c .before .before .before .before .before .before .before .before .before .before .before .before .before .before .before .loop .inv .1 r m o (from-more _ _ (c .before .before .before .before .before .before .before .before .before .before .before .before .before .before .loop-test .taken) (then-sure (c .before .before .before .before .before .before .before .before .before .before .before .new-line .ensures) (then-done (c .before .before .before .before .before .before .fb .ensures .is) (c .before .before .before .told2 .ensures) (c .before .s3 .given .1) h))), c .before .before .before .before .before .before .fb .kept .1 .1 .1 .1 .1 .1 .0 ∙ c .before .before .before .before .before .before .before .before .before .before .before .new-line .kept .1 .1 .0 ∙ c .before .before .before .before .before .before .before .before .before .before .before .before .before .before .before .loop .inv .2)
 
--- src/lib.rt:1397:1
 fd-same-length-4 : (t : ℕ) → fd-lts.Need-same-length-4 (
   word-reads.Asked,
   word-reads.Learnt,
@@ -10816,7 +10404,6 @@ fd-same-length-4 : (t : ℕ) → fd-lts.Need-same-length-4 (
 ) (fd-at t) fd.Post fd-Inv-loop fd-μ-loop
 fd-same-length-4 t c = c .before .loop .inv .2 ∙ c .before .before .before .before .before .before .before .before .before .before .before .before .ty-var-seq .kept .1 .1 .1 .1 .1 .0 ∙ c .before .before .before .before .before .before .before .before .before .before .before .before .before .before .before .before .before .word .kept .1 .1 .0
 
--- src/lib.rt:1397:1
 fd-returns-4 : (t : ℕ) → fd-lts.Need-returns-4 (
   word-reads.Asked,
   word-reads.Learnt,
@@ -10843,7 +10430,6 @@ fe-Inv-loop run text rec kinds starts lens out₀ mem₀ at cfg r1 s1 n s2 s₀ 
 abbrev fe-μ-loop : fe-lts.MeasureT-loop
 fe-μ-loop run text rec kinds starts lens out₀ mem₀ at cfg r1 s1 n s2 s₀ i₀ out mem s i = n - i
 
--- src/lib.rt:927:5
 fe-word-requires : (t : ℕ) → fe-lts.Need-word-requires (
   word-reads.Asked,
   word-reads.Learnt,
@@ -10862,7 +10448,6 @@ fe-word-requires : (t : ℕ) → fe-lts.Need-word-requires (
 ) (fe-at t) fe.Post fe-Inv-loop fe-μ-loop
 fe-word-requires t c κs = search needs
 
--- src/lib.rt:928:9
 fe-group-requires : (t : ℕ) → fe-lts.Need-group-requires (
   word-reads.Asked,
   word-reads.Learnt,
@@ -10881,7 +10466,6 @@ fe-group-requires : (t : ℕ) → fe-lts.Need-group-requires (
 ) (fe-at t) fe.Post fe-Inv-loop fe-μ-loop
 fe-group-requires t c κs = search needs
 
--- src/lib.rt:929:28
 fe-told-requires : (t : ℕ) → fe-lts.Need-told-requires (
   word-reads.Asked,
   word-reads.Learnt,
@@ -10900,7 +10484,6 @@ fe-told-requires : (t : ℕ) → fe-lts.Need-told-requires (
 ) (fe-at t) fe.Post fe-Inv-loop fe-μ-loop
 fe-told-requires t c κs = search needs
 
--- src/lib.rt:929:22
 fe-enum-known-s1 : (t : ℕ) → fe-lts.Need-enum-known-s1 (
   word-reads.Asked,
   word-reads.Learnt,
@@ -10919,7 +10502,6 @@ fe-enum-known-s1 : (t : ℕ) → fe-lts.Need-enum-known-s1 (
 ) (fe-at t) fe.Post fe-Inv-loop fe-μ-loop
 fe-enum-known-s1 t c = search needs
 
--- src/lib.rt:930:9
 fe-enum-told : (t : ℕ) → fe-lts.Need-enum-told (
   word-reads.Asked,
   word-reads.Learnt,
@@ -10938,7 +10520,6 @@ fe-enum-told : (t : ℕ) → fe-lts.Need-enum-told (
 ) (fe-at t) fe.Post fe-Inv-loop fe-μ-loop
 fe-enum-told t c = search needs
 
--- src/lib.rt:930:9
 fe-same-length : (t : ℕ) → fe-lts.Need-same-length (
   word-reads.Asked,
   word-reads.Learnt,
@@ -10957,7 +10538,6 @@ fe-same-length : (t : ℕ) → fe-lts.Need-same-length (
 ) (fe-at t) fe.Post fe-Inv-loop fe-μ-loop
 fe-same-length t c = c .before .before .before .before .before .before .word .kept .1 .1 .0
 
--- src/lib.rt:930:9
 fe-returns : (t : ℕ) → fe-lts.Need-returns (
   word-reads.Asked,
   word-reads.Learnt,
@@ -10977,7 +10557,6 @@ fe-returns : (t : ℕ) → fe-lts.Need-returns (
 unfolding Exp.exp Exp.fn-arms Helpers.sep
 fe-returns t c = record { is = then-sure (c .before .before .before .before .before .before .word .ensures) (group-not (c .before .before .before .group .ensures) (c .before .before .told .ensures) (c .enum-told .given .1)) }
 
--- src/lib.rt:932:27
 fe-list-requires : (t : ℕ) → fe-lts.Need-list-requires (
   word-reads.Asked,
   word-reads.Learnt,
@@ -10996,7 +10575,6 @@ fe-list-requires : (t : ℕ) → fe-lts.Need-list-requires (
 ) (fe-at t) fe.Post fe-Inv-loop fe-μ-loop
 fe-list-requires t c κs = search needs
 
--- src/lib.rt:932:18
 fe-enum-known-n : (t : ℕ) → fe-lts.Need-enum-known-n (
   word-reads.Asked,
   word-reads.Learnt,
@@ -11015,7 +10593,6 @@ fe-enum-known-n : (t : ℕ) → fe-lts.Need-enum-known-n (
 ) (fe-at t) fe.Post fe-Inv-loop fe-μ-loop
 fe-enum-known-n t c = search needs
 
--- src/lib.rt:933:9
 fe-enum-told-2 : (t : ℕ) → fe-lts.Need-enum-told-2 (
   word-reads.Asked,
   word-reads.Learnt,
@@ -11034,7 +10611,6 @@ fe-enum-told-2 : (t : ℕ) → fe-lts.Need-enum-told-2 (
 ) (fe-at t) fe.Post fe-Inv-loop fe-μ-loop
 fe-enum-told-2 t c = search needs
 
--- src/lib.rt:933:9
 fe-stop-requires : (t : ℕ) → fe-lts.Need-stop-requires (
   word-reads.Asked,
   word-reads.Learnt,
@@ -11053,7 +10629,6 @@ fe-stop-requires : (t : ℕ) → fe-lts.Need-stop-requires (
 ) (fe-at t) fe.Post fe-Inv-loop fe-μ-loop
 fe-stop-requires t c κs = search needs
 
--- src/lib.rt:933:9
 fe-same-length-2 : (t : ℕ) → fe-lts.Need-same-length-2 (
   word-reads.Asked,
   word-reads.Learnt,
@@ -11072,7 +10647,6 @@ fe-same-length-2 : (t : ℕ) → fe-lts.Need-same-length-2 (
 ) (fe-at t) fe.Post fe-Inv-loop fe-μ-loop
 fe-same-length-2 t c = c .before .before .before .before .before .before .before .before .before .before .before .word .kept .1 .1 .0
 
--- src/lib.rt:933:9
 fe-returns-2 : (t : ℕ) → fe-lts.Need-returns-2 (
   word-reads.Asked,
   word-reads.Learnt,
@@ -11092,7 +10666,6 @@ fe-returns-2 : (t : ℕ) → fe-lts.Need-returns-2 (
 unfolding Exp.exp Exp.fn-arms Helpers.sep
 fe-returns-2 t c = record { is = then-sure (c .before .before .before .before .before .before .before .before .before .before .before .word .ensures) (by-same (group-is (c .before .before .before .before .before .before .before .before .group .ensures) (c .before .before .before .before .before .before .before .told .ensures) (c .before .before .before .before .before .s1 .given .1)) (list-not (c .stop .ensures) (c .before .before .before .list .ensures) (c .before .enum-told2 .given .1))) }
 
--- src/lib.rt:937:5
 fe-loop-holds : (t : ℕ) → fe-lts.Need-loop-holds (
   word-reads.Asked,
   word-reads.Learnt,
@@ -11111,7 +10684,6 @@ fe-loop-holds : (t : ℕ) → fe-lts.Need-loop-holds (
 ) (fe-at t) fe.Post fe-Inv-loop fe-μ-loop
 fe-loop-holds t c = (omega arith, λ r m o h. h, refl)
 
--- src/lib.rt:938:9
 fe-between-requires : (t : ℕ) → fe-lts.Need-between-requires (
   word-reads.Asked,
   word-reads.Learnt,
@@ -11130,7 +10702,6 @@ fe-between-requires : (t : ℕ) → fe-lts.Need-between-requires (
 ) (fe-at t) fe.Post fe-Inv-loop fe-μ-loop
 fe-between-requires t c κs = search needs
 
--- src/lib.rt:939:13
 fe-arm-requires : (t : ℕ) → fe-lts.Need-arm-requires (
   word-reads.Asked,
   word-reads.Learnt,
@@ -11149,7 +10720,6 @@ fe-arm-requires : (t : ℕ) → fe-lts.Need-arm-requires (
 ) (fe-at t) fe.Post fe-Inv-loop fe-μ-loop
 fe-arm-requires t c κs = omega (arith, c .before .before .before .before .before .before .before .before .before .before .before .before .before .before .before .before .before .before .before .before .before .before .before .before .before .before .before .before .before .pre .0, c .before .before .before .before .before .before .before .before .before .before .before .before .before .before .before .before .before .before .before .before .before .before .before .before .before .before .before .before .before .pre .1)
 
--- src/lib.rt:940:32
 fe-told-requires-2 : (t : ℕ) → fe-lts.Need-told-requires-2 (
   word-reads.Asked,
   word-reads.Learnt,
@@ -11168,7 +10738,6 @@ fe-told-requires-2 : (t : ℕ) → fe-lts.Need-told-requires-2 (
 ) (fe-at t) fe.Post fe-Inv-loop fe-μ-loop
 fe-told-requires-2 t c κs = search needs
 
--- src/lib.rt:940:26
 fe-enum-known-s3 : (t : ℕ) → fe-lts.Need-enum-known-s3 (
   word-reads.Asked,
   word-reads.Learnt,
@@ -11187,7 +10756,6 @@ fe-enum-known-s3 : (t : ℕ) → fe-lts.Need-enum-known-s3 (
 ) (fe-at t) fe.Post fe-Inv-loop fe-μ-loop
 fe-enum-known-s3 t c = search needs
 
--- src/lib.rt:941:13
 fe-enum-told-3 : (t : ℕ) → fe-lts.Need-enum-told-3 (
   word-reads.Asked,
   word-reads.Learnt,
@@ -11206,7 +10774,6 @@ fe-enum-told-3 : (t : ℕ) → fe-lts.Need-enum-told-3 (
 ) (fe-at t) fe.Post fe-Inv-loop fe-μ-loop
 fe-enum-told-3 t c = search needs
 
--- src/lib.rt:941:13
 fe-same-length-3 : (t : ℕ) → fe-lts.Need-same-length-3 (
   word-reads.Asked,
   word-reads.Learnt,
@@ -11225,7 +10792,6 @@ fe-same-length-3 : (t : ℕ) → fe-lts.Need-same-length-3 (
 ) (fe-at t) fe.Post fe-Inv-loop fe-μ-loop
 fe-same-length-3 t c = c .before .before .before .before .before .arm .kept .1 .1 .1 .1 .1 .1 .0 ∙ c .before .before .before .before .before .before .before .before .before .before .between .kept .1 .1 .0 ∙ c .before .before .before .before .before .before .before .before .before .before .before .before .before .before .loop .inv .2 ∙ c .before .before .before .before .before .before .before .before .before .before .before .before .before .before .before .before .before .before .before .before .before .before .before .before .before .before .word .kept .1 .1 .0
 
--- src/lib.rt:941:13
 fe-returns-3 : (t : ℕ) → fe-lts.Need-returns-3 (
   word-reads.Asked,
   word-reads.Learnt,
@@ -11245,7 +10811,6 @@ fe-returns-3 : (t : ℕ) → fe-lts.Need-returns-3 (
 unfolding Exp.exp Exp.fn-arms Helpers.sep
 fe-returns-3 t c = record { is = then-sure (c .before .before .before .before .before .before .before .before .before .before .before .before .before .before .before .before .before .before .before .before .before .before .before .before .before .before .word .ensures) (by-same (group-is (c .before .before .before .before .before .before .before .before .before .before .before .before .before .before .before .before .before .before .before .before .before .before .before .group .ensures) (c .before .before .before .before .before .before .before .before .before .before .before .before .before .before .before .before .before .before .before .before .before .before .told .ensures) (c .before .before .before .before .before .before .before .before .before .before .before .before .before .before .before .before .before .before .before .before .s1 .given .1)) (by-same (list-is (c .before .before .before .before .before .before .before .before .before .before .before .before .before .before .before .before .before .before .list .ensures) (c .before .before .before .before .before .before .before .before .before .before .before .before .before .before .before .before .n .given .1)) (by-same (items-all _ _ _) (c .before .before .before .before .before .before .before .before .before .before .before .before .before .before .loop .inv .1 _ _ _ (from-more _ _ (c .before .before .before .before .before .before .before .before .before .before .before .before .before .loop-test .taken) (then-sure (c .before .before .before .before .before .before .before .before .before .before .between .ensures) (then-stop (c .before .before .before .before .before .arm .ensures .is) (c .before .before .told2 .ensures) (c .enum-told3 .given .1)))))))) }
 
--- src/lib.rt:944:9
 fe-add-i : (t : ℕ) → fe-lts.Need-add-i (
   word-reads.Asked,
   word-reads.Learnt,
@@ -11264,7 +10829,6 @@ fe-add-i : (t : ℕ) → fe-lts.Need-add-i (
 ) (fe-at t) fe.Post fe-Inv-loop fe-μ-loop
 fe-add-i t c = omega (arith, c .before .before .before .before .before .before .before .before .before .before .before .before .before .before .loop-test .taken, c .before .before .before .before .before .before .before .before .before .before .before .before .before .before .before .before .known-told2)
 
--- src/lib.rt:937:5
 fe-loop-less : (t : ℕ) → fe-lts.Need-loop-less (
   word-reads.Asked,
   word-reads.Learnt,
@@ -11283,7 +10847,6 @@ fe-loop-less : (t : ℕ) → fe-lts.Need-loop-less (
 ) (fe-at t) fe.Post fe-Inv-loop fe-μ-loop
 fe-loop-less t c = omega arith
 
--- src/lib.rt:937:5
 fe-loop-again : (t : ℕ) → fe-lts.Need-loop-again (
   word-reads.Asked,
   word-reads.Learnt,
@@ -11303,7 +10866,6 @@ fe-loop-again : (t : ℕ) → fe-lts.Need-loop-again (
 unfolding Exp.exp Exp.fn-arms Helpers.sep
 fe-loop-again t c = (omega (arith, c .before .before .before .before .before .before .before .before .before .before .before .before .before .before .before .loop .inv .0), λ r m o h. c .before .before .before .before .before .before .before .before .before .before .before .before .before .before .before .loop .inv .1 r m o (from-more _ _ (c .before .before .before .before .before .before .before .before .before .before .before .before .before .before .loop-test .taken) (then-sure (c .before .before .before .before .before .before .before .before .before .before .before .between .ensures) (then-done (c .before .before .before .before .before .before .arm .ensures .is) (c .before .before .before .told2 .ensures) (c .before .s3 .given .1) h))), c .before .before .before .before .before .before .arm .kept .1 .1 .1 .1 .1 .1 .0 ∙ c .before .before .before .before .before .before .before .before .before .before .before .between .kept .1 .1 .0 ∙ c .before .before .before .before .before .before .before .before .before .before .before .before .before .before .before .loop .inv .2)
 
--- src/lib.rt:912:1
 fe-same-length-4 : (t : ℕ) → fe-lts.Need-same-length-4 (
   word-reads.Asked,
   word-reads.Learnt,
@@ -11322,7 +10884,6 @@ fe-same-length-4 : (t : ℕ) → fe-lts.Need-same-length-4 (
 ) (fe-at t) fe.Post fe-Inv-loop fe-μ-loop
 fe-same-length-4 t c = c .before .loop .inv .2 ∙ c .before .before .before .before .before .before .before .before .before .before .before .before .before .word .kept .1 .1 .0
 
--- src/lib.rt:912:1
 fe-returns-4 : (t : ℕ) → fe-lts.Need-returns-4 (
   word-reads.Asked,
   word-reads.Learnt,
@@ -11349,7 +10910,6 @@ fs-Inv-loop run text rec kinds starts lens out₀ mem₀ at cfg n s0 s₀ i₀ o
 abbrev fs-μ-loop : fs-lts.MeasureT-loop
 fs-μ-loop run text rec kinds starts lens out₀ mem₀ at cfg n s0 s₀ i₀ out mem s i = n - i
 
--- src/lib.rt:1942:27
 fs-list-requires : (t : ℕ) → fs-lts.Need-list-requires (
   list-reads.Asked,
   list-reads.Learnt,
@@ -11364,7 +10924,6 @@ fs-list-requires : (t : ℕ) → fs-lts.Need-list-requires (
 ) (fs-at t) fs.Post fs-Inv-loop fs-μ-loop
 fs-list-requires t c κs = search needs
 
--- src/lib.rt:1942:18
 fs-enum-known-n : (t : ℕ) → fs-lts.Need-enum-known-n (
   list-reads.Asked,
   list-reads.Learnt,
@@ -11379,7 +10938,6 @@ fs-enum-known-n : (t : ℕ) → fs-lts.Need-enum-known-n (
 ) (fs-at t) fs.Post fs-Inv-loop fs-μ-loop
 fs-enum-known-n t c = search needs
 
--- src/lib.rt:1943:9
 fs-enum-told : (t : ℕ) → fs-lts.Need-enum-told (
   list-reads.Asked,
   list-reads.Learnt,
@@ -11394,7 +10952,6 @@ fs-enum-told : (t : ℕ) → fs-lts.Need-enum-told (
 ) (fs-at t) fs.Post fs-Inv-loop fs-μ-loop
 fs-enum-told t c = search needs
 
--- src/lib.rt:1943:9
 fs-stop-requires : (t : ℕ) → fs-lts.Need-stop-requires (
   list-reads.Asked,
   list-reads.Learnt,
@@ -11409,7 +10966,6 @@ fs-stop-requires : (t : ℕ) → fs-lts.Need-stop-requires (
 ) (fs-at t) fs.Post fs-Inv-loop fs-μ-loop
 fs-stop-requires t c κs = search needs
 
--- src/lib.rt:1943:9
 fs-returns : (t : ℕ) → fs-lts.Need-returns (
   list-reads.Asked,
   list-reads.Learnt,
@@ -11425,7 +10981,6 @@ fs-returns : (t : ℕ) → fs-lts.Need-returns (
 unfolding DecOne.functor-args Helpers.for-each
 fs-returns t c = record { is = list-not (c .stop .ensures) (c .before .before .before .list .ensures) (c .before .enum-told .given .1) }
 
--- src/lib.rt:1947:5
 fs-loop-holds : (t : ℕ) → fs-lts.Need-loop-holds (
   list-reads.Asked,
   list-reads.Learnt,
@@ -11440,7 +10995,6 @@ fs-loop-holds : (t : ℕ) → fs-lts.Need-loop-holds (
 ) (fs-at t) fs.Post fs-Inv-loop fs-μ-loop
 fs-loop-holds t c = (omega arith, λ r m o h. h, refl)
 
--- src/lib.rt:1948:31
 fs-choice-requires : (t : ℕ) → fs-lts.Need-choice-requires (
   list-reads.Asked,
   list-reads.Learnt,
@@ -11455,7 +11009,6 @@ fs-choice-requires : (t : ℕ) → fs-lts.Need-choice-requires (
 ) (fs-at t) fs.Post fs-Inv-loop fs-μ-loop
 fs-choice-requires t c κs = search needs
 
--- src/lib.rt:1948:22
 fs-enum-known-k : (t : ℕ) → fs-lts.Need-enum-known-k (
   list-reads.Asked,
   list-reads.Learnt,
@@ -11470,7 +11023,6 @@ fs-enum-known-k : (t : ℕ) → fs-lts.Need-enum-known-k (
 ) (fs-at t) fs.Post fs-Inv-loop fs-μ-loop
 fs-enum-known-k t c = search needs
 
--- src/lib.rt:1949:13
 fs-enum-told-2 : (t : ℕ) → fs-lts.Need-enum-told-2 (
   list-reads.Asked,
   list-reads.Learnt,
@@ -11485,7 +11037,6 @@ fs-enum-told-2 : (t : ℕ) → fs-lts.Need-enum-told-2 (
 ) (fs-at t) fs.Post fs-Inv-loop fs-μ-loop
 fs-enum-told-2 t c = search needs
 
--- src/lib.rt:1949:13
 fs-stop-requires-2 : (t : ℕ) → fs-lts.Need-stop-requires-2 (
   list-reads.Asked,
   list-reads.Learnt,
@@ -11500,7 +11051,6 @@ fs-stop-requires-2 : (t : ℕ) → fs-lts.Need-stop-requires-2 (
 ) (fs-at t) fs.Post fs-Inv-loop fs-μ-loop
 fs-stop-requires-2 t c κs = search needs
 
--- src/lib.rt:1949:13
 fs-same-length : (t : ℕ) → fs-lts.Need-same-length (
   list-reads.Asked,
   list-reads.Learnt,
@@ -11515,7 +11065,6 @@ fs-same-length : (t : ℕ) → fs-lts.Need-same-length (
 ) (fs-at t) fs.Post fs-Inv-loop fs-μ-loop
 fs-same-length t c = c .before .before .before .before .before .loop .inv .2
 
--- src/lib.rt:1949:13
 fs-returns-2 : (t : ℕ) → fs-lts.Need-returns-2 (
   list-reads.Asked,
   list-reads.Learnt,
@@ -11531,7 +11080,6 @@ fs-returns-2 : (t : ℕ) → fs-lts.Need-returns-2 (
 unfolding DecOne.functor-args Helpers.for-each
 fs-returns-2 t c = record { is = by-same (list-is (c .before .before .before .before .before .before .before .before .before .list .ensures) (c .before .before .before .before .before .before .before .n .given .1)) (by-same (times-all _ _) (c .before .before .before .before .before .loop .inv .1 _ _ _ (times-more _ (c .before .before .before .before .loop-test .taken) (then-halt (choice-not (c .stop2 .ensures) (c .before .before .before .choice .ensures) (c .before .enum-told2 .given .1)) (c .stop2 .ensures))))) }
 
--- src/lib.rt:1951:13
 fs-fa-requires : (t : ℕ) → fs-lts.Need-fa-requires (
   list-reads.Asked,
   list-reads.Learnt,
@@ -11546,7 +11094,6 @@ fs-fa-requires : (t : ℕ) → fs-lts.Need-fa-requires (
 ) (fs-at t) fs.Post fs-Inv-loop fs-μ-loop
 fs-fa-requires t c κs = omega (arith, c .before .before .before .before .before .before .before .before .before .before .before .before .before .before .before .before .before .before .pre .0, c .before .before .before .before .before .before .before .before .before .before .before .before .before .before .before .before .before .before .pre .1)
 
--- src/lib.rt:1952:32
 fs-told-requires : (t : ℕ) → fs-lts.Need-told-requires (
   list-reads.Asked,
   list-reads.Learnt,
@@ -11561,7 +11108,6 @@ fs-told-requires : (t : ℕ) → fs-lts.Need-told-requires (
 ) (fs-at t) fs.Post fs-Inv-loop fs-μ-loop
 fs-told-requires t c κs = search needs
 
--- src/lib.rt:1952:26
 fs-enum-known-s2 : (t : ℕ) → fs-lts.Need-enum-known-s2 (
   list-reads.Asked,
   list-reads.Learnt,
@@ -11576,7 +11122,6 @@ fs-enum-known-s2 : (t : ℕ) → fs-lts.Need-enum-known-s2 (
 ) (fs-at t) fs.Post fs-Inv-loop fs-μ-loop
 fs-enum-known-s2 t c = search needs
 
--- src/lib.rt:1953:13
 fs-enum-told-3 : (t : ℕ) → fs-lts.Need-enum-told-3 (
   list-reads.Asked,
   list-reads.Learnt,
@@ -11591,7 +11136,6 @@ fs-enum-told-3 : (t : ℕ) → fs-lts.Need-enum-told-3 (
 ) (fs-at t) fs.Post fs-Inv-loop fs-μ-loop
 fs-enum-told-3 t c = search needs
 
--- src/lib.rt:1953:13
 fs-same-length-2 : (t : ℕ) → fs-lts.Need-same-length-2 (
   list-reads.Asked,
   list-reads.Learnt,
@@ -11606,7 +11150,6 @@ fs-same-length-2 : (t : ℕ) → fs-lts.Need-same-length-2 (
 ) (fs-at t) fs.Post fs-Inv-loop fs-μ-loop
 fs-same-length-2 t c = c .before .before .before .before .before .fa .kept .1 .1 .1 .1 .1 .1 .0 ∙ c .before .before .before .before .before .before .before .before .before .before .before .before .before .loop .inv .2
 
--- src/lib.rt:1953:13
 fs-returns-3 : (t : ℕ) → fs-lts.Need-returns-3 (
   list-reads.Asked,
   list-reads.Learnt,
@@ -11622,7 +11165,6 @@ fs-returns-3 : (t : ℕ) → fs-lts.Need-returns-3 (
 unfolding DecOne.functor-args Helpers.for-each
 fs-returns-3 t c = record { is = by-same (list-is (c .before .before .before .before .before .before .before .before .before .before .before .before .before .before .before .before .before .list .ensures) (c .before .before .before .before .before .before .before .before .before .before .before .before .before .before .before .n .given .1)) (by-same (times-all _ _) (c .before .before .before .before .before .before .before .before .before .before .before .before .before .loop .inv .1 _ _ _ (times-more _ (c .before .before .before .before .before .before .before .before .before .before .before .before .loop-test .taken) (by-same (first-same (choice-is (c .before .before .before .before .before .before .before .before .before .before .before .choice .ensures) (c .before .before .before .before .before .before .before .before .before .k .given .1))) (then-stop (c .before .before .before .before .before .fa .ensures .is) (c .before .before .told .ensures) (c .enum-told3 .given .1)))))) }
 
--- src/lib.rt:1956:9
 fs-add-i : (t : ℕ) → fs-lts.Need-add-i (
   list-reads.Asked,
   list-reads.Learnt,
@@ -11637,7 +11179,6 @@ fs-add-i : (t : ℕ) → fs-lts.Need-add-i (
 ) (fs-at t) fs.Post fs-Inv-loop fs-μ-loop
 fs-add-i t c = omega (arith, c .before .before .before .before .before .before .before .before .before .before .before .before .before .loop-test .taken, c .before .before .before .before .before .before .before .before .before .before .before .before .before .before .before .known-told)
 
--- src/lib.rt:1947:5
 fs-loop-less : (t : ℕ) → fs-lts.Need-loop-less (
   list-reads.Asked,
   list-reads.Learnt,
@@ -11652,7 +11193,6 @@ fs-loop-less : (t : ℕ) → fs-lts.Need-loop-less (
 ) (fs-at t) fs.Post fs-Inv-loop fs-μ-loop
 fs-loop-less t c = omega arith
 
--- src/lib.rt:1947:5
 fs-loop-again : (t : ℕ) → fs-lts.Need-loop-again (
   list-reads.Asked,
   list-reads.Learnt,
@@ -11668,7 +11208,6 @@ fs-loop-again : (t : ℕ) → fs-lts.Need-loop-again (
 unfolding DecOne.functor-args Helpers.for-each
 fs-loop-again t c = (omega (arith, c .before .before .before .before .before .before .before .before .before .before .before .before .before .before .loop .inv .0), λ r m o h. c .before .before .before .before .before .before .before .before .before .before .before .before .before .before .loop .inv .1 r m o (times-more _ (c .before .before .before .before .before .before .before .before .before .before .before .before .before .loop-test .taken) (by-same (first-same (choice-is (c .before .before .before .before .before .before .before .before .before .before .before .before .choice .ensures) (c .before .before .before .before .before .before .before .before .before .before .k .given .1))) (then-done (c .before .before .before .before .before .before .fa .ensures .is) (c .before .before .before .told .ensures) (c .before .s2 .given .1) h))), c .before .before .before .before .before .before .fa .kept .1 .1 .1 .1 .1 .1 .0 ∙ c .before .before .before .before .before .before .before .before .before .before .before .before .before .before .loop .inv .2)
 
--- src/lib.rt:1927:1
 fs-same-length-3 : (t : ℕ) → fs-lts.Need-same-length-3 (
   list-reads.Asked,
   list-reads.Learnt,
@@ -11683,7 +11222,6 @@ fs-same-length-3 : (t : ℕ) → fs-lts.Need-same-length-3 (
 ) (fs-at t) fs.Post fs-Inv-loop fs-μ-loop
 fs-same-length-3 t c = c .before .loop .inv .2
 
--- src/lib.rt:1927:1
 fs-returns-4 : (t : ℕ) → fs-lts.Need-returns-4 (
   list-reads.Asked,
   list-reads.Learnt,
@@ -11699,7 +11237,6 @@ fs-returns-4 : (t : ℕ) → fs-lts.Need-returns-4 (
 unfolding DecOne.functor-args Helpers.for-each
 fs-returns-4 t c = record { is = by-same (list-is (c .before .before .before .before .before .list .ensures) (c .before .before .before .n .given .1)) (by-same (times-all _ _) (c .before .loop .inv .1 _ _ _ (times-none _ (c .loop-test .left)))) }
 
--- src/lib.rt:565:27
 fx-token-no-requires : (t : ℕ) → fx-lts.Need-token-no-requires (
   token-no-reads.Asked,
   token-no-reads.Learnt,
@@ -11714,7 +11251,6 @@ fx-token-no-requires : (t : ℕ) → fx-lts.Need-token-no-requires (
 ) (fx-at t) fx.Post
 fx-token-no-requires t c κs = search needs
 
--- src/lib.rt:565:18
 fx-enum-known-k : (t : ℕ) → fx-lts.Need-enum-known-k (
   token-no-reads.Asked,
   token-no-reads.Learnt,
@@ -11729,7 +11265,6 @@ fx-enum-known-k : (t : ℕ) → fx-lts.Need-enum-known-k (
 ) (fx-at t) fx.Post
 fx-enum-known-k t c = search needs
 
--- src/lib.rt:566:9
 fx-enum-told : (t : ℕ) → fx-lts.Need-enum-told (
   token-no-reads.Asked,
   token-no-reads.Learnt,
@@ -11744,7 +11279,6 @@ fx-enum-told : (t : ℕ) → fx-lts.Need-enum-told (
 ) (fx-at t) fx.Post
 fx-enum-told t c = search needs
 
--- src/lib.rt:566:9
 fx-stop-requires : (t : ℕ) → fx-lts.Need-stop-requires (
   token-no-reads.Asked,
   token-no-reads.Learnt,
@@ -11759,7 +11293,6 @@ fx-stop-requires : (t : ℕ) → fx-lts.Need-stop-requires (
 ) (fx-at t) fx.Post
 fx-stop-requires t c κs = search needs
 
--- src/lib.rt:566:9
 fx-returns : (t : ℕ) → fx-lts.Need-returns (
   token-no-reads.Asked,
   token-no-reads.Learnt,
@@ -11775,7 +11308,6 @@ fx-returns : (t : ℕ) → fx-lts.Need-returns (
 unfolding Exp.exp
 fx-returns t c = record { is = then-halt (operator-not (c .stop .ensures) (c .before .before .before .token-no .ensures) (c .before .enum-told .given .1)) (c .stop .ensures) }
 
--- src/lib.rt:568:9
 fx-exp-requires : (t : ℕ) → fx-lts.Need-exp-requires (
   token-no-reads.Asked,
   token-no-reads.Learnt,
@@ -11790,7 +11322,6 @@ fx-exp-requires : (t : ℕ) → fx-lts.Need-exp-requires (
 ) (fx-at t) fx.Post
 fx-exp-requires t c κs = omega (arith, c .before .before .before .before .before .before .before .before .before .before .before .before .pre .0, c .before .before .before .before .before .before .before .before .before .before .before .before .pre .1)
 
--- src/lib.rt:569:28
 fx-told-requires : (t : ℕ) → fx-lts.Need-told-requires (
   token-no-reads.Asked,
   token-no-reads.Learnt,
@@ -11805,7 +11336,6 @@ fx-told-requires : (t : ℕ) → fx-lts.Need-told-requires (
 ) (fx-at t) fx.Post
 fx-told-requires t c κs = search needs
 
--- src/lib.rt:569:22
 fx-enum-known-s2 : (t : ℕ) → fx-lts.Need-enum-known-s2 (
   token-no-reads.Asked,
   token-no-reads.Learnt,
@@ -11820,7 +11350,6 @@ fx-enum-known-s2 : (t : ℕ) → fx-lts.Need-enum-known-s2 (
 ) (fx-at t) fx.Post
 fx-enum-known-s2 t c = search needs
 
--- src/lib.rt:570:9
 fx-enum-told-2 : (t : ℕ) → fx-lts.Need-enum-told-2 (
   token-no-reads.Asked,
   token-no-reads.Learnt,
@@ -11835,7 +11364,6 @@ fx-enum-told-2 : (t : ℕ) → fx-lts.Need-enum-told-2 (
 ) (fx-at t) fx.Post
 fx-enum-told-2 t c = search needs
 
--- src/lib.rt:570:9
 fx-same-length : (t : ℕ) → fx-lts.Need-same-length (
   token-no-reads.Asked,
   token-no-reads.Learnt,
@@ -11850,7 +11378,6 @@ fx-same-length : (t : ℕ) → fx-lts.Need-same-length (
 ) (fx-at t) fx.Post
 fx-same-length t c = c .before .before .before .before .before .exp .kept .1 .1 .1 .1 .1 .1 .0
 
--- src/lib.rt:570:9
 fx-returns-2 : (t : ℕ) → fx-lts.Need-returns-2 (
   token-no-reads.Asked,
   token-no-reads.Learnt,
@@ -11866,7 +11393,6 @@ fx-returns-2 : (t : ℕ) → fx-lts.Need-returns-2 (
 unfolding Exp.exp
 fx-returns-2 t c = record { is = then-stop (operator-stop (c .before .before .before .before .before .before .before .before .before .before .before .token-no .ensures) (c .before .before .before .before .before .before .before .before .before .k .given .1) (c .before .before .before .before .before .exp .ensures .is) (c .before .before .told .ensures) (c .enum-told2 .given .1)) (c .before .before .told .ensures) (c .enum-told2 .given .1) }
 
--- src/lib.rt:572:5
 fx-infix-operator-requires : (t : ℕ) → fx-lts.Need-infix-operator-requires (
   token-no-reads.Asked,
   token-no-reads.Learnt,
@@ -11881,7 +11407,6 @@ fx-infix-operator-requires : (t : ℕ) → fx-lts.Need-infix-operator-requires (
 ) (fx-at t) fx.Post
 fx-infix-operator-requires t c κs = omega (arith, c .before .before .before .before .before .before .before .before .before .before .before .before .before .before .before .before .before .before .before .before .before .pre .1)
 
--- src/lib.rt:573:5
 fx-exp-requires-2 : (t : ℕ) → fx-lts.Need-exp-requires-2 (
   token-no-reads.Asked,
   token-no-reads.Learnt,
@@ -11896,7 +11421,6 @@ fx-exp-requires-2 : (t : ℕ) → fx-lts.Need-exp-requires-2 (
 ) (fx-at t) fx.Post
 fx-exp-requires-2 t c κs = omega (arith, c .before .before .before .before .before .before .before .before .before .before .before .before .before .before .before .before .before .before .before .before .before .before .before .before .before .before .pre .0, c .before .before .before .before .before .before .before .before .before .before .before .before .before .before .before .before .before .before .before .before .before .before .before .before .before .before .pre .1)
 
--- src/lib.rt:550:1
 fx-same-length-2 : (t : ℕ) → fx-lts.Need-same-length-2 (
   token-no-reads.Asked,
   token-no-reads.Learnt,
@@ -11911,7 +11435,6 @@ fx-same-length-2 : (t : ℕ) → fx-lts.Need-same-length-2 (
 ) (fx-at t) fx.Post
 fx-same-length-2 t c = c .before .before .exp2 .kept .1 .1 .1 .1 .1 .1 .0 ∙ c .before .before .before .before .before .before .before .infix-operator .kept .1 .1 .1 .1 .1 .0 ∙ c .before .before .before .before .before .before .before .before .before .before .before .before .before .before .before .before .exp .kept .1 .1 .1 .1 .1 .1 .0
 
--- src/lib.rt:550:1
 fx-returns-3 : (t : ℕ) → fx-lts.Need-returns-3 (
   token-no-reads.Asked,
   token-no-reads.Learnt,
@@ -11934,7 +11457,6 @@ gd-Inv-loop run text rec kinds starts lens out₀ mem₀ at cfg n s1 s₀ i₀ o
 abbrev gd-μ-loop : gd-lts.MeasureT-loop
 gd-μ-loop run text rec kinds starts lens out₀ mem₀ at cfg n s1 s₀ i₀ out mem s i = n - i
 
--- src/lib.rt:1795:5
 gd-word-requires : (t : ℕ) → gd-lts.Need-word-requires (
   word-reads.Asked,
   word-reads.Learnt,
@@ -11953,7 +11475,6 @@ gd-word-requires : (t : ℕ) → gd-lts.Need-word-requires (
 ) (gd-at t) gd.Post gd-Inv-loop gd-μ-loop
 gd-word-requires t c κs = search needs
 
--- src/lib.rt:1796:27
 gd-list-requires : (t : ℕ) → gd-lts.Need-list-requires (
   word-reads.Asked,
   word-reads.Learnt,
@@ -11972,7 +11493,6 @@ gd-list-requires : (t : ℕ) → gd-lts.Need-list-requires (
 ) (gd-at t) gd.Post gd-Inv-loop gd-μ-loop
 gd-list-requires t c κs = search needs
 
--- src/lib.rt:1796:18
 gd-enum-known-n : (t : ℕ) → gd-lts.Need-enum-known-n (
   word-reads.Asked,
   word-reads.Learnt,
@@ -11991,7 +11511,6 @@ gd-enum-known-n : (t : ℕ) → gd-lts.Need-enum-known-n (
 ) (gd-at t) gd.Post gd-Inv-loop gd-μ-loop
 gd-enum-known-n t c = search needs
 
--- src/lib.rt:1797:9
 gd-enum-told : (t : ℕ) → gd-lts.Need-enum-told (
   word-reads.Asked,
   word-reads.Learnt,
@@ -12010,7 +11529,6 @@ gd-enum-told : (t : ℕ) → gd-lts.Need-enum-told (
 ) (gd-at t) gd.Post gd-Inv-loop gd-μ-loop
 gd-enum-told t c = search needs
 
--- src/lib.rt:1797:9
 gd-stop-requires : (t : ℕ) → gd-lts.Need-stop-requires (
   word-reads.Asked,
   word-reads.Learnt,
@@ -12029,7 +11547,6 @@ gd-stop-requires : (t : ℕ) → gd-lts.Need-stop-requires (
 ) (gd-at t) gd.Post gd-Inv-loop gd-μ-loop
 gd-stop-requires t c κs = search needs
 
--- src/lib.rt:1797:9
 gd-same-length : (t : ℕ) → gd-lts.Need-same-length (
   word-reads.Asked,
   word-reads.Learnt,
@@ -12048,7 +11565,6 @@ gd-same-length : (t : ℕ) → gd-lts.Need-same-length (
 ) (gd-at t) gd.Post gd-Inv-loop gd-μ-loop
 gd-same-length t c = c .before .before .before .before .before .before .word .kept .1 .1 .0
 
--- src/lib.rt:1797:9
 gd-returns : (t : ℕ) → gd-lts.Need-returns (
   word-reads.Asked,
   word-reads.Learnt,
@@ -12068,7 +11584,6 @@ gd-returns : (t : ℕ) → gd-lts.Need-returns (
 unfolding DecOne.dec-one DecOne.sig-bind Helpers.sep-with-lines
 gd-returns t c = record { is = then-sure (c .before .before .before .before .before .before .word .ensures) (list-not (c .stop .ensures) (c .before .before .before .list .ensures) (c .before .enum-told .given .1)) }
 
--- src/lib.rt:1801:5
 gd-loop-holds : (t : ℕ) → gd-lts.Need-loop-holds (
   word-reads.Asked,
   word-reads.Learnt,
@@ -12087,7 +11602,6 @@ gd-loop-holds : (t : ℕ) → gd-lts.Need-loop-holds (
 ) (gd-at t) gd.Post gd-Inv-loop gd-μ-loop
 gd-loop-holds t c = (omega arith, λ r m o h. h, refl)
 
--- src/lib.rt:1802:9
 gd-new-line-requires : (t : ℕ) → gd-lts.Need-new-line-requires (
   word-reads.Asked,
   word-reads.Learnt,
@@ -12106,7 +11620,6 @@ gd-new-line-requires : (t : ℕ) → gd-lts.Need-new-line-requires (
 ) (gd-at t) gd.Post gd-Inv-loop gd-μ-loop
 gd-new-line-requires t c κs = search needs
 
--- src/lib.rt:1803:13
 gd-group-requires : (t : ℕ) → gd-lts.Need-group-requires (
   word-reads.Asked,
   word-reads.Learnt,
@@ -12125,7 +11638,6 @@ gd-group-requires : (t : ℕ) → gd-lts.Need-group-requires (
 ) (gd-at t) gd.Post gd-Inv-loop gd-μ-loop
 gd-group-requires t c κs = search needs
 
--- src/lib.rt:1804:32
 gd-told-requires : (t : ℕ) → gd-lts.Need-told-requires (
   word-reads.Asked,
   word-reads.Learnt,
@@ -12144,7 +11656,6 @@ gd-told-requires : (t : ℕ) → gd-lts.Need-told-requires (
 ) (gd-at t) gd.Post gd-Inv-loop gd-μ-loop
 gd-told-requires t c κs = search needs
 
--- src/lib.rt:1804:26
 gd-enum-known-s2 : (t : ℕ) → gd-lts.Need-enum-known-s2 (
   word-reads.Asked,
   word-reads.Learnt,
@@ -12163,7 +11674,6 @@ gd-enum-known-s2 : (t : ℕ) → gd-lts.Need-enum-known-s2 (
 ) (gd-at t) gd.Post gd-Inv-loop gd-μ-loop
 gd-enum-known-s2 t c = search needs
 
--- src/lib.rt:1805:13
 gd-enum-told-2 : (t : ℕ) → gd-lts.Need-enum-told-2 (
   word-reads.Asked,
   word-reads.Learnt,
@@ -12182,7 +11692,6 @@ gd-enum-told-2 : (t : ℕ) → gd-lts.Need-enum-told-2 (
 ) (gd-at t) gd.Post gd-Inv-loop gd-μ-loop
 gd-enum-told-2 t c = search needs
 
--- src/lib.rt:1805:13
 gd-same-length-2 : (t : ℕ) → gd-lts.Need-same-length-2 (
   word-reads.Asked,
   word-reads.Learnt,
@@ -12201,7 +11710,6 @@ gd-same-length-2 : (t : ℕ) → gd-lts.Need-same-length-2 (
 ) (gd-at t) gd.Post gd-Inv-loop gd-μ-loop
 gd-same-length-2 t c = c .before .before .before .before .before .before .new-line .kept .1 .1 .0 ∙ c .before .before .before .before .before .before .before .before .before .before .loop .inv .2 ∙ c .before .before .before .before .before .before .before .before .before .before .before .before .before .before .before .before .before .word .kept .1 .1 .0
 
--- src/lib.rt:1805:13
 gd-returns-2 : (t : ℕ) → gd-lts.Need-returns-2 (
   word-reads.Asked,
   word-reads.Learnt,
@@ -12221,7 +11729,6 @@ gd-returns-2 : (t : ℕ) → gd-lts.Need-returns-2 (
 unfolding DecOne.dec-one DecOne.sig-bind Helpers.sep-with-lines
 gd-returns-2 t c = record { is = then-sure (c .before .before .before .before .before .before .before .before .before .before .before .before .before .before .before .before .before .word .ensures) (by-same (list-is (c .before .before .before .before .before .before .before .before .before .before .before .before .before .before .list .ensures) (c .before .before .before .before .before .before .before .before .before .before .before .before .n .given .1)) (by-same (items-all _ _ _) (c .before .before .before .before .before .before .before .before .before .before .loop .inv .1 _ _ _ (from-more _ _ (c .before .before .before .before .before .before .before .before .before .loop-test .taken) (then-sure (c .before .before .before .before .before .before .new-line .ensures) (then-stop (group-not (c .before .before .before .group .ensures) (c .before .before .told .ensures) (c .enum-told2 .given .1)) (c .before .before .told .ensures) (c .enum-told2 .given .1))))))) }
 
--- src/lib.rt:1807:13
 gd-nm-requires : (t : ℕ) → gd-lts.Need-nm-requires (
   word-reads.Asked,
   word-reads.Learnt,
@@ -12240,7 +11747,6 @@ gd-nm-requires : (t : ℕ) → gd-lts.Need-nm-requires (
 ) (gd-at t) gd.Post gd-Inv-loop gd-μ-loop
 gd-nm-requires t c κs = omega (arith, c .before .before .before .before .before .before .before .before .before .before .before .before .before .before .before .before .before .before .before .before .before .before .before .before .before .before .before .before .before .pre .0, c .before .before .before .before .before .before .before .before .before .before .before .before .before .before .before .before .before .before .before .before .before .before .before .before .before .before .before .before .before .pre .1)
 
--- src/lib.rt:1820:32
 gd-told-requires-2 : (t : ℕ) → gd-lts.Need-told-requires-2 (
   word-reads.Asked,
   word-reads.Learnt,
@@ -12259,7 +11765,6 @@ gd-told-requires-2 : (t : ℕ) → gd-lts.Need-told-requires-2 (
 ) (gd-at t) gd.Post gd-Inv-loop gd-μ-loop
 gd-told-requires-2 t c κs = search needs
 
--- src/lib.rt:1820:26
 gd-enum-known-s3 : (t : ℕ) → gd-lts.Need-enum-known-s3 (
   word-reads.Asked,
   word-reads.Learnt,
@@ -12278,7 +11783,6 @@ gd-enum-known-s3 : (t : ℕ) → gd-lts.Need-enum-known-s3 (
 ) (gd-at t) gd.Post gd-Inv-loop gd-μ-loop
 gd-enum-known-s3 t c = search needs
 
--- src/lib.rt:1821:13
 gd-enum-told-3 : (t : ℕ) → gd-lts.Need-enum-told-3 (
   word-reads.Asked,
   word-reads.Learnt,
@@ -12297,7 +11801,6 @@ gd-enum-told-3 : (t : ℕ) → gd-lts.Need-enum-told-3 (
 ) (gd-at t) gd.Post gd-Inv-loop gd-μ-loop
 gd-enum-told-3 t c = search needs
 
--- src/lib.rt:1821:13
 gd-same-length-3 : (t : ℕ) → gd-lts.Need-same-length-3 (
   word-reads.Asked,
   word-reads.Learnt,
@@ -12316,7 +11819,6 @@ gd-same-length-3 : (t : ℕ) → gd-lts.Need-same-length-3 (
 ) (gd-at t) gd.Post gd-Inv-loop gd-μ-loop
 gd-same-length-3 t c = c .before .before .before .before .before .nm .kept .1 .1 .1 .1 .1 .1 .0 ∙ c .before .before .before .before .before .before .before .before .before .before .before .before .before .before .before .new-line .kept .1 .1 .0 ∙ c .before .before .before .before .before .before .before .before .before .before .before .before .before .before .before .before .before .before .before .loop .inv .2 ∙ c .before .before .before .before .before .before .before .before .before .before .before .before .before .before .before .before .before .before .before .before .before .before .before .before .before .before .word .kept .1 .1 .0
 
--- src/lib.rt:1821:13
 gd-returns-3 : (t : ℕ) → gd-lts.Need-returns-3 (
   word-reads.Asked,
   word-reads.Learnt,
@@ -12336,7 +11838,6 @@ gd-returns-3 : (t : ℕ) → gd-lts.Need-returns-3 (
 unfolding DecOne.dec-one DecOne.sig-bind Helpers.sep-with-lines
 gd-returns-3 t c = record { is = then-sure (c .before .before .before .before .before .before .before .before .before .before .before .before .before .before .before .before .before .before .before .before .before .before .before .before .before .before .word .ensures) (by-same (list-is (c .before .before .before .before .before .before .before .before .before .before .before .before .before .before .before .before .before .before .before .before .before .before .before .list .ensures) (c .before .before .before .before .before .before .before .before .before .before .before .before .before .before .before .before .before .before .before .before .before .n .given .1)) (by-same (items-all _ _ _) (c .before .before .before .before .before .before .before .before .before .before .before .before .before .before .before .before .before .before .before .loop .inv .1 _ _ _ (from-more _ _ (c .before .before .before .before .before .before .before .before .before .before .before .before .before .before .before .before .before .before .loop-test .taken) (then-sure (c .before .before .before .before .before .before .before .before .before .before .before .before .before .before .before .new-line .ensures) (by-same (first-same (group-is (c .before .before .before .before .before .before .before .before .before .before .before .before .group .ensures) (c .before .before .before .before .before .before .before .before .before .before .before .told .ensures) (c .before .before .before .before .before .before .before .before .before .s2 .given .1))) (then-stop (c .before .before .before .before .before .nm .ensures .is) (c .before .before .told2 .ensures) (c .enum-told3 .given .1)))))))) }
 
--- src/lib.rt:1824:9
 gd-add-i : (t : ℕ) → gd-lts.Need-add-i (
   word-reads.Asked,
   word-reads.Learnt,
@@ -12355,7 +11856,6 @@ gd-add-i : (t : ℕ) → gd-lts.Need-add-i (
 ) (gd-at t) gd.Post gd-Inv-loop gd-μ-loop
 gd-add-i t c = omega (arith, c .before .before .before .before .before .before .before .before .before .before .before .before .before .before .before .before .before .before .before .loop-test .taken, c .before .before .before .before .before .before .before .before .before .before .before .before .before .before .before .before .before .before .before .before .before .known-told)
 
--- src/lib.rt:1801:5
 gd-loop-less : (t : ℕ) → gd-lts.Need-loop-less (
   word-reads.Asked,
   word-reads.Learnt,
@@ -12374,7 +11874,6 @@ gd-loop-less : (t : ℕ) → gd-lts.Need-loop-less (
 ) (gd-at t) gd.Post gd-Inv-loop gd-μ-loop
 gd-loop-less t c = omega arith
 
--- src/lib.rt:1801:5
 gd-loop-again : (t : ℕ) → gd-lts.Need-loop-again (
   word-reads.Asked,
   word-reads.Learnt,
@@ -12394,7 +11893,6 @@ gd-loop-again : (t : ℕ) → gd-lts.Need-loop-again (
 unfolding DecOne.dec-one DecOne.sig-bind Helpers.sep-with-lines
 gd-loop-again t c = (omega (arith, c .before .before .before .before .before .before .before .before .before .before .before .before .before .before .before .before .before .before .before .before .loop .inv .0), λ r m o h. c .before .before .before .before .before .before .before .before .before .before .before .before .before .before .before .before .before .before .before .before .loop .inv .1 r m o (from-more _ _ (c .before .before .before .before .before .before .before .before .before .before .before .before .before .before .before .before .before .before .before .loop-test .taken) (then-sure (c .before .before .before .before .before .before .before .before .before .before .before .before .before .before .before .before .new-line .ensures) (by-same (first-same (group-is (c .before .before .before .before .before .before .before .before .before .before .before .before .before .group .ensures) (c .before .before .before .before .before .before .before .before .before .before .before .before .told .ensures) (c .before .before .before .before .before .before .before .before .before .before .s2 .given .1))) (then-done (c .before .before .before .before .before .before .nm .ensures .is) (c .before .before .before .told2 .ensures) (c .before .s3 .given .1) h)))), c .before .before .before .before .before .before .nm .kept .1 .1 .1 .1 .1 .1 .0 ∙ c .before .before .before .before .before .before .before .before .before .before .before .before .before .before .before .before .new-line .kept .1 .1 .0 ∙ c .before .before .before .before .before .before .before .before .before .before .before .before .before .before .before .before .before .before .before .before .loop .inv .2)
 
--- src/lib.rt:1780:1
 gd-same-length-4 : (t : ℕ) → gd-lts.Need-same-length-4 (
   word-reads.Asked,
   word-reads.Learnt,
@@ -12413,7 +11911,6 @@ gd-same-length-4 : (t : ℕ) → gd-lts.Need-same-length-4 (
 ) (gd-at t) gd.Post gd-Inv-loop gd-μ-loop
 gd-same-length-4 t c = c .before .loop .inv .2 ∙ c .before .before .before .before .before .before .before .before .word .kept .1 .1 .0
 
--- src/lib.rt:1780:1
 gd-returns-4 : (t : ℕ) → gd-lts.Need-returns-4 (
   word-reads.Asked,
   word-reads.Learnt,
@@ -12433,7 +11930,6 @@ gd-returns-4 : (t : ℕ) → gd-lts.Need-returns-4 (
 unfolding DecOne.dec-one DecOne.sig-bind Helpers.sep-with-lines
 gd-returns-4 t c = record { is = then-sure (c .before .before .before .before .before .before .before .before .word .ensures) (by-same (list-is (c .before .before .before .before .before .list .ensures) (c .before .before .before .n .given .1)) (by-same (items-all _ _ _) (c .before .loop .inv .1 _ _ _ (from-none _ _ (c .loop-test .left))))) }
 
--- src/lib.rt:674:9
 ha-exp-requires : (t : ℕ) → ha-lts.Need-exp-requires (
   exp-below t,
   exp.Post,
@@ -12446,7 +11942,6 @@ ha-exp-requires : (t : ℕ) → ha-lts.Need-exp-requires (
 ) (ha-at t) ha.Post
 ha-exp-requires t c κs = omega (arith, c .before .before .before .before .before .before .before .before .pre .0, c .before .before .before .before .before .before .before .before .pre .1)
 
--- src/lib.rt:675:28
 ha-told-requires : (t : ℕ) → ha-lts.Need-told-requires (
   exp-below t,
   exp.Post,
@@ -12459,7 +11954,6 @@ ha-told-requires : (t : ℕ) → ha-lts.Need-told-requires (
 ) (ha-at t) ha.Post
 ha-told-requires t c κs = search needs
 
--- src/lib.rt:675:22
 ha-enum-known-s1 : (t : ℕ) → ha-lts.Need-enum-known-s1 (
   exp-below t,
   exp.Post,
@@ -12472,7 +11966,6 @@ ha-enum-known-s1 : (t : ℕ) → ha-lts.Need-enum-known-s1 (
 ) (ha-at t) ha.Post
 ha-enum-known-s1 t c = search needs
 
--- src/lib.rt:676:9
 ha-enum-told : (t : ℕ) → ha-lts.Need-enum-told (
   exp-below t,
   exp.Post,
@@ -12485,7 +11978,6 @@ ha-enum-told : (t : ℕ) → ha-lts.Need-enum-told (
 ) (ha-at t) ha.Post
 ha-enum-told t c = search needs
 
--- src/lib.rt:676:9
 ha-same-length : (t : ℕ) → ha-lts.Need-same-length (
   exp-below t,
   exp.Post,
@@ -12498,7 +11990,6 @@ ha-same-length : (t : ℕ) → ha-lts.Need-same-length (
 ) (ha-at t) ha.Post
 ha-same-length t c = c .before .before .before .before .before .exp .kept .1 .1 .1 .1 .1 .1 .0
 
--- src/lib.rt:676:9
 ha-returns : (t : ℕ) → ha-lts.Need-returns (
   exp-below t,
   exp.Post,
@@ -12511,7 +12002,6 @@ ha-returns : (t : ℕ) → ha-lts.Need-returns (
 ) (ha-at t) ha.Post
 ha-returns t c = record { is = then-stop (c .before .before .before .before .before .exp .ensures .is) (c .before .before .told .ensures) (c .enum-told .given .1) }
 
--- src/lib.rt:678:5
 ha-word-requires : (t : ℕ) → ha-lts.Need-word-requires (
   exp-below t,
   exp.Post,
@@ -12524,7 +12014,6 @@ ha-word-requires : (t : ℕ) → ha-lts.Need-word-requires (
 ) (ha-at t) ha.Post
 ha-word-requires t c κs = search needs
 
--- src/lib.rt:679:5
 ha-ma-requires : (t : ℕ) → ha-lts.Need-ma-requires (
   exp-below t,
   exp.Post,
@@ -12537,7 +12026,6 @@ ha-ma-requires : (t : ℕ) → ha-lts.Need-ma-requires (
 ) (ha-at t) ha.Post
 ha-ma-requires t c κs = omega (arith, c .before .before .before .before .before .before .before .before .before .before .before .before .before .before .before .before .before .before .before .before .before .before .pre .0, c .before .before .before .before .before .before .before .before .before .before .before .before .before .before .before .before .before .before .before .before .before .before .pre .1)
 
--- src/lib.rt:658:1
 ha-same-length-2 : (t : ℕ) → ha-lts.Need-same-length-2 (
   exp-below t,
   exp.Post,
@@ -12550,7 +12038,6 @@ ha-same-length-2 : (t : ℕ) → ha-lts.Need-same-length-2 (
 ) (ha-at t) ha.Post
 ha-same-length-2 t c = c .before .before .ma .kept .1 .1 .1 .1 .1 .1 .0 ∙ c .before .before .before .before .before .before .before .word .kept .1 .1 .0 ∙ c .before .before .before .before .before .before .before .before .before .before .before .before .before .before .before .before .exp .kept .1 .1 .1 .1 .1 .1 .0
 
--- src/lib.rt:658:1
 ha-returns-2 : (t : ℕ) → ha-lts.Need-returns-2 (
   exp-below t,
   exp.Post,
@@ -12570,7 +12057,6 @@ ic-Inv-loop run text rec kinds starts lens out₀ mem₀ at cfg n s1 s₀ i₀ o
 abbrev ic-μ-loop : ic-lts.MeasureT-loop
 ic-μ-loop run text rec kinds starts lens out₀ mem₀ at cfg n s1 s₀ i₀ out mem s i = n - i
 
--- src/lib.rt:2013:5
 ic-word-requires : (t : ℕ) → ic-lts.Need-word-requires (
   word-reads.Asked,
   word-reads.Learnt,
@@ -12587,7 +12073,6 @@ ic-word-requires : (t : ℕ) → ic-lts.Need-word-requires (
 ) (ic-at t) ic.Post ic-Inv-loop ic-μ-loop
 ic-word-requires t c κs = search needs
 
--- src/lib.rt:2014:27
 ic-list-requires : (t : ℕ) → ic-lts.Need-list-requires (
   word-reads.Asked,
   word-reads.Learnt,
@@ -12604,7 +12089,6 @@ ic-list-requires : (t : ℕ) → ic-lts.Need-list-requires (
 ) (ic-at t) ic.Post ic-Inv-loop ic-μ-loop
 ic-list-requires t c κs = search needs
 
--- src/lib.rt:2014:18
 ic-enum-known-n : (t : ℕ) → ic-lts.Need-enum-known-n (
   word-reads.Asked,
   word-reads.Learnt,
@@ -12621,7 +12105,6 @@ ic-enum-known-n : (t : ℕ) → ic-lts.Need-enum-known-n (
 ) (ic-at t) ic.Post ic-Inv-loop ic-μ-loop
 ic-enum-known-n t c = search needs
 
--- src/lib.rt:2015:9
 ic-enum-told : (t : ℕ) → ic-lts.Need-enum-told (
   word-reads.Asked,
   word-reads.Learnt,
@@ -12638,7 +12121,6 @@ ic-enum-told : (t : ℕ) → ic-lts.Need-enum-told (
 ) (ic-at t) ic.Post ic-Inv-loop ic-μ-loop
 ic-enum-told t c = search needs
 
--- src/lib.rt:2015:9
 ic-stop-requires : (t : ℕ) → ic-lts.Need-stop-requires (
   word-reads.Asked,
   word-reads.Learnt,
@@ -12655,7 +12137,6 @@ ic-stop-requires : (t : ℕ) → ic-lts.Need-stop-requires (
 ) (ic-at t) ic.Post ic-Inv-loop ic-μ-loop
 ic-stop-requires t c κs = search needs
 
--- src/lib.rt:2015:9
 ic-same-length : (t : ℕ) → ic-lts.Need-same-length (
   word-reads.Asked,
   word-reads.Learnt,
@@ -12672,7 +12153,6 @@ ic-same-length : (t : ℕ) → ic-lts.Need-same-length (
 ) (ic-at t) ic.Post ic-Inv-loop ic-μ-loop
 ic-same-length t c = c .before .before .before .before .before .before .word .kept .1 .1 .0
 
--- src/lib.rt:2015:9
 ic-returns : (t : ℕ) → ic-lts.Need-returns (
   word-reads.Asked,
   word-reads.Learnt,
@@ -12690,7 +12170,6 @@ ic-returns : (t : ℕ) → ic-lts.Need-returns (
 unfolding DecOne.dec-one Helpers.sep
 ic-returns t c = record { is = then-sure (c .before .before .before .before .before .before .word .ensures) (list-not (c .stop .ensures) (c .before .before .before .list .ensures) (c .before .enum-told .given .1)) }
 
--- src/lib.rt:2019:5
 ic-loop-holds : (t : ℕ) → ic-lts.Need-loop-holds (
   word-reads.Asked,
   word-reads.Learnt,
@@ -12707,7 +12186,6 @@ ic-loop-holds : (t : ℕ) → ic-lts.Need-loop-holds (
 ) (ic-at t) ic.Post ic-Inv-loop ic-μ-loop
 ic-loop-holds t c = (omega arith, λ r m o h. h, refl)
 
--- src/lib.rt:2020:9
 ic-between-requires : (t : ℕ) → ic-lts.Need-between-requires (
   word-reads.Asked,
   word-reads.Learnt,
@@ -12724,7 +12202,6 @@ ic-between-requires : (t : ℕ) → ic-lts.Need-between-requires (
 ) (ic-at t) ic.Post ic-Inv-loop ic-μ-loop
 ic-between-requires t c κs = search needs
 
--- src/lib.rt:2021:13
 ic-sig-requires : (t : ℕ) → ic-lts.Need-sig-requires (
   word-reads.Asked,
   word-reads.Learnt,
@@ -12741,7 +12218,6 @@ ic-sig-requires : (t : ℕ) → ic-lts.Need-sig-requires (
 ) (ic-at t) ic.Post ic-Inv-loop ic-μ-loop
 ic-sig-requires t c κs = omega (arith, c .before .before .before .before .before .before .before .before .before .before .before .before .before .before .before .before .before .before .before .before .before .before .before .before .pre .0, c .before .before .before .before .before .before .before .before .before .before .before .before .before .before .before .before .before .before .before .before .before .before .before .before .pre .1)
 
--- src/lib.rt:2022:32
 ic-told-requires : (t : ℕ) → ic-lts.Need-told-requires (
   word-reads.Asked,
   word-reads.Learnt,
@@ -12758,7 +12234,6 @@ ic-told-requires : (t : ℕ) → ic-lts.Need-told-requires (
 ) (ic-at t) ic.Post ic-Inv-loop ic-μ-loop
 ic-told-requires t c κs = search needs
 
--- src/lib.rt:2022:26
 ic-enum-known-s2 : (t : ℕ) → ic-lts.Need-enum-known-s2 (
   word-reads.Asked,
   word-reads.Learnt,
@@ -12775,7 +12250,6 @@ ic-enum-known-s2 : (t : ℕ) → ic-lts.Need-enum-known-s2 (
 ) (ic-at t) ic.Post ic-Inv-loop ic-μ-loop
 ic-enum-known-s2 t c = search needs
 
--- src/lib.rt:2023:13
 ic-enum-told-2 : (t : ℕ) → ic-lts.Need-enum-told-2 (
   word-reads.Asked,
   word-reads.Learnt,
@@ -12792,7 +12266,6 @@ ic-enum-told-2 : (t : ℕ) → ic-lts.Need-enum-told-2 (
 ) (ic-at t) ic.Post ic-Inv-loop ic-μ-loop
 ic-enum-told-2 t c = search needs
 
--- src/lib.rt:2023:13
 ic-same-length-2 : (t : ℕ) → ic-lts.Need-same-length-2 (
   word-reads.Asked,
   word-reads.Learnt,
@@ -12809,7 +12282,6 @@ ic-same-length-2 : (t : ℕ) → ic-lts.Need-same-length-2 (
 ) (ic-at t) ic.Post ic-Inv-loop ic-μ-loop
 ic-same-length-2 t c = c .before .before .before .before .before .sig .kept .1 .1 .1 .1 .1 .1 .0 ∙ c .before .before .before .before .before .before .before .before .before .before .between .kept .1 .1 .0 ∙ c .before .before .before .before .before .before .before .before .before .before .before .before .before .before .loop .inv .2 ∙ c .before .before .before .before .before .before .before .before .before .before .before .before .before .before .before .before .before .before .before .before .before .word .kept .1 .1 .0
 
--- src/lib.rt:2023:13
 ic-returns-2 : (t : ℕ) → ic-lts.Need-returns-2 (
   word-reads.Asked,
   word-reads.Learnt,
@@ -12827,7 +12299,6 @@ ic-returns-2 : (t : ℕ) → ic-lts.Need-returns-2 (
 unfolding DecOne.dec-one Helpers.sep
 ic-returns-2 t c = record { is = then-sure (c .before .before .before .before .before .before .before .before .before .before .before .before .before .before .before .before .before .before .before .before .before .word .ensures) (by-same (list-is (c .before .before .before .before .before .before .before .before .before .before .before .before .before .before .before .before .before .before .list .ensures) (c .before .before .before .before .before .before .before .before .before .before .before .before .before .before .before .before .n .given .1)) (by-same (items-all _ _ _) (c .before .before .before .before .before .before .before .before .before .before .before .before .before .before .loop .inv .1 _ _ _ (from-more _ _ (c .before .before .before .before .before .before .before .before .before .before .before .before .before .loop-test .taken) (then-sure (c .before .before .before .before .before .before .before .before .before .before .between .ensures) (then-stop (c .before .before .before .before .before .sig .ensures .is) (c .before .before .told .ensures) (c .enum-told2 .given .1))))))) }
 
--- src/lib.rt:2026:9
 ic-add-i : (t : ℕ) → ic-lts.Need-add-i (
   word-reads.Asked,
   word-reads.Learnt,
@@ -12844,7 +12315,6 @@ ic-add-i : (t : ℕ) → ic-lts.Need-add-i (
 ) (ic-at t) ic.Post ic-Inv-loop ic-μ-loop
 ic-add-i t c = omega (arith, c .before .before .before .before .before .before .before .before .before .before .before .before .before .before .loop-test .taken, c .before .before .before .before .before .before .before .before .before .before .before .before .before .before .before .before .known-told)
 
--- src/lib.rt:2019:5
 ic-loop-less : (t : ℕ) → ic-lts.Need-loop-less (
   word-reads.Asked,
   word-reads.Learnt,
@@ -12861,7 +12331,6 @@ ic-loop-less : (t : ℕ) → ic-lts.Need-loop-less (
 ) (ic-at t) ic.Post ic-Inv-loop ic-μ-loop
 ic-loop-less t c = omega arith
 
--- src/lib.rt:2019:5
 ic-loop-again : (t : ℕ) → ic-lts.Need-loop-again (
   word-reads.Asked,
   word-reads.Learnt,
@@ -12879,7 +12348,6 @@ ic-loop-again : (t : ℕ) → ic-lts.Need-loop-again (
 unfolding DecOne.dec-one Helpers.sep
 ic-loop-again t c = (omega (arith, c .before .before .before .before .before .before .before .before .before .before .before .before .before .before .before .loop .inv .0), λ r m o h. c .before .before .before .before .before .before .before .before .before .before .before .before .before .before .before .loop .inv .1 r m o (from-more _ _ (c .before .before .before .before .before .before .before .before .before .before .before .before .before .before .loop-test .taken) (then-sure (c .before .before .before .before .before .before .before .before .before .before .before .between .ensures) (then-done (c .before .before .before .before .before .before .sig .ensures .is) (c .before .before .before .told .ensures) (c .before .s2 .given .1) h))), c .before .before .before .before .before .before .sig .kept .1 .1 .1 .1 .1 .1 .0 ∙ c .before .before .before .before .before .before .before .before .before .before .before .between .kept .1 .1 .0 ∙ c .before .before .before .before .before .before .before .before .before .before .before .before .before .before .before .loop .inv .2)
 
--- src/lib.rt:1998:1
 ic-same-length-3 : (t : ℕ) → ic-lts.Need-same-length-3 (
   word-reads.Asked,
   word-reads.Learnt,
@@ -12896,7 +12364,6 @@ ic-same-length-3 : (t : ℕ) → ic-lts.Need-same-length-3 (
 ) (ic-at t) ic.Post ic-Inv-loop ic-μ-loop
 ic-same-length-3 t c = c .before .loop .inv .2 ∙ c .before .before .before .before .before .before .before .before .word .kept .1 .1 .0
 
--- src/lib.rt:1998:1
 ic-returns-3 : (t : ℕ) → ic-lts.Need-returns-3 (
   word-reads.Asked,
   word-reads.Learnt,
@@ -12914,7 +12381,6 @@ ic-returns-3 : (t : ℕ) → ic-lts.Need-returns-3 (
 unfolding DecOne.dec-one Helpers.sep
 ic-returns-3 t c = record { is = then-sure (c .before .before .before .before .before .before .before .before .word .ensures) (by-same (list-is (c .before .before .before .before .before .list .ensures) (c .before .before .before .n .given .1)) (by-same (items-all _ _ _) (c .before .loop .inv .1 _ _ _ (from-none _ _ (c .loop-test .left))))) }
 
--- src/lib.rt:751:5
 ie-word-requires : (t : ℕ) → ie-lts.Need-word-requires (
   word-reads.Asked,
   word-reads.Learnt,
@@ -12939,7 +12405,6 @@ ie-word-requires : (t : ℕ) → ie-lts.Need-word-requires (
 ) (ie-at t) ie.Post
 ie-word-requires t c κs = search needs
 
--- src/lib.rt:752:9
 ie-exp-requires : (t : ℕ) → ie-lts.Need-exp-requires (
   word-reads.Asked,
   word-reads.Learnt,
@@ -12964,7 +12429,6 @@ ie-exp-requires : (t : ℕ) → ie-lts.Need-exp-requires (
 ) (ie-at t) ie.Post
 ie-exp-requires t c κs = omega (arith, c .before .before .before .before .before .before .before .before .before .before .before .before .before .pre .0, c .before .before .before .before .before .before .before .before .before .before .before .before .before .pre .1)
 
--- src/lib.rt:753:28
 ie-told-requires : (t : ℕ) → ie-lts.Need-told-requires (
   word-reads.Asked,
   word-reads.Learnt,
@@ -12989,7 +12453,6 @@ ie-told-requires : (t : ℕ) → ie-lts.Need-told-requires (
 ) (ie-at t) ie.Post
 ie-told-requires t c κs = search needs
 
--- src/lib.rt:753:22
 ie-enum-known-s1 : (t : ℕ) → ie-lts.Need-enum-known-s1 (
   word-reads.Asked,
   word-reads.Learnt,
@@ -13014,7 +12477,6 @@ ie-enum-known-s1 : (t : ℕ) → ie-lts.Need-enum-known-s1 (
 ) (ie-at t) ie.Post
 ie-enum-known-s1 t c = search needs
 
--- src/lib.rt:754:9
 ie-enum-told : (t : ℕ) → ie-lts.Need-enum-told (
   word-reads.Asked,
   word-reads.Learnt,
@@ -13039,7 +12501,6 @@ ie-enum-told : (t : ℕ) → ie-lts.Need-enum-told (
 ) (ie-at t) ie.Post
 ie-enum-told t c = search needs
 
--- src/lib.rt:754:9
 ie-same-length : (t : ℕ) → ie-lts.Need-same-length (
   word-reads.Asked,
   word-reads.Learnt,
@@ -13064,7 +12525,6 @@ ie-same-length : (t : ℕ) → ie-lts.Need-same-length (
 ) (ie-at t) ie.Post
 ie-same-length t c = c .before .before .before .before .before .exp .kept .1 .1 .1 .1 .1 .1 .0 ∙ c .before .before .before .before .before .before .before .before .before .before .word .kept .1 .1 .0
 
--- src/lib.rt:754:9
 ie-returns : (t : ℕ) → ie-lts.Need-returns (
   word-reads.Asked,
   word-reads.Learnt,
@@ -13090,7 +12550,6 @@ ie-returns : (t : ℕ) → ie-lts.Need-returns (
 unfolding Exp.exp Exp.if-no Helpers.indent-deeper Helpers.deepen
 ie-returns t c = record { is = then-sure (c .before .before .before .before .before .before .before .before .before .before .word .ensures) (then-stop (c .before .before .before .before .before .exp .ensures .is) (c .before .before .told .ensures) (c .enum-told .given .1)) }
 
--- src/lib.rt:756:5
 ie-word-requires-2 : (t : ℕ) → ie-lts.Need-word-requires-2 (
   word-reads.Asked,
   word-reads.Learnt,
@@ -13115,7 +12574,6 @@ ie-word-requires-2 : (t : ℕ) → ie-lts.Need-word-requires-2 (
 ) (ie-at t) ie.Post
 ie-word-requires-2 t c κs = search needs
 
--- src/lib.rt:757:5
 ie-indent-deeper-requires : (t : ℕ) → ie-lts.Need-indent-deeper-requires (
   word-reads.Asked,
   word-reads.Learnt,
@@ -13140,7 +12598,6 @@ ie-indent-deeper-requires : (t : ℕ) → ie-lts.Need-indent-deeper-requires (
 ) (ie-at t) ie.Post
 ie-indent-deeper-requires t c κs = omega (arith, c .before .before .before .before .before .before .before .before .before .before .before .before .before .before .before .before .before .before .before .before .before .before .before .before .before .before .before .pre .1)
 
--- src/lib.rt:758:9
 ie-indented-requires : (t : ℕ) → ie-lts.Need-indented-requires (
   word-reads.Asked,
   word-reads.Learnt,
@@ -13165,7 +12622,6 @@ ie-indented-requires : (t : ℕ) → ie-lts.Need-indented-requires (
 ) (ie-at t) ie.Post
 ie-indented-requires t c κs = omega (arith, c .before .before .before .before .before .before .before .before .before .before .before .before .before .before .before .before .before .before .before .before .before .before .before .before .before .before .before .before .before .before .pre .1)
 
--- src/lib.rt:759:9
 ie-exp-requires-2 : (t : ℕ) → ie-lts.Need-exp-requires-2 (
   word-reads.Asked,
   word-reads.Learnt,
@@ -13190,7 +12646,6 @@ ie-exp-requires-2 : (t : ℕ) → ie-lts.Need-exp-requires-2 (
 ) (ie-at t) ie.Post
 ie-exp-requires-2 t c κs = omega (arith, c .before .before .before .before .before .before .before .before .before .before .before .before .before .before .before .before .before .before .before .before .before .before .before .before .before .before .before .before .before .before .before .before .before .pre .0, c .before .before .before .before .before .before .before .before .before .before .before .before .before .before .before .before .before .before .before .before .before .before .before .before .before .before .before .before .before .before .before .before .before .pre .1, deep-depth (c .before .before .indented .ensures), deep-left (c .before .before .indented .ensures))
 
--- src/lib.rt:760:28
 ie-told-requires-2 : (t : ℕ) → ie-lts.Need-told-requires-2 (
   word-reads.Asked,
   word-reads.Learnt,
@@ -13215,7 +12670,6 @@ ie-told-requires-2 : (t : ℕ) → ie-lts.Need-told-requires-2 (
 ) (ie-at t) ie.Post
 ie-told-requires-2 t c κs = search needs
 
--- src/lib.rt:760:22
 ie-enum-known-s2 : (t : ℕ) → ie-lts.Need-enum-known-s2 (
   word-reads.Asked,
   word-reads.Learnt,
@@ -13240,7 +12694,6 @@ ie-enum-known-s2 : (t : ℕ) → ie-lts.Need-enum-known-s2 (
 ) (ie-at t) ie.Post
 ie-enum-known-s2 t c = search needs
 
--- src/lib.rt:761:9
 ie-enum-told-2 : (t : ℕ) → ie-lts.Need-enum-told-2 (
   word-reads.Asked,
   word-reads.Learnt,
@@ -13265,7 +12718,6 @@ ie-enum-told-2 : (t : ℕ) → ie-lts.Need-enum-told-2 (
 ) (ie-at t) ie.Post
 ie-enum-told-2 t c = search needs
 
--- src/lib.rt:761:9
 ie-same-length-2 : (t : ℕ) → ie-lts.Need-same-length-2 (
   word-reads.Asked,
   word-reads.Learnt,
@@ -13290,7 +12742,6 @@ ie-same-length-2 : (t : ℕ) → ie-lts.Need-same-length-2 (
 ) (ie-at t) ie.Post
 ie-same-length-2 t c = c .before .before .before .before .before .exp2 .kept .1 .1 .1 .1 .1 .1 .0 ∙ c .before .before .before .before .before .before .before .before .before .before .before .indent-deeper .kept .0 ∙ c .before .before .before .before .before .before .before .before .before .before .before .before .before .before .before .before .word2 .kept .1 .1 .0 ∙ c .before .before .before .before .before .before .before .before .before .before .before .before .before .before .before .before .before .before .before .before .before .before .before .before .before .exp .kept .1 .1 .1 .1 .1 .1 .0 ∙ c .before .before .before .before .before .before .before .before .before .before .before .before .before .before .before .before .before .before .before .before .before .before .before .before .before .before .before .before .before .before .word .kept .1 .1 .0
 
--- src/lib.rt:761:9
 ie-returns-2 : (t : ℕ) → ie-lts.Need-returns-2 (
   word-reads.Asked,
   word-reads.Learnt,
@@ -13316,7 +12767,6 @@ ie-returns-2 : (t : ℕ) → ie-lts.Need-returns-2 (
 unfolding Exp.exp Exp.if-no Helpers.indent-deeper Helpers.deepen
 ie-returns-2 t c = record { is = then-sure (c .before .before .before .before .before .before .before .before .before .before .before .before .before .before .before .before .before .before .before .before .before .before .before .before .before .before .before .before .before .before .word .ensures) (then-done (c .before .before .before .before .before .before .before .before .before .before .before .before .before .before .before .before .before .before .before .before .before .before .before .before .before .exp .ensures .is) (c .before .before .before .before .before .before .before .before .before .before .before .before .before .before .before .before .before .before .before .before .before .before .told .ensures) (c .before .before .before .before .before .before .before .before .before .before .before .before .before .before .before .before .before .before .before .before .s1 .given .1) (then-sure (c .before .before .before .before .before .before .before .before .before .before .before .before .before .before .before .before .word2 .ensures) (then-both (c .before .before .before .before .before .before .before .before .before .before .before .indent-deeper .ensures _) (then-stop (along (c .before .before .before .before .before .before .before .before .indented .ensures) (c .before .before .before .before .before .exp2 .ensures)) (c .before .before .told2 .ensures) (c .enum-told2 .given .1))))) }
 
--- src/lib.rt:763:5
 ie-line-requires : (t : ℕ) → ie-lts.Need-line-requires (
   word-reads.Asked,
   word-reads.Learnt,
@@ -13341,7 +12791,6 @@ ie-line-requires : (t : ℕ) → ie-lts.Need-line-requires (
 ) (ie-at t) ie.Post
 ie-line-requires t c κs = search needs
 
--- src/lib.rt:764:5
 ie-word-requires-3 : (t : ℕ) → ie-lts.Need-word-requires-3 (
   word-reads.Asked,
   word-reads.Learnt,
@@ -13366,7 +12815,6 @@ ie-word-requires-3 : (t : ℕ) → ie-lts.Need-word-requires-3 (
 ) (ie-at t) ie.Post
 ie-word-requires-3 t c κs = search needs
 
--- src/lib.rt:765:28
 ie-expression-requires : (t : ℕ) → ie-lts.Need-expression-requires (
   word-reads.Asked,
   word-reads.Learnt,
@@ -13391,7 +12839,6 @@ ie-expression-requires : (t : ℕ) → ie-lts.Need-expression-requires (
 ) (ie-at t) ie.Post
 ie-expression-requires t c κs = search needs
 
--- src/lib.rt:765:18
 ie-enum-known--k : (t : ℕ) → ie-lts.Need-enum-known--k (
   word-reads.Asked,
   word-reads.Learnt,
@@ -13416,7 +12863,6 @@ ie-enum-known--k : (t : ℕ) → ie-lts.Need-enum-known--k (
 ) (ie-at t) ie.Post
 ie-enum-known--k t c = search needs
 
--- src/lib.rt:766:9
 ie-enum-told-3 : (t : ℕ) → ie-lts.Need-enum-told-3 (
   word-reads.Asked,
   word-reads.Learnt,
@@ -13441,7 +12887,6 @@ ie-enum-told-3 : (t : ℕ) → ie-lts.Need-enum-told-3 (
 ) (ie-at t) ie.Post
 ie-enum-told-3 t c = search needs
 
--- src/lib.rt:766:9
 ie-stop-requires : (t : ℕ) → ie-lts.Need-stop-requires (
   word-reads.Asked,
   word-reads.Learnt,
@@ -13466,7 +12911,6 @@ ie-stop-requires : (t : ℕ) → ie-lts.Need-stop-requires (
 ) (ie-at t) ie.Post
 ie-stop-requires t c κs = search needs
 
--- src/lib.rt:766:9
 ie-same-length-3 : (t : ℕ) → ie-lts.Need-same-length-3 (
   word-reads.Asked,
   word-reads.Learnt,
@@ -13491,7 +12935,6 @@ ie-same-length-3 : (t : ℕ) → ie-lts.Need-same-length-3 (
 ) (ie-at t) ie.Post
 ie-same-length-3 t c = c .before .before .before .before .before .before .word3 .kept .1 .1 .0 ∙ c .before .before .before .before .before .before .before .before .before .before .before .line .kept .1 .1 .0 ∙ c .before .before .before .before .before .before .before .before .before .before .before .before .before .before .before .before .before .before .before .before .exp2 .kept .1 .1 .1 .1 .1 .1 .0 ∙ c .before .before .before .before .before .before .before .before .before .before .before .before .before .before .before .before .before .before .before .before .before .before .before .before .before .before .indent-deeper .kept .0 ∙ c .before .before .before .before .before .before .before .before .before .before .before .before .before .before .before .before .before .before .before .before .before .before .before .before .before .before .before .before .before .before .before .word2 .kept .1 .1 .0 ∙ c .before .before .before .before .before .before .before .before .before .before .before .before .before .before .before .before .before .before .before .before .before .before .before .before .before .before .before .before .before .before .before .before .before .before .before .before .before .before .before .before .exp .kept .1 .1 .1 .1 .1 .1 .0 ∙ c .before .before .before .before .before .before .before .before .before .before .before .before .before .before .before .before .before .before .before .before .before .before .before .before .before .before .before .before .before .before .before .before .before .before .before .before .before .before .before .before .before .before .before .before .before .word .kept .1 .1 .0
 
--- src/lib.rt:766:9
 ie-returns-3 : (t : ℕ) → ie-lts.Need-returns-3 (
   word-reads.Asked,
   word-reads.Learnt,
@@ -13517,7 +12960,6 @@ ie-returns-3 : (t : ℕ) → ie-lts.Need-returns-3 (
 unfolding Exp.exp Exp.if-no Helpers.indent-deeper Helpers.deepen
 ie-returns-3 t c = record { is = then-sure (c .before .before .before .before .before .before .before .before .before .before .before .before .before .before .before .before .before .before .before .before .before .before .before .before .before .before .before .before .before .before .before .before .before .before .before .before .before .before .before .before .before .before .before .before .before .word .ensures) (then-done (c .before .before .before .before .before .before .before .before .before .before .before .before .before .before .before .before .before .before .before .before .before .before .before .before .before .before .before .before .before .before .before .before .before .before .before .before .before .before .before .before .exp .ensures .is) (c .before .before .before .before .before .before .before .before .before .before .before .before .before .before .before .before .before .before .before .before .before .before .before .before .before .before .before .before .before .before .before .before .before .before .before .before .before .told .ensures) (c .before .before .before .before .before .before .before .before .before .before .before .before .before .before .before .before .before .before .before .before .before .before .before .before .before .before .before .before .before .before .before .before .before .before .before .s1 .given .1) (then-sure (c .before .before .before .before .before .before .before .before .before .before .before .before .before .before .before .before .before .before .before .before .before .before .before .before .before .before .before .before .before .before .before .word2 .ensures) (then-both (c .before .before .before .before .before .before .before .before .before .before .before .before .before .before .before .before .before .before .before .before .before .before .before .before .before .before .indent-deeper .ensures _) (then-done (along (c .before .before .before .before .before .before .before .before .before .before .before .before .before .before .before .before .before .before .before .before .before .before .before .indented .ensures) (c .before .before .before .before .before .before .before .before .before .before .before .before .before .before .before .before .before .before .before .before .exp2 .ensures)) (c .before .before .before .before .before .before .before .before .before .before .before .before .before .before .before .before .before .told2 .ensures) (c .before .before .before .before .before .before .before .before .before .before .before .before .before .before .before .s2 .given .1) (then-both (c .before .before .before .before .before .before .before .before .before .before .before .line .ensures) (then-sure (c .before .before .before .before .before .before .word3 .ensures) (look-not (c .stop .ensures) (c .before .before .before .expression .ensures) (c .before .enum-told3 .given .1)))))))) }
 
--- src/lib.rt:768:8
 ie-is-if-exp-requires : (t : ℕ) → ie-lts.Need-is-if-exp-requires (
   word-reads.Asked,
   word-reads.Learnt,
@@ -13542,7 +12984,6 @@ ie-is-if-exp-requires : (t : ℕ) → ie-lts.Need-is-if-exp-requires (
 ) (ie-at t) ie.Post
 ie-is-if-exp-requires t c κs = search needs
 
--- src/lib.rt:769:9
 ie-word-requires-4 : (t : ℕ) → ie-lts.Need-word-requires-4 (
   word-reads.Asked,
   word-reads.Learnt,
@@ -13567,7 +13008,6 @@ ie-word-requires-4 : (t : ℕ) → ie-lts.Need-word-requires-4 (
 ) (ie-at t) ie.Post
 ie-word-requires-4 t c κs = search needs
 
--- src/lib.rt:770:9
 ie-exp-requires-3 : (t : ℕ) → ie-lts.Need-exp-requires-3 (
   word-reads.Asked,
   word-reads.Learnt,
@@ -13592,7 +13032,6 @@ ie-exp-requires-3 : (t : ℕ) → ie-lts.Need-exp-requires-3 (
 ) (ie-at t) ie.Post
 ie-exp-requires-3 t c κs = omega (arith, c .before .before .before .before .before .before .before .before .before .before .before .before .before .before .before .before .before .before .before .before .before .before .before .before .before .before .before .before .before .before .before .before .before .before .before .before .before .before .before .before .before .before .before .before .before .before .before .before .before .before .before .before .before .before .before .before .before .before .before .before .before .before .before .pre .0, c .before .before .before .before .before .before .before .before .before .before .before .before .before .before .before .before .before .before .before .before .before .before .before .before .before .before .before .before .before .before .before .before .before .before .before .before .before .before .before .before .before .before .before .before .before .before .before .before .before .before .before .before .before .before .before .before .before .before .before .before .before .before .before .pre .1, deep-depth (c .before .before .before .before .before .before .before .before .before .before .before .before .before .before .before .before .before .before .before .before .before .before .before .before .before .before .before .before .before .before .before .before .indented .ensures), deep-left (c .before .before .before .before .before .before .before .before .before .before .before .before .before .before .before .before .before .before .before .before .before .before .before .before .before .before .before .before .before .before .before .before .indented .ensures))
 
--- src/lib.rt:770:9
 ie-same-length-4 : (t : ℕ) → ie-lts.Need-same-length-4 (
   word-reads.Asked,
   word-reads.Learnt,
@@ -13617,7 +13056,6 @@ ie-same-length-4 : (t : ℕ) → ie-lts.Need-same-length-4 (
 ) (ie-at t) ie.Post
 ie-same-length-4 t c = c .before .before .exp3 .kept .1 .1 .1 .1 .1 .1 .0 ∙ c .before .before .before .before .before .before .before .word4 .kept .1 .1 .0 ∙ c .before .before .before .before .before .before .before .before .before .before .before .before .before .before .before .before .before .before .word3 .kept .1 .1 .0 ∙ c .before .before .before .before .before .before .before .before .before .before .before .before .before .before .before .before .before .before .before .before .before .before .before .line .kept .1 .1 .0 ∙ c .before .before .before .before .before .before .before .before .before .before .before .before .before .before .before .before .before .before .before .before .before .before .before .before .before .before .before .before .before .before .before .before .exp2 .kept .1 .1 .1 .1 .1 .1 .0 ∙ c .before .before .before .before .before .before .before .before .before .before .before .before .before .before .before .before .before .before .before .before .before .before .before .before .before .before .before .before .before .before .before .before .before .before .before .before .before .before .indent-deeper .kept .0 ∙ c .before .before .before .before .before .before .before .before .before .before .before .before .before .before .before .before .before .before .before .before .before .before .before .before .before .before .before .before .before .before .before .before .before .before .before .before .before .before .before .before .before .before .before .word2 .kept .1 .1 .0 ∙ c .before .before .before .before .before .before .before .before .before .before .before .before .before .before .before .before .before .before .before .before .before .before .before .before .before .before .before .before .before .before .before .before .before .before .before .before .before .before .before .before .before .before .before .before .before .before .before .before .before .before .before .before .exp .kept .1 .1 .1 .1 .1 .1 .0 ∙ c .before .before .before .before .before .before .before .before .before .before .before .before .before .before .before .before .before .before .before .before .before .before .before .before .before .before .before .before .before .before .before .before .before .before .before .before .before .before .before .before .before .before .before .before .before .before .before .before .before .before .before .before .before .before .before .before .before .word .kept .1 .1 .0
 
--- src/lib.rt:770:9
 ie-returns-4 : (t : ℕ) → ie-lts.Need-returns-4 (
   word-reads.Asked,
   word-reads.Learnt,
@@ -13643,7 +13081,6 @@ ie-returns-4 : (t : ℕ) → ie-lts.Need-returns-4 (
 unfolding Exp.exp Exp.if-no Helpers.indent-deeper Helpers.deepen
 ie-returns-4 t c = record { is = then-sure (c .before .before .before .before .before .before .before .before .before .before .before .before .before .before .before .before .before .before .before .before .before .before .before .before .before .before .before .before .before .before .before .before .before .before .before .before .before .before .before .before .before .before .before .before .before .before .before .before .before .before .before .before .before .before .before .before .before .word .ensures) (then-done (c .before .before .before .before .before .before .before .before .before .before .before .before .before .before .before .before .before .before .before .before .before .before .before .before .before .before .before .before .before .before .before .before .before .before .before .before .before .before .before .before .before .before .before .before .before .before .before .before .before .before .before .before .exp .ensures .is) (c .before .before .before .before .before .before .before .before .before .before .before .before .before .before .before .before .before .before .before .before .before .before .before .before .before .before .before .before .before .before .before .before .before .before .before .before .before .before .before .before .before .before .before .before .before .before .before .before .before .told .ensures) (c .before .before .before .before .before .before .before .before .before .before .before .before .before .before .before .before .before .before .before .before .before .before .before .before .before .before .before .before .before .before .before .before .before .before .before .before .before .before .before .before .before .before .before .before .before .before .before .s1 .given .1) (then-sure (c .before .before .before .before .before .before .before .before .before .before .before .before .before .before .before .before .before .before .before .before .before .before .before .before .before .before .before .before .before .before .before .before .before .before .before .before .before .before .before .before .before .before .before .word2 .ensures) (then-both (c .before .before .before .before .before .before .before .before .before .before .before .before .before .before .before .before .before .before .before .before .before .before .before .before .before .before .before .before .before .before .before .before .before .before .before .before .before .before .indent-deeper .ensures _) (then-done (along (c .before .before .before .before .before .before .before .before .before .before .before .before .before .before .before .before .before .before .before .before .before .before .before .before .before .before .before .before .before .before .before .before .before .before .before .indented .ensures) (c .before .before .before .before .before .before .before .before .before .before .before .before .before .before .before .before .before .before .before .before .before .before .before .before .before .before .before .before .before .before .before .before .exp2 .ensures)) (c .before .before .before .before .before .before .before .before .before .before .before .before .before .before .before .before .before .before .before .before .before .before .before .before .before .before .before .before .before .told2 .ensures) (c .before .before .before .before .before .before .before .before .before .before .before .before .before .before .before .before .before .before .before .before .before .before .before .before .before .before .before .s2 .given .1) (then-both (c .before .before .before .before .before .before .before .before .before .before .before .before .before .before .before .before .before .before .before .before .before .before .before .line .ensures) (then-sure (c .before .before .before .before .before .before .before .before .before .before .before .before .before .before .before .before .before .before .word3 .ensures) (by-same (look-yes (c .before .before .before .before .before .before .before .before .before .before .before .before .before .before .before .expression .ensures) (c .before .before .before .before .before .before .before .before .before .before .before .before .before .-k .given .1) (c .before .before .before .before .before .before .before .before .before .before .before .is-if-exp .ensures) (c .before .before .before .before .before .before .before .before .before .before .if1 .taken)) (then-sure (c .before .before .before .before .before .before .before .word4 .ensures) (c .before .before .exp3 .ensures .is))))))))) }
 
--- src/lib.rt:772:5
 ie-line-in-requires : (t : ℕ) → ie-lts.Need-line-in-requires (
   word-reads.Asked,
   word-reads.Learnt,
@@ -13668,7 +13105,6 @@ ie-line-in-requires : (t : ℕ) → ie-lts.Need-line-in-requires (
 ) (ie-at t) ie.Post
 ie-line-in-requires t c κs = omega (arith, c .before .before .before .before .before .before .before .before .before .before .before .before .before .before .before .before .before .before .before .before .before .before .before .before .before .before .before .before .before .before .before .before .before .before .before .before .before .before .before .before .before .before .before .before .before .before .before .before .before .before .before .before .before .before .before .before .before .before .pre .1)
 
--- src/lib.rt:773:5
 ie-exp-requires-4 : (t : ℕ) → ie-lts.Need-exp-requires-4 (
   word-reads.Asked,
   word-reads.Learnt,
@@ -13693,7 +13129,6 @@ ie-exp-requires-4 : (t : ℕ) → ie-lts.Need-exp-requires-4 (
 ) (ie-at t) ie.Post
 ie-exp-requires-4 t c κs = omega (arith, c .before .before .before .before .before .before .before .before .before .before .before .before .before .before .before .before .before .before .before .before .before .before .before .before .before .before .before .before .before .before .before .before .before .before .before .before .before .before .before .before .before .before .before .before .before .before .before .before .before .before .before .before .before .before .before .before .before .before .before .before .before .before .before .pre .0, c .before .before .before .before .before .before .before .before .before .before .before .before .before .before .before .before .before .before .before .before .before .before .before .before .before .before .before .before .before .before .before .before .before .before .before .before .before .before .before .before .before .before .before .before .before .before .before .before .before .before .before .before .before .before .before .before .before .before .before .before .before .before .before .pre .1, deep-depth (c .before .before .before .before .before .before .before .before .before .before .before .before .before .before .before .before .before .before .before .before .before .before .before .before .before .before .before .before .before .before .before .before .indented .ensures), deep-left (c .before .before .before .before .before .before .before .before .before .before .before .before .before .before .before .before .before .before .before .before .before .before .before .before .before .before .before .before .before .before .before .before .indented .ensures))
 
--- src/lib.rt:736:1
 ie-same-length-5 : (t : ℕ) → ie-lts.Need-same-length-5 (
   word-reads.Asked,
   word-reads.Learnt,
@@ -13718,7 +13153,6 @@ ie-same-length-5 : (t : ℕ) → ie-lts.Need-same-length-5 (
 ) (ie-at t) ie.Post
 ie-same-length-5 t c = c .before .before .exp4 .kept .1 .1 .1 .1 .1 .1 .0 ∙ c .before .before .before .before .before .before .before .line-in .kept .1 .1 .0 ∙ c .before .before .before .before .before .before .before .before .before .before .before .before .before .before .before .before .before .before .word3 .kept .1 .1 .0 ∙ c .before .before .before .before .before .before .before .before .before .before .before .before .before .before .before .before .before .before .before .before .before .before .before .line .kept .1 .1 .0 ∙ c .before .before .before .before .before .before .before .before .before .before .before .before .before .before .before .before .before .before .before .before .before .before .before .before .before .before .before .before .before .before .before .before .exp2 .kept .1 .1 .1 .1 .1 .1 .0 ∙ c .before .before .before .before .before .before .before .before .before .before .before .before .before .before .before .before .before .before .before .before .before .before .before .before .before .before .before .before .before .before .before .before .before .before .before .before .before .before .indent-deeper .kept .0 ∙ c .before .before .before .before .before .before .before .before .before .before .before .before .before .before .before .before .before .before .before .before .before .before .before .before .before .before .before .before .before .before .before .before .before .before .before .before .before .before .before .before .before .before .before .word2 .kept .1 .1 .0 ∙ c .before .before .before .before .before .before .before .before .before .before .before .before .before .before .before .before .before .before .before .before .before .before .before .before .before .before .before .before .before .before .before .before .before .before .before .before .before .before .before .before .before .before .before .before .before .before .before .before .before .before .before .before .exp .kept .1 .1 .1 .1 .1 .1 .0 ∙ c .before .before .before .before .before .before .before .before .before .before .before .before .before .before .before .before .before .before .before .before .before .before .before .before .before .before .before .before .before .before .before .before .before .before .before .before .before .before .before .before .before .before .before .before .before .before .before .before .before .before .before .before .before .before .before .before .before .word .kept .1 .1 .0
 
--- src/lib.rt:736:1
 ie-returns-5 : (t : ℕ) → ie-lts.Need-returns-5 (
   word-reads.Asked,
   word-reads.Learnt,
@@ -13744,7 +13178,6 @@ ie-returns-5 : (t : ℕ) → ie-lts.Need-returns-5 (
 unfolding Exp.exp Exp.if-no Helpers.indent-deeper Helpers.deepen
 ie-returns-5 t c = record { is = then-sure (c .before .before .before .before .before .before .before .before .before .before .before .before .before .before .before .before .before .before .before .before .before .before .before .before .before .before .before .before .before .before .before .before .before .before .before .before .before .before .before .before .before .before .before .before .before .before .before .before .before .before .before .before .before .before .before .before .before .word .ensures) (then-done (c .before .before .before .before .before .before .before .before .before .before .before .before .before .before .before .before .before .before .before .before .before .before .before .before .before .before .before .before .before .before .before .before .before .before .before .before .before .before .before .before .before .before .before .before .before .before .before .before .before .before .before .before .exp .ensures .is) (c .before .before .before .before .before .before .before .before .before .before .before .before .before .before .before .before .before .before .before .before .before .before .before .before .before .before .before .before .before .before .before .before .before .before .before .before .before .before .before .before .before .before .before .before .before .before .before .before .before .told .ensures) (c .before .before .before .before .before .before .before .before .before .before .before .before .before .before .before .before .before .before .before .before .before .before .before .before .before .before .before .before .before .before .before .before .before .before .before .before .before .before .before .before .before .before .before .before .before .before .before .s1 .given .1) (then-sure (c .before .before .before .before .before .before .before .before .before .before .before .before .before .before .before .before .before .before .before .before .before .before .before .before .before .before .before .before .before .before .before .before .before .before .before .before .before .before .before .before .before .before .before .word2 .ensures) (then-both (c .before .before .before .before .before .before .before .before .before .before .before .before .before .before .before .before .before .before .before .before .before .before .before .before .before .before .before .before .before .before .before .before .before .before .before .before .before .before .indent-deeper .ensures _) (then-done (along (c .before .before .before .before .before .before .before .before .before .before .before .before .before .before .before .before .before .before .before .before .before .before .before .before .before .before .before .before .before .before .before .before .before .before .before .indented .ensures) (c .before .before .before .before .before .before .before .before .before .before .before .before .before .before .before .before .before .before .before .before .before .before .before .before .before .before .before .before .before .before .before .before .exp2 .ensures)) (c .before .before .before .before .before .before .before .before .before .before .before .before .before .before .before .before .before .before .before .before .before .before .before .before .before .before .before .before .before .told2 .ensures) (c .before .before .before .before .before .before .before .before .before .before .before .before .before .before .before .before .before .before .before .before .before .before .before .before .before .before .before .s2 .given .1) (then-both (c .before .before .before .before .before .before .before .before .before .before .before .before .before .before .before .before .before .before .before .before .before .before .before .line .ensures) (then-sure (c .before .before .before .before .before .before .before .before .before .before .before .before .before .before .before .before .before .before .word3 .ensures) (by-same (look-no (c .before .before .before .before .before .before .before .before .before .before .before .before .before .before .before .expression .ensures) (c .before .before .before .before .before .before .before .before .before .before .before .before .before .-k .given .1) (c .before .before .before .before .before .before .before .before .before .before .before .is-if-exp .ensures) (c .before .before .before .before .before .before .before .before .before .before .if1 .left)) (then-both (c .before .before .before .before .before .before .before .line-in .ensures) (along (c .before .before .before .before .before .before .before .before .before .before .before .before .before .before .before .before .before .before .before .before .before .before .before .before .before .before .before .before .before .before .before .before .before .before .before .indented .ensures) (c .before .before .exp4 .ensures)))))))))) }
 
--- src/lib.rt:343:9
 it-group-requires : (t : ℕ) → it-lts.Need-group-requires (
   group-reads.Asked,
   group-reads.Learnt,
@@ -13757,7 +13190,6 @@ it-group-requires : (t : ℕ) → it-lts.Need-group-requires (
 ) (it-at t) it.Post
 it-group-requires t c κs = search needs
 
--- src/lib.rt:344:28
 it-told-requires : (t : ℕ) → it-lts.Need-told-requires (
   group-reads.Asked,
   group-reads.Learnt,
@@ -13770,7 +13202,6 @@ it-told-requires : (t : ℕ) → it-lts.Need-told-requires (
 ) (it-at t) it.Post
 it-told-requires t c κs = search needs
 
--- src/lib.rt:344:22
 it-enum-known-s1 : (t : ℕ) → it-lts.Need-enum-known-s1 (
   group-reads.Asked,
   group-reads.Learnt,
@@ -13783,7 +13214,6 @@ it-enum-known-s1 : (t : ℕ) → it-lts.Need-enum-known-s1 (
 ) (it-at t) it.Post
 it-enum-known-s1 t c = search needs
 
--- src/lib.rt:345:9
 it-enum-told : (t : ℕ) → it-lts.Need-enum-told (
   group-reads.Asked,
   group-reads.Learnt,
@@ -13796,7 +13226,6 @@ it-enum-told : (t : ℕ) → it-lts.Need-enum-told (
 ) (it-at t) it.Post
 it-enum-told t c = search needs
 
--- src/lib.rt:345:9
 it-returns : (t : ℕ) → it-lts.Need-returns (
   group-reads.Asked,
   group-reads.Learnt,
@@ -13810,7 +13239,6 @@ it-returns : (t : ℕ) → it-lts.Need-returns (
 unfolding Exp.exp-semi-item
 it-returns t c = record { is = group-not (c .before .before .before .group .ensures) (c .before .before .told .ensures) (c .enum-told .given .1) }
 
--- src/lib.rt:347:9
 it-exp-requires : (t : ℕ) → it-lts.Need-exp-requires (
   group-reads.Asked,
   group-reads.Learnt,
@@ -13823,7 +13251,6 @@ it-exp-requires : (t : ℕ) → it-lts.Need-exp-requires (
 ) (it-at t) it.Post
 it-exp-requires t c κs = omega (arith, c .before .before .before .before .before .before .before .before .before .before .before .before .before .pre .0, c .before .before .before .before .before .before .before .before .before .before .before .before .before .pre .1)
 
--- src/lib.rt:348:28
 it-told-requires-2 : (t : ℕ) → it-lts.Need-told-requires-2 (
   group-reads.Asked,
   group-reads.Learnt,
@@ -13836,7 +13263,6 @@ it-told-requires-2 : (t : ℕ) → it-lts.Need-told-requires-2 (
 ) (it-at t) it.Post
 it-told-requires-2 t c κs = search needs
 
--- src/lib.rt:348:22
 it-enum-known-s2 : (t : ℕ) → it-lts.Need-enum-known-s2 (
   group-reads.Asked,
   group-reads.Learnt,
@@ -13849,7 +13275,6 @@ it-enum-known-s2 : (t : ℕ) → it-lts.Need-enum-known-s2 (
 ) (it-at t) it.Post
 it-enum-known-s2 t c = search needs
 
--- src/lib.rt:349:9
 it-enum-told-2 : (t : ℕ) → it-lts.Need-enum-told-2 (
   group-reads.Asked,
   group-reads.Learnt,
@@ -13862,7 +13287,6 @@ it-enum-told-2 : (t : ℕ) → it-lts.Need-enum-told-2 (
 ) (it-at t) it.Post
 it-enum-told-2 t c = search needs
 
--- src/lib.rt:349:9
 it-same-length : (t : ℕ) → it-lts.Need-same-length (
   group-reads.Asked,
   group-reads.Learnt,
@@ -13875,7 +13299,6 @@ it-same-length : (t : ℕ) → it-lts.Need-same-length (
 ) (it-at t) it.Post
 it-same-length t c = c .before .before .before .before .before .exp .kept .1 .1 .1 .1 .1 .1 .0
 
--- src/lib.rt:349:9
 it-returns-2 : (t : ℕ) → it-lts.Need-returns-2 (
   group-reads.Asked,
   group-reads.Learnt,
@@ -13889,7 +13312,6 @@ it-returns-2 : (t : ℕ) → it-lts.Need-returns-2 (
 unfolding Exp.exp-semi-item
 it-returns-2 t c = record { is = by-same (group-is (c .before .before .before .before .before .before .before .before .before .before .before .before .group .ensures) (c .before .before .before .before .before .before .before .before .before .before .before .told .ensures) (c .before .before .before .before .before .before .before .before .before .s1 .given .1)) (then-stop (c .before .before .before .before .before .exp .ensures .is) (c .before .before .told2 .ensures) (c .enum-told2 .given .1)) }
 
--- src/lib.rt:351:5
 it-item-semi-requires : (t : ℕ) → it-lts.Need-item-semi-requires (
   group-reads.Asked,
   group-reads.Learnt,
@@ -13902,7 +13324,6 @@ it-item-semi-requires : (t : ℕ) → it-lts.Need-item-semi-requires (
 ) (it-at t) it.Post
 it-item-semi-requires t c κs = search needs
 
--- src/lib.rt:327:1
 it-same-length-2 : (t : ℕ) → it-lts.Need-same-length-2 (
   group-reads.Asked,
   group-reads.Learnt,
@@ -13915,7 +13336,6 @@ it-same-length-2 : (t : ℕ) → it-lts.Need-same-length-2 (
 ) (it-at t) it.Post
 it-same-length-2 t c = c .before .before .item-semi .kept .1 .1 .1 .1 .1 .0 ∙ c .before .before .before .before .before .before .before .before .before .before .before .exp .kept .1 .1 .1 .1 .1 .1 .0
 
--- src/lib.rt:327:1
 it-returns-3 : (t : ℕ) → it-lts.Need-returns-3 (
   group-reads.Asked,
   group-reads.Learnt,
@@ -13929,7 +13349,6 @@ it-returns-3 : (t : ℕ) → it-lts.Need-returns-3 (
 unfolding Exp.exp-semi-item
 it-returns-3 t c = record { is = by-same (group-is (c .before .before .before .before .before .before .before .before .before .before .before .before .before .before .before .before .before .before .group .ensures) (c .before .before .before .before .before .before .before .before .before .before .before .before .before .before .before .before .before .told .ensures) (c .before .before .before .before .before .before .before .before .before .before .before .before .before .before .before .s1 .given .1)) (then-done (c .before .before .before .before .before .before .before .before .before .before .before .exp .ensures .is) (c .before .before .before .before .before .before .before .before .told2 .ensures) (c .before .before .before .before .before .before .s2 .given .1) (plain (c .before .before .item-semi .ensures))) }
 
--- src/lib.rt:1696:29
 ld-absent-requires : (t : ℕ) → ld-lts.Need-absent-requires (
   absent-reads.Asked,
   absent-reads.Learnt,
@@ -13942,7 +13361,6 @@ ld-absent-requires : (t : ℕ) → ld-lts.Need-absent-requires (
 ) (ld-at t) ld.Post
 ld-absent-requires t c κs = search needs
 
--- src/lib.rt:1696:23
 ld-enum-known-s0 : (t : ℕ) → ld-lts.Need-enum-known-s0 (
   absent-reads.Asked,
   absent-reads.Learnt,
@@ -13955,7 +13373,6 @@ ld-enum-known-s0 : (t : ℕ) → ld-lts.Need-enum-known-s0 (
 ) (ld-at t) ld.Post
 ld-enum-known-s0 t c = search needs
 
--- src/lib.rt:1697:9
 ld-returns : (t : ℕ) → ld-lts.Need-returns (
   absent-reads.Asked,
   absent-reads.Learnt,
@@ -13981,7 +13398,6 @@ ld-enum-told : (t : ℕ) → ld-lts.Need-enum-told (
 ) (ld-at t) ld.Post
 ld-enum-told t c = search needs
 
--- src/lib.rt:1699:9
 ld-group-requires : (t : ℕ) → ld-lts.Need-group-requires (
   absent-reads.Asked,
   absent-reads.Learnt,
@@ -13994,7 +13410,6 @@ ld-group-requires : (t : ℕ) → ld-lts.Need-group-requires (
 ) (ld-at t) ld.Post
 ld-group-requires t c κs = search needs
 
--- src/lib.rt:1700:28
 ld-told-requires : (t : ℕ) → ld-lts.Need-told-requires (
   absent-reads.Asked,
   absent-reads.Learnt,
@@ -14007,7 +13422,6 @@ ld-told-requires : (t : ℕ) → ld-lts.Need-told-requires (
 ) (ld-at t) ld.Post
 ld-told-requires t c κs = search needs
 
--- src/lib.rt:1700:22
 ld-enum-known-s1 : (t : ℕ) → ld-lts.Need-enum-known-s1 (
   absent-reads.Asked,
   absent-reads.Learnt,
@@ -14020,7 +13434,6 @@ ld-enum-known-s1 : (t : ℕ) → ld-lts.Need-enum-known-s1 (
 ) (ld-at t) ld.Post
 ld-enum-known-s1 t c = search needs
 
--- src/lib.rt:1701:9
 ld-enum-told-2 : (t : ℕ) → ld-lts.Need-enum-told-2 (
   absent-reads.Asked,
   absent-reads.Learnt,
@@ -14033,7 +13446,6 @@ ld-enum-told-2 : (t : ℕ) → ld-lts.Need-enum-told-2 (
 ) (ld-at t) ld.Post
 ld-enum-told-2 t c = search needs
 
--- src/lib.rt:1701:9
 ld-returns-2 : (t : ℕ) → ld-lts.Need-returns-2 (
   absent-reads.Asked,
   absent-reads.Learnt,
@@ -14047,7 +13459,6 @@ ld-returns-2 : (t : ℕ) → ld-lts.Need-returns-2 (
 unfolding DecOne.local-decs
 ld-returns-2 t c = record { is = by-same (maybe-there (c .before .before .before .before .before .before .absent .ensures) (c .before .before .before .before .enum-told .given .1)) (group-not (c .before .before .before .group .ensures) (c .before .before .told .ensures) (c .enum-told2 .given .1)) }
 
--- src/lib.rt:1703:5
 ld-ds-requires : (t : ℕ) → ld-lts.Need-ds-requires (
   absent-reads.Asked,
   absent-reads.Learnt,
@@ -14060,7 +13471,6 @@ ld-ds-requires : (t : ℕ) → ld-lts.Need-ds-requires (
 ) (ld-at t) ld.Post
 ld-ds-requires t c κs = omega (arith, c .before .before .before .before .before .before .before .before .before .before .before .before .before .before .before .before .pre .0, c .before .before .before .before .before .before .before .before .before .before .before .before .before .before .before .before .pre .1)
 
--- src/lib.rt:1681:1
 ld-same-length : (t : ℕ) → ld-lts.Need-same-length (
   absent-reads.Asked,
   absent-reads.Learnt,
@@ -14073,7 +13483,6 @@ ld-same-length : (t : ℕ) → ld-lts.Need-same-length (
 ) (ld-at t) ld.Post
 ld-same-length t c = c .before .before .ds .kept .1 .1 .1 .1 .1 .1 .0
 
--- src/lib.rt:1681:1
 ld-returns-3 : (t : ℕ) → ld-lts.Need-returns-3 (
   absent-reads.Asked,
   absent-reads.Learnt,
@@ -14087,7 +13496,6 @@ ld-returns-3 : (t : ℕ) → ld-lts.Need-returns-3 (
 unfolding DecOne.local-decs
 ld-returns-3 t c = record { is = by-same (maybe-there (c .before .before .before .before .before .before .before .before .before .before .before .before .absent .ensures) (c .before .before .before .before .before .before .before .before .before .before .enum-told .given .1)) (by-same (group-is (c .before .before .before .before .before .before .before .before .before .group .ensures) (c .before .before .before .before .before .before .before .before .told .ensures) (c .before .before .before .before .before .before .s1 .given .1)) (c .before .before .ds .ensures .is)) }
 
--- src/lib.rt:1660:5
 lo-word-requires : (t : ℕ) → lo-lts.Need-word-requires (
   word-reads.Asked,
   word-reads.Learnt,
@@ -14106,7 +13514,6 @@ lo-word-requires : (t : ℕ) → lo-lts.Need-word-requires (
 ) (lo-at t) lo.Post
 lo-word-requires t c κs = search needs
 
--- src/lib.rt:1661:5
 lo-word-requires-2 : (t : ℕ) → lo-lts.Need-word-requires-2 (
   word-reads.Asked,
   word-reads.Learnt,
@@ -14125,7 +13532,6 @@ lo-word-requires-2 : (t : ℕ) → lo-lts.Need-word-requires-2 (
 ) (lo-at t) lo.Post
 lo-word-requires-2 t c κs = search needs
 
--- src/lib.rt:1662:5
 lo-indent-deeper-requires : (t : ℕ) → lo-lts.Need-indent-deeper-requires (
   word-reads.Asked,
   word-reads.Learnt,
@@ -14144,7 +13550,6 @@ lo-indent-deeper-requires : (t : ℕ) → lo-lts.Need-indent-deeper-requires (
 ) (lo-at t) lo.Post
 lo-indent-deeper-requires t c κs = omega (arith, c .before .before .before .before .before .before .before .before .before .before .before .before .before .before .before .before .before .before .pre .1)
 
--- src/lib.rt:1663:9
 lo-indented-requires : (t : ℕ) → lo-lts.Need-indented-requires (
   word-reads.Asked,
   word-reads.Learnt,
@@ -14163,7 +13568,6 @@ lo-indented-requires : (t : ℕ) → lo-lts.Need-indented-requires (
 ) (lo-at t) lo.Post
 lo-indented-requires t c κs = omega (arith, c .before .before .before .before .before .before .before .before .before .before .before .before .before .before .before .before .before .before .before .before .before .pre .1)
 
--- src/lib.rt:1664:9
 lo-ld-requires : (t : ℕ) → lo-lts.Need-ld-requires (
   word-reads.Asked,
   word-reads.Learnt,
@@ -14182,7 +13586,6 @@ lo-ld-requires : (t : ℕ) → lo-lts.Need-ld-requires (
 ) (lo-at t) lo.Post
 lo-ld-requires t c κs = omega (arith, c .before .before .before .before .before .before .before .before .before .before .before .before .before .before .before .before .before .before .before .before .before .before .before .before .pre .0, c .before .before .before .before .before .before .before .before .before .before .before .before .before .before .before .before .before .before .before .before .before .before .before .before .pre .1, deep-depth (c .before .before .indented .ensures), deep-left (c .before .before .indented .ensures))
 
--- src/lib.rt:1665:28
 lo-told-requires : (t : ℕ) → lo-lts.Need-told-requires (
   word-reads.Asked,
   word-reads.Learnt,
@@ -14201,7 +13604,6 @@ lo-told-requires : (t : ℕ) → lo-lts.Need-told-requires (
 ) (lo-at t) lo.Post
 lo-told-requires t c κs = search needs
 
--- src/lib.rt:1665:22
 lo-enum-known-s1 : (t : ℕ) → lo-lts.Need-enum-known-s1 (
   word-reads.Asked,
   word-reads.Learnt,
@@ -14220,7 +13622,6 @@ lo-enum-known-s1 : (t : ℕ) → lo-lts.Need-enum-known-s1 (
 ) (lo-at t) lo.Post
 lo-enum-known-s1 t c = search needs
 
--- src/lib.rt:1666:9
 lo-enum-told : (t : ℕ) → lo-lts.Need-enum-told (
   word-reads.Asked,
   word-reads.Learnt,
@@ -14239,7 +13640,6 @@ lo-enum-told : (t : ℕ) → lo-lts.Need-enum-told (
 ) (lo-at t) lo.Post
 lo-enum-told t c = search needs
 
--- src/lib.rt:1666:9
 lo-same-length : (t : ℕ) → lo-lts.Need-same-length (
   word-reads.Asked,
   word-reads.Learnt,
@@ -14258,7 +13658,6 @@ lo-same-length : (t : ℕ) → lo-lts.Need-same-length (
 ) (lo-at t) lo.Post
 lo-same-length t c = c .before .before .before .before .before .ld .kept .1 .1 .1 .1 .1 .1 .0 ∙ c .before .before .before .before .before .before .before .before .before .before .before .indent-deeper .kept .0 ∙ c .before .before .before .before .before .before .before .before .before .before .before .before .before .before .before .before .word2 .kept .1 .1 .0 ∙ c .before .before .before .before .before .before .before .before .before .before .before .before .before .before .before .before .before .before .before .before .before .word .kept .1 .1 .0
 
--- src/lib.rt:1666:9
 lo-returns : (t : ℕ) → lo-lts.Need-returns (
   word-reads.Asked,
   word-reads.Learnt,
@@ -14278,7 +13677,6 @@ lo-returns : (t : ℕ) → lo-lts.Need-returns (
 unfolding DecOne.dec-one Helpers.in-end Helpers.indent-deeper Helpers.deepen
 lo-returns t c = record { is = then-sure (c .before .before .before .before .before .before .before .before .before .before .before .before .before .before .before .before .before .before .before .before .before .word .ensures) (then-sure (c .before .before .before .before .before .before .before .before .before .before .before .before .before .before .before .before .word2 .ensures) (then-both (c .before .before .before .before .before .before .before .before .before .before .before .indent-deeper .ensures _) (then-stop (along (c .before .before .before .before .before .before .before .before .indented .ensures) (c .before .before .before .before .before .ld .ensures)) (c .before .before .told .ensures) (c .enum-told .given .1)))) }
 
--- src/lib.rt:1668:5
 lo-line-requires : (t : ℕ) → lo-lts.Need-line-requires (
   word-reads.Asked,
   word-reads.Learnt,
@@ -14297,7 +13695,6 @@ lo-line-requires : (t : ℕ) → lo-lts.Need-line-requires (
 ) (lo-at t) lo.Post
 lo-line-requires t c κs = search needs
 
--- src/lib.rt:1669:5
 lo-word-requires-3 : (t : ℕ) → lo-lts.Need-word-requires-3 (
   word-reads.Asked,
   word-reads.Learnt,
@@ -14316,7 +13713,6 @@ lo-word-requires-3 : (t : ℕ) → lo-lts.Need-word-requires-3 (
 ) (lo-at t) lo.Post
 lo-word-requires-3 t c κs = search needs
 
--- src/lib.rt:1670:5
 lo-indent-in-requires : (t : ℕ) → lo-lts.Need-indent-in-requires (
   word-reads.Asked,
   word-reads.Learnt,
@@ -14335,7 +13731,6 @@ lo-indent-in-requires : (t : ℕ) → lo-lts.Need-indent-in-requires (
 ) (lo-at t) lo.Post
 lo-indent-in-requires t c κs = omega (arith, c .before .before .before .before .before .before .before .before .before .before .before .before .before .before .before .before .before .before .before .before .before .before .before .before .before .before .before .before .before .before .before .before .before .before .before .before .before .before .before .before .before .before .before .pre .1)
 
--- src/lib.rt:1671:9
 lo-ld-requires-2 : (t : ℕ) → lo-lts.Need-ld-requires-2 (
   word-reads.Asked,
   word-reads.Learnt,
@@ -14354,7 +13749,6 @@ lo-ld-requires-2 : (t : ℕ) → lo-lts.Need-ld-requires-2 (
 ) (lo-at t) lo.Post
 lo-ld-requires-2 t c κs = omega (arith, c .before .before .before .before .before .before .before .before .before .before .before .before .before .before .before .before .before .before .before .before .before .before .before .before .before .before .before .before .before .before .before .before .before .before .before .before .before .before .before .before .before .before .before .before .before .before .before .before .pre .0, c .before .before .before .before .before .before .before .before .before .before .before .before .before .before .before .before .before .before .before .before .before .before .before .before .before .before .before .before .before .before .before .before .before .before .before .before .before .before .before .before .before .before .before .before .before .before .before .before .pre .1, deep-depth (c .before .before .before .before .before .before .before .before .before .before .before .before .before .before .before .before .before .before .before .before .before .before .before .before .before .before .indented .ensures), deep-left (c .before .before .before .before .before .before .before .before .before .before .before .before .before .before .before .before .before .before .before .before .before .before .before .before .before .before .indented .ensures))
 
--- src/lib.rt:1672:28
 lo-told-requires-2 : (t : ℕ) → lo-lts.Need-told-requires-2 (
   word-reads.Asked,
   word-reads.Learnt,
@@ -14373,7 +13767,6 @@ lo-told-requires-2 : (t : ℕ) → lo-lts.Need-told-requires-2 (
 ) (lo-at t) lo.Post
 lo-told-requires-2 t c κs = search needs
 
--- src/lib.rt:1672:22
 lo-enum-known-s2 : (t : ℕ) → lo-lts.Need-enum-known-s2 (
   word-reads.Asked,
   word-reads.Learnt,
@@ -14392,7 +13785,6 @@ lo-enum-known-s2 : (t : ℕ) → lo-lts.Need-enum-known-s2 (
 ) (lo-at t) lo.Post
 lo-enum-known-s2 t c = search needs
 
--- src/lib.rt:1673:9
 lo-enum-told-2 : (t : ℕ) → lo-lts.Need-enum-told-2 (
   word-reads.Asked,
   word-reads.Learnt,
@@ -14411,7 +13803,6 @@ lo-enum-told-2 : (t : ℕ) → lo-lts.Need-enum-told-2 (
 ) (lo-at t) lo.Post
 lo-enum-told-2 t c = search needs
 
--- src/lib.rt:1673:9
 lo-same-length-2 : (t : ℕ) → lo-lts.Need-same-length-2 (
   word-reads.Asked,
   word-reads.Learnt,
@@ -14430,7 +13821,6 @@ lo-same-length-2 : (t : ℕ) → lo-lts.Need-same-length-2 (
 ) (lo-at t) lo.Post
 lo-same-length-2 t c = c .before .before .before .before .before .ld2 .kept .1 .1 .1 .1 .1 .1 .0 ∙ c .before .before .before .before .before .before .before .before .before .before .indent-in .kept .0 ∙ c .before .before .before .before .before .before .before .before .before .before .before .before .before .before .before .word3 .kept .1 .1 .0 ∙ c .before .before .before .before .before .before .before .before .before .before .before .before .before .before .before .before .before .before .before .before .line .kept .1 .1 .0 ∙ c .before .before .before .before .before .before .before .before .before .before .before .before .before .before .before .before .before .before .before .before .before .before .before .before .before .before .before .before .before .ld .kept .1 .1 .1 .1 .1 .1 .0 ∙ c .before .before .before .before .before .before .before .before .before .before .before .before .before .before .before .before .before .before .before .before .before .before .before .before .before .before .before .before .before .before .before .before .before .before .before .indent-deeper .kept .0 ∙ c .before .before .before .before .before .before .before .before .before .before .before .before .before .before .before .before .before .before .before .before .before .before .before .before .before .before .before .before .before .before .before .before .before .before .before .before .before .before .before .before .word2 .kept .1 .1 .0 ∙ c .before .before .before .before .before .before .before .before .before .before .before .before .before .before .before .before .before .before .before .before .before .before .before .before .before .before .before .before .before .before .before .before .before .before .before .before .before .before .before .before .before .before .before .before .before .word .kept .1 .1 .0
 
--- src/lib.rt:1673:9
 lo-returns-2 : (t : ℕ) → lo-lts.Need-returns-2 (
   word-reads.Asked,
   word-reads.Learnt,
@@ -14450,7 +13840,6 @@ lo-returns-2 : (t : ℕ) → lo-lts.Need-returns-2 (
 unfolding DecOne.dec-one Helpers.in-end Helpers.indent-deeper Helpers.deepen
 lo-returns-2 t c = record { is = then-sure (c .before .before .before .before .before .before .before .before .before .before .before .before .before .before .before .before .before .before .before .before .before .before .before .before .before .before .before .before .before .before .before .before .before .before .before .before .before .before .before .before .before .before .before .before .before .word .ensures) (then-sure (c .before .before .before .before .before .before .before .before .before .before .before .before .before .before .before .before .before .before .before .before .before .before .before .before .before .before .before .before .before .before .before .before .before .before .before .before .before .before .before .before .word2 .ensures) (then-both (c .before .before .before .before .before .before .before .before .before .before .before .before .before .before .before .before .before .before .before .before .before .before .before .before .before .before .before .before .before .before .before .before .before .before .before .indent-deeper .ensures _) (then-done (along (c .before .before .before .before .before .before .before .before .before .before .before .before .before .before .before .before .before .before .before .before .before .before .before .before .before .before .before .before .before .before .before .before .indented .ensures) (c .before .before .before .before .before .before .before .before .before .before .before .before .before .before .before .before .before .before .before .before .before .before .before .before .before .before .before .before .before .ld .ensures)) (c .before .before .before .before .before .before .before .before .before .before .before .before .before .before .before .before .before .before .before .before .before .before .before .before .before .before .told .ensures) (c .before .before .before .before .before .before .before .before .before .before .before .before .before .before .before .before .before .before .before .before .before .before .before .before .s1 .given .1) (then-both (c .before .before .before .before .before .before .before .before .before .before .before .before .before .before .before .before .before .before .before .before .line .ensures) (then-sure (c .before .before .before .before .before .before .before .before .before .before .before .before .before .before .before .word3 .ensures) (then-sure (c .before .before .before .before .before .before .before .before .before .before .indent-in .ensures _) (then-stop (along (c .before .before .before .before .before .before .before .before .before .before .before .before .before .before .before .before .before .before .before .before .before .before .before .before .before .before .before .before .before .before .before .before .indented .ensures) (c .before .before .before .before .before .ld2 .ensures)) (c .before .before .told2 .ensures) (c .enum-told2 .given .1)))))))) }
 
--- src/lib.rt:1675:5
 lo-line-requires-2 : (t : ℕ) → lo-lts.Need-line-requires-2 (
   word-reads.Asked,
   word-reads.Learnt,
@@ -14469,7 +13858,6 @@ lo-line-requires-2 : (t : ℕ) → lo-lts.Need-line-requires-2 (
 ) (lo-at t) lo.Post
 lo-line-requires-2 t c κs = search needs
 
--- src/lib.rt:1676:5
 lo-word-requires-4 : (t : ℕ) → lo-lts.Need-word-requires-4 (
   word-reads.Asked,
   word-reads.Learnt,
@@ -14488,7 +13876,6 @@ lo-word-requires-4 : (t : ℕ) → lo-lts.Need-word-requires-4 (
 ) (lo-at t) lo.Post
 lo-word-requires-4 t c κs = search needs
 
--- src/lib.rt:1645:1
 lo-same-length-3 : (t : ℕ) → lo-lts.Need-same-length-3 (
   word-reads.Asked,
   word-reads.Learnt,
@@ -14507,7 +13894,6 @@ lo-same-length-3 : (t : ℕ) → lo-lts.Need-same-length-3 (
 ) (lo-at t) lo.Post
 lo-same-length-3 t c = c .before .before .word4 .kept .1 .1 .0 ∙ c .before .before .before .before .before .before .before .line2 .kept .1 .1 .0 ∙ c .before .before .before .before .before .before .before .before .before .before .before .before .before .before .before .before .ld2 .kept .1 .1 .1 .1 .1 .1 .0 ∙ c .before .before .before .before .before .before .before .before .before .before .before .before .before .before .before .before .before .before .before .before .before .indent-in .kept .0 ∙ c .before .before .before .before .before .before .before .before .before .before .before .before .before .before .before .before .before .before .before .before .before .before .before .before .before .before .word3 .kept .1 .1 .0 ∙ c .before .before .before .before .before .before .before .before .before .before .before .before .before .before .before .before .before .before .before .before .before .before .before .before .before .before .before .before .before .before .before .line .kept .1 .1 .0 ∙ c .before .before .before .before .before .before .before .before .before .before .before .before .before .before .before .before .before .before .before .before .before .before .before .before .before .before .before .before .before .before .before .before .before .before .before .before .before .before .before .before .ld .kept .1 .1 .1 .1 .1 .1 .0 ∙ c .before .before .before .before .before .before .before .before .before .before .before .before .before .before .before .before .before .before .before .before .before .before .before .before .before .before .before .before .before .before .before .before .before .before .before .before .before .before .before .before .before .before .before .before .before .before .indent-deeper .kept .0 ∙ c .before .before .before .before .before .before .before .before .before .before .before .before .before .before .before .before .before .before .before .before .before .before .before .before .before .before .before .before .before .before .before .before .before .before .before .before .before .before .before .before .before .before .before .before .before .before .before .before .before .before .before .word2 .kept .1 .1 .0 ∙ c .before .before .before .before .before .before .before .before .before .before .before .before .before .before .before .before .before .before .before .before .before .before .before .before .before .before .before .before .before .before .before .before .before .before .before .before .before .before .before .before .before .before .before .before .before .before .before .before .before .before .before .before .before .before .before .before .word .kept .1 .1 .0
 
--- src/lib.rt:1645:1
 lo-returns-3 : (t : ℕ) → lo-lts.Need-returns-3 (
   word-reads.Asked,
   word-reads.Learnt,
@@ -14527,7 +13913,6 @@ lo-returns-3 : (t : ℕ) → lo-lts.Need-returns-3 (
 unfolding DecOne.dec-one Helpers.in-end Helpers.indent-deeper Helpers.deepen
 lo-returns-3 t c = record { is = then-sure (c .before .before .before .before .before .before .before .before .before .before .before .before .before .before .before .before .before .before .before .before .before .before .before .before .before .before .before .before .before .before .before .before .before .before .before .before .before .before .before .before .before .before .before .before .before .before .before .before .before .before .before .before .before .before .before .before .word .ensures) (then-sure (c .before .before .before .before .before .before .before .before .before .before .before .before .before .before .before .before .before .before .before .before .before .before .before .before .before .before .before .before .before .before .before .before .before .before .before .before .before .before .before .before .before .before .before .before .before .before .before .before .before .before .before .word2 .ensures) (then-both (c .before .before .before .before .before .before .before .before .before .before .before .before .before .before .before .before .before .before .before .before .before .before .before .before .before .before .before .before .before .before .before .before .before .before .before .before .before .before .before .before .before .before .before .before .before .before .indent-deeper .ensures _) (then-done (along (c .before .before .before .before .before .before .before .before .before .before .before .before .before .before .before .before .before .before .before .before .before .before .before .before .before .before .before .before .before .before .before .before .before .before .before .before .before .before .before .before .before .before .before .indented .ensures) (c .before .before .before .before .before .before .before .before .before .before .before .before .before .before .before .before .before .before .before .before .before .before .before .before .before .before .before .before .before .before .before .before .before .before .before .before .before .before .before .before .ld .ensures)) (c .before .before .before .before .before .before .before .before .before .before .before .before .before .before .before .before .before .before .before .before .before .before .before .before .before .before .before .before .before .before .before .before .before .before .before .before .before .told .ensures) (c .before .before .before .before .before .before .before .before .before .before .before .before .before .before .before .before .before .before .before .before .before .before .before .before .before .before .before .before .before .before .before .before .before .before .before .s1 .given .1) (then-both (c .before .before .before .before .before .before .before .before .before .before .before .before .before .before .before .before .before .before .before .before .before .before .before .before .before .before .before .before .before .before .before .line .ensures) (then-sure (c .before .before .before .before .before .before .before .before .before .before .before .before .before .before .before .before .before .before .before .before .before .before .before .before .before .before .word3 .ensures) (then-sure (c .before .before .before .before .before .before .before .before .before .before .before .before .before .before .before .before .before .before .before .before .before .indent-in .ensures _) (then-done (along (c .before .before .before .before .before .before .before .before .before .before .before .before .before .before .before .before .before .before .before .before .before .before .before .before .before .before .before .before .before .before .before .before .before .before .before .before .before .before .before .before .before .before .before .indented .ensures) (c .before .before .before .before .before .before .before .before .before .before .before .before .before .before .before .before .ld2 .ensures)) (c .before .before .before .before .before .before .before .before .before .before .before .before .before .told2 .ensures) (c .before .before .before .before .before .before .before .before .before .before .before .s2 .given .1) (then-both (c .before .before .before .before .before .before .before .line2 .ensures) (last-sure (c .before .before .word4 .ensures)))))))))) }
 
--- src/lib.rt:499:5
 lx-word-requires : (t : ℕ) → lx-lts.Need-word-requires (
   word-reads.Asked,
   word-reads.Learnt,
@@ -14548,7 +13933,6 @@ lx-word-requires : (t : ℕ) → lx-lts.Need-word-requires (
 ) (lx-at t) lx.Post
 lx-word-requires t c κs = search needs
 
--- src/lib.rt:500:5
 lx-word-requires-2 : (t : ℕ) → lx-lts.Need-word-requires-2 (
   word-reads.Asked,
   word-reads.Learnt,
@@ -14569,7 +13953,6 @@ lx-word-requires-2 : (t : ℕ) → lx-lts.Need-word-requires-2 (
 ) (lx-at t) lx.Post
 lx-word-requires-2 t c κs = search needs
 
--- src/lib.rt:501:5
 lx-indent-deeper-requires : (t : ℕ) → lx-lts.Need-indent-deeper-requires (
   word-reads.Asked,
   word-reads.Learnt,
@@ -14590,7 +13973,6 @@ lx-indent-deeper-requires : (t : ℕ) → lx-lts.Need-indent-deeper-requires (
 ) (lx-at t) lx.Post
 lx-indent-deeper-requires t c κs = omega (arith, c .before .before .before .before .before .before .before .before .before .before .before .before .before .before .before .before .before .before .pre .1)
 
--- src/lib.rt:502:9
 lx-indented-requires : (t : ℕ) → lx-lts.Need-indented-requires (
   word-reads.Asked,
   word-reads.Learnt,
@@ -14611,7 +13993,6 @@ lx-indented-requires : (t : ℕ) → lx-lts.Need-indented-requires (
 ) (lx-at t) lx.Post
 lx-indented-requires t c κs = omega (arith, c .before .before .before .before .before .before .before .before .before .before .before .before .before .before .before .before .before .before .before .before .before .pre .1)
 
--- src/lib.rt:503:9
 lx-ds-requires : (t : ℕ) → lx-lts.Need-ds-requires (
   word-reads.Asked,
   word-reads.Learnt,
@@ -14632,7 +14013,6 @@ lx-ds-requires : (t : ℕ) → lx-lts.Need-ds-requires (
 ) (lx-at t) lx.Post
 lx-ds-requires t c κs = omega (arith, c .before .before .before .before .before .before .before .before .before .before .before .before .before .before .before .before .before .before .before .before .before .before .before .before .pre .0, c .before .before .before .before .before .before .before .before .before .before .before .before .before .before .before .before .before .before .before .before .before .before .before .before .pre .1, deep-depth (c .before .before .indented .ensures), deep-left (c .before .before .indented .ensures))
 
--- src/lib.rt:504:28
 lx-told-requires : (t : ℕ) → lx-lts.Need-told-requires (
   word-reads.Asked,
   word-reads.Learnt,
@@ -14653,7 +14033,6 @@ lx-told-requires : (t : ℕ) → lx-lts.Need-told-requires (
 ) (lx-at t) lx.Post
 lx-told-requires t c κs = search needs
 
--- src/lib.rt:504:22
 lx-enum-known-s1 : (t : ℕ) → lx-lts.Need-enum-known-s1 (
   word-reads.Asked,
   word-reads.Learnt,
@@ -14674,7 +14053,6 @@ lx-enum-known-s1 : (t : ℕ) → lx-lts.Need-enum-known-s1 (
 ) (lx-at t) lx.Post
 lx-enum-known-s1 t c = search needs
 
--- src/lib.rt:505:9
 lx-enum-told : (t : ℕ) → lx-lts.Need-enum-told (
   word-reads.Asked,
   word-reads.Learnt,
@@ -14695,7 +14073,6 @@ lx-enum-told : (t : ℕ) → lx-lts.Need-enum-told (
 ) (lx-at t) lx.Post
 lx-enum-told t c = search needs
 
--- src/lib.rt:505:9
 lx-same-length : (t : ℕ) → lx-lts.Need-same-length (
   word-reads.Asked,
   word-reads.Learnt,
@@ -14716,7 +14093,6 @@ lx-same-length : (t : ℕ) → lx-lts.Need-same-length (
 ) (lx-at t) lx.Post
 lx-same-length t c = c .before .before .before .before .before .ds .kept .1 .1 .1 .1 .1 .1 .0 ∙ c .before .before .before .before .before .before .before .before .before .before .before .indent-deeper .kept .0 ∙ c .before .before .before .before .before .before .before .before .before .before .before .before .before .before .before .before .word2 .kept .1 .1 .0 ∙ c .before .before .before .before .before .before .before .before .before .before .before .before .before .before .before .before .before .before .before .before .before .word .kept .1 .1 .0
 
--- src/lib.rt:505:9
 lx-returns : (t : ℕ) → lx-lts.Need-returns (
   word-reads.Asked,
   word-reads.Learnt,
@@ -14738,7 +14114,6 @@ lx-returns : (t : ℕ) → lx-lts.Need-returns (
 unfolding Exp.exp Helpers.in-end Helpers.indent-deeper Helpers.deepen
 lx-returns t c = record { is = then-sure (c .before .before .before .before .before .before .before .before .before .before .before .before .before .before .before .before .before .before .before .before .before .word .ensures) (then-sure (c .before .before .before .before .before .before .before .before .before .before .before .before .before .before .before .before .word2 .ensures) (then-both (c .before .before .before .before .before .before .before .before .before .before .before .indent-deeper .ensures _) (then-stop (along (c .before .before .before .before .before .before .before .before .indented .ensures) (c .before .before .before .before .before .ds .ensures)) (c .before .before .told .ensures) (c .enum-told .given .1)))) }
 
--- src/lib.rt:507:5
 lx-line-requires : (t : ℕ) → lx-lts.Need-line-requires (
   word-reads.Asked,
   word-reads.Learnt,
@@ -14759,7 +14134,6 @@ lx-line-requires : (t : ℕ) → lx-lts.Need-line-requires (
 ) (lx-at t) lx.Post
 lx-line-requires t c κs = search needs
 
--- src/lib.rt:508:5
 lx-word-requires-3 : (t : ℕ) → lx-lts.Need-word-requires-3 (
   word-reads.Asked,
   word-reads.Learnt,
@@ -14780,7 +14154,6 @@ lx-word-requires-3 : (t : ℕ) → lx-lts.Need-word-requires-3 (
 ) (lx-at t) lx.Post
 lx-word-requires-3 t c κs = search needs
 
--- src/lib.rt:509:5
 lx-indent-in-requires : (t : ℕ) → lx-lts.Need-indent-in-requires (
   word-reads.Asked,
   word-reads.Learnt,
@@ -14801,7 +14174,6 @@ lx-indent-in-requires : (t : ℕ) → lx-lts.Need-indent-in-requires (
 ) (lx-at t) lx.Post
 lx-indent-in-requires t c κs = omega (arith, c .before .before .before .before .before .before .before .before .before .before .before .before .before .before .before .before .before .before .before .before .before .before .before .before .before .before .before .before .before .before .before .before .before .before .before .before .before .before .before .before .before .before .before .pre .1)
 
--- src/lib.rt:510:9
 lx-sm-requires : (t : ℕ) → lx-lts.Need-sm-requires (
   word-reads.Asked,
   word-reads.Learnt,
@@ -14822,7 +14194,6 @@ lx-sm-requires : (t : ℕ) → lx-lts.Need-sm-requires (
 ) (lx-at t) lx.Post
 lx-sm-requires t c κs = omega (arith, c .before .before .before .before .before .before .before .before .before .before .before .before .before .before .before .before .before .before .before .before .before .before .before .before .before .before .before .before .before .before .before .before .before .before .before .before .before .before .before .before .before .before .before .before .before .before .before .before .pre .0, c .before .before .before .before .before .before .before .before .before .before .before .before .before .before .before .before .before .before .before .before .before .before .before .before .before .before .before .before .before .before .before .before .before .before .before .before .before .before .before .before .before .before .before .before .before .before .before .before .pre .1, deep-depth (c .before .before .before .before .before .before .before .before .before .before .before .before .before .before .before .before .before .before .before .before .before .before .before .before .before .before .indented .ensures), deep-left (c .before .before .before .before .before .before .before .before .before .before .before .before .before .before .before .before .before .before .before .before .before .before .before .before .before .before .indented .ensures))
 
--- src/lib.rt:511:28
 lx-told-requires-2 : (t : ℕ) → lx-lts.Need-told-requires-2 (
   word-reads.Asked,
   word-reads.Learnt,
@@ -14843,7 +14214,6 @@ lx-told-requires-2 : (t : ℕ) → lx-lts.Need-told-requires-2 (
 ) (lx-at t) lx.Post
 lx-told-requires-2 t c κs = search needs
 
--- src/lib.rt:511:22
 lx-enum-known-s2 : (t : ℕ) → lx-lts.Need-enum-known-s2 (
   word-reads.Asked,
   word-reads.Learnt,
@@ -14864,7 +14234,6 @@ lx-enum-known-s2 : (t : ℕ) → lx-lts.Need-enum-known-s2 (
 ) (lx-at t) lx.Post
 lx-enum-known-s2 t c = search needs
 
--- src/lib.rt:512:9
 lx-enum-told-2 : (t : ℕ) → lx-lts.Need-enum-told-2 (
   word-reads.Asked,
   word-reads.Learnt,
@@ -14885,7 +14254,6 @@ lx-enum-told-2 : (t : ℕ) → lx-lts.Need-enum-told-2 (
 ) (lx-at t) lx.Post
 lx-enum-told-2 t c = search needs
 
--- src/lib.rt:512:9
 lx-same-length-2 : (t : ℕ) → lx-lts.Need-same-length-2 (
   word-reads.Asked,
   word-reads.Learnt,
@@ -14906,7 +14274,6 @@ lx-same-length-2 : (t : ℕ) → lx-lts.Need-same-length-2 (
 ) (lx-at t) lx.Post
 lx-same-length-2 t c = c .before .before .before .before .before .sm .kept .1 .1 .1 .1 .1 .1 .0 ∙ c .before .before .before .before .before .before .before .before .before .before .indent-in .kept .0 ∙ c .before .before .before .before .before .before .before .before .before .before .before .before .before .before .before .word3 .kept .1 .1 .0 ∙ c .before .before .before .before .before .before .before .before .before .before .before .before .before .before .before .before .before .before .before .before .line .kept .1 .1 .0 ∙ c .before .before .before .before .before .before .before .before .before .before .before .before .before .before .before .before .before .before .before .before .before .before .before .before .before .before .before .before .before .ds .kept .1 .1 .1 .1 .1 .1 .0 ∙ c .before .before .before .before .before .before .before .before .before .before .before .before .before .before .before .before .before .before .before .before .before .before .before .before .before .before .before .before .before .before .before .before .before .before .before .indent-deeper .kept .0 ∙ c .before .before .before .before .before .before .before .before .before .before .before .before .before .before .before .before .before .before .before .before .before .before .before .before .before .before .before .before .before .before .before .before .before .before .before .before .before .before .before .before .word2 .kept .1 .1 .0 ∙ c .before .before .before .before .before .before .before .before .before .before .before .before .before .before .before .before .before .before .before .before .before .before .before .before .before .before .before .before .before .before .before .before .before .before .before .before .before .before .before .before .before .before .before .before .before .word .kept .1 .1 .0
 
--- src/lib.rt:512:9
 lx-returns-2 : (t : ℕ) → lx-lts.Need-returns-2 (
   word-reads.Asked,
   word-reads.Learnt,
@@ -14928,7 +14295,6 @@ lx-returns-2 : (t : ℕ) → lx-lts.Need-returns-2 (
 unfolding Exp.exp Helpers.in-end Helpers.indent-deeper Helpers.deepen
 lx-returns-2 t c = record { is = then-sure (c .before .before .before .before .before .before .before .before .before .before .before .before .before .before .before .before .before .before .before .before .before .before .before .before .before .before .before .before .before .before .before .before .before .before .before .before .before .before .before .before .before .before .before .before .before .word .ensures) (then-sure (c .before .before .before .before .before .before .before .before .before .before .before .before .before .before .before .before .before .before .before .before .before .before .before .before .before .before .before .before .before .before .before .before .before .before .before .before .before .before .before .before .word2 .ensures) (then-both (c .before .before .before .before .before .before .before .before .before .before .before .before .before .before .before .before .before .before .before .before .before .before .before .before .before .before .before .before .before .before .before .before .before .before .before .indent-deeper .ensures _) (then-done (along (c .before .before .before .before .before .before .before .before .before .before .before .before .before .before .before .before .before .before .before .before .before .before .before .before .before .before .before .before .before .before .before .before .indented .ensures) (c .before .before .before .before .before .before .before .before .before .before .before .before .before .before .before .before .before .before .before .before .before .before .before .before .before .before .before .before .before .ds .ensures)) (c .before .before .before .before .before .before .before .before .before .before .before .before .before .before .before .before .before .before .before .before .before .before .before .before .before .before .told .ensures) (c .before .before .before .before .before .before .before .before .before .before .before .before .before .before .before .before .before .before .before .before .before .before .before .before .s1 .given .1) (then-both (c .before .before .before .before .before .before .before .before .before .before .before .before .before .before .before .before .before .before .before .before .line .ensures) (then-sure (c .before .before .before .before .before .before .before .before .before .before .before .before .before .before .before .word3 .ensures) (then-sure (c .before .before .before .before .before .before .before .before .before .before .indent-in .ensures _) (then-stop (along (c .before .before .before .before .before .before .before .before .before .before .before .before .before .before .before .before .before .before .before .before .before .before .before .before .before .before .before .before .before .before .before .before .indented .ensures) (c .before .before .before .before .before .sm .ensures)) (c .before .before .told2 .ensures) (c .enum-told2 .given .1)))))))) }
 
--- src/lib.rt:514:5
 lx-line-requires-2 : (t : ℕ) → lx-lts.Need-line-requires-2 (
   word-reads.Asked,
   word-reads.Learnt,
@@ -14949,7 +14315,6 @@ lx-line-requires-2 : (t : ℕ) → lx-lts.Need-line-requires-2 (
 ) (lx-at t) lx.Post
 lx-line-requires-2 t c κs = search needs
 
--- src/lib.rt:515:5
 lx-word-requires-4 : (t : ℕ) → lx-lts.Need-word-requires-4 (
   word-reads.Asked,
   word-reads.Learnt,
@@ -14970,7 +14335,6 @@ lx-word-requires-4 : (t : ℕ) → lx-lts.Need-word-requires-4 (
 ) (lx-at t) lx.Post
 lx-word-requires-4 t c κs = search needs
 
--- src/lib.rt:484:1
 lx-same-length-3 : (t : ℕ) → lx-lts.Need-same-length-3 (
   word-reads.Asked,
   word-reads.Learnt,
@@ -14991,7 +14355,6 @@ lx-same-length-3 : (t : ℕ) → lx-lts.Need-same-length-3 (
 ) (lx-at t) lx.Post
 lx-same-length-3 t c = c .before .before .word4 .kept .1 .1 .0 ∙ c .before .before .before .before .before .before .before .line2 .kept .1 .1 .0 ∙ c .before .before .before .before .before .before .before .before .before .before .before .before .before .before .before .before .sm .kept .1 .1 .1 .1 .1 .1 .0 ∙ c .before .before .before .before .before .before .before .before .before .before .before .before .before .before .before .before .before .before .before .before .before .indent-in .kept .0 ∙ c .before .before .before .before .before .before .before .before .before .before .before .before .before .before .before .before .before .before .before .before .before .before .before .before .before .before .word3 .kept .1 .1 .0 ∙ c .before .before .before .before .before .before .before .before .before .before .before .before .before .before .before .before .before .before .before .before .before .before .before .before .before .before .before .before .before .before .before .line .kept .1 .1 .0 ∙ c .before .before .before .before .before .before .before .before .before .before .before .before .before .before .before .before .before .before .before .before .before .before .before .before .before .before .before .before .before .before .before .before .before .before .before .before .before .before .before .before .ds .kept .1 .1 .1 .1 .1 .1 .0 ∙ c .before .before .before .before .before .before .before .before .before .before .before .before .before .before .before .before .before .before .before .before .before .before .before .before .before .before .before .before .before .before .before .before .before .before .before .before .before .before .before .before .before .before .before .before .before .before .indent-deeper .kept .0 ∙ c .before .before .before .before .before .before .before .before .before .before .before .before .before .before .before .before .before .before .before .before .before .before .before .before .before .before .before .before .before .before .before .before .before .before .before .before .before .before .before .before .before .before .before .before .before .before .before .before .before .before .before .word2 .kept .1 .1 .0 ∙ c .before .before .before .before .before .before .before .before .before .before .before .before .before .before .before .before .before .before .before .before .before .before .before .before .before .before .before .before .before .before .before .before .before .before .before .before .before .before .before .before .before .before .before .before .before .before .before .before .before .before .before .before .before .before .before .before .word .kept .1 .1 .0
 
--- src/lib.rt:484:1
 lx-returns-3 : (t : ℕ) → lx-lts.Need-returns-3 (
   word-reads.Asked,
   word-reads.Learnt,
@@ -15020,7 +14383,6 @@ ma-Inv-loop run text rec kinds starts lens out₀ mem₀ at cfg r1 s1 n s2 s₀ 
 abbrev ma-μ-loop : ma-lts.MeasureT-loop
 ma-μ-loop run text rec kinds starts lens out₀ mem₀ at cfg r1 s1 n s2 s₀ i₀ out mem s i = n - i
 
--- src/lib.rt:792:29
 ma-absent-requires : (t : ℕ) → ma-lts.Need-absent-requires (
   absent-reads.Asked,
   absent-reads.Learnt,
@@ -15041,7 +14403,6 @@ ma-absent-requires : (t : ℕ) → ma-lts.Need-absent-requires (
 ) (ma-at t) ma.Post ma-Inv-loop ma-μ-loop
 ma-absent-requires t c κs = search needs
 
--- src/lib.rt:792:23
 ma-enum-known-s0 : (t : ℕ) → ma-lts.Need-enum-known-s0 (
   absent-reads.Asked,
   absent-reads.Learnt,
@@ -15062,7 +14423,6 @@ ma-enum-known-s0 : (t : ℕ) → ma-lts.Need-enum-known-s0 (
 ) (ma-at t) ma.Post ma-Inv-loop ma-μ-loop
 ma-enum-known-s0 t c = search needs
 
--- src/lib.rt:793:9
 ma-returns : (t : ℕ) → ma-lts.Need-returns (
   absent-reads.Asked,
   absent-reads.Learnt,
@@ -15104,7 +14464,6 @@ ma-enum-told : (t : ℕ) → ma-lts.Need-enum-told (
 ) (ma-at t) ma.Post ma-Inv-loop ma-μ-loop
 ma-enum-told t c = search needs
 
--- src/lib.rt:795:9
 ma-group-requires : (t : ℕ) → ma-lts.Need-group-requires (
   absent-reads.Asked,
   absent-reads.Learnt,
@@ -15125,7 +14484,6 @@ ma-group-requires : (t : ℕ) → ma-lts.Need-group-requires (
 ) (ma-at t) ma.Post ma-Inv-loop ma-μ-loop
 ma-group-requires t c κs = search needs
 
--- src/lib.rt:796:28
 ma-told-requires : (t : ℕ) → ma-lts.Need-told-requires (
   absent-reads.Asked,
   absent-reads.Learnt,
@@ -15146,7 +14504,6 @@ ma-told-requires : (t : ℕ) → ma-lts.Need-told-requires (
 ) (ma-at t) ma.Post ma-Inv-loop ma-μ-loop
 ma-told-requires t c κs = search needs
 
--- src/lib.rt:796:22
 ma-enum-known-s1 : (t : ℕ) → ma-lts.Need-enum-known-s1 (
   absent-reads.Asked,
   absent-reads.Learnt,
@@ -15167,7 +14524,6 @@ ma-enum-known-s1 : (t : ℕ) → ma-lts.Need-enum-known-s1 (
 ) (ma-at t) ma.Post ma-Inv-loop ma-μ-loop
 ma-enum-known-s1 t c = search needs
 
--- src/lib.rt:797:9
 ma-enum-told-2 : (t : ℕ) → ma-lts.Need-enum-told-2 (
   absent-reads.Asked,
   absent-reads.Learnt,
@@ -15188,7 +14544,6 @@ ma-enum-told-2 : (t : ℕ) → ma-lts.Need-enum-told-2 (
 ) (ma-at t) ma.Post ma-Inv-loop ma-μ-loop
 ma-enum-told-2 t c = search needs
 
--- src/lib.rt:797:9
 ma-returns-2 : (t : ℕ) → ma-lts.Need-returns-2 (
   absent-reads.Asked,
   absent-reads.Learnt,
@@ -15210,7 +14565,6 @@ ma-returns-2 : (t : ℕ) → ma-lts.Need-returns-2 (
 unfolding Exp.get-matcher-across-lines Exp.arms-on-lines Helpers.sep-with-lines
 ma-returns-2 t c = record { is = by-same (maybe-there (c .before .before .before .before .before .before .absent .ensures) (c .before .before .before .before .enum-told .given .1)) (group-not (c .before .before .before .group .ensures) (c .before .before .told .ensures) (c .enum-told2 .given .1)) }
 
--- src/lib.rt:799:5
 ma-indent-deeper-requires : (t : ℕ) → ma-lts.Need-indent-deeper-requires (
   absent-reads.Asked,
   absent-reads.Learnt,
@@ -15231,7 +14585,6 @@ ma-indent-deeper-requires : (t : ℕ) → ma-lts.Need-indent-deeper-requires (
 ) (ma-at t) ma.Post ma-Inv-loop ma-μ-loop
 ma-indent-deeper-requires t c κs = omega (arith, c .before .before .before .before .before .before .before .before .before .before .before .before .before .before .before .before .pre .1)
 
--- src/lib.rt:800:27
 ma-list-requires : (t : ℕ) → ma-lts.Need-list-requires (
   absent-reads.Asked,
   absent-reads.Learnt,
@@ -15252,7 +14605,6 @@ ma-list-requires : (t : ℕ) → ma-lts.Need-list-requires (
 ) (ma-at t) ma.Post ma-Inv-loop ma-μ-loop
 ma-list-requires t c κs = search needs
 
--- src/lib.rt:800:18
 ma-enum-known-n : (t : ℕ) → ma-lts.Need-enum-known-n (
   absent-reads.Asked,
   absent-reads.Learnt,
@@ -15273,7 +14625,6 @@ ma-enum-known-n : (t : ℕ) → ma-lts.Need-enum-known-n (
 ) (ma-at t) ma.Post ma-Inv-loop ma-μ-loop
 ma-enum-known-n t c = search needs
 
--- src/lib.rt:801:9
 ma-enum-told-3 : (t : ℕ) → ma-lts.Need-enum-told-3 (
   absent-reads.Asked,
   absent-reads.Learnt,
@@ -15294,7 +14645,6 @@ ma-enum-told-3 : (t : ℕ) → ma-lts.Need-enum-told-3 (
 ) (ma-at t) ma.Post ma-Inv-loop ma-μ-loop
 ma-enum-told-3 t c = search needs
 
--- src/lib.rt:801:9
 ma-stop-requires : (t : ℕ) → ma-lts.Need-stop-requires (
   absent-reads.Asked,
   absent-reads.Learnt,
@@ -15315,7 +14665,6 @@ ma-stop-requires : (t : ℕ) → ma-lts.Need-stop-requires (
 ) (ma-at t) ma.Post ma-Inv-loop ma-μ-loop
 ma-stop-requires t c κs = search needs
 
--- src/lib.rt:801:9
 ma-same-length : (t : ℕ) → ma-lts.Need-same-length (
   absent-reads.Asked,
   absent-reads.Learnt,
@@ -15336,7 +14685,6 @@ ma-same-length : (t : ℕ) → ma-lts.Need-same-length (
 ) (ma-at t) ma.Post ma-Inv-loop ma-μ-loop
 ma-same-length t c = c .before .before .before .before .before .before .indent-deeper .kept .0
 
--- src/lib.rt:801:9
 ma-returns-3 : (t : ℕ) → ma-lts.Need-returns-3 (
   absent-reads.Asked,
   absent-reads.Learnt,
@@ -15358,7 +14706,6 @@ ma-returns-3 : (t : ℕ) → ma-lts.Need-returns-3 (
 unfolding Exp.get-matcher-across-lines Exp.arms-on-lines Helpers.sep-with-lines
 ma-returns-3 t c = record { is = by-same (maybe-there (c .before .before .before .before .before .before .before .before .before .before .before .before .before .before .before .before .absent .ensures) (c .before .before .before .before .before .before .before .before .before .before .before .before .before .before .enum-told .given .1)) (by-same (group-is (c .before .before .before .before .before .before .before .before .before .before .before .before .before .group .ensures) (c .before .before .before .before .before .before .before .before .before .before .before .before .told .ensures) (c .before .before .before .before .before .before .before .before .before .before .s1 .given .1)) (then-sure (c .before .before .before .before .before .before .indent-deeper .ensures _) (list-not (c .stop .ensures) (c .before .before .before .list .ensures) (c .before .enum-told3 .given .1)))) }
 
--- src/lib.rt:805:5
 ma-loop-holds : (t : ℕ) → ma-lts.Need-loop-holds (
   absent-reads.Asked,
   absent-reads.Learnt,
@@ -15379,7 +14726,6 @@ ma-loop-holds : (t : ℕ) → ma-lts.Need-loop-holds (
 ) (ma-at t) ma.Post ma-Inv-loop ma-μ-loop
 ma-loop-holds t c = (omega arith, λ r m o h. h, refl)
 
--- src/lib.rt:806:9
 ma-new-line-requires : (t : ℕ) → ma-lts.Need-new-line-requires (
   absent-reads.Asked,
   absent-reads.Learnt,
@@ -15400,7 +14746,6 @@ ma-new-line-requires : (t : ℕ) → ma-lts.Need-new-line-requires (
 ) (ma-at t) ma.Post ma-Inv-loop ma-μ-loop
 ma-new-line-requires t c κs = search needs
 
--- src/lib.rt:807:13
 ma-arm-requires : (t : ℕ) → ma-lts.Need-arm-requires (
   absent-reads.Asked,
   absent-reads.Learnt,
@@ -15421,7 +14766,6 @@ ma-arm-requires : (t : ℕ) → ma-lts.Need-arm-requires (
 ) (ma-at t) ma.Post ma-Inv-loop ma-μ-loop
 ma-arm-requires t c κs = omega (arith, c .before .before .before .before .before .before .before .before .before .before .before .before .before .before .before .before .before .before .before .before .before .before .before .before .before .before .before .before .before .before .before .before .pre .0, c .before .before .before .before .before .before .before .before .before .before .before .before .before .before .before .before .before .before .before .before .before .before .before .before .before .before .before .before .before .before .before .before .pre .1)
 
--- src/lib.rt:808:32
 ma-told-requires-2 : (t : ℕ) → ma-lts.Need-told-requires-2 (
   absent-reads.Asked,
   absent-reads.Learnt,
@@ -15442,7 +14786,6 @@ ma-told-requires-2 : (t : ℕ) → ma-lts.Need-told-requires-2 (
 ) (ma-at t) ma.Post ma-Inv-loop ma-μ-loop
 ma-told-requires-2 t c κs = search needs
 
--- src/lib.rt:808:26
 ma-enum-known-s3 : (t : ℕ) → ma-lts.Need-enum-known-s3 (
   absent-reads.Asked,
   absent-reads.Learnt,
@@ -15463,7 +14806,6 @@ ma-enum-known-s3 : (t : ℕ) → ma-lts.Need-enum-known-s3 (
 ) (ma-at t) ma.Post ma-Inv-loop ma-μ-loop
 ma-enum-known-s3 t c = search needs
 
--- src/lib.rt:809:13
 ma-enum-told-4 : (t : ℕ) → ma-lts.Need-enum-told-4 (
   absent-reads.Asked,
   absent-reads.Learnt,
@@ -15484,7 +14826,6 @@ ma-enum-told-4 : (t : ℕ) → ma-lts.Need-enum-told-4 (
 ) (ma-at t) ma.Post ma-Inv-loop ma-μ-loop
 ma-enum-told-4 t c = search needs
 
--- src/lib.rt:809:13
 ma-same-length-2 : (t : ℕ) → ma-lts.Need-same-length-2 (
   absent-reads.Asked,
   absent-reads.Learnt,
@@ -15505,7 +14846,6 @@ ma-same-length-2 : (t : ℕ) → ma-lts.Need-same-length-2 (
 ) (ma-at t) ma.Post ma-Inv-loop ma-μ-loop
 ma-same-length-2 t c = c .before .before .before .before .before .arm .kept .1 .1 .1 .1 .1 .1 .0 ∙ c .before .before .before .before .before .before .before .before .before .before .new-line .kept .1 .1 .0 ∙ c .before .before .before .before .before .before .before .before .before .before .before .before .before .before .loop .inv .2 ∙ c .before .before .before .before .before .before .before .before .before .before .before .before .before .before .before .before .before .before .before .before .before .indent-deeper .kept .0
 
--- src/lib.rt:809:13
 ma-returns-4 : (t : ℕ) → ma-lts.Need-returns-4 (
   absent-reads.Asked,
   absent-reads.Learnt,
@@ -15527,7 +14867,6 @@ ma-returns-4 : (t : ℕ) → ma-lts.Need-returns-4 (
 unfolding Exp.get-matcher-across-lines Exp.arms-on-lines Helpers.sep-with-lines
 ma-returns-4 t c = record { is = by-same (maybe-there (c .before .before .before .before .before .before .before .before .before .before .before .before .before .before .before .before .before .before .before .before .before .before .before .before .before .before .before .before .before .before .before .absent .ensures) (c .before .before .before .before .before .before .before .before .before .before .before .before .before .before .before .before .before .before .before .before .before .before .before .before .before .before .before .before .before .enum-told .given .1)) (by-same (group-is (c .before .before .before .before .before .before .before .before .before .before .before .before .before .before .before .before .before .before .before .before .before .before .before .before .before .before .before .before .group .ensures) (c .before .before .before .before .before .before .before .before .before .before .before .before .before .before .before .before .before .before .before .before .before .before .before .before .before .before .before .told .ensures) (c .before .before .before .before .before .before .before .before .before .before .before .before .before .before .before .before .before .before .before .before .before .before .before .before .before .s1 .given .1)) (then-sure (c .before .before .before .before .before .before .before .before .before .before .before .before .before .before .before .before .before .before .before .before .before .indent-deeper .ensures _) (by-same (list-is (c .before .before .before .before .before .before .before .before .before .before .before .before .before .before .before .before .before .before .list .ensures) (c .before .before .before .before .before .before .before .before .before .before .before .before .before .before .before .before .n .given .1)) (by-same (items-all _ _ _) (c .before .before .before .before .before .before .before .before .before .before .before .before .before .before .loop .inv .1 _ _ _ (from-more _ _ (c .before .before .before .before .before .before .before .before .before .before .before .before .before .loop-test .taken) (then-sure (c .before .before .before .before .before .before .before .before .before .before .new-line .ensures) (then-stop (c .before .before .before .before .before .arm .ensures .is) (c .before .before .told2 .ensures) (c .enum-told4 .given .1))))))))) }
 
--- src/lib.rt:812:9
 ma-add-i : (t : ℕ) → ma-lts.Need-add-i (
   absent-reads.Asked,
   absent-reads.Learnt,
@@ -15548,7 +14887,6 @@ ma-add-i : (t : ℕ) → ma-lts.Need-add-i (
 ) (ma-at t) ma.Post ma-Inv-loop ma-μ-loop
 ma-add-i t c = omega (arith, c .before .before .before .before .before .before .before .before .before .before .before .before .before .before .loop-test .taken, c .before .before .before .before .before .before .before .before .before .before .before .before .before .before .before .before .known-told3)
 
--- src/lib.rt:805:5
 ma-loop-less : (t : ℕ) → ma-lts.Need-loop-less (
   absent-reads.Asked,
   absent-reads.Learnt,
@@ -15569,7 +14907,6 @@ ma-loop-less : (t : ℕ) → ma-lts.Need-loop-less (
 ) (ma-at t) ma.Post ma-Inv-loop ma-μ-loop
 ma-loop-less t c = omega arith
 
--- src/lib.rt:805:5
 ma-loop-again : (t : ℕ) → ma-lts.Need-loop-again (
   absent-reads.Asked,
   absent-reads.Learnt,
@@ -15591,7 +14928,6 @@ ma-loop-again : (t : ℕ) → ma-lts.Need-loop-again (
 unfolding Exp.get-matcher-across-lines Exp.arms-on-lines Helpers.sep-with-lines
 ma-loop-again t c = (omega (arith, c .before .before .before .before .before .before .before .before .before .before .before .before .before .before .before .loop .inv .0), λ r m o h. c .before .before .before .before .before .before .before .before .before .before .before .before .before .before .before .loop .inv .1 r m o (from-more _ _ (c .before .before .before .before .before .before .before .before .before .before .before .before .before .before .loop-test .taken) (then-sure (c .before .before .before .before .before .before .before .before .before .before .before .new-line .ensures) (then-done (c .before .before .before .before .before .before .arm .ensures .is) (c .before .before .before .told2 .ensures) (c .before .s3 .given .1) h))), c .before .before .before .before .before .before .arm .kept .1 .1 .1 .1 .1 .1 .0 ∙ c .before .before .before .before .before .before .before .before .before .before .before .new-line .kept .1 .1 .0 ∙ c .before .before .before .before .before .before .before .before .before .before .before .before .before .before .before .loop .inv .2)
 
--- src/lib.rt:777:1
 ma-same-length-3 : (t : ℕ) → ma-lts.Need-same-length-3 (
   absent-reads.Asked,
   absent-reads.Learnt,
@@ -15612,7 +14948,6 @@ ma-same-length-3 : (t : ℕ) → ma-lts.Need-same-length-3 (
 ) (ma-at t) ma.Post ma-Inv-loop ma-μ-loop
 ma-same-length-3 t c = c .before .loop .inv .2 ∙ c .before .before .before .before .before .before .before .before .indent-deeper .kept .0
 
--- src/lib.rt:777:1
 ma-returns-5 : (t : ℕ) → ma-lts.Need-returns-5 (
   absent-reads.Asked,
   absent-reads.Learnt,
@@ -15641,7 +14976,6 @@ mo-Inv-loop run text rec kinds starts lens out₀ mem₀ at cfg allow n s₀ i�
 abbrev mo-μ-loop : mo-lts.MeasureT-loop
 mo-μ-loop run text rec kinds starts lens out₀ mem₀ at cfg allow n s₀ i₀ out mem s i = n - i
 
--- src/lib.rt:374:5
 mo-loop-holds : (t : ℕ) → mo-lts.Need-loop-holds (
   last-semi-reads.Asked,
   last-semi-reads.Learnt,
@@ -15656,7 +14990,6 @@ mo-loop-holds : (t : ℕ) → mo-lts.Need-loop-holds (
 ) (mo-at t) mo.Post mo-Inv-loop mo-μ-loop
 mo-loop-holds t c = (omega arith, λ r m o h. h, refl)
 
--- src/lib.rt:375:13
 mo-last-semi-requires : (t : ℕ) → mo-lts.Need-last-semi-requires (
   last-semi-reads.Asked,
   last-semi-reads.Learnt,
@@ -15671,7 +15004,6 @@ mo-last-semi-requires : (t : ℕ) → mo-lts.Need-last-semi-requires (
 ) (mo-at t) mo.Post mo-Inv-loop mo-μ-loop
 mo-last-semi-requires t c κs = search needs
 
--- src/lib.rt:376:9
 mo-word-requires : (t : ℕ) → mo-lts.Need-word-requires (
   last-semi-reads.Asked,
   last-semi-reads.Learnt,
@@ -15686,7 +15018,6 @@ mo-word-requires : (t : ℕ) → mo-lts.Need-word-requires (
 ) (mo-at t) mo.Post mo-Inv-loop mo-μ-loop
 mo-word-requires t c κs = search needs
 
--- src/lib.rt:377:9
 mo-indent-requires : (t : ℕ) → mo-lts.Need-indent-requires (
   last-semi-reads.Asked,
   last-semi-reads.Learnt,
@@ -15701,7 +15032,6 @@ mo-indent-requires : (t : ℕ) → mo-lts.Need-indent-requires (
 ) (mo-at t) mo.Post mo-Inv-loop mo-μ-loop
 mo-indent-requires t c κs = search needs
 
--- src/lib.rt:378:13
 mo-it-requires : (t : ℕ) → mo-lts.Need-it-requires (
   last-semi-reads.Asked,
   last-semi-reads.Learnt,
@@ -15716,7 +15046,6 @@ mo-it-requires : (t : ℕ) → mo-lts.Need-it-requires (
 ) (mo-at t) mo.Post mo-Inv-loop mo-μ-loop
 mo-it-requires t c κs = omega (arith, c .before .before .before .before .before .before .before .before .before .before .before .before .before .before .before .before .before .before .before .before .before .pre .0, c .before .before .before .before .before .before .before .before .before .before .before .before .before .before .before .before .before .before .before .before .before .pre .1)
 
--- src/lib.rt:379:32
 mo-told-requires : (t : ℕ) → mo-lts.Need-told-requires (
   last-semi-reads.Asked,
   last-semi-reads.Learnt,
@@ -15731,7 +15060,6 @@ mo-told-requires : (t : ℕ) → mo-lts.Need-told-requires (
 ) (mo-at t) mo.Post mo-Inv-loop mo-μ-loop
 mo-told-requires t c κs = search needs
 
--- src/lib.rt:379:26
 mo-enum-known-s1 : (t : ℕ) → mo-lts.Need-enum-known-s1 (
   last-semi-reads.Asked,
   last-semi-reads.Learnt,
@@ -15746,7 +15074,6 @@ mo-enum-known-s1 : (t : ℕ) → mo-lts.Need-enum-known-s1 (
 ) (mo-at t) mo.Post mo-Inv-loop mo-μ-loop
 mo-enum-known-s1 t c = search needs
 
--- src/lib.rt:380:13
 mo-enum-told : (t : ℕ) → mo-lts.Need-enum-told (
   last-semi-reads.Asked,
   last-semi-reads.Learnt,
@@ -15761,7 +15088,6 @@ mo-enum-told : (t : ℕ) → mo-lts.Need-enum-told (
 ) (mo-at t) mo.Post mo-Inv-loop mo-μ-loop
 mo-enum-told t c = search needs
 
--- src/lib.rt:380:13
 mo-same-length : (t : ℕ) → mo-lts.Need-same-length (
   last-semi-reads.Asked,
   last-semi-reads.Learnt,
@@ -15776,7 +15102,6 @@ mo-same-length : (t : ℕ) → mo-lts.Need-same-length (
 ) (mo-at t) mo.Post mo-Inv-loop mo-μ-loop
 mo-same-length t c = c .before .before .before .before .before .it .kept .1 .1 .1 .1 .1 .1 .0 ∙ c .before .before .before .before .before .before .before .before .before .before .indent .kept .0 ∙ c .before .before .before .before .before .before .before .before .before .before .before .before .before .before .before .word .kept .1 .1 .0 ∙ c .before .before .before .before .before .before .before .before .before .before .before .before .before .before .before .before .before .before .before .before .loop .inv .2
 
--- src/lib.rt:380:13
 mo-returns : (t : ℕ) → mo-lts.Need-returns (
   last-semi-reads.Asked,
   last-semi-reads.Learnt,
@@ -15791,7 +15116,6 @@ mo-returns : (t : ℕ) → mo-lts.Need-returns (
 ) (mo-at t) mo.Post mo-Inv-loop mo-μ-loop
 mo-returns t c = record { is = by-same (semi-all _ _ _ _) (c .before .before .before .before .before .before .before .before .before .before .before .before .before .before .before .before .before .before .before .before .loop .inv .1 _ _ _ (semi-more _ _ _ (c .before .before .before .before .before .before .before .before .before .before .before .before .before .before .before .before .before .before .before .loop-test .taken) (c .before .before .before .before .before .before .before .before .before .before .before .before .before .before .before .before .before .before .last-semi .ensures) (then-sure (c .before .before .before .before .before .before .before .before .before .before .before .before .before .before .before .word .ensures) (then-sure (c .before .before .before .before .before .before .before .before .before .before .indent .ensures _) (then-stop (c .before .before .before .before .before .it .ensures .is) (c .before .before .told .ensures) (c .enum-told .given .1)))))) }
 
--- src/lib.rt:383:9
 mo-add-i : (t : ℕ) → mo-lts.Need-add-i (
   last-semi-reads.Asked,
   last-semi-reads.Learnt,
@@ -15806,7 +15130,6 @@ mo-add-i : (t : ℕ) → mo-lts.Need-add-i (
 ) (mo-at t) mo.Post mo-Inv-loop mo-μ-loop
 mo-add-i t c = omega (arith, c .before .before .before .before .before .before .before .before .before .before .before .before .before .before .before .before .before .before .before .before .loop-test .taken, c .before .before .before .before .before .before .before .before .before .before .before .before .before .before .before .before .before .before .before .before .before .before .before .before .before .before .before .before .fits)
 
--- src/lib.rt:374:5
 mo-loop-less : (t : ℕ) → mo-lts.Need-loop-less (
   last-semi-reads.Asked,
   last-semi-reads.Learnt,
@@ -15821,7 +15144,6 @@ mo-loop-less : (t : ℕ) → mo-lts.Need-loop-less (
 ) (mo-at t) mo.Post mo-Inv-loop mo-μ-loop
 mo-loop-less t c = omega arith
 
--- src/lib.rt:374:5
 mo-loop-again : (t : ℕ) → mo-lts.Need-loop-again (
   last-semi-reads.Asked,
   last-semi-reads.Learnt,
@@ -15836,7 +15158,6 @@ mo-loop-again : (t : ℕ) → mo-lts.Need-loop-again (
 ) (mo-at t) mo.Post mo-Inv-loop mo-μ-loop
 mo-loop-again t c = (omega (arith, c .before .before .before .before .before .before .before .before .before .before .before .before .before .before .before .before .before .before .before .before .before .loop .inv .0), λ r m o h. c .before .before .before .before .before .before .before .before .before .before .before .before .before .before .before .before .before .before .before .before .before .loop .inv .1 r m o (semi-more _ _ _ (c .before .before .before .before .before .before .before .before .before .before .before .before .before .before .before .before .before .before .before .before .loop-test .taken) (c .before .before .before .before .before .before .before .before .before .before .before .before .before .before .before .before .before .before .before .last-semi .ensures) (then-sure (c .before .before .before .before .before .before .before .before .before .before .before .before .before .before .before .before .word .ensures) (then-sure (c .before .before .before .before .before .before .before .before .before .before .before .indent .ensures _) (then-done (c .before .before .before .before .before .before .it .ensures .is) (c .before .before .before .told .ensures) (c .before .s1 .given .1) h)))), c .before .before .before .before .before .before .it .kept .1 .1 .1 .1 .1 .1 .0 ∙ c .before .before .before .before .before .before .before .before .before .before .before .indent .kept .0 ∙ c .before .before .before .before .before .before .before .before .before .before .before .before .before .before .before .before .word .kept .1 .1 .0 ∙ c .before .before .before .before .before .before .before .before .before .before .before .before .before .before .before .before .before .before .before .before .before .loop .inv .2)
 
--- src/lib.rt:355:1
 mo-same-length-2 : (t : ℕ) → mo-lts.Need-same-length-2 (
   last-semi-reads.Asked,
   last-semi-reads.Learnt,
@@ -15851,7 +15172,6 @@ mo-same-length-2 : (t : ℕ) → mo-lts.Need-same-length-2 (
 ) (mo-at t) mo.Post mo-Inv-loop mo-μ-loop
 mo-same-length-2 t c = c .before .loop .inv .2
 
--- src/lib.rt:355:1
 mo-returns-2 : (t : ℕ) → mo-lts.Need-returns-2 (
   last-semi-reads.Asked,
   last-semi-reads.Learnt,
@@ -15866,7 +15186,6 @@ mo-returns-2 : (t : ℕ) → mo-lts.Need-returns-2 (
 ) (mo-at t) mo.Post mo-Inv-loop mo-μ-loop
 mo-returns-2 t c = record { is = by-same (semi-all _ _ _ _) (c .before .loop .inv .1 _ _ _ (semi-none _ _ _ (c .loop-test .left))) }
 
--- src/lib.rt:1846:9
 nm-text-of-requires : (t : ℕ) → nm-lts.Need-text-of-requires (
   text-of-reads.Asked,
   text-of-reads.Learnt,
@@ -15879,7 +15198,6 @@ nm-text-of-requires : (t : ℕ) → nm-lts.Need-text-of-requires (
 ) (nm-at t) nm.Post
 nm-text-of-requires t c κs = search needs
 
--- src/lib.rt:1847:28
 nm-told-requires : (t : ℕ) → nm-lts.Need-told-requires (
   text-of-reads.Asked,
   text-of-reads.Learnt,
@@ -15892,7 +15210,6 @@ nm-told-requires : (t : ℕ) → nm-lts.Need-told-requires (
 ) (nm-at t) nm.Post
 nm-told-requires t c κs = search needs
 
--- src/lib.rt:1847:22
 nm-enum-known-s1 : (t : ℕ) → nm-lts.Need-enum-known-s1 (
   text-of-reads.Asked,
   text-of-reads.Learnt,
@@ -15905,7 +15222,6 @@ nm-enum-known-s1 : (t : ℕ) → nm-lts.Need-enum-known-s1 (
 ) (nm-at t) nm.Post
 nm-enum-known-s1 t c = search needs
 
--- src/lib.rt:1848:9
 nm-enum-told : (t : ℕ) → nm-lts.Need-enum-told (
   text-of-reads.Asked,
   text-of-reads.Learnt,
@@ -15918,7 +15234,6 @@ nm-enum-told : (t : ℕ) → nm-lts.Need-enum-told (
 ) (nm-at t) nm.Post
 nm-enum-told t c = search needs
 
--- src/lib.rt:1848:9
 nm-same-length : (t : ℕ) → nm-lts.Need-same-length (
   text-of-reads.Asked,
   text-of-reads.Learnt,
@@ -15931,7 +15246,6 @@ nm-same-length : (t : ℕ) → nm-lts.Need-same-length (
 ) (nm-at t) nm.Post
 nm-same-length t c = c .before .before .before .before .before .text-of .kept .1 .1 .1 .1 .1 .0
 
--- src/lib.rt:1848:9
 nm-returns : (t : ℕ) → nm-lts.Need-returns (
   text-of-reads.Asked,
   text-of-reads.Learnt,
@@ -15944,7 +15258,6 @@ nm-returns : (t : ℕ) → nm-lts.Need-returns (
 ) (nm-at t) nm.Post
 nm-returns t c = record { is = then-stop (plain (c .before .before .before .before .before .text-of .ensures)) (c .before .before .told .ensures) (c .enum-told .given .1) }
 
--- src/lib.rt:1850:5
 nm-word-requires : (t : ℕ) → nm-lts.Need-word-requires (
   text-of-reads.Asked,
   text-of-reads.Learnt,
@@ -15957,7 +15270,6 @@ nm-word-requires : (t : ℕ) → nm-lts.Need-word-requires (
 ) (nm-at t) nm.Post
 nm-word-requires t c κs = search needs
 
--- src/lib.rt:1851:5
 nm-sig-requires : (t : ℕ) → nm-lts.Need-sig-requires (
   text-of-reads.Asked,
   text-of-reads.Learnt,
@@ -15970,7 +15282,6 @@ nm-sig-requires : (t : ℕ) → nm-lts.Need-sig-requires (
 ) (nm-at t) nm.Post
 nm-sig-requires t c κs = omega (arith, c .before .before .before .before .before .before .before .before .before .before .before .before .before .before .before .before .before .before .before .before .before .before .pre .0, c .before .before .before .before .before .before .before .before .before .before .before .before .before .before .before .before .before .before .before .before .before .before .pre .1)
 
--- src/lib.rt:1830:1
 nm-same-length-2 : (t : ℕ) → nm-lts.Need-same-length-2 (
   text-of-reads.Asked,
   text-of-reads.Learnt,
@@ -15983,7 +15294,6 @@ nm-same-length-2 : (t : ℕ) → nm-lts.Need-same-length-2 (
 ) (nm-at t) nm.Post
 nm-same-length-2 t c = c .before .before .sig .kept .1 .1 .1 .1 .1 .1 .0 ∙ c .before .before .before .before .before .before .before .word .kept .1 .1 .0 ∙ c .before .before .before .before .before .before .before .before .before .before .before .before .before .before .before .before .text-of .kept .1 .1 .1 .1 .1 .0
 
--- src/lib.rt:1830:1
 nm-returns-2 : (t : ℕ) → nm-lts.Need-returns-2 (
   text-of-reads.Asked,
   text-of-reads.Learnt,
@@ -15996,7 +15306,6 @@ nm-returns-2 : (t : ℕ) → nm-lts.Need-returns-2 (
 ) (nm-at t) nm.Post
 nm-returns-2 t c = record { is = then-done (plain (c .before .before .before .before .before .before .before .before .before .before .before .before .before .before .before .before .text-of .ensures)) (c .before .before .before .before .before .before .before .before .before .before .before .before .before .told .ensures) (c .before .before .before .before .before .before .before .before .before .before .before .s1 .given .1) (then-sure (c .before .before .before .before .before .before .before .word .ensures) (c .before .before .sig .ensures .is)) }
 
--- src/lib.rt:1271:13
 nu-word-requires : (t : ℕ) → nu-lts.Need-word-requires (
   word-reads.Asked,
   word-reads.Learnt,
@@ -16041,7 +15350,6 @@ nu-word-requires : (t : ℕ) → nu-lts.Need-word-requires (
 ) (nu-at t) nu.Post
 nu-word-requires t c κs = search needs
 
--- src/lib.rt:1274:14
 nu-vd-requires : (t : ℕ) → nu-lts.Need-vd-requires (
   word-reads.Asked,
   word-reads.Learnt,
@@ -16086,7 +15394,6 @@ nu-vd-requires : (t : ℕ) → nu-lts.Need-vd-requires (
 ) (nu-at t) nu.Post
 nu-vd-requires t c κs = omega (arith, c .before .before .before .before .before .before .before .before .before .pre .0, c .before .before .before .before .before .before .before .before .before .pre .1)
 
--- src/lib.rt:1275:14
 nu-fd-requires : (t : ℕ) → nu-lts.Need-fd-requires (
   word-reads.Asked,
   word-reads.Learnt,
@@ -16131,7 +15438,6 @@ nu-fd-requires : (t : ℕ) → nu-lts.Need-fd-requires (
 ) (nu-at t) nu.Post
 nu-fd-requires t c κs = omega (arith, c .before .before .before .before .before .before .before .before .before .pre .0, c .before .before .before .before .before .before .before .before .before .pre .1)
 
--- src/lib.rt:1276:14
 nu-ty-dec-requires : (t : ℕ) → nu-lts.Need-ty-dec-requires (
   word-reads.Asked,
   word-reads.Learnt,
@@ -16176,7 +15482,6 @@ nu-ty-dec-requires : (t : ℕ) → nu-lts.Need-ty-dec-requires (
 ) (nu-at t) nu.Post
 nu-ty-dec-requires t c κs = search needs
 
--- src/lib.rt:1277:14
 nu-dat-dec-requires : (t : ℕ) → nu-lts.Need-dat-dec-requires (
   word-reads.Asked,
   word-reads.Learnt,
@@ -16221,7 +15526,6 @@ nu-dat-dec-requires : (t : ℕ) → nu-lts.Need-dat-dec-requires (
 ) (nu-at t) nu.Post
 nu-dat-dec-requires t c κs = omega (arith, c .before .before .before .before .before .before .before .before .before .pre .1)
 
--- src/lib.rt:1278:14
 nu-dat-copy-dec-requires : (t : ℕ) → nu-lts.Need-dat-copy-dec-requires (
   word-reads.Asked,
   word-reads.Learnt,
@@ -16266,7 +15570,6 @@ nu-dat-copy-dec-requires : (t : ℕ) → nu-lts.Need-dat-copy-dec-requires (
 ) (nu-at t) nu.Post
 nu-dat-copy-dec-requires t c κs = search needs
 
--- src/lib.rt:1279:14
 nu-ab-requires : (t : ℕ) → nu-lts.Need-ab-requires (
   word-reads.Asked,
   word-reads.Learnt,
@@ -16311,7 +15614,6 @@ nu-ab-requires : (t : ℕ) → nu-lts.Need-ab-requires (
 ) (nu-at t) nu.Post
 nu-ab-requires t c κs = omega (arith, c .before .before .before .before .before .before .before .before .before .pre .0, c .before .before .before .before .before .before .before .before .before .pre .1)
 
--- src/lib.rt:1280:14
 nu-xd-requires : (t : ℕ) → nu-lts.Need-xd-requires (
   word-reads.Asked,
   word-reads.Learnt,
@@ -16356,7 +15658,6 @@ nu-xd-requires : (t : ℕ) → nu-lts.Need-xd-requires (
 ) (nu-at t) nu.Post
 nu-xd-requires t c κs = omega (arith, c .before .before .before .before .before .before .before .before .before .pre .0, c .before .before .before .before .before .before .before .before .before .pre .1)
 
--- src/lib.rt:1281:14
 nu-open-dec-requires : (t : ℕ) → nu-lts.Need-open-dec-requires (
   word-reads.Asked,
   word-reads.Learnt,
@@ -16401,7 +15702,6 @@ nu-open-dec-requires : (t : ℕ) → nu-lts.Need-open-dec-requires (
 ) (nu-at t) nu.Post
 nu-open-dec-requires t c κs = search needs
 
--- src/lib.rt:1282:14
 nu-infix-dec-requires : (t : ℕ) → nu-lts.Need-infix-dec-requires (
   word-reads.Asked,
   word-reads.Learnt,
@@ -16446,7 +15746,6 @@ nu-infix-dec-requires : (t : ℕ) → nu-lts.Need-infix-dec-requires (
 ) (nu-at t) nu.Post
 nu-infix-dec-requires t c κs = search needs
 
--- src/lib.rt:1294:15
 nu-infix-dec-requires-2 : (t : ℕ) → nu-lts.Need-infix-dec-requires-2 (
   word-reads.Asked,
   word-reads.Learnt,
@@ -16491,7 +15790,6 @@ nu-infix-dec-requires-2 : (t : ℕ) → nu-lts.Need-infix-dec-requires-2 (
 ) (nu-at t) nu.Post
 nu-infix-dec-requires-2 t c κs = search needs
 
--- src/lib.rt:1306:15
 nu-nonfix-dec-requires : (t : ℕ) → nu-lts.Need-nonfix-dec-requires (
   word-reads.Asked,
   word-reads.Learnt,
@@ -16536,7 +15834,6 @@ nu-nonfix-dec-requires : (t : ℕ) → nu-lts.Need-nonfix-dec-requires (
 ) (nu-at t) nu.Post
 nu-nonfix-dec-requires t c κs = search needs
 
--- src/lib.rt:1307:15
 nu-pr-requires : (t : ℕ) → nu-lts.Need-pr-requires (
   word-reads.Asked,
   word-reads.Learnt,
@@ -16581,7 +15878,6 @@ nu-pr-requires : (t : ℕ) → nu-lts.Need-pr-requires (
 ) (nu-at t) nu.Post
 nu-pr-requires t c κs = omega (arith, c .before .before .before .before .before .before .before .before .before .pre .0, c .before .before .before .before .before .before .before .before .before .pre .1)
 
--- src/lib.rt:1320:15
 nu-lo-requires : (t : ℕ) → nu-lts.Need-lo-requires (
   word-reads.Asked,
   word-reads.Learnt,
@@ -16626,7 +15922,6 @@ nu-lo-requires : (t : ℕ) → nu-lts.Need-lo-requires (
 ) (nu-at t) nu.Post
 nu-lo-requires t c κs = omega (arith, c .before .before .before .before .before .before .before .before .before .pre .0, c .before .before .before .before .before .before .before .before .before .pre .1)
 
--- src/lib.rt:1321:15
 nu-sd-requires : (t : ℕ) → nu-lts.Need-sd-requires (
   word-reads.Asked,
   word-reads.Learnt,
@@ -16671,7 +15966,6 @@ nu-sd-requires : (t : ℕ) → nu-lts.Need-sd-requires (
 ) (nu-at t) nu.Post
 nu-sd-requires t c κs = omega (arith, c .before .before .before .before .before .before .before .before .before .pre .0, c .before .before .before .before .before .before .before .before .before .pre .1)
 
--- src/lib.rt:1322:15
 nu-gd-requires : (t : ℕ) → nu-lts.Need-gd-requires (
   word-reads.Asked,
   word-reads.Learnt,
@@ -16716,7 +16010,6 @@ nu-gd-requires : (t : ℕ) → nu-lts.Need-gd-requires (
 ) (nu-at t) nu.Post
 nu-gd-requires t c κs = omega (arith, c .before .before .before .before .before .before .before .before .before .pre .0, c .before .before .before .before .before .before .before .before .before .pre .1)
 
--- src/lib.rt:1323:15
 nu-cd-requires : (t : ℕ) → nu-lts.Need-cd-requires (
   word-reads.Asked,
   word-reads.Learnt,
@@ -16761,7 +16054,6 @@ nu-cd-requires : (t : ℕ) → nu-lts.Need-cd-requires (
 ) (nu-at t) nu.Post
 nu-cd-requires t c κs = omega (arith, c .before .before .before .before .before .before .before .before .before .pre .0, c .before .before .before .before .before .before .before .before .before .pre .1)
 
--- src/lib.rt:1324:15
 nu-exp-requires : (t : ℕ) → nu-lts.Need-exp-requires (
   word-reads.Asked,
   word-reads.Learnt,
@@ -16806,7 +16098,6 @@ nu-exp-requires : (t : ℕ) → nu-lts.Need-exp-requires (
 ) (nu-at t) nu.Post
 nu-exp-requires t c κs = omega (arith, c .before .before .before .before .before .before .before .before .before .pre .0, c .before .before .before .before .before .before .before .before .before .pre .1)
 
--- src/lib.rt:1325:15
 nu-ic-requires : (t : ℕ) → nu-lts.Need-ic-requires (
   word-reads.Asked,
   word-reads.Learnt,
@@ -16851,7 +16142,6 @@ nu-ic-requires : (t : ℕ) → nu-lts.Need-ic-requires (
 ) (nu-at t) nu.Post
 nu-ic-requires t c κs = omega (arith, c .before .before .before .before .before .before .before .before .before .pre .0, c .before .before .before .before .before .before .before .before .before .pre .1)
 
--- src/lib.rt:1326:15
 nu-import-requires : (t : ℕ) → nu-lts.Need-import-requires (
   word-reads.Asked,
   word-reads.Learnt,
@@ -16896,7 +16186,6 @@ nu-import-requires : (t : ℕ) → nu-lts.Need-import-requires (
 ) (nu-at t) nu.Post
 nu-import-requires t c κs = search needs
 
--- src/lib.rt:1327:14
 nu-stop-requires : (t : ℕ) → nu-lts.Need-stop-requires (
   word-reads.Asked,
   word-reads.Learnt,
@@ -16941,7 +16230,6 @@ nu-stop-requires : (t : ℕ) → nu-lts.Need-stop-requires (
 ) (nu-at t) nu.Post
 nu-stop-requires t c κs = search needs
 
--- src/lib.rt:1253:1
 nu-same-length : (t : ℕ) → nu-lts.Need-same-length (
   word-reads.Asked,
   word-reads.Learnt,
@@ -16986,7 +16274,6 @@ nu-same-length : (t : ℕ) → nu-lts.Need-same-length (
 ) (nu-at t) nu.Post
 nu-same-length t c = c .before .before .word .kept .1 .1 .0
 
--- src/lib.rt:1253:1
 nu-returns : (t : ℕ) → nu-lts.Need-returns (
   word-reads.Asked,
   word-reads.Learnt,
@@ -17032,7 +16319,6 @@ nu-returns : (t : ℕ) → nu-lts.Need-returns (
 unfolding DecOne.decs DecOne.dec-one
 nu-returns t c = record { is = at-key (λ i. getD (DecOne.decs (walks (c .before .before .before .before .before .before .before .before .before .before .before .before .args .cfg .left)) (cfgOf (c .before .before .before .before .before .before .before .before .before .before .before .before .args .cfg))) i Layout.halt) (c .before .before .before .before .before .match .keys1) (last-sure (c .before .before .word .ensures)) }
 
--- src/lib.rt:1253:1
 nu-same-length-2 : (t : ℕ) → nu-lts.Need-same-length-2 (
   word-reads.Asked,
   word-reads.Learnt,
@@ -17077,7 +16363,6 @@ nu-same-length-2 : (t : ℕ) → nu-lts.Need-same-length-2 (
 ) (nu-at t) nu.Post
 nu-same-length-2 t c = c .before .before .vd .kept .1 .1 .1 .1 .1 .1 .0
 
--- src/lib.rt:1253:1
 nu-returns-2 : (t : ℕ) → nu-lts.Need-returns-2 (
   word-reads.Asked,
   word-reads.Learnt,
@@ -17123,7 +16408,6 @@ nu-returns-2 : (t : ℕ) → nu-lts.Need-returns-2 (
 unfolding DecOne.decs DecOne.dec-one
 nu-returns-2 t c = record { is = at-key (λ i. getD (DecOne.decs (walks (c .before .before .before .before .before .before .before .before .before .before .before .before .args .cfg .left)) (cfgOf (c .before .before .before .before .before .before .before .before .before .before .before .before .args .cfg))) i Layout.halt) (c .before .before .before .before .before .match .keys2) (c .before .before .vd .ensures .is) }
 
--- src/lib.rt:1253:1
 nu-same-length-3 : (t : ℕ) → nu-lts.Need-same-length-3 (
   word-reads.Asked,
   word-reads.Learnt,
@@ -17168,7 +16452,6 @@ nu-same-length-3 : (t : ℕ) → nu-lts.Need-same-length-3 (
 ) (nu-at t) nu.Post
 nu-same-length-3 t c = c .before .before .fd .kept .1 .1 .1 .1 .1 .1 .0
 
--- src/lib.rt:1253:1
 nu-returns-3 : (t : ℕ) → nu-lts.Need-returns-3 (
   word-reads.Asked,
   word-reads.Learnt,
@@ -17214,7 +16497,6 @@ nu-returns-3 : (t : ℕ) → nu-lts.Need-returns-3 (
 unfolding DecOne.decs DecOne.dec-one
 nu-returns-3 t c = record { is = at-key (λ i. getD (DecOne.decs (walks (c .before .before .before .before .before .before .before .before .before .before .before .before .args .cfg .left)) (cfgOf (c .before .before .before .before .before .before .before .before .before .before .before .before .args .cfg))) i Layout.halt) (c .before .before .before .before .before .match .keys3) (c .before .before .fd .ensures .is) }
 
--- src/lib.rt:1253:1
 nu-same-length-4 : (t : ℕ) → nu-lts.Need-same-length-4 (
   word-reads.Asked,
   word-reads.Learnt,
@@ -17259,7 +16541,6 @@ nu-same-length-4 : (t : ℕ) → nu-lts.Need-same-length-4 (
 ) (nu-at t) nu.Post
 nu-same-length-4 t c = c .before .before .ty-dec .kept .1 .1 .1 .1 .1 .0
 
--- src/lib.rt:1253:1
 nu-returns-4 : (t : ℕ) → nu-lts.Need-returns-4 (
   word-reads.Asked,
   word-reads.Learnt,
@@ -17305,7 +16586,6 @@ nu-returns-4 : (t : ℕ) → nu-lts.Need-returns-4 (
 unfolding DecOne.decs DecOne.dec-one
 nu-returns-4 t c = record { is = at-key (λ i. getD (DecOne.decs (walks (c .before .before .before .before .before .before .before .before .before .before .before .before .args .cfg .left)) (cfgOf (c .before .before .before .before .before .before .before .before .before .before .before .before .args .cfg))) i Layout.halt) (c .before .before .before .before .before .match .keys4) (plain (c .before .before .ty-dec .ensures)) }
 
--- src/lib.rt:1253:1
 nu-same-length-5 : (t : ℕ) → nu-lts.Need-same-length-5 (
   word-reads.Asked,
   word-reads.Learnt,
@@ -17350,7 +16630,6 @@ nu-same-length-5 : (t : ℕ) → nu-lts.Need-same-length-5 (
 ) (nu-at t) nu.Post
 nu-same-length-5 t c = c .before .before .dat-dec .kept .1 .1 .1 .1 .1 .0
 
--- src/lib.rt:1253:1
 nu-returns-5 : (t : ℕ) → nu-lts.Need-returns-5 (
   word-reads.Asked,
   word-reads.Learnt,
@@ -17396,7 +16675,6 @@ nu-returns-5 : (t : ℕ) → nu-lts.Need-returns-5 (
 unfolding DecOne.decs DecOne.dec-one
 nu-returns-5 t c = record { is = at-key (λ i. getD (DecOne.decs (walks (c .before .before .before .before .before .before .before .before .before .before .before .before .args .cfg .left)) (cfgOf (c .before .before .before .before .before .before .before .before .before .before .before .before .args .cfg))) i Layout.halt) (c .before .before .before .before .before .match .keys5) (plain (c .before .before .dat-dec .ensures)) }
 
--- src/lib.rt:1253:1
 nu-same-length-6 : (t : ℕ) → nu-lts.Need-same-length-6 (
   word-reads.Asked,
   word-reads.Learnt,
@@ -17441,7 +16719,6 @@ nu-same-length-6 : (t : ℕ) → nu-lts.Need-same-length-6 (
 ) (nu-at t) nu.Post
 nu-same-length-6 t c = c .before .before .dat-copy-dec .kept .1 .1 .1 .1 .1 .0
 
--- src/lib.rt:1253:1
 nu-returns-6 : (t : ℕ) → nu-lts.Need-returns-6 (
   word-reads.Asked,
   word-reads.Learnt,
@@ -17487,7 +16764,6 @@ nu-returns-6 : (t : ℕ) → nu-lts.Need-returns-6 (
 unfolding DecOne.decs DecOne.dec-one
 nu-returns-6 t c = record { is = at-key (λ i. getD (DecOne.decs (walks (c .before .before .before .before .before .before .before .before .before .before .before .before .args .cfg .left)) (cfgOf (c .before .before .before .before .before .before .before .before .before .before .before .before .args .cfg))) i Layout.halt) (c .before .before .before .before .before .match .keys6) (plain (c .before .before .dat-copy-dec .ensures)) }
 
--- src/lib.rt:1253:1
 nu-same-length-7 : (t : ℕ) → nu-lts.Need-same-length-7 (
   word-reads.Asked,
   word-reads.Learnt,
@@ -17532,7 +16808,6 @@ nu-same-length-7 : (t : ℕ) → nu-lts.Need-same-length-7 (
 ) (nu-at t) nu.Post
 nu-same-length-7 t c = c .before .before .ab .kept .1 .1 .1 .1 .1 .1 .0
 
--- src/lib.rt:1253:1
 nu-returns-7 : (t : ℕ) → nu-lts.Need-returns-7 (
   word-reads.Asked,
   word-reads.Learnt,
@@ -17578,7 +16853,6 @@ nu-returns-7 : (t : ℕ) → nu-lts.Need-returns-7 (
 unfolding DecOne.decs DecOne.dec-one
 nu-returns-7 t c = record { is = at-key (λ i. getD (DecOne.decs (walks (c .before .before .before .before .before .before .before .before .before .before .before .before .args .cfg .left)) (cfgOf (c .before .before .before .before .before .before .before .before .before .before .before .before .args .cfg))) i Layout.halt) (c .before .before .before .before .before .match .keys7) (c .before .before .ab .ensures .is) }
 
--- src/lib.rt:1253:1
 nu-same-length-8 : (t : ℕ) → nu-lts.Need-same-length-8 (
   word-reads.Asked,
   word-reads.Learnt,
@@ -17623,7 +16897,6 @@ nu-same-length-8 : (t : ℕ) → nu-lts.Need-same-length-8 (
 ) (nu-at t) nu.Post
 nu-same-length-8 t c = c .before .before .xd .kept .1 .1 .1 .1 .1 .1 .0
 
--- src/lib.rt:1253:1
 nu-returns-8 : (t : ℕ) → nu-lts.Need-returns-8 (
   word-reads.Asked,
   word-reads.Learnt,
@@ -17669,7 +16942,6 @@ nu-returns-8 : (t : ℕ) → nu-lts.Need-returns-8 (
 unfolding DecOne.decs DecOne.dec-one
 nu-returns-8 t c = record { is = at-key (λ i. getD (DecOne.decs (walks (c .before .before .before .before .before .before .before .before .before .before .before .before .args .cfg .left)) (cfgOf (c .before .before .before .before .before .before .before .before .before .before .before .before .args .cfg))) i Layout.halt) (c .before .before .before .before .before .match .keys8) (c .before .before .xd .ensures .is) }
 
--- src/lib.rt:1253:1
 nu-same-length-9 : (t : ℕ) → nu-lts.Need-same-length-9 (
   word-reads.Asked,
   word-reads.Learnt,
@@ -17714,7 +16986,6 @@ nu-same-length-9 : (t : ℕ) → nu-lts.Need-same-length-9 (
 ) (nu-at t) nu.Post
 nu-same-length-9 t c = c .before .before .open-dec .kept .1 .1 .1 .1 .1 .0
 
--- src/lib.rt:1253:1
 nu-returns-9 : (t : ℕ) → nu-lts.Need-returns-9 (
   word-reads.Asked,
   word-reads.Learnt,
@@ -17760,7 +17031,6 @@ nu-returns-9 : (t : ℕ) → nu-lts.Need-returns-9 (
 unfolding DecOne.decs DecOne.dec-one
 nu-returns-9 t c = record { is = at-key (λ i. getD (DecOne.decs (walks (c .before .before .before .before .before .before .before .before .before .before .before .before .args .cfg .left)) (cfgOf (c .before .before .before .before .before .before .before .before .before .before .before .before .args .cfg))) i Layout.halt) (c .before .before .before .before .before .match .keys9) (plain (c .before .before .open-dec .ensures)) }
 
--- src/lib.rt:1253:1
 nu-same-length-10 : (t : ℕ) → nu-lts.Need-same-length-10 (
   word-reads.Asked,
   word-reads.Learnt,
@@ -17805,7 +17075,6 @@ nu-same-length-10 : (t : ℕ) → nu-lts.Need-same-length-10 (
 ) (nu-at t) nu.Post
 nu-same-length-10 t c = c .before .before .infix-dec .kept .1 .1 .1 .1 .1 .0
 
--- src/lib.rt:1253:1
 nu-returns-10 : (t : ℕ) → nu-lts.Need-returns-10 (
   word-reads.Asked,
   word-reads.Learnt,
@@ -17851,7 +17120,6 @@ nu-returns-10 : (t : ℕ) → nu-lts.Need-returns-10 (
 unfolding DecOne.decs DecOne.dec-one
 nu-returns-10 t c = record { is = at-key (λ i. getD (DecOne.decs (walks (c .before .before .before .before .before .before .before .before .before .before .before .before .args .cfg .left)) (cfgOf (c .before .before .before .before .before .before .before .before .before .before .before .before .args .cfg))) i Layout.halt) (c .before .before .before .before .before .match .keys10) (plain (c .before .before .infix-dec .ensures)) }
 
--- src/lib.rt:1253:1
 nu-same-length-11 : (t : ℕ) → nu-lts.Need-same-length-11 (
   word-reads.Asked,
   word-reads.Learnt,
@@ -17896,7 +17164,6 @@ nu-same-length-11 : (t : ℕ) → nu-lts.Need-same-length-11 (
 ) (nu-at t) nu.Post
 nu-same-length-11 t c = c .before .before .infix-dec2 .kept .1 .1 .1 .1 .1 .0
 
--- src/lib.rt:1253:1
 nu-returns-11 : (t : ℕ) → nu-lts.Need-returns-11 (
   word-reads.Asked,
   word-reads.Learnt,
@@ -17942,7 +17209,6 @@ nu-returns-11 : (t : ℕ) → nu-lts.Need-returns-11 (
 unfolding DecOne.decs DecOne.dec-one
 nu-returns-11 t c = record { is = at-key (λ i. getD (DecOne.decs (walks (c .before .before .before .before .before .before .before .before .before .before .before .before .args .cfg .left)) (cfgOf (c .before .before .before .before .before .before .before .before .before .before .before .before .args .cfg))) i Layout.halt) (c .before .before .before .before .before .match .keys11) (plain (c .before .before .infix-dec2 .ensures)) }
 
--- src/lib.rt:1253:1
 nu-same-length-12 : (t : ℕ) → nu-lts.Need-same-length-12 (
   word-reads.Asked,
   word-reads.Learnt,
@@ -17987,7 +17253,6 @@ nu-same-length-12 : (t : ℕ) → nu-lts.Need-same-length-12 (
 ) (nu-at t) nu.Post
 nu-same-length-12 t c = c .before .before .nonfix-dec .kept .1 .1 .1 .1 .1 .0
 
--- src/lib.rt:1253:1
 nu-returns-12 : (t : ℕ) → nu-lts.Need-returns-12 (
   word-reads.Asked,
   word-reads.Learnt,
@@ -18033,7 +17298,6 @@ nu-returns-12 : (t : ℕ) → nu-lts.Need-returns-12 (
 unfolding DecOne.decs DecOne.dec-one
 nu-returns-12 t c = record { is = at-key (λ i. getD (DecOne.decs (walks (c .before .before .before .before .before .before .before .before .before .before .before .before .args .cfg .left)) (cfgOf (c .before .before .before .before .before .before .before .before .before .before .before .before .args .cfg))) i Layout.halt) (c .before .before .before .before .before .match .keys12) (plain (c .before .before .nonfix-dec .ensures)) }
 
--- src/lib.rt:1253:1
 nu-same-length-13 : (t : ℕ) → nu-lts.Need-same-length-13 (
   word-reads.Asked,
   word-reads.Learnt,
@@ -18078,7 +17342,6 @@ nu-same-length-13 : (t : ℕ) → nu-lts.Need-same-length-13 (
 ) (nu-at t) nu.Post
 nu-same-length-13 t c = c .before .before .pr .kept .1 .1 .1 .1 .1 .1 .0
 
--- src/lib.rt:1253:1
 nu-returns-13 : (t : ℕ) → nu-lts.Need-returns-13 (
   word-reads.Asked,
   word-reads.Learnt,
@@ -18124,7 +17387,6 @@ nu-returns-13 : (t : ℕ) → nu-lts.Need-returns-13 (
 unfolding DecOne.decs DecOne.dec-one
 nu-returns-13 t c = record { is = at-key (λ i. getD (DecOne.decs (walks (c .before .before .before .before .before .before .before .before .before .before .before .before .args .cfg .left)) (cfgOf (c .before .before .before .before .before .before .before .before .before .before .before .before .args .cfg))) i Layout.halt) (c .before .before .before .before .before .match .keys13) (c .before .before .pr .ensures .is) }
 
--- src/lib.rt:1253:1
 nu-same-length-14 : (t : ℕ) → nu-lts.Need-same-length-14 (
   word-reads.Asked,
   word-reads.Learnt,
@@ -18169,7 +17431,6 @@ nu-same-length-14 : (t : ℕ) → nu-lts.Need-same-length-14 (
 ) (nu-at t) nu.Post
 nu-same-length-14 t c = c .before .before .lo .kept .1 .1 .1 .1 .1 .1 .0
 
--- src/lib.rt:1253:1
 nu-returns-14 : (t : ℕ) → nu-lts.Need-returns-14 (
   word-reads.Asked,
   word-reads.Learnt,
@@ -18215,7 +17476,6 @@ nu-returns-14 : (t : ℕ) → nu-lts.Need-returns-14 (
 unfolding DecOne.decs DecOne.dec-one
 nu-returns-14 t c = record { is = at-key (λ i. getD (DecOne.decs (walks (c .before .before .before .before .before .before .before .before .before .before .before .before .args .cfg .left)) (cfgOf (c .before .before .before .before .before .before .before .before .before .before .before .before .args .cfg))) i Layout.halt) (c .before .before .before .before .before .match .keys14) (c .before .before .lo .ensures .is) }
 
--- src/lib.rt:1253:1
 nu-same-length-15 : (t : ℕ) → nu-lts.Need-same-length-15 (
   word-reads.Asked,
   word-reads.Learnt,
@@ -18260,7 +17520,6 @@ nu-same-length-15 : (t : ℕ) → nu-lts.Need-same-length-15 (
 ) (nu-at t) nu.Post
 nu-same-length-15 t c = c .before .before .sd .kept .1 .1 .1 .1 .1 .1 .0
 
--- src/lib.rt:1253:1
 nu-returns-15 : (t : ℕ) → nu-lts.Need-returns-15 (
   word-reads.Asked,
   word-reads.Learnt,
@@ -18306,7 +17565,6 @@ nu-returns-15 : (t : ℕ) → nu-lts.Need-returns-15 (
 unfolding DecOne.decs DecOne.dec-one
 nu-returns-15 t c = record { is = at-key (λ i. getD (DecOne.decs (walks (c .before .before .before .before .before .before .before .before .before .before .before .before .args .cfg .left)) (cfgOf (c .before .before .before .before .before .before .before .before .before .before .before .before .args .cfg))) i Layout.halt) (c .before .before .before .before .before .match .keys15) (c .before .before .sd .ensures .is) }
 
--- src/lib.rt:1253:1
 nu-same-length-16 : (t : ℕ) → nu-lts.Need-same-length-16 (
   word-reads.Asked,
   word-reads.Learnt,
@@ -18351,7 +17609,6 @@ nu-same-length-16 : (t : ℕ) → nu-lts.Need-same-length-16 (
 ) (nu-at t) nu.Post
 nu-same-length-16 t c = c .before .before .gd .kept .1 .1 .1 .1 .1 .1 .0
 
--- src/lib.rt:1253:1
 nu-returns-16 : (t : ℕ) → nu-lts.Need-returns-16 (
   word-reads.Asked,
   word-reads.Learnt,
@@ -18397,7 +17654,6 @@ nu-returns-16 : (t : ℕ) → nu-lts.Need-returns-16 (
 unfolding DecOne.decs DecOne.dec-one
 nu-returns-16 t c = record { is = at-key (λ i. getD (DecOne.decs (walks (c .before .before .before .before .before .before .before .before .before .before .before .before .args .cfg .left)) (cfgOf (c .before .before .before .before .before .before .before .before .before .before .before .before .args .cfg))) i Layout.halt) (c .before .before .before .before .before .match .keys16) (c .before .before .gd .ensures .is) }
 
--- src/lib.rt:1253:1
 nu-same-length-17 : (t : ℕ) → nu-lts.Need-same-length-17 (
   word-reads.Asked,
   word-reads.Learnt,
@@ -18442,7 +17698,6 @@ nu-same-length-17 : (t : ℕ) → nu-lts.Need-same-length-17 (
 ) (nu-at t) nu.Post
 nu-same-length-17 t c = c .before .before .cd .kept .1 .1 .1 .1 .1 .1 .0
 
--- src/lib.rt:1253:1
 nu-returns-17 : (t : ℕ) → nu-lts.Need-returns-17 (
   word-reads.Asked,
   word-reads.Learnt,
@@ -18488,7 +17743,6 @@ nu-returns-17 : (t : ℕ) → nu-lts.Need-returns-17 (
 unfolding DecOne.decs DecOne.dec-one
 nu-returns-17 t c = record { is = at-key (λ i. getD (DecOne.decs (walks (c .before .before .before .before .before .before .before .before .before .before .before .before .args .cfg .left)) (cfgOf (c .before .before .before .before .before .before .before .before .before .before .before .before .args .cfg))) i Layout.halt) (c .before .before .before .before .before .match .keys17) (c .before .before .cd .ensures .is) }
 
--- src/lib.rt:1253:1
 nu-same-length-18 : (t : ℕ) → nu-lts.Need-same-length-18 (
   word-reads.Asked,
   word-reads.Learnt,
@@ -18533,7 +17787,6 @@ nu-same-length-18 : (t : ℕ) → nu-lts.Need-same-length-18 (
 ) (nu-at t) nu.Post
 nu-same-length-18 t c = c .before .before .exp .kept .1 .1 .1 .1 .1 .1 .0
 
--- src/lib.rt:1253:1
 nu-returns-18 : (t : ℕ) → nu-lts.Need-returns-18 (
   word-reads.Asked,
   word-reads.Learnt,
@@ -18579,7 +17832,6 @@ nu-returns-18 : (t : ℕ) → nu-lts.Need-returns-18 (
 unfolding DecOne.decs DecOne.dec-one
 nu-returns-18 t c = record { is = at-key (λ i. getD (DecOne.decs (walks (c .before .before .before .before .before .before .before .before .before .before .before .before .args .cfg .left)) (cfgOf (c .before .before .before .before .before .before .before .before .before .before .before .before .args .cfg))) i Layout.halt) (c .before .before .before .before .before .match .keys18) (c .before .before .exp .ensures .is) }
 
--- src/lib.rt:1253:1
 nu-same-length-19 : (t : ℕ) → nu-lts.Need-same-length-19 (
   word-reads.Asked,
   word-reads.Learnt,
@@ -18624,7 +17876,6 @@ nu-same-length-19 : (t : ℕ) → nu-lts.Need-same-length-19 (
 ) (nu-at t) nu.Post
 nu-same-length-19 t c = c .before .before .ic .kept .1 .1 .1 .1 .1 .1 .0
 
--- src/lib.rt:1253:1
 nu-returns-19 : (t : ℕ) → nu-lts.Need-returns-19 (
   word-reads.Asked,
   word-reads.Learnt,
@@ -18670,7 +17921,6 @@ nu-returns-19 : (t : ℕ) → nu-lts.Need-returns-19 (
 unfolding DecOne.decs DecOne.dec-one
 nu-returns-19 t c = record { is = at-key (λ i. getD (DecOne.decs (walks (c .before .before .before .before .before .before .before .before .before .before .before .before .args .cfg .left)) (cfgOf (c .before .before .before .before .before .before .before .before .before .before .before .before .args .cfg))) i Layout.halt) (c .before .before .before .before .before .match .keys19) (c .before .before .ic .ensures .is) }
 
--- src/lib.rt:1253:1
 nu-returns-20 : (t : ℕ) → nu-lts.Need-returns-20 (
   word-reads.Asked,
   word-reads.Learnt,
@@ -18716,7 +17966,6 @@ nu-returns-20 : (t : ℕ) → nu-lts.Need-returns-20 (
 unfolding DecOne.decs DecOne.dec-one
 nu-returns-20 t c = record { is = at-key (λ i. getD (DecOne.decs (walks (c .before .before .before .before .before .before .before .before .args .cfg .left)) (cfgOf (c .before .before .before .before .before .before .before .before .args .cfg))) i Layout.halt) (c .before .match .keys20) (last-import (c .import .ensures)) }
 
--- src/lib.rt:1253:1
 nu-returns-21 : (t : ℕ) → nu-lts.Need-returns-21 (
   word-reads.Asked,
   word-reads.Learnt,
@@ -18762,7 +18011,6 @@ nu-returns-21 : (t : ℕ) → nu-lts.Need-returns-21 (
 unfolding DecOne.decs DecOne.dec-one
 nu-returns-21 t c = record { is = beyond (DecOne.decs (walks (c .before .before .before .before .before .before .before .before .args .cfg .left)) (cfgOf (c .before .before .before .before .before .before .before .before .args .cfg))) (c .before .before .before .before .before .before .before .before .args .which) 20 refl (past (past (past (past (past (past (past (past (past (past (past (past (past (past (past (past (past (past (past (past zero-le (c .before .match .rest .0 .0 .0 .0 .0 .0 .0 .0 .0 .0 .0 .0 .0 .0 .0 .0 .0 .0 .0 .1)) (c .before .match .rest .0 .0 .0 .0 .0 .0 .0 .0 .0 .0 .0 .0 .0 .0 .0 .0 .0 .0 .1)) (c .before .match .rest .0 .0 .0 .0 .0 .0 .0 .0 .0 .0 .0 .0 .0 .0 .0 .0 .0 .1)) (c .before .match .rest .0 .0 .0 .0 .0 .0 .0 .0 .0 .0 .0 .0 .0 .0 .0 .0 .1)) (c .before .match .rest .0 .0 .0 .0 .0 .0 .0 .0 .0 .0 .0 .0 .0 .0 .0 .1)) (c .before .match .rest .0 .0 .0 .0 .0 .0 .0 .0 .0 .0 .0 .0 .0 .0 .1)) (c .before .match .rest .0 .0 .0 .0 .0 .0 .0 .0 .0 .0 .0 .0 .0 .1)) (c .before .match .rest .0 .0 .0 .0 .0 .0 .0 .0 .0 .0 .0 .0 .1)) (c .before .match .rest .0 .0 .0 .0 .0 .0 .0 .0 .0 .0 .0 .1)) (c .before .match .rest .0 .0 .0 .0 .0 .0 .0 .0 .0 .0 .1)) (c .before .match .rest .0 .0 .0 .0 .0 .0 .0 .0 .0 .1)) (c .before .match .rest .0 .0 .0 .0 .0 .0 .0 .0 .1)) (c .before .match .rest .0 .0 .0 .0 .0 .0 .0 .1)) (c .before .match .rest .0 .0 .0 .0 .0 .0 .1)) (c .before .match .rest .0 .0 .0 .0 .0 .1)) (c .before .match .rest .0 .0 .0 .0 .1)) (c .before .match .rest .0 .0 .0 .1)) (c .before .match .rest .0 .0 .1)) (c .before .match .rest .0 .1)) (c .before .match .rest .1)) (c .stop .ensures) }
 
--- src/lib.rt:1233:9
 one-stop-requires : (t : ℕ) → one-lts.Need-stop-requires (
   stop-reads.Asked,
   stop-reads.Learnt,
@@ -18775,7 +18023,6 @@ one-stop-requires : (t : ℕ) → one-lts.Need-stop-requires (
 ) (one-at t) one.Post
 one-stop-requires t c κs = search needs
 
--- src/lib.rt:1233:9
 one-returns : (t : ℕ) → one-lts.Need-returns (
   stop-reads.Asked,
   stop-reads.Learnt,
@@ -18788,7 +18035,6 @@ one-returns : (t : ℕ) → one-lts.Need-returns (
 ) (one-at t) one.Post
 one-returns t c = record { is = dec-zero _ _ (c .before .if1 .taken) (c .stop .ensures) }
 
--- src/lib.rt:1239:9
 one-declared-requires : (t : ℕ) → one-lts.Need-declared-requires (
   stop-reads.Asked,
   stop-reads.Learnt,
@@ -18801,7 +18047,6 @@ one-declared-requires : (t : ℕ) → one-lts.Need-declared-requires (
 ) (one-at t) one.Post
 one-declared-requires t c κs = search needs
 
--- src/lib.rt:1236:17
 one-enum-known-k : (t : ℕ) → one-lts.Need-enum-known-k (
   stop-reads.Asked,
   stop-reads.Learnt,
@@ -18814,7 +18059,6 @@ one-enum-known-k : (t : ℕ) → one-lts.Need-enum-known-k (
 ) (one-at t) one.Post
 one-enum-known-k t c = search needs
 
--- src/lib.rt:1241:9
 one-enum-told : (t : ℕ) → one-lts.Need-enum-told (
   stop-reads.Asked,
   stop-reads.Learnt,
@@ -18827,7 +18071,6 @@ one-enum-told : (t : ℕ) → one-lts.Need-enum-told (
 ) (one-at t) one.Post
 one-enum-told t c = search needs
 
--- src/lib.rt:1241:9
 one-stop-requires-2 : (t : ℕ) → one-lts.Need-stop-requires-2 (
   stop-reads.Asked,
   stop-reads.Learnt,
@@ -18840,7 +18083,6 @@ one-stop-requires-2 : (t : ℕ) → one-lts.Need-stop-requires-2 (
 ) (one-at t) one.Post
 one-stop-requires-2 t c κs = search needs
 
--- src/lib.rt:1241:9
 one-returns-2 : (t : ℕ) → one-lts.Need-returns-2 (
   stop-reads.Asked,
   stop-reads.Learnt,
@@ -18853,7 +18095,6 @@ one-returns-2 : (t : ℕ) → one-lts.Need-returns-2 (
 ) (one-at t) one.Post
 one-returns-2 t c = record { is = dec-form _ _ (c .before .before .before .before .if1 .left) (declaration-not (c .stop2 .ensures) (c .before .before .before .declared .ensures) (c .before .enum-told .given .1)) }
 
--- src/lib.rt:1243:5
 one-comment-above-requires : (t : ℕ) → one-lts.Need-comment-above-requires (
   stop-reads.Asked,
   stop-reads.Learnt,
@@ -18866,7 +18107,6 @@ one-comment-above-requires : (t : ℕ) → one-lts.Need-comment-above-requires (
 ) (one-at t) one.Post
 one-comment-above-requires t c κs = search needs
 
--- src/lib.rt:1247:15
 one-sub-t23 : (t : ℕ) → one-lts.Need-sub-t23 (
   stop-reads.Asked,
   stop-reads.Learnt,
@@ -18879,7 +18119,6 @@ one-sub-t23 : (t : ℕ) → one-lts.Need-sub-t23 (
 ) (one-at t) one.Post
 one-sub-t23 t c = search needs
 
--- src/lib.rt:1249:5
 one-nu-requires : (t : ℕ) → one-lts.Need-nu-requires (
   stop-reads.Asked,
   stop-reads.Learnt,
@@ -18892,7 +18131,6 @@ one-nu-requires : (t : ℕ) → one-lts.Need-nu-requires (
 ) (one-at t) one.Post
 one-nu-requires t c κs = omega (arith, c .before .before .before .before .before .before .before .before .before .before .before .before .before .before .before .before .before .before .pre .0, c .before .before .before .before .before .before .before .before .before .before .before .before .before .before .before .before .before .before .pre .1, c .before .before .before .before .before .before .before .before .before .before .before .if1 .left)
 
--- src/lib.rt:1216:1
 one-same-length : (t : ℕ) → one-lts.Need-same-length (
   stop-reads.Asked,
   stop-reads.Learnt,
@@ -18905,7 +18143,6 @@ one-same-length : (t : ℕ) → one-lts.Need-same-length (
 ) (one-at t) one.Post
 one-same-length t c = c .before .before .nu .kept .1 .1 .1 .1 .1 .1 .0 ∙ c .before .before .before .before .before .before .before .comment-above .kept .1 .1 .1 .1 .1 .0
 
--- src/lib.rt:1216:1
 one-returns-3 : (t : ℕ) → one-lts.Need-returns-3 (
   stop-reads.Asked,
   stop-reads.Learnt,
@@ -18918,7 +18155,6 @@ one-returns-3 : (t : ℕ) → one-lts.Need-returns-3 (
 ) (one-at t) one.Post
 one-returns-3 t c = record { is = dec-form _ _ (c .before .before .before .before .before .before .before .before .before .before .before .before .before .before .if1 .left) (declaration-is (c .before .before .before .before .before .before .before .before .before .before .before .before .before .declared .ensures) (c .before .before .before .before .before .before .before .before .before .before .before .k .given .1) (c .before .before .before .before .before .before .before .comment-above .ensures) (c .before .before .nu .ensures .is)) }
 
--- src/lib.rt:224:5
 pa-word-requires : (t : ℕ) → pa-lts.Need-word-requires (
   word-reads.Asked,
   word-reads.Learnt,
@@ -18929,7 +18165,6 @@ pa-word-requires : (t : ℕ) → pa-lts.Need-word-requires (
 ) (pa-at t) pa.Post
 pa-word-requires t c κs = search needs
 
--- src/lib.rt:225:9
 pa-exp-requires : (t : ℕ) → pa-lts.Need-exp-requires (
   word-reads.Asked,
   word-reads.Learnt,
@@ -18940,7 +18175,6 @@ pa-exp-requires : (t : ℕ) → pa-lts.Need-exp-requires (
 ) (pa-at t) pa.Post
 pa-exp-requires t c κs = omega (arith, c .before .before .before .before .before .before .before .before .before .before .before .before .before .pre .0, c .before .before .before .before .before .before .before .before .before .before .before .before .before .pre .1)
 
--- src/lib.rt:226:28
 pa-told-requires : (t : ℕ) → pa-lts.Need-told-requires (
   word-reads.Asked,
   word-reads.Learnt,
@@ -18951,7 +18185,6 @@ pa-told-requires : (t : ℕ) → pa-lts.Need-told-requires (
 ) (pa-at t) pa.Post
 pa-told-requires t c κs = search needs
 
--- src/lib.rt:226:22
 pa-enum-known-s1 : (t : ℕ) → pa-lts.Need-enum-known-s1 (
   word-reads.Asked,
   word-reads.Learnt,
@@ -18962,7 +18195,6 @@ pa-enum-known-s1 : (t : ℕ) → pa-lts.Need-enum-known-s1 (
 ) (pa-at t) pa.Post
 pa-enum-known-s1 t c = search needs
 
--- src/lib.rt:227:9
 pa-enum-told : (t : ℕ) → pa-lts.Need-enum-told (
   word-reads.Asked,
   word-reads.Learnt,
@@ -18973,7 +18205,6 @@ pa-enum-told : (t : ℕ) → pa-lts.Need-enum-told (
 ) (pa-at t) pa.Post
 pa-enum-told t c = search needs
 
--- src/lib.rt:227:9
 pa-same-length : (t : ℕ) → pa-lts.Need-same-length (
   word-reads.Asked,
   word-reads.Learnt,
@@ -18984,7 +18215,6 @@ pa-same-length : (t : ℕ) → pa-lts.Need-same-length (
 ) (pa-at t) pa.Post
 pa-same-length t c = c .before .before .before .before .before .exp .kept .1 .1 .1 .1 .1 .1 .0 ∙ c .before .before .before .before .before .before .before .before .before .before .word .kept .1 .1 .0
 
--- src/lib.rt:227:9
 pa-returns : (t : ℕ) → pa-lts.Need-returns (
   word-reads.Asked,
   word-reads.Learnt,
@@ -18996,7 +18226,6 @@ pa-returns : (t : ℕ) → pa-lts.Need-returns (
 unfolding Exp.exp
 pa-returns t c = record { is = then-sure (c .before .before .before .before .before .before .before .before .before .before .word .ensures) (then-stop (c .before .before .before .before .before .exp .ensures .is) (c .before .before .told .ensures) (c .enum-told .given .1)) }
 
--- src/lib.rt:229:5
 pa-word-requires-2 : (t : ℕ) → pa-lts.Need-word-requires-2 (
   word-reads.Asked,
   word-reads.Learnt,
@@ -19007,7 +18236,6 @@ pa-word-requires-2 : (t : ℕ) → pa-lts.Need-word-requires-2 (
 ) (pa-at t) pa.Post
 pa-word-requires-2 t c κs = search needs
 
--- src/lib.rt:209:1
 pa-same-length-2 : (t : ℕ) → pa-lts.Need-same-length-2 (
   word-reads.Asked,
   word-reads.Learnt,
@@ -19018,7 +18246,6 @@ pa-same-length-2 : (t : ℕ) → pa-lts.Need-same-length-2 (
 ) (pa-at t) pa.Post
 pa-same-length-2 t c = c .before .before .word2 .kept .1 .1 .0 ∙ c .before .before .before .before .before .before .before .before .before .before .before .exp .kept .1 .1 .1 .1 .1 .1 .0 ∙ c .before .before .before .before .before .before .before .before .before .before .before .before .before .before .before .before .word .kept .1 .1 .0
 
--- src/lib.rt:209:1
 pa-returns-2 : (t : ℕ) → pa-lts.Need-returns-2 (
   word-reads.Asked,
   word-reads.Learnt,
@@ -19030,7 +18257,6 @@ pa-returns-2 : (t : ℕ) → pa-lts.Need-returns-2 (
 unfolding Exp.exp
 pa-returns-2 t c = record { is = then-sure (c .before .before .before .before .before .before .before .before .before .before .before .before .before .before .before .before .word .ensures) (then-done (c .before .before .before .before .before .before .before .before .before .before .before .exp .ensures .is) (c .before .before .before .before .before .before .before .before .told .ensures) (c .before .before .before .before .before .before .s1 .given .1) (last-sure (c .before .before .word2 .ensures))) }
 
--- src/lib.rt:731:5
 pr-word-requires : (t : ℕ) → pr-lts.Need-word-requires (
   word-reads.Asked,
   word-reads.Learnt,
@@ -19039,7 +18265,6 @@ pr-word-requires : (t : ℕ) → pr-lts.Need-word-requires (
 ) (pr-at t) pr.Post
 pr-word-requires t c κs = search needs
 
--- src/lib.rt:732:5
 pr-exp-requires : (t : ℕ) → pr-lts.Need-exp-requires (
   word-reads.Asked,
   word-reads.Learnt,
@@ -19048,7 +18273,6 @@ pr-exp-requires : (t : ℕ) → pr-lts.Need-exp-requires (
 ) (pr-at t) pr.Post
 pr-exp-requires t c κs = omega (arith, c .before .before .before .before .before .before .before .before .before .before .before .before .before .pre .0, c .before .before .before .before .before .before .before .before .before .before .before .before .before .pre .1)
 
--- src/lib.rt:715:1
 pr-same-length : (t : ℕ) → pr-lts.Need-same-length (
   word-reads.Asked,
   word-reads.Learnt,
@@ -19057,7 +18281,6 @@ pr-same-length : (t : ℕ) → pr-lts.Need-same-length (
 ) (pr-at t) pr.Post
 pr-same-length t c = c .before .before .exp .kept .1 .1 .1 .1 .1 .1 .0 ∙ c .before .before .before .before .before .before .before .word .kept .1 .1 .0
 
--- src/lib.rt:715:1
 pr-returns : (t : ℕ) → pr-lts.Need-returns (
   word-reads.Asked,
   word-reads.Learnt,
@@ -19066,7 +18289,6 @@ pr-returns : (t : ℕ) → pr-lts.Need-returns (
 ) (pr-at t) pr.Post
 pr-returns t c = record { is = then-sure (c .before .before .before .before .before .before .before .word .ensures) (c .before .before .exp .ensures .is) }
 
--- src/lib.rt:892:29
 qb-absent-requires : (t : ℕ) → qb-lts.Need-absent-requires (
   absent-reads.Asked,
   absent-reads.Learnt,
@@ -19089,7 +18311,6 @@ qb-absent-requires : (t : ℕ) → qb-lts.Need-absent-requires (
 ) (qb-at t) qb.Post
 qb-absent-requires t c κs = search needs
 
--- src/lib.rt:892:23
 qb-enum-known-s0 : (t : ℕ) → qb-lts.Need-enum-known-s0 (
   absent-reads.Asked,
   absent-reads.Learnt,
@@ -19112,7 +18333,6 @@ qb-enum-known-s0 : (t : ℕ) → qb-lts.Need-enum-known-s0 (
 ) (qb-at t) qb.Post
 qb-enum-known-s0 t c = search needs
 
--- src/lib.rt:893:9
 qb-returns : (t : ℕ) → qb-lts.Need-returns (
   absent-reads.Asked,
   absent-reads.Learnt,
@@ -19158,7 +18378,6 @@ qb-enum-told : (t : ℕ) → qb-lts.Need-enum-told (
 ) (qb-at t) qb.Post
 qb-enum-told t c = search needs
 
--- src/lib.rt:895:9
 qb-group-requires : (t : ℕ) → qb-lts.Need-group-requires (
   absent-reads.Asked,
   absent-reads.Learnt,
@@ -19181,7 +18400,6 @@ qb-group-requires : (t : ℕ) → qb-lts.Need-group-requires (
 ) (qb-at t) qb.Post
 qb-group-requires t c κs = search needs
 
--- src/lib.rt:896:28
 qb-told-requires : (t : ℕ) → qb-lts.Need-told-requires (
   absent-reads.Asked,
   absent-reads.Learnt,
@@ -19204,7 +18422,6 @@ qb-told-requires : (t : ℕ) → qb-lts.Need-told-requires (
 ) (qb-at t) qb.Post
 qb-told-requires t c κs = search needs
 
--- src/lib.rt:896:22
 qb-enum-known-s1 : (t : ℕ) → qb-lts.Need-enum-known-s1 (
   absent-reads.Asked,
   absent-reads.Learnt,
@@ -19227,7 +18444,6 @@ qb-enum-known-s1 : (t : ℕ) → qb-lts.Need-enum-known-s1 (
 ) (qb-at t) qb.Post
 qb-enum-known-s1 t c = search needs
 
--- src/lib.rt:897:9
 qb-enum-told-2 : (t : ℕ) → qb-lts.Need-enum-told-2 (
   absent-reads.Asked,
   absent-reads.Learnt,
@@ -19250,7 +18466,6 @@ qb-enum-told-2 : (t : ℕ) → qb-lts.Need-enum-told-2 (
 ) (qb-at t) qb.Post
 qb-enum-told-2 t c = search needs
 
--- src/lib.rt:897:9
 qb-returns-2 : (t : ℕ) → qb-lts.Need-returns-2 (
   absent-reads.Asked,
   absent-reads.Learnt,
@@ -19274,7 +18489,6 @@ qb-returns-2 : (t : ℕ) → qb-lts.Need-returns-2 (
 unfolding Exp.eq-body Exp.get-body-exp Exp.get-body-exp-level Exp.indented-levels
 qb-returns-2 t c = record { is = by-same (maybe-there (c .before .before .before .before .before .before .absent .ensures) (c .before .before .before .before .enum-told .given .1)) (group-not (c .before .before .before .group .ensures) (c .before .before .told .ensures) (c .enum-told2 .given .1)) }
 
--- src/lib.rt:899:5
 qb-word-requires : (t : ℕ) → qb-lts.Need-word-requires (
   absent-reads.Asked,
   absent-reads.Learnt,
@@ -19297,7 +18511,6 @@ qb-word-requires : (t : ℕ) → qb-lts.Need-word-requires (
 ) (qb-at t) qb.Post
 qb-word-requires t c κs = search needs
 
--- src/lib.rt:900:28
 qb-expression-requires : (t : ℕ) → qb-lts.Need-expression-requires (
   absent-reads.Asked,
   absent-reads.Learnt,
@@ -19320,7 +18533,6 @@ qb-expression-requires : (t : ℕ) → qb-lts.Need-expression-requires (
 ) (qb-at t) qb.Post
 qb-expression-requires t c κs = search needs
 
--- src/lib.rt:900:18
 qb-enum-known--k : (t : ℕ) → qb-lts.Need-enum-known--k (
   absent-reads.Asked,
   absent-reads.Learnt,
@@ -19343,7 +18555,6 @@ qb-enum-known--k : (t : ℕ) → qb-lts.Need-enum-known--k (
 ) (qb-at t) qb.Post
 qb-enum-known--k t c = search needs
 
--- src/lib.rt:901:9
 qb-enum-told-3 : (t : ℕ) → qb-lts.Need-enum-told-3 (
   absent-reads.Asked,
   absent-reads.Learnt,
@@ -19366,7 +18577,6 @@ qb-enum-told-3 : (t : ℕ) → qb-lts.Need-enum-told-3 (
 ) (qb-at t) qb.Post
 qb-enum-told-3 t c = search needs
 
--- src/lib.rt:901:9
 qb-stop-requires : (t : ℕ) → qb-lts.Need-stop-requires (
   absent-reads.Asked,
   absent-reads.Learnt,
@@ -19389,7 +18599,6 @@ qb-stop-requires : (t : ℕ) → qb-lts.Need-stop-requires (
 ) (qb-at t) qb.Post
 qb-stop-requires t c κs = search needs
 
--- src/lib.rt:901:9
 qb-same-length : (t : ℕ) → qb-lts.Need-same-length (
   absent-reads.Asked,
   absent-reads.Learnt,
@@ -19412,7 +18621,6 @@ qb-same-length : (t : ℕ) → qb-lts.Need-same-length (
 ) (qb-at t) qb.Post
 qb-same-length t c = c .before .before .before .before .before .before .word .kept .1 .1 .0
 
--- src/lib.rt:901:9
 qb-returns-3 : (t : ℕ) → qb-lts.Need-returns-3 (
   absent-reads.Asked,
   absent-reads.Learnt,
@@ -19436,7 +18644,6 @@ qb-returns-3 : (t : ℕ) → qb-lts.Need-returns-3 (
 unfolding Exp.eq-body Exp.get-body-exp Exp.get-body-exp-level Exp.indented-levels
 qb-returns-3 t c = record { is = by-same (maybe-there (c .before .before .before .before .before .before .before .before .before .before .before .before .before .before .before .before .absent .ensures) (c .before .before .before .before .before .before .before .before .before .before .before .before .before .before .enum-told .given .1)) (by-same (group-is (c .before .before .before .before .before .before .before .before .before .before .before .before .before .group .ensures) (c .before .before .before .before .before .before .before .before .before .before .before .before .told .ensures) (c .before .before .before .before .before .before .before .before .before .before .s1 .given .1)) (then-sure (c .before .before .before .before .before .before .word .ensures) (look-not (c .stop .ensures) (c .before .before .before .expression .ensures) (c .before .enum-told3 .given .1)))) }
 
--- src/lib.rt:903:8
 qb-body-exp-needs-newline-requires : (t : ℕ) → qb-lts.Need-body-exp-needs-newline-requires (
   absent-reads.Asked,
   absent-reads.Learnt,
@@ -19459,7 +18666,6 @@ qb-body-exp-needs-newline-requires : (t : ℕ) → qb-lts.Need-body-exp-needs-ne
 ) (qb-at t) qb.Post
 qb-body-exp-needs-newline-requires t c κs = search needs
 
--- src/lib.rt:904:9
 qb-word-requires-2 : (t : ℕ) → qb-lts.Need-word-requires-2 (
   absent-reads.Asked,
   absent-reads.Learnt,
@@ -19482,7 +18688,6 @@ qb-word-requires-2 : (t : ℕ) → qb-lts.Need-word-requires-2 (
 ) (qb-at t) qb.Post
 qb-word-requires-2 t c κs = search needs
 
--- src/lib.rt:905:9
 qb-dp-requires : (t : ℕ) → qb-lts.Need-dp-requires (
   absent-reads.Asked,
   absent-reads.Learnt,
@@ -19505,7 +18710,6 @@ qb-dp-requires : (t : ℕ) → qb-lts.Need-dp-requires (
 ) (qb-at t) qb.Post
 qb-dp-requires t c κs = omega (arith, c .before .before .before .before .before .before .before .before .before .before .before .before .before .before .before .before .before .before .before .before .before .before .before .before .before .before .before .before .before .before .before .before .pre .0, c .before .before .before .before .before .before .before .before .before .before .before .before .before .before .before .before .before .before .before .before .before .before .before .before .before .before .before .before .before .before .before .before .pre .1)
 
--- src/lib.rt:905:9
 qb-same-length-2 : (t : ℕ) → qb-lts.Need-same-length-2 (
   absent-reads.Asked,
   absent-reads.Learnt,
@@ -19528,7 +18732,6 @@ qb-same-length-2 : (t : ℕ) → qb-lts.Need-same-length-2 (
 ) (qb-at t) qb.Post
 qb-same-length-2 t c = c .before .before .dp .kept .1 .1 .1 .1 .1 .1 .0 ∙ c .before .before .before .before .before .before .before .word2 .kept .1 .1 .0 ∙ c .before .before .before .before .before .before .before .before .before .before .before .before .before .before .before .before .before .before .word .kept .1 .1 .0
 
--- src/lib.rt:905:9
 qb-returns-4 : (t : ℕ) → qb-lts.Need-returns-4 (
   absent-reads.Asked,
   absent-reads.Learnt,
@@ -19552,7 +18755,6 @@ qb-returns-4 : (t : ℕ) → qb-lts.Need-returns-4 (
 unfolding Exp.eq-body Exp.get-body-exp Exp.get-body-exp-level Exp.indented-levels
 qb-returns-4 t c = record { is = by-same (maybe-there (c .before .before .before .before .before .before .before .before .before .before .before .before .before .before .before .before .before .before .before .before .before .before .before .before .before .before .before .before .absent .ensures) (c .before .before .before .before .before .before .before .before .before .before .before .before .before .before .before .before .before .before .before .before .before .before .before .before .before .before .enum-told .given .1)) (by-same (group-is (c .before .before .before .before .before .before .before .before .before .before .before .before .before .before .before .before .before .before .before .before .before .before .before .before .before .group .ensures) (c .before .before .before .before .before .before .before .before .before .before .before .before .before .before .before .before .before .before .before .before .before .before .before .before .told .ensures) (c .before .before .before .before .before .before .before .before .before .before .before .before .before .before .before .before .before .before .before .before .before .before .s1 .given .1)) (then-sure (c .before .before .before .before .before .before .before .before .before .before .before .before .before .before .before .before .before .before .word .ensures) (by-same (look-yes (c .before .before .before .before .before .before .before .before .before .before .before .before .before .before .before .expression .ensures) (c .before .before .before .before .before .before .before .before .before .before .before .before .before .-k .given .1) (c .before .before .before .before .before .before .before .before .before .before .before .body-exp-needs-newline .ensures) (c .before .before .before .before .before .before .before .before .before .before .if1 .taken)) (then-sure (c .before .before .before .before .before .before .before .word2 .ensures) (c .before .before .dp .ensures .is))))) }
 
--- src/lib.rt:907:5
 qb-word-requires-3 : (t : ℕ) → qb-lts.Need-word-requires-3 (
   absent-reads.Asked,
   absent-reads.Learnt,
@@ -19575,7 +18777,6 @@ qb-word-requires-3 : (t : ℕ) → qb-lts.Need-word-requires-3 (
 ) (qb-at t) qb.Post
 qb-word-requires-3 t c κs = search needs
 
--- src/lib.rt:908:5
 qb-exp-requires : (t : ℕ) → qb-lts.Need-exp-requires (
   absent-reads.Asked,
   absent-reads.Learnt,
@@ -19598,7 +18799,6 @@ qb-exp-requires : (t : ℕ) → qb-lts.Need-exp-requires (
 ) (qb-at t) qb.Post
 qb-exp-requires t c κs = omega (arith, c .before .before .before .before .before .before .before .before .before .before .before .before .before .before .before .before .before .before .before .before .before .before .before .before .before .before .before .before .before .before .before .before .pre .0, c .before .before .before .before .before .before .before .before .before .before .before .before .before .before .before .before .before .before .before .before .before .before .before .before .before .before .before .before .before .before .before .before .pre .1)
 
--- src/lib.rt:877:1
 qb-same-length-3 : (t : ℕ) → qb-lts.Need-same-length-3 (
   absent-reads.Asked,
   absent-reads.Learnt,
@@ -19621,7 +18821,6 @@ qb-same-length-3 : (t : ℕ) → qb-lts.Need-same-length-3 (
 ) (qb-at t) qb.Post
 qb-same-length-3 t c = c .before .before .exp .kept .1 .1 .1 .1 .1 .1 .0 ∙ c .before .before .before .before .before .before .before .word3 .kept .1 .1 .0 ∙ c .before .before .before .before .before .before .before .before .before .before .before .before .before .before .before .before .before .before .word .kept .1 .1 .0
 
--- src/lib.rt:877:1
 qb-returns-5 : (t : ℕ) → qb-lts.Need-returns-5 (
   absent-reads.Asked,
   absent-reads.Learnt,
@@ -19652,7 +18851,6 @@ qs-Inv-loop run text rec kinds starts lens out₀ mem₀ at cfg n s0 s₀ i₀ o
 abbrev qs-μ-loop : qs-lts.MeasureT-loop
 qs-μ-loop run text rec kinds starts lens out₀ mem₀ at cfg n s0 s₀ i₀ out mem s i = n - i
 
--- src/lib.rt:1166:27
 qs-list-requires : (t : ℕ) → qs-lts.Need-list-requires (
   list-reads.Asked,
   list-reads.Learnt,
@@ -19667,7 +18865,6 @@ qs-list-requires : (t : ℕ) → qs-lts.Need-list-requires (
 ) (qs-at t) qs.Post qs-Inv-loop qs-μ-loop
 qs-list-requires t c κs = search needs
 
--- src/lib.rt:1166:18
 qs-enum-known-n : (t : ℕ) → qs-lts.Need-enum-known-n (
   list-reads.Asked,
   list-reads.Learnt,
@@ -19682,7 +18879,6 @@ qs-enum-known-n : (t : ℕ) → qs-lts.Need-enum-known-n (
 ) (qs-at t) qs.Post qs-Inv-loop qs-μ-loop
 qs-enum-known-n t c = search needs
 
--- src/lib.rt:1167:9
 qs-enum-told : (t : ℕ) → qs-lts.Need-enum-told (
   list-reads.Asked,
   list-reads.Learnt,
@@ -19697,7 +18893,6 @@ qs-enum-told : (t : ℕ) → qs-lts.Need-enum-told (
 ) (qs-at t) qs.Post qs-Inv-loop qs-μ-loop
 qs-enum-told t c = search needs
 
--- src/lib.rt:1167:9
 qs-stop-requires : (t : ℕ) → qs-lts.Need-stop-requires (
   list-reads.Asked,
   list-reads.Learnt,
@@ -19712,7 +18907,6 @@ qs-stop-requires : (t : ℕ) → qs-lts.Need-stop-requires (
 ) (qs-at t) qs.Post qs-Inv-loop qs-μ-loop
 qs-stop-requires t c κs = search needs
 
--- src/lib.rt:1167:9
 qs-returns : (t : ℕ) → qs-lts.Need-returns (
   list-reads.Asked,
   list-reads.Learnt,
@@ -19728,7 +18922,6 @@ qs-returns : (t : ℕ) → qs-lts.Need-returns (
 unfolding GetDec.dec-in-seqs Helpers.sep-with-lines
 qs-returns t c = record { is = list-not (c .stop .ensures) (c .before .before .before .list .ensures) (c .before .enum-told .given .1) }
 
--- src/lib.rt:1171:5
 qs-loop-holds : (t : ℕ) → qs-lts.Need-loop-holds (
   list-reads.Asked,
   list-reads.Learnt,
@@ -19743,7 +18936,6 @@ qs-loop-holds : (t : ℕ) → qs-lts.Need-loop-holds (
 ) (qs-at t) qs.Post qs-Inv-loop qs-μ-loop
 qs-loop-holds t c = (omega arith, λ r m o h. h, refl)
 
--- src/lib.rt:1172:9
 qs-new-line-requires : (t : ℕ) → qs-lts.Need-new-line-requires (
   list-reads.Asked,
   list-reads.Learnt,
@@ -19758,7 +18950,6 @@ qs-new-line-requires : (t : ℕ) → qs-lts.Need-new-line-requires (
 ) (qs-at t) qs.Post qs-Inv-loop qs-μ-loop
 qs-new-line-requires t c κs = search needs
 
--- src/lib.rt:1173:13
 qs-sq-requires : (t : ℕ) → qs-lts.Need-sq-requires (
   list-reads.Asked,
   list-reads.Learnt,
@@ -19773,7 +18964,6 @@ qs-sq-requires : (t : ℕ) → qs-lts.Need-sq-requires (
 ) (qs-at t) qs.Post qs-Inv-loop qs-μ-loop
 qs-sq-requires t c κs = omega (arith, c .before .before .before .before .before .before .before .before .before .before .before .before .before .before .before .before .before .before .before .pre .0, c .before .before .before .before .before .before .before .before .before .before .before .before .before .before .before .before .before .before .before .pre .1)
 
--- src/lib.rt:1174:32
 qs-told-requires : (t : ℕ) → qs-lts.Need-told-requires (
   list-reads.Asked,
   list-reads.Learnt,
@@ -19788,7 +18978,6 @@ qs-told-requires : (t : ℕ) → qs-lts.Need-told-requires (
 ) (qs-at t) qs.Post qs-Inv-loop qs-μ-loop
 qs-told-requires t c κs = search needs
 
--- src/lib.rt:1174:26
 qs-enum-known-s1 : (t : ℕ) → qs-lts.Need-enum-known-s1 (
   list-reads.Asked,
   list-reads.Learnt,
@@ -19803,7 +18992,6 @@ qs-enum-known-s1 : (t : ℕ) → qs-lts.Need-enum-known-s1 (
 ) (qs-at t) qs.Post qs-Inv-loop qs-μ-loop
 qs-enum-known-s1 t c = search needs
 
--- src/lib.rt:1175:13
 qs-enum-told-2 : (t : ℕ) → qs-lts.Need-enum-told-2 (
   list-reads.Asked,
   list-reads.Learnt,
@@ -19818,7 +19006,6 @@ qs-enum-told-2 : (t : ℕ) → qs-lts.Need-enum-told-2 (
 ) (qs-at t) qs.Post qs-Inv-loop qs-μ-loop
 qs-enum-told-2 t c = search needs
 
--- src/lib.rt:1175:13
 qs-same-length : (t : ℕ) → qs-lts.Need-same-length (
   list-reads.Asked,
   list-reads.Learnt,
@@ -19833,7 +19020,6 @@ qs-same-length : (t : ℕ) → qs-lts.Need-same-length (
 ) (qs-at t) qs.Post qs-Inv-loop qs-μ-loop
 qs-same-length t c = c .before .before .before .before .before .sq .kept .1 .1 .1 .1 .1 .1 .0 ∙ c .before .before .before .before .before .before .before .before .before .before .new-line .kept .1 .1 .0 ∙ c .before .before .before .before .before .before .before .before .before .before .before .before .before .before .loop .inv .2
 
--- src/lib.rt:1175:13
 qs-returns-2 : (t : ℕ) → qs-lts.Need-returns-2 (
   list-reads.Asked,
   list-reads.Learnt,
@@ -19849,7 +19035,6 @@ qs-returns-2 : (t : ℕ) → qs-lts.Need-returns-2 (
 unfolding GetDec.dec-in-seqs Helpers.sep-with-lines
 qs-returns-2 t c = record { is = by-same (list-is (c .before .before .before .before .before .before .before .before .before .before .before .before .before .before .before .before .before .before .list .ensures) (c .before .before .before .before .before .before .before .before .before .before .before .before .before .before .before .before .n .given .1)) (by-same (items-all _ _ _) (c .before .before .before .before .before .before .before .before .before .before .before .before .before .before .loop .inv .1 _ _ _ (from-more _ _ (c .before .before .before .before .before .before .before .before .before .before .before .before .before .loop-test .taken) (then-sure (c .before .before .before .before .before .before .before .before .before .before .new-line .ensures) (then-stop (c .before .before .before .before .before .sq .ensures .is) (c .before .before .told .ensures) (c .enum-told2 .given .1)))))) }
 
--- src/lib.rt:1178:9
 qs-add-i : (t : ℕ) → qs-lts.Need-add-i (
   list-reads.Asked,
   list-reads.Learnt,
@@ -19864,7 +19049,6 @@ qs-add-i : (t : ℕ) → qs-lts.Need-add-i (
 ) (qs-at t) qs.Post qs-Inv-loop qs-μ-loop
 qs-add-i t c = omega (arith, c .before .before .before .before .before .before .before .before .before .before .before .before .before .before .loop-test .taken, c .before .before .before .before .before .before .before .before .before .before .before .before .before .before .before .before .known-told)
 
--- src/lib.rt:1171:5
 qs-loop-less : (t : ℕ) → qs-lts.Need-loop-less (
   list-reads.Asked,
   list-reads.Learnt,
@@ -19879,7 +19063,6 @@ qs-loop-less : (t : ℕ) → qs-lts.Need-loop-less (
 ) (qs-at t) qs.Post qs-Inv-loop qs-μ-loop
 qs-loop-less t c = omega arith
 
--- src/lib.rt:1171:5
 qs-loop-again : (t : ℕ) → qs-lts.Need-loop-again (
   list-reads.Asked,
   list-reads.Learnt,
@@ -19895,7 +19078,6 @@ qs-loop-again : (t : ℕ) → qs-lts.Need-loop-again (
 unfolding GetDec.dec-in-seqs Helpers.sep-with-lines
 qs-loop-again t c = (omega (arith, c .before .before .before .before .before .before .before .before .before .before .before .before .before .before .before .loop .inv .0), λ r m o h. c .before .before .before .before .before .before .before .before .before .before .before .before .before .before .before .loop .inv .1 r m o (from-more _ _ (c .before .before .before .before .before .before .before .before .before .before .before .before .before .before .loop-test .taken) (then-sure (c .before .before .before .before .before .before .before .before .before .before .before .new-line .ensures) (then-done (c .before .before .before .before .before .before .sq .ensures .is) (c .before .before .before .told .ensures) (c .before .s1 .given .1) h))), c .before .before .before .before .before .before .sq .kept .1 .1 .1 .1 .1 .1 .0 ∙ c .before .before .before .before .before .before .before .before .before .before .before .new-line .kept .1 .1 .0 ∙ c .before .before .before .before .before .before .before .before .before .before .before .before .before .before .before .loop .inv .2)
 
--- src/lib.rt:1151:1
 qs-same-length-2 : (t : ℕ) → qs-lts.Need-same-length-2 (
   list-reads.Asked,
   list-reads.Learnt,
@@ -19910,7 +19092,6 @@ qs-same-length-2 : (t : ℕ) → qs-lts.Need-same-length-2 (
 ) (qs-at t) qs.Post qs-Inv-loop qs-μ-loop
 qs-same-length-2 t c = c .before .loop .inv .2
 
--- src/lib.rt:1151:1
 qs-returns-3 : (t : ℕ) → qs-lts.Need-returns-3 (
   list-reads.Asked,
   list-reads.Learnt,
@@ -19926,7 +19107,6 @@ qs-returns-3 : (t : ℕ) → qs-lts.Need-returns-3 (
 unfolding GetDec.dec-in-seqs Helpers.sep-with-lines
 qs-returns-3 t c = record { is = by-same (list-is (c .before .before .before .before .before .list .ensures) (c .before .before .before .n .given .1)) (by-same (items-all _ _ _) (c .before .loop .inv .1 _ _ _ (from-none _ _ (c .loop-test .left)))) }
 
--- src/lib.rt:199:5
 rc-word-requires : (t : ℕ) → rc-lts.Need-word-requires (
   word-reads.Asked,
   word-reads.Learnt,
@@ -19937,7 +19117,6 @@ rc-word-requires : (t : ℕ) → rc-lts.Need-word-requires (
 ) (rc-at t) rc.Post
 rc-word-requires t c κs = search needs
 
--- src/lib.rt:200:9
 rc-rs-requires : (t : ℕ) → rc-lts.Need-rs-requires (
   word-reads.Asked,
   word-reads.Learnt,
@@ -19948,7 +19127,6 @@ rc-rs-requires : (t : ℕ) → rc-lts.Need-rs-requires (
 ) (rc-at t) rc.Post
 rc-rs-requires t c κs = omega (arith, c .before .before .before .before .before .before .before .before .before .before .before .before .before .pre .0, c .before .before .before .before .before .before .before .before .before .before .before .before .before .pre .1)
 
--- src/lib.rt:201:28
 rc-told-requires : (t : ℕ) → rc-lts.Need-told-requires (
   word-reads.Asked,
   word-reads.Learnt,
@@ -19959,7 +19137,6 @@ rc-told-requires : (t : ℕ) → rc-lts.Need-told-requires (
 ) (rc-at t) rc.Post
 rc-told-requires t c κs = search needs
 
--- src/lib.rt:201:22
 rc-enum-known-s1 : (t : ℕ) → rc-lts.Need-enum-known-s1 (
   word-reads.Asked,
   word-reads.Learnt,
@@ -19970,7 +19147,6 @@ rc-enum-known-s1 : (t : ℕ) → rc-lts.Need-enum-known-s1 (
 ) (rc-at t) rc.Post
 rc-enum-known-s1 t c = search needs
 
--- src/lib.rt:202:9
 rc-enum-told : (t : ℕ) → rc-lts.Need-enum-told (
   word-reads.Asked,
   word-reads.Learnt,
@@ -19981,7 +19157,6 @@ rc-enum-told : (t : ℕ) → rc-lts.Need-enum-told (
 ) (rc-at t) rc.Post
 rc-enum-told t c = search needs
 
--- src/lib.rt:202:9
 rc-same-length : (t : ℕ) → rc-lts.Need-same-length (
   word-reads.Asked,
   word-reads.Learnt,
@@ -19992,7 +19167,6 @@ rc-same-length : (t : ℕ) → rc-lts.Need-same-length (
 ) (rc-at t) rc.Post
 rc-same-length t c = c .before .before .before .before .before .rs .kept .1 .1 .1 .1 .1 .1 .0 ∙ c .before .before .before .before .before .before .before .before .before .before .word .kept .1 .1 .0
 
--- src/lib.rt:202:9
 rc-returns : (t : ℕ) → rc-lts.Need-returns (
   word-reads.Asked,
   word-reads.Learnt,
@@ -20004,7 +19178,6 @@ rc-returns : (t : ℕ) → rc-lts.Need-returns (
 unfolding Exp.exp
 rc-returns t c = record { is = then-sure (c .before .before .before .before .before .before .before .before .before .before .word .ensures) (then-stop (c .before .before .before .before .before .rs .ensures .is) (c .before .before .told .ensures) (c .enum-told .given .1)) }
 
--- src/lib.rt:204:5
 rc-word-requires-2 : (t : ℕ) → rc-lts.Need-word-requires-2 (
   word-reads.Asked,
   word-reads.Learnt,
@@ -20015,7 +19188,6 @@ rc-word-requires-2 : (t : ℕ) → rc-lts.Need-word-requires-2 (
 ) (rc-at t) rc.Post
 rc-word-requires-2 t c κs = search needs
 
--- src/lib.rt:184:1
 rc-same-length-2 : (t : ℕ) → rc-lts.Need-same-length-2 (
   word-reads.Asked,
   word-reads.Learnt,
@@ -20026,7 +19198,6 @@ rc-same-length-2 : (t : ℕ) → rc-lts.Need-same-length-2 (
 ) (rc-at t) rc.Post
 rc-same-length-2 t c = c .before .before .word2 .kept .1 .1 .0 ∙ c .before .before .before .before .before .before .before .before .before .before .before .rs .kept .1 .1 .1 .1 .1 .1 .0 ∙ c .before .before .before .before .before .before .before .before .before .before .before .before .before .before .before .before .word .kept .1 .1 .0
 
--- src/lib.rt:184:1
 rc-returns-2 : (t : ℕ) → rc-lts.Need-returns-2 (
   word-reads.Asked,
   word-reads.Learnt,
@@ -20038,7 +19209,6 @@ rc-returns-2 : (t : ℕ) → rc-lts.Need-returns-2 (
 unfolding Exp.exp
 rc-returns-2 t c = record { is = then-sure (c .before .before .before .before .before .before .before .before .before .before .before .before .before .before .before .before .word .ensures) (then-done (c .before .before .before .before .before .before .before .before .before .before .before .rs .ensures .is) (c .before .before .before .before .before .before .before .before .told .ensures) (c .before .before .before .before .before .before .s1 .given .1) (last-sure (c .before .before .word2 .ensures))) }
 
--- src/lib.rt:131:9
 ro-group-requires : (t : ℕ) → ro-lts.Need-group-requires (
   group-reads.Asked,
   group-reads.Learnt,
@@ -20055,7 +19225,6 @@ ro-group-requires : (t : ℕ) → ro-lts.Need-group-requires (
 ) (ro-at t) ro.Post
 ro-group-requires t c κs = search needs
 
--- src/lib.rt:132:28
 ro-told-requires : (t : ℕ) → ro-lts.Need-told-requires (
   group-reads.Asked,
   group-reads.Learnt,
@@ -20072,7 +19241,6 @@ ro-told-requires : (t : ℕ) → ro-lts.Need-told-requires (
 ) (ro-at t) ro.Post
 ro-told-requires t c κs = search needs
 
--- src/lib.rt:132:22
 ro-enum-known-s1 : (t : ℕ) → ro-lts.Need-enum-known-s1 (
   group-reads.Asked,
   group-reads.Learnt,
@@ -20089,7 +19257,6 @@ ro-enum-known-s1 : (t : ℕ) → ro-lts.Need-enum-known-s1 (
 ) (ro-at t) ro.Post
 ro-enum-known-s1 t c = search needs
 
--- src/lib.rt:133:9
 ro-enum-told : (t : ℕ) → ro-lts.Need-enum-told (
   group-reads.Asked,
   group-reads.Learnt,
@@ -20106,7 +19273,6 @@ ro-enum-told : (t : ℕ) → ro-lts.Need-enum-told (
 ) (ro-at t) ro.Post
 ro-enum-told t c = search needs
 
--- src/lib.rt:133:9
 ro-returns : (t : ℕ) → ro-lts.Need-returns (
   group-reads.Asked,
   group-reads.Learnt,
@@ -20124,7 +19290,6 @@ ro-returns : (t : ℕ) → ro-lts.Need-returns (
 unfolding Exp.exp-row Exp.eq-exp
 ro-returns t c = record { is = group-not (c .before .before .before .group .ensures) (c .before .before .told .ensures) (c .enum-told .given .1) }
 
--- src/lib.rt:135:9
 ro-text-of-requires : (t : ℕ) → ro-lts.Need-text-of-requires (
   group-reads.Asked,
   group-reads.Learnt,
@@ -20141,7 +19306,6 @@ ro-text-of-requires : (t : ℕ) → ro-lts.Need-text-of-requires (
 ) (ro-at t) ro.Post
 ro-text-of-requires t c κs = search needs
 
--- src/lib.rt:136:28
 ro-told-requires-2 : (t : ℕ) → ro-lts.Need-told-requires-2 (
   group-reads.Asked,
   group-reads.Learnt,
@@ -20158,7 +19322,6 @@ ro-told-requires-2 : (t : ℕ) → ro-lts.Need-told-requires-2 (
 ) (ro-at t) ro.Post
 ro-told-requires-2 t c κs = search needs
 
--- src/lib.rt:136:22
 ro-enum-known-s2 : (t : ℕ) → ro-lts.Need-enum-known-s2 (
   group-reads.Asked,
   group-reads.Learnt,
@@ -20175,7 +19338,6 @@ ro-enum-known-s2 : (t : ℕ) → ro-lts.Need-enum-known-s2 (
 ) (ro-at t) ro.Post
 ro-enum-known-s2 t c = search needs
 
--- src/lib.rt:137:9
 ro-enum-told-2 : (t : ℕ) → ro-lts.Need-enum-told-2 (
   group-reads.Asked,
   group-reads.Learnt,
@@ -20192,7 +19354,6 @@ ro-enum-told-2 : (t : ℕ) → ro-lts.Need-enum-told-2 (
 ) (ro-at t) ro.Post
 ro-enum-told-2 t c = search needs
 
--- src/lib.rt:137:9
 ro-same-length : (t : ℕ) → ro-lts.Need-same-length (
   group-reads.Asked,
   group-reads.Learnt,
@@ -20209,7 +19370,6 @@ ro-same-length : (t : ℕ) → ro-lts.Need-same-length (
 ) (ro-at t) ro.Post
 ro-same-length t c = c .before .before .before .before .before .text-of .kept .1 .1 .1 .1 .1 .0
 
--- src/lib.rt:137:9
 ro-returns-2 : (t : ℕ) → ro-lts.Need-returns-2 (
   group-reads.Asked,
   group-reads.Learnt,
@@ -20227,7 +19387,6 @@ ro-returns-2 : (t : ℕ) → ro-lts.Need-returns-2 (
 unfolding Exp.exp-row Exp.eq-exp
 ro-returns-2 t c = record { is = by-same (group-is (c .before .before .before .before .before .before .before .before .before .before .before .before .group .ensures) (c .before .before .before .before .before .before .before .before .before .before .before .told .ensures) (c .before .before .before .before .before .before .before .before .before .s1 .given .1)) (then-stop (plain (c .before .before .before .before .before .text-of .ensures)) (c .before .before .told2 .ensures) (c .enum-told2 .given .1)) }
 
--- src/lib.rt:139:29
 ro-absent-requires : (t : ℕ) → ro-lts.Need-absent-requires (
   group-reads.Asked,
   group-reads.Learnt,
@@ -20244,7 +19403,6 @@ ro-absent-requires : (t : ℕ) → ro-lts.Need-absent-requires (
 ) (ro-at t) ro.Post
 ro-absent-requires t c κs = search needs
 
--- src/lib.rt:139:23
 ro-enum-known-s3 : (t : ℕ) → ro-lts.Need-enum-known-s3 (
   group-reads.Asked,
   group-reads.Learnt,
@@ -20261,7 +19419,6 @@ ro-enum-known-s3 : (t : ℕ) → ro-lts.Need-enum-known-s3 (
 ) (ro-at t) ro.Post
 ro-enum-known-s3 t c = search needs
 
--- src/lib.rt:140:9
 ro-same-length-2 : (t : ℕ) → ro-lts.Need-same-length-2 (
   group-reads.Asked,
   group-reads.Learnt,
@@ -20278,7 +19435,6 @@ ro-same-length-2 : (t : ℕ) → ro-lts.Need-same-length-2 (
 ) (ro-at t) ro.Post
 ro-same-length-2 t c = c .before .before .before .before .before .before .before .before .before .before .text-of .kept .1 .1 .1 .1 .1 .0
 
--- src/lib.rt:140:9
 ro-returns-3 : (t : ℕ) → ro-lts.Need-returns-3 (
   group-reads.Asked,
   group-reads.Learnt,
@@ -20312,7 +19468,6 @@ ro-enum-told-3 : (t : ℕ) → ro-lts.Need-enum-told-3 (
 ) (ro-at t) ro.Post
 ro-enum-told-3 t c = search needs
 
--- src/lib.rt:142:9
 ro-group-requires-2 : (t : ℕ) → ro-lts.Need-group-requires-2 (
   group-reads.Asked,
   group-reads.Learnt,
@@ -20329,7 +19484,6 @@ ro-group-requires-2 : (t : ℕ) → ro-lts.Need-group-requires-2 (
 ) (ro-at t) ro.Post
 ro-group-requires-2 t c κs = search needs
 
--- src/lib.rt:143:28
 ro-told-requires-3 : (t : ℕ) → ro-lts.Need-told-requires-3 (
   group-reads.Asked,
   group-reads.Learnt,
@@ -20346,7 +19500,6 @@ ro-told-requires-3 : (t : ℕ) → ro-lts.Need-told-requires-3 (
 ) (ro-at t) ro.Post
 ro-told-requires-3 t c κs = search needs
 
--- src/lib.rt:143:22
 ro-enum-known-s4 : (t : ℕ) → ro-lts.Need-enum-known-s4 (
   group-reads.Asked,
   group-reads.Learnt,
@@ -20363,7 +19516,6 @@ ro-enum-known-s4 : (t : ℕ) → ro-lts.Need-enum-known-s4 (
 ) (ro-at t) ro.Post
 ro-enum-known-s4 t c = search needs
 
--- src/lib.rt:144:9
 ro-enum-told-4 : (t : ℕ) → ro-lts.Need-enum-told-4 (
   group-reads.Asked,
   group-reads.Learnt,
@@ -20380,7 +19532,6 @@ ro-enum-told-4 : (t : ℕ) → ro-lts.Need-enum-told-4 (
 ) (ro-at t) ro.Post
 ro-enum-told-4 t c = search needs
 
--- src/lib.rt:144:9
 ro-same-length-3 : (t : ℕ) → ro-lts.Need-same-length-3 (
   group-reads.Asked,
   group-reads.Learnt,
@@ -20397,7 +19548,6 @@ ro-same-length-3 : (t : ℕ) → ro-lts.Need-same-length-3 (
 ) (ro-at t) ro.Post
 ro-same-length-3 t c = c .before .before .before .before .before .before .before .before .before .before .before .before .before .text-of .kept .1 .1 .1 .1 .1 .0
 
--- src/lib.rt:144:9
 ro-returns-4 : (t : ℕ) → ro-lts.Need-returns-4 (
   group-reads.Asked,
   group-reads.Learnt,
@@ -20415,7 +19565,6 @@ ro-returns-4 : (t : ℕ) → ro-lts.Need-returns-4 (
 unfolding Exp.exp-row Exp.eq-exp
 ro-returns-4 t c = record { is = by-same (group-is (c .before .before .before .before .before .before .before .before .before .before .before .before .before .before .before .before .before .before .before .before .group .ensures) (c .before .before .before .before .before .before .before .before .before .before .before .before .before .before .before .before .before .before .before .told .ensures) (c .before .before .before .before .before .before .before .before .before .before .before .before .before .before .before .before .before .s1 .given .1)) (then-done (plain (c .before .before .before .before .before .before .before .before .before .before .before .before .before .text-of .ensures)) (c .before .before .before .before .before .before .before .before .before .before .told2 .ensures) (c .before .before .before .before .before .before .before .before .s2 .given .1) (by-same (maybe-there (c .before .before .before .before .before .before .absent .ensures) (c .before .before .before .before .enum-told3 .given .1)) (group-not (c .before .before .before .group2 .ensures) (c .before .before .told3 .ensures) (c .enum-told4 .given .1)))) }
 
--- src/lib.rt:146:5
 ro-word-requires : (t : ℕ) → ro-lts.Need-word-requires (
   group-reads.Asked,
   group-reads.Learnt,
@@ -20432,7 +19581,6 @@ ro-word-requires : (t : ℕ) → ro-lts.Need-word-requires (
 ) (ro-at t) ro.Post
 ro-word-requires t c κs = search needs
 
--- src/lib.rt:147:5
 ro-exp-requires : (t : ℕ) → ro-lts.Need-exp-requires (
   group-reads.Asked,
   group-reads.Learnt,
@@ -20449,7 +19597,6 @@ ro-exp-requires : (t : ℕ) → ro-lts.Need-exp-requires (
 ) (ro-at t) ro.Post
 ro-exp-requires t c κs = omega (arith, c .before .before .before .before .before .before .before .before .before .before .before .before .before .before .before .before .before .before .before .before .before .before .before .before .before .before .before .before .before .before .before .before .before .before .before .pre .0, c .before .before .before .before .before .before .before .before .before .before .before .before .before .before .before .before .before .before .before .before .before .before .before .before .before .before .before .before .before .before .before .before .before .before .before .pre .1)
 
--- src/lib.rt:116:1
 ro-same-length-4 : (t : ℕ) → ro-lts.Need-same-length-4 (
   group-reads.Asked,
   group-reads.Learnt,
@@ -20466,7 +19613,6 @@ ro-same-length-4 : (t : ℕ) → ro-lts.Need-same-length-4 (
 ) (ro-at t) ro.Post
 ro-same-length-4 t c = c .before .before .exp .kept .1 .1 .1 .1 .1 .1 .0 ∙ c .before .before .before .before .before .before .before .word .kept .1 .1 .0 ∙ c .before .before .before .before .before .before .before .before .before .before .before .before .before .before .before .before .before .before .before .before .before .before .before .before .text-of .kept .1 .1 .1 .1 .1 .0
 
--- src/lib.rt:116:1
 ro-returns-5 : (t : ℕ) → ro-lts.Need-returns-5 (
   group-reads.Asked,
   group-reads.Learnt,
@@ -20491,7 +19637,6 @@ rs-Inv-loop run text rec kinds starts lens out₀ mem₀ at cfg n s0 s₀ i₀ o
 abbrev rs-μ-loop : rs-lts.MeasureT-loop
 rs-μ-loop run text rec kinds starts lens out₀ mem₀ at cfg n s0 s₀ i₀ out mem s i = n - i
 
--- src/lib.rt:166:27
 rs-list-requires : (t : ℕ) → rs-lts.Need-list-requires (
   list-reads.Asked,
   list-reads.Learnt,
@@ -20506,7 +19651,6 @@ rs-list-requires : (t : ℕ) → rs-lts.Need-list-requires (
 ) (rs-at t) rs.Post rs-Inv-loop rs-μ-loop
 rs-list-requires t c κs = search needs
 
--- src/lib.rt:166:18
 rs-enum-known-n : (t : ℕ) → rs-lts.Need-enum-known-n (
   list-reads.Asked,
   list-reads.Learnt,
@@ -20521,7 +19665,6 @@ rs-enum-known-n : (t : ℕ) → rs-lts.Need-enum-known-n (
 ) (rs-at t) rs.Post rs-Inv-loop rs-μ-loop
 rs-enum-known-n t c = search needs
 
--- src/lib.rt:167:9
 rs-enum-told : (t : ℕ) → rs-lts.Need-enum-told (
   list-reads.Asked,
   list-reads.Learnt,
@@ -20536,7 +19679,6 @@ rs-enum-told : (t : ℕ) → rs-lts.Need-enum-told (
 ) (rs-at t) rs.Post rs-Inv-loop rs-μ-loop
 rs-enum-told t c = search needs
 
--- src/lib.rt:167:9
 rs-stop-requires : (t : ℕ) → rs-lts.Need-stop-requires (
   list-reads.Asked,
   list-reads.Learnt,
@@ -20551,7 +19693,6 @@ rs-stop-requires : (t : ℕ) → rs-lts.Need-stop-requires (
 ) (rs-at t) rs.Post rs-Inv-loop rs-μ-loop
 rs-stop-requires t c κs = search needs
 
--- src/lib.rt:167:9
 rs-returns : (t : ℕ) → rs-lts.Need-returns (
   list-reads.Asked,
   list-reads.Learnt,
@@ -20567,7 +19708,6 @@ rs-returns : (t : ℕ) → rs-lts.Need-returns (
 unfolding Exp.exp-rows Helpers.sep
 rs-returns t c = record { is = list-not (c .stop .ensures) (c .before .before .before .list .ensures) (c .before .enum-told .given .1) }
 
--- src/lib.rt:171:5
 rs-loop-holds : (t : ℕ) → rs-lts.Need-loop-holds (
   list-reads.Asked,
   list-reads.Learnt,
@@ -20582,7 +19722,6 @@ rs-loop-holds : (t : ℕ) → rs-lts.Need-loop-holds (
 ) (rs-at t) rs.Post rs-Inv-loop rs-μ-loop
 rs-loop-holds t c = (omega arith, λ r m o h. h, refl)
 
--- src/lib.rt:172:9
 rs-between-requires : (t : ℕ) → rs-lts.Need-between-requires (
   list-reads.Asked,
   list-reads.Learnt,
@@ -20597,7 +19736,6 @@ rs-between-requires : (t : ℕ) → rs-lts.Need-between-requires (
 ) (rs-at t) rs.Post rs-Inv-loop rs-μ-loop
 rs-between-requires t c κs = search needs
 
--- src/lib.rt:173:13
 rs-ro-requires : (t : ℕ) → rs-lts.Need-ro-requires (
   list-reads.Asked,
   list-reads.Learnt,
@@ -20612,7 +19750,6 @@ rs-ro-requires : (t : ℕ) → rs-lts.Need-ro-requires (
 ) (rs-at t) rs.Post rs-Inv-loop rs-μ-loop
 rs-ro-requires t c κs = omega (arith, c .before .before .before .before .before .before .before .before .before .before .before .before .before .before .before .before .before .before .before .pre .0, c .before .before .before .before .before .before .before .before .before .before .before .before .before .before .before .before .before .before .before .pre .1)
 
--- src/lib.rt:174:32
 rs-told-requires : (t : ℕ) → rs-lts.Need-told-requires (
   list-reads.Asked,
   list-reads.Learnt,
@@ -20627,7 +19764,6 @@ rs-told-requires : (t : ℕ) → rs-lts.Need-told-requires (
 ) (rs-at t) rs.Post rs-Inv-loop rs-μ-loop
 rs-told-requires t c κs = search needs
 
--- src/lib.rt:174:26
 rs-enum-known-s1 : (t : ℕ) → rs-lts.Need-enum-known-s1 (
   list-reads.Asked,
   list-reads.Learnt,
@@ -20642,7 +19778,6 @@ rs-enum-known-s1 : (t : ℕ) → rs-lts.Need-enum-known-s1 (
 ) (rs-at t) rs.Post rs-Inv-loop rs-μ-loop
 rs-enum-known-s1 t c = search needs
 
--- src/lib.rt:175:13
 rs-enum-told-2 : (t : ℕ) → rs-lts.Need-enum-told-2 (
   list-reads.Asked,
   list-reads.Learnt,
@@ -20657,7 +19792,6 @@ rs-enum-told-2 : (t : ℕ) → rs-lts.Need-enum-told-2 (
 ) (rs-at t) rs.Post rs-Inv-loop rs-μ-loop
 rs-enum-told-2 t c = search needs
 
--- src/lib.rt:175:13
 rs-same-length : (t : ℕ) → rs-lts.Need-same-length (
   list-reads.Asked,
   list-reads.Learnt,
@@ -20672,7 +19806,6 @@ rs-same-length : (t : ℕ) → rs-lts.Need-same-length (
 ) (rs-at t) rs.Post rs-Inv-loop rs-μ-loop
 rs-same-length t c = c .before .before .before .before .before .ro .kept .1 .1 .1 .1 .1 .1 .0 ∙ c .before .before .before .before .before .before .before .before .before .before .between .kept .1 .1 .0 ∙ c .before .before .before .before .before .before .before .before .before .before .before .before .before .before .loop .inv .2
 
--- src/lib.rt:175:13
 rs-returns-2 : (t : ℕ) → rs-lts.Need-returns-2 (
   list-reads.Asked,
   list-reads.Learnt,
@@ -20688,7 +19821,6 @@ rs-returns-2 : (t : ℕ) → rs-lts.Need-returns-2 (
 unfolding Exp.exp-rows Helpers.sep
 rs-returns-2 t c = record { is = by-same (list-is (c .before .before .before .before .before .before .before .before .before .before .before .before .before .before .before .before .before .before .list .ensures) (c .before .before .before .before .before .before .before .before .before .before .before .before .before .before .before .before .n .given .1)) (by-same (items-all _ _ _) (c .before .before .before .before .before .before .before .before .before .before .before .before .before .before .loop .inv .1 _ _ _ (from-more _ _ (c .before .before .before .before .before .before .before .before .before .before .before .before .before .loop-test .taken) (then-sure (c .before .before .before .before .before .before .before .before .before .before .between .ensures) (then-stop (c .before .before .before .before .before .ro .ensures .is) (c .before .before .told .ensures) (c .enum-told2 .given .1)))))) }
 
--- src/lib.rt:178:9
 rs-add-i : (t : ℕ) → rs-lts.Need-add-i (
   list-reads.Asked,
   list-reads.Learnt,
@@ -20703,7 +19835,6 @@ rs-add-i : (t : ℕ) → rs-lts.Need-add-i (
 ) (rs-at t) rs.Post rs-Inv-loop rs-μ-loop
 rs-add-i t c = omega (arith, c .before .before .before .before .before .before .before .before .before .before .before .before .before .before .loop-test .taken, c .before .before .before .before .before .before .before .before .before .before .before .before .before .before .before .before .known-told)
 
--- src/lib.rt:171:5
 rs-loop-less : (t : ℕ) → rs-lts.Need-loop-less (
   list-reads.Asked,
   list-reads.Learnt,
@@ -20718,7 +19849,6 @@ rs-loop-less : (t : ℕ) → rs-lts.Need-loop-less (
 ) (rs-at t) rs.Post rs-Inv-loop rs-μ-loop
 rs-loop-less t c = omega arith
 
--- src/lib.rt:171:5
 rs-loop-again : (t : ℕ) → rs-lts.Need-loop-again (
   list-reads.Asked,
   list-reads.Learnt,
@@ -20734,7 +19864,6 @@ rs-loop-again : (t : ℕ) → rs-lts.Need-loop-again (
 unfolding Exp.exp-rows Helpers.sep
 rs-loop-again t c = (omega (arith, c .before .before .before .before .before .before .before .before .before .before .before .before .before .before .before .loop .inv .0), λ r m o h. c .before .before .before .before .before .before .before .before .before .before .before .before .before .before .before .loop .inv .1 r m o (from-more _ _ (c .before .before .before .before .before .before .before .before .before .before .before .before .before .before .loop-test .taken) (then-sure (c .before .before .before .before .before .before .before .before .before .before .before .between .ensures) (then-done (c .before .before .before .before .before .before .ro .ensures .is) (c .before .before .before .told .ensures) (c .before .s1 .given .1) h))), c .before .before .before .before .before .before .ro .kept .1 .1 .1 .1 .1 .1 .0 ∙ c .before .before .before .before .before .before .before .before .before .before .before .between .kept .1 .1 .0 ∙ c .before .before .before .before .before .before .before .before .before .before .before .before .before .before .before .loop .inv .2)
 
--- src/lib.rt:151:1
 rs-same-length-2 : (t : ℕ) → rs-lts.Need-same-length-2 (
   list-reads.Asked,
   list-reads.Learnt,
@@ -20749,7 +19878,6 @@ rs-same-length-2 : (t : ℕ) → rs-lts.Need-same-length-2 (
 ) (rs-at t) rs.Post rs-Inv-loop rs-μ-loop
 rs-same-length-2 t c = c .before .loop .inv .2
 
--- src/lib.rt:151:1
 rs-returns-3 : (t : ℕ) → rs-lts.Need-returns-3 (
   list-reads.Asked,
   list-reads.Learnt,
@@ -20765,7 +19893,6 @@ rs-returns-3 : (t : ℕ) → rs-lts.Need-returns-3 (
 unfolding Exp.exp-rows Helpers.sep
 rs-returns-3 t c = record { is = by-same (list-is (c .before .before .before .before .before .list .ensures) (c .before .before .before .n .given .1)) (by-same (items-all _ _ _) (c .before .loop .inv .1 _ _ _ (from-none _ _ (c .loop-test .left)))) }
 
--- src/lib.rt:2265:14
 sa-str-requires : (t : ℕ) → sa-lts.Need-str-requires (
   str-below t,
   str.Post,
@@ -20776,7 +19903,6 @@ sa-str-requires : (t : ℕ) → sa-lts.Need-str-requires (
 ) (sa-at t) sa.Post
 sa-str-requires t c κs = omega (arith, c .before .before .before .before .before .before .before .before .before .pre .0, c .before .before .before .before .before .before .before .before .before .pre .1)
 
--- src/lib.rt:2266:14
 sa-da-requires : (t : ℕ) → sa-lts.Need-da-requires (
   str-below t,
   str.Post,
@@ -20787,7 +19913,6 @@ sa-da-requires : (t : ℕ) → sa-lts.Need-da-requires (
 ) (sa-at t) sa.Post
 sa-da-requires t c κs = omega (arith, c .before .before .before .before .before .before .before .before .before .pre .0, c .before .before .before .before .before .before .before .before .before .pre .1)
 
--- src/lib.rt:2267:14
 sa-stop-requires : (t : ℕ) → sa-lts.Need-stop-requires (
   str-below t,
   str.Post,
@@ -20798,7 +19923,6 @@ sa-stop-requires : (t : ℕ) → sa-lts.Need-stop-requires (
 ) (sa-at t) sa.Post
 sa-stop-requires t c κs = search needs
 
--- src/lib.rt:2248:1
 sa-same-length : (t : ℕ) → sa-lts.Need-same-length (
   str-below t,
   str.Post,
@@ -20809,7 +19933,6 @@ sa-same-length : (t : ℕ) → sa-lts.Need-same-length (
 ) (sa-at t) sa.Post
 sa-same-length t c = c .before .before .str .kept .1 .1 .1 .1 .1 .1 .0
 
--- src/lib.rt:2248:1
 sa-returns : (t : ℕ) → sa-lts.Need-returns (
   str-below t,
   str.Post,
@@ -20821,7 +19944,6 @@ sa-returns : (t : ℕ) → sa-lts.Need-returns (
 unfolding StrExp.app-arg
 sa-returns t c = record { is = at-key (λ i. StrExp.app-arg (walks (c .before .before .before .before .before .before .before .before .before .before .before .before .args .cfg .left)) (cfgOf (c .before .before .before .before .before .before .before .before .before .before .before .before .args .cfg)) i) (c .before .before .before .before .before .match .keys1) (c .before .before .str .ensures .is) }
 
--- src/lib.rt:2248:1
 sa-same-length-2 : (t : ℕ) → sa-lts.Need-same-length-2 (
   str-below t,
   str.Post,
@@ -20832,7 +19954,6 @@ sa-same-length-2 : (t : ℕ) → sa-lts.Need-same-length-2 (
 ) (sa-at t) sa.Post
 sa-same-length-2 t c = c .before .before .da .kept .1 .1 .1 .1 .1 .1 .0
 
--- src/lib.rt:2248:1
 sa-returns-2 : (t : ℕ) → sa-lts.Need-returns-2 (
   str-below t,
   str.Post,
@@ -20844,7 +19965,6 @@ sa-returns-2 : (t : ℕ) → sa-lts.Need-returns-2 (
 unfolding StrExp.app-arg
 sa-returns-2 t c = record { is = at-key (λ i. StrExp.app-arg (walks (c .before .before .before .before .before .before .before .before .before .before .before .before .args .cfg .left)) (cfgOf (c .before .before .before .before .before .before .before .before .before .before .before .before .args .cfg)) i) (c .before .before .before .before .before .match .keys2) (c .before .before .da .ensures .is) }
 
--- src/lib.rt:2248:1
 sa-returns-3 : (t : ℕ) → sa-lts.Need-returns-3 (
   str-below t,
   str.Post,
@@ -20856,7 +19976,6 @@ sa-returns-3 : (t : ℕ) → sa-lts.Need-returns-3 (
 unfolding StrExp.app-arg
 sa-returns-3 t c = record { is = beyond ((walks (c .before .before .before .before .before .before .before .before .args .cfg .left) .get-str-exp (cfgOf (c .before .before .before .before .before .before .before .before .args .cfg))) ∷ GetDec.dec-arg (walks (c .before .before .before .before .before .before .before .before .args .cfg .left)) (cfgOf (c .before .before .before .before .before .before .before .before .args .cfg)) ∷ []) (c .before .before .before .before .before .before .before .before .args .which) 2 refl (past (past zero-le (c .before .match .rest .0 .1)) (c .before .match .rest .1)) (c .stop .ensures) }
 
--- src/lib.rt:1756:9
 sb-group-requires : (t : ℕ) → sb-lts.Need-group-requires (
   group-reads.Asked,
   group-reads.Learnt,
@@ -20875,7 +19994,6 @@ sb-group-requires : (t : ℕ) → sb-lts.Need-group-requires (
 ) (sb-at t) sb.Post
 sb-group-requires t c κs = search needs
 
--- src/lib.rt:1757:28
 sb-told-requires : (t : ℕ) → sb-lts.Need-told-requires (
   group-reads.Asked,
   group-reads.Learnt,
@@ -20894,7 +20012,6 @@ sb-told-requires : (t : ℕ) → sb-lts.Need-told-requires (
 ) (sb-at t) sb.Post
 sb-told-requires t c κs = search needs
 
--- src/lib.rt:1757:22
 sb-enum-known-s1 : (t : ℕ) → sb-lts.Need-enum-known-s1 (
   group-reads.Asked,
   group-reads.Learnt,
@@ -20913,7 +20030,6 @@ sb-enum-known-s1 : (t : ℕ) → sb-lts.Need-enum-known-s1 (
 ) (sb-at t) sb.Post
 sb-enum-known-s1 t c = search needs
 
--- src/lib.rt:1758:9
 sb-enum-told : (t : ℕ) → sb-lts.Need-enum-told (
   group-reads.Asked,
   group-reads.Learnt,
@@ -20932,7 +20048,6 @@ sb-enum-told : (t : ℕ) → sb-lts.Need-enum-told (
 ) (sb-at t) sb.Post
 sb-enum-told t c = search needs
 
--- src/lib.rt:1758:9
 sb-returns : (t : ℕ) → sb-lts.Need-returns (
   group-reads.Asked,
   group-reads.Learnt,
@@ -20952,7 +20067,6 @@ sb-returns : (t : ℕ) → sb-lts.Need-returns (
 unfolding DecOne.str-bind
 sb-returns t c = record { is = group-not (c .before .before .before .group .ensures) (c .before .before .told .ensures) (c .enum-told .given .1) }
 
--- src/lib.rt:1760:9
 sb-text-of-requires : (t : ℕ) → sb-lts.Need-text-of-requires (
   group-reads.Asked,
   group-reads.Learnt,
@@ -20971,7 +20085,6 @@ sb-text-of-requires : (t : ℕ) → sb-lts.Need-text-of-requires (
 ) (sb-at t) sb.Post
 sb-text-of-requires t c κs = search needs
 
--- src/lib.rt:1761:28
 sb-told-requires-2 : (t : ℕ) → sb-lts.Need-told-requires-2 (
   group-reads.Asked,
   group-reads.Learnt,
@@ -20990,7 +20103,6 @@ sb-told-requires-2 : (t : ℕ) → sb-lts.Need-told-requires-2 (
 ) (sb-at t) sb.Post
 sb-told-requires-2 t c κs = search needs
 
--- src/lib.rt:1761:22
 sb-enum-known-s2 : (t : ℕ) → sb-lts.Need-enum-known-s2 (
   group-reads.Asked,
   group-reads.Learnt,
@@ -21009,7 +20121,6 @@ sb-enum-known-s2 : (t : ℕ) → sb-lts.Need-enum-known-s2 (
 ) (sb-at t) sb.Post
 sb-enum-known-s2 t c = search needs
 
--- src/lib.rt:1762:9
 sb-enum-told-2 : (t : ℕ) → sb-lts.Need-enum-told-2 (
   group-reads.Asked,
   group-reads.Learnt,
@@ -21028,7 +20139,6 @@ sb-enum-told-2 : (t : ℕ) → sb-lts.Need-enum-told-2 (
 ) (sb-at t) sb.Post
 sb-enum-told-2 t c = search needs
 
--- src/lib.rt:1762:9
 sb-same-length : (t : ℕ) → sb-lts.Need-same-length (
   group-reads.Asked,
   group-reads.Learnt,
@@ -21047,7 +20157,6 @@ sb-same-length : (t : ℕ) → sb-lts.Need-same-length (
 ) (sb-at t) sb.Post
 sb-same-length t c = c .before .before .before .before .before .text-of .kept .1 .1 .1 .1 .1 .0
 
--- src/lib.rt:1762:9
 sb-returns-2 : (t : ℕ) → sb-lts.Need-returns-2 (
   group-reads.Asked,
   group-reads.Learnt,
@@ -21067,7 +20176,6 @@ sb-returns-2 : (t : ℕ) → sb-lts.Need-returns-2 (
 unfolding DecOne.str-bind
 sb-returns-2 t c = record { is = by-same (group-is (c .before .before .before .before .before .before .before .before .before .before .before .before .group .ensures) (c .before .before .before .before .before .before .before .before .before .before .before .told .ensures) (c .before .before .before .before .before .before .before .before .before .s1 .given .1)) (then-stop (plain (c .before .before .before .before .before .text-of .ensures)) (c .before .before .told2 .ensures) (c .enum-told2 .given .1)) }
 
--- src/lib.rt:1764:9
 sb-ac-requires : (t : ℕ) → sb-lts.Need-ac-requires (
   group-reads.Asked,
   group-reads.Learnt,
@@ -21086,7 +20194,6 @@ sb-ac-requires : (t : ℕ) → sb-lts.Need-ac-requires (
 ) (sb-at t) sb.Post
 sb-ac-requires t c κs = omega (arith, c .before .before .before .before .before .before .before .before .before .before .before .before .before .before .before .before .before .before .before .before .before .before .pre .0, c .before .before .before .before .before .before .before .before .before .before .before .before .before .before .before .before .before .before .before .before .before .before .pre .1)
 
--- src/lib.rt:1765:28
 sb-told-requires-3 : (t : ℕ) → sb-lts.Need-told-requires-3 (
   group-reads.Asked,
   group-reads.Learnt,
@@ -21105,7 +20212,6 @@ sb-told-requires-3 : (t : ℕ) → sb-lts.Need-told-requires-3 (
 ) (sb-at t) sb.Post
 sb-told-requires-3 t c κs = search needs
 
--- src/lib.rt:1765:22
 sb-enum-known-s3 : (t : ℕ) → sb-lts.Need-enum-known-s3 (
   group-reads.Asked,
   group-reads.Learnt,
@@ -21124,7 +20230,6 @@ sb-enum-known-s3 : (t : ℕ) → sb-lts.Need-enum-known-s3 (
 ) (sb-at t) sb.Post
 sb-enum-known-s3 t c = search needs
 
--- src/lib.rt:1766:9
 sb-enum-told-3 : (t : ℕ) → sb-lts.Need-enum-told-3 (
   group-reads.Asked,
   group-reads.Learnt,
@@ -21143,7 +20248,6 @@ sb-enum-told-3 : (t : ℕ) → sb-lts.Need-enum-told-3 (
 ) (sb-at t) sb.Post
 sb-enum-told-3 t c = search needs
 
--- src/lib.rt:1766:9
 sb-same-length-2 : (t : ℕ) → sb-lts.Need-same-length-2 (
   group-reads.Asked,
   group-reads.Learnt,
@@ -21162,7 +20266,6 @@ sb-same-length-2 : (t : ℕ) → sb-lts.Need-same-length-2 (
 ) (sb-at t) sb.Post
 sb-same-length-2 t c = c .before .before .before .before .before .ac .kept .1 .1 .1 .1 .1 .1 .0 ∙ c .before .before .before .before .before .before .before .before .before .before .before .before .before .before .text-of .kept .1 .1 .1 .1 .1 .0
 
--- src/lib.rt:1766:9
 sb-returns-3 : (t : ℕ) → sb-lts.Need-returns-3 (
   group-reads.Asked,
   group-reads.Learnt,
@@ -21182,7 +20285,6 @@ sb-returns-3 : (t : ℕ) → sb-lts.Need-returns-3 (
 unfolding DecOne.str-bind
 sb-returns-3 t c = record { is = by-same (group-is (c .before .before .before .before .before .before .before .before .before .before .before .before .before .before .before .before .before .before .before .before .before .group .ensures) (c .before .before .before .before .before .before .before .before .before .before .before .before .before .before .before .before .before .before .before .before .told .ensures) (c .before .before .before .before .before .before .before .before .before .before .before .before .before .before .before .before .before .before .s1 .given .1)) (then-done (plain (c .before .before .before .before .before .before .before .before .before .before .before .before .before .before .text-of .ensures)) (c .before .before .before .before .before .before .before .before .before .before .before .told2 .ensures) (c .before .before .before .before .before .before .before .before .before .s2 .given .1) (then-stop (c .before .before .before .before .before .ac .ensures .is) (c .before .before .told3 .ensures) (c .enum-told3 .given .1))) }
 
--- src/lib.rt:1768:29
 sb-absent-requires : (t : ℕ) → sb-lts.Need-absent-requires (
   group-reads.Asked,
   group-reads.Learnt,
@@ -21201,7 +20303,6 @@ sb-absent-requires : (t : ℕ) → sb-lts.Need-absent-requires (
 ) (sb-at t) sb.Post
 sb-absent-requires t c κs = search needs
 
--- src/lib.rt:1768:23
 sb-enum-known-s4 : (t : ℕ) → sb-lts.Need-enum-known-s4 (
   group-reads.Asked,
   group-reads.Learnt,
@@ -21220,7 +20321,6 @@ sb-enum-known-s4 : (t : ℕ) → sb-lts.Need-enum-known-s4 (
 ) (sb-at t) sb.Post
 sb-enum-known-s4 t c = search needs
 
--- src/lib.rt:1769:9
 sb-same-length-3 : (t : ℕ) → sb-lts.Need-same-length-3 (
   group-reads.Asked,
   group-reads.Learnt,
@@ -21239,7 +20339,6 @@ sb-same-length-3 : (t : ℕ) → sb-lts.Need-same-length-3 (
 ) (sb-at t) sb.Post
 sb-same-length-3 t c = c .before .before .before .before .before .before .before .before .before .before .ac .kept .1 .1 .1 .1 .1 .1 .0 ∙ c .before .before .before .before .before .before .before .before .before .before .before .before .before .before .before .before .before .before .before .text-of .kept .1 .1 .1 .1 .1 .0
 
--- src/lib.rt:1769:9
 sb-returns-4 : (t : ℕ) → sb-lts.Need-returns-4 (
   group-reads.Asked,
   group-reads.Learnt,
@@ -21277,7 +20376,6 @@ sb-enum-told-4 : (t : ℕ) → sb-lts.Need-enum-told-4 (
 ) (sb-at t) sb.Post
 sb-enum-told-4 t c = search needs
 
--- src/lib.rt:1771:9
 sb-group-requires-2 : (t : ℕ) → sb-lts.Need-group-requires-2 (
   group-reads.Asked,
   group-reads.Learnt,
@@ -21296,7 +20394,6 @@ sb-group-requires-2 : (t : ℕ) → sb-lts.Need-group-requires-2 (
 ) (sb-at t) sb.Post
 sb-group-requires-2 t c κs = search needs
 
--- src/lib.rt:1772:28
 sb-told-requires-4 : (t : ℕ) → sb-lts.Need-told-requires-4 (
   group-reads.Asked,
   group-reads.Learnt,
@@ -21315,7 +20412,6 @@ sb-told-requires-4 : (t : ℕ) → sb-lts.Need-told-requires-4 (
 ) (sb-at t) sb.Post
 sb-told-requires-4 t c κs = search needs
 
--- src/lib.rt:1772:22
 sb-enum-known-s5 : (t : ℕ) → sb-lts.Need-enum-known-s5 (
   group-reads.Asked,
   group-reads.Learnt,
@@ -21334,7 +20430,6 @@ sb-enum-known-s5 : (t : ℕ) → sb-lts.Need-enum-known-s5 (
 ) (sb-at t) sb.Post
 sb-enum-known-s5 t c = search needs
 
--- src/lib.rt:1773:9
 sb-enum-told-5 : (t : ℕ) → sb-lts.Need-enum-told-5 (
   group-reads.Asked,
   group-reads.Learnt,
@@ -21353,7 +20448,6 @@ sb-enum-told-5 : (t : ℕ) → sb-lts.Need-enum-told-5 (
 ) (sb-at t) sb.Post
 sb-enum-told-5 t c = search needs
 
--- src/lib.rt:1773:9
 sb-same-length-4 : (t : ℕ) → sb-lts.Need-same-length-4 (
   group-reads.Asked,
   group-reads.Learnt,
@@ -21372,7 +20466,6 @@ sb-same-length-4 : (t : ℕ) → sb-lts.Need-same-length-4 (
 ) (sb-at t) sb.Post
 sb-same-length-4 t c = c .before .before .before .before .before .before .before .before .before .before .before .before .before .ac .kept .1 .1 .1 .1 .1 .1 .0 ∙ c .before .before .before .before .before .before .before .before .before .before .before .before .before .before .before .before .before .before .before .before .before .before .text-of .kept .1 .1 .1 .1 .1 .0
 
--- src/lib.rt:1773:9
 sb-returns-5 : (t : ℕ) → sb-lts.Need-returns-5 (
   group-reads.Asked,
   group-reads.Learnt,
@@ -21392,7 +20485,6 @@ sb-returns-5 : (t : ℕ) → sb-lts.Need-returns-5 (
 unfolding DecOne.str-bind
 sb-returns-5 t c = record { is = by-same (group-is (c .before .before .before .before .before .before .before .before .before .before .before .before .before .before .before .before .before .before .before .before .before .before .before .before .before .before .before .before .before .group .ensures) (c .before .before .before .before .before .before .before .before .before .before .before .before .before .before .before .before .before .before .before .before .before .before .before .before .before .before .before .before .told .ensures) (c .before .before .before .before .before .before .before .before .before .before .before .before .before .before .before .before .before .before .before .before .before .before .before .before .before .before .s1 .given .1)) (then-done (plain (c .before .before .before .before .before .before .before .before .before .before .before .before .before .before .before .before .before .before .before .before .before .before .text-of .ensures)) (c .before .before .before .before .before .before .before .before .before .before .before .before .before .before .before .before .before .before .before .told2 .ensures) (c .before .before .before .before .before .before .before .before .before .before .before .before .before .before .before .before .before .s2 .given .1) (then-done (c .before .before .before .before .before .before .before .before .before .before .before .before .before .ac .ensures .is) (c .before .before .before .before .before .before .before .before .before .before .told3 .ensures) (c .before .before .before .before .before .before .before .before .s3 .given .1) (by-same (maybe-there (c .before .before .before .before .before .before .absent .ensures) (c .before .before .before .before .enum-told4 .given .1)) (group-not (c .before .before .before .group2 .ensures) (c .before .before .told4 .ensures) (c .enum-told5 .given .1))))) }
 
--- src/lib.rt:1775:5
 sb-word-requires : (t : ℕ) → sb-lts.Need-word-requires (
   group-reads.Asked,
   group-reads.Learnt,
@@ -21411,7 +20503,6 @@ sb-word-requires : (t : ℕ) → sb-lts.Need-word-requires (
 ) (sb-at t) sb.Post
 sb-word-requires t c κs = search needs
 
--- src/lib.rt:1776:5
 sb-str-requires : (t : ℕ) → sb-lts.Need-str-requires (
   group-reads.Asked,
   group-reads.Learnt,
@@ -21430,7 +20521,6 @@ sb-str-requires : (t : ℕ) → sb-lts.Need-str-requires (
 ) (sb-at t) sb.Post
 sb-str-requires t c κs = omega (arith, c .before .before .before .before .before .before .before .before .before .before .before .before .before .before .before .before .before .before .before .before .before .before .before .before .before .before .before .before .before .before .before .before .before .before .before .before .before .before .before .before .before .before .before .before .pre .0, c .before .before .before .before .before .before .before .before .before .before .before .before .before .before .before .before .before .before .before .before .before .before .before .before .before .before .before .before .before .before .before .before .before .before .before .before .before .before .before .before .before .before .before .before .pre .1)
 
--- src/lib.rt:1741:1
 sb-same-length-5 : (t : ℕ) → sb-lts.Need-same-length-5 (
   group-reads.Asked,
   group-reads.Learnt,
@@ -21449,7 +20539,6 @@ sb-same-length-5 : (t : ℕ) → sb-lts.Need-same-length-5 (
 ) (sb-at t) sb.Post
 sb-same-length-5 t c = c .before .before .str .kept .1 .1 .1 .1 .1 .1 .0 ∙ c .before .before .before .before .before .before .before .word .kept .1 .1 .0 ∙ c .before .before .before .before .before .before .before .before .before .before .before .before .before .before .before .before .before .before .before .before .before .before .before .before .ac .kept .1 .1 .1 .1 .1 .1 .0 ∙ c .before .before .before .before .before .before .before .before .before .before .before .before .before .before .before .before .before .before .before .before .before .before .before .before .before .before .before .before .before .before .before .before .before .text-of .kept .1 .1 .1 .1 .1 .0
 
--- src/lib.rt:1741:1
 sb-returns-6 : (t : ℕ) → sb-lts.Need-returns-6 (
   group-reads.Asked,
   group-reads.Learnt,
@@ -21476,7 +20565,6 @@ sd-Inv-loop run text rec kinds starts lens out₀ mem₀ at cfg n s1 s₀ i₀ o
 abbrev sd-μ-loop : sd-lts.MeasureT-loop
 sd-μ-loop run text rec kinds starts lens out₀ mem₀ at cfg n s1 s₀ i₀ out mem s i = n - i
 
--- src/lib.rt:1722:5
 sd-word-requires : (t : ℕ) → sd-lts.Need-word-requires (
   word-reads.Asked,
   word-reads.Learnt,
@@ -21493,7 +20581,6 @@ sd-word-requires : (t : ℕ) → sd-lts.Need-word-requires (
 ) (sd-at t) sd.Post sd-Inv-loop sd-μ-loop
 sd-word-requires t c κs = search needs
 
--- src/lib.rt:1723:27
 sd-list-requires : (t : ℕ) → sd-lts.Need-list-requires (
   word-reads.Asked,
   word-reads.Learnt,
@@ -21510,7 +20597,6 @@ sd-list-requires : (t : ℕ) → sd-lts.Need-list-requires (
 ) (sd-at t) sd.Post sd-Inv-loop sd-μ-loop
 sd-list-requires t c κs = search needs
 
--- src/lib.rt:1723:18
 sd-enum-known-n : (t : ℕ) → sd-lts.Need-enum-known-n (
   word-reads.Asked,
   word-reads.Learnt,
@@ -21527,7 +20613,6 @@ sd-enum-known-n : (t : ℕ) → sd-lts.Need-enum-known-n (
 ) (sd-at t) sd.Post sd-Inv-loop sd-μ-loop
 sd-enum-known-n t c = search needs
 
--- src/lib.rt:1724:9
 sd-enum-told : (t : ℕ) → sd-lts.Need-enum-told (
   word-reads.Asked,
   word-reads.Learnt,
@@ -21544,7 +20629,6 @@ sd-enum-told : (t : ℕ) → sd-lts.Need-enum-told (
 ) (sd-at t) sd.Post sd-Inv-loop sd-μ-loop
 sd-enum-told t c = search needs
 
--- src/lib.rt:1724:9
 sd-stop-requires : (t : ℕ) → sd-lts.Need-stop-requires (
   word-reads.Asked,
   word-reads.Learnt,
@@ -21561,7 +20645,6 @@ sd-stop-requires : (t : ℕ) → sd-lts.Need-stop-requires (
 ) (sd-at t) sd.Post sd-Inv-loop sd-μ-loop
 sd-stop-requires t c κs = search needs
 
--- src/lib.rt:1724:9
 sd-same-length : (t : ℕ) → sd-lts.Need-same-length (
   word-reads.Asked,
   word-reads.Learnt,
@@ -21578,7 +20661,6 @@ sd-same-length : (t : ℕ) → sd-lts.Need-same-length (
 ) (sd-at t) sd.Post sd-Inv-loop sd-μ-loop
 sd-same-length t c = c .before .before .before .before .before .before .word .kept .1 .1 .0
 
--- src/lib.rt:1724:9
 sd-returns : (t : ℕ) → sd-lts.Need-returns (
   word-reads.Asked,
   word-reads.Learnt,
@@ -21596,7 +20678,6 @@ sd-returns : (t : ℕ) → sd-lts.Need-returns (
 unfolding DecOne.dec-one Helpers.sep-with-lines
 sd-returns t c = record { is = then-sure (c .before .before .before .before .before .before .word .ensures) (list-not (c .stop .ensures) (c .before .before .before .list .ensures) (c .before .enum-told .given .1)) }
 
--- src/lib.rt:1728:5
 sd-loop-holds : (t : ℕ) → sd-lts.Need-loop-holds (
   word-reads.Asked,
   word-reads.Learnt,
@@ -21613,7 +20694,6 @@ sd-loop-holds : (t : ℕ) → sd-lts.Need-loop-holds (
 ) (sd-at t) sd.Post sd-Inv-loop sd-μ-loop
 sd-loop-holds t c = (omega arith, λ r m o h. h, refl)
 
--- src/lib.rt:1729:9
 sd-new-line-requires : (t : ℕ) → sd-lts.Need-new-line-requires (
   word-reads.Asked,
   word-reads.Learnt,
@@ -21630,7 +20710,6 @@ sd-new-line-requires : (t : ℕ) → sd-lts.Need-new-line-requires (
 ) (sd-at t) sd.Post sd-Inv-loop sd-μ-loop
 sd-new-line-requires t c κs = search needs
 
--- src/lib.rt:1730:13
 sd-sb-requires : (t : ℕ) → sd-lts.Need-sb-requires (
   word-reads.Asked,
   word-reads.Learnt,
@@ -21647,7 +20726,6 @@ sd-sb-requires : (t : ℕ) → sd-lts.Need-sb-requires (
 ) (sd-at t) sd.Post sd-Inv-loop sd-μ-loop
 sd-sb-requires t c κs = omega (arith, c .before .before .before .before .before .before .before .before .before .before .before .before .before .before .before .before .before .before .before .before .before .before .before .before .pre .0, c .before .before .before .before .before .before .before .before .before .before .before .before .before .before .before .before .before .before .before .before .before .before .before .before .pre .1)
 
--- src/lib.rt:1731:32
 sd-told-requires : (t : ℕ) → sd-lts.Need-told-requires (
   word-reads.Asked,
   word-reads.Learnt,
@@ -21664,7 +20742,6 @@ sd-told-requires : (t : ℕ) → sd-lts.Need-told-requires (
 ) (sd-at t) sd.Post sd-Inv-loop sd-μ-loop
 sd-told-requires t c κs = search needs
 
--- src/lib.rt:1731:26
 sd-enum-known-s2 : (t : ℕ) → sd-lts.Need-enum-known-s2 (
   word-reads.Asked,
   word-reads.Learnt,
@@ -21681,7 +20758,6 @@ sd-enum-known-s2 : (t : ℕ) → sd-lts.Need-enum-known-s2 (
 ) (sd-at t) sd.Post sd-Inv-loop sd-μ-loop
 sd-enum-known-s2 t c = search needs
 
--- src/lib.rt:1732:13
 sd-enum-told-2 : (t : ℕ) → sd-lts.Need-enum-told-2 (
   word-reads.Asked,
   word-reads.Learnt,
@@ -21698,7 +20774,6 @@ sd-enum-told-2 : (t : ℕ) → sd-lts.Need-enum-told-2 (
 ) (sd-at t) sd.Post sd-Inv-loop sd-μ-loop
 sd-enum-told-2 t c = search needs
 
--- src/lib.rt:1732:13
 sd-same-length-2 : (t : ℕ) → sd-lts.Need-same-length-2 (
   word-reads.Asked,
   word-reads.Learnt,
@@ -21715,7 +20790,6 @@ sd-same-length-2 : (t : ℕ) → sd-lts.Need-same-length-2 (
 ) (sd-at t) sd.Post sd-Inv-loop sd-μ-loop
 sd-same-length-2 t c = c .before .before .before .before .before .sb .kept .1 .1 .1 .1 .1 .1 .0 ∙ c .before .before .before .before .before .before .before .before .before .before .new-line .kept .1 .1 .0 ∙ c .before .before .before .before .before .before .before .before .before .before .before .before .before .before .loop .inv .2 ∙ c .before .before .before .before .before .before .before .before .before .before .before .before .before .before .before .before .before .before .before .before .before .word .kept .1 .1 .0
 
--- src/lib.rt:1732:13
 sd-returns-2 : (t : ℕ) → sd-lts.Need-returns-2 (
   word-reads.Asked,
   word-reads.Learnt,
@@ -21733,7 +20807,6 @@ sd-returns-2 : (t : ℕ) → sd-lts.Need-returns-2 (
 unfolding DecOne.dec-one Helpers.sep-with-lines
 sd-returns-2 t c = record { is = then-sure (c .before .before .before .before .before .before .before .before .before .before .before .before .before .before .before .before .before .before .before .before .before .word .ensures) (by-same (list-is (c .before .before .before .before .before .before .before .before .before .before .before .before .before .before .before .before .before .before .list .ensures) (c .before .before .before .before .before .before .before .before .before .before .before .before .before .before .before .before .n .given .1)) (by-same (items-all _ _ _) (c .before .before .before .before .before .before .before .before .before .before .before .before .before .before .loop .inv .1 _ _ _ (from-more _ _ (c .before .before .before .before .before .before .before .before .before .before .before .before .before .loop-test .taken) (then-sure (c .before .before .before .before .before .before .before .before .before .before .new-line .ensures) (then-stop (c .before .before .before .before .before .sb .ensures .is) (c .before .before .told .ensures) (c .enum-told2 .given .1))))))) }
 
--- src/lib.rt:1735:9
 sd-add-i : (t : ℕ) → sd-lts.Need-add-i (
   word-reads.Asked,
   word-reads.Learnt,
@@ -21750,7 +20823,6 @@ sd-add-i : (t : ℕ) → sd-lts.Need-add-i (
 ) (sd-at t) sd.Post sd-Inv-loop sd-μ-loop
 sd-add-i t c = omega (arith, c .before .before .before .before .before .before .before .before .before .before .before .before .before .before .loop-test .taken, c .before .before .before .before .before .before .before .before .before .before .before .before .before .before .before .before .known-told)
 
--- src/lib.rt:1728:5
 sd-loop-less : (t : ℕ) → sd-lts.Need-loop-less (
   word-reads.Asked,
   word-reads.Learnt,
@@ -21767,7 +20839,6 @@ sd-loop-less : (t : ℕ) → sd-lts.Need-loop-less (
 ) (sd-at t) sd.Post sd-Inv-loop sd-μ-loop
 sd-loop-less t c = omega arith
 
--- src/lib.rt:1728:5
 sd-loop-again : (t : ℕ) → sd-lts.Need-loop-again (
   word-reads.Asked,
   word-reads.Learnt,
@@ -21785,7 +20856,6 @@ sd-loop-again : (t : ℕ) → sd-lts.Need-loop-again (
 unfolding DecOne.dec-one Helpers.sep-with-lines
 sd-loop-again t c = (omega (arith, c .before .before .before .before .before .before .before .before .before .before .before .before .before .before .before .loop .inv .0), λ r m o h. c .before .before .before .before .before .before .before .before .before .before .before .before .before .before .before .loop .inv .1 r m o (from-more _ _ (c .before .before .before .before .before .before .before .before .before .before .before .before .before .before .loop-test .taken) (then-sure (c .before .before .before .before .before .before .before .before .before .before .before .new-line .ensures) (then-done (c .before .before .before .before .before .before .sb .ensures .is) (c .before .before .before .told .ensures) (c .before .s2 .given .1) h))), c .before .before .before .before .before .before .sb .kept .1 .1 .1 .1 .1 .1 .0 ∙ c .before .before .before .before .before .before .before .before .before .before .before .new-line .kept .1 .1 .0 ∙ c .before .before .before .before .before .before .before .before .before .before .before .before .before .before .before .loop .inv .2)
 
--- src/lib.rt:1707:1
 sd-same-length-3 : (t : ℕ) → sd-lts.Need-same-length-3 (
   word-reads.Asked,
   word-reads.Learnt,
@@ -21802,7 +20872,6 @@ sd-same-length-3 : (t : ℕ) → sd-lts.Need-same-length-3 (
 ) (sd-at t) sd.Post sd-Inv-loop sd-μ-loop
 sd-same-length-3 t c = c .before .loop .inv .2 ∙ c .before .before .before .before .before .before .before .before .word .kept .1 .1 .0
 
--- src/lib.rt:1707:1
 sd-returns-3 : (t : ℕ) → sd-lts.Need-returns-3 (
   word-reads.Asked,
   word-reads.Learnt,
@@ -21820,7 +20889,6 @@ sd-returns-3 : (t : ℕ) → sd-lts.Need-returns-3 (
 unfolding DecOne.dec-one Helpers.sep-with-lines
 sd-returns-3 t c = record { is = then-sure (c .before .before .before .before .before .before .before .before .word .ensures) (by-same (list-is (c .before .before .before .before .before .list .ensures) (c .before .before .before .n .given .1)) (by-same (items-all _ _ _) (c .before .loop .inv .1 _ _ _ (from-none _ _ (c .loop-test .left))))) }
 
--- src/lib.rt:459:5
 seq-word-requires : (t : ℕ) → seq-lts.Need-word-requires (
   word-reads.Asked,
   word-reads.Learnt,
@@ -21837,7 +20905,6 @@ seq-word-requires : (t : ℕ) → seq-lts.Need-word-requires (
 ) (seq-at t) seq.Post
 seq-word-requires t c κs = search needs
 
--- src/lib.rt:460:5
 seq-indent-deeper-requires : (t : ℕ) → seq-lts.Need-indent-deeper-requires (
   word-reads.Asked,
   word-reads.Learnt,
@@ -21854,7 +20921,6 @@ seq-indent-deeper-requires : (t : ℕ) → seq-lts.Need-indent-deeper-requires (
 ) (seq-at t) seq.Post
 seq-indent-deeper-requires t c κs = omega (arith, c .before .before .before .before .before .before .before .before .before .before .before .before .before .pre .1)
 
--- src/lib.rt:461:9
 seq-indented-requires : (t : ℕ) → seq-lts.Need-indented-requires (
   word-reads.Asked,
   word-reads.Learnt,
@@ -21871,7 +20937,6 @@ seq-indented-requires : (t : ℕ) → seq-lts.Need-indented-requires (
 ) (seq-at t) seq.Post
 seq-indented-requires t c κs = omega (arith, c .before .before .before .before .before .before .before .before .before .before .before .before .before .before .before .before .pre .1)
 
--- src/lib.rt:462:9
 seq-sm-requires : (t : ℕ) → seq-lts.Need-sm-requires (
   word-reads.Asked,
   word-reads.Learnt,
@@ -21888,7 +20953,6 @@ seq-sm-requires : (t : ℕ) → seq-lts.Need-sm-requires (
 ) (seq-at t) seq.Post
 seq-sm-requires t c κs = omega (arith, c .before .before .before .before .before .before .before .before .before .before .before .before .before .before .before .before .before .before .before .pre .0, c .before .before .before .before .before .before .before .before .before .before .before .before .before .before .before .before .before .before .before .pre .1, deep-depth (c .before .before .indented .ensures), deep-left (c .before .before .indented .ensures))
 
--- src/lib.rt:475:28
 seq-told-requires : (t : ℕ) → seq-lts.Need-told-requires (
   word-reads.Asked,
   word-reads.Learnt,
@@ -21905,7 +20969,6 @@ seq-told-requires : (t : ℕ) → seq-lts.Need-told-requires (
 ) (seq-at t) seq.Post
 seq-told-requires t c κs = search needs
 
--- src/lib.rt:475:22
 seq-enum-known-s1 : (t : ℕ) → seq-lts.Need-enum-known-s1 (
   word-reads.Asked,
   word-reads.Learnt,
@@ -21922,7 +20985,6 @@ seq-enum-known-s1 : (t : ℕ) → seq-lts.Need-enum-known-s1 (
 ) (seq-at t) seq.Post
 seq-enum-known-s1 t c = search needs
 
--- src/lib.rt:476:9
 seq-enum-told : (t : ℕ) → seq-lts.Need-enum-told (
   word-reads.Asked,
   word-reads.Learnt,
@@ -21939,7 +21001,6 @@ seq-enum-told : (t : ℕ) → seq-lts.Need-enum-told (
 ) (seq-at t) seq.Post
 seq-enum-told t c = search needs
 
--- src/lib.rt:476:9
 seq-same-length : (t : ℕ) → seq-lts.Need-same-length (
   word-reads.Asked,
   word-reads.Learnt,
@@ -21956,7 +21017,6 @@ seq-same-length : (t : ℕ) → seq-lts.Need-same-length (
 ) (seq-at t) seq.Post
 seq-same-length t c = c .before .before .before .before .before .sm .kept .1 .1 .1 .1 .1 .1 .0 ∙ c .before .before .before .before .before .before .before .before .before .before .before .indent-deeper .kept .0 ∙ c .before .before .before .before .before .before .before .before .before .before .before .before .before .before .before .before .word .kept .1 .1 .0
 
--- src/lib.rt:476:9
 seq-returns : (t : ℕ) → seq-lts.Need-returns (
   word-reads.Asked,
   word-reads.Learnt,
@@ -21974,7 +21034,6 @@ seq-returns : (t : ℕ) → seq-lts.Need-returns (
 unfolding Exp.exp Helpers.indent-deeper Helpers.deepen
 seq-returns t c = record { is = then-sure (c .before .before .before .before .before .before .before .before .before .before .before .before .before .before .before .before .word .ensures) (then-both (c .before .before .before .before .before .before .before .before .before .before .before .indent-deeper .ensures _) (then-stop (along (c .before .before .before .before .before .before .before .before .indented .ensures) (c .before .before .before .before .before .sm .ensures)) (c .before .before .told .ensures) (c .enum-told .given .1))) }
 
--- src/lib.rt:478:5
 seq-line-requires : (t : ℕ) → seq-lts.Need-line-requires (
   word-reads.Asked,
   word-reads.Learnt,
@@ -21991,7 +21050,6 @@ seq-line-requires : (t : ℕ) → seq-lts.Need-line-requires (
 ) (seq-at t) seq.Post
 seq-line-requires t c κs = search needs
 
--- src/lib.rt:479:5
 seq-word-requires-2 : (t : ℕ) → seq-lts.Need-word-requires-2 (
   word-reads.Asked,
   word-reads.Learnt,
@@ -22008,7 +21066,6 @@ seq-word-requires-2 : (t : ℕ) → seq-lts.Need-word-requires-2 (
 ) (seq-at t) seq.Post
 seq-word-requires-2 t c κs = search needs
 
--- src/lib.rt:444:1
 seq-same-length-2 : (t : ℕ) → seq-lts.Need-same-length-2 (
   word-reads.Asked,
   word-reads.Learnt,
@@ -22025,7 +21082,6 @@ seq-same-length-2 : (t : ℕ) → seq-lts.Need-same-length-2 (
 ) (seq-at t) seq.Post
 seq-same-length-2 t c = c .before .before .word2 .kept .1 .1 .0 ∙ c .before .before .before .before .before .before .before .line .kept .1 .1 .0 ∙ c .before .before .before .before .before .before .before .before .before .before .before .before .before .before .before .before .sm .kept .1 .1 .1 .1 .1 .1 .0 ∙ c .before .before .before .before .before .before .before .before .before .before .before .before .before .before .before .before .before .before .before .before .before .before .indent-deeper .kept .0 ∙ c .before .before .before .before .before .before .before .before .before .before .before .before .before .before .before .before .before .before .before .before .before .before .before .before .before .before .before .word .kept .1 .1 .0
 
--- src/lib.rt:444:1
 seq-returns-2 : (t : ℕ) → seq-lts.Need-returns-2 (
   word-reads.Asked,
   word-reads.Learnt,
@@ -22043,7 +21099,6 @@ seq-returns-2 : (t : ℕ) → seq-lts.Need-returns-2 (
 unfolding Exp.exp Helpers.indent-deeper Helpers.deepen
 seq-returns-2 t c = record { is = then-sure (c .before .before .before .before .before .before .before .before .before .before .before .before .before .before .before .before .before .before .before .before .before .before .before .before .before .before .before .word .ensures) (then-both (c .before .before .before .before .before .before .before .before .before .before .before .before .before .before .before .before .before .before .before .before .before .before .indent-deeper .ensures _) (then-done (along (c .before .before .before .before .before .before .before .before .before .before .before .before .before .before .before .before .before .before .before .indented .ensures) (c .before .before .before .before .before .before .before .before .before .before .before .before .before .before .before .before .sm .ensures)) (c .before .before .before .before .before .before .before .before .before .before .before .before .before .told .ensures) (c .before .before .before .before .before .before .before .before .before .before .before .s1 .given .1) (then-both (c .before .before .before .before .before .before .before .line .ensures) (last-sure (c .before .before .word2 .ensures))))) }
 
--- src/lib.rt:2361:5
 sg-word-requires : (t : ℕ) → sg-lts.Need-word-requires (
   word-reads.Asked,
   word-reads.Learnt,
@@ -22060,7 +21115,6 @@ sg-word-requires : (t : ℕ) → sg-lts.Need-word-requires (
 ) (sg-at t) sg.Post
 sg-word-requires t c κs = search needs
 
--- src/lib.rt:2362:5
 sg-indent-deeper-requires : (t : ℕ) → sg-lts.Need-indent-deeper-requires (
   word-reads.Asked,
   word-reads.Learnt,
@@ -22077,7 +21131,6 @@ sg-indent-deeper-requires : (t : ℕ) → sg-lts.Need-indent-deeper-requires (
 ) (sg-at t) sg.Post
 sg-indent-deeper-requires t c κs = omega (arith, c .before .before .before .before .before .before .before .before .before .before .before .before .before .pre .1)
 
--- src/lib.rt:2363:9
 sg-indented-requires : (t : ℕ) → sg-lts.Need-indented-requires (
   word-reads.Asked,
   word-reads.Learnt,
@@ -22094,7 +21147,6 @@ sg-indented-requires : (t : ℕ) → sg-lts.Need-indented-requires (
 ) (sg-at t) sg.Post
 sg-indented-requires t c κs = omega (arith, c .before .before .before .before .before .before .before .before .before .before .before .before .before .before .before .before .pre .1)
 
--- src/lib.rt:2364:9
 sg-ds-requires : (t : ℕ) → sg-lts.Need-ds-requires (
   word-reads.Asked,
   word-reads.Learnt,
@@ -22111,7 +21163,6 @@ sg-ds-requires : (t : ℕ) → sg-lts.Need-ds-requires (
 ) (sg-at t) sg.Post
 sg-ds-requires t c κs = omega (arith, c .before .before .before .before .before .before .before .before .before .before .before .before .before .before .before .before .before .before .before .pre .0, c .before .before .before .before .before .before .before .before .before .before .before .before .before .before .before .before .before .before .before .pre .1, deep-depth (c .before .before .indented .ensures), deep-left (c .before .before .indented .ensures))
 
--- src/lib.rt:2365:28
 sg-told-requires : (t : ℕ) → sg-lts.Need-told-requires (
   word-reads.Asked,
   word-reads.Learnt,
@@ -22128,7 +21179,6 @@ sg-told-requires : (t : ℕ) → sg-lts.Need-told-requires (
 ) (sg-at t) sg.Post
 sg-told-requires t c κs = search needs
 
--- src/lib.rt:2365:22
 sg-enum-known-s1 : (t : ℕ) → sg-lts.Need-enum-known-s1 (
   word-reads.Asked,
   word-reads.Learnt,
@@ -22145,7 +21195,6 @@ sg-enum-known-s1 : (t : ℕ) → sg-lts.Need-enum-known-s1 (
 ) (sg-at t) sg.Post
 sg-enum-known-s1 t c = search needs
 
--- src/lib.rt:2366:9
 sg-enum-told : (t : ℕ) → sg-lts.Need-enum-told (
   word-reads.Asked,
   word-reads.Learnt,
@@ -22162,7 +21211,6 @@ sg-enum-told : (t : ℕ) → sg-lts.Need-enum-told (
 ) (sg-at t) sg.Post
 sg-enum-told t c = search needs
 
--- src/lib.rt:2366:9
 sg-same-length : (t : ℕ) → sg-lts.Need-same-length (
   word-reads.Asked,
   word-reads.Learnt,
@@ -22179,7 +21227,6 @@ sg-same-length : (t : ℕ) → sg-lts.Need-same-length (
 ) (sg-at t) sg.Post
 sg-same-length t c = c .before .before .before .before .before .ds .kept .1 .1 .1 .1 .1 .1 .0 ∙ c .before .before .before .before .before .before .before .before .before .before .before .indent-deeper .kept .0 ∙ c .before .before .before .before .before .before .before .before .before .before .before .before .before .before .before .before .word .kept .1 .1 .0
 
--- src/lib.rt:2366:9
 sg-returns : (t : ℕ) → sg-lts.Need-returns (
   word-reads.Asked,
   word-reads.Learnt,
@@ -22197,7 +21244,6 @@ sg-returns : (t : ℕ) → sg-lts.Need-returns (
 unfolding SigExp.sig-exp Helpers.indent-deeper Helpers.deepen
 sg-returns t c = record { is = then-sure (c .before .before .before .before .before .before .before .before .before .before .before .before .before .before .before .before .word .ensures) (then-both (c .before .before .before .before .before .before .before .before .before .before .before .indent-deeper .ensures _) (then-stop (along (c .before .before .before .before .before .before .before .before .indented .ensures) (c .before .before .before .before .before .ds .ensures)) (c .before .before .told .ensures) (c .enum-told .given .1))) }
 
--- src/lib.rt:2368:5
 sg-line-requires : (t : ℕ) → sg-lts.Need-line-requires (
   word-reads.Asked,
   word-reads.Learnt,
@@ -22214,7 +21260,6 @@ sg-line-requires : (t : ℕ) → sg-lts.Need-line-requires (
 ) (sg-at t) sg.Post
 sg-line-requires t c κs = search needs
 
--- src/lib.rt:2369:5
 sg-word-requires-2 : (t : ℕ) → sg-lts.Need-word-requires-2 (
   word-reads.Asked,
   word-reads.Learnt,
@@ -22231,7 +21276,6 @@ sg-word-requires-2 : (t : ℕ) → sg-lts.Need-word-requires-2 (
 ) (sg-at t) sg.Post
 sg-word-requires-2 t c κs = search needs
 
--- src/lib.rt:2346:1
 sg-same-length-2 : (t : ℕ) → sg-lts.Need-same-length-2 (
   word-reads.Asked,
   word-reads.Learnt,
@@ -22248,7 +21292,6 @@ sg-same-length-2 : (t : ℕ) → sg-lts.Need-same-length-2 (
 ) (sg-at t) sg.Post
 sg-same-length-2 t c = c .before .before .word2 .kept .1 .1 .0 ∙ c .before .before .before .before .before .before .before .line .kept .1 .1 .0 ∙ c .before .before .before .before .before .before .before .before .before .before .before .before .before .before .before .before .ds .kept .1 .1 .1 .1 .1 .1 .0 ∙ c .before .before .before .before .before .before .before .before .before .before .before .before .before .before .before .before .before .before .before .before .before .before .indent-deeper .kept .0 ∙ c .before .before .before .before .before .before .before .before .before .before .before .before .before .before .before .before .before .before .before .before .before .before .before .before .before .before .before .word .kept .1 .1 .0
 
--- src/lib.rt:2346:1
 sg-returns-2 : (t : ℕ) → sg-lts.Need-returns-2 (
   word-reads.Asked,
   word-reads.Learnt,
@@ -22266,7 +21309,6 @@ sg-returns-2 : (t : ℕ) → sg-lts.Need-returns-2 (
 unfolding SigExp.sig-exp Helpers.indent-deeper Helpers.deepen
 sg-returns-2 t c = record { is = then-sure (c .before .before .before .before .before .before .before .before .before .before .before .before .before .before .before .before .before .before .before .before .before .before .before .before .before .before .before .word .ensures) (then-both (c .before .before .before .before .before .before .before .before .before .before .before .before .before .before .before .before .before .before .before .before .before .before .indent-deeper .ensures _) (then-done (along (c .before .before .before .before .before .before .before .before .before .before .before .before .before .before .before .before .before .before .before .indented .ensures) (c .before .before .before .before .before .before .before .before .before .before .before .before .before .before .before .before .ds .ensures)) (c .before .before .before .before .before .before .before .before .before .before .before .before .before .told .ensures) (c .before .before .before .before .before .before .before .before .before .before .before .s1 .given .1) (then-both (c .before .before .before .before .before .before .before .line .ensures) (last-sure (c .before .before .word2 .ensures))))) }
 
--- src/lib.rt:2326:9
 sig-stop-requires : (t : ℕ) → sig-lts.Need-stop-requires (
   stop-reads.Asked,
   stop-reads.Learnt,
@@ -22283,7 +21325,6 @@ sig-stop-requires : (t : ℕ) → sig-lts.Need-stop-requires (
 ) (sig-at t) sig.Post
 sig-stop-requires t c κs = search needs
 
--- src/lib.rt:2326:9
 sig-returns : (t : ℕ) → sig-lts.Need-returns (
   stop-reads.Asked,
   stop-reads.Learnt,
@@ -22301,7 +21342,6 @@ sig-returns : (t : ℕ) → sig-lts.Need-returns (
 unfolding SigExp.sig-exps SigExp.sig-exp
 sig-returns t c = record { is = sig-zero _ _ (c .before .if1 .taken) (c .stop .ensures) }
 
--- src/lib.rt:2328:26
 sig-form-requires : (t : ℕ) → sig-lts.Need-form-requires (
   stop-reads.Asked,
   stop-reads.Learnt,
@@ -22318,7 +21358,6 @@ sig-form-requires : (t : ℕ) → sig-lts.Need-form-requires (
 ) (sig-at t) sig.Post
 sig-form-requires t c κs = search needs
 
--- src/lib.rt:2328:18
 sig-enum-known-k : (t : ℕ) → sig-lts.Need-enum-known-k (
   stop-reads.Asked,
   stop-reads.Learnt,
@@ -22335,7 +21374,6 @@ sig-enum-known-k : (t : ℕ) → sig-lts.Need-enum-known-k (
 ) (sig-at t) sig.Post
 sig-enum-known-k t c = search needs
 
--- src/lib.rt:2329:9
 sig-enum-told : (t : ℕ) → sig-lts.Need-enum-told (
   stop-reads.Asked,
   stop-reads.Learnt,
@@ -22352,7 +21390,6 @@ sig-enum-told : (t : ℕ) → sig-lts.Need-enum-told (
 ) (sig-at t) sig.Post
 sig-enum-told t c = search needs
 
--- src/lib.rt:2329:9
 sig-stop-requires-2 : (t : ℕ) → sig-lts.Need-stop-requires-2 (
   stop-reads.Asked,
   stop-reads.Learnt,
@@ -22369,7 +21406,6 @@ sig-stop-requires-2 : (t : ℕ) → sig-lts.Need-stop-requires-2 (
 ) (sig-at t) sig.Post
 sig-stop-requires-2 t c κs = search needs
 
--- src/lib.rt:2329:9
 sig-returns-2 : (t : ℕ) → sig-lts.Need-returns-2 (
   stop-reads.Asked,
   stop-reads.Learnt,
@@ -22387,7 +21423,6 @@ sig-returns-2 : (t : ℕ) → sig-lts.Need-returns-2 (
 unfolding SigExp.sig-exps SigExp.sig-exp
 sig-returns-2 t c = record { is = sig-form _ _ (c .before .before .before .before .if1 .left) (form-not (c .stop2 .ensures) (c .before .before .before .form .ensures) (c .before .enum-told .given .1)) }
 
--- src/lib.rt:2334:15
 sig-sub-t18 : (t : ℕ) → sig-lts.Need-sub-t18 (
   stop-reads.Asked,
   stop-reads.Learnt,
@@ -22404,7 +21439,6 @@ sig-sub-t18 : (t : ℕ) → sig-lts.Need-sub-t18 (
 ) (sig-at t) sig.Post
 sig-sub-t18 t c = search needs
 
--- src/lib.rt:2337:14
 sig-sg-requires : (t : ℕ) → sig-lts.Need-sg-requires (
   stop-reads.Asked,
   stop-reads.Learnt,
@@ -22421,7 +21455,6 @@ sig-sg-requires : (t : ℕ) → sig-lts.Need-sg-requires (
 ) (sig-at t) sig.Post
 sig-sg-requires t c κs = omega (arith, c .before .before .before .before .before .before .before .before .before .before .before .before .before .before .pre .0, c .before .before .before .before .before .before .before .before .before .before .before .before .before .before .pre .1, c .before .before .before .before .before .before .before .if1 .left)
 
--- src/lib.rt:2338:14
 sig-text-of-requires : (t : ℕ) → sig-lts.Need-text-of-requires (
   stop-reads.Asked,
   stop-reads.Learnt,
@@ -22438,7 +21471,6 @@ sig-text-of-requires : (t : ℕ) → sig-lts.Need-text-of-requires (
 ) (sig-at t) sig.Post
 sig-text-of-requires t c κs = search needs
 
--- src/lib.rt:2339:14
 sig-wt-requires : (t : ℕ) → sig-lts.Need-wt-requires (
   stop-reads.Asked,
   stop-reads.Learnt,
@@ -22455,7 +21487,6 @@ sig-wt-requires : (t : ℕ) → sig-lts.Need-wt-requires (
 ) (sig-at t) sig.Post
 sig-wt-requires t c κs = omega (arith, c .before .before .before .before .before .before .before .before .before .before .before .before .before .before .pre .0, c .before .before .before .before .before .before .before .before .before .before .before .before .before .before .pre .1, c .before .before .before .before .before .before .before .if1 .left)
 
--- src/lib.rt:2340:14
 sig-wr-requires : (t : ℕ) → sig-lts.Need-wr-requires (
   stop-reads.Asked,
   stop-reads.Learnt,
@@ -22472,7 +21503,6 @@ sig-wr-requires : (t : ℕ) → sig-lts.Need-wr-requires (
 ) (sig-at t) sig.Post
 sig-wr-requires t c κs = omega (arith, c .before .before .before .before .before .before .before .before .before .before .before .before .before .before .pre .0, c .before .before .before .before .before .before .before .before .before .before .before .before .before .before .pre .1, c .before .before .before .before .before .before .before .if1 .left)
 
--- src/lib.rt:2341:14
 sig-stop-requires-3 : (t : ℕ) → sig-lts.Need-stop-requires-3 (
   stop-reads.Asked,
   stop-reads.Learnt,
@@ -22489,7 +21519,6 @@ sig-stop-requires-3 : (t : ℕ) → sig-lts.Need-stop-requires-3 (
 ) (sig-at t) sig.Post
 sig-stop-requires-3 t c κs = search needs
 
--- src/lib.rt:2309:1
 sig-same-length : (t : ℕ) → sig-lts.Need-same-length (
   stop-reads.Asked,
   stop-reads.Learnt,
@@ -22506,7 +21535,6 @@ sig-same-length : (t : ℕ) → sig-lts.Need-same-length (
 ) (sig-at t) sig.Post
 sig-same-length t c = c .before .before .sg .kept .1 .1 .1 .1 .1 .1 .0
 
--- src/lib.rt:2309:1
 sig-returns-3 : (t : ℕ) → sig-lts.Need-returns-3 (
   stop-reads.Asked,
   stop-reads.Learnt,
@@ -22524,7 +21552,6 @@ sig-returns-3 : (t : ℕ) → sig-lts.Need-returns-3 (
 unfolding SigExp.sig-exps SigExp.sig-exp
 sig-returns-3 t c = record { is = sig-form _ _ (c .before .before .before .before .before .before .before .before .before .before .if1 .left) (form-key (c .before .before .before .before .before .before .before .before .before .form .ensures) (c .before .before .before .before .before .before .before .k .given .1) (c .before .before .before .before .before .match2 .keys1) (c .before .before .sg .ensures .is)) }
 
--- src/lib.rt:2309:1
 sig-same-length-2 : (t : ℕ) → sig-lts.Need-same-length-2 (
   stop-reads.Asked,
   stop-reads.Learnt,
@@ -22541,7 +21568,6 @@ sig-same-length-2 : (t : ℕ) → sig-lts.Need-same-length-2 (
 ) (sig-at t) sig.Post
 sig-same-length-2 t c = c .before .before .text-of .kept .1 .1 .1 .1 .1 .0
 
--- src/lib.rt:2309:1
 sig-returns-4 : (t : ℕ) → sig-lts.Need-returns-4 (
   stop-reads.Asked,
   stop-reads.Learnt,
@@ -22559,7 +21585,6 @@ sig-returns-4 : (t : ℕ) → sig-lts.Need-returns-4 (
 unfolding SigExp.sig-exps SigExp.sig-exp
 sig-returns-4 t c = record { is = sig-form _ _ (c .before .before .before .before .before .before .before .before .before .before .if1 .left) (form-key (c .before .before .before .before .before .before .before .before .before .form .ensures) (c .before .before .before .before .before .before .before .k .given .1) (c .before .before .before .before .before .match2 .keys2) (plain (c .before .before .text-of .ensures))) }
 
--- src/lib.rt:2309:1
 sig-same-length-3 : (t : ℕ) → sig-lts.Need-same-length-3 (
   stop-reads.Asked,
   stop-reads.Learnt,
@@ -22576,7 +21601,6 @@ sig-same-length-3 : (t : ℕ) → sig-lts.Need-same-length-3 (
 ) (sig-at t) sig.Post
 sig-same-length-3 t c = c .before .before .wt .kept .1 .1 .1 .1 .1 .1 .0
 
--- src/lib.rt:2309:1
 sig-returns-5 : (t : ℕ) → sig-lts.Need-returns-5 (
   stop-reads.Asked,
   stop-reads.Learnt,
@@ -22594,7 +21618,6 @@ sig-returns-5 : (t : ℕ) → sig-lts.Need-returns-5 (
 unfolding SigExp.sig-exps SigExp.sig-exp
 sig-returns-5 t c = record { is = sig-form _ _ (c .before .before .before .before .before .before .before .before .before .before .if1 .left) (form-key (c .before .before .before .before .before .before .before .before .before .form .ensures) (c .before .before .before .before .before .before .before .k .given .1) (c .before .before .before .before .before .match2 .keys3) (c .before .before .wt .ensures .is)) }
 
--- src/lib.rt:2309:1
 sig-same-length-4 : (t : ℕ) → sig-lts.Need-same-length-4 (
   stop-reads.Asked,
   stop-reads.Learnt,
@@ -22611,7 +21634,6 @@ sig-same-length-4 : (t : ℕ) → sig-lts.Need-same-length-4 (
 ) (sig-at t) sig.Post
 sig-same-length-4 t c = c .before .before .wr .kept .1 .1 .1 .1 .1 .1 .0
 
--- src/lib.rt:2309:1
 sig-returns-6 : (t : ℕ) → sig-lts.Need-returns-6 (
   stop-reads.Asked,
   stop-reads.Learnt,
@@ -22629,7 +21651,6 @@ sig-returns-6 : (t : ℕ) → sig-lts.Need-returns-6 (
 unfolding SigExp.sig-exps SigExp.sig-exp
 sig-returns-6 t c = record { is = sig-form _ _ (c .before .before .before .before .before .before .before .before .before .before .if1 .left) (form-key (c .before .before .before .before .before .before .before .before .before .form .ensures) (c .before .before .before .before .before .before .before .k .given .1) (c .before .before .before .before .before .match2 .keys4) (c .before .before .wr .ensures .is)) }
 
--- src/lib.rt:2309:1
 sig-returns-7 : (t : ℕ) → sig-lts.Need-returns-7 (
   stop-reads.Asked,
   stop-reads.Learnt,
@@ -22647,7 +21668,6 @@ sig-returns-7 : (t : ℕ) → sig-lts.Need-returns-7 (
 unfolding SigExp.sig-exps SigExp.sig-exp
 sig-returns-7 t c = record { is = sig-form _ _ (c .before .before .before .before .before .before .if1 .left) (by-same (form-is (c .before .before .before .before .before .form .ensures) (c .before .before .before .k .given .1)) (beyond (SigExp.sig-exps (walks (c .before .before .before .before .before .before .before .before .before .before .before .before .before .args .cfg .left - 1)) (cfgOf (c .before .before .before .before .before .before .before .before .before .before .before .before .before .args .cfg))) (c .before .before .before .k .given .0 .0) 4 refl (past (past (past (past zero-le (c .before .match2 .rest .0 .0 .0 .1)) (c .before .match2 .rest .0 .0 .1)) (c .before .match2 .rest .0 .1)) (c .before .match2 .rest .1)) (c .stop3 .ensures))) }
 
--- src/lib.rt:2287:5
 sl-word-requires : (t : ℕ) → sl-lts.Need-word-requires (
   word-reads.Asked,
   word-reads.Learnt,
@@ -22668,7 +21688,6 @@ sl-word-requires : (t : ℕ) → sl-lts.Need-word-requires (
 ) (sl-at t) sl.Post
 sl-word-requires t c κs = search needs
 
--- src/lib.rt:2288:5
 sl-word-requires-2 : (t : ℕ) → sl-lts.Need-word-requires-2 (
   word-reads.Asked,
   word-reads.Learnt,
@@ -22689,7 +21708,6 @@ sl-word-requires-2 : (t : ℕ) → sl-lts.Need-word-requires-2 (
 ) (sl-at t) sl.Post
 sl-word-requires-2 t c κs = search needs
 
--- src/lib.rt:2289:5
 sl-indent-deeper-requires : (t : ℕ) → sl-lts.Need-indent-deeper-requires (
   word-reads.Asked,
   word-reads.Learnt,
@@ -22710,7 +21728,6 @@ sl-indent-deeper-requires : (t : ℕ) → sl-lts.Need-indent-deeper-requires (
 ) (sl-at t) sl.Post
 sl-indent-deeper-requires t c κs = omega (arith, c .before .before .before .before .before .before .before .before .before .before .before .before .before .before .before .before .before .before .pre .1)
 
--- src/lib.rt:2290:9
 sl-indented-requires : (t : ℕ) → sl-lts.Need-indented-requires (
   word-reads.Asked,
   word-reads.Learnt,
@@ -22731,7 +21748,6 @@ sl-indented-requires : (t : ℕ) → sl-lts.Need-indented-requires (
 ) (sl-at t) sl.Post
 sl-indented-requires t c κs = omega (arith, c .before .before .before .before .before .before .before .before .before .before .before .before .before .before .before .before .before .before .before .before .before .pre .1)
 
--- src/lib.rt:2291:9
 sl-ds-requires : (t : ℕ) → sl-lts.Need-ds-requires (
   word-reads.Asked,
   word-reads.Learnt,
@@ -22752,7 +21768,6 @@ sl-ds-requires : (t : ℕ) → sl-lts.Need-ds-requires (
 ) (sl-at t) sl.Post
 sl-ds-requires t c κs = omega (arith, c .before .before .before .before .before .before .before .before .before .before .before .before .before .before .before .before .before .before .before .before .before .before .before .before .pre .0, c .before .before .before .before .before .before .before .before .before .before .before .before .before .before .before .before .before .before .before .before .before .before .before .before .pre .1, deep-depth (c .before .before .indented .ensures), deep-left (c .before .before .indented .ensures))
 
--- src/lib.rt:2292:28
 sl-told-requires : (t : ℕ) → sl-lts.Need-told-requires (
   word-reads.Asked,
   word-reads.Learnt,
@@ -22773,7 +21788,6 @@ sl-told-requires : (t : ℕ) → sl-lts.Need-told-requires (
 ) (sl-at t) sl.Post
 sl-told-requires t c κs = search needs
 
--- src/lib.rt:2292:22
 sl-enum-known-s1 : (t : ℕ) → sl-lts.Need-enum-known-s1 (
   word-reads.Asked,
   word-reads.Learnt,
@@ -22794,7 +21808,6 @@ sl-enum-known-s1 : (t : ℕ) → sl-lts.Need-enum-known-s1 (
 ) (sl-at t) sl.Post
 sl-enum-known-s1 t c = search needs
 
--- src/lib.rt:2293:9
 sl-enum-told : (t : ℕ) → sl-lts.Need-enum-told (
   word-reads.Asked,
   word-reads.Learnt,
@@ -22815,7 +21828,6 @@ sl-enum-told : (t : ℕ) → sl-lts.Need-enum-told (
 ) (sl-at t) sl.Post
 sl-enum-told t c = search needs
 
--- src/lib.rt:2293:9
 sl-same-length : (t : ℕ) → sl-lts.Need-same-length (
   word-reads.Asked,
   word-reads.Learnt,
@@ -22836,7 +21848,6 @@ sl-same-length : (t : ℕ) → sl-lts.Need-same-length (
 ) (sl-at t) sl.Post
 sl-same-length t c = c .before .before .before .before .before .ds .kept .1 .1 .1 .1 .1 .1 .0 ∙ c .before .before .before .before .before .before .before .before .before .before .before .indent-deeper .kept .0 ∙ c .before .before .before .before .before .before .before .before .before .before .before .before .before .before .before .before .word2 .kept .1 .1 .0 ∙ c .before .before .before .before .before .before .before .before .before .before .before .before .before .before .before .before .before .before .before .before .before .word .kept .1 .1 .0
 
--- src/lib.rt:2293:9
 sl-returns : (t : ℕ) → sl-lts.Need-returns (
   word-reads.Asked,
   word-reads.Learnt,
@@ -22858,7 +21869,6 @@ sl-returns : (t : ℕ) → sl-lts.Need-returns (
 unfolding StrExp.str-exp Helpers.in-end Helpers.indent-deeper Helpers.deepen
 sl-returns t c = record { is = then-sure (c .before .before .before .before .before .before .before .before .before .before .before .before .before .before .before .before .before .before .before .before .before .word .ensures) (then-sure (c .before .before .before .before .before .before .before .before .before .before .before .before .before .before .before .before .word2 .ensures) (then-both (c .before .before .before .before .before .before .before .before .before .before .before .indent-deeper .ensures _) (then-stop (along (c .before .before .before .before .before .before .before .before .indented .ensures) (c .before .before .before .before .before .ds .ensures)) (c .before .before .told .ensures) (c .enum-told .given .1)))) }
 
--- src/lib.rt:2295:5
 sl-line-requires : (t : ℕ) → sl-lts.Need-line-requires (
   word-reads.Asked,
   word-reads.Learnt,
@@ -22879,7 +21889,6 @@ sl-line-requires : (t : ℕ) → sl-lts.Need-line-requires (
 ) (sl-at t) sl.Post
 sl-line-requires t c κs = search needs
 
--- src/lib.rt:2296:5
 sl-word-requires-3 : (t : ℕ) → sl-lts.Need-word-requires-3 (
   word-reads.Asked,
   word-reads.Learnt,
@@ -22900,7 +21909,6 @@ sl-word-requires-3 : (t : ℕ) → sl-lts.Need-word-requires-3 (
 ) (sl-at t) sl.Post
 sl-word-requires-3 t c κs = search needs
 
--- src/lib.rt:2297:5
 sl-indent-in-requires : (t : ℕ) → sl-lts.Need-indent-in-requires (
   word-reads.Asked,
   word-reads.Learnt,
@@ -22921,7 +21929,6 @@ sl-indent-in-requires : (t : ℕ) → sl-lts.Need-indent-in-requires (
 ) (sl-at t) sl.Post
 sl-indent-in-requires t c κs = omega (arith, c .before .before .before .before .before .before .before .before .before .before .before .before .before .before .before .before .before .before .before .before .before .before .before .before .before .before .before .before .before .before .before .before .before .before .before .before .before .before .before .before .before .before .before .pre .1)
 
--- src/lib.rt:2298:9
 sl-str-requires : (t : ℕ) → sl-lts.Need-str-requires (
   word-reads.Asked,
   word-reads.Learnt,
@@ -22942,7 +21949,6 @@ sl-str-requires : (t : ℕ) → sl-lts.Need-str-requires (
 ) (sl-at t) sl.Post
 sl-str-requires t c κs = omega (arith, c .before .before .before .before .before .before .before .before .before .before .before .before .before .before .before .before .before .before .before .before .before .before .before .before .before .before .before .before .before .before .before .before .before .before .before .before .before .before .before .before .before .before .before .before .before .before .before .before .pre .0, c .before .before .before .before .before .before .before .before .before .before .before .before .before .before .before .before .before .before .before .before .before .before .before .before .before .before .before .before .before .before .before .before .before .before .before .before .before .before .before .before .before .before .before .before .before .before .before .before .pre .1, deep-depth (c .before .before .before .before .before .before .before .before .before .before .before .before .before .before .before .before .before .before .before .before .before .before .before .before .before .before .indented .ensures), deep-left (c .before .before .before .before .before .before .before .before .before .before .before .before .before .before .before .before .before .before .before .before .before .before .before .before .before .before .indented .ensures))
 
--- src/lib.rt:2299:28
 sl-told-requires-2 : (t : ℕ) → sl-lts.Need-told-requires-2 (
   word-reads.Asked,
   word-reads.Learnt,
@@ -22963,7 +21969,6 @@ sl-told-requires-2 : (t : ℕ) → sl-lts.Need-told-requires-2 (
 ) (sl-at t) sl.Post
 sl-told-requires-2 t c κs = search needs
 
--- src/lib.rt:2299:22
 sl-enum-known-s2 : (t : ℕ) → sl-lts.Need-enum-known-s2 (
   word-reads.Asked,
   word-reads.Learnt,
@@ -22984,7 +21989,6 @@ sl-enum-known-s2 : (t : ℕ) → sl-lts.Need-enum-known-s2 (
 ) (sl-at t) sl.Post
 sl-enum-known-s2 t c = search needs
 
--- src/lib.rt:2300:9
 sl-enum-told-2 : (t : ℕ) → sl-lts.Need-enum-told-2 (
   word-reads.Asked,
   word-reads.Learnt,
@@ -23005,7 +22009,6 @@ sl-enum-told-2 : (t : ℕ) → sl-lts.Need-enum-told-2 (
 ) (sl-at t) sl.Post
 sl-enum-told-2 t c = search needs
 
--- src/lib.rt:2300:9
 sl-same-length-2 : (t : ℕ) → sl-lts.Need-same-length-2 (
   word-reads.Asked,
   word-reads.Learnt,
@@ -23026,7 +22029,6 @@ sl-same-length-2 : (t : ℕ) → sl-lts.Need-same-length-2 (
 ) (sl-at t) sl.Post
 sl-same-length-2 t c = c .before .before .before .before .before .str .kept .1 .1 .1 .1 .1 .1 .0 ∙ c .before .before .before .before .before .before .before .before .before .before .indent-in .kept .0 ∙ c .before .before .before .before .before .before .before .before .before .before .before .before .before .before .before .word3 .kept .1 .1 .0 ∙ c .before .before .before .before .before .before .before .before .before .before .before .before .before .before .before .before .before .before .before .before .line .kept .1 .1 .0 ∙ c .before .before .before .before .before .before .before .before .before .before .before .before .before .before .before .before .before .before .before .before .before .before .before .before .before .before .before .before .before .ds .kept .1 .1 .1 .1 .1 .1 .0 ∙ c .before .before .before .before .before .before .before .before .before .before .before .before .before .before .before .before .before .before .before .before .before .before .before .before .before .before .before .before .before .before .before .before .before .before .before .indent-deeper .kept .0 ∙ c .before .before .before .before .before .before .before .before .before .before .before .before .before .before .before .before .before .before .before .before .before .before .before .before .before .before .before .before .before .before .before .before .before .before .before .before .before .before .before .before .word2 .kept .1 .1 .0 ∙ c .before .before .before .before .before .before .before .before .before .before .before .before .before .before .before .before .before .before .before .before .before .before .before .before .before .before .before .before .before .before .before .before .before .before .before .before .before .before .before .before .before .before .before .before .before .word .kept .1 .1 .0
 
--- src/lib.rt:2300:9
 sl-returns-2 : (t : ℕ) → sl-lts.Need-returns-2 (
   word-reads.Asked,
   word-reads.Learnt,
@@ -23048,7 +22050,6 @@ sl-returns-2 : (t : ℕ) → sl-lts.Need-returns-2 (
 unfolding StrExp.str-exp Helpers.in-end Helpers.indent-deeper Helpers.deepen
 sl-returns-2 t c = record { is = then-sure (c .before .before .before .before .before .before .before .before .before .before .before .before .before .before .before .before .before .before .before .before .before .before .before .before .before .before .before .before .before .before .before .before .before .before .before .before .before .before .before .before .before .before .before .before .before .word .ensures) (then-sure (c .before .before .before .before .before .before .before .before .before .before .before .before .before .before .before .before .before .before .before .before .before .before .before .before .before .before .before .before .before .before .before .before .before .before .before .before .before .before .before .before .word2 .ensures) (then-both (c .before .before .before .before .before .before .before .before .before .before .before .before .before .before .before .before .before .before .before .before .before .before .before .before .before .before .before .before .before .before .before .before .before .before .before .indent-deeper .ensures _) (then-done (along (c .before .before .before .before .before .before .before .before .before .before .before .before .before .before .before .before .before .before .before .before .before .before .before .before .before .before .before .before .before .before .before .before .indented .ensures) (c .before .before .before .before .before .before .before .before .before .before .before .before .before .before .before .before .before .before .before .before .before .before .before .before .before .before .before .before .before .ds .ensures)) (c .before .before .before .before .before .before .before .before .before .before .before .before .before .before .before .before .before .before .before .before .before .before .before .before .before .before .told .ensures) (c .before .before .before .before .before .before .before .before .before .before .before .before .before .before .before .before .before .before .before .before .before .before .before .before .s1 .given .1) (then-both (c .before .before .before .before .before .before .before .before .before .before .before .before .before .before .before .before .before .before .before .before .line .ensures) (then-sure (c .before .before .before .before .before .before .before .before .before .before .before .before .before .before .before .word3 .ensures) (then-sure (c .before .before .before .before .before .before .before .before .before .before .indent-in .ensures _) (then-stop (along (c .before .before .before .before .before .before .before .before .before .before .before .before .before .before .before .before .before .before .before .before .before .before .before .before .before .before .before .before .before .before .before .before .indented .ensures) (c .before .before .before .before .before .str .ensures)) (c .before .before .told2 .ensures) (c .enum-told2 .given .1)))))))) }
 
--- src/lib.rt:2302:5
 sl-line-requires-2 : (t : ℕ) → sl-lts.Need-line-requires-2 (
   word-reads.Asked,
   word-reads.Learnt,
@@ -23069,7 +22070,6 @@ sl-line-requires-2 : (t : ℕ) → sl-lts.Need-line-requires-2 (
 ) (sl-at t) sl.Post
 sl-line-requires-2 t c κs = search needs
 
--- src/lib.rt:2303:5
 sl-word-requires-4 : (t : ℕ) → sl-lts.Need-word-requires-4 (
   word-reads.Asked,
   word-reads.Learnt,
@@ -23090,7 +22090,6 @@ sl-word-requires-4 : (t : ℕ) → sl-lts.Need-word-requires-4 (
 ) (sl-at t) sl.Post
 sl-word-requires-4 t c κs = search needs
 
--- src/lib.rt:2272:1
 sl-same-length-3 : (t : ℕ) → sl-lts.Need-same-length-3 (
   word-reads.Asked,
   word-reads.Learnt,
@@ -23111,7 +22110,6 @@ sl-same-length-3 : (t : ℕ) → sl-lts.Need-same-length-3 (
 ) (sl-at t) sl.Post
 sl-same-length-3 t c = c .before .before .word4 .kept .1 .1 .0 ∙ c .before .before .before .before .before .before .before .line2 .kept .1 .1 .0 ∙ c .before .before .before .before .before .before .before .before .before .before .before .before .before .before .before .before .str .kept .1 .1 .1 .1 .1 .1 .0 ∙ c .before .before .before .before .before .before .before .before .before .before .before .before .before .before .before .before .before .before .before .before .before .indent-in .kept .0 ∙ c .before .before .before .before .before .before .before .before .before .before .before .before .before .before .before .before .before .before .before .before .before .before .before .before .before .before .word3 .kept .1 .1 .0 ∙ c .before .before .before .before .before .before .before .before .before .before .before .before .before .before .before .before .before .before .before .before .before .before .before .before .before .before .before .before .before .before .before .line .kept .1 .1 .0 ∙ c .before .before .before .before .before .before .before .before .before .before .before .before .before .before .before .before .before .before .before .before .before .before .before .before .before .before .before .before .before .before .before .before .before .before .before .before .before .before .before .before .ds .kept .1 .1 .1 .1 .1 .1 .0 ∙ c .before .before .before .before .before .before .before .before .before .before .before .before .before .before .before .before .before .before .before .before .before .before .before .before .before .before .before .before .before .before .before .before .before .before .before .before .before .before .before .before .before .before .before .before .before .before .indent-deeper .kept .0 ∙ c .before .before .before .before .before .before .before .before .before .before .before .before .before .before .before .before .before .before .before .before .before .before .before .before .before .before .before .before .before .before .before .before .before .before .before .before .before .before .before .before .before .before .before .before .before .before .before .before .before .before .before .word2 .kept .1 .1 .0 ∙ c .before .before .before .before .before .before .before .before .before .before .before .before .before .before .before .before .before .before .before .before .before .before .before .before .before .before .before .before .before .before .before .before .before .before .before .before .before .before .before .before .before .before .before .before .before .before .before .before .before .before .before .before .before .before .before .before .word .kept .1 .1 .0
 
--- src/lib.rt:2272:1
 sl-returns-3 : (t : ℕ) → sl-lts.Need-returns-3 (
   word-reads.Asked,
   word-reads.Learnt,
@@ -23133,7 +22131,6 @@ sl-returns-3 : (t : ℕ) → sl-lts.Need-returns-3 (
 unfolding StrExp.str-exp Helpers.in-end Helpers.indent-deeper Helpers.deepen
 sl-returns-3 t c = record { is = then-sure (c .before .before .before .before .before .before .before .before .before .before .before .before .before .before .before .before .before .before .before .before .before .before .before .before .before .before .before .before .before .before .before .before .before .before .before .before .before .before .before .before .before .before .before .before .before .before .before .before .before .before .before .before .before .before .before .before .word .ensures) (then-sure (c .before .before .before .before .before .before .before .before .before .before .before .before .before .before .before .before .before .before .before .before .before .before .before .before .before .before .before .before .before .before .before .before .before .before .before .before .before .before .before .before .before .before .before .before .before .before .before .before .before .before .before .word2 .ensures) (then-both (c .before .before .before .before .before .before .before .before .before .before .before .before .before .before .before .before .before .before .before .before .before .before .before .before .before .before .before .before .before .before .before .before .before .before .before .before .before .before .before .before .before .before .before .before .before .before .indent-deeper .ensures _) (then-done (along (c .before .before .before .before .before .before .before .before .before .before .before .before .before .before .before .before .before .before .before .before .before .before .before .before .before .before .before .before .before .before .before .before .before .before .before .before .before .before .before .before .before .before .before .indented .ensures) (c .before .before .before .before .before .before .before .before .before .before .before .before .before .before .before .before .before .before .before .before .before .before .before .before .before .before .before .before .before .before .before .before .before .before .before .before .before .before .before .before .ds .ensures)) (c .before .before .before .before .before .before .before .before .before .before .before .before .before .before .before .before .before .before .before .before .before .before .before .before .before .before .before .before .before .before .before .before .before .before .before .before .before .told .ensures) (c .before .before .before .before .before .before .before .before .before .before .before .before .before .before .before .before .before .before .before .before .before .before .before .before .before .before .before .before .before .before .before .before .before .before .before .s1 .given .1) (then-both (c .before .before .before .before .before .before .before .before .before .before .before .before .before .before .before .before .before .before .before .before .before .before .before .before .before .before .before .before .before .before .before .line .ensures) (then-sure (c .before .before .before .before .before .before .before .before .before .before .before .before .before .before .before .before .before .before .before .before .before .before .before .before .before .before .word3 .ensures) (then-sure (c .before .before .before .before .before .before .before .before .before .before .before .before .before .before .before .before .before .before .before .before .before .indent-in .ensures _) (then-done (along (c .before .before .before .before .before .before .before .before .before .before .before .before .before .before .before .before .before .before .before .before .before .before .before .before .before .before .before .before .before .before .before .before .before .before .before .before .before .before .before .before .before .before .before .indented .ensures) (c .before .before .before .before .before .before .before .before .before .before .before .before .before .before .before .before .str .ensures)) (c .before .before .before .before .before .before .before .before .before .before .before .before .before .told2 .ensures) (c .before .before .before .before .before .before .before .before .before .before .before .s2 .given .1) (then-both (c .before .before .before .before .before .before .before .line2 .ensures) (last-sure (c .before .before .word4 .ensures)))))))))) }
 
--- src/lib.rt:405:27
 sm-list-requires : (t : ℕ) → sm-lts.Need-list-requires (
   list-reads.Asked,
   list-reads.Learnt,
@@ -23148,7 +22145,6 @@ sm-list-requires : (t : ℕ) → sm-lts.Need-list-requires (
 ) (sm-at t) sm.Post
 sm-list-requires t c κs = search needs
 
--- src/lib.rt:405:18
 sm-enum-known-n : (t : ℕ) → sm-lts.Need-enum-known-n (
   list-reads.Asked,
   list-reads.Learnt,
@@ -23163,7 +22159,6 @@ sm-enum-known-n : (t : ℕ) → sm-lts.Need-enum-known-n (
 ) (sm-at t) sm.Post
 sm-enum-known-n t c = search needs
 
--- src/lib.rt:406:9
 sm-enum-told : (t : ℕ) → sm-lts.Need-enum-told (
   list-reads.Asked,
   list-reads.Learnt,
@@ -23178,7 +22173,6 @@ sm-enum-told : (t : ℕ) → sm-lts.Need-enum-told (
 ) (sm-at t) sm.Post
 sm-enum-told t c = search needs
 
--- src/lib.rt:406:9
 sm-stop-requires : (t : ℕ) → sm-lts.Need-stop-requires (
   list-reads.Asked,
   list-reads.Learnt,
@@ -23193,7 +22187,6 @@ sm-stop-requires : (t : ℕ) → sm-lts.Need-stop-requires (
 ) (sm-at t) sm.Post
 sm-stop-requires t c κs = search needs
 
--- src/lib.rt:406:9
 sm-returns : (t : ℕ) → sm-lts.Need-returns (
   list-reads.Asked,
   list-reads.Learnt,
@@ -23209,7 +22202,6 @@ sm-returns : (t : ℕ) → sm-lts.Need-returns (
 unfolding Exp.exp-semi-seq
 sm-returns t c = record { is = list-not (c .stop .ensures) (c .before .before .before .list .ensures) (c .before .enum-told .given .1) }
 
--- src/lib.rt:409:9
 sm-returns-2 : (t : ℕ) → sm-lts.Need-returns-2 (
   list-reads.Asked,
   list-reads.Learnt,
@@ -23225,7 +22217,6 @@ sm-returns-2 : (t : ℕ) → sm-lts.Need-returns-2 (
 unfolding Exp.exp-semi-seq
 sm-returns-2 t c = record { is = by-same (list-is (c .before .before .before .before .list .ensures) (c .before .before .n .given .1)) (semi-zero _ _ _ (c .if1 .taken)) }
 
--- src/lib.rt:411:9
 sm-it-requires : (t : ℕ) → sm-lts.Need-it-requires (
   list-reads.Asked,
   list-reads.Learnt,
@@ -23240,7 +22231,6 @@ sm-it-requires : (t : ℕ) → sm-lts.Need-it-requires (
 ) (sm-at t) sm.Post
 sm-it-requires t c κs = omega (arith, c .before .before .before .before .before .before .before .before .before .before .before .before .before .pre .0, c .before .before .before .before .before .before .before .before .before .before .before .before .before .pre .1)
 
--- src/lib.rt:424:28
 sm-told-requires : (t : ℕ) → sm-lts.Need-told-requires (
   list-reads.Asked,
   list-reads.Learnt,
@@ -23255,7 +22245,6 @@ sm-told-requires : (t : ℕ) → sm-lts.Need-told-requires (
 ) (sm-at t) sm.Post
 sm-told-requires t c κs = search needs
 
--- src/lib.rt:424:22
 sm-enum-known-s2 : (t : ℕ) → sm-lts.Need-enum-known-s2 (
   list-reads.Asked,
   list-reads.Learnt,
@@ -23270,7 +22259,6 @@ sm-enum-known-s2 : (t : ℕ) → sm-lts.Need-enum-known-s2 (
 ) (sm-at t) sm.Post
 sm-enum-known-s2 t c = search needs
 
--- src/lib.rt:425:9
 sm-enum-told-2 : (t : ℕ) → sm-lts.Need-enum-told-2 (
   list-reads.Asked,
   list-reads.Learnt,
@@ -23285,7 +22273,6 @@ sm-enum-told-2 : (t : ℕ) → sm-lts.Need-enum-told-2 (
 ) (sm-at t) sm.Post
 sm-enum-told-2 t c = search needs
 
--- src/lib.rt:425:9
 sm-same-length : (t : ℕ) → sm-lts.Need-same-length (
   list-reads.Asked,
   list-reads.Learnt,
@@ -23300,7 +22287,6 @@ sm-same-length : (t : ℕ) → sm-lts.Need-same-length (
 ) (sm-at t) sm.Post
 sm-same-length t c = c .before .before .before .before .before .it .kept .1 .1 .1 .1 .1 .1 .0
 
--- src/lib.rt:425:9
 sm-returns-3 : (t : ℕ) → sm-lts.Need-returns-3 (
   list-reads.Asked,
   list-reads.Learnt,
@@ -23316,7 +22302,6 @@ sm-returns-3 : (t : ℕ) → sm-lts.Need-returns-3 (
 unfolding Exp.exp-semi-seq
 sm-returns-3 t c = record { is = by-same (list-is (c .before .before .before .before .before .before .before .before .before .before .before .before .list .ensures) (c .before .before .before .before .before .before .before .before .before .before .n .given .1)) (semi-first _ _ _ (c .before .before .before .before .before .before .before .before .if1 .left) (then-stop (c .before .before .before .before .before .it .ensures .is) (c .before .before .told .ensures) (c .enum-told2 .given .1))) }
 
--- src/lib.rt:439:9
 sm-sub-mo : (t : ℕ) → sm-lts.Need-sub-mo (
   list-reads.Asked,
   list-reads.Learnt,
@@ -23331,7 +22316,6 @@ sm-sub-mo : (t : ℕ) → sm-lts.Need-sub-mo (
 ) (sm-at t) sm.Post
 sm-sub-mo t c = search needs
 
--- src/lib.rt:427:5
 sm-mo-requires : (t : ℕ) → sm-lts.Need-mo-requires (
   list-reads.Asked,
   list-reads.Learnt,
@@ -23346,7 +22330,6 @@ sm-mo-requires : (t : ℕ) → sm-lts.Need-mo-requires (
 ) (sm-at t) sm.Post
 sm-mo-requires t c κs = omega (arith, c .before .before .before .before .before .before .before .before .before .before .before .before .before .before .before .before .before .before .before .before .before .before .pre .0, c .before .before .before .before .before .before .before .before .before .before .before .before .before .before .before .before .before .before .before .before .before .before .pre .1)
 
--- src/lib.rt:389:1
 sm-same-length-2 : (t : ℕ) → sm-lts.Need-same-length-2 (
   list-reads.Asked,
   list-reads.Learnt,
@@ -23361,7 +22344,6 @@ sm-same-length-2 : (t : ℕ) → sm-lts.Need-same-length-2 (
 ) (sm-at t) sm.Post
 sm-same-length-2 t c = c .before .before .mo .kept .1 .1 .1 .1 .1 .1 .0 ∙ c .before .before .before .before .before .before .before .before .before .before .before .it .kept .1 .1 .1 .1 .1 .1 .0
 
--- src/lib.rt:389:1
 sm-returns-4 : (t : ℕ) → sm-lts.Need-returns-4 (
   list-reads.Asked,
   list-reads.Learnt,
@@ -23384,7 +22366,6 @@ sp-Inv-loop run text rec kinds starts lens out₀ mem₀ at cfg r1 s1 n s2 s₀ 
 abbrev sp-μ-loop : sp-lts.MeasureT-loop
 sp-μ-loop run text rec kinds starts lens out₀ mem₀ at cfg r1 s1 n s2 s₀ needs₀ i₀ out mem s needs i = n - i
 
--- src/lib.rt:2220:9
 sp-text-of-requires : (t : ℕ) → sp-lts.Need-text-of-requires (
   text-of-reads.Asked,
   text-of-reads.Learnt,
@@ -23407,7 +22388,6 @@ sp-text-of-requires : (t : ℕ) → sp-lts.Need-text-of-requires (
 ) (sp-at t) sp.Post sp-Inv-loop sp-μ-loop
 sp-text-of-requires t c κs = search needs
 
--- src/lib.rt:2221:28
 sp-told-requires : (t : ℕ) → sp-lts.Need-told-requires (
   text-of-reads.Asked,
   text-of-reads.Learnt,
@@ -23430,7 +22410,6 @@ sp-told-requires : (t : ℕ) → sp-lts.Need-told-requires (
 ) (sp-at t) sp.Post sp-Inv-loop sp-μ-loop
 sp-told-requires t c κs = search needs
 
--- src/lib.rt:2221:22
 sp-enum-known-s1 : (t : ℕ) → sp-lts.Need-enum-known-s1 (
   text-of-reads.Asked,
   text-of-reads.Learnt,
@@ -23453,7 +22432,6 @@ sp-enum-known-s1 : (t : ℕ) → sp-lts.Need-enum-known-s1 (
 ) (sp-at t) sp.Post sp-Inv-loop sp-μ-loop
 sp-enum-known-s1 t c = search needs
 
--- src/lib.rt:2222:9
 sp-enum-told : (t : ℕ) → sp-lts.Need-enum-told (
   text-of-reads.Asked,
   text-of-reads.Learnt,
@@ -23476,7 +22454,6 @@ sp-enum-told : (t : ℕ) → sp-lts.Need-enum-told (
 ) (sp-at t) sp.Post sp-Inv-loop sp-μ-loop
 sp-enum-told t c = search needs
 
--- src/lib.rt:2222:9
 sp-same-length : (t : ℕ) → sp-lts.Need-same-length (
   text-of-reads.Asked,
   text-of-reads.Learnt,
@@ -23499,7 +22476,6 @@ sp-same-length : (t : ℕ) → sp-lts.Need-same-length (
 ) (sp-at t) sp.Post sp-Inv-loop sp-μ-loop
 sp-same-length t c = c .before .before .before .before .before .text-of .kept .1 .1 .1 .1 .1 .0
 
--- src/lib.rt:2222:9
 sp-returns : (t : ℕ) → sp-lts.Need-returns (
   text-of-reads.Asked,
   text-of-reads.Learnt,
@@ -23523,7 +22499,6 @@ sp-returns : (t : ℕ) → sp-lts.Need-returns (
 unfolding StrExp.str-exp
 sp-returns t c = record { is = then-stop (plain (c .before .before .before .before .before .text-of .ensures)) (c .before .before .told .ensures) (c .enum-told .given .1) }
 
--- src/lib.rt:2224:5
 sp-word-requires : (t : ℕ) → sp-lts.Need-word-requires (
   text-of-reads.Asked,
   text-of-reads.Learnt,
@@ -23546,7 +22521,6 @@ sp-word-requires : (t : ℕ) → sp-lts.Need-word-requires (
 ) (sp-at t) sp.Post sp-Inv-loop sp-μ-loop
 sp-word-requires t c κs = search needs
 
--- src/lib.rt:2225:27
 sp-list-requires : (t : ℕ) → sp-lts.Need-list-requires (
   text-of-reads.Asked,
   text-of-reads.Learnt,
@@ -23569,7 +22543,6 @@ sp-list-requires : (t : ℕ) → sp-lts.Need-list-requires (
 ) (sp-at t) sp.Post sp-Inv-loop sp-μ-loop
 sp-list-requires t c κs = search needs
 
--- src/lib.rt:2225:18
 sp-enum-known-n : (t : ℕ) → sp-lts.Need-enum-known-n (
   text-of-reads.Asked,
   text-of-reads.Learnt,
@@ -23592,7 +22565,6 @@ sp-enum-known-n : (t : ℕ) → sp-lts.Need-enum-known-n (
 ) (sp-at t) sp.Post sp-Inv-loop sp-μ-loop
 sp-enum-known-n t c = search needs
 
--- src/lib.rt:2226:9
 sp-enum-told-2 : (t : ℕ) → sp-lts.Need-enum-told-2 (
   text-of-reads.Asked,
   text-of-reads.Learnt,
@@ -23615,7 +22587,6 @@ sp-enum-told-2 : (t : ℕ) → sp-lts.Need-enum-told-2 (
 ) (sp-at t) sp.Post sp-Inv-loop sp-μ-loop
 sp-enum-told-2 t c = search needs
 
--- src/lib.rt:2226:9
 sp-stop-requires : (t : ℕ) → sp-lts.Need-stop-requires (
   text-of-reads.Asked,
   text-of-reads.Learnt,
@@ -23638,7 +22609,6 @@ sp-stop-requires : (t : ℕ) → sp-lts.Need-stop-requires (
 ) (sp-at t) sp.Post sp-Inv-loop sp-μ-loop
 sp-stop-requires t c κs = search needs
 
--- src/lib.rt:2226:9
 sp-same-length-2 : (t : ℕ) → sp-lts.Need-same-length-2 (
   text-of-reads.Asked,
   text-of-reads.Learnt,
@@ -23661,7 +22631,6 @@ sp-same-length-2 : (t : ℕ) → sp-lts.Need-same-length-2 (
 ) (sp-at t) sp.Post sp-Inv-loop sp-μ-loop
 sp-same-length-2 t c = c .before .before .before .before .before .before .word .kept .1 .1 .0 ∙ c .before .before .before .before .before .before .before .before .before .before .before .before .before .before .before .text-of .kept .1 .1 .1 .1 .1 .0
 
--- src/lib.rt:2226:9
 sp-returns-2 : (t : ℕ) → sp-lts.Need-returns-2 (
   text-of-reads.Asked,
   text-of-reads.Learnt,
@@ -23685,7 +22654,6 @@ sp-returns-2 : (t : ℕ) → sp-lts.Need-returns-2 (
 unfolding StrExp.str-exp
 sp-returns-2 t c = record { is = then-done (plain (c .before .before .before .before .before .before .before .before .before .before .before .before .before .before .before .text-of .ensures)) (c .before .before .before .before .before .before .before .before .before .before .before .before .told .ensures) (c .before .before .before .before .before .before .before .before .before .before .s1 .given .1) (then-sure (c .before .before .before .before .before .before .word .ensures) (list-not (c .stop .ensures) (c .before .before .before .list .ensures) (c .before .enum-told2 .given .1))) }
 
--- src/lib.rt:2231:5
 sp-loop-holds : (t : ℕ) → sp-lts.Need-loop-holds (
   text-of-reads.Asked,
   text-of-reads.Learnt,
@@ -23708,7 +22676,6 @@ sp-loop-holds : (t : ℕ) → sp-lts.Need-loop-holds (
 ) (sp-at t) sp.Post sp-Inv-loop sp-μ-loop
 sp-loop-holds t c = (omega arith, λ r m o h. h, refl)
 
--- src/lib.rt:2232:31
 sp-choice-requires : (t : ℕ) → sp-lts.Need-choice-requires (
   text-of-reads.Asked,
   text-of-reads.Learnt,
@@ -23731,7 +22698,6 @@ sp-choice-requires : (t : ℕ) → sp-lts.Need-choice-requires (
 ) (sp-at t) sp.Post sp-Inv-loop sp-μ-loop
 sp-choice-requires t c κs = search needs
 
--- src/lib.rt:2232:22
 sp-enum-known-k : (t : ℕ) → sp-lts.Need-enum-known-k (
   text-of-reads.Asked,
   text-of-reads.Learnt,
@@ -23754,7 +22720,6 @@ sp-enum-known-k : (t : ℕ) → sp-lts.Need-enum-known-k (
 ) (sp-at t) sp.Post sp-Inv-loop sp-μ-loop
 sp-enum-known-k t c = search needs
 
--- src/lib.rt:2233:13
 sp-enum-told-3 : (t : ℕ) → sp-lts.Need-enum-told-3 (
   text-of-reads.Asked,
   text-of-reads.Learnt,
@@ -23777,7 +22742,6 @@ sp-enum-told-3 : (t : ℕ) → sp-lts.Need-enum-told-3 (
 ) (sp-at t) sp.Post sp-Inv-loop sp-μ-loop
 sp-enum-told-3 t c = search needs
 
--- src/lib.rt:2233:13
 sp-stop-requires-2 : (t : ℕ) → sp-lts.Need-stop-requires-2 (
   text-of-reads.Asked,
   text-of-reads.Learnt,
@@ -23800,7 +22764,6 @@ sp-stop-requires-2 : (t : ℕ) → sp-lts.Need-stop-requires-2 (
 ) (sp-at t) sp.Post sp-Inv-loop sp-μ-loop
 sp-stop-requires-2 t c κs = search needs
 
--- src/lib.rt:2233:13
 sp-same-length-3 : (t : ℕ) → sp-lts.Need-same-length-3 (
   text-of-reads.Asked,
   text-of-reads.Learnt,
@@ -23823,7 +22786,6 @@ sp-same-length-3 : (t : ℕ) → sp-lts.Need-same-length-3 (
 ) (sp-at t) sp.Post sp-Inv-loop sp-μ-loop
 sp-same-length-3 t c = c .before .before .before .before .before .loop .inv .2 ∙ c .before .before .before .before .before .before .before .before .before .before .before .before .word .kept .1 .1 .0 ∙ c .before .before .before .before .before .before .before .before .before .before .before .before .before .before .before .before .before .before .before .before .before .text-of .kept .1 .1 .1 .1 .1 .0
 
--- src/lib.rt:2233:13
 sp-returns-3 : (t : ℕ) → sp-lts.Need-returns-3 (
   text-of-reads.Asked,
   text-of-reads.Learnt,
@@ -23847,7 +22809,6 @@ sp-returns-3 : (t : ℕ) → sp-lts.Need-returns-3 (
 unfolding StrExp.str-exp
 sp-returns-3 t c = record { is = then-done (plain (c .before .before .before .before .before .before .before .before .before .before .before .before .before .before .before .before .before .before .before .before .before .text-of .ensures)) (c .before .before .before .before .before .before .before .before .before .before .before .before .before .before .before .before .before .before .told .ensures) (c .before .before .before .before .before .before .before .before .before .before .before .before .before .before .before .before .s1 .given .1) (then-sure (c .before .before .before .before .before .before .before .before .before .before .before .before .word .ensures) (by-same (list-is (c .before .before .before .before .before .before .before .before .before .list .ensures) (c .before .before .before .before .before .before .before .n .given .1)) (by-same (args-all _ _ _) (c .before .before .before .before .before .loop .inv .1 _ _ _ (args-more _ _ _ (c .before .before .before .before .loop-test .taken) (choice-not (c .stop2 .ensures) (c .before .before .before .choice .ensures) (c .before .enum-told3 .given .1))))))) }
 
--- src/lib.rt:2235:13
 sp-sa-requires : (t : ℕ) → sp-lts.Need-sa-requires (
   text-of-reads.Asked,
   text-of-reads.Learnt,
@@ -23870,7 +22831,6 @@ sp-sa-requires : (t : ℕ) → sp-lts.Need-sa-requires (
 ) (sp-at t) sp.Post sp-Inv-loop sp-μ-loop
 sp-sa-requires t c κs = omega (arith, c .before .before .before .before .before .before .before .before .before .before .before .before .before .before .before .before .before .before .before .before .before .before .before .before .before .before .before .before .before .before .before .before .pre .0, c .before .before .before .before .before .before .before .before .before .before .before .before .before .before .before .before .before .before .before .before .before .before .before .before .before .before .before .before .before .before .before .before .pre .1)
 
--- src/lib.rt:2236:32
 sp-told-requires-2 : (t : ℕ) → sp-lts.Need-told-requires-2 (
   text-of-reads.Asked,
   text-of-reads.Learnt,
@@ -23893,7 +22853,6 @@ sp-told-requires-2 : (t : ℕ) → sp-lts.Need-told-requires-2 (
 ) (sp-at t) sp.Post sp-Inv-loop sp-μ-loop
 sp-told-requires-2 t c κs = search needs
 
--- src/lib.rt:2236:26
 sp-enum-known-s4 : (t : ℕ) → sp-lts.Need-enum-known-s4 (
   text-of-reads.Asked,
   text-of-reads.Learnt,
@@ -23916,7 +22875,6 @@ sp-enum-known-s4 : (t : ℕ) → sp-lts.Need-enum-known-s4 (
 ) (sp-at t) sp.Post sp-Inv-loop sp-μ-loop
 sp-enum-known-s4 t c = search needs
 
--- src/lib.rt:2237:13
 sp-enum-told-4 : (t : ℕ) → sp-lts.Need-enum-told-4 (
   text-of-reads.Asked,
   text-of-reads.Learnt,
@@ -23939,7 +22897,6 @@ sp-enum-told-4 : (t : ℕ) → sp-lts.Need-enum-told-4 (
 ) (sp-at t) sp.Post sp-Inv-loop sp-μ-loop
 sp-enum-told-4 t c = search needs
 
--- src/lib.rt:2237:13
 sp-same-length-4 : (t : ℕ) → sp-lts.Need-same-length-4 (
   text-of-reads.Asked,
   text-of-reads.Learnt,
@@ -23962,7 +22919,6 @@ sp-same-length-4 : (t : ℕ) → sp-lts.Need-same-length-4 (
 ) (sp-at t) sp.Post sp-Inv-loop sp-μ-loop
 sp-same-length-4 t c = c .before .before .before .before .before .sa .kept .1 .1 .1 .1 .1 .1 .0 ∙ c .before .before .before .before .before .before .before .before .before .before .before .before .before .loop .inv .2 ∙ c .before .before .before .before .before .before .before .before .before .before .before .before .before .before .before .before .before .before .before .before .word .kept .1 .1 .0 ∙ c .before .before .before .before .before .before .before .before .before .before .before .before .before .before .before .before .before .before .before .before .before .before .before .before .before .before .before .before .before .text-of .kept .1 .1 .1 .1 .1 .0
 
--- src/lib.rt:2237:13
 sp-returns-4 : (t : ℕ) → sp-lts.Need-returns-4 (
   text-of-reads.Asked,
   text-of-reads.Learnt,
@@ -23986,7 +22942,6 @@ sp-returns-4 : (t : ℕ) → sp-lts.Need-returns-4 (
 unfolding StrExp.str-exp
 sp-returns-4 t c = record { is = then-done (plain (c .before .before .before .before .before .before .before .before .before .before .before .before .before .before .before .before .before .before .before .before .before .before .before .before .before .before .before .before .before .text-of .ensures)) (c .before .before .before .before .before .before .before .before .before .before .before .before .before .before .before .before .before .before .before .before .before .before .before .before .before .before .told .ensures) (c .before .before .before .before .before .before .before .before .before .before .before .before .before .before .before .before .before .before .before .before .before .before .before .before .s1 .given .1) (then-sure (c .before .before .before .before .before .before .before .before .before .before .before .before .before .before .before .before .before .before .before .before .word .ensures) (by-same (list-is (c .before .before .before .before .before .before .before .before .before .before .before .before .before .before .before .before .before .list .ensures) (c .before .before .before .before .before .before .before .before .before .before .before .before .before .before .before .n .given .1)) (by-same (args-all _ _ _) (c .before .before .before .before .before .before .before .before .before .before .before .before .before .loop .inv .1 _ _ _ (args-more _ _ _ (c .before .before .before .before .before .before .before .before .before .before .before .before .loop-test .taken) (by-same (choice-is (c .before .before .before .before .before .before .before .before .before .before .before .choice .ensures) (c .before .before .before .before .before .before .before .before .before .k .given .1)) (then-stop (c .before .before .before .before .before .sa .ensures .is) (c .before .before .told2 .ensures) (c .enum-told4 .given .1)))))))) }
 
--- src/lib.rt:2239:9
 sp-later-needs-requires : (t : ℕ) → sp-lts.Need-later-needs-requires (
   text-of-reads.Asked,
   text-of-reads.Learnt,
@@ -24009,7 +22964,6 @@ sp-later-needs-requires : (t : ℕ) → sp-lts.Need-later-needs-requires (
 ) (sp-at t) sp.Post sp-Inv-loop sp-μ-loop
 sp-later-needs-requires t c κs = search needs
 
--- src/lib.rt:2241:9
 sp-add-i : (t : ℕ) → sp-lts.Need-add-i (
   text-of-reads.Asked,
   text-of-reads.Learnt,
@@ -24032,7 +22986,6 @@ sp-add-i : (t : ℕ) → sp-lts.Need-add-i (
 ) (sp-at t) sp.Post sp-Inv-loop sp-μ-loop
 sp-add-i t c = omega (arith, c .before .before .before .before .before .before .before .before .before .before .before .before .before .before .loop-test .taken, c .before .before .before .before .before .before .before .before .before .before .before .before .before .before .before .before .known-told2)
 
--- src/lib.rt:2231:5
 sp-loop-less : (t : ℕ) → sp-lts.Need-loop-less (
   text-of-reads.Asked,
   text-of-reads.Learnt,
@@ -24055,7 +23008,6 @@ sp-loop-less : (t : ℕ) → sp-lts.Need-loop-less (
 ) (sp-at t) sp.Post sp-Inv-loop sp-μ-loop
 sp-loop-less t c = omega arith
 
--- src/lib.rt:2231:5
 sp-loop-again : (t : ℕ) → sp-lts.Need-loop-again (
   text-of-reads.Asked,
   text-of-reads.Learnt,
@@ -24079,7 +23031,6 @@ sp-loop-again : (t : ℕ) → sp-lts.Need-loop-again (
 unfolding StrExp.str-exp
 sp-loop-again t c = (omega (arith, c .before .before .before .before .before .before .before .before .before .before .before .before .before .before .before .loop .inv .0), λ r m o h. c .before .before .before .before .before .before .before .before .before .before .before .before .before .before .before .loop .inv .1 r m o (args-more _ _ _ (c .before .before .before .before .before .before .before .before .before .before .before .before .before .before .loop-test .taken) (by-same (choice-is (c .before .before .before .before .before .before .before .before .before .before .before .before .before .choice .ensures) (c .before .before .before .before .before .before .before .before .before .before .before .k .given .1)) (then-done (c .before .before .before .before .before .before .before .sa .ensures .is) (c .before .before .before .before .told2 .ensures) (c .before .before .s4 .given .1) ((args-needs _ _ _ (c .later-needs .ensures) h))))), c .before .before .before .before .before .before .before .sa .kept .1 .1 .1 .1 .1 .1 .0 ∙ c .before .before .before .before .before .before .before .before .before .before .before .before .before .before .before .loop .inv .2)
 
--- src/lib.rt:2243:5
 sp-app-end-requires : (t : ℕ) → sp-lts.Need-app-end-requires (
   text-of-reads.Asked,
   text-of-reads.Learnt,
@@ -24102,7 +23053,6 @@ sp-app-end-requires : (t : ℕ) → sp-lts.Need-app-end-requires (
 ) (sp-at t) sp.Post sp-Inv-loop sp-μ-loop
 sp-app-end-requires t c κs = search needs
 
--- src/lib.rt:2205:1
 sp-same-length-5 : (t : ℕ) → sp-lts.Need-same-length-5 (
   text-of-reads.Asked,
   text-of-reads.Learnt,
@@ -24125,7 +23075,6 @@ sp-same-length-5 : (t : ℕ) → sp-lts.Need-same-length-5 (
 ) (sp-at t) sp.Post sp-Inv-loop sp-μ-loop
 sp-same-length-5 t c = c .before .before .app-end .kept .1 .1 .0 ∙ c .before .before .before .before .before .before .loop .inv .2 ∙ c .before .before .before .before .before .before .before .before .before .before .before .before .before .word .kept .1 .1 .0 ∙ c .before .before .before .before .before .before .before .before .before .before .before .before .before .before .before .before .before .before .before .before .before .before .text-of .kept .1 .1 .1 .1 .1 .0
 
--- src/lib.rt:2205:1
 sp-returns-5 : (t : ℕ) → sp-lts.Need-returns-5 (
   text-of-reads.Asked,
   text-of-reads.Learnt,
@@ -24149,7 +23098,6 @@ sp-returns-5 : (t : ℕ) → sp-lts.Need-returns-5 (
 unfolding StrExp.str-exp
 sp-returns-5 t c = record { is = then-done (plain (c .before .before .before .before .before .before .before .before .before .before .before .before .before .before .before .before .before .before .before .before .before .before .text-of .ensures)) (c .before .before .before .before .before .before .before .before .before .before .before .before .before .before .before .before .before .before .before .told .ensures) (c .before .before .before .before .before .before .before .before .before .before .before .before .before .before .before .before .before .s1 .given .1) (then-sure (c .before .before .before .before .before .before .before .before .before .before .before .before .before .word .ensures) (by-same (list-is (c .before .before .before .before .before .before .before .before .before .before .list .ensures) (c .before .before .before .before .before .before .before .before .n .given .1)) (by-same (args-all _ _ _) (c .before .before .before .before .before .before .loop .inv .1 _ _ _ (args-none _ _ _ (c .before .before .before .before .before .loop-test .left) (last-sure (c .before .before .app-end .ensures))))))) }
 
--- src/lib.rt:1199:9
 sq-group-requires : (t : ℕ) → sq-lts.Need-group-requires (
   group-reads.Asked,
   group-reads.Learnt,
@@ -24162,7 +23110,6 @@ sq-group-requires : (t : ℕ) → sq-lts.Need-group-requires (
 ) (sq-at t) sq.Post
 sq-group-requires t c κs = search needs
 
--- src/lib.rt:1200:28
 sq-told-requires : (t : ℕ) → sq-lts.Need-told-requires (
   group-reads.Asked,
   group-reads.Learnt,
@@ -24175,7 +23122,6 @@ sq-told-requires : (t : ℕ) → sq-lts.Need-told-requires (
 ) (sq-at t) sq.Post
 sq-told-requires t c κs = search needs
 
--- src/lib.rt:1200:22
 sq-enum-known-s1 : (t : ℕ) → sq-lts.Need-enum-known-s1 (
   group-reads.Asked,
   group-reads.Learnt,
@@ -24188,7 +23134,6 @@ sq-enum-known-s1 : (t : ℕ) → sq-lts.Need-enum-known-s1 (
 ) (sq-at t) sq.Post
 sq-enum-known-s1 t c = search needs
 
--- src/lib.rt:1201:9
 sq-enum-told : (t : ℕ) → sq-lts.Need-enum-told (
   group-reads.Asked,
   group-reads.Learnt,
@@ -24201,7 +23146,6 @@ sq-enum-told : (t : ℕ) → sq-lts.Need-enum-told (
 ) (sq-at t) sq.Post
 sq-enum-told t c = search needs
 
--- src/lib.rt:1201:9
 sq-returns : (t : ℕ) → sq-lts.Need-returns (
   group-reads.Asked,
   group-reads.Learnt,
@@ -24215,7 +23159,6 @@ sq-returns : (t : ℕ) → sq-lts.Need-returns (
 unfolding GetDec.dec-in-seq Helpers.with-extra-blank Helpers.semicolon
 sq-returns t c = record { is = group-not (c .before .before .before .group .ensures) (c .before .before .told .ensures) (c .enum-told .given .1) }
 
--- src/lib.rt:1208:9
 sq-one-requires : (t : ℕ) → sq-lts.Need-one-requires (
   group-reads.Asked,
   group-reads.Learnt,
@@ -24228,7 +23171,6 @@ sq-one-requires : (t : ℕ) → sq-lts.Need-one-requires (
 ) (sq-at t) sq.Post
 sq-one-requires t c κs = omega (arith, c .before .before .before .before .before .before .before .before .before .before .before .before .before .pre .0, c .before .before .before .before .before .before .before .before .before .before .before .before .before .pre .1)
 
--- src/lib.rt:1209:28
 sq-told-requires-2 : (t : ℕ) → sq-lts.Need-told-requires-2 (
   group-reads.Asked,
   group-reads.Learnt,
@@ -24241,7 +23183,6 @@ sq-told-requires-2 : (t : ℕ) → sq-lts.Need-told-requires-2 (
 ) (sq-at t) sq.Post
 sq-told-requires-2 t c κs = search needs
 
--- src/lib.rt:1209:22
 sq-enum-known-s2 : (t : ℕ) → sq-lts.Need-enum-known-s2 (
   group-reads.Asked,
   group-reads.Learnt,
@@ -24254,7 +23195,6 @@ sq-enum-known-s2 : (t : ℕ) → sq-lts.Need-enum-known-s2 (
 ) (sq-at t) sq.Post
 sq-enum-known-s2 t c = search needs
 
--- src/lib.rt:1210:9
 sq-enum-told-2 : (t : ℕ) → sq-lts.Need-enum-told-2 (
   group-reads.Asked,
   group-reads.Learnt,
@@ -24267,7 +23207,6 @@ sq-enum-told-2 : (t : ℕ) → sq-lts.Need-enum-told-2 (
 ) (sq-at t) sq.Post
 sq-enum-told-2 t c = search needs
 
--- src/lib.rt:1210:9
 sq-same-length : (t : ℕ) → sq-lts.Need-same-length (
   group-reads.Asked,
   group-reads.Learnt,
@@ -24280,7 +23219,6 @@ sq-same-length : (t : ℕ) → sq-lts.Need-same-length (
 ) (sq-at t) sq.Post
 sq-same-length t c = c .before .before .before .before .before .one .kept .1 .1 .1 .1 .1 .1 .0
 
--- src/lib.rt:1210:9
 sq-returns-2 : (t : ℕ) → sq-lts.Need-returns-2 (
   group-reads.Asked,
   group-reads.Learnt,
@@ -24294,7 +23232,6 @@ sq-returns-2 : (t : ℕ) → sq-lts.Need-returns-2 (
 unfolding GetDec.dec-in-seq Helpers.with-extra-blank Helpers.semicolon
 sq-returns-2 t c = record { is = by-same (group-is (c .before .before .before .before .before .before .before .before .before .before .before .before .group .ensures) (c .before .before .before .before .before .before .before .before .before .before .before .told .ensures) (c .before .before .before .before .before .before .before .before .before .s1 .given .1)) (then-stop (c .before .before .before .before .before .one .ensures .is) (c .before .before .told2 .ensures) (c .enum-told2 .given .1)) }
 
--- src/lib.rt:1212:5
 sq-word-if-requires : (t : ℕ) → sq-lts.Need-word-if-requires (
   group-reads.Asked,
   group-reads.Learnt,
@@ -24307,7 +23244,6 @@ sq-word-if-requires : (t : ℕ) → sq-lts.Need-word-if-requires (
 ) (sq-at t) sq.Post
 sq-word-if-requires t c κs = search needs
 
--- src/lib.rt:1184:1
 sq-same-length-2 : (t : ℕ) → sq-lts.Need-same-length-2 (
   group-reads.Asked,
   group-reads.Learnt,
@@ -24320,7 +23256,6 @@ sq-same-length-2 : (t : ℕ) → sq-lts.Need-same-length-2 (
 ) (sq-at t) sq.Post
 sq-same-length-2 t c = c .before .before .word-if .kept .1 .1 .1 .1 .1 .0 ∙ c .before .before .before .before .before .before .before .before .before .before .before .one .kept .1 .1 .1 .1 .1 .1 .0
 
--- src/lib.rt:1184:1
 sq-returns-3 : (t : ℕ) → sq-lts.Need-returns-3 (
   group-reads.Asked,
   group-reads.Learnt,
@@ -24334,7 +23269,6 @@ sq-returns-3 : (t : ℕ) → sq-lts.Need-returns-3 (
 unfolding GetDec.dec-in-seq Helpers.with-extra-blank Helpers.semicolon
 sq-returns-3 t c = record { is = by-same (group-is (c .before .before .before .before .before .before .before .before .before .before .before .before .before .before .before .before .before .before .group .ensures) (c .before .before .before .before .before .before .before .before .before .before .before .before .before .before .before .before .before .told .ensures) (c .before .before .before .before .before .before .before .before .before .before .before .before .before .before .before .s1 .given .1)) (then-done (c .before .before .before .before .before .before .before .before .before .before .before .one .ensures .is) (c .before .before .before .before .before .before .before .before .told2 .ensures) (c .before .before .before .before .before .before .s2 .given .1) (plain (c .before .before .word-if .ensures))) }
 
--- src/lib.rt:2113:5
 ss-word-requires : (t : ℕ) → ss-lts.Need-word-requires (
   word-reads.Asked,
   word-reads.Learnt,
@@ -24351,7 +23285,6 @@ ss-word-requires : (t : ℕ) → ss-lts.Need-word-requires (
 ) (ss-at t) ss.Post
 ss-word-requires t c κs = search needs
 
--- src/lib.rt:2114:5
 ss-indent-deeper-requires : (t : ℕ) → ss-lts.Need-indent-deeper-requires (
   word-reads.Asked,
   word-reads.Learnt,
@@ -24368,7 +23301,6 @@ ss-indent-deeper-requires : (t : ℕ) → ss-lts.Need-indent-deeper-requires (
 ) (ss-at t) ss.Post
 ss-indent-deeper-requires t c κs = omega (arith, c .before .before .before .before .before .before .before .before .before .before .before .before .before .pre .1)
 
--- src/lib.rt:2120:9
 ss-indented-requires : (t : ℕ) → ss-lts.Need-indented-requires (
   word-reads.Asked,
   word-reads.Learnt,
@@ -24385,7 +23317,6 @@ ss-indented-requires : (t : ℕ) → ss-lts.Need-indented-requires (
 ) (ss-at t) ss.Post
 ss-indented-requires t c κs = omega (arith, c .before .before .before .before .before .before .before .before .before .before .before .before .before .before .before .before .pre .1)
 
--- src/lib.rt:2121:9
 ss-ds-requires : (t : ℕ) → ss-lts.Need-ds-requires (
   word-reads.Asked,
   word-reads.Learnt,
@@ -24402,7 +23333,6 @@ ss-ds-requires : (t : ℕ) → ss-lts.Need-ds-requires (
 ) (ss-at t) ss.Post
 ss-ds-requires t c κs = omega (arith, c .before .before .before .before .before .before .before .before .before .before .before .before .before .before .before .before .before .before .before .pre .0, c .before .before .before .before .before .before .before .before .before .before .before .before .before .before .before .before .before .before .before .pre .1, deep-depth (c .before .before .indented .ensures), deep-left (c .before .before .indented .ensures))
 
--- src/lib.rt:2122:28
 ss-told-requires : (t : ℕ) → ss-lts.Need-told-requires (
   word-reads.Asked,
   word-reads.Learnt,
@@ -24419,7 +23349,6 @@ ss-told-requires : (t : ℕ) → ss-lts.Need-told-requires (
 ) (ss-at t) ss.Post
 ss-told-requires t c κs = search needs
 
--- src/lib.rt:2122:22
 ss-enum-known-s1 : (t : ℕ) → ss-lts.Need-enum-known-s1 (
   word-reads.Asked,
   word-reads.Learnt,
@@ -24436,7 +23365,6 @@ ss-enum-known-s1 : (t : ℕ) → ss-lts.Need-enum-known-s1 (
 ) (ss-at t) ss.Post
 ss-enum-known-s1 t c = search needs
 
--- src/lib.rt:2123:9
 ss-enum-told : (t : ℕ) → ss-lts.Need-enum-told (
   word-reads.Asked,
   word-reads.Learnt,
@@ -24453,7 +23381,6 @@ ss-enum-told : (t : ℕ) → ss-lts.Need-enum-told (
 ) (ss-at t) ss.Post
 ss-enum-told t c = search needs
 
--- src/lib.rt:2123:9
 ss-same-length : (t : ℕ) → ss-lts.Need-same-length (
   word-reads.Asked,
   word-reads.Learnt,
@@ -24470,7 +23397,6 @@ ss-same-length : (t : ℕ) → ss-lts.Need-same-length (
 ) (ss-at t) ss.Post
 ss-same-length t c = c .before .before .before .before .before .ds .kept .1 .1 .1 .1 .1 .1 .0 ∙ c .before .before .before .before .before .before .before .before .before .before .before .indent-deeper .kept .0 ∙ c .before .before .before .before .before .before .before .before .before .before .before .before .before .before .before .before .word .kept .1 .1 .0
 
--- src/lib.rt:2123:9
 ss-returns : (t : ℕ) → ss-lts.Need-returns (
   word-reads.Asked,
   word-reads.Learnt,
@@ -24488,7 +23414,6 @@ ss-returns : (t : ℕ) → ss-lts.Need-returns (
 unfolding StrExp.str-exp Helpers.with-extra-blank Helpers.indent-deeper Helpers.deepen
 ss-returns t c = record { is = then-sure (c .before .before .before .before .before .before .before .before .before .before .before .before .before .before .before .before .word .ensures) (then-both (c .before .before .before .before .before .before .before .before .before .before .before .indent-deeper .ensures _) (then-stop (along (c .before .before .before .before .before .before .before .before .indented .ensures) (c .before .before .before .before .before .ds .ensures)) (c .before .before .told .ensures) (c .enum-told .given .1))) }
 
--- src/lib.rt:2125:5
 ss-line-requires : (t : ℕ) → ss-lts.Need-line-requires (
   word-reads.Asked,
   word-reads.Learnt,
@@ -24505,7 +23430,6 @@ ss-line-requires : (t : ℕ) → ss-lts.Need-line-requires (
 ) (ss-at t) ss.Post
 ss-line-requires t c κs = search needs
 
--- src/lib.rt:2126:5
 ss-word-requires-2 : (t : ℕ) → ss-lts.Need-word-requires-2 (
   word-reads.Asked,
   word-reads.Learnt,
@@ -24522,7 +23446,6 @@ ss-word-requires-2 : (t : ℕ) → ss-lts.Need-word-requires-2 (
 ) (ss-at t) ss.Post
 ss-word-requires-2 t c κs = search needs
 
--- src/lib.rt:2098:1
 ss-same-length-2 : (t : ℕ) → ss-lts.Need-same-length-2 (
   word-reads.Asked,
   word-reads.Learnt,
@@ -24539,7 +23462,6 @@ ss-same-length-2 : (t : ℕ) → ss-lts.Need-same-length-2 (
 ) (ss-at t) ss.Post
 ss-same-length-2 t c = c .before .before .word2 .kept .1 .1 .0 ∙ c .before .before .before .before .before .before .before .line .kept .1 .1 .0 ∙ c .before .before .before .before .before .before .before .before .before .before .before .before .before .before .before .before .ds .kept .1 .1 .1 .1 .1 .1 .0 ∙ c .before .before .before .before .before .before .before .before .before .before .before .before .before .before .before .before .before .before .before .before .before .before .indent-deeper .kept .0 ∙ c .before .before .before .before .before .before .before .before .before .before .before .before .before .before .before .before .before .before .before .before .before .before .before .before .before .before .before .word .kept .1 .1 .0
 
--- src/lib.rt:2098:1
 ss-returns-2 : (t : ℕ) → ss-lts.Need-returns-2 (
   word-reads.Asked,
   word-reads.Learnt,
@@ -24557,7 +23479,6 @@ ss-returns-2 : (t : ℕ) → ss-lts.Need-returns-2 (
 unfolding StrExp.str-exp Helpers.with-extra-blank Helpers.indent-deeper Helpers.deepen
 ss-returns-2 t c = record { is = then-sure (c .before .before .before .before .before .before .before .before .before .before .before .before .before .before .before .before .before .before .before .before .before .before .before .before .before .before .before .word .ensures) (then-both (c .before .before .before .before .before .before .before .before .before .before .before .before .before .before .before .before .before .before .before .before .before .before .indent-deeper .ensures _) (then-done (along (c .before .before .before .before .before .before .before .before .before .before .before .before .before .before .before .before .before .before .before .indented .ensures) (c .before .before .before .before .before .before .before .before .before .before .before .before .before .before .before .before .ds .ensures)) (c .before .before .before .before .before .before .before .before .before .before .before .before .before .told .ensures) (c .before .before .before .before .before .before .before .before .before .before .before .s1 .given .1) (then-both (c .before .before .before .before .before .before .before .line .ensures) (last-sure (c .before .before .word2 .ensures))))) }
 
--- src/lib.rt:2077:9
 str-stop-requires : (t : ℕ) → str-lts.Need-stop-requires (
   stop-reads.Asked,
   stop-reads.Learnt,
@@ -24576,7 +23497,6 @@ str-stop-requires : (t : ℕ) → str-lts.Need-stop-requires (
 ) (str-at t) str.Post
 str-stop-requires t c κs = search needs
 
--- src/lib.rt:2077:9
 str-returns : (t : ℕ) → str-lts.Need-returns (
   stop-reads.Asked,
   stop-reads.Learnt,
@@ -24596,7 +23516,6 @@ str-returns : (t : ℕ) → str-lts.Need-returns (
 unfolding StrExp.str-exps StrExp.str-exp
 str-returns t c = record { is = str-zero _ _ (c .before .if1 .taken) (c .stop .ensures) }
 
--- src/lib.rt:2079:26
 str-form-requires : (t : ℕ) → str-lts.Need-form-requires (
   stop-reads.Asked,
   stop-reads.Learnt,
@@ -24615,7 +23534,6 @@ str-form-requires : (t : ℕ) → str-lts.Need-form-requires (
 ) (str-at t) str.Post
 str-form-requires t c κs = search needs
 
--- src/lib.rt:2079:18
 str-enum-known-k : (t : ℕ) → str-lts.Need-enum-known-k (
   stop-reads.Asked,
   stop-reads.Learnt,
@@ -24634,7 +23552,6 @@ str-enum-known-k : (t : ℕ) → str-lts.Need-enum-known-k (
 ) (str-at t) str.Post
 str-enum-known-k t c = search needs
 
--- src/lib.rt:2080:9
 str-enum-told : (t : ℕ) → str-lts.Need-enum-told (
   stop-reads.Asked,
   stop-reads.Learnt,
@@ -24653,7 +23570,6 @@ str-enum-told : (t : ℕ) → str-lts.Need-enum-told (
 ) (str-at t) str.Post
 str-enum-told t c = search needs
 
--- src/lib.rt:2080:9
 str-stop-requires-2 : (t : ℕ) → str-lts.Need-stop-requires-2 (
   stop-reads.Asked,
   stop-reads.Learnt,
@@ -24672,7 +23588,6 @@ str-stop-requires-2 : (t : ℕ) → str-lts.Need-stop-requires-2 (
 ) (str-at t) str.Post
 str-stop-requires-2 t c κs = search needs
 
--- src/lib.rt:2080:9
 str-returns-2 : (t : ℕ) → str-lts.Need-returns-2 (
   stop-reads.Asked,
   stop-reads.Learnt,
@@ -24692,7 +23607,6 @@ str-returns-2 : (t : ℕ) → str-lts.Need-returns-2 (
 unfolding StrExp.str-exps StrExp.str-exp
 str-returns-2 t c = record { is = str-form _ _ (c .before .before .before .before .if1 .left) (form-not (c .stop2 .ensures) (c .before .before .before .form .ensures) (c .before .enum-told .given .1)) }
 
--- src/lib.rt:2085:15
 str-sub-t18 : (t : ℕ) → str-lts.Need-sub-t18 (
   stop-reads.Asked,
   stop-reads.Learnt,
@@ -24711,7 +23625,6 @@ str-sub-t18 : (t : ℕ) → str-lts.Need-sub-t18 (
 ) (str-at t) str.Post
 str-sub-t18 t c = search needs
 
--- src/lib.rt:2088:14
 str-ss-requires : (t : ℕ) → str-lts.Need-ss-requires (
   stop-reads.Asked,
   stop-reads.Learnt,
@@ -24730,7 +23643,6 @@ str-ss-requires : (t : ℕ) → str-lts.Need-ss-requires (
 ) (str-at t) str.Post
 str-ss-requires t c κs = omega (arith, c .before .before .before .before .before .before .before .before .before .before .before .before .before .before .pre .0, c .before .before .before .before .before .before .before .before .before .before .before .before .before .before .pre .1, c .before .before .before .before .before .before .before .if1 .left)
 
--- src/lib.rt:2089:14
 str-path-requires : (t : ℕ) → str-lts.Need-path-requires (
   stop-reads.Asked,
   stop-reads.Learnt,
@@ -24749,7 +23661,6 @@ str-path-requires : (t : ℕ) → str-lts.Need-path-requires (
 ) (str-at t) str.Post
 str-path-requires t c κs = search needs
 
--- src/lib.rt:2090:14
 str-an-requires : (t : ℕ) → str-lts.Need-an-requires (
   stop-reads.Asked,
   stop-reads.Learnt,
@@ -24768,7 +23679,6 @@ str-an-requires : (t : ℕ) → str-lts.Need-an-requires (
 ) (str-at t) str.Post
 str-an-requires t c κs = omega (arith, c .before .before .before .before .before .before .before .before .before .before .before .before .before .before .pre .0, c .before .before .before .before .before .before .before .before .before .before .before .before .before .before .pre .1, c .before .before .before .before .before .before .before .if1 .left)
 
--- src/lib.rt:2091:14
 str-sp-requires : (t : ℕ) → str-lts.Need-sp-requires (
   stop-reads.Asked,
   stop-reads.Learnt,
@@ -24787,7 +23697,6 @@ str-sp-requires : (t : ℕ) → str-lts.Need-sp-requires (
 ) (str-at t) str.Post
 str-sp-requires t c κs = omega (arith, c .before .before .before .before .before .before .before .before .before .before .before .before .before .before .pre .0, c .before .before .before .before .before .before .before .before .before .before .before .before .before .before .pre .1, c .before .before .before .before .before .before .before .if1 .left)
 
--- src/lib.rt:2092:14
 str-sl-requires : (t : ℕ) → str-lts.Need-sl-requires (
   stop-reads.Asked,
   stop-reads.Learnt,
@@ -24806,7 +23715,6 @@ str-sl-requires : (t : ℕ) → str-lts.Need-sl-requires (
 ) (str-at t) str.Post
 str-sl-requires t c κs = omega (arith, c .before .before .before .before .before .before .before .before .before .before .before .before .before .before .pre .0, c .before .before .before .before .before .before .before .before .before .before .before .before .before .before .pre .1, c .before .before .before .before .before .before .before .if1 .left)
 
--- src/lib.rt:2093:14
 str-stop-requires-3 : (t : ℕ) → str-lts.Need-stop-requires-3 (
   stop-reads.Asked,
   stop-reads.Learnt,
@@ -24825,7 +23733,6 @@ str-stop-requires-3 : (t : ℕ) → str-lts.Need-stop-requires-3 (
 ) (str-at t) str.Post
 str-stop-requires-3 t c κs = search needs
 
--- src/lib.rt:2060:1
 str-same-length : (t : ℕ) → str-lts.Need-same-length (
   stop-reads.Asked,
   stop-reads.Learnt,
@@ -24844,7 +23751,6 @@ str-same-length : (t : ℕ) → str-lts.Need-same-length (
 ) (str-at t) str.Post
 str-same-length t c = c .before .before .ss .kept .1 .1 .1 .1 .1 .1 .0
 
--- src/lib.rt:2060:1
 str-returns-3 : (t : ℕ) → str-lts.Need-returns-3 (
   stop-reads.Asked,
   stop-reads.Learnt,
@@ -24864,7 +23770,6 @@ str-returns-3 : (t : ℕ) → str-lts.Need-returns-3 (
 unfolding StrExp.str-exps StrExp.str-exp
 str-returns-3 t c = record { is = str-form _ _ (c .before .before .before .before .before .before .before .before .before .before .if1 .left) (form-key (c .before .before .before .before .before .before .before .before .before .form .ensures) (c .before .before .before .before .before .before .before .k .given .1) (c .before .before .before .before .before .match2 .keys1) (c .before .before .ss .ensures .is)) }
 
--- src/lib.rt:2060:1
 str-same-length-2 : (t : ℕ) → str-lts.Need-same-length-2 (
   stop-reads.Asked,
   stop-reads.Learnt,
@@ -24883,7 +23788,6 @@ str-same-length-2 : (t : ℕ) → str-lts.Need-same-length-2 (
 ) (str-at t) str.Post
 str-same-length-2 t c = c .before .before .path .kept .1 .1 .1 .1 .1 .0
 
--- src/lib.rt:2060:1
 str-returns-4 : (t : ℕ) → str-lts.Need-returns-4 (
   stop-reads.Asked,
   stop-reads.Learnt,
@@ -24903,7 +23807,6 @@ str-returns-4 : (t : ℕ) → str-lts.Need-returns-4 (
 unfolding StrExp.str-exps StrExp.str-exp
 str-returns-4 t c = record { is = str-form _ _ (c .before .before .before .before .before .before .before .before .before .before .if1 .left) (form-key (c .before .before .before .before .before .before .before .before .before .form .ensures) (c .before .before .before .before .before .before .before .k .given .1) (c .before .before .before .before .before .match2 .keys2) (plain (c .before .before .path .ensures))) }
 
--- src/lib.rt:2060:1
 str-same-length-3 : (t : ℕ) → str-lts.Need-same-length-3 (
   stop-reads.Asked,
   stop-reads.Learnt,
@@ -24922,7 +23825,6 @@ str-same-length-3 : (t : ℕ) → str-lts.Need-same-length-3 (
 ) (str-at t) str.Post
 str-same-length-3 t c = c .before .before .an .kept .1 .1 .1 .1 .1 .1 .0
 
--- src/lib.rt:2060:1
 str-returns-5 : (t : ℕ) → str-lts.Need-returns-5 (
   stop-reads.Asked,
   stop-reads.Learnt,
@@ -24942,7 +23844,6 @@ str-returns-5 : (t : ℕ) → str-lts.Need-returns-5 (
 unfolding StrExp.str-exps StrExp.str-exp
 str-returns-5 t c = record { is = str-form _ _ (c .before .before .before .before .before .before .before .before .before .before .if1 .left) (form-key (c .before .before .before .before .before .before .before .before .before .form .ensures) (c .before .before .before .before .before .before .before .k .given .1) (c .before .before .before .before .before .match2 .keys3) (c .before .before .an .ensures .is)) }
 
--- src/lib.rt:2060:1
 str-same-length-4 : (t : ℕ) → str-lts.Need-same-length-4 (
   stop-reads.Asked,
   stop-reads.Learnt,
@@ -24961,7 +23862,6 @@ str-same-length-4 : (t : ℕ) → str-lts.Need-same-length-4 (
 ) (str-at t) str.Post
 str-same-length-4 t c = c .before .before .sp .kept .1 .1 .1 .1 .1 .1 .0
 
--- src/lib.rt:2060:1
 str-returns-6 : (t : ℕ) → str-lts.Need-returns-6 (
   stop-reads.Asked,
   stop-reads.Learnt,
@@ -24981,7 +23881,6 @@ str-returns-6 : (t : ℕ) → str-lts.Need-returns-6 (
 unfolding StrExp.str-exps StrExp.str-exp
 str-returns-6 t c = record { is = str-form _ _ (c .before .before .before .before .before .before .before .before .before .before .if1 .left) (form-key (c .before .before .before .before .before .before .before .before .before .form .ensures) (c .before .before .before .before .before .before .before .k .given .1) (c .before .before .before .before .before .match2 .keys4) (c .before .before .sp .ensures .is)) }
 
--- src/lib.rt:2060:1
 str-same-length-5 : (t : ℕ) → str-lts.Need-same-length-5 (
   stop-reads.Asked,
   stop-reads.Learnt,
@@ -25000,7 +23899,6 @@ str-same-length-5 : (t : ℕ) → str-lts.Need-same-length-5 (
 ) (str-at t) str.Post
 str-same-length-5 t c = c .before .before .sl .kept .1 .1 .1 .1 .1 .1 .0
 
--- src/lib.rt:2060:1
 str-returns-7 : (t : ℕ) → str-lts.Need-returns-7 (
   stop-reads.Asked,
   stop-reads.Learnt,
@@ -25020,7 +23918,6 @@ str-returns-7 : (t : ℕ) → str-lts.Need-returns-7 (
 unfolding StrExp.str-exps StrExp.str-exp
 str-returns-7 t c = record { is = str-form _ _ (c .before .before .before .before .before .before .before .before .before .before .if1 .left) (form-key (c .before .before .before .before .before .before .before .before .before .form .ensures) (c .before .before .before .before .before .before .before .k .given .1) (c .before .before .before .before .before .match2 .keys5) (c .before .before .sl .ensures .is)) }
 
--- src/lib.rt:2060:1
 str-returns-8 : (t : ℕ) → str-lts.Need-returns-8 (
   stop-reads.Asked,
   stop-reads.Learnt,
@@ -25040,7 +23937,6 @@ str-returns-8 : (t : ℕ) → str-lts.Need-returns-8 (
 unfolding StrExp.str-exps StrExp.str-exp
 str-returns-8 t c = record { is = str-form _ _ (c .before .before .before .before .before .before .if1 .left) (by-same (form-is (c .before .before .before .before .before .form .ensures) (c .before .before .before .k .given .1)) (beyond (StrExp.str-exps (walks (c .before .before .before .before .before .before .before .before .before .before .before .before .before .args .cfg .left - 1)) (cfgOf (c .before .before .before .before .before .before .before .before .before .before .before .before .before .args .cfg))) (c .before .before .before .k .given .0 .0) 5 refl (past (past (past (past (past zero-le (c .before .match2 .rest .0 .0 .0 .0 .1)) (c .before .match2 .rest .0 .0 .0 .1)) (c .before .match2 .rest .0 .0 .1)) (c .before .match2 .rest .0 .1)) (c .before .match2 .rest .1)) (c .stop3 .ensures))) }
 
--- src/lib.rt:2169:9
 ta-group-requires : (t : ℕ) → ta-lts.Need-group-requires (
   group-reads.Asked,
   group-reads.Learnt,
@@ -25055,7 +23951,6 @@ ta-group-requires : (t : ℕ) → ta-lts.Need-group-requires (
 ) (ta-at t) ta.Post
 ta-group-requires t c κs = search needs
 
--- src/lib.rt:2170:28
 ta-told-requires : (t : ℕ) → ta-lts.Need-told-requires (
   group-reads.Asked,
   group-reads.Learnt,
@@ -25070,7 +23965,6 @@ ta-told-requires : (t : ℕ) → ta-lts.Need-told-requires (
 ) (ta-at t) ta.Post
 ta-told-requires t c κs = search needs
 
--- src/lib.rt:2170:22
 ta-enum-known-s1 : (t : ℕ) → ta-lts.Need-enum-known-s1 (
   group-reads.Asked,
   group-reads.Learnt,
@@ -25085,7 +23979,6 @@ ta-enum-known-s1 : (t : ℕ) → ta-lts.Need-enum-known-s1 (
 ) (ta-at t) ta.Post
 ta-enum-known-s1 t c = search needs
 
--- src/lib.rt:2171:9
 ta-enum-told : (t : ℕ) → ta-lts.Need-enum-told (
   group-reads.Asked,
   group-reads.Learnt,
@@ -25100,7 +23993,6 @@ ta-enum-told : (t : ℕ) → ta-lts.Need-enum-told (
 ) (ta-at t) ta.Post
 ta-enum-told t c = search needs
 
--- src/lib.rt:2171:9
 ta-returns : (t : ℕ) → ta-lts.Need-returns (
   group-reads.Asked,
   group-reads.Learnt,
@@ -25116,7 +24008,6 @@ ta-returns : (t : ℕ) → ta-lts.Need-returns (
 unfolding SigExp.ascription-tail
 ta-returns t c = record { is = group-not (c .before .before .before .group .ensures) (c .before .before .told .ensures) (c .enum-told .given .1) }
 
--- src/lib.rt:2173:5
 ta-word-requires : (t : ℕ) → ta-lts.Need-word-requires (
   group-reads.Asked,
   group-reads.Learnt,
@@ -25131,7 +24022,6 @@ ta-word-requires : (t : ℕ) → ta-lts.Need-word-requires (
 ) (ta-at t) ta.Post
 ta-word-requires t c κs = search needs
 
--- src/lib.rt:2174:9
 ta-text-of-requires : (t : ℕ) → ta-lts.Need-text-of-requires (
   group-reads.Asked,
   group-reads.Learnt,
@@ -25146,7 +24036,6 @@ ta-text-of-requires : (t : ℕ) → ta-lts.Need-text-of-requires (
 ) (ta-at t) ta.Post
 ta-text-of-requires t c κs = search needs
 
--- src/lib.rt:2175:28
 ta-told-requires-2 : (t : ℕ) → ta-lts.Need-told-requires-2 (
   group-reads.Asked,
   group-reads.Learnt,
@@ -25161,7 +24050,6 @@ ta-told-requires-2 : (t : ℕ) → ta-lts.Need-told-requires-2 (
 ) (ta-at t) ta.Post
 ta-told-requires-2 t c κs = search needs
 
--- src/lib.rt:2175:22
 ta-enum-known-s2 : (t : ℕ) → ta-lts.Need-enum-known-s2 (
   group-reads.Asked,
   group-reads.Learnt,
@@ -25176,7 +24064,6 @@ ta-enum-known-s2 : (t : ℕ) → ta-lts.Need-enum-known-s2 (
 ) (ta-at t) ta.Post
 ta-enum-known-s2 t c = search needs
 
--- src/lib.rt:2176:9
 ta-enum-told-2 : (t : ℕ) → ta-lts.Need-enum-told-2 (
   group-reads.Asked,
   group-reads.Learnt,
@@ -25191,7 +24078,6 @@ ta-enum-told-2 : (t : ℕ) → ta-lts.Need-enum-told-2 (
 ) (ta-at t) ta.Post
 ta-enum-told-2 t c = search needs
 
--- src/lib.rt:2176:9
 ta-same-length : (t : ℕ) → ta-lts.Need-same-length (
   group-reads.Asked,
   group-reads.Learnt,
@@ -25206,7 +24092,6 @@ ta-same-length : (t : ℕ) → ta-lts.Need-same-length (
 ) (ta-at t) ta.Post
 ta-same-length t c = c .before .before .before .before .before .text-of .kept .1 .1 .1 .1 .1 .0 ∙ c .before .before .before .before .before .before .before .before .before .before .word .kept .1 .1 .0
 
--- src/lib.rt:2176:9
 ta-returns-2 : (t : ℕ) → ta-lts.Need-returns-2 (
   group-reads.Asked,
   group-reads.Learnt,
@@ -25222,7 +24107,6 @@ ta-returns-2 : (t : ℕ) → ta-lts.Need-returns-2 (
 unfolding SigExp.ascription-tail
 ta-returns-2 t c = record { is = by-same (group-is (c .before .before .before .before .before .before .before .before .before .before .before .before .before .before .before .before .before .group .ensures) (c .before .before .before .before .before .before .before .before .before .before .before .before .before .before .before .before .told .ensures) (c .before .before .before .before .before .before .before .before .before .before .before .before .before .before .s1 .given .1)) (then-sure (c .before .before .before .before .before .before .before .before .before .before .word .ensures) (then-stop (plain (c .before .before .before .before .before .text-of .ensures)) (c .before .before .told2 .ensures) (c .enum-told2 .given .1))) }
 
--- src/lib.rt:2178:5
 ta-word-requires-2 : (t : ℕ) → ta-lts.Need-word-requires-2 (
   group-reads.Asked,
   group-reads.Learnt,
@@ -25237,7 +24121,6 @@ ta-word-requires-2 : (t : ℕ) → ta-lts.Need-word-requires-2 (
 ) (ta-at t) ta.Post
 ta-word-requires-2 t c κs = search needs
 
--- src/lib.rt:2179:5
 ta-sig-requires : (t : ℕ) → ta-lts.Need-sig-requires (
   group-reads.Asked,
   group-reads.Learnt,
@@ -25252,7 +24135,6 @@ ta-sig-requires : (t : ℕ) → ta-lts.Need-sig-requires (
 ) (ta-at t) ta.Post
 ta-sig-requires t c κs = omega (arith, c .before .before .before .before .before .before .before .before .before .before .before .before .before .before .before .before .before .before .before .before .before .before .before .before .before .before .before .before .before .before .before .before .pre .0, c .before .before .before .before .before .before .before .before .before .before .before .before .before .before .before .before .before .before .before .before .before .before .before .before .before .before .before .before .before .before .before .before .pre .1)
 
--- src/lib.rt:2154:1
 ta-same-length-2 : (t : ℕ) → ta-lts.Need-same-length-2 (
   group-reads.Asked,
   group-reads.Learnt,
@@ -25267,7 +24149,6 @@ ta-same-length-2 : (t : ℕ) → ta-lts.Need-same-length-2 (
 ) (ta-at t) ta.Post
 ta-same-length-2 t c = c .before .before .sig .kept .1 .1 .1 .1 .1 .1 .0 ∙ c .before .before .before .before .before .before .before .word2 .kept .1 .1 .0 ∙ c .before .before .before .before .before .before .before .before .before .before .before .before .before .before .before .before .text-of .kept .1 .1 .1 .1 .1 .0 ∙ c .before .before .before .before .before .before .before .before .before .before .before .before .before .before .before .before .before .before .before .before .before .word .kept .1 .1 .0
 
--- src/lib.rt:2154:1
 ta-returns-3 : (t : ℕ) → ta-lts.Need-returns-3 (
   group-reads.Asked,
   group-reads.Learnt,
@@ -25283,7 +24164,6 @@ ta-returns-3 : (t : ℕ) → ta-lts.Need-returns-3 (
 unfolding SigExp.ascription-tail
 ta-returns-3 t c = record { is = by-same (group-is (c .before .before .before .before .before .before .before .before .before .before .before .before .before .before .before .before .before .before .before .before .before .before .before .before .before .before .before .before .group .ensures) (c .before .before .before .before .before .before .before .before .before .before .before .before .before .before .before .before .before .before .before .before .before .before .before .before .before .before .before .told .ensures) (c .before .before .before .before .before .before .before .before .before .before .before .before .before .before .before .before .before .before .before .before .before .before .before .before .before .s1 .given .1)) (then-sure (c .before .before .before .before .before .before .before .before .before .before .before .before .before .before .before .before .before .before .before .before .before .word .ensures) (then-done (plain (c .before .before .before .before .before .before .before .before .before .before .before .before .before .before .before .before .text-of .ensures)) (c .before .before .before .before .before .before .before .before .before .before .before .before .before .told2 .ensures) (c .before .before .before .before .before .before .before .before .before .before .before .s2 .given .1) (then-sure (c .before .before .before .before .before .before .before .word2 .ensures) (c .before .before .sig .ensures .is)))) }
 
--- src/lib.rt:592:9
 ty-exp-requires : (t : ℕ) → ty-lts.Need-exp-requires (
   exp-below t,
   exp.Post,
@@ -25296,7 +24176,6 @@ ty-exp-requires : (t : ℕ) → ty-lts.Need-exp-requires (
 ) (ty-at t) ty.Post
 ty-exp-requires t c κs = omega (arith, c .before .before .before .before .before .before .before .before .pre .0, c .before .before .before .before .before .before .before .before .pre .1)
 
--- src/lib.rt:593:28
 ty-told-requires : (t : ℕ) → ty-lts.Need-told-requires (
   exp-below t,
   exp.Post,
@@ -25309,7 +24188,6 @@ ty-told-requires : (t : ℕ) → ty-lts.Need-told-requires (
 ) (ty-at t) ty.Post
 ty-told-requires t c κs = search needs
 
--- src/lib.rt:593:22
 ty-enum-known-s1 : (t : ℕ) → ty-lts.Need-enum-known-s1 (
   exp-below t,
   exp.Post,
@@ -25322,7 +24200,6 @@ ty-enum-known-s1 : (t : ℕ) → ty-lts.Need-enum-known-s1 (
 ) (ty-at t) ty.Post
 ty-enum-known-s1 t c = search needs
 
--- src/lib.rt:594:9
 ty-enum-told : (t : ℕ) → ty-lts.Need-enum-told (
   exp-below t,
   exp.Post,
@@ -25335,7 +24212,6 @@ ty-enum-told : (t : ℕ) → ty-lts.Need-enum-told (
 ) (ty-at t) ty.Post
 ty-enum-told t c = search needs
 
--- src/lib.rt:594:9
 ty-same-length : (t : ℕ) → ty-lts.Need-same-length (
   exp-below t,
   exp.Post,
@@ -25348,7 +24224,6 @@ ty-same-length : (t : ℕ) → ty-lts.Need-same-length (
 ) (ty-at t) ty.Post
 ty-same-length t c = c .before .before .before .before .before .exp .kept .1 .1 .1 .1 .1 .1 .0
 
--- src/lib.rt:594:9
 ty-returns : (t : ℕ) → ty-lts.Need-returns (
   exp-below t,
   exp.Post,
@@ -25362,7 +24237,6 @@ ty-returns : (t : ℕ) → ty-lts.Need-returns (
 unfolding Exp.exp
 ty-returns t c = record { is = then-stop (c .before .before .before .before .before .exp .ensures .is) (c .before .before .told .ensures) (c .enum-told .given .1) }
 
--- src/lib.rt:596:5
 ty-word-requires : (t : ℕ) → ty-lts.Need-word-requires (
   exp-below t,
   exp.Post,
@@ -25375,7 +24249,6 @@ ty-word-requires : (t : ℕ) → ty-lts.Need-word-requires (
 ) (ty-at t) ty.Post
 ty-word-requires t c κs = search needs
 
--- src/lib.rt:597:5
 ty-get-ty-requires : (t : ℕ) → ty-lts.Need-get-ty-requires (
   exp-below t,
   exp.Post,
@@ -25388,7 +24261,6 @@ ty-get-ty-requires : (t : ℕ) → ty-lts.Need-get-ty-requires (
 ) (ty-at t) ty.Post
 ty-get-ty-requires t c κs = search needs
 
--- src/lib.rt:577:1
 ty-same-length-2 : (t : ℕ) → ty-lts.Need-same-length-2 (
   exp-below t,
   exp.Post,
@@ -25401,7 +24273,6 @@ ty-same-length-2 : (t : ℕ) → ty-lts.Need-same-length-2 (
 ) (ty-at t) ty.Post
 ty-same-length-2 t c = c .before .before .get-ty .kept .1 .1 .1 .1 .1 .0 ∙ c .before .before .before .before .before .before .before .word .kept .1 .1 .0 ∙ c .before .before .before .before .before .before .before .before .before .before .before .before .before .before .before .before .exp .kept .1 .1 .1 .1 .1 .1 .0
 
--- src/lib.rt:577:1
 ty-returns-2 : (t : ℕ) → ty-lts.Need-returns-2 (
   exp-below t,
   exp.Post,
@@ -25415,7 +24286,6 @@ ty-returns-2 : (t : ℕ) → ty-lts.Need-returns-2 (
 unfolding Exp.exp
 ty-returns-2 t c = record { is = then-done (c .before .before .before .before .before .before .before .before .before .before .before .before .before .before .before .before .exp .ensures .is) (c .before .before .before .before .before .before .before .before .before .before .before .before .before .told .ensures) (c .before .before .before .before .before .before .before .before .before .before .before .s1 .given .1) (then-sure (c .before .before .before .before .before .before .before .word .ensures) (plain (c .before .before .get-ty .ensures))) }
 
--- src/lib.rt:1381:9
 vb-group-requires : (t : ℕ) → vb-lts.Need-group-requires (
   group-reads.Asked,
   group-reads.Learnt,
@@ -25430,7 +24300,6 @@ vb-group-requires : (t : ℕ) → vb-lts.Need-group-requires (
 ) (vb-at t) vb.Post
 vb-group-requires t c κs = search needs
 
--- src/lib.rt:1382:28
 vb-told-requires : (t : ℕ) → vb-lts.Need-told-requires (
   group-reads.Asked,
   group-reads.Learnt,
@@ -25445,7 +24314,6 @@ vb-told-requires : (t : ℕ) → vb-lts.Need-told-requires (
 ) (vb-at t) vb.Post
 vb-told-requires t c κs = search needs
 
--- src/lib.rt:1382:22
 vb-enum-known-s1 : (t : ℕ) → vb-lts.Need-enum-known-s1 (
   group-reads.Asked,
   group-reads.Learnt,
@@ -25460,7 +24328,6 @@ vb-enum-known-s1 : (t : ℕ) → vb-lts.Need-enum-known-s1 (
 ) (vb-at t) vb.Post
 vb-enum-known-s1 t c = search needs
 
--- src/lib.rt:1383:9
 vb-enum-told : (t : ℕ) → vb-lts.Need-enum-told (
   group-reads.Asked,
   group-reads.Learnt,
@@ -25475,7 +24342,6 @@ vb-enum-told : (t : ℕ) → vb-lts.Need-enum-told (
 ) (vb-at t) vb.Post
 vb-enum-told t c = search needs
 
--- src/lib.rt:1383:9
 vb-returns : (t : ℕ) → vb-lts.Need-returns (
   group-reads.Asked,
   group-reads.Learnt,
@@ -25491,7 +24357,6 @@ vb-returns : (t : ℕ) → vb-lts.Need-returns (
 unfolding DecOne.val-bind
 vb-returns t c = record { is = group-not (c .before .before .before .group .ensures) (c .before .before .told .ensures) (c .enum-told .given .1) }
 
--- src/lib.rt:1385:9
 vb-word-if-requires : (t : ℕ) → vb-lts.Need-word-if-requires (
   group-reads.Asked,
   group-reads.Learnt,
@@ -25506,7 +24371,6 @@ vb-word-if-requires : (t : ℕ) → vb-lts.Need-word-if-requires (
 ) (vb-at t) vb.Post
 vb-word-if-requires t c κs = search needs
 
--- src/lib.rt:1386:28
 vb-told-requires-2 : (t : ℕ) → vb-lts.Need-told-requires-2 (
   group-reads.Asked,
   group-reads.Learnt,
@@ -25521,7 +24385,6 @@ vb-told-requires-2 : (t : ℕ) → vb-lts.Need-told-requires-2 (
 ) (vb-at t) vb.Post
 vb-told-requires-2 t c κs = search needs
 
--- src/lib.rt:1386:22
 vb-enum-known-s2 : (t : ℕ) → vb-lts.Need-enum-known-s2 (
   group-reads.Asked,
   group-reads.Learnt,
@@ -25536,7 +24399,6 @@ vb-enum-known-s2 : (t : ℕ) → vb-lts.Need-enum-known-s2 (
 ) (vb-at t) vb.Post
 vb-enum-known-s2 t c = search needs
 
--- src/lib.rt:1387:9
 vb-enum-told-2 : (t : ℕ) → vb-lts.Need-enum-told-2 (
   group-reads.Asked,
   group-reads.Learnt,
@@ -25551,7 +24413,6 @@ vb-enum-told-2 : (t : ℕ) → vb-lts.Need-enum-told-2 (
 ) (vb-at t) vb.Post
 vb-enum-told-2 t c = search needs
 
--- src/lib.rt:1387:9
 vb-same-length : (t : ℕ) → vb-lts.Need-same-length (
   group-reads.Asked,
   group-reads.Learnt,
@@ -25566,7 +24427,6 @@ vb-same-length : (t : ℕ) → vb-lts.Need-same-length (
 ) (vb-at t) vb.Post
 vb-same-length t c = c .before .before .before .before .before .word-if .kept .1 .1 .1 .1 .1 .0
 
--- src/lib.rt:1387:9
 vb-returns-2 : (t : ℕ) → vb-lts.Need-returns-2 (
   group-reads.Asked,
   group-reads.Learnt,
@@ -25582,7 +24442,6 @@ vb-returns-2 : (t : ℕ) → vb-lts.Need-returns-2 (
 unfolding DecOne.val-bind
 vb-returns-2 t c = record { is = by-same (group-is (c .before .before .before .before .before .before .before .before .before .before .before .before .group .ensures) (c .before .before .before .before .before .before .before .before .before .before .before .told .ensures) (c .before .before .before .before .before .before .before .before .before .s1 .given .1)) (then-stop (plain (c .before .before .before .before .before .word-if .ensures)) (c .before .before .told2 .ensures) (c .enum-told2 .given .1)) }
 
--- src/lib.rt:1389:9
 vb-get-pat-requires : (t : ℕ) → vb-lts.Need-get-pat-requires (
   group-reads.Asked,
   group-reads.Learnt,
@@ -25597,7 +24456,6 @@ vb-get-pat-requires : (t : ℕ) → vb-lts.Need-get-pat-requires (
 ) (vb-at t) vb.Post
 vb-get-pat-requires t c κs = search needs
 
--- src/lib.rt:1390:28
 vb-told-requires-3 : (t : ℕ) → vb-lts.Need-told-requires-3 (
   group-reads.Asked,
   group-reads.Learnt,
@@ -25612,7 +24470,6 @@ vb-told-requires-3 : (t : ℕ) → vb-lts.Need-told-requires-3 (
 ) (vb-at t) vb.Post
 vb-told-requires-3 t c κs = search needs
 
--- src/lib.rt:1390:22
 vb-enum-known-s3 : (t : ℕ) → vb-lts.Need-enum-known-s3 (
   group-reads.Asked,
   group-reads.Learnt,
@@ -25627,7 +24484,6 @@ vb-enum-known-s3 : (t : ℕ) → vb-lts.Need-enum-known-s3 (
 ) (vb-at t) vb.Post
 vb-enum-known-s3 t c = search needs
 
--- src/lib.rt:1391:9
 vb-enum-told-3 : (t : ℕ) → vb-lts.Need-enum-told-3 (
   group-reads.Asked,
   group-reads.Learnt,
@@ -25642,7 +24498,6 @@ vb-enum-told-3 : (t : ℕ) → vb-lts.Need-enum-told-3 (
 ) (vb-at t) vb.Post
 vb-enum-told-3 t c = search needs
 
--- src/lib.rt:1391:9
 vb-same-length-2 : (t : ℕ) → vb-lts.Need-same-length-2 (
   group-reads.Asked,
   group-reads.Learnt,
@@ -25657,7 +24512,6 @@ vb-same-length-2 : (t : ℕ) → vb-lts.Need-same-length-2 (
 ) (vb-at t) vb.Post
 vb-same-length-2 t c = c .before .before .before .before .before .get-pat .kept .1 .1 .1 .1 .1 .0 ∙ c .before .before .before .before .before .before .before .before .before .before .before .before .before .before .word-if .kept .1 .1 .1 .1 .1 .0
 
--- src/lib.rt:1391:9
 vb-returns-3 : (t : ℕ) → vb-lts.Need-returns-3 (
   group-reads.Asked,
   group-reads.Learnt,
@@ -25673,7 +24527,6 @@ vb-returns-3 : (t : ℕ) → vb-lts.Need-returns-3 (
 unfolding DecOne.val-bind
 vb-returns-3 t c = record { is = by-same (group-is (c .before .before .before .before .before .before .before .before .before .before .before .before .before .before .before .before .before .before .before .before .before .group .ensures) (c .before .before .before .before .before .before .before .before .before .before .before .before .before .before .before .before .before .before .before .before .told .ensures) (c .before .before .before .before .before .before .before .before .before .before .before .before .before .before .before .before .before .before .s1 .given .1)) (then-done (plain (c .before .before .before .before .before .before .before .before .before .before .before .before .before .before .word-if .ensures)) (c .before .before .before .before .before .before .before .before .before .before .before .told2 .ensures) (c .before .before .before .before .before .before .before .before .before .s2 .given .1) (then-stop (plain (c .before .before .before .before .before .get-pat .ensures)) (c .before .before .told3 .ensures) (c .enum-told3 .given .1))) }
 
--- src/lib.rt:1393:5
 vb-qb-requires : (t : ℕ) → vb-lts.Need-qb-requires (
   group-reads.Asked,
   group-reads.Learnt,
@@ -25688,7 +24541,6 @@ vb-qb-requires : (t : ℕ) → vb-lts.Need-qb-requires (
 ) (vb-at t) vb.Post
 vb-qb-requires t c κs = omega (arith, c .before .before .before .before .before .before .before .before .before .before .before .before .before .before .before .before .before .before .before .before .before .before .before .before .before .before .before .before .before .before .before .pre .0, c .before .before .before .before .before .before .before .before .before .before .before .before .before .before .before .before .before .before .before .before .before .before .before .before .before .before .before .before .before .before .before .pre .1)
 
--- src/lib.rt:1366:1
 vb-same-length-3 : (t : ℕ) → vb-lts.Need-same-length-3 (
   group-reads.Asked,
   group-reads.Learnt,
@@ -25703,7 +24555,6 @@ vb-same-length-3 : (t : ℕ) → vb-lts.Need-same-length-3 (
 ) (vb-at t) vb.Post
 vb-same-length-3 t c = c .before .before .qb .kept .1 .1 .1 .1 .1 .1 .0 ∙ c .before .before .before .before .before .before .before .before .before .before .before .get-pat .kept .1 .1 .1 .1 .1 .0 ∙ c .before .before .before .before .before .before .before .before .before .before .before .before .before .before .before .before .before .before .before .before .word-if .kept .1 .1 .1 .1 .1 .0
 
--- src/lib.rt:1366:1
 vb-returns-4 : (t : ℕ) → vb-lts.Need-returns-4 (
   group-reads.Asked,
   group-reads.Learnt,
@@ -25726,7 +24577,6 @@ vd-Inv-loop run text rec kinds starts lens out₀ mem₀ at cfg n s1 s₀ i₀ o
 abbrev vd-μ-loop : vd-lts.MeasureT-loop
 vd-μ-loop run text rec kinds starts lens out₀ mem₀ at cfg n s1 s₀ i₀ out mem s i = n - i
 
--- src/lib.rt:1347:5
 vd-word-requires : (t : ℕ) → vd-lts.Need-word-requires (
   word-reads.Asked,
   word-reads.Learnt,
@@ -25743,7 +24593,6 @@ vd-word-requires : (t : ℕ) → vd-lts.Need-word-requires (
 ) (vd-at t) vd.Post vd-Inv-loop vd-μ-loop
 vd-word-requires t c κs = search needs
 
--- src/lib.rt:1348:27
 vd-list-requires : (t : ℕ) → vd-lts.Need-list-requires (
   word-reads.Asked,
   word-reads.Learnt,
@@ -25760,7 +24609,6 @@ vd-list-requires : (t : ℕ) → vd-lts.Need-list-requires (
 ) (vd-at t) vd.Post vd-Inv-loop vd-μ-loop
 vd-list-requires t c κs = search needs
 
--- src/lib.rt:1348:18
 vd-enum-known-n : (t : ℕ) → vd-lts.Need-enum-known-n (
   word-reads.Asked,
   word-reads.Learnt,
@@ -25777,7 +24625,6 @@ vd-enum-known-n : (t : ℕ) → vd-lts.Need-enum-known-n (
 ) (vd-at t) vd.Post vd-Inv-loop vd-μ-loop
 vd-enum-known-n t c = search needs
 
--- src/lib.rt:1349:9
 vd-enum-told : (t : ℕ) → vd-lts.Need-enum-told (
   word-reads.Asked,
   word-reads.Learnt,
@@ -25794,7 +24641,6 @@ vd-enum-told : (t : ℕ) → vd-lts.Need-enum-told (
 ) (vd-at t) vd.Post vd-Inv-loop vd-μ-loop
 vd-enum-told t c = search needs
 
--- src/lib.rt:1349:9
 vd-stop-requires : (t : ℕ) → vd-lts.Need-stop-requires (
   word-reads.Asked,
   word-reads.Learnt,
@@ -25811,7 +24657,6 @@ vd-stop-requires : (t : ℕ) → vd-lts.Need-stop-requires (
 ) (vd-at t) vd.Post vd-Inv-loop vd-μ-loop
 vd-stop-requires t c κs = search needs
 
--- src/lib.rt:1349:9
 vd-same-length : (t : ℕ) → vd-lts.Need-same-length (
   word-reads.Asked,
   word-reads.Learnt,
@@ -25828,7 +24673,6 @@ vd-same-length : (t : ℕ) → vd-lts.Need-same-length (
 ) (vd-at t) vd.Post vd-Inv-loop vd-μ-loop
 vd-same-length t c = c .before .before .before .before .before .before .word .kept .1 .1 .0
 
--- src/lib.rt:1349:9
 vd-returns : (t : ℕ) → vd-lts.Need-returns (
   word-reads.Asked,
   word-reads.Learnt,
@@ -25846,7 +24690,6 @@ vd-returns : (t : ℕ) → vd-lts.Need-returns (
 unfolding DecOne.dec-one DecOne.val-binds Helpers.sep-with-lines
 vd-returns t c = record { is = then-sure (c .before .before .before .before .before .before .word .ensures) (list-not (c .stop .ensures) (c .before .before .before .list .ensures) (c .before .enum-told .given .1)) }
 
--- src/lib.rt:1353:5
 vd-loop-holds : (t : ℕ) → vd-lts.Need-loop-holds (
   word-reads.Asked,
   word-reads.Learnt,
@@ -25863,7 +24706,6 @@ vd-loop-holds : (t : ℕ) → vd-lts.Need-loop-holds (
 ) (vd-at t) vd.Post vd-Inv-loop vd-μ-loop
 vd-loop-holds t c = (omega arith, λ r m o h. h, refl)
 
--- src/lib.rt:1354:9
 vd-new-line-requires : (t : ℕ) → vd-lts.Need-new-line-requires (
   word-reads.Asked,
   word-reads.Learnt,
@@ -25880,7 +24722,6 @@ vd-new-line-requires : (t : ℕ) → vd-lts.Need-new-line-requires (
 ) (vd-at t) vd.Post vd-Inv-loop vd-μ-loop
 vd-new-line-requires t c κs = search needs
 
--- src/lib.rt:1355:13
 vd-vb-requires : (t : ℕ) → vd-lts.Need-vb-requires (
   word-reads.Asked,
   word-reads.Learnt,
@@ -25897,7 +24738,6 @@ vd-vb-requires : (t : ℕ) → vd-lts.Need-vb-requires (
 ) (vd-at t) vd.Post vd-Inv-loop vd-μ-loop
 vd-vb-requires t c κs = omega (arith, c .before .before .before .before .before .before .before .before .before .before .before .before .before .before .before .before .before .before .before .before .before .before .before .before .pre .0, c .before .before .before .before .before .before .before .before .before .before .before .before .before .before .before .before .before .before .before .before .before .before .before .before .pre .1)
 
--- src/lib.rt:1356:32
 vd-told-requires : (t : ℕ) → vd-lts.Need-told-requires (
   word-reads.Asked,
   word-reads.Learnt,
@@ -25914,7 +24754,6 @@ vd-told-requires : (t : ℕ) → vd-lts.Need-told-requires (
 ) (vd-at t) vd.Post vd-Inv-loop vd-μ-loop
 vd-told-requires t c κs = search needs
 
--- src/lib.rt:1356:26
 vd-enum-known-s2 : (t : ℕ) → vd-lts.Need-enum-known-s2 (
   word-reads.Asked,
   word-reads.Learnt,
@@ -25931,7 +24770,6 @@ vd-enum-known-s2 : (t : ℕ) → vd-lts.Need-enum-known-s2 (
 ) (vd-at t) vd.Post vd-Inv-loop vd-μ-loop
 vd-enum-known-s2 t c = search needs
 
--- src/lib.rt:1357:13
 vd-enum-told-2 : (t : ℕ) → vd-lts.Need-enum-told-2 (
   word-reads.Asked,
   word-reads.Learnt,
@@ -25948,7 +24786,6 @@ vd-enum-told-2 : (t : ℕ) → vd-lts.Need-enum-told-2 (
 ) (vd-at t) vd.Post vd-Inv-loop vd-μ-loop
 vd-enum-told-2 t c = search needs
 
--- src/lib.rt:1357:13
 vd-same-length-2 : (t : ℕ) → vd-lts.Need-same-length-2 (
   word-reads.Asked,
   word-reads.Learnt,
@@ -25965,7 +24802,6 @@ vd-same-length-2 : (t : ℕ) → vd-lts.Need-same-length-2 (
 ) (vd-at t) vd.Post vd-Inv-loop vd-μ-loop
 vd-same-length-2 t c = c .before .before .before .before .before .vb .kept .1 .1 .1 .1 .1 .1 .0 ∙ c .before .before .before .before .before .before .before .before .before .before .new-line .kept .1 .1 .0 ∙ c .before .before .before .before .before .before .before .before .before .before .before .before .before .before .loop .inv .2 ∙ c .before .before .before .before .before .before .before .before .before .before .before .before .before .before .before .before .before .before .before .before .before .word .kept .1 .1 .0
 
--- src/lib.rt:1357:13
 vd-returns-2 : (t : ℕ) → vd-lts.Need-returns-2 (
   word-reads.Asked,
   word-reads.Learnt,
@@ -25983,7 +24819,6 @@ vd-returns-2 : (t : ℕ) → vd-lts.Need-returns-2 (
 unfolding DecOne.dec-one DecOne.val-binds Helpers.sep-with-lines
 vd-returns-2 t c = record { is = then-sure (c .before .before .before .before .before .before .before .before .before .before .before .before .before .before .before .before .before .before .before .before .before .word .ensures) (by-same (list-is (c .before .before .before .before .before .before .before .before .before .before .before .before .before .before .before .before .before .before .list .ensures) (c .before .before .before .before .before .before .before .before .before .before .before .before .before .before .before .before .n .given .1)) (by-same (items-all _ _ _) (c .before .before .before .before .before .before .before .before .before .before .before .before .before .before .loop .inv .1 _ _ _ (from-more _ _ (c .before .before .before .before .before .before .before .before .before .before .before .before .before .loop-test .taken) (then-sure (c .before .before .before .before .before .before .before .before .before .before .new-line .ensures) (then-stop (c .before .before .before .before .before .vb .ensures .is) (c .before .before .told .ensures) (c .enum-told2 .given .1))))))) }
 
--- src/lib.rt:1360:9
 vd-add-i : (t : ℕ) → vd-lts.Need-add-i (
   word-reads.Asked,
   word-reads.Learnt,
@@ -26000,7 +24835,6 @@ vd-add-i : (t : ℕ) → vd-lts.Need-add-i (
 ) (vd-at t) vd.Post vd-Inv-loop vd-μ-loop
 vd-add-i t c = omega (arith, c .before .before .before .before .before .before .before .before .before .before .before .before .before .before .loop-test .taken, c .before .before .before .before .before .before .before .before .before .before .before .before .before .before .before .before .known-told)
 
--- src/lib.rt:1353:5
 vd-loop-less : (t : ℕ) → vd-lts.Need-loop-less (
   word-reads.Asked,
   word-reads.Learnt,
@@ -26017,7 +24851,6 @@ vd-loop-less : (t : ℕ) → vd-lts.Need-loop-less (
 ) (vd-at t) vd.Post vd-Inv-loop vd-μ-loop
 vd-loop-less t c = omega arith
 
--- src/lib.rt:1353:5
 vd-loop-again : (t : ℕ) → vd-lts.Need-loop-again (
   word-reads.Asked,
   word-reads.Learnt,
@@ -26035,7 +24868,6 @@ vd-loop-again : (t : ℕ) → vd-lts.Need-loop-again (
 unfolding DecOne.dec-one DecOne.val-binds Helpers.sep-with-lines
 vd-loop-again t c = (omega (arith, c .before .before .before .before .before .before .before .before .before .before .before .before .before .before .before .loop .inv .0), λ r m o h. c .before .before .before .before .before .before .before .before .before .before .before .before .before .before .before .loop .inv .1 r m o (from-more _ _ (c .before .before .before .before .before .before .before .before .before .before .before .before .before .before .loop-test .taken) (then-sure (c .before .before .before .before .before .before .before .before .before .before .before .new-line .ensures) (then-done (c .before .before .before .before .before .before .vb .ensures .is) (c .before .before .before .told .ensures) (c .before .s2 .given .1) h))), c .before .before .before .before .before .before .vb .kept .1 .1 .1 .1 .1 .1 .0 ∙ c .before .before .before .before .before .before .before .before .before .before .before .new-line .kept .1 .1 .0 ∙ c .before .before .before .before .before .before .before .before .before .before .before .before .before .before .before .loop .inv .2)
 
--- src/lib.rt:1332:1
 vd-same-length-3 : (t : ℕ) → vd-lts.Need-same-length-3 (
   word-reads.Asked,
   word-reads.Learnt,
@@ -26052,7 +24884,6 @@ vd-same-length-3 : (t : ℕ) → vd-lts.Need-same-length-3 (
 ) (vd-at t) vd.Post vd-Inv-loop vd-μ-loop
 vd-same-length-3 t c = c .before .loop .inv .2 ∙ c .before .before .before .before .before .before .before .before .word .kept .1 .1 .0
 
--- src/lib.rt:1332:1
 vd-returns-3 : (t : ℕ) → vd-lts.Need-returns-3 (
   word-reads.Asked,
   word-reads.Learnt,
@@ -26070,7 +24901,6 @@ vd-returns-3 : (t : ℕ) → vd-lts.Need-returns-3 (
 unfolding DecOne.dec-one DecOne.val-binds Helpers.sep-with-lines
 vd-returns-3 t c = record { is = then-sure (c .before .before .before .before .before .before .before .before .word .ensures) (by-same (list-is (c .before .before .before .before .before .list .ensures) (c .before .before .before .n .given .1)) (by-same (items-all _ _ _) (c .before .loop .inv .1 _ _ _ (from-none _ _ (c .loop-test .left))))) }
 
--- src/lib.rt:313:5
 ve-word-requires : (t : ℕ) → ve-lts.Need-word-requires (
   word-reads.Asked,
   word-reads.Learnt,
@@ -26083,7 +24913,6 @@ ve-word-requires : (t : ℕ) → ve-lts.Need-word-requires (
 ) (ve-at t) ve.Post
 ve-word-requires t c κs = search needs
 
--- src/lib.rt:314:9
 ve-group-requires : (t : ℕ) → ve-lts.Need-group-requires (
   word-reads.Asked,
   word-reads.Learnt,
@@ -26096,7 +24925,6 @@ ve-group-requires : (t : ℕ) → ve-lts.Need-group-requires (
 ) (ve-at t) ve.Post
 ve-group-requires t c κs = search needs
 
--- src/lib.rt:315:28
 ve-told-requires : (t : ℕ) → ve-lts.Need-told-requires (
   word-reads.Asked,
   word-reads.Learnt,
@@ -26109,7 +24937,6 @@ ve-told-requires : (t : ℕ) → ve-lts.Need-told-requires (
 ) (ve-at t) ve.Post
 ve-told-requires t c κs = search needs
 
--- src/lib.rt:315:22
 ve-enum-known-s1 : (t : ℕ) → ve-lts.Need-enum-known-s1 (
   word-reads.Asked,
   word-reads.Learnt,
@@ -26122,7 +24949,6 @@ ve-enum-known-s1 : (t : ℕ) → ve-lts.Need-enum-known-s1 (
 ) (ve-at t) ve.Post
 ve-enum-known-s1 t c = search needs
 
--- src/lib.rt:316:9
 ve-enum-told : (t : ℕ) → ve-lts.Need-enum-told (
   word-reads.Asked,
   word-reads.Learnt,
@@ -26135,7 +24961,6 @@ ve-enum-told : (t : ℕ) → ve-lts.Need-enum-told (
 ) (ve-at t) ve.Post
 ve-enum-told t c = search needs
 
--- src/lib.rt:316:9
 ve-same-length : (t : ℕ) → ve-lts.Need-same-length (
   word-reads.Asked,
   word-reads.Learnt,
@@ -26148,7 +24973,6 @@ ve-same-length : (t : ℕ) → ve-lts.Need-same-length (
 ) (ve-at t) ve.Post
 ve-same-length t c = c .before .before .before .before .before .before .word .kept .1 .1 .0
 
--- src/lib.rt:316:9
 ve-returns : (t : ℕ) → ve-lts.Need-returns (
   word-reads.Asked,
   word-reads.Learnt,
@@ -26162,7 +24986,6 @@ ve-returns : (t : ℕ) → ve-lts.Need-returns (
 unfolding Exp.exp
 ve-returns t c = record { is = then-sure (c .before .before .before .before .before .before .word .ensures) (then-stop (group-not (c .before .before .before .group .ensures) (c .before .before .told .ensures) (c .enum-told .given .1)) (c .before .before .told .ensures) (c .enum-told .given .1)) }
 
--- src/lib.rt:318:9
 ve-ar-requires : (t : ℕ) → ve-lts.Need-ar-requires (
   word-reads.Asked,
   word-reads.Learnt,
@@ -26175,7 +24998,6 @@ ve-ar-requires : (t : ℕ) → ve-lts.Need-ar-requires (
 ) (ve-at t) ve.Post
 ve-ar-requires t c κs = omega (arith, c .before .before .before .before .before .before .before .before .before .before .before .before .before .before .before .before .before .before .pre .0, c .before .before .before .before .before .before .before .before .before .before .before .before .before .before .before .before .before .before .pre .1)
 
--- src/lib.rt:319:28
 ve-told-requires-2 : (t : ℕ) → ve-lts.Need-told-requires-2 (
   word-reads.Asked,
   word-reads.Learnt,
@@ -26188,7 +25010,6 @@ ve-told-requires-2 : (t : ℕ) → ve-lts.Need-told-requires-2 (
 ) (ve-at t) ve.Post
 ve-told-requires-2 t c κs = search needs
 
--- src/lib.rt:319:22
 ve-enum-known-s2 : (t : ℕ) → ve-lts.Need-enum-known-s2 (
   word-reads.Asked,
   word-reads.Learnt,
@@ -26201,7 +25022,6 @@ ve-enum-known-s2 : (t : ℕ) → ve-lts.Need-enum-known-s2 (
 ) (ve-at t) ve.Post
 ve-enum-known-s2 t c = search needs
 
--- src/lib.rt:320:9
 ve-enum-told-2 : (t : ℕ) → ve-lts.Need-enum-told-2 (
   word-reads.Asked,
   word-reads.Learnt,
@@ -26214,7 +25034,6 @@ ve-enum-told-2 : (t : ℕ) → ve-lts.Need-enum-told-2 (
 ) (ve-at t) ve.Post
 ve-enum-told-2 t c = search needs
 
--- src/lib.rt:320:9
 ve-same-length-2 : (t : ℕ) → ve-lts.Need-same-length-2 (
   word-reads.Asked,
   word-reads.Learnt,
@@ -26227,7 +25046,6 @@ ve-same-length-2 : (t : ℕ) → ve-lts.Need-same-length-2 (
 ) (ve-at t) ve.Post
 ve-same-length-2 t c = c .before .before .before .before .before .ar .kept .1 .1 .1 .1 .1 .1 .0 ∙ c .before .before .before .before .before .before .before .before .before .before .before .before .before .before .before .word .kept .1 .1 .0
 
--- src/lib.rt:320:9
 ve-returns-2 : (t : ℕ) → ve-lts.Need-returns-2 (
   word-reads.Asked,
   word-reads.Learnt,
@@ -26241,7 +25059,6 @@ ve-returns-2 : (t : ℕ) → ve-lts.Need-returns-2 (
 unfolding Exp.exp
 ve-returns-2 t c = record { is = then-sure (c .before .before .before .before .before .before .before .before .before .before .before .before .before .before .before .word .ensures) (by-same (first-same (group-is (c .before .before .before .before .before .before .before .before .before .before .before .before .group .ensures) (c .before .before .before .before .before .before .before .before .before .before .before .told .ensures) (c .before .before .before .before .before .before .before .before .before .s1 .given .1))) (then-stop (c .before .before .before .before .before .ar .ensures .is) (c .before .before .told2 .ensures) (c .enum-told2 .given .1))) }
 
--- src/lib.rt:322:5
 ve-word-requires-2 : (t : ℕ) → ve-lts.Need-word-requires-2 (
   word-reads.Asked,
   word-reads.Learnt,
@@ -26254,7 +25071,6 @@ ve-word-requires-2 : (t : ℕ) → ve-lts.Need-word-requires-2 (
 ) (ve-at t) ve.Post
 ve-word-requires-2 t c κs = search needs
 
--- src/lib.rt:298:1
 ve-same-length-3 : (t : ℕ) → ve-lts.Need-same-length-3 (
   word-reads.Asked,
   word-reads.Learnt,
@@ -26267,7 +25083,6 @@ ve-same-length-3 : (t : ℕ) → ve-lts.Need-same-length-3 (
 ) (ve-at t) ve.Post
 ve-same-length-3 t c = c .before .before .word2 .kept .1 .1 .0 ∙ c .before .before .before .before .before .before .before .before .before .before .before .ar .kept .1 .1 .1 .1 .1 .1 .0 ∙ c .before .before .before .before .before .before .before .before .before .before .before .before .before .before .before .before .before .before .before .before .before .word .kept .1 .1 .0
 
--- src/lib.rt:298:1
 ve-returns-3 : (t : ℕ) → ve-lts.Need-returns-3 (
   word-reads.Asked,
   word-reads.Learnt,
@@ -26281,7 +25096,6 @@ ve-returns-3 : (t : ℕ) → ve-lts.Need-returns-3 (
 unfolding Exp.exp
 ve-returns-3 t c = record { is = then-sure (c .before .before .before .before .before .before .before .before .before .before .before .before .before .before .before .before .before .before .before .before .before .word .ensures) (by-same (first-same (group-is (c .before .before .before .before .before .before .before .before .before .before .before .before .before .before .before .before .before .before .group .ensures) (c .before .before .before .before .before .before .before .before .before .before .before .before .before .before .before .before .before .told .ensures) (c .before .before .before .before .before .before .before .before .before .before .before .before .before .before .before .s1 .given .1))) (then-done (c .before .before .before .before .before .before .before .before .before .before .before .ar .ensures .is) (c .before .before .before .before .before .before .before .before .told2 .ensures) (c .before .before .before .before .before .before .s2 .given .1) (last-sure (c .before .before .word2 .ensures)))) }
 
--- src/lib.rt:641:5
 wh-word-requires : (t : ℕ) → wh-lts.Need-word-requires (
   word-reads.Asked,
   word-reads.Learnt,
@@ -26290,7 +25104,6 @@ wh-word-requires : (t : ℕ) → wh-lts.Need-word-requires (
 ) (wh-at t) wh.Post
 wh-word-requires t c κs = search needs
 
--- src/lib.rt:642:5
 wh-du-requires : (t : ℕ) → wh-lts.Need-du-requires (
   word-reads.Asked,
   word-reads.Learnt,
@@ -26299,7 +25112,6 @@ wh-du-requires : (t : ℕ) → wh-lts.Need-du-requires (
 ) (wh-at t) wh.Post
 wh-du-requires t c κs = omega (arith, c .before .before .before .before .before .before .before .before .before .before .before .before .before .pre .0, c .before .before .before .before .before .before .before .before .before .before .before .before .before .pre .1)
 
--- src/lib.rt:626:1
 wh-same-length : (t : ℕ) → wh-lts.Need-same-length (
   word-reads.Asked,
   word-reads.Learnt,
@@ -26308,7 +25120,6 @@ wh-same-length : (t : ℕ) → wh-lts.Need-same-length (
 ) (wh-at t) wh.Post
 wh-same-length t c = c .before .before .du .kept .1 .1 .1 .1 .1 .1 .0 ∙ c .before .before .before .before .before .before .before .word .kept .1 .1 .0
 
--- src/lib.rt:626:1
 wh-returns : (t : ℕ) → wh-lts.Need-returns (
   word-reads.Asked,
   word-reads.Learnt,
@@ -26318,7 +25129,6 @@ wh-returns : (t : ℕ) → wh-lts.Need-returns (
 unfolding Exp.exp
 wh-returns t c = record { is = then-sure (c .before .before .before .before .before .before .before .word .ensures) (c .before .before .du .ensures .is) }
 
--- src/lib.rt:2422:9
 wr-sig-requires : (t : ℕ) → wr-lts.Need-sig-requires (
   sig-below t,
   sig.Post,
@@ -26331,7 +25141,6 @@ wr-sig-requires : (t : ℕ) → wr-lts.Need-sig-requires (
 ) (wr-at t) wr.Post
 wr-sig-requires t c κs = omega (arith, c .before .before .before .before .before .before .before .before .pre .0, c .before .before .before .before .before .before .before .before .pre .1)
 
--- src/lib.rt:2423:28
 wr-told-requires : (t : ℕ) → wr-lts.Need-told-requires (
   sig-below t,
   sig.Post,
@@ -26344,7 +25153,6 @@ wr-told-requires : (t : ℕ) → wr-lts.Need-told-requires (
 ) (wr-at t) wr.Post
 wr-told-requires t c κs = search needs
 
--- src/lib.rt:2423:22
 wr-enum-known-s1 : (t : ℕ) → wr-lts.Need-enum-known-s1 (
   sig-below t,
   sig.Post,
@@ -26357,7 +25165,6 @@ wr-enum-known-s1 : (t : ℕ) → wr-lts.Need-enum-known-s1 (
 ) (wr-at t) wr.Post
 wr-enum-known-s1 t c = search needs
 
--- src/lib.rt:2424:9
 wr-enum-told : (t : ℕ) → wr-lts.Need-enum-told (
   sig-below t,
   sig.Post,
@@ -26370,7 +25177,6 @@ wr-enum-told : (t : ℕ) → wr-lts.Need-enum-told (
 ) (wr-at t) wr.Post
 wr-enum-told t c = search needs
 
--- src/lib.rt:2424:9
 wr-same-length : (t : ℕ) → wr-lts.Need-same-length (
   sig-below t,
   sig.Post,
@@ -26383,7 +25189,6 @@ wr-same-length : (t : ℕ) → wr-lts.Need-same-length (
 ) (wr-at t) wr.Post
 wr-same-length t c = c .before .before .before .before .before .sig .kept .1 .1 .1 .1 .1 .1 .0
 
--- src/lib.rt:2424:9
 wr-returns : (t : ℕ) → wr-lts.Need-returns (
   sig-below t,
   sig.Post,
@@ -26397,7 +25202,6 @@ wr-returns : (t : ℕ) → wr-lts.Need-returns (
 unfolding SigExp.sig-exp
 wr-returns t c = record { is = then-stop (c .before .before .before .before .before .sig .ensures .is) (c .before .before .told .ensures) (c .enum-told .given .1) }
 
--- src/lib.rt:2426:5
 wr-word-requires : (t : ℕ) → wr-lts.Need-word-requires (
   sig-below t,
   sig.Post,
@@ -26410,7 +25214,6 @@ wr-word-requires : (t : ℕ) → wr-lts.Need-word-requires (
 ) (wr-at t) wr.Post
 wr-word-requires t c κs = search needs
 
--- src/lib.rt:2427:9
 wr-path-requires : (t : ℕ) → wr-lts.Need-path-requires (
   sig-below t,
   sig.Post,
@@ -26423,7 +25226,6 @@ wr-path-requires : (t : ℕ) → wr-lts.Need-path-requires (
 ) (wr-at t) wr.Post
 wr-path-requires t c κs = search needs
 
--- src/lib.rt:2428:28
 wr-told-requires-2 : (t : ℕ) → wr-lts.Need-told-requires-2 (
   sig-below t,
   sig.Post,
@@ -26436,7 +25238,6 @@ wr-told-requires-2 : (t : ℕ) → wr-lts.Need-told-requires-2 (
 ) (wr-at t) wr.Post
 wr-told-requires-2 t c κs = search needs
 
--- src/lib.rt:2428:22
 wr-enum-known-s2 : (t : ℕ) → wr-lts.Need-enum-known-s2 (
   sig-below t,
   sig.Post,
@@ -26449,7 +25250,6 @@ wr-enum-known-s2 : (t : ℕ) → wr-lts.Need-enum-known-s2 (
 ) (wr-at t) wr.Post
 wr-enum-known-s2 t c = search needs
 
--- src/lib.rt:2429:9
 wr-enum-told-2 : (t : ℕ) → wr-lts.Need-enum-told-2 (
   sig-below t,
   sig.Post,
@@ -26462,7 +25262,6 @@ wr-enum-told-2 : (t : ℕ) → wr-lts.Need-enum-told-2 (
 ) (wr-at t) wr.Post
 wr-enum-told-2 t c = search needs
 
--- src/lib.rt:2429:9
 wr-same-length-2 : (t : ℕ) → wr-lts.Need-same-length-2 (
   sig-below t,
   sig.Post,
@@ -26475,7 +25274,6 @@ wr-same-length-2 : (t : ℕ) → wr-lts.Need-same-length-2 (
 ) (wr-at t) wr.Post
 wr-same-length-2 t c = c .before .before .before .before .before .path .kept .1 .1 .1 .1 .1 .0 ∙ c .before .before .before .before .before .before .before .before .before .before .word .kept .1 .1 .0 ∙ c .before .before .before .before .before .before .before .before .before .before .before .before .before .before .before .before .before .before .before .sig .kept .1 .1 .1 .1 .1 .1 .0
 
--- src/lib.rt:2429:9
 wr-returns-2 : (t : ℕ) → wr-lts.Need-returns-2 (
   sig-below t,
   sig.Post,
@@ -26489,7 +25287,6 @@ wr-returns-2 : (t : ℕ) → wr-lts.Need-returns-2 (
 unfolding SigExp.sig-exp
 wr-returns-2 t c = record { is = then-done (c .before .before .before .before .before .before .before .before .before .before .before .before .before .before .before .before .before .before .before .sig .ensures .is) (c .before .before .before .before .before .before .before .before .before .before .before .before .before .before .before .before .told .ensures) (c .before .before .before .before .before .before .before .before .before .before .before .before .before .before .s1 .given .1) (then-sure (c .before .before .before .before .before .before .before .before .before .before .word .ensures) (then-stop (plain (c .before .before .before .before .before .path .ensures)) (c .before .before .told2 .ensures) (c .enum-told2 .given .1))) }
 
--- src/lib.rt:2431:5
 wr-word-requires-2 : (t : ℕ) → wr-lts.Need-word-requires-2 (
   sig-below t,
   sig.Post,
@@ -26502,7 +25299,6 @@ wr-word-requires-2 : (t : ℕ) → wr-lts.Need-word-requires-2 (
 ) (wr-at t) wr.Post
 wr-word-requires-2 t c κs = search needs
 
--- src/lib.rt:2432:5
 wr-path-requires-2 : (t : ℕ) → wr-lts.Need-path-requires-2 (
   sig-below t,
   sig.Post,
@@ -26515,7 +25311,6 @@ wr-path-requires-2 : (t : ℕ) → wr-lts.Need-path-requires-2 (
 ) (wr-at t) wr.Post
 wr-path-requires-2 t c κs = search needs
 
--- src/lib.rt:2407:1
 wr-same-length-3 : (t : ℕ) → wr-lts.Need-same-length-3 (
   sig-below t,
   sig.Post,
@@ -26528,7 +25323,6 @@ wr-same-length-3 : (t : ℕ) → wr-lts.Need-same-length-3 (
 ) (wr-at t) wr.Post
 wr-same-length-3 t c = c .before .before .path2 .kept .1 .1 .1 .1 .1 .0 ∙ c .before .before .before .before .before .before .before .word2 .kept .1 .1 .0 ∙ c .before .before .before .before .before .before .before .before .before .before .before .before .before .before .before .before .path .kept .1 .1 .1 .1 .1 .0 ∙ c .before .before .before .before .before .before .before .before .before .before .before .before .before .before .before .before .before .before .before .before .before .word .kept .1 .1 .0 ∙ c .before .before .before .before .before .before .before .before .before .before .before .before .before .before .before .before .before .before .before .before .before .before .before .before .before .before .before .before .before .before .sig .kept .1 .1 .1 .1 .1 .1 .0
 
--- src/lib.rt:2407:1
 wr-returns-3 : (t : ℕ) → wr-lts.Need-returns-3 (
   sig-below t,
   sig.Post,
@@ -26542,7 +25336,6 @@ wr-returns-3 : (t : ℕ) → wr-lts.Need-returns-3 (
 unfolding SigExp.sig-exp
 wr-returns-3 t c = record { is = then-done (c .before .before .before .before .before .before .before .before .before .before .before .before .before .before .before .before .before .before .before .before .before .before .before .before .before .before .before .before .before .before .sig .ensures .is) (c .before .before .before .before .before .before .before .before .before .before .before .before .before .before .before .before .before .before .before .before .before .before .before .before .before .before .before .told .ensures) (c .before .before .before .before .before .before .before .before .before .before .before .before .before .before .before .before .before .before .before .before .before .before .before .before .before .s1 .given .1) (then-sure (c .before .before .before .before .before .before .before .before .before .before .before .before .before .before .before .before .before .before .before .before .before .word .ensures) (then-done (plain (c .before .before .before .before .before .before .before .before .before .before .before .before .before .before .before .before .path .ensures)) (c .before .before .before .before .before .before .before .before .before .before .before .before .before .told2 .ensures) (c .before .before .before .before .before .before .before .before .before .before .before .s2 .given .1) (then-sure (c .before .before .before .before .before .before .before .word2 .ensures) (plain (c .before .before .path2 .ensures))))) }
 
--- src/lib.rt:2389:9
 wt-sig-requires : (t : ℕ) → wt-lts.Need-sig-requires (
   sig-below t,
   sig.Post,
@@ -26559,7 +25352,6 @@ wt-sig-requires : (t : ℕ) → wt-lts.Need-sig-requires (
 ) (wt-at t) wt.Post
 wt-sig-requires t c κs = omega (arith, c .before .before .before .before .before .before .before .before .pre .0, c .before .before .before .before .before .before .before .before .pre .1)
 
--- src/lib.rt:2390:28
 wt-told-requires : (t : ℕ) → wt-lts.Need-told-requires (
   sig-below t,
   sig.Post,
@@ -26576,7 +25368,6 @@ wt-told-requires : (t : ℕ) → wt-lts.Need-told-requires (
 ) (wt-at t) wt.Post
 wt-told-requires t c κs = search needs
 
--- src/lib.rt:2390:22
 wt-enum-known-s1 : (t : ℕ) → wt-lts.Need-enum-known-s1 (
   sig-below t,
   sig.Post,
@@ -26593,7 +25384,6 @@ wt-enum-known-s1 : (t : ℕ) → wt-lts.Need-enum-known-s1 (
 ) (wt-at t) wt.Post
 wt-enum-known-s1 t c = search needs
 
--- src/lib.rt:2391:9
 wt-enum-told : (t : ℕ) → wt-lts.Need-enum-told (
   sig-below t,
   sig.Post,
@@ -26610,7 +25400,6 @@ wt-enum-told : (t : ℕ) → wt-lts.Need-enum-told (
 ) (wt-at t) wt.Post
 wt-enum-told t c = search needs
 
--- src/lib.rt:2391:9
 wt-same-length : (t : ℕ) → wt-lts.Need-same-length (
   sig-below t,
   sig.Post,
@@ -26627,7 +25416,6 @@ wt-same-length : (t : ℕ) → wt-lts.Need-same-length (
 ) (wt-at t) wt.Post
 wt-same-length t c = c .before .before .before .before .before .sig .kept .1 .1 .1 .1 .1 .1 .0
 
--- src/lib.rt:2391:9
 wt-returns : (t : ℕ) → wt-lts.Need-returns (
   sig-below t,
   sig.Post,
@@ -26645,7 +25433,6 @@ wt-returns : (t : ℕ) → wt-lts.Need-returns (
 unfolding SigExp.sig-exp
 wt-returns t c = record { is = then-stop (c .before .before .before .before .before .sig .ensures .is) (c .before .before .told .ensures) (c .enum-told .given .1) }
 
--- src/lib.rt:2393:5
 wt-word-requires : (t : ℕ) → wt-lts.Need-word-requires (
   sig-below t,
   sig.Post,
@@ -26662,7 +25449,6 @@ wt-word-requires : (t : ℕ) → wt-lts.Need-word-requires (
 ) (wt-at t) wt.Post
 wt-word-requires t c κs = search needs
 
--- src/lib.rt:2394:9
 wt-ty-var-seq-requires : (t : ℕ) → wt-lts.Need-ty-var-seq-requires (
   sig-below t,
   sig.Post,
@@ -26679,7 +25465,6 @@ wt-ty-var-seq-requires : (t : ℕ) → wt-lts.Need-ty-var-seq-requires (
 ) (wt-at t) wt.Post
 wt-ty-var-seq-requires t c κs = search needs
 
--- src/lib.rt:2395:28
 wt-told-requires-2 : (t : ℕ) → wt-lts.Need-told-requires-2 (
   sig-below t,
   sig.Post,
@@ -26696,7 +25481,6 @@ wt-told-requires-2 : (t : ℕ) → wt-lts.Need-told-requires-2 (
 ) (wt-at t) wt.Post
 wt-told-requires-2 t c κs = search needs
 
--- src/lib.rt:2395:22
 wt-enum-known-s2 : (t : ℕ) → wt-lts.Need-enum-known-s2 (
   sig-below t,
   sig.Post,
@@ -26713,7 +25497,6 @@ wt-enum-known-s2 : (t : ℕ) → wt-lts.Need-enum-known-s2 (
 ) (wt-at t) wt.Post
 wt-enum-known-s2 t c = search needs
 
--- src/lib.rt:2396:9
 wt-enum-told-2 : (t : ℕ) → wt-lts.Need-enum-told-2 (
   sig-below t,
   sig.Post,
@@ -26730,7 +25513,6 @@ wt-enum-told-2 : (t : ℕ) → wt-lts.Need-enum-told-2 (
 ) (wt-at t) wt.Post
 wt-enum-told-2 t c = search needs
 
--- src/lib.rt:2396:9
 wt-same-length-2 : (t : ℕ) → wt-lts.Need-same-length-2 (
   sig-below t,
   sig.Post,
@@ -26747,7 +25529,6 @@ wt-same-length-2 : (t : ℕ) → wt-lts.Need-same-length-2 (
 ) (wt-at t) wt.Post
 wt-same-length-2 t c = c .before .before .before .before .before .ty-var-seq .kept .1 .1 .1 .1 .1 .0 ∙ c .before .before .before .before .before .before .before .before .before .before .word .kept .1 .1 .0 ∙ c .before .before .before .before .before .before .before .before .before .before .before .before .before .before .before .before .before .before .before .sig .kept .1 .1 .1 .1 .1 .1 .0
 
--- src/lib.rt:2396:9
 wt-returns-2 : (t : ℕ) → wt-lts.Need-returns-2 (
   sig-below t,
   sig.Post,
@@ -26765,7 +25546,6 @@ wt-returns-2 : (t : ℕ) → wt-lts.Need-returns-2 (
 unfolding SigExp.sig-exp
 wt-returns-2 t c = record { is = then-done (c .before .before .before .before .before .before .before .before .before .before .before .before .before .before .before .before .before .before .before .sig .ensures .is) (c .before .before .before .before .before .before .before .before .before .before .before .before .before .before .before .before .told .ensures) (c .before .before .before .before .before .before .before .before .before .before .before .before .before .before .s1 .given .1) (then-sure (c .before .before .before .before .before .before .before .before .before .before .word .ensures) (then-stop (plain (c .before .before .before .before .before .ty-var-seq .ensures)) (c .before .before .told2 .ensures) (c .enum-told2 .given .1))) }
 
--- src/lib.rt:2398:9
 wt-path-requires : (t : ℕ) → wt-lts.Need-path-requires (
   sig-below t,
   sig.Post,
@@ -26782,7 +25562,6 @@ wt-path-requires : (t : ℕ) → wt-lts.Need-path-requires (
 ) (wt-at t) wt.Post
 wt-path-requires t c κs = search needs
 
--- src/lib.rt:2399:28
 wt-told-requires-3 : (t : ℕ) → wt-lts.Need-told-requires-3 (
   sig-below t,
   sig.Post,
@@ -26799,7 +25578,6 @@ wt-told-requires-3 : (t : ℕ) → wt-lts.Need-told-requires-3 (
 ) (wt-at t) wt.Post
 wt-told-requires-3 t c κs = search needs
 
--- src/lib.rt:2399:22
 wt-enum-known-s3 : (t : ℕ) → wt-lts.Need-enum-known-s3 (
   sig-below t,
   sig.Post,
@@ -26816,7 +25594,6 @@ wt-enum-known-s3 : (t : ℕ) → wt-lts.Need-enum-known-s3 (
 ) (wt-at t) wt.Post
 wt-enum-known-s3 t c = search needs
 
--- src/lib.rt:2400:9
 wt-enum-told-3 : (t : ℕ) → wt-lts.Need-enum-told-3 (
   sig-below t,
   sig.Post,
@@ -26833,7 +25610,6 @@ wt-enum-told-3 : (t : ℕ) → wt-lts.Need-enum-told-3 (
 ) (wt-at t) wt.Post
 wt-enum-told-3 t c = search needs
 
--- src/lib.rt:2400:9
 wt-same-length-3 : (t : ℕ) → wt-lts.Need-same-length-3 (
   sig-below t,
   sig.Post,
@@ -26850,7 +25626,6 @@ wt-same-length-3 : (t : ℕ) → wt-lts.Need-same-length-3 (
 ) (wt-at t) wt.Post
 wt-same-length-3 t c = c .before .before .before .before .before .path .kept .1 .1 .1 .1 .1 .0 ∙ c .before .before .before .before .before .before .before .before .before .before .before .before .before .before .ty-var-seq .kept .1 .1 .1 .1 .1 .0 ∙ c .before .before .before .before .before .before .before .before .before .before .before .before .before .before .before .before .before .before .before .word .kept .1 .1 .0 ∙ c .before .before .before .before .before .before .before .before .before .before .before .before .before .before .before .before .before .before .before .before .before .before .before .before .before .before .before .before .sig .kept .1 .1 .1 .1 .1 .1 .0
 
--- src/lib.rt:2400:9
 wt-returns-3 : (t : ℕ) → wt-lts.Need-returns-3 (
   sig-below t,
   sig.Post,
@@ -26868,7 +25643,6 @@ wt-returns-3 : (t : ℕ) → wt-lts.Need-returns-3 (
 unfolding SigExp.sig-exp
 wt-returns-3 t c = record { is = then-done (c .before .before .before .before .before .before .before .before .before .before .before .before .before .before .before .before .before .before .before .before .before .before .before .before .before .before .before .before .sig .ensures .is) (c .before .before .before .before .before .before .before .before .before .before .before .before .before .before .before .before .before .before .before .before .before .before .before .before .before .told .ensures) (c .before .before .before .before .before .before .before .before .before .before .before .before .before .before .before .before .before .before .before .before .before .before .before .s1 .given .1) (then-sure (c .before .before .before .before .before .before .before .before .before .before .before .before .before .before .before .before .before .before .before .word .ensures) (then-done (plain (c .before .before .before .before .before .before .before .before .before .before .before .before .before .before .ty-var-seq .ensures)) (c .before .before .before .before .before .before .before .before .before .before .before .told2 .ensures) (c .before .before .before .before .before .before .before .before .before .s2 .given .1) (then-stop (plain (c .before .before .before .before .before .path .ensures)) (c .before .before .told3 .ensures) (c .enum-told3 .given .1)))) }
 
--- src/lib.rt:2402:5
 wt-word-requires-2 : (t : ℕ) → wt-lts.Need-word-requires-2 (
   sig-below t,
   sig.Post,
@@ -26885,7 +25659,6 @@ wt-word-requires-2 : (t : ℕ) → wt-lts.Need-word-requires-2 (
 ) (wt-at t) wt.Post
 wt-word-requires-2 t c κs = search needs
 
--- src/lib.rt:2403:5
 wt-get-ty-requires : (t : ℕ) → wt-lts.Need-get-ty-requires (
   sig-below t,
   sig.Post,
@@ -26902,7 +25675,6 @@ wt-get-ty-requires : (t : ℕ) → wt-lts.Need-get-ty-requires (
 ) (wt-at t) wt.Post
 wt-get-ty-requires t c κs = search needs
 
--- src/lib.rt:2374:1
 wt-same-length-4 : (t : ℕ) → wt-lts.Need-same-length-4 (
   sig-below t,
   sig.Post,
@@ -26919,7 +25691,6 @@ wt-same-length-4 : (t : ℕ) → wt-lts.Need-same-length-4 (
 ) (wt-at t) wt.Post
 wt-same-length-4 t c = c .before .before .get-ty .kept .1 .1 .1 .1 .1 .0 ∙ c .before .before .before .before .before .before .before .word2 .kept .1 .1 .0 ∙ c .before .before .before .before .before .before .before .before .before .before .before .before .before .before .before .before .path .kept .1 .1 .1 .1 .1 .0 ∙ c .before .before .before .before .before .before .before .before .before .before .before .before .before .before .before .before .before .before .before .before .before .before .before .before .before .ty-var-seq .kept .1 .1 .1 .1 .1 .0 ∙ c .before .before .before .before .before .before .before .before .before .before .before .before .before .before .before .before .before .before .before .before .before .before .before .before .before .before .before .before .before .before .word .kept .1 .1 .0 ∙ c .before .before .before .before .before .before .before .before .before .before .before .before .before .before .before .before .before .before .before .before .before .before .before .before .before .before .before .before .before .before .before .before .before .before .before .before .before .before .before .sig .kept .1 .1 .1 .1 .1 .1 .0
 
--- src/lib.rt:2374:1
 wt-returns-4 : (t : ℕ) → wt-lts.Need-returns-4 (
   sig-below t,
   sig.Post,
@@ -26937,7 +25708,6 @@ wt-returns-4 : (t : ℕ) → wt-lts.Need-returns-4 (
 unfolding SigExp.sig-exp
 wt-returns-4 t c = record { is = then-done (c .before .before .before .before .before .before .before .before .before .before .before .before .before .before .before .before .before .before .before .before .before .before .before .before .before .before .before .before .before .before .before .before .before .before .before .before .before .before .before .sig .ensures .is) (c .before .before .before .before .before .before .before .before .before .before .before .before .before .before .before .before .before .before .before .before .before .before .before .before .before .before .before .before .before .before .before .before .before .before .before .before .told .ensures) (c .before .before .before .before .before .before .before .before .before .before .before .before .before .before .before .before .before .before .before .before .before .before .before .before .before .before .before .before .before .before .before .before .before .before .s1 .given .1) (then-sure (c .before .before .before .before .before .before .before .before .before .before .before .before .before .before .before .before .before .before .before .before .before .before .before .before .before .before .before .before .before .before .word .ensures) (then-done (plain (c .before .before .before .before .before .before .before .before .before .before .before .before .before .before .before .before .before .before .before .before .before .before .before .before .before .ty-var-seq .ensures)) (c .before .before .before .before .before .before .before .before .before .before .before .before .before .before .before .before .before .before .before .before .before .before .told2 .ensures) (c .before .before .before .before .before .before .before .before .before .before .before .before .before .before .before .before .before .before .before .before .s2 .given .1) (then-done (plain (c .before .before .before .before .before .before .before .before .before .before .before .before .before .before .before .before .path .ensures)) (c .before .before .before .before .before .before .before .before .before .before .before .before .before .told3 .ensures) (c .before .before .before .before .before .before .before .before .before .before .before .s3 .given .1) (then-sure (c .before .before .before .before .before .before .before .word2 .ensures) (plain (c .before .before .get-ty .ensures)))))) }
 
--- src/lib.rt:1591:9
 xb-group-requires : (t : ℕ) → xb-lts.Need-group-requires (
   group-reads.Asked,
   group-reads.Learnt,
@@ -26956,7 +25726,6 @@ xb-group-requires : (t : ℕ) → xb-lts.Need-group-requires (
 ) (xb-at t) xb.Post
 xb-group-requires t c κs = search needs
 
--- src/lib.rt:1592:28
 xb-told-requires : (t : ℕ) → xb-lts.Need-told-requires (
   group-reads.Asked,
   group-reads.Learnt,
@@ -26975,7 +25744,6 @@ xb-told-requires : (t : ℕ) → xb-lts.Need-told-requires (
 ) (xb-at t) xb.Post
 xb-told-requires t c κs = search needs
 
--- src/lib.rt:1592:22
 xb-enum-known-s1 : (t : ℕ) → xb-lts.Need-enum-known-s1 (
   group-reads.Asked,
   group-reads.Learnt,
@@ -26994,7 +25762,6 @@ xb-enum-known-s1 : (t : ℕ) → xb-lts.Need-enum-known-s1 (
 ) (xb-at t) xb.Post
 xb-enum-known-s1 t c = search needs
 
--- src/lib.rt:1593:9
 xb-enum-told : (t : ℕ) → xb-lts.Need-enum-told (
   group-reads.Asked,
   group-reads.Learnt,
@@ -27013,7 +25780,6 @@ xb-enum-told : (t : ℕ) → xb-lts.Need-enum-told (
 ) (xb-at t) xb.Post
 xb-enum-told t c = search needs
 
--- src/lib.rt:1593:9
 xb-returns : (t : ℕ) → xb-lts.Need-returns (
   group-reads.Asked,
   group-reads.Learnt,
@@ -27033,7 +25799,6 @@ xb-returns : (t : ℕ) → xb-lts.Need-returns (
 unfolding DecOne.ex-bind
 xb-returns t c = record { is = group-not (c .before .before .before .group .ensures) (c .before .before .told .ensures) (c .enum-told .given .1) }
 
--- src/lib.rt:1595:9
 xb-text-of-requires : (t : ℕ) → xb-lts.Need-text-of-requires (
   group-reads.Asked,
   group-reads.Learnt,
@@ -27052,7 +25817,6 @@ xb-text-of-requires : (t : ℕ) → xb-lts.Need-text-of-requires (
 ) (xb-at t) xb.Post
 xb-text-of-requires t c κs = search needs
 
--- src/lib.rt:1596:28
 xb-told-requires-2 : (t : ℕ) → xb-lts.Need-told-requires-2 (
   group-reads.Asked,
   group-reads.Learnt,
@@ -27071,7 +25835,6 @@ xb-told-requires-2 : (t : ℕ) → xb-lts.Need-told-requires-2 (
 ) (xb-at t) xb.Post
 xb-told-requires-2 t c κs = search needs
 
--- src/lib.rt:1596:22
 xb-enum-known-s2 : (t : ℕ) → xb-lts.Need-enum-known-s2 (
   group-reads.Asked,
   group-reads.Learnt,
@@ -27090,7 +25853,6 @@ xb-enum-known-s2 : (t : ℕ) → xb-lts.Need-enum-known-s2 (
 ) (xb-at t) xb.Post
 xb-enum-known-s2 t c = search needs
 
--- src/lib.rt:1597:9
 xb-enum-told-2 : (t : ℕ) → xb-lts.Need-enum-told-2 (
   group-reads.Asked,
   group-reads.Learnt,
@@ -27109,7 +25871,6 @@ xb-enum-told-2 : (t : ℕ) → xb-lts.Need-enum-told-2 (
 ) (xb-at t) xb.Post
 xb-enum-told-2 t c = search needs
 
--- src/lib.rt:1597:9
 xb-same-length : (t : ℕ) → xb-lts.Need-same-length (
   group-reads.Asked,
   group-reads.Learnt,
@@ -27128,7 +25889,6 @@ xb-same-length : (t : ℕ) → xb-lts.Need-same-length (
 ) (xb-at t) xb.Post
 xb-same-length t c = c .before .before .before .before .before .text-of .kept .1 .1 .1 .1 .1 .0
 
--- src/lib.rt:1597:9
 xb-returns-2 : (t : ℕ) → xb-lts.Need-returns-2 (
   group-reads.Asked,
   group-reads.Learnt,
@@ -27148,7 +25908,6 @@ xb-returns-2 : (t : ℕ) → xb-lts.Need-returns-2 (
 unfolding DecOne.ex-bind
 xb-returns-2 t c = record { is = by-same (group-is (c .before .before .before .before .before .before .before .before .before .before .before .before .group .ensures) (c .before .before .before .before .before .before .before .before .before .before .before .told .ensures) (c .before .before .before .before .before .before .before .before .before .s1 .given .1)) (then-stop (plain (c .before .before .before .before .before .text-of .ensures)) (c .before .before .told2 .ensures) (c .enum-told2 .given .1)) }
 
--- src/lib.rt:1599:29
 xb-absent-requires : (t : ℕ) → xb-lts.Need-absent-requires (
   group-reads.Asked,
   group-reads.Learnt,
@@ -27167,7 +25926,6 @@ xb-absent-requires : (t : ℕ) → xb-lts.Need-absent-requires (
 ) (xb-at t) xb.Post
 xb-absent-requires t c κs = search needs
 
--- src/lib.rt:1599:23
 xb-enum-known-s3 : (t : ℕ) → xb-lts.Need-enum-known-s3 (
   group-reads.Asked,
   group-reads.Learnt,
@@ -27186,7 +25944,6 @@ xb-enum-known-s3 : (t : ℕ) → xb-lts.Need-enum-known-s3 (
 ) (xb-at t) xb.Post
 xb-enum-known-s3 t c = search needs
 
--- src/lib.rt:1600:9
 xb-same-length-2 : (t : ℕ) → xb-lts.Need-same-length-2 (
   group-reads.Asked,
   group-reads.Learnt,
@@ -27205,7 +25962,6 @@ xb-same-length-2 : (t : ℕ) → xb-lts.Need-same-length-2 (
 ) (xb-at t) xb.Post
 xb-same-length-2 t c = c .before .before .before .before .before .before .before .before .before .before .text-of .kept .1 .1 .1 .1 .1 .0
 
--- src/lib.rt:1600:9
 xb-returns-3 : (t : ℕ) → xb-lts.Need-returns-3 (
   group-reads.Asked,
   group-reads.Learnt,
@@ -27243,7 +25999,6 @@ xb-enum-told-3 : (t : ℕ) → xb-lts.Need-enum-told-3 (
 ) (xb-at t) xb.Post
 xb-enum-told-3 t c = search needs
 
--- src/lib.rt:1602:27
 xb-choice-requires : (t : ℕ) → xb-lts.Need-choice-requires (
   group-reads.Asked,
   group-reads.Learnt,
@@ -27262,7 +26017,6 @@ xb-choice-requires : (t : ℕ) → xb-lts.Need-choice-requires (
 ) (xb-at t) xb.Post
 xb-choice-requires t c κs = search needs
 
--- src/lib.rt:1602:18
 xb-enum-known-k : (t : ℕ) → xb-lts.Need-enum-known-k (
   group-reads.Asked,
   group-reads.Learnt,
@@ -27281,7 +26035,6 @@ xb-enum-known-k : (t : ℕ) → xb-lts.Need-enum-known-k (
 ) (xb-at t) xb.Post
 xb-enum-known-k t c = search needs
 
--- src/lib.rt:1603:9
 xb-enum-told-4 : (t : ℕ) → xb-lts.Need-enum-told-4 (
   group-reads.Asked,
   group-reads.Learnt,
@@ -27300,7 +26053,6 @@ xb-enum-told-4 : (t : ℕ) → xb-lts.Need-enum-told-4 (
 ) (xb-at t) xb.Post
 xb-enum-told-4 t c = search needs
 
--- src/lib.rt:1603:9
 xb-stop-requires : (t : ℕ) → xb-lts.Need-stop-requires (
   group-reads.Asked,
   group-reads.Learnt,
@@ -27319,7 +26071,6 @@ xb-stop-requires : (t : ℕ) → xb-lts.Need-stop-requires (
 ) (xb-at t) xb.Post
 xb-stop-requires t c κs = search needs
 
--- src/lib.rt:1603:9
 xb-same-length-3 : (t : ℕ) → xb-lts.Need-same-length-3 (
   group-reads.Asked,
   group-reads.Learnt,
@@ -27338,7 +26089,6 @@ xb-same-length-3 : (t : ℕ) → xb-lts.Need-same-length-3 (
 ) (xb-at t) xb.Post
 xb-same-length-3 t c = c .before .before .before .before .before .before .before .before .before .before .before .before .before .text-of .kept .1 .1 .1 .1 .1 .0
 
--- src/lib.rt:1603:9
 xb-returns-4 : (t : ℕ) → xb-lts.Need-returns-4 (
   group-reads.Asked,
   group-reads.Learnt,
@@ -27358,7 +26108,6 @@ xb-returns-4 : (t : ℕ) → xb-lts.Need-returns-4 (
 unfolding DecOne.ex-bind
 xb-returns-4 t c = record { is = by-same (group-is (c .before .before .before .before .before .before .before .before .before .before .before .before .before .before .before .before .before .before .before .before .group .ensures) (c .before .before .before .before .before .before .before .before .before .before .before .before .before .before .before .before .before .before .before .told .ensures) (c .before .before .before .before .before .before .before .before .before .before .before .before .before .before .before .before .before .s1 .given .1)) (then-done (plain (c .before .before .before .before .before .before .before .before .before .before .before .before .before .text-of .ensures)) (c .before .before .before .before .before .before .before .before .before .before .told2 .ensures) (c .before .before .before .before .before .before .before .before .s2 .given .1) (by-same (maybe-there (c .before .before .before .before .before .before .absent .ensures) (c .before .before .before .before .enum-told3 .given .1)) (choice-not (c .stop .ensures) (c .before .before .before .choice .ensures) (c .before .enum-told4 .given .1)))) }
 
--- src/lib.rt:1605:5
 xb-xi-requires : (t : ℕ) → xb-lts.Need-xi-requires (
   group-reads.Asked,
   group-reads.Learnt,
@@ -27377,7 +26126,6 @@ xb-xi-requires : (t : ℕ) → xb-lts.Need-xi-requires (
 ) (xb-at t) xb.Post
 xb-xi-requires t c κs = omega (arith, c .before .before .before .before .before .before .before .before .before .before .before .before .before .before .before .before .before .before .before .before .before .before .before .before .before .before .before .before .before .pre .0, c .before .before .before .before .before .before .before .before .before .before .before .before .before .before .before .before .before .before .before .before .before .before .before .before .before .before .before .before .before .pre .1)
 
--- src/lib.rt:1576:1
 xb-same-length-4 : (t : ℕ) → xb-lts.Need-same-length-4 (
   group-reads.Asked,
   group-reads.Learnt,
@@ -27396,7 +26144,6 @@ xb-same-length-4 : (t : ℕ) → xb-lts.Need-same-length-4 (
 ) (xb-at t) xb.Post
 xb-same-length-4 t c = c .before .before .xi .kept .1 .1 .1 .1 .1 .1 .0 ∙ c .before .before .before .before .before .before .before .before .before .before .before .before .before .before .before .before .before .before .text-of .kept .1 .1 .1 .1 .1 .0
 
--- src/lib.rt:1576:1
 xb-returns-5 : (t : ℕ) → xb-lts.Need-returns-5 (
   group-reads.Asked,
   group-reads.Learnt,
@@ -27423,7 +26170,6 @@ xd-Inv-loop run text rec kinds starts lens out₀ mem₀ at cfg n s1 s₀ i₀ o
 abbrev xd-μ-loop : xd-lts.MeasureT-loop
 xd-μ-loop run text rec kinds starts lens out₀ mem₀ at cfg n s1 s₀ i₀ out mem s i = n - i
 
--- src/lib.rt:1557:5
 xd-word-requires : (t : ℕ) → xd-lts.Need-word-requires (
   word-reads.Asked,
   word-reads.Learnt,
@@ -27440,7 +26186,6 @@ xd-word-requires : (t : ℕ) → xd-lts.Need-word-requires (
 ) (xd-at t) xd.Post xd-Inv-loop xd-μ-loop
 xd-word-requires t c κs = search needs
 
--- src/lib.rt:1558:27
 xd-list-requires : (t : ℕ) → xd-lts.Need-list-requires (
   word-reads.Asked,
   word-reads.Learnt,
@@ -27457,7 +26202,6 @@ xd-list-requires : (t : ℕ) → xd-lts.Need-list-requires (
 ) (xd-at t) xd.Post xd-Inv-loop xd-μ-loop
 xd-list-requires t c κs = search needs
 
--- src/lib.rt:1558:18
 xd-enum-known-n : (t : ℕ) → xd-lts.Need-enum-known-n (
   word-reads.Asked,
   word-reads.Learnt,
@@ -27474,7 +26218,6 @@ xd-enum-known-n : (t : ℕ) → xd-lts.Need-enum-known-n (
 ) (xd-at t) xd.Post xd-Inv-loop xd-μ-loop
 xd-enum-known-n t c = search needs
 
--- src/lib.rt:1559:9
 xd-enum-told : (t : ℕ) → xd-lts.Need-enum-told (
   word-reads.Asked,
   word-reads.Learnt,
@@ -27491,7 +26234,6 @@ xd-enum-told : (t : ℕ) → xd-lts.Need-enum-told (
 ) (xd-at t) xd.Post xd-Inv-loop xd-μ-loop
 xd-enum-told t c = search needs
 
--- src/lib.rt:1559:9
 xd-stop-requires : (t : ℕ) → xd-lts.Need-stop-requires (
   word-reads.Asked,
   word-reads.Learnt,
@@ -27508,7 +26250,6 @@ xd-stop-requires : (t : ℕ) → xd-lts.Need-stop-requires (
 ) (xd-at t) xd.Post xd-Inv-loop xd-μ-loop
 xd-stop-requires t c κs = search needs
 
--- src/lib.rt:1559:9
 xd-same-length : (t : ℕ) → xd-lts.Need-same-length (
   word-reads.Asked,
   word-reads.Learnt,
@@ -27525,7 +26266,6 @@ xd-same-length : (t : ℕ) → xd-lts.Need-same-length (
 ) (xd-at t) xd.Post xd-Inv-loop xd-μ-loop
 xd-same-length t c = c .before .before .before .before .before .before .word .kept .1 .1 .0
 
--- src/lib.rt:1559:9
 xd-returns : (t : ℕ) → xd-lts.Need-returns (
   word-reads.Asked,
   word-reads.Learnt,
@@ -27543,7 +26283,6 @@ xd-returns : (t : ℕ) → xd-lts.Need-returns (
 unfolding DecOne.dec-one Helpers.sep-with-lines
 xd-returns t c = record { is = then-sure (c .before .before .before .before .before .before .word .ensures) (list-not (c .stop .ensures) (c .before .before .before .list .ensures) (c .before .enum-told .given .1)) }
 
--- src/lib.rt:1563:5
 xd-loop-holds : (t : ℕ) → xd-lts.Need-loop-holds (
   word-reads.Asked,
   word-reads.Learnt,
@@ -27560,7 +26299,6 @@ xd-loop-holds : (t : ℕ) → xd-lts.Need-loop-holds (
 ) (xd-at t) xd.Post xd-Inv-loop xd-μ-loop
 xd-loop-holds t c = (omega arith, λ r m o h. h, refl)
 
--- src/lib.rt:1564:9
 xd-new-line-requires : (t : ℕ) → xd-lts.Need-new-line-requires (
   word-reads.Asked,
   word-reads.Learnt,
@@ -27577,7 +26315,6 @@ xd-new-line-requires : (t : ℕ) → xd-lts.Need-new-line-requires (
 ) (xd-at t) xd.Post xd-Inv-loop xd-μ-loop
 xd-new-line-requires t c κs = search needs
 
--- src/lib.rt:1565:13
 xd-xb-requires : (t : ℕ) → xd-lts.Need-xb-requires (
   word-reads.Asked,
   word-reads.Learnt,
@@ -27594,7 +26331,6 @@ xd-xb-requires : (t : ℕ) → xd-lts.Need-xb-requires (
 ) (xd-at t) xd.Post xd-Inv-loop xd-μ-loop
 xd-xb-requires t c κs = omega (arith, c .before .before .before .before .before .before .before .before .before .before .before .before .before .before .before .before .before .before .before .before .before .before .before .before .pre .0, c .before .before .before .before .before .before .before .before .before .before .before .before .before .before .before .before .before .before .before .before .before .before .before .before .pre .1)
 
--- src/lib.rt:1566:32
 xd-told-requires : (t : ℕ) → xd-lts.Need-told-requires (
   word-reads.Asked,
   word-reads.Learnt,
@@ -27611,7 +26347,6 @@ xd-told-requires : (t : ℕ) → xd-lts.Need-told-requires (
 ) (xd-at t) xd.Post xd-Inv-loop xd-μ-loop
 xd-told-requires t c κs = search needs
 
--- src/lib.rt:1566:26
 xd-enum-known-s2 : (t : ℕ) → xd-lts.Need-enum-known-s2 (
   word-reads.Asked,
   word-reads.Learnt,
@@ -27628,7 +26363,6 @@ xd-enum-known-s2 : (t : ℕ) → xd-lts.Need-enum-known-s2 (
 ) (xd-at t) xd.Post xd-Inv-loop xd-μ-loop
 xd-enum-known-s2 t c = search needs
 
--- src/lib.rt:1567:13
 xd-enum-told-2 : (t : ℕ) → xd-lts.Need-enum-told-2 (
   word-reads.Asked,
   word-reads.Learnt,
@@ -27645,7 +26379,6 @@ xd-enum-told-2 : (t : ℕ) → xd-lts.Need-enum-told-2 (
 ) (xd-at t) xd.Post xd-Inv-loop xd-μ-loop
 xd-enum-told-2 t c = search needs
 
--- src/lib.rt:1567:13
 xd-same-length-2 : (t : ℕ) → xd-lts.Need-same-length-2 (
   word-reads.Asked,
   word-reads.Learnt,
@@ -27662,7 +26395,6 @@ xd-same-length-2 : (t : ℕ) → xd-lts.Need-same-length-2 (
 ) (xd-at t) xd.Post xd-Inv-loop xd-μ-loop
 xd-same-length-2 t c = c .before .before .before .before .before .xb .kept .1 .1 .1 .1 .1 .1 .0 ∙ c .before .before .before .before .before .before .before .before .before .before .new-line .kept .1 .1 .0 ∙ c .before .before .before .before .before .before .before .before .before .before .before .before .before .before .loop .inv .2 ∙ c .before .before .before .before .before .before .before .before .before .before .before .before .before .before .before .before .before .before .before .before .before .word .kept .1 .1 .0
 
--- src/lib.rt:1567:13
 xd-returns-2 : (t : ℕ) → xd-lts.Need-returns-2 (
   word-reads.Asked,
   word-reads.Learnt,
@@ -27680,7 +26412,6 @@ xd-returns-2 : (t : ℕ) → xd-lts.Need-returns-2 (
 unfolding DecOne.dec-one Helpers.sep-with-lines
 xd-returns-2 t c = record { is = then-sure (c .before .before .before .before .before .before .before .before .before .before .before .before .before .before .before .before .before .before .before .before .before .word .ensures) (by-same (list-is (c .before .before .before .before .before .before .before .before .before .before .before .before .before .before .before .before .before .before .list .ensures) (c .before .before .before .before .before .before .before .before .before .before .before .before .before .before .before .before .n .given .1)) (by-same (items-all _ _ _) (c .before .before .before .before .before .before .before .before .before .before .before .before .before .before .loop .inv .1 _ _ _ (from-more _ _ (c .before .before .before .before .before .before .before .before .before .before .before .before .before .loop-test .taken) (then-sure (c .before .before .before .before .before .before .before .before .before .before .new-line .ensures) (then-stop (c .before .before .before .before .before .xb .ensures .is) (c .before .before .told .ensures) (c .enum-told2 .given .1))))))) }
 
--- src/lib.rt:1570:9
 xd-add-i : (t : ℕ) → xd-lts.Need-add-i (
   word-reads.Asked,
   word-reads.Learnt,
@@ -27697,7 +26428,6 @@ xd-add-i : (t : ℕ) → xd-lts.Need-add-i (
 ) (xd-at t) xd.Post xd-Inv-loop xd-μ-loop
 xd-add-i t c = omega (arith, c .before .before .before .before .before .before .before .before .before .before .before .before .before .before .loop-test .taken, c .before .before .before .before .before .before .before .before .before .before .before .before .before .before .before .before .known-told)
 
--- src/lib.rt:1563:5
 xd-loop-less : (t : ℕ) → xd-lts.Need-loop-less (
   word-reads.Asked,
   word-reads.Learnt,
@@ -27714,7 +26444,6 @@ xd-loop-less : (t : ℕ) → xd-lts.Need-loop-less (
 ) (xd-at t) xd.Post xd-Inv-loop xd-μ-loop
 xd-loop-less t c = omega arith
 
--- src/lib.rt:1563:5
 xd-loop-again : (t : ℕ) → xd-lts.Need-loop-again (
   word-reads.Asked,
   word-reads.Learnt,
@@ -27732,7 +26461,6 @@ xd-loop-again : (t : ℕ) → xd-lts.Need-loop-again (
 unfolding DecOne.dec-one Helpers.sep-with-lines
 xd-loop-again t c = (omega (arith, c .before .before .before .before .before .before .before .before .before .before .before .before .before .before .before .loop .inv .0), λ r m o h. c .before .before .before .before .before .before .before .before .before .before .before .before .before .before .before .loop .inv .1 r m o (from-more _ _ (c .before .before .before .before .before .before .before .before .before .before .before .before .before .before .loop-test .taken) (then-sure (c .before .before .before .before .before .before .before .before .before .before .before .new-line .ensures) (then-done (c .before .before .before .before .before .before .xb .ensures .is) (c .before .before .before .told .ensures) (c .before .s2 .given .1) h))), c .before .before .before .before .before .before .xb .kept .1 .1 .1 .1 .1 .1 .0 ∙ c .before .before .before .before .before .before .before .before .before .before .before .new-line .kept .1 .1 .0 ∙ c .before .before .before .before .before .before .before .before .before .before .before .before .before .before .before .loop .inv .2)
 
--- src/lib.rt:1542:1
 xd-same-length-3 : (t : ℕ) → xd-lts.Need-same-length-3 (
   word-reads.Asked,
   word-reads.Learnt,
@@ -27749,7 +26477,6 @@ xd-same-length-3 : (t : ℕ) → xd-lts.Need-same-length-3 (
 ) (xd-at t) xd.Post xd-Inv-loop xd-μ-loop
 xd-same-length-3 t c = c .before .loop .inv .2 ∙ c .before .before .before .before .before .before .before .before .word .kept .1 .1 .0
 
--- src/lib.rt:1542:1
 xd-returns-3 : (t : ℕ) → xd-lts.Need-returns-3 (
   word-reads.Asked,
   word-reads.Learnt,
@@ -27767,7 +26494,6 @@ xd-returns-3 : (t : ℕ) → xd-lts.Need-returns-3 (
 unfolding DecOne.dec-one Helpers.sep-with-lines
 xd-returns-3 t c = record { is = then-sure (c .before .before .before .before .before .before .before .before .word .ensures) (by-same (list-is (c .before .before .before .before .before .list .ensures) (c .before .before .before .n .given .1)) (by-same (items-all _ _ _) (c .before .loop .inv .1 _ _ _ (from-none _ _ (c .loop-test .left))))) }
 
--- src/lib.rt:1626:14
 xi-ex-bind-of-requires : (t : ℕ) → xi-lts.Need-ex-bind-of-requires (
   ex-bind-of-reads.Asked,
   ex-bind-of-reads.Learnt,
@@ -27778,7 +26504,6 @@ xi-ex-bind-of-requires : (t : ℕ) → xi-lts.Need-ex-bind-of-requires (
 ) (xi-at t) xi.Post
 xi-ex-bind-of-requires t c κs = search needs
 
--- src/lib.rt:1627:14
 xi-pr-requires : (t : ℕ) → xi-lts.Need-pr-requires (
   ex-bind-of-reads.Asked,
   ex-bind-of-reads.Learnt,
@@ -27789,7 +26514,6 @@ xi-pr-requires : (t : ℕ) → xi-lts.Need-pr-requires (
 ) (xi-at t) xi.Post
 xi-pr-requires t c κs = omega (arith, c .before .before .before .before .before .before .before .before .before .pre .0, c .before .before .before .before .before .before .before .before .before .pre .1)
 
--- src/lib.rt:1640:14
 xi-stop-requires : (t : ℕ) → xi-lts.Need-stop-requires (
   ex-bind-of-reads.Asked,
   ex-bind-of-reads.Learnt,
@@ -27800,7 +26524,6 @@ xi-stop-requires : (t : ℕ) → xi-lts.Need-stop-requires (
 ) (xi-at t) xi.Post
 xi-stop-requires t c κs = search needs
 
--- src/lib.rt:1609:1
 xi-same-length : (t : ℕ) → xi-lts.Need-same-length (
   ex-bind-of-reads.Asked,
   ex-bind-of-reads.Learnt,
@@ -27811,7 +26534,6 @@ xi-same-length : (t : ℕ) → xi-lts.Need-same-length (
 ) (xi-at t) xi.Post
 xi-same-length t c = c .before .before .ex-bind-of .kept .1 .1 .1 .1 .1 .0
 
--- src/lib.rt:1609:1
 xi-returns : (t : ℕ) → xi-lts.Need-returns (
   ex-bind-of-reads.Asked,
   ex-bind-of-reads.Learnt,
@@ -27823,7 +26545,6 @@ xi-returns : (t : ℕ) → xi-lts.Need-returns (
 unfolding DecOne.ex-bind-inner
 xi-returns t c = record { is = at-key (λ i. DecOne.ex-bind-inner (walks (c .before .before .before .before .before .before .before .before .before .before .before .before .args .cfg .left)) (cfgOf (c .before .before .before .before .before .before .before .before .before .before .before .before .args .cfg)) i) (c .before .before .before .before .before .match .keys1) (plain (c .before .before .ex-bind-of .ensures)) }
 
--- src/lib.rt:1609:1
 xi-same-length-2 : (t : ℕ) → xi-lts.Need-same-length-2 (
   ex-bind-of-reads.Asked,
   ex-bind-of-reads.Learnt,
@@ -27834,7 +26555,6 @@ xi-same-length-2 : (t : ℕ) → xi-lts.Need-same-length-2 (
 ) (xi-at t) xi.Post
 xi-same-length-2 t c = c .before .before .pr .kept .1 .1 .1 .1 .1 .1 .0
 
--- src/lib.rt:1609:1
 xi-returns-2 : (t : ℕ) → xi-lts.Need-returns-2 (
   ex-bind-of-reads.Asked,
   ex-bind-of-reads.Learnt,
@@ -27846,7 +26566,6 @@ xi-returns-2 : (t : ℕ) → xi-lts.Need-returns-2 (
 unfolding DecOne.ex-bind-inner
 xi-returns-2 t c = record { is = at-key (λ i. DecOne.ex-bind-inner (walks (c .before .before .before .before .before .before .before .before .before .before .before .before .args .cfg .left)) (cfgOf (c .before .before .before .before .before .before .before .before .before .before .before .before .args .cfg)) i) (c .before .before .before .before .before .match .keys2) (c .before .before .pr .ensures .is) }
 
--- src/lib.rt:1609:1
 xi-returns-3 : (t : ℕ) → xi-lts.Need-returns-3 (
   ex-bind-of-reads.Asked,
   ex-bind-of-reads.Learnt,

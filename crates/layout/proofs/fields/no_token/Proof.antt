@@ -6,23 +6,18 @@ use Rattle.layout.proofs.fields.no_token.Reads as reads
 use Rattle.layout.proofs.fields.no_token.Lts as lts
 use Rattle.layout.proofs.fields.absent.Reads as absent-reads
 
--- src/fields.rt:113:25
 absent-requires : tie.Need-absent-requires
 absent-requires c κs = search needs
 
--- src/fields.rt:113:20
 enum-known-s : tie.Need-enum-known-s
 enum-known-s c = search needs
 
--- src/fields.rt:114:9
 enum-told : tie.Need-enum-told
 enum-told c = search needs
 
--- src/fields.rt:114:9
 returns : tie.Need-returns
 returns c = none-neither (c .before .before .absent .ensures) (c .enum-told .given .1)
 
--- src/fields.rt:110:1
 returns-2 : tie.Need-returns-2
 returns-2 c = none-absent (c .before .before .before .absent .ensures) (c .before .s .given .1)
 
