@@ -104,12 +104,12 @@ pub enum Judged {
 // ---- check and get
 const MAX_WIDTH: u64 = 0xFFFF_FFFF;
 
-// A text of this length is written in one walk; of a short record, which takes a smaller draft, one of that length.
+// Drafts: a record takes the first that is as long as it is. A text that is as long as its draft is written in one walk.
+const SHORT_DRAFT: usize = 4096;
+
+const MIDDLE_DRAFT: usize = 16384;
+
 const DRAFT: usize = 65536;
-
-const SHORT_DRAFT: usize = 16384;
-
-const SHORT_RECORD: usize = 8192;
 
 // A declaration's command, with its operand.
 const DECLARATION: usize = 3;
@@ -390,8 +390,12 @@ fn drafted(
 pub fn get(text: &[u8], rec: &[u8], tab: u32, out: &mut [u8], left: &mut [u64; 64]) -> Answer
     ensures { λ r. ⌜ record { verdict = verdictOf r (now (left .exit)); out = now (out .exit) } ≡ get· (now (text .entry)) (now (rec .entry)) tab (now (out .entry)) ⌝ }
 {
-    if rec.len() <= SHORT_RECORD {
+    if rec.len() <= SHORT_DRAFT {
         let mut draft = [0u8; SHORT_DRAFT];
+        return drafted(text, rec, tab, &mut draft, out, left);
+    }
+    if rec.len() <= MIDDLE_DRAFT {
+        let mut draft = [0u8; MIDDLE_DRAFT];
         return drafted(text, rec, tab, &mut draft, out, left);
     }
     let mut draft = [0u8; DRAFT];

@@ -4,11 +4,12 @@ use answers::Reference;
 use diverplume::{check, get};
 use sheet::{lettered, Sheet};
 
-/// The lengths of the drafts: `SHORT_DRAFT` and `DRAFT` in crates/formatter/src/lib.rt.
-const DRAFTS: [usize; 2] = [16_384, 65_536];
+/// The lengths of the drafts: `SHORT_DRAFT`, `MIDDLE_DRAFT` and `DRAFT` in crates/formatter/src/lib.rt. A record takes the
+/// first that is as long as it is.
+const DRAFTS: [usize; 3] = [4096, 16_384, 65_536];
 
-/// A record of this length has the shorter draft: `SHORT_RECORD` there.
-const SHORT_RECORD: usize = 8192;
+/// 01's limit: with as many tokens a record is longer than the second draft.
+const MAX_TOKENS: usize = 4096;
 
 /// What an output holds where nothing is written.
 const BLANK: u8 = b'.';
@@ -28,7 +29,7 @@ fn written(sheet: &Sheet, reference: &Reference, tab_size: u32, length: usize) -
     formatted.text.is_some()
 }
 
-/// Compares texts about as long as either draft. `sheet` has one indent of depth 1, so that every length has a tab size.
+/// Compares texts about as long as each draft. `sheet` has one indent of depth 1, so that every length has a tab size.
 fn compare(sheet: &Sheet) {
     let measures = check(&sheet.text, &sheet.record).measures;
     assert_eq!(measures.units, 1);
@@ -46,15 +47,17 @@ fn texts_about_as_long_as_a_draft() {
     compare(&lettered::e());
 }
 
-/// Tokens of one space behind the others, four bytes of the record each, make the record as long as the shorter draft allows, and longer.
+/// Tokens of one space behind the others, four bytes of the record each, make the record as long as a draft allows, and longer.
 #[test]
-fn records_about_as_long_as_the_shorter_draft_allows() {
+fn records_about_as_long_as_a_draft() {
     let sheet = lettered::e();
     let tokens = sheet.record.iter().step_by(4).take_while(|&&byte| byte == 5).count();
-    for spaces in [(SHORT_RECORD - sheet.record.len()) / 4, SHORT_RECORD / 4] {
-        let mut longer = sheet.clone();
-        longer.text.extend(vec![b' '; spaces]);
-        longer.record.splice(4 * tokens..4 * tokens, [5, 0, 1, 0].repeat(spaces));
-        compare(&longer);
+    for draft in [DRAFTS[0], DRAFTS[1]] {
+        for spaces in [(draft - sheet.record.len()) / 4, (draft / 4).min(MAX_TOKENS - tokens)] {
+            let mut longer = sheet.clone();
+            longer.text.extend(vec![b' '; spaces]);
+            longer.record.splice(4 * tokens..4 * tokens, [5, 0, 1, 0].repeat(spaces));
+            compare(&longer);
+        }
     }
 }
