@@ -432,6 +432,11 @@ def generated(crate, room):
     return "%s/Rattle.%s.proofs/proofs" % (room, crate)
 
 
+def with_uses(uses, text):
+    """A proof file with the lines that its answers need; none stands twice."""
+    return "".join(line + "\n" for line in uses) + "\n".join(line for line in text.split("\n") if line not in uses)
+
+
 def write_cycle(crate, root, path, text, answers, members):
     folder, functions = os.path.dirname(path), {}
     names = os.path.basename(folder)[1:].split("+")
@@ -441,9 +446,8 @@ def write_cycle(crate, root, path, text, answers, members):
         functions[dashed(name)] = Function(name, places, answers["functions"][name], members, [dashed(other) for other in names], deep_calls(source, name))
     os.makedirs(folder, exist_ok=True)
     filled_text = re.sub(r"(?m)^-- src/.*\n", "", filled_cycle(functions, text, answers["left"]))
-    at = filled_text.index("\n\nabbrev")
     head = "-- The functions of a cycle of calls equal their layouts. Written by tools/arms.py.\n"
-    open(path, "w").write(head + "".join(line + "\n" for line in answers["use"]) + filled_text[:at] + filled_text[at:])
+    open(path, "w").write(head + with_uses(answers["use"], filled_text))
     print("wrote", os.path.basename(folder))
 
 
@@ -518,7 +522,7 @@ def main():
                 function = Function(name, places, answers["functions"][name], members)
                 os.makedirs(os.path.dirname(path), exist_ok=True)
                 head = "-- `%s::%s` equals its layout. Written by tools/arms.py.\n" % (crate, name.replace("/", "::"))
-                open(path, "w").write(head + "".join(line + "\n" for line in answers["use"]) + filled(function, files[path]))
+                open(path, "w").write(head + with_uses(answers["use"], filled(function, files[path])))
                 print("wrote", name)
 
 

@@ -137,6 +137,9 @@ class Sources(unittest.TestCase):
         members = arms.known("walk", self.answers("walk"))
         self.assertEqual(("plain", "plain", "operated", "does"), tuple(members[name] for name in ("get-ty", "text-of", "infix-operator", "app")))
 
+    def test_no_use_stands_twice(self):
+        self.assertEqual("use a\nuse b\nuse c\n\nx = y\n", arms.with_uses(["use a", "use b"], "use b\nuse c\n\nx = y\n"))
+
     def test_bounds_are_those_of_the_sources(self):
         self.assertLessEqual({"indented", "dat-binds"}, arms.bounded("walk", self.answers("walk")))
         self.assertNotIn("app", arms.bounded("walk", self.answers("walk")))

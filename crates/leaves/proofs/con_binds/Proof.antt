@@ -42,10 +42,4 @@ returns-2 c = record { is = λ kinds. con-under (walks (c .before .before .befor
 pub con-binds-spec : {M : Type 1} → statement M
 con-binds-spec =
     tie.close
-    (tie.spec
-    con-lines-requires
-    same-length
-    returns
-    con-row-requires
-    same-length-2
-    returns-2)
+    (tie.spec con-lines-requires same-length returns con-row-requires same-length-2 returns-2)
