@@ -19,7 +19,8 @@ use Rattle.formatter.specs.declared.Answer.{Answer}
 use Rattle.formatter.specs.declared.Judged as Code
 use Rattle.formatter.specs.declared.Judged.the-variants as Case
 use Rattle.formatter.specs.WalkFirst.{byWalk}
-use Rattle.formatter.specs.Verdict.{Verdict, verdict, noMeasures, stopVerdict, Result, Judged, declined, accepted, judge, measuresOf, emptySet, verdictOf, format}
+use Rattle.formatter.specs.Verdict.{Verdict, verdict, noMeasures, emptySet, verdictOf, measuresOf}
+use Rattle.formatter.specs.Verdict.{stopVerdict, Judged, declined, accepted, judge, Result, format}
 
 -- The verdict of a walk that did not end at the record's end, by its number, where the record passes the check.
 unfoldable pub otherwise : ℕ → Verdict
@@ -49,6 +50,10 @@ pub record Drafts (p : Page) (tree tab : ℕ) (draft : List ℕ) : Type 0 where
   pub is : (end : ℕ) (es : List Event) → walk p tree ≡ done end es → length (formatted p tab es) ≤ length draft
       → take (length (formatted p tab es)) draft ≡ formatted p tab es
 
+-- The walk ends with these measures, and what it leaves in a draft.
+abbrev pub Drafted : Page → ℕ → ℕ → Measures → List ℕ → Type 0
+Drafted p tree tab m draft = Weight p tree m × Drafts p tree tab draft
+
 -- The judgement accepts the sheet: its measures, the draft, and no comment left.
 pub record Accepts (j : Judged) (p : Page) (tree tab : ℕ) (m : Measures) (draft left : List ℕ) : Type 0 where
   pub weight : Weight p tree m
@@ -59,6 +64,10 @@ pub record Accepts (j : Judged) (p : Page) (tree tab : ℕ) (m : Measures) (draf
 -- Each table has this many entries.
 abbrev pub Within : ℕ → List ℕ → List ℕ → List ℕ → Type 0
 Within count kinds starts lens = (count ≤ length kinds) × (count ≤ length starts) × (count ≤ length lens)
+
+-- The page of a text and a record, with the first entries of the tables as its tokens.
+abbrev pub pageIn : List ℕ → List ℕ → ℕ → List ℕ → List ℕ → List ℕ → Page
+pageIn text rec count kinds starts lens = page text rec (take count kinds) (take count starts) (take count lens)
 
 -- 01's limits, with the tokens in the tables.
 pub record Limits (text rec kinds starts lens : List ℕ) (count tree : ℕ) : Type 0 where
@@ -80,7 +89,7 @@ pub record Weighs (p : Page) (count tree tab : ℕ) (draft left : List ℕ) (r :
 abbrev judged : List ℕ → List ℕ → ℕ → List ℕ → List ℕ → List ℕ → List ℕ → List ℕ → Code.Judged → Type 0
 judged text rec tab kinds starts lens draft left (Case.Accepted count tree m) =
     Within count kinds starts lens
-    × Accepts (judge text rec) (page text rec (take count kinds) (take count starts) (take count lens)) tree tab m draft left
+    × Accepts (judge text rec) (pageIn text rec count kinds starts lens) tree tab m draft left
 judged text rec tab kinds starts lens draft left (Case.Declined a) = judge text rec ≡ declined (verdictOf a left)
 
 pub record Judges (text rec : List ℕ) (tab : ℕ) (kinds starts lens draft left : List ℕ) (r : Code.Judged) : Type 0 where

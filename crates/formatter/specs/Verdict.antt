@@ -15,7 +15,8 @@ use Rattle.layout.specs.Walk.{walk}
 use Rattle.layout.specs.Events.{deepest, letters, units, formatted, isLeft}
 use Rattle.formatter.specs.declared.Measures.{Measures}
 use Rattle.formatter.specs.declared.Answer.{Answer}
-use Rattle.formatter.specs.declared.Answer.the-variants.{Accepted, TooLong, NotUtf8, Malformed, TooDeep, Missing, Import, CommentsLeft, IndentTooWide, OutputTooShort}
+use Rattle.formatter.specs.declared.Answer.the-variants.{Accepted, TooLong, NotUtf8, Malformed, TooDeep}
+use Rattle.formatter.specs.declared.Answer.the-variants.{Missing, Import, CommentsLeft, IndentTooWide, OutputTooShort}
 
 -- A verdict (document 01): number, place, measures, and the words of the set of comments left.
 pub record Verdict : Type 0 where

@@ -26,13 +26,13 @@ use text::first_broken;
 ghost use mathlib.Core.Path.{_≡_};
 ghost use Prim.Native.Nat.{_*_, _≤_};
 ghost use mathlib.Core.List.{_∷_};
-ghost use lib.ListN.{length, take, drop};
+ghost use lib.ListN.{length, drop};
 ghost use Rattle.reader.specs.Check.{treeCheck};
 ghost use Rattle.layout.specs.State.{page};
 ghost use Rattle.formatter.specs.Lookup.{Asks, lookedOf, lookup};
 ghost use Rattle.formatter.specs.Verdict.{declined, emptySet, verdictOf, check as check·, get as get·};
 ghost use Rattle.formatter.specs.WalkFirst.{byCheck};
-ghost use Rattle.formatter.specs.Judging.{otherwise, BehindCommand, BehindWhere, Limits, Weighs, Weight, Drafts, Judges, Puts};
+ghost use Rattle.formatter.specs.Judging.{otherwise, BehindCommand, BehindWhere, Limits, pageIn, Weighs, Drafted, Judges, Puts};
 
 // Deepest, letters and units of a walk (document 01, module 5).
 pub struct Measures {
@@ -194,7 +194,8 @@ fn weigh(
     tab: u32,
 ) -> Judged
     requires { ⌜ Limits (now text) (now rec) (now kinds) (now starts) (now lens) count tree ⌝ }
-    ensures { λ r. ⌜ Weighs (page (now (text .entry)) (now (rec .entry)) (take count (now (kinds .entry))) (take count (now (starts .entry))) (take count (now (lens .entry)))) count tree tab (now (draft .exit)) (now (left .exit)) r ⌝ }
+    ensures { λ r. ⌜ Weighs (pageIn (now (text .entry)) (now (rec .entry)) count (now (kinds .entry)) (now (starts .entry)) (now (lens .entry)))
+        count tree tab (now (draft .exit)) (now (left .exit)) r ⌝ }
 {
     let kinds = &kinds[..count];
     let starts = &starts[..count];
@@ -238,7 +239,8 @@ fn judge(
     left: &mut [u64; 64],
     tab: u32,
 ) -> Judged
-    ensures { λ r. ⌜ Judges (now (text .entry)) (now (rec .entry)) tab (now (kinds .exit)) (now (starts .exit)) (now (lens .exit)) (now (draft .exit)) (now (left .exit)) r ⌝ }
+    ensures { λ r. ⌜ Judges (now (text .entry)) (now (rec .entry)) tab
+        (now (kinds .exit)) (now (starts .exit)) (now (lens .exit)) (now (draft .exit)) (now (left .exit)) r ⌝ }
 {
     if MAX_TEXT < text.len() {
         return refused(left, Answer::TooLong);
@@ -316,8 +318,9 @@ fn put(
     tab: u32,
     measures: Measures,
 ) -> Answer
-    requires { ⌜ Weight (page (now text) (now rec) (now kinds) (now starts) (now lens)) tree measures × Drafts (page (now text) (now rec) (now kinds) (now starts) (now lens)) tree tab (now draft) ⌝ }
-    ensures { λ r. ⌜ Puts (page (now (text .entry)) (now (rec .entry)) (now (kinds .entry)) (now (starts .entry)) (now (lens .entry))) tree tab (now (out .entry)) r (now (out .exit)) ⌝ }
+    requires { ⌜ Drafted (page (now text) (now rec) (now kinds) (now starts) (now lens)) tree tab measures (now draft) ⌝ }
+    ensures { λ r. ⌜ Puts (page (now (text .entry)) (now (rec .entry)) (now (kinds .entry)) (now (starts .entry)) (now (lens .entry)))
+        tree tab (now (out .entry)) r (now (out .exit)) ⌝ }
 {
     let deepest = measures.deepest;
     let letters = measures.letters;
@@ -350,7 +353,8 @@ fn drafted(
     out: &mut [u8],
     left: &mut [u64; 64],
 ) -> Answer
-    ensures { λ r. ⌜ record { verdict = verdictOf r (now (left .exit)); out = now (out .exit) } ≡ get· (now (text .entry)) (now (rec .entry)) tab (now (out .entry)) ⌝ }
+    ensures { λ r. ⌜ record { verdict = verdictOf r (now (left .exit)); out = now (out .exit) }
+        ≡ get· (now (text .entry)) (now (rec .entry)) tab (now (out .entry)) ⌝ }
 {
     let mut kinds = [0u8; 4096];
     let mut starts = [0u16; 4096];
@@ -388,7 +392,8 @@ fn drafted(
 
 // Formats the sheet at a tab size into the output's first bytes. Unless the answer is `Accepted`, the output is as it was.
 pub fn get(text: &[u8], rec: &[u8], tab: u32, out: &mut [u8], left: &mut [u64; 64]) -> Answer
-    ensures { λ r. ⌜ record { verdict = verdictOf r (now (left .exit)); out = now (out .exit) } ≡ get· (now (text .entry)) (now (rec .entry)) tab (now (out .entry)) ⌝ }
+    ensures { λ r. ⌜ record { verdict = verdictOf r (now (left .exit)); out = now (out .exit) }
+        ≡ get· (now (text .entry)) (now (rec .entry)) tab (now (out .entry)) ⌝ }
 {
     if rec.len() <= SHORT_DRAFT {
         let mut draft = [0u8; SHORT_DRAFT];
