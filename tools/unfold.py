@@ -1,5 +1,5 @@
 #!/usr/bin/env python3
-"""unfold.py [--check]: writes crates/program/proofs/Run.antt, whose name `run` opens every definition of specs/.
+"""unfold.py [--check]: writes crates/theorems/proofs/Run.antt, whose name `run` opens every definition of specs/.
 
 A theorem about a sheet is closed by computation under `unfolding run`. Definitions that speak of the code's
 own state or of the answers before Ticket 5 are left out: no sheet's answer is computed by them.
@@ -9,9 +9,9 @@ import os
 import re
 import sys
 
-LEFT_OUT = {"State", "Words", "Grammar", "Tree", "Answers", "Wide", "Tables", "Ascii"}
-FILE = "crates/program/proofs/Run.antt"
-CRATES = ["text", "reader", "comments", "layout", "agreement", "formatter", "program"]
+LEFT_OUT = {"State", "Words", "Grammar", "Tree", "Answers", "Wide", "Tables", "Ascii", "AsciiDoc", "AsciiProgram"}
+FILE = "crates/theorems/proofs/Run.antt"
+CRATES = ["text", "reader", "comments", "layout", "agreement", "formatter", "program", "theorems"]
 
 
 def modules():
@@ -30,7 +30,7 @@ def text():
     lines = ["-- `unfolding run` opens every definition of specs/, so that a theorem about a sheet is closed by computation.",
              "-- Written by tools/unfold.py."]
     for crate, name, names in found:
-        library = "Rattle.program.specs" if crate == "program" else "Rattle·" + crate
+        library = "Rattle.theorems.specs" if crate == "theorems" else "Rattle·" + crate
         lines.append("use %s.specs.%s as %s" % (library, name, name))
     for crate, name, names in found:
         lines += ["", "unfoldable pub run%s : Unit {0}" % name, "unfolding " + " ".join(name + "." + one for one in names), "run%s = tt" % name]
@@ -39,7 +39,7 @@ def text():
 
 
 def main(arguments):
-    if not os.path.exists("crates/program"):
+    if not os.path.exists("crates/theorems"):
         raise SystemExit("unfold: run it from the repository's root")
     if arguments == ["--check"]:
         with open(FILE, encoding="utf-8") as file:

@@ -47,7 +47,7 @@ use Rattle.formatter.specs.Judging.{otherwise, BehindCommand, BehindWher
 use Rattle.formatter.proofs.EventLaws.{length-formatted}
 use Rattle.formatter.proofs.RunLaws.{out-is, left-comments, empty-left, first-left, comments-some, comments-none}
 use Rattle.formatter.proofs.VerdictLaws.{format-wide, format-short, format-fits, check-declined, get-declined, check-accepted, get-accepted}
-use Rattle.formatter.proofs.InStep.{walk-first}
+use Rattle.formatter.proofs.WalkFirstLaws.{walk-first}
 use Rattle.reader.proofs.EvenLaws.{tiled-even}
 use Rattle.reader.proofs.TreePlace.{tree-near}
 

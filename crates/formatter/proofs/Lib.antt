@@ -4,7 +4,4 @@ pub mod RunLaws
 pub mod LentLaws
 pub mod JudgeLaws
 pub mod VerdictLaws
-pub mod AsciiLaws
-pub mod Demands
-pub mod InStep
-pub mod Stops
+pub mod WalkFirstLaws

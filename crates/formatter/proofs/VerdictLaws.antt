@@ -1,12 +1,14 @@
--- Laws of the verdicts: a refusal has a number, what an accepted sheet is, and formatting by its two bounds. Assumes nothing.
+-- Laws of the verdicts: a refusal has a number, what is accepted, and formatting by its two bounds. Assumes nothing.
 use Prim.Native.Nat.{ℕ, _+_, _*_, _≤_, _<_}
 use native.Mathlib.Omega.{arith}
 use mathlib.Core.Path.{_≡_, refl, sym, ap, _∙_}
-use mathlib.Core.Logic.{_↔_}
+use mathlib.Core.Logic.{_↔_, _⊎_, inl, inr, ⊎-elim}
+use mathlib.Core.Bool.{Bool, true, false}
 use mathlib.Core.List.{List, _++_}
 use mathlib.Core.Option.{Option, none, some}
 use lib.ListN.{length, drop}
-use borrow.Author.Tests.{le-leb, lt-leb}
+use lib.Dec.{leb}
+use borrow.Author.Tests.{le-leb, lt-leb, leb-true, leb-false}
 use Rattle.text.proofs.Laws.{never}
 use Rattle.reader.specs.Reading.{Read, refused, sheet, read}
 use Rattle.reader.proofs.ReadingLaws.{read-cases}
@@ -14,8 +16,8 @@ use Rattle.comments.specs.Set.{first}
 use Rattle.layout.specs.Meaning.{Page, Event, Stop, absent, imported, Outcome, done, stopped}
 use Rattle.layout.specs.Walk.{walk}
 use Rattle.layout.specs.Events.{deepest, letters, units, formatted, isLeft}
-use Rattle.formatter.specs.Verdict.{Verdict, verdict, measuresOf, Judged, declined, accepted, comments, stopVerdict, walked, judge, check, maxWidth, put, format, get}
-use Rattle.formatter.specs.Demands.{Sheet}
+use Rattle.formatter.specs.Verdict.{Verdict, verdict, measuresOf, Judged, declined, accepted, comments, stopVerdict, walked, judge, check, Result, maxWidth, put, format, get}
+use Rattle.formatter.specs.Accepted.{Sheet, Fits}
 use Rattle.formatter.proofs.EventLaws.{length-formatted}
 
 -- ---- a refusal's number is never 0
@@ -151,3 +153,39 @@ module _ (tab : ℕ) (p : Page) (es : List Event) (out : List ℕ) where
     format-fits h =
         let l : length (formatted p tab es) ≤ length out = omega (arith, length-formatted p tab es) in
         format-put ∙ rw (put, le-leb _ _ l)
+
+-- ---- what formatting accepts
+-- Formatting refuses and leaves the output as it was.
+abbrev pub Leaves : Result → List ℕ → Type 0
+Leaves r out = (r .verdict .number ≡ 0 → ⊥) × (r .out ≡ out)
+
+-- A result with the output as it was, and a refusal's number.
+leaves : {r : Result} {v : Verdict} {out : List ℕ} → r ≡ record { verdict = v; out = out } → (v .number ≡ 0 → ⊥) → Leaves r out
+leaves e ne = (λ z. ne (ap (λ s. s .verdict .number) (sym e) ∙ z), ap (λ s. s .out) e)
+
+module _ (text rec : List ℕ) (tab : ℕ) (out : List ℕ) where
+  pub gets : Fits text rec tab out ⊎ Leaves (get text rec tab out) out
+  gets = go (judge text rec) refl
+    where
+      bounds : (p : Page) (es : List Event) → judge text rec ≡ accepted p es → (w r : Bool) → leb (deepest es * tab) maxWidth ≡ w
+          → leb (letters p es + tab * units es) (length out) ≡ r → Fits text rec tab out ⊎ Leaves (get text rec tab out) out
+      bounds p es e false r f g = inr (leaves (get-accepted text rec e tab out ∙ format-wide tab p es out (leb-false _ _ f)) (λ z. omega (arith, z)))
+      bounds p es e true false f g =
+          inr (leaves (get-accepted text rec e tab out ∙ format-short tab p es out (leb-true _ _ f) (leb-false _ _ g)) (λ z. omega (arith, z)))
+      bounds p es e true true f g = inl (record { page = p; events = es; accepts = e; width = leb-true _ _ f; room = leb-true _ _ g })
+
+      go : (j : Judged) → judge text rec ≡ j → Fits text rec tab out ⊎ Leaves (get text rec tab out) out
+      go (declined v) e = inr (leaves (get-declined text rec e tab out) (declined-number text rec e))
+      go (accepted p es) e = bounds p es e _ _ refl refl
+
+  pub fits-get : (f : Fits text rec tab out)
+      → get text rec tab out
+      ≡ record {
+        verdict = verdict 0 0 (measuresOf (f .page) (f .events));
+        out = formatted (f .page) tab (f .events) ++ drop (length (formatted (f .page) tab (f .events))) out;
+      }
+  fits-get f = get-accepted text rec (f .accepts) tab out ∙ format-fits tab (f .page) (f .events) out (f .width) (f .room)
+
+  -- Formatting accepts exactly when the check accepts and both bounds hold.
+  pub get-accepts : (get text rec tab out .verdict .number ≡ 0) ↔ Fits text rec tab out
+  get-accepts = (λ z. ⊎-elim (λ f. f) (λ l. absurd (l .0 z)) gets, λ f. ap (λ r. r .verdict .number) (fits-get f))

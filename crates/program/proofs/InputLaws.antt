@@ -14,8 +14,7 @@ use Rattle.layout.specs.Events.{letters, units, formatted}
 use Rattle.formatter.specs.declared.Answer.{Answer}
 use Rattle.formatter.specs.Verdict.{Result, verdict, noMeasures, measuresOf, declined, judge, get, numberOf, givenMeasures, verdictOf}
 use Rattle.formatter.proofs.EventLaws.{length-formatted}
-use Rattle.formatter.proofs.VerdictLaws.{get-declined, get-accepted, format-fits}
-use Rattle.formatter.proofs.Demands.{get-accepts}
+use Rattle.formatter.proofs.VerdictLaws.{get-declined, get-accepted, format-fits, get-accepts}
 use Rattle.program.specs.Program.{line, textOf, lineOf, printed, room, headLength, tabSize, textLength, formatInput, program}
 use Rattle.program.specs.Printing.{saidWith, shown, TextWithin}
 

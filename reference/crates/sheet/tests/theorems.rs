@@ -1,4 +1,4 @@
-//! The sheets of the theorems in `crates/program/proofs/Sheets.antt` are the lettered sheets: the same
+//! The sheets of the theorems in `crates/theorems/proofs/Sheets.antt` are the lettered sheets: the same
 //! texts, the same records byte for byte.
 
 use sheet::lettered;
@@ -36,7 +36,7 @@ fn definitions<'a>(file: &'a str, head: &str) -> BTreeMap<&'a str, &'a str> {
 
 #[test]
 fn theorems_are_about_the_lettered_sheets() {
-    let path = concat!(env!("CARGO_MANIFEST_DIR"), "/../../../crates/program/proofs/Sheets.antt");
+    let path = concat!(env!("CARGO_MANIFEST_DIR"), "/../../../crates/theorems/proofs/Sheets.antt");
     let file = std::fs::read_to_string(path).unwrap_or_else(|error| panic!("{path}: {error}"));
     let (texts, records) = (definitions(&file, "text"), definitions(&file, "rec"));
     assert_eq!(texts.keys().collect::<Vec<_>>(), records.keys().collect::<Vec<_>>());

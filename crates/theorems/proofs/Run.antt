@@ -28,9 +28,9 @@ use Rattle.formatter.specs.Verdict as Verdict
 use Rattle.formatter.specs.Lookup as Lookup
 use Rattle.formatter.specs.WalkFirst as WalkFirst
 use Rattle.formatter.specs.Judging as Judging
-use Rattle.formatter.specs.Demands as Demands
 use Rattle.program.specs.Program as Program
 use Rattle.program.specs.Printing as Printing
+use Rattle.theorems.specs.Demands as Demands
 
 unfoldable pub runUtf8 : Unit {0}
 unfolding Utf8.isIn Utf8.isScalar Utf8.encode Utf8.encoded Utf8.wellFormed Utf8.fits Utf8.widthIn Utf8.charAt Utf8.brokenFrom Utf8.firstBroken Utf8.isInside Utf8.boundary Utf8.brokenAt
@@ -144,10 +144,6 @@ unfoldable pub runJudging : Unit {0}
 unfolding Judging.otherwise
 runJudging = tt
 
-unfoldable pub runDemands : Unit {0}
-unfolding Demands.withoutSpaces
-runDemands = tt
-
 unfoldable pub runProgram : Unit {0}
 unfolding Program.digits Program.decimal Program.line Program.textOf Program.lineOf Program.printed Program.tabSize Program.textLength Program.formatInput Program.program
 runProgram = tt
@@ -156,6 +152,10 @@ unfoldable pub runPrinting : Unit {0}
 unfolding Printing.shown
 runPrinting = tt
 
+unfoldable pub runDemands : Unit {0}
+unfolding Demands.withoutSpaces
+runDemands = tt
+
 unfoldable pub run : Unit {0}
-unfolding runUtf8 runBytes runOutput runWellFormed runForms runFields runCommands runTokens runCheck runReading runSet runAbove runMeaning runHelpers runGetDec runTy runPat runExp runSigExp runStrExp runDecOne runWalk runEvents runUnbounded runVerdict runLookup runWalkFirst runJudging runDemands runProgram runPrinting
+unfolding runUtf8 runBytes runOutput runWellFormed runForms runFields runCommands runTokens runCheck runReading runSet runAbove runMeaning runHelpers runGetDec runTy runPat runExp runSigExp runStrExp runDecOne runWalk runEvents runUnbounded runVerdict runLookup runWalkFirst runJudging runProgram runPrinting runDemands
 run = tt

@@ -7,9 +7,9 @@ use Rattle.text.specs.WellFormed.{Ascii}
 use Rattle.reader.specs.Tokens.{textOf}
 use Rattle.comments.specs.Above.{commentAbove}
 use Rattle.formatter.specs.Lookup.{Asked, looked, declined, asked}
-use Rattle.formatter.proofs.AsciiLaws.{ask-ascii}
+use Rattle.theorems.proofs.AsciiLaws.{ask-ascii}
 use Rattle.doc_comment.specs.Doc.{Doc, docOf, docLookup}
-use Rattle.doc_comment.specs.Ascii.{docLookupAscii}
+use Rattle.theorems.specs.AsciiDoc.{docLookupAscii}
 
 -- Number, place, answer and final output.
 pub doc-lookup-ascii : (text rec : List ℕ) → Ascii text → (token : ℕ) (out : List ℕ) → docLookup text rec token out ≡ docLookupAscii text rec token out

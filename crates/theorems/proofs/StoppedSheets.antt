@@ -4,8 +4,8 @@ use mathlib.Core.List.{List, _++_}
 use mathlib.Core.Path.{refl}
 use Rattle.text.specs.Bytes.{bytes}
 use Rattle.formatter.specs.Verdict.{verdict, noMeasures}
-use Rattle.program.proofs.Run.{run}
-use Rattle.program.proofs.Sheets.{hex, pairs, digit, Accepts, Declines, textK}
+use Rattle.theorems.proofs.Run.{run}
+use Rattle.theorems.proofs.Sheets.{hex, pairs, digit, Accepts, Declines, textK}
 
 -- ---- AppExp asks func, arg, func's first name, arg's first name, and then walks
 -- The record of an ExpDec with this expression, which starts at 12. It has no tokens.

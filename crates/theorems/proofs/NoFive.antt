@@ -1,11 +1,11 @@
--- No call gives 5 (document 02, Ticket 4), for every input. Each theorem stands under its sentence.
-use Prim.Native.Nat.{ℕ, zero, suc}
+-- No call gives 5, and the program prints none (document 02, Ticket 4), for every input. Each theorem stands under its sentence.
+use Prim.Native.Nat.{ℕ, zero, suc, _+_}
 use native.Mathlib.Omega.{arith}
-use mathlib.Core.Path.{_≡_, refl}
+use mathlib.Core.Path.{_≡_, refl, sym}
 use mathlib.Core.Bool.{Bool, true, false}
-use mathlib.Core.List.{List, [], _∷_}
+use mathlib.Core.List.{List, [], _∷_, _++_, append-nil}
 use mathlib.Core.Option.{Option, none, some}
-use lib.ListN.{length}
+use lib.ListN.{length, drop, take, replicate}
 use lib.Dec.{leb, eqb}
 use Rattle.text.specs.Utf8.{firstBroken}
 use Rattle.text.specs.Output.{fitted}
@@ -14,10 +14,11 @@ use Rattle.reader.specs.Tokens.{Tokens, textOf, maxTokens}
 use Rattle.comments.specs.Above.{commentAbove}
 use Rattle.scanner.specs.Lexical.{longest}
 use Rattle.scanner.specs.Scan.{Scanned, refused, tokens, numberAt, before, scanFrom, scanText, limited, read, commands, scan}
-use Rattle.formatter.specs.Verdict.{check, get}
+use Rattle.formatter.specs.Verdict.{Verdict, verdict, noMeasures, check, get}
 use Rattle.formatter.specs.Lookup.{Asked, declined, asked, ask, lookup}
-use Rattle.formatter.proofs.Stops.{check-not-5, get-not-5, ask-not-5, lookup-not-5}
+use Rattle.theorems.proofs.Stops.{check-not-5, get-not-5, ask-not-5, lookup-not-5}
 use Rattle.doc_comment.specs.Doc.{docText, put, docOf, docLookup}
+use Rattle.program.specs.Program.{line, room, printed, lineOf, formatInput, headLength, tabSize, textLength, program}
 
 -- ---- the doc lookup
 put-not-5 : (text out : List ℕ) → put text out .answer .number ≡ 5 → ⊥
@@ -121,3 +122,21 @@ pub no-call-gives-5 : (text rec : List ℕ) (tab token : ℕ) (out : List ℕ)
     × (scan text out .verdict .number ≡ 5 → ⊥)
 no-call-gives-5 text rec tab token out =
     (check-not-5 text rec, get-not-5 text rec tab out, lookup-not-5 text rec token, doc-not-5 text rec token out, scan-not-5 text out)
+
+-- ---- the program
+-- Printed bytes: the line of a verdict whose number is not 5, then more.
+abbrev Prints-not-5 : List ℕ → Type 0
+Prints-not-5 bytes = (v : Verdict) × (more : List ℕ) × (bytes ≡ line v ++ more) × (v .number ≡ 5 → ⊥)
+
+printed-not-5 : (tab : ℕ) (text rec : List ℕ) → Prints-not-5 (printed tab text rec)
+unfolding printed lineOf
+printed-not-5 tab text rec = (get text rec tab (replicate room 0) .verdict, _, refl, get-not-5 text rec tab (replicate room 0))
+
+-- The line that the program prints never has the number 5.
+pub program-not-5 : (input : List ℕ) → Prints-not-5 (program input)
+unfolding program formatInput
+program-not-5 input = go (leb (headLength + textLength input) (length input)) refl
+  where
+    go : (b : Bool) → leb (headLength + textLength input) (length input) ≡ b → Prints-not-5 (program input)
+    go true e = rw (e, program) (printed-not-5 (tabSize input) (take (textLength input) (drop headLength input)) (drop (textLength input) (drop headLength input)))
+    go false e = rw (e, program) (verdict 1 0 noMeasures, [], sym (append-nil (line (verdict 1 0 noMeasures))), λ g. omega (arith, g))

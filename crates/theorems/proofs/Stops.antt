@@ -23,12 +23,12 @@ use Rattle.layout.specs.Meaning.{Page, Event, Outcome, done, stopped, Stop, abs
 use Rattle.layout.specs.Events.{deepest, formatted, isLeft}
 use Rattle.layout.specs.Walk.{walk}
 use Rattle.agreement.specs.Agreement.{EmptyPath, Proper, EndsAt}
 use Rattle.formatter.specs.declared.Measures.{Measures}
 use Rattle.formatter.specs.Verdict.{Verdict, verdict, measuresOf, Judged, declined, accepted, comments, stopVerdict, walked, judge, check, maxWidth, put, format, get}
 use Rattle.formatter.specs.Lookup.{Looked, Asked, asked, ask, told, lookup}
 use Rattle.formatter.specs.Lookup as Lookup
-use Rattle.formatter.specs.Stops.{Has, MissingAt, ImportAt}
-use Rattle.formatter.proofs.InStep.{page, passes-walks}
+use Rattle.theorems.specs.Stops.{Has, MissingAt, ImportAt}
+use Rattle.theorems.proofs.InStep.{page, passes-walks}
 
 -- ---- bytes of commands
 module _ (rec : List ℕ) (at : ℕ) where

@@ -5,8 +5,8 @@ use mathlib.Core.Option.{none, some}
 use Rattle.reader.specs.Tokens.{textOf}
 use Rattle.comments.specs.Above.{commentAbove}
 use Rattle.formatter.specs.Lookup.{looked, declined, asked}
-use Rattle.formatter.specs.Ascii.{askAscii}
+use Rattle.theorems.specs.Ascii.{askAscii}
 use Rattle.doc_comment.specs.Doc.{Doc, docOf}
 
 unfoldable pub docLookupAscii : List ℕ → List ℕ → ℕ → List ℕ → Doc
 docLookupAscii text rec token out =

@@ -14,42 +14,13 @@ use Rattle.comments.specs.Set.{isComment}
 use Rattle.layout.specs.Meaning.{Page, Event}
 use Rattle.layout.specs.Events.{deepest, letters, units, trimmed, formatted}
 use Rattle.measures.proofs.Measures.{small-done, sheet-lengths}
 use Rattle.formatter.specs.Verdict.{Verdict, verdict, measuresOf, Judged, declined, accepted, judge, check, Result, maxWidth, get}
-use Rattle.formatter.specs.Demands.{Refuses, Sheet, Fits, Written, withoutSpaces, Holds}
-use Rattle.formatter.proofs.EventLaws.{length-formatted, same-at-tabs, same-spaceless, holds-written, all-written}
-use Rattle.formatter.proofs.VerdictLaws.{accepted-is, declined-number, check-declined, get-declined, check-accepted, get-accepted, format-wide, format-short, format-fits}
-
--- ---- by cases
--- Formatting refuses and leaves the output as it was.
-abbrev Leaves : Result → List ℕ → Type 0
-Leaves r out = (r .verdict .number ≡ 0 → ⊥) × (r .out ≡ out)
-
--- A result with the output as it was, and a refusal's number.
-leaves : {r : Result} {v : Verdict} {out : List ℕ} → r ≡ record { verdict = v; out = out } → (v .number ≡ 0 → ⊥) → Leaves r out
-leaves e ne = (λ z. ne (ap (λ s. s .verdict .number) (sym e) ∙ z), ap (λ s. s .out) e)
-
-module _ (text rec : List ℕ) (tab : ℕ) (out : List ℕ) where
-  gets : Fits text rec tab out ⊎ Leaves (get text rec tab out) out
-  gets = go (judge text rec) refl
-    where
-      bounds : (p : Page) (es : List Event) → judge text rec ≡ accepted p es → (w r : Bool) → leb (deepest es * tab) maxWidth ≡ w
-          → leb (letters p es + tab * units es) (length out) ≡ r → Fits text rec tab out ⊎ Leaves (get text rec tab out) out
-      bounds p es e false r f g = inr (leaves (get-accepted text rec e tab out ∙ format-wide tab p es out (leb-false _ _ f)) (λ z. omega (arith, z)))
-      bounds p es e true false f g =
-          inr (leaves (get-accepted text rec e tab out ∙ format-short tab p es out (leb-true _ _ f) (leb-false _ _ g)) (λ z. omega (arith, z)))
-      bounds p es e true true f g = inl (record { page = p; events = es; accepts = e; width = leb-true _ _ f; room = leb-true _ _ g })
-
-      go : (j : Judged) → judge text rec ≡ j → Fits text rec tab out ⊎ Leaves (get text rec tab out) out
-      go (declined v) e = inr (leaves (get-declined text rec e tab out) (declined-number text rec e))
-      go (accepted p es) e = bounds p es e _ _ refl refl
-
-  fits-get : (f : Fits text rec tab out)
-      → get text rec tab out
-      ≡ record {
-        verdict = verdict 0 0 (measuresOf (f .page) (f .events));
-        out = formatted (f .page) tab (f .events) ++ drop (length (formatted (f .page) tab (f .events))) out;
-      }
-  fits-get f = get-accepted text rec (f .accepts) tab out ∙ format-fits tab (f .page) (f .events) out (f .width) (f .room)
+use Rattle.formatter.specs.Accepted.{Sheet, Fits}
+use Rattle.theorems.specs.Demands.{Refuses, Written, withoutSpaces, Holds}
+use Rattle.formatter.proofs.EventLaws.{length-formatted}
+use Rattle.theorems.proofs.EventLaws.{same-at-tabs, same-spaceless, holds-written, all-written}
+use Rattle.formatter.proofs.VerdictLaws.{accepted-is, declined-number, check-declined, get-declined, check-accepted, gets, fits-get}
+use Rattle.formatter.proofs.VerdictLaws as VerdictLaws
 
 same-page : {j : Judged} {p q : Page} {es fs : List Event} → j ≡ accepted p es → j ≡ accepted q fs → p ≡ q
 same-page e f = cc
@@ -84,7 +55,7 @@ module _ (text rec : List ℕ) where
 module _ (text rec : List ℕ) (tab : ℕ) (out : List ℕ) where
   -- Formatting accepts exactly when the check accepts and both bounds hold.
   pub get-accepts : (get text rec tab out .verdict .number ≡ 0) ↔ Fits text rec tab out
-  get-accepts = (λ z. ⊎-elim (λ f. f) (λ l. absurd (l .0 z)) (gets text rec tab out), λ f. ap (λ r. r .verdict .number) (fits-get text rec tab out f))
+  get-accepts = VerdictLaws.get-accepts text rec tab out
 
   -- "The check's verdict and the formatter's on one sheet are equal in number, place, measures and set exactly when the check
   -- refuses the sheet, or it accepts and two bounds hold: the deepest indent formed, written or not, times the tab size is at

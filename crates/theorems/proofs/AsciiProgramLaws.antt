@@ -7,10 +7,10 @@ use lib.Dec.{leb, eqb}
 use lib.ListN.{length, take, drop, replicate}
 use Rattle.text.specs.WellFormed.{Ascii}
 use Rattle.formatter.specs.Verdict.{Verdict, verdict, noMeasures, Judged, declined, accepted, judge, Result, get}
-use Rattle.formatter.specs.Ascii.{judgeAscii, getAscii}
-use Rattle.formatter.proofs.AsciiLaws.{formatted-ascii, judge-ascii, page-ascii, get-ascii}
+use Rattle.theorems.specs.Ascii.{judgeAscii, getAscii}
+use Rattle.theorems.proofs.AsciiLaws.{formatted-ascii, judge-ascii, page-ascii, get-ascii}
 use Rattle.program.specs.Program.{line, room, textOf, lineOf, printed, headLength, tabSize, textLength, formatInput, program}
-use Rattle.program.specs.Ascii.{textAscii, printedAscii, formatAscii, programAscii}
+use Rattle.theorems.specs.AsciiProgram.{textAscii, printedAscii, formatAscii, programAscii}
 
 module _ (tab : ℕ) (text rec : List ℕ) (h : Ascii text) where
   text-ascii : textOf tab (judge text rec) ≡ textAscii tab (judgeAscii text rec)

@@ -11,8 +11,8 @@ use Rattle.reader.specs.Tokens.{tiled, untiled, tokens}
 use Rattle.layout.specs.Meaning.{done, stopped}
 use Rattle.agreement.specs.Unbounded as Unbounded
 use Rattle.formatter.specs.Verdict.{Verdict, verdict, noMeasures, check}
-use Rattle.program.proofs.Run.{run}
-use Rattle.program.proofs.Sheets.{hex, pairs, digit, textA}
+use Rattle.theorems.proofs.Run.{run}
+use Rattle.theorems.proofs.Sheets.{hex, pairs, digit, textA}
 
 -- Where the walk without bounds ends.
 unfoldable pub endOf : List ℕ → List ℕ → Option ℕ

@@ -1,5 +1,4 @@
--- The walk keeps step with the record, for every text and record. Each theorem stands under its sentence.
--- crates/agreement has the same of each form, of fields that any record holds.
+-- The walk before the record check, for every text and record. Assumes nothing.
 use Prim.Native.Nat.{ℕ}
 use mathlib.Core.Path.{_≡_, refl, sym, ap, _∙_, subst}
 use mathlib.Core.Bool.{Bool, true, false, _&&_}
@@ -17,12 +16,11 @@ use Rattle.reader.proofs.ReadingLaws.{read-cases}
 use Rattle.layout.specs.Meaning.{Page, Event, Outcome, done, stopped}
 use Rattle.layout.specs.Walk.{walk}
 use Rattle.agreement.specs.Agreement.{EndsAt}
-use Rattle.agreement.specs.Unbounded as Unbounded
 use Rattle.agreement.proofs.Knot as Knot
 use Rattle.formatter.specs.Verdict.{Judged, declined, verdict, noMeasures, comments, stopVerdict, walked, judge}
 use Rattle.formatter.specs.WalkFirst.{byCheck, byWalk, recordFirst, textFirst, judgeWalkFirst}
 
-abbrev pub page : List ℕ → List ℕ → Tokens → Page
+abbrev page : List ℕ → List ℕ → Tokens → Page
 page text rec ts = record { text = text; rec = rec; tokens = ts }
 
 -- ---- the record behind its tokens
@@ -30,36 +28,8 @@ module _ (text rec : List ℕ) (ts : Tokens) (tree : ℕ) where
   tree-ends : (end : ℕ) → treeCheck rec (countOf ts) tree ≡ ok end → EndsAt (page text rec ts) (length rec) (walk (page text rec ts) tree)
   tree-ends end e = Knot.passes-walks (page text rec ts) tree end e
 
-  tree-free : (end : ℕ) → treeCheck rec (countOf ts) tree ≡ ok end → Unbounded.walk (page text rec ts) tree ≡ walk (page text rec ts) tree
-  tree-free end e = Knot.passes-free (page text rec ts) tree end e
-
   tree-passes : (es : List Event) → walk (page text rec ts) tree ≡ done (length rec) es → treeCheck rec (countOf ts) tree ≡ ok (length rec)
   tree-passes es e = Knot.walked-passes (page text rec ts) tree es e
-
-module _ (text rec : List ℕ) where
-  abbrev AllEnd : Read → Type 0
-  AllEnd (refused number place) = Unit {0}
-  AllEnd (sheet ts tree) =
-      EndsAt (page text rec ts) (length rec) (walk (page text rec ts) tree) × (Unbounded.walk (page text rec ts) tree ≡ walk (page text rec ts) tree)
-
-  all-end : AllEnd (read text rec)
-  all-end = read-cases AllEnd text rec (λ number place ne. tt) (λ ts tree end t c. (tree-ends text rec ts tree end c, tree-free text rec ts tree end c))
-
-  module _ {ts : Tokens} {tree : ℕ} where
-    -- On a record that passes the check the walk ends at the record's end, or stops at an absent field, at AppExp's empty path, or at an import.
-    pub passes-walks : read text rec ≡ sheet ts tree → EndsAt (page text rec ts) (length rec) (walk (page text rec ts) tree)
-    passes-walks e = let both : AllEnd (sheet ts tree) = subst AllEnd e all-end in both .0
-
-    -- A walk that ends at the record's end has passed the check.
-    pub walked-passes : {es : List Event} → tokens (boundary text) (length text) rec ≡ tiled ts tree → walk (page text rec ts) tree ≡ done (length rec) es
-        → readRecord rec (boundary text) (length text) ≡ sheet ts tree
-    unfolding readRecord readTree
-    walked-passes {es} t e = rw (t, readRecord, tree-passes text rec ts tree es e, readTree) refl
-
-    -- On a record that passes the check its bounds play no part: the walk is the same if it takes a token and a declaration's first token of
-    -- any number, and looks through a dropped type with 200 forms.
-    pub bounds-play-no-part : read text rec ≡ sheet ts tree → Unbounded.walk (page text rec ts) tree ≡ walk (page text rec ts) tree
-    bounds-play-no-part e = let both : AllEnd (sheet ts tree) = subst AllEnd e all-end in both .1
 
 -- ---- the walk before the check
 abbrev judgeOf : List ℕ → List ℕ → Read → Judged

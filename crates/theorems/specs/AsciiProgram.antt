@@ -5,8 +5,8 @@ use mathlib.Core.Bool.{true, false}
 use lib.ListN.{length, take, drop, replicate}
 use lib.Dec.{leb, eqb}
 use Rattle.formatter.specs.Verdict.{Judged, declined, accepted, noMeasures, verdict}
-use Rattle.formatter.specs.Ascii.{formattedAscii, judgeAscii, getAscii}
+use Rattle.theorems.specs.Ascii.{formattedAscii, judgeAscii, getAscii}
 use Rattle.program.specs.Program.{line, room, headLength, tabSize, textLength}
 
 unfoldable pub textAscii : ℕ → Judged → List ℕ
 textAscii tab (declined v) = []

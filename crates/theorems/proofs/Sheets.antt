@@ -15,8 +15,8 @@ use Rattle.layout.specs.Meaning.{Page, Event}
 use Rattle.layout.specs.Events.{deepest}
 use Rattle.formatter.specs.Verdict.{Verdict, Result, verdict, noMeasures, check, get, judge, accepted, format, put, maxWidth}
 use Rattle.formatter.specs.Lookup.{lookup, told}
 use Rattle.program.specs.Program.{program}
-use Rattle.program.proofs.Run.{run}
+use Rattle.theorems.proofs.Run.{run}
 
 -- The value of a hexadecimal digit: `0` to `9`, `A` to `F`.
 unfoldable pub digit : ℕ → ℕ

@@ -14,12 +14,12 @@ use Rattle.reader.proofs.AsciiLaws.{read-ascii}
 use Rattle.comments.specs.Above.{foundAbove}
 use Rattle.layout.specs.Meaning.{Page, Event, Word, Token, Comment, Formed, Indent, tokenText}
 use Rattle.layout.specs.Events.{sumOf, lettersOf, deepest, units, trimmed, letters, spelt, formatted}
 use Rattle.formatter.specs.declared.Measures.{Measures}
 use Rattle.formatter.specs.Verdict.{verdict, noMeasures, measuresOf, Judged, declined, accepted, walked, judge, check, Result, maxWidth, put, format, get}
 use Rattle.formatter.specs.Lookup.{Looked, looked, Asked, asked, ask, told, lookup}
 use Rattle.formatter.specs.Lookup as Lookup
-use Rattle.formatter.specs.Ascii.{trimmedAscii, lettersAscii, speltAscii, formattedAscii, measuresAscii, judgeAscii, checkAscii, formatAscii, getAscii, askAscii, lookupAscii}
+use Rattle.theorems.specs.Ascii.{trimmedAscii, lettersAscii, speltAscii, formattedAscii, measuresAscii, judgeAscii, checkAscii, formatAscii, getAscii, askAscii, lookupAscii}
 use Rattle.formatter.proofs.VerdictLaws.{accepted-is, check-declined, check-accepted, get-declined, get-accepted}
 
 -- ---- what is read off events
 module _ (p : Page) (h : Ascii (p .text)) where

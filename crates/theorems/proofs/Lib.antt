@@ -1,0 +1,13 @@
+pub mod EventLaws
+pub mod Demands
+pub mod DocOutput
+pub mod InStep
+pub mod Stops
+pub mod NoFive
+pub mod AsciiLaws
+pub mod AsciiDocLaws
+pub mod AsciiProgramLaws
+pub mod Run
+pub mod Sheets
+pub mod StoppedSheets
+pub mod Bounds

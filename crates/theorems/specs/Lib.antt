@@ -1,0 +1,5 @@
+pub mod Demands
+pub mod Stops
+pub mod Ascii
+pub mod AsciiDoc
+pub mod AsciiProgram

@@ -1,0 +1,1 @@
+// Theorems about the definitions that the calls are proved against: no function's proof cites them.
