@@ -41,7 +41,8 @@ module _ (c : tie.After-measure) where
   told = c .before .before .before .before
 
   bang : sameBytes (part (comment told) (start told) (end told)) (bytes "!") ≡ true
-  bang = sym (c .before .before .opens .ensures) ∙ not-false _ (c .before .if1 .left)
+  unfolding bytes
+  bang = sym (c .before .before .is-just .ensures) ∙ not-false _ (c .before .if1 .left)
 
   closes : (m : ℕ) → c .measure .result ≡ Lines m → Closes (kept (comment told) (next told)) m
   closes m e = body-closes _ m _ (c .measure .ensures) e
@@ -58,20 +59,21 @@ enum-told c = search needs
 returns : tie.Need-returns
 returns c = said-empty _ _ (next-over _ _ _ (c .before .before .next-line .ensures) (c .enum-told .given .1))
 
-sub-opens : tie.Need-sub-opens
-sub-opens c = first c .ordered
+sub-is-just : tie.Need-sub-is-just
+sub-is-just c = first c .ordered
 
-part-opens-start : tie.Need-part-opens-start
-part-opens-start c = first c .ordered
+part-is-just-start : tie.Need-part-is-just-start
+part-is-just-start c = first c .ordered
 
-part-opens-end : tie.Need-part-opens-end
-part-opens-end c = first c .inside
+part-is-just-end : tie.Need-part-is-just-end
+part-is-just-end c = first c .inside
 
-opens-requires : tie.Need-opens-requires
-opens-requires c κs = search needs
+is-just-requires : tie.Need-is-just-requires
+is-just-requires c κs = search needs
 
 returns-2 : tie.Need-returns-2
-returns-2 c = let told = c .before .before .before in said-plain (comment told) (out told) (first told) (sym (c .before .opens .ensures) ∙ not-true _ (c .if1 .taken))
+unfolding bytes
+returns-2 c = let told = c .before .before .before in said-plain (comment told) (out told) (first told) (sym (c .before .is-just .ensures) ∙ not-true _ (c .if1 .taken))
 
 measure-requires : tie.Need-measure-requires
 measure-requires c κs = first (c .before .before .before) .ends
@@ -114,10 +116,10 @@ doc-text-spec =
     enum-known-start
     enum-told
     returns
-    sub-opens
-    part-opens-start
-    part-opens-end
-    opens-requires
+    sub-is-just
+    part-is-just-start
+    part-is-just-end
+    is-just-requires
     returns-2
     measure-requires
     enum-known-m

@@ -4,6 +4,7 @@ use native.Mathlib.Omega.{arith}
 use mathlib.Core.Path.{sym, _∙_}
 use lib.ListN.{length}
 use denote.Ref.{now}
+use Rattle.text.specs.Bytes.{bytes}
 use Rattle.doc_comment.specs.Lines.{FirstKept}
 use Rattle.doc_comment.proofs.Scan.{next-kept, next-over}
 use Rattle.doc_comment.proofs.Text.{Seen, seen-none, seen-more, seen-closed, seen-open}
@@ -33,23 +34,25 @@ enum-known-s c = search needs
 enum-told : tie.Need-enum-told Inv-loop μ-loop
 enum-told c = search needs
 
-sub-closes : tie.Need-sub-closes Inv-loop μ-loop
-sub-closes c = c .before .before .before .loop .inv .ordered
+sub-is-just : tie.Need-sub-is-just Inv-loop μ-loop
+sub-is-just c = c .before .before .before .loop .inv .ordered
 
-part-closes-start : tie.Need-part-closes-start Inv-loop μ-loop
-part-closes-start c = c .before .before .before .loop .inv .ordered
+part-is-just-start : tie.Need-part-is-just-start Inv-loop μ-loop
+part-is-just-start c = c .before .before .before .loop .inv .ordered
 
-part-closes-end : tie.Need-part-closes-end Inv-loop μ-loop
-part-closes-end c = c .before .before .before .loop .inv .inside
+part-is-just-end : tie.Need-part-is-just-end Inv-loop μ-loop
+part-is-just-end c = c .before .before .before .loop .inv .inside
 
-closes-requires : tie.Need-closes-requires Inv-loop μ-loop
-closes-requires c κs = search needs
+is-just-requires : tie.Need-is-just-requires Inv-loop μ-loop
+is-just-requires c κs = search needs
 
 returns : tie.Need-returns Inv-loop μ-loop
-returns c = seen-closed (c .before .before .before .before .before .before .loop .inv) (next-over _ _ _ (c .before .before .before .before .before .next-line .ensures) (c .before .before .before .enum-told .given .1)) (sym (c .before .closes .ensures) ∙ c .if1 .taken)
+unfolding bytes
+returns c = seen-closed (c .before .before .before .before .before .before .loop .inv) (next-over _ _ _ (c .before .before .before .before .before .next-line .ensures) (c .before .before .before .enum-told .given .1)) (sym (c .before .is-just .ensures) ∙ c .if1 .taken)
 
 returns-2 : tie.Need-returns-2 Inv-loop μ-loop
-returns-2 c = seen-open (c .before .before .before .before .before .before .loop .inv) (next-over _ _ _ (c .before .before .before .before .before .next-line .ensures) (c .before .before .before .enum-told .given .1)) (sym (c .before .closes .ensures) ∙ c .if1 .left)
+unfolding bytes
+returns-2 c = seen-open (c .before .before .before .before .before .before .loop .inv) (next-over _ _ _ (c .before .before .before .before .before .next-line .ensures) (c .before .before .before .enum-told .given .1)) (sym (c .before .is-just .ensures) ∙ c .if1 .left)
 
 sub-total : tie.Need-sub-total Inv-loop μ-loop
 sub-total c = first c .ordered
@@ -76,10 +79,10 @@ measure-spec =
     next-line-requires
     enum-known-s
     enum-told
-    sub-closes
-    part-closes-start
-    part-closes-end
-    closes-requires
+    sub-is-just
+    part-is-just-start
+    part-is-just-end
+    is-just-requires
     returns
     returns-2
     sub-total
