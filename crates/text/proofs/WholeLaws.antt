@@ -1,82 +1,56 @@
 -- A text whose every byte may stand behind the three before it is well-formed. Assumes nothing.
-use Prim.Native.Nat.{ℕ, zero, suc, _+_, _-_, _*_, _≤_, _<_}
+use Prim.Native.Nat.{ℕ, zero, suc, _+_, _-_, _≤_, _<_}
 use native.Mathlib.Omega.{arith}
 use mathlib.Core.Path.{_≡_, refl, sym, ap, subst, _∙_}
-use mathlib.Core.Bool.{Bool, true, false}
+use mathlib.Core.Bool.{Bool, true, false, _&&_}
 use mathlib.Core.List.{List, [], _∷_, _++_}
 use mathlib.Core.Option.{none}
 use lib.Dec.{leb, eqb}
 use lib.ListN.{length, getD, take, drop}
 use lib.Seq.{getD-take, length-take-le}
-use borrow.Author.Tests.{leb-true, leb-false, eqb-true, eqb-false}
-use Rattle.text.specs.Utf8.{_‥_, continuation, wellFormed, charAt, brokenFrom, firstBroken, Follows, AllFollow}
+use borrow.Author.Tests.{le-leb, leb-true, leb-false, eqb-true, eqb-false}
+use Rattle.text.specs.Utf8.{_‥_, continuation, wellFormed, charAt, brokenFrom, firstBroken, Asked, Follows, AllFollow}
+use Rattle.text.specs.Bytes.{between}
+use Rattle.text.proofs.Computed.{and-left, and-right}
 use Rattle.text.proofs.Utf8Laws.{ascii-char, broken-none, broken-more}
 use Rattle.text.proofs.SpaceLaws.{first-byte, first-two, first-three}
 use Rattle.text.proofs.EncodeLaws.{under, char-two, char-three, char-four}
 
--- ---- limits
-abbrev Limit : ℕ → ℕ → ℕ → Type 0
-Limit l b r = (r ≤ 1) × (l * r ≤ b) × (b < l + 256 * r)
+-- ---- ranges as the code tests them
+module _ (lo hi b : ℕ) where
+  pub inside : between lo hi b ≡ true → (lo ≤ b) × (b ≤ hi)
+  unfolding between
+  inside e = (leb-true lo b (and-left (leb lo b) (leb b hi) e), leb-true b hi (and-right (leb lo b) (leb b hi) e))
 
-limit-off : (l b r : ℕ) → Limit l b r → b < l → r ≡ 0
-limit-off l b zero p h = refl
-limit-off l b (suc zero) p h = let q = p .1 in absurd (omega arith)
-limit-off l b (suc (suc r)) p h = let q = p .0 in absurd (omega arith)
+  pub outside : between lo hi b ≡ false → lo ≤ b → hi < b
+  unfolding between
+  outside e l = leb-false b hi (subst (λ (x : Bool). (x && leb b hi) ≡ false) (le-leb lo b l) e)
 
-limit-on : (l b r : ℕ) → Limit l b r → l ≤ b → r ≡ 1
-limit-on l b zero p h = let q = p .2 in absurd (omega arith)
-limit-on l b (suc zero) p h = refl
-limit-on l b (suc (suc r)) p h = let q = p .0 in absurd (omega arith)
-
--- A byte that is asked for stands between 0x80 and 0xBF.
-asked-inside : (n d k c : ℕ) → Limit 0x80 d k → Limit 0xC0 d c → n + c ≡ k → 1 ≤ n → (0x80 ≤ d) × (d ≤ 0xBF)
-asked-inside n d k c p q e h =
-    let k1 = p .0 in
-    let k2 = p .1 in
-    let c2 = q .2 in
-    (omega arith, omega arith)
-
--- One that is not is below, or above 0xC1.
-not-asked : (n d k c f : ℕ) → Limit 0x80 d k → Limit 0xC0 d c → Limit 0xC2 d f → n + c ≡ k → n ≡ 0 → c ≡ f → 0x80 ≤ d → 0xC2 ≤ d
-not-asked n d k c f p q r e z g h =
-    let k1 = limit-on 0x80 d k p h in
-    let f1 = r .1 in
-    omega arith
-
-module _ (a b c d n3 n2 n1 k kC kC′ kC2 lo hi : ℕ)
-    (p3 : Limit 0xF0 a n3) (p2 : Limit 0xE0 b n2) (p1 : Limit 0xC0 c n1) (q : Limit 0x80 d k) (qC : Limit 0xC0 d kC) (qC′ : Limit 0xC0 d kC′) (qC2 : Limit 0xC2 d kC2)
-    (e : n3 + n2 + n1 + kC ≡ k) (f : kC′ ≡ kC2) (m : d ≤ 0xF4)
-    (l : lo ≤ d) (ls : (c ≡ 0xE0 → lo ≡ 0xA0) × (c ≡ 0xF0 → lo ≡ 0x90)) (h : d ≤ hi) (hs : (c ≡ 0xED → hi ≡ 0x9F) × (c ≡ 0xF4 → hi ≡ 0x8F)) where
-  once : kC ≡ kC′
-  once = go (leb 0xC0 d) refl
-    where
-      go : (x : Bool) → leb 0xC0 d ≡ x → kC ≡ kC′
-      go true g = limit-on 0xC0 d kC qC (leb-true 0xC0 d g) ∙ sym (limit-on 0xC0 d kC′ qC′ (leb-true 0xC0 d g))
-      go false g = limit-off 0xC0 d kC qC (leb-false 0xC0 d g) ∙ sym (limit-off 0xC0 d kC′ qC′ (leb-false 0xC0 d g))
-
-  asked : 1 ≤ n3 + n2 + n1 → (0x80 ≤ d) × (d ≤ 0xBF)
-  asked g = asked-inside (n3 + n2 + n1) d k kC q qC e g
-
-  pub follows : Follows a b c d
-  follows =
-      record {
-        fourth = λ g. asked (let z = limit-on 0xF0 a n3 p3 g in omega (arith, z));
-        third = λ g. asked (let z = limit-on 0xE0 b n2 p2 g in omega (arith, z));
-        second = λ g. asked (let z = limit-on 0xC0 c n1 p1 g in omega (arith, z));
-        first = λ x y z g. not-asked (n3 + n2 + n1) d k kC kC2 q qC qC2 e
-            (let u = limit-off 0xF0 a n3 p3 x in let v = limit-off 0xE0 b n2 p2 y in let w = limit-off 0xC0 c n1 p1 z in omega (arith, u, v, w)) (once ∙ f) g;
-        known = m;
-        overlong-three = λ g. (let z = ls .0 g in omega (arith, z));
-        surrogate = λ g. (let z = hs .0 g in omega (arith, z));
-        overlong-four = λ g. (let z = ls .1 g in omega (arith, z));
-        over = λ g. (let z = hs .1 g in omega (arith, z));
-      }
-
--- ---- a text of such bytes
+-- ---- what is asked for
 abbrev Inside : ℕ → Type 0
 Inside b = (0x80 ≤ b) × (b ≤ 0xBF)
 
-module _ (s : List ℕ) (f : AllFollow s) (e1 : getD s (length s - 1) 0 < 0xC0) (e2 : getD s (length s - 2) 0 < 0xE0) (e3 : getD s (length s - 3) 0 < 0xF0) where
+module _ (a b c d n : ℕ) (p : (0xF0 ≤ a → 0 < n) × (0xE0 ≤ b → 0 < n) × (0xC0 ≤ c → 0 < n) × (a < 0xF0 → b < 0xE0 → c < 0xC0 → n ≡ 0)) where
+  pub asked-inside : (n ≡ 0 → ⊥) → Inside d → Asked a b c d
+  asked-inside e q =
+      record {
+        fourth = λ g. q;
+        third = λ g. q;
+        second = λ g. q;
+        none-asks = λ x y z g. absurd (e (p .3 x y z));
+      }
+
+  pub asked-outside : n ≡ 0 → (0x80 ≤ d → 0xBF < d) → Asked a b c d
+  asked-outside e q =
+      record {
+        fourth = λ g. absurd (omega (arith, e, p .0 g));
+        third = λ g. absurd (omega (arith, e, p .1 g));
+        second = λ g. absurd (omega (arith, e, p .2 g));
+        none-asks = λ x y z g. q g;
+      }
+
+-- ---- a text of such bytes
+module _ (s : List ℕ) (known : (i : ℕ) → i < length s → getD s i 0 ≤ 0xF3) (f : AllFollow s) (e1 : getD s (length s - 1) 0 < 0xC0) (e2 : getD s (length s - 2) 0 < 0xE0) (e3 : getD s (length s - 3) 0 < 0xF0) where
   abbrev at : ℕ → ℕ
   at i = getD s i 0
 
@@ -87,13 +61,13 @@ module _ (s : List ℕ) (f : AllFollow s) (e1 : getD s (length s - 1) 0 < 0xC0) 
   -- The bytes behind the first of a character.
   module _ (i : ℕ) (l : 3 ≤ i) where
     behind-one : i + 1 < length s → 0xC0 ≤ at i → Inside (at (i + 1))
-    behind-one h g = let p = f (i + 1) (omega arith) h in let q : i ≡ i + 1 - 1 = omega arith in p .second (subst (λ (m : ℕ). 0xC0 ≤ at m) q g)
+    behind-one h g = let p = f (i + 1) (omega arith) h in let q : i ≡ i + 1 - 1 = omega arith in p .asked .second (subst (λ (m : ℕ). 0xC0 ≤ at m) q g)
 
     behind-two : i + 2 < length s → 0xE0 ≤ at i → Inside (at (i + 2))
-    behind-two h g = let p = f (i + 2) (omega arith) h in let q : i ≡ i + 2 - 2 = omega arith in p .third (subst (λ (m : ℕ). 0xE0 ≤ at m) q g)
+    behind-two h g = let p = f (i + 2) (omega arith) h in let q : i ≡ i + 2 - 2 = omega arith in p .asked .third (subst (λ (m : ℕ). 0xE0 ≤ at m) q g)
 
     behind-three : i + 2 + 1 < length s → 0xF0 ≤ at i → Inside (at (i + 2 + 1))
-    behind-three h g = let p = f (i + 2 + 1) (omega arith) h in let q : i ≡ i + 2 + 1 - 3 = omega arith in p .fourth (subst (λ (m : ℕ). 0xF0 ≤ at m) q g)
+    behind-three h g = let p = f (i + 2 + 1) (omega arith) h in let q : i ≡ i + 2 + 1 - 3 = omega arith in p .asked .fourth (subst (λ (m : ℕ). 0xF0 ≤ at m) q g)
 
     module _ (h : i + 1 < length s) {b : ℕ} (e : at i ≡ b) where
       same-lead : at (i + 1 - 1) ≡ b
@@ -217,7 +191,7 @@ module _ (s : List ℕ) (f : AllFollow s) (e1 : getD s (length s - 1) 0 < 0xC0) 
           go : (x : Bool) → eqb (at i) 0xE0 ≡ x → (y : Bool) → eqb (at i) 0xED ≡ y → (z : Bool) → leb (at i) 0xEC ≡ z → Step i
           go true q y r z t =
               let e = eqb-true (at i) 0xE0 q in
-              let o = behind i l m e .overlong-three (same-lead i l m e) in
+              let o = behind i l m e .overlong-three (same-lead i l m e) (b .0) in
               three-row 2 0xE0 0xE0 0xA0 0xBF refl (omega (arith, e)) (omega (arith, e)) o (b .1) refl
           go false q true r z t =
               let e = eqb-true (at i) 0xED r in
@@ -232,7 +206,7 @@ module _ (s : List ℕ) (f : AllFollow s) (e1 : getD s (length s - 1) 0 < 0xC0) 
               let v = leb-false (at i) 0xEC t in
               three-row 5 0xEE 0xEF 0x80 0xBF refl (omega (arith, n, v)) k (b .0) (b .1) refl
 
-    module _ (g : 0xF0 ≤ at i) (k : at i ≤ 0xF4) where
+    module _ (g : 0xF0 ≤ at i) (k : at i ≤ 0xF3) where
       four-row : (row lo hi lo′ hi′ : ℕ) → under lo (take row wellFormed) ≡ true → lo ≤ at i → at i ≤ hi → lo′ ≤ at (i + 1) → at (i + 1) ≤ hi′
           → wellFormed ≡ take row wellFormed ++ (lo ‥ hi ∷ lo′ ‥ hi′ ∷ continuation ∷ continuation ∷ []) ∷ drop (suc row) wellFormed → Step i
       four-row row lo hi lo′ hi′ u x x′ y y′ e =
@@ -255,7 +229,7 @@ module _ (s : List ℕ) (f : AllFollow s) (e1 : getD s (length s - 1) 0 < 0xC0) 
 
       fours : Step i
       unfolding wellFormed under
-      fours = go (eqb (at i) 0xF0) refl (eqb (at i) 0xF4) refl
+      fours = go (eqb (at i) 0xF0) refl
         where
           m : i + 1 < length s
           m = let z = goes-three i h g in omega (arith, z)
@@ -263,19 +237,14 @@ module _ (s : List ℕ) (f : AllFollow s) (e1 : getD s (length s - 1) 0 < 0xC0) 
           b : Inside (at (i + 1))
           b = behind-one i l m (omega (arith, g))
 
-          go : (x : Bool) → eqb (at i) 0xF0 ≡ x → (y : Bool) → eqb (at i) 0xF4 ≡ y → Step i
-          go true q y r =
+          go : (x : Bool) → eqb (at i) 0xF0 ≡ x → Step i
+          go true q =
               let e = eqb-true (at i) 0xF0 q in
-              let o = behind i l m e .overlong-four (same-lead i l m e) in
+              let o = behind i l m e .overlong-four (same-lead i l m e) (b .0) in
               four-row 6 0xF0 0xF0 0x90 0xBF refl (omega (arith, e)) (omega (arith, e)) o (b .1) refl
-          go false q true r =
-              let e = eqb-true (at i) 0xF4 r in
-              let o = behind i l m e .over (same-lead i l m e) in
-              four-row 8 0xF4 0xF4 0x80 0x8F refl (omega (arith, e)) (omega (arith, e)) (b .0) o refl
-          go false q false r =
+          go false q =
               let n = eqb-false (at i) 0xF0 q in
-              let v = eqb-false (at i) 0xF4 r in
-              four-row 7 0xF1 0xF3 0x80 0xBF refl (omega (arith, n, g)) (omega (arith, v, k)) (b .0) (b .1) refl
+              four-row 7 0xF1 0xF3 0x80 0xBF refl (omega (arith, n, g)) k (b .0) (b .1) refl
 
     step : Step i
     step = go (leb (at i) 0x7F) refl (leb (at i) 0xDF) refl (leb (at i) 0xEF) refl
@@ -284,9 +253,9 @@ module _ (s : List ℕ) (f : AllFollow s) (e1 : getD s (length s - 1) 0 < 0xC0) 
         go true q y r z t = let v = leb-true (at i) 0x7F q in step-one (omega (arith, v))
         go false q true r z t =
             let v = leb-false (at i) 0x7F q in
-            step-two (f i l h .first (p .0) (p .1) (p .2) (omega (arith, v))) (leb-true (at i) 0xDF r)
+            step-two (f i l h .overlong-two (f i l h .asked .none-asks (p .0) (p .1) (p .2) (omega (arith, v)))) (leb-true (at i) 0xDF r)
         go false q false r true t = let v = leb-false (at i) 0xDF r in threes (omega (arith, v)) (leb-true (at i) 0xEF t)
-        go false q false r false t = let v = leb-false (at i) 0xEF t in fours (omega (arith, v)) (f i l h .known)
+        go false q false r false t = let v = leb-false (at i) 0xEF t in fours (omega (arith, v)) (known i h)
 
   whole-from : (n i : ℕ) → length s ≤ i + n → 3 ≤ i → i ≤ length s → Free i → brokenFrom 0 i (drop i s) ≡ none
   whole-from zero i l h m p = broken-none s i (omega arith)

@@ -15,11 +15,11 @@ unfolding brokenAt
 returns c = sym (ascii-whole _ (λ i h. omega (arith, c .before .greatest .ensures i h)))
 
 is-whole-requires : tie.Need-is-whole-requires
-is-whole-requires c κs = search needs
+is-whole-requires c κs = λ i h. omega (arith, c .before .before .greatest .ensures i h)
 
 returns-2 : tie.Need-returns-2
 unfolding brokenAt
-returns-2 c = sym (c .before .is-whole .ensures (c .if2 .taken))
+returns-2 c = sym (c .before .is-whole .ensures (c .if3 .taken))
 
 first-broken-char-requires : tie.Need-first-broken-char-requires
 first-broken-char-requires c κs = search needs

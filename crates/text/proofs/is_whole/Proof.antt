@@ -48,7 +48,7 @@ all-follow-requires : tie.Need-all-follow-requires
 all-follow-requires c κs = search needs
 
 returns-6 : tie.Need-returns-6
-returns-6 c = λ e. follows-whole (now (c .before .before .before .before .before .before .before .before .before .before .before .before .args .s)) (c .all-follow .ensures e) (c .before .before .before .before .before .if3 .left) (c .before .before .before .if4 .left) (c .before .if5 .left) (c .before .before .before .before .before .before .before .before .before .before .if1 .left) (first-narrow (now (c .before .before .before .before .before .before .before .before .before .before .before .before .args .s)) _ (c .before .before .before .before .before .before .before .before .before .before .if1 .left) (c .before .before .before .before .before .before .before .before .greatest .ensures) (c .before .before .before .before .before .before .before .if2 .left))
+returns-6 c = λ e. follows-whole (now (c .before .before .before .before .before .before .before .before .before .before .before .before .args .s)) (c .before .before .before .before .before .before .before .before .before .before .before .before .pre) (c .all-follow .ensures e) (c .before .before .before .before .before .if3 .left) (c .before .before .before .if4 .left) (c .before .if5 .left) (c .before .before .before .before .before .before .before .before .before .before .if1 .left) (first-narrow (now (c .before .before .before .before .before .before .before .before .before .before .before .before .args .s)) _ (c .before .before .before .before .before .before .before .before .before .before .if1 .left) (c .before .before .before .before .before .before .before .before .greatest .ensures) (c .before .before .before .before .before .before .before .if2 .left))
 
 pub is-whole-spec : {M : Type 1} → statement M
 is-whole-spec =
