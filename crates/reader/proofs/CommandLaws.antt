@@ -11,12 +11,14 @@ use borrow.Author.Tests.{le-leb, lt-leb, leb-true, leb-false, ltb-true, lt-ltb, 
 use Rattle.text.proofs.Laws.{never}
 use Rattle.reader.specs.declared.commands.Family.{Family}
 use Rattle.reader.specs.declared.commands.Family.the-variants as Code
+use Rattle.reader.specs.declared.commands.Facts.{Facts}
 use Rattle.reader.specs.declared.commands.Declaration.the-variants as Whole
 use Rattle.reader.specs.declared.commands.Number.{Number}
 use Rattle.reader.specs.declared.commands.Number.the-variants.{Is, Not}
 use Rattle.reader.specs.Fields as Fields
 use Rattle.reader.specs.Fields.{forms, firstForm}
-use Rattle.reader.specs.Commands.{u16, command, absentAt, tokenAt, listAt, groupAt, choiceAt, formAt, firstToken, noToken, formWidth, familyOf, numberIn, CommandAt, NumberAt, FormAt, declarationAt, declarationIn, DeclarationAt}
+use Rattle.reader.specs.Grammar.{firstRow}
+use Rattle.reader.specs.Commands.{u16, command, absentAt, operandAt, tokenAt, listAt, groupAt, choiceAt, formAt, firstToken, noToken, formWidth, familyOf, factsOf, numberIn, CommandAt, NumberAt, FormAt, declarationAt, declarationIn, DeclarationAt}
 
 pub and-left : (a b : Bool) → (a && b) ≡ true → a ≡ true
 and-left true b e = refl
@@ -48,21 +50,13 @@ stands-eq at width n h = go (leb at (n - width)) refl
     go false e = e ∙ sym (lt-leb (at + width) n (let k : n - width < at = leb-false at (n - width) e in omega arith))
 
 module _ {rec : List ℕ} {at : ℕ} {b : Bool} where
-  pub token-yes : {n : ℕ} → CommandAt 1 3 rec at b → b ≡ true → n ≡ u16 rec (at + 1) → NumberAt tokenAt rec at (Is n)
-  unfolding tokenAt numberIn
-  token-yes s t e = record { is = rw (← s .is, tokenAt, t, e) }
+  pub operand-yes : {tag n : ℕ} → CommandAt tag 3 rec at b → b ≡ true → n ≡ u16 rec (at + 1) → NumberAt (operandAt tag) rec at (Is n)
+  unfolding operandAt numberIn
+  operand-yes s t e = record { is = rw (← s .is, operandAt, t, e) }
 
-  pub token-no : CommandAt 1 3 rec at b → b ≡ false → NumberAt tokenAt rec at Not
-  unfolding tokenAt numberIn
-  token-no s t = record { is = rw (← s .is, tokenAt, t) }
-
-  pub list-yes : {n : ℕ} → CommandAt 2 3 rec at b → b ≡ true → n ≡ u16 rec (at + 1) → NumberAt listAt rec at (Is n)
-  unfolding listAt numberIn
-  list-yes s t e = record { is = rw (← s .is, listAt, t, e) }
-
-  pub list-no : CommandAt 2 3 rec at b → b ≡ false → NumberAt listAt rec at Not
-  unfolding listAt numberIn
-  list-no s t = record { is = rw (← s .is, listAt, t) }
+  pub operand-no : {tag : ℕ} → CommandAt tag 3 rec at b → b ≡ false → NumberAt (operandAt tag) rec at Not
+  unfolding operandAt numberIn
+  operand-no s t = record { is = rw (← s .is, operandAt, t) }
 
   pub choice-yes : {n : ℕ} → CommandAt 4 2 rec at b → b ≡ true → n ≡ getD rec (at + 1) 0 → NumberAt choiceAt rec at (Is n)
   unfolding choiceAt numberIn
@@ -79,26 +73,50 @@ u16-past rec at h =
     let k : length rec ≤ at + 1 = omega arith in
     rw (List·getD-eq-default rec 0 {n = at} h, List·getD-eq-default rec 0 {n = at + 1} k)
 
--- A form, from the width, the first command and the number of forms of its family.
-module _ {family : Family} {rec : List ℕ} {at width : ℕ} {b : Bool} (w : width ≡ formWidth (familyOf family)) (s : b ≡ leb (at + width) (length rec)) where
+-- The facts of a family, one by one.
+module _ (family : Fields.Family) {facts : Facts} (e : facts ≡ factsOf family) where
+  pub facts-first : facts .first ≡ firstForm family
+  unfolding factsOf
+  facts-first = ap (λ (f : Facts). f .first) e
+
+  pub facts-count : facts .count ≡ length (forms family)
+  unfolding factsOf
+  facts-count = ap (λ (f : Facts). f .count) e
+
+  pub facts-width : facts .width ≡ formWidth family
+  unfolding factsOf
+  facts-width = ap (λ (f : Facts). f .width) e
+
+  pub facts-row : facts .row ≡ firstRow family
+  unfolding factsOf
+  facts-row = ap (λ (f : Facts). f .row) e
+
+-- The facts of a family that is known.
+pub facts-known : {family known : Family} → family ≡ known → factsOf (familyOf known) ≡ factsOf (familyOf family)
+facts-known e = sym (ap (λ (f : Family). factsOf (familyOf f)) e)
+
+-- A form, from the facts of its family.
+module _ {family : Family} {rec : List ℕ} {at : ℕ} {facts : Facts} {b : Bool} (x : facts ≡ factsOf (familyOf family))
+    (s : b ≡ leb (at + facts .width) (length rec)) where
   pub form-cut : b ≡ false → FormAt family rec at Not
   unfolding formAt numberIn
-  form-cut t = record { is = rw (← w, ← s, formAt, t) }
+  form-cut t = record { is = rw (← facts-width (familyOf family) x, ← s, formAt, t) }
 
-  module _ {first byte : ℕ} (t : b ≡ true) (f : first ≡ firstForm (familyOf family)) (g : byte ≡ getD rec at 0) where
-    pub form-below : byte < first → FormAt family rec at Not
+  module _ {byte : ℕ} (t : b ≡ true) (g : byte ≡ getD rec at 0) where
+    pub form-below : byte < facts .first → FormAt family rec at Not
     unfolding formAt numberIn
-    form-below h = record { is = rw (← w, ← s, ← f, ← g, formAt, t, lt-leb first byte h) }
+    form-below h = record { is = rw (← facts-width (familyOf family) x, ← s, ← facts-first (familyOf family) x, ← g, formAt, t, lt-leb (facts .first) byte h) }
 
-    pub form-past : {n : ℕ} → n ≡ length (forms (familyOf family)) → first ≤ byte → n ≤ byte - first → FormAt family rec at Not
-    unfolding formAt numberIn
-    form-past {n} e h k =
-        record { is = rw (← w, ← s, ← f, ← g, ← e, formAt, t, le-leb first byte h, le-ltb byte (first + n) (omega arith)) }
+    module _ (h : facts .first ≤ byte) where
+      pub form-past : facts .count ≤ byte - facts .first → FormAt family rec at Not
+      unfolding formAt numberIn
+      form-past k =
+          record { is = rw (← facts-width (familyOf family) x, ← s, ← facts-first (familyOf family) x, ← g, ← facts-count (familyOf family) x, formAt, t, le-leb (facts .first) byte h, le-ltb byte (facts .first + facts .count) (omega arith)) }
 
-    pub form-is : {n : ℕ} → n ≡ length (forms (familyOf family)) → first ≤ byte → byte - first < n → FormAt family rec at (Is (byte - first))
-    unfolding formAt numberIn
-    form-is {n} e h k =
-        record { is = rw (← w, ← s, ← f, ← g, ← e, formAt, t, le-leb first byte h, lt-ltb byte (first + n) (omega arith), ← f, ← g) }
+      pub form-is : byte - facts .first < facts .count → FormAt family rec at (Is (byte - facts .first))
+      unfolding formAt numberIn
+      form-is k =
+          record { is = rw (← facts-width (familyOf family) x, ← s, ← facts-first (familyOf family) x, ← g, ← facts-count (familyOf family) x, formAt, t, le-leb (facts .first) byte h, lt-ltb byte (facts .first + facts .count) (omega arith), ← facts-first (familyOf family) x, ← g) }
 
 -- The operand of a declaration.
 module _ {rec : List ℕ} {at k : ℕ} where

@@ -113,6 +113,26 @@ module _ (count : ℕ) {rec : List ℕ} {at : ℕ} {r : Number} (s : NumberAt fi
       let f = some-false (eqb (u16 rec (at + 1)) noToken) (u16 rec (at + 1)) k (read-is s e) in
       rw (f .0, f .1) (sym (or-false (ltb k count)))
 
+-- A command of one byte has no operand; else it is that of a declaration.
+module _ (rec : List ℕ) (count at : ℕ) where
+  pub one-byte : (family : Fields.Family) → formWidth family ≡ 1 → true ≡ operandFits rec count family at
+  unfolding formWidth operandFits
+  one-byte Fields.DecOne e = absurd (omega (arith, e))
+  one-byte Fields.StrExp e = refl
+  one-byte Fields.SigExp e = refl
+  one-byte Fields.Exp e = refl
+  one-byte Fields.Pat e = refl
+  one-byte Fields.Ty e = refl
+
+  pub more-bytes : (family : Fields.Family) → (formWidth family ≡ 1 → ⊥) → operandFits rec count Fields.DecOne at ≡ operandFits rec count family at
+  unfolding formWidth
+  more-bytes Fields.DecOne z = refl
+  more-bytes Fields.StrExp z = absurd (z refl)
+  more-bytes Fields.SigExp z = absurd (z refl)
+  more-bytes Fields.Exp z = absurd (z refl)
+  more-bytes Fields.Pat z = absurd (z refl)
+  more-bytes Fields.Ty z = absurd (z refl)
+
 -- ---- a form
 module _ (rec : List ℕ) (count : ℕ) (family : Fields.Family) (at : ℕ) where
   fits-none : formAt rec family at ≡ none → formFits rec count family at ≡ none

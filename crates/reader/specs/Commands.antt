@@ -10,9 +10,11 @@ use Rattle.reader.specs.declared.commands.Family as Code
 use Rattle.reader.specs.declared.commands.Family.the-variants as Case
 use Rattle.reader.specs.declared.commands.Number.{Number}
 use Rattle.reader.specs.declared.commands.Number.the-variants.{Is, Not}
+use Rattle.reader.specs.declared.commands.Facts.{Facts}
 use Rattle.reader.specs.declared.commands.Declaration.{Declaration}
 use Rattle.reader.specs.declared.commands.Declaration.the-variants as Whole
 use Rattle.reader.specs.Fields.{Family, DecOne, StrExp, SigExp, Exp, Pat, Ty, forms, firstForm}
+use Rattle.reader.specs.Grammar.{firstRow}
 
 -- How many bytes a form's command has: a declaration's has one operand, the first token.
 unfoldable pub formWidth : Family → ℕ
@@ -80,6 +82,15 @@ familyOf Case.SigExp = SigExp
 familyOf Case.Exp = Exp
 familyOf Case.Pat = Pat
 familyOf Case.Ty = Ty
+
+-- What the forms of a family have in common.
+unfoldable pub factsOf : Family → Facts
+factsOf family =
+    record { first = firstForm family; count = length (forms family); width = formWidth family; row = firstRow family }
+
+-- The operand of the command `tag`, which has one of two bytes.
+unfoldable pub operandAt : ℕ → List ℕ → ℕ → Option ℕ
+operandAt tag rec at = elim (command rec tag 3 at) [ true ↦ some (u16 rec (at + 1)) | false ↦ none ]
 
 -- The number that an answer holds.
 unfoldable pub numberIn : Number → Option ℕ

@@ -3,10 +3,10 @@ use Prim.Native.Nat.{ℕ, zero, suc, _-_, _/_, _%_}
 use mathlib.Core.Path.{_≡_}
 use mathlib.Core.List.{List, [], _∷_, _++_, map}
 use mathlib.Core.Bool.{Bool, true, false}
-use lib.ListN.{getD}
+use lib.ListN.{length, getD}
 use lib.Dec.{eqb, ltb}
 use Rattle.reader.specs.Fields as Fields
-use Rattle.reader.specs.Fields.{Fields, _▸_, token, list, group, choice, form, DecOne, StrExp, SigExp, Exp, Pat, Ty, forms}
+use Rattle.reader.specs.Fields.{Family, Fields, _▸_, token, list, group, choice, form, DecOne, StrExp, SigExp, Exp, Pat, Ty, forms}
 use Rattle.reader.specs.Fields.{Path, TyVarSeq, TyRow, TySeq, TyBind, WithType, ConBind, DatBind, PatRow, PatArg, ExpRow, ExpArg, ExpInSeq, Arm, Matcher, ValBind, FunBindCase, FunBind, ExBind, SigBind, StrBind, PathEq, SharingTail, DecInSeq, DecWithTail, Dec, FunctorBind}
 use Rattle.reader.specs.Fields.{PatRowInner, FunBindCaseHead, ExBindInner, FunctorArg, AppStrExpArg}
 
@@ -78,6 +78,15 @@ rows =
     forms DecOne ++ forms StrExp ++ forms SigExp ++ forms Exp ++ forms Pat ++ forms Ty
     ++ held PatRowInner ++ held FunBindCaseHead ++ held ExBindInner ++ held FunctorArg ++ held AppStrExpArg
     ++ map inside groups
+
+-- The row of a family's first form.
+unfoldable pub firstRow : Family → ℕ
+firstRow DecOne = 0
+firstRow StrExp = length (forms DecOne)
+firstRow SigExp = length (forms DecOne ++ forms StrExp)
+firstRow Exp = length (forms DecOne ++ forms StrExp ++ forms SigExp)
+firstRow Pat = length (forms DecOne ++ forms StrExp ++ forms SigExp ++ forms Exp)
+firstRow Ty = length (forms DecOne ++ forms StrExp ++ forms SigExp ++ forms Exp ++ forms Pat)
 
 -- The table has a row of codes for each.
 pub record Spells (table : List ℕ) : Type 0 where

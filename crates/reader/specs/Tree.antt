@@ -1,11 +1,11 @@
 -- Contracts of the record check behind the tokens.
 use Prim.Native.Nat.{ℕ, _+_, _≤_, _<_}
 use mathlib.Core.Path.{_≡_}
-use mathlib.Core.List.{List, _++_}
+use mathlib.Core.List.{List}
 use mathlib.Core.Bool.{Bool, true, false}
 use lib.ListN.{length, getD}
 use Rattle.reader.specs.Fields as Fields
-use Rattle.reader.specs.Fields.{Family, DecOne, StrExp, SigExp, Exp, Pat, Ty, Fields, choice, forms}
+use Rattle.reader.specs.Fields.{Fields, choice}
 use Rattle.reader.specs.Check.{Checked, ok, malformed, tooDeep, items, fields, formCheck, treeCheck, fieldEnd}
 use Rattle.reader.specs.Grammar.{fieldsOf, node, rows}
 use Rattle.reader.specs.declared.tree.Choice.{Choice}
@@ -19,15 +19,6 @@ abbrev pub checkedIn : Code.Checked → Checked
 checkedIn (Case.Ok at) = ok at
 checkedIn (Case.Malformed place) = malformed place
 checkedIn (Case.TooDeep place) = tooDeep place
-
--- The row of a family's first form.
-unfoldable pub firstRow : Family → ℕ
-firstRow DecOne = 0
-firstRow StrExp = length (forms DecOne)
-firstRow SigExp = length (forms DecOne ++ forms StrExp)
-firstRow Exp = length (forms DecOne ++ forms StrExp ++ forms SigExp)
-firstRow Pat = length (forms DecOne ++ forms StrExp ++ forms SigExp ++ forms Exp)
-firstRow Ty = length (forms DecOne ++ forms StrExp ++ forms SigExp ++ forms Exp ++ forms Pat)
 
 module _ (rec : List ℕ) (count : ℕ) where
   -- What is left of a node at an offset once its command is read.

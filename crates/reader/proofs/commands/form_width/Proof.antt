@@ -1,64 +1,14 @@
 -- `form_width` meets its contract.
-use Rattle.reader.specs.Commands.{formWidth}
+use Rattle.reader.proofs.CommandLaws.{facts-width}
 use borrow.Author.Needs.{needs}
 use Rattle.reader.proofs.commands.form_width.Statement.{statement}
 use Rattle.reader.proofs.commands.form_width.Tie as tie
 
-enum-told : tie.Need-enum-told
-enum-told c = search needs
-
-enum-told-2 : tie.Need-enum-told-2
-enum-told-2 c = search needs
-
-enum-told-3 : tie.Need-enum-told-3
-enum-told-3 c = search needs
-
-enum-told-4 : tie.Need-enum-told-4
-enum-told-4 c = search needs
-
-enum-told-5 : tie.Need-enum-told-5
-enum-told-5 c = search needs
-
-enum-told-6 : tie.Need-enum-told-6
-enum-told-6 c = search needs
+facts-of-requires : tie.Need-facts-of-requires
+facts-of-requires c κs = search needs
 
 returns : tie.Need-returns
-unfolding formWidth
-returns c = cc
-
-returns-2 : tie.Need-returns-2
-unfolding formWidth
-returns-2 c = cc
-
-returns-3 : tie.Need-returns-3
-unfolding formWidth
-returns-3 c = cc
-
-returns-4 : tie.Need-returns-4
-unfolding formWidth
-returns-4 c = cc
-
-returns-5 : tie.Need-returns-5
-unfolding formWidth
-returns-5 c = cc
-
-returns-6 : tie.Need-returns-6
-unfolding formWidth
-returns-6 c = cc
+returns c = facts-width _ (c .facts-of .ensures)
 
 pub form-width-spec : {M : Type 1} → statement M
-form-width-spec =
-    tie.close
-    (tie.spec
-    enum-told
-    enum-told-2
-    enum-told-3
-    enum-told-4
-    enum-told-5
-    enum-told-6
-    returns
-    returns-2
-    returns-3
-    returns-4
-    returns-5
-    returns-6)
+form-width-spec = tie.close (tie.spec facts-of-requires returns)

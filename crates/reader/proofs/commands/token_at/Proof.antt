@@ -1,24 +1,15 @@
 -- `token_at` meets its contract.
-use native.Mathlib.Omega.{arith}
-use Rattle.reader.proofs.CommandLaws.{fits, token-yes, token-no}
+use Rattle.reader.specs.Commands.{operandAt, tokenAt}
 use borrow.Author.Needs.{needs}
 use Rattle.reader.proofs.commands.token_at.Statement.{statement}
 use Rattle.reader.proofs.commands.token_at.Tie as tie
 
-command-requires : tie.Need-command-requires
-command-requires c κs = search needs
-
-add-u16-at : tie.Need-add-u16-at
-add-u16-at c = omega (arith, fits (c .before .command .ensures) (c .if1 .taken))
-
-u16-at-requires : tie.Need-u16-at-requires
-u16-at-requires c κs = search needs
+operand-at-requires : tie.Need-operand-at-requires
+operand-at-requires c κs = search needs
 
 returns : tie.Need-returns
-returns c = token-yes (c .before .before .command .ensures) (c .before .if1 .taken) (c .u16-at .ensures)
-
-returns-2 : tie.Need-returns-2
-returns-2 c = token-no (c .before .command .ensures) (c .if1 .left)
+unfolding operandAt tokenAt
+returns c = record { is = c .operand-at .ensures .is }
 
 pub token-at-spec : {M : Type 1} → statement M
-token-at-spec = tie.close (tie.spec command-requires add-u16-at u16-at-requires returns returns-2)
+token-at-spec = tie.close (tie.spec operand-at-requires returns)

@@ -5,7 +5,7 @@ use native.Mathlib.Omega.{arith}
 use mathlib.Core.Path.{ap, _∙_}
 use lib.ListN.{getD}
 use Rattle.reader.proofs.TreeLaws.{form-none, form-out, form-deep, form-opens}
-use Rattle.reader.proofs.CommandLaws.{form-fits, form-number, form-read}
+use Rattle.reader.proofs.CommandLaws.{form-fits, form-number, form-read, facts-width, facts-row}
 use Rattle.reader.specs.Fields.{none}
 use Rattle.reader.specs.Grammar.{rows}
 use Rattle.reader.specs.Commands.{familyOf}
@@ -31,29 +31,36 @@ operand-fits-requires c κs = search needs
 returns-2 : tie.Need-returns-2
 returns-2 c = form-deep (c .before .before .before .before .before .before .before .before .args .count) (c .before .before .before .before .before .before .form-at .ensures) (c .before .before .before .before .n .given .1) (c .before .before .operand-fits .ensures) (c .before .if1 .taken) (c .if2 .taken)
 
-first-row-requires : tie.Need-first-row-requires
-first-row-requires c κs = search needs
+facts-of-requires : tie.Need-facts-of-requires
+facts-of-requires c κs = search needs
 
 add-codes-of : tie.Need-add-codes-of
-add-codes-of c = omega (arith, c .first-row .ensures, row-small (familyOf (c .before .before .before .before .before .before .before .before .before .args .family)) (c .before .before .before .before .before .n .given .0 .0) (form-number _ _ (familyOf (c .before .before .before .before .before .before .before .before .before .args .family)) (c .before .before .before .before .before .n .given .0 .0) (form-read (c .before .before .before .before .before .before .before .form-at .ensures) (c .before .before .before .before .before .n .given .1))))
+add-codes-of c =
+    let family = familyOf (c .before .before .before .before .before .before .before .before .before .before .args .family) in
+    let n = c .before .before .before .before .before .before .n .given .0 .0 in
+    let small = row-small family n (form-number _ _ family n (form-read (c .before .before .before .before .before .before .before .before .form-at .ensures) (c .before .before .before .before .before .before .n .given .1))) in
+    omega (arith, facts-row family (c .before .facts-of .ensures), small)
 
 codes-of-requires : tie.Need-codes-of-requires
 codes-of-requires c κs = search needs
 
-form-width-requires : tie.Need-form-width-requires
-form-width-requires c κs = search needs
+add-t14 : tie.Need-add-t14
+add-t14 c =
+    let family = familyOf (c .before .before .before .before .before .before .before .before .before .before .before .before .args .family) in
+    let n = c .before .before .before .before .before .before .before .before .n .given .0 .0 in
+    omega (arith, facts-width family (c .before .before .before .facts-of .ensures), form-fits _ _ family n (form-read (c .before .before .before .before .before .before .before .before .before .before .form-at .ensures) (c .before .before .before .before .before .before .before .before .n .given .1)))
 
-add-t15 : tie.Need-add-t15
-add-t15 c = omega (arith, c .form-width .ensures, form-fits _ _ (familyOf (c .before .before .before .before .before .before .before .before .before .before .before .args .family)) (c .before .before .before .before .before .before .before .n .given .0 .0) (form-read (c .before .before .before .before .before .before .before .before .before .form-at .ensures) (c .before .before .before .before .before .before .before .n .given .1)))
-
-sub-t16 : tie.Need-sub-t16
-sub-t16 c = search needs
+sub-t15 : tie.Need-sub-t15
+sub-t15 c = search needs
 
 returns-3 : tie.Need-returns-3
-returns-3 c = form-opens (c .before .before .before .before .before .before .before .before .before .before .before .args .count) (c .before .before .before .before .before .before .before .before .before .form-at .ensures) (c .before .before .before .before .before .before .before .n .given .1) (c .before .before .before .before .before .operand-fits .ensures) (c .before .before .before .before .if1 .taken) (c .before .before .before .if2 .left) (c .form-width .ensures)
+returns-3 c =
+    let family = familyOf (c .before .before .before .before .before .before .before .before .before .before .before .before .args .family) in
+    let n = c .before .before .before .before .before .before .before .before .n .given .0 .0 in
+    form-opens (c .before .before .before .before .before .before .before .before .before .before .before .before .args .count) (c .before .before .before .before .before .before .before .before .before .before .form-at .ensures) (c .before .before .before .before .before .before .before .before .n .given .1) (c .before .before .before .before .before .before .operand-fits .ensures) (c .before .before .before .before .before .if1 .taken) (c .before .before .before .before .if2 .left) (facts-width family (c .before .before .before .facts-of .ensures))
     (c .before .codes-of .ensures
-    ∙ ap (λ (k : ℕ). getD rows (k + c .before .before .before .before .before .before .before .n .given .0 .0) none) (c .before .before .first-row .ensures)
-    ∙ form-row (familyOf (c .before .before .before .before .before .before .before .before .before .before .before .args .family)) (c .before .before .before .before .before .before .before .n .given .0 .0) (form-number _ _ (familyOf (c .before .before .before .before .before .before .before .before .before .before .before .args .family)) (c .before .before .before .before .before .before .before .n .given .0 .0) (form-read (c .before .before .before .before .before .before .before .before .before .form-at .ensures) (c .before .before .before .before .before .before .before .n .given .1))))
+    ∙ ap (λ (k : ℕ). getD rows (k + n) none) (facts-row family (c .before .before .before .facts-of .ensures))
+    ∙ form-row family n (form-number _ _ family n (form-read (c .before .before .before .before .before .before .before .before .before .before .form-at .ensures) (c .before .before .before .before .before .before .before .before .n .given .1))))
 
 returns-4 : tie.Need-returns-4
 returns-4 c = form-out (c .before .before .before .before .before .before .before .args .count) (c .before .before .before .before .before .form-at .ensures) (c .before .before .before .n .given .1) (c .before .operand-fits .ensures) (c .if1 .left)
@@ -68,11 +75,10 @@ open-form-spec =
     returns
     operand-fits-requires
     returns-2
-    first-row-requires
+    facts-of-requires
     add-codes-of
     codes-of-requires
-    form-width-requires
-    add-t15
-    sub-t16
+    add-t14
+    sub-t15
     returns-3
     returns-4)
