@@ -4,7 +4,9 @@ use mathlib.Core.List.{List, [], _∷_, map}
 use mathlib.Core.Bool.{true, false}
 use lib.ListN.{getD}
 use lib.Dec.{ltb}
-use Rattle.reader.specs.Forms.{DecForm, decForms, HoleDec, ValDec, FunDec, TyDec, DatDec, DatCopyDec, AbstypeDec, ExDec, OpenDec, InfixDec, InfixrDec, NonfixDec, DoDec, LocalDec, StructureDec, SignatureDec, FunctorDec, ExpDec, IncludeDec, EsImportDec}
+use Rattle.reader.specs.Forms.{DecForm, decForms, HoleDec, ValDec, FunDec, TyDec, DatDec, DatCopyDec}
+use Rattle.reader.specs.Forms.{AbstypeDec, ExDec, OpenDec, InfixDec, InfixrDec, NonfixDec, DoDec, LocalDec}
+use Rattle.reader.specs.Forms.{StructureDec, SignatureDec, FunctorDec, ExpDec, IncludeDec, EsImportDec}
 use Rattle.layout.specs.Layout.{Layout, _⨾_, word, text, group, choice, list, maybe, halt, import}
 use Rattle.layout.specs.Helpers.{Cfg, Walkers, deeper, deepen, indent, indent-deeper, items, for-each, sep, new-line, sep-with-lines}
 use Rattle.layout.specs.Helpers.{in-end, path, in-parens, ty-var-seq, word-if}

@@ -3,7 +3,9 @@ use Prim.Native.Nat.{ℕ, zero, suc}
 use mathlib.Core.List.{List, map}
 use mathlib.Core.Bool.{Bool, true, false, not, _&&_, _||_}
 use lib.Dec.{eqb}
-use Rattle.reader.specs.Forms.{ExpForm, expForms, HoleExp, WildcardExp, OpAndalsoExp, OpOrelseExp, SConExp, PathExp, RecordExp, SelectorExp, ParenExp, TupleExp, ListExp, VectorExp, SeqExp, LetExp, AppExp, InfixExp, TypedExp, AndalsoExp, OrelseExp, HandleExp, RaiseExp, IfExp, WhileExp, CaseExp, FnExp}
+use Rattle.reader.specs.Forms.{ExpForm, expForms, HoleExp, WildcardExp, OpAndalsoExp, OpOrelseExp, SConExp, PathExp, RecordExp}
+use Rattle.reader.specs.Forms.{SelectorExp, ParenExp, TupleExp, ListExp, VectorExp, SeqExp, LetExp, AppExp, InfixExp, TypedExp}
+use Rattle.reader.specs.Forms.{AndalsoExp, OrelseExp, HandleExp, RaiseExp, IfExp, WhileExp, CaseExp, FnExp}
 use Rattle.layout.specs.Layout.{Layout, isIfExp, bodyExpNeedsNewline, skip, _⨾_, word, text, group, list, maybe, present}
 use Rattle.layout.specs.Layout.{look, application, operator}
 use Rattle.layout.specs.Helpers.{Cfg, Walkers, deeper, deepen, indent, indent-deeper, when, op-path, sep, sep-with-lines, in-end}

@@ -12,3 +12,4 @@ pub mod Walk
 pub mod Events
 pub mod Words
 pub mod State
+pub mod Lent

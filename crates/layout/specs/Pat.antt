@@ -2,7 +2,8 @@
 use Prim.Native.Nat.{ℕ}
 use mathlib.Core.List.{List, [], _∷_, map}
 use lib.ListN.{getD}
-use Rattle.reader.specs.Forms.{PatForm, patForms, WildcardPat, SConPat, ConPat, RecordPat, ParenPat, TuplePat, ListPat, VectorPat, InfixPat, TypedPat, AsPat, OrPat}
+use Rattle.reader.specs.Forms.{PatForm, patForms, WildcardPat, SConPat, ConPat, RecordPat, ParenPat}
+use Rattle.reader.specs.Forms.{TuplePat, ListPat, VectorPat, InfixPat, TypedPat, AsPat, OrPat}
 use Rattle.layout.specs.Layout.{Layout, _⨾_, word, text, group, choice, maybe, halt}
 use Rattle.layout.specs.Helpers.{Walkers, op-path, sep}
 use Rattle.layout.specs.Ty.{ty-annotation}

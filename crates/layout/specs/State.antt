@@ -34,7 +34,10 @@ use Rattle.layout.specs.declared.Answer.the-variants.{Done, Stopped}
 use Rattle.layout.specs.Layout.{Layout, Look, Test, skip}
 use Rattle.layout.specs.Words.{wordRun}
 use Rattle.layout.specs.Helpers as Helpers
-use Rattle.layout.specs.Meaning.{Page, Event, Word, Token, Comment, Formed, Indent, Outcome, done, stopped, Stop, absent, imported, outcome, operated, commented, aboveFirst, tokenText, passes, funcIsBang, argIsSymbolic, namePasses, sees, Name, name, noName, Head, pathExp, otherExp, Seen, seen, unseen, Heads, both, missing, headsFrom, headsAt}
+use Rattle.layout.specs.Meaning.{Page, Event, Word, Token, Comment, Formed, Indent, Outcome, done, stopped, Stop}
+use Rattle.layout.specs.Meaning.{absent, imported, outcome, operated, commented, aboveFirst, tokenText, passes}
+use Rattle.layout.specs.Meaning.{funcIsBang, argIsSymbolic, namePasses, sees, Name, name, noName, Head, pathExp}
+use Rattle.layout.specs.Meaning.{otherExp, Seen, seen, unseen, Heads, both, missing, headsFrom, headsAt}
 use Rattle.layout.specs.Events.{trimmed}
 use Rattle.layout.specs.Walk.{walks}
 

@@ -24,13 +24,14 @@ use comments::Above;
 use reader::commands::Number;
 ghost use Rattle.layout.specs.Words.{wordOf};
 ghost use Rattle.layout.specs.Layout.{word as wordOf·, text as textField, isAlphanumeric, _⨾_};
-ghost use Rattle.layout.specs.Helpers.{path as pathLayout, word-if, in-parens, ty-vars, ty-var-seq-there, ty-var-seq, deeper, indent as indentOf, indent-deeper, when, new-line, op as opLayout, op-path};
+ghost use Rattle.layout.specs.Helpers.{path as pathLayout, word-if, in-parens, ty-vars, ty-var-seq-there, ty-var-seq};
+ghost use Rattle.layout.specs.Helpers.{deeper, indent as indentOf, indent-deeper, when, new-line, op as opLayout, op-path};
 ghost use mathlib.Core.Path.{_≡_};
-ghost use mathlib.Core.List.{List};
-ghost use Prim.Native.Nat.{ℕ, _+_, _≤_};
+ghost use Prim.Native.Nat.{_+_, _≤_};
 ghost use Rattle.reader.specs.Commands.{numberIn};
 ghost use Rattle.layout.specs.DecOne.{comment-line};
-ghost use Rattle.layout.specs.State.{Sure, Plain, TestedName, CommentedAbove, deepened, joint, cfgOf};
+ghost use Rattle.layout.specs.Lent.{plainly, writes, indents, writesAbove};
+ghost use Rattle.layout.specs.State.{TestedName, deepened, joint, cfgOf};
 
 // A fixed word before an item that is not the first.
 pub fn between<'a>(
@@ -41,7 +42,7 @@ pub fn between<'a>(
     w: usize,
     i: usize,
 )
-    ensures { λ _. ⌜ Sure (now (run .entry)) (joint (wordOf· (wordOf w)) i) (now (mem .entry)) (now (out .entry)) (now (mem .exit)) (now (out .exit)) ⌝ }
+    ensures { λ _. ⌜ writes (joint (wordOf· (wordOf w)) i) run out mem ⌝ }
 {
     if 0 < i {
         word(run, text, out, mem, w);
@@ -59,7 +60,7 @@ pub fn text_of<'a>(
     mem: &mut [u64; 68],
     at: usize,
 ) -> usize
-    ensures { λ r. ⌜ Plain (now (run .entry)) (now (text .entry)) (now (rec .entry)) (now (starts .entry)) (now (lens .entry)) textField at (now (mem .entry)) (now (out .entry)) r (now (mem .exit)) (now (out .exit)) ⌝ }
+    ensures { λ r. ⌜ plainly textField run text rec starts lens out mem at r ⌝ }
 {
     let Read::Is(k, s) = token_no(rec, starts.len(), at) else {
         return stop(at);
@@ -79,7 +80,7 @@ pub fn path<'a>(
     mem: &mut [u64; 68],
     at: usize,
 ) -> usize
-    ensures { λ r. ⌜ Plain (now (run .entry)) (now (text .entry)) (now (rec .entry)) (now (starts .entry)) (now (lens .entry)) pathLayout at (now (mem .entry)) (now (out .entry)) r (now (mem .exit)) (now (out .exit)) ⌝ }
+    ensures { λ r. ⌜ plainly pathLayout run text rec starts lens out mem at r ⌝ }
 {
     let r0 = group(rec, at);
     let Answer::Done(s0) = told(r0) else {
@@ -119,7 +120,7 @@ pub fn word_if<'a>(
     at: usize,
     w: usize,
 ) -> usize
-    ensures { λ r. ⌜ Plain (now (run .entry)) (now (text .entry)) (now (rec .entry)) (now (starts .entry)) (now (lens .entry)) (word-if (wordOf w)) at (now (mem .entry)) (now (out .entry)) r (now (mem .exit)) (now (out .exit)) ⌝ }
+    ensures { λ r. ⌜ plainly (word-if (wordOf w)) run text rec starts lens out mem at r ⌝ }
 {
     let given = present(rec, starts.len(), at);
     match given {
@@ -143,7 +144,7 @@ fn ty_vars<'a>(
     mem: &mut [u64; 68],
     at: usize,
 ) -> usize
-    ensures { λ r. ⌜ Plain (now (run .entry)) (now (text .entry)) (now (rec .entry)) (now (starts .entry)) (now (lens .entry)) ty-vars at (now (mem .entry)) (now (out .entry)) r (now (mem .exit)) (now (out .exit)) ⌝ }
+    ensures { λ r. ⌜ plainly ty-vars run text rec starts lens out mem at r ⌝ }
 {
     let Read::Is(n, s0) = list(rec, at) else {
         return stop(at);
@@ -177,7 +178,7 @@ fn ty_vars_parens<'a>(
     mem: &mut [u64; 68],
     at: usize,
 ) -> usize
-    ensures { λ r. ⌜ Plain (now (run .entry)) (now (text .entry)) (now (rec .entry)) (now (starts .entry)) (now (lens .entry)) (wordOf· "(" ⨾ ty-vars ⨾ wordOf· ")") at (now (mem .entry)) (now (out .entry)) r (now (mem .exit)) (now (out .exit)) ⌝ }
+    ensures { λ r. ⌜ plainly (wordOf· "(" ⨾ ty-vars ⨾ wordOf· ")") run text rec starts lens out mem at r ⌝ }
 {
     word(run, text, out, mem, words::L_ROUND);
     let r1 = ty_vars(run, text, rec, starts, lens, out, mem, at);
@@ -199,7 +200,7 @@ fn ty_vars_in_parens<'a>(
     mem: &mut [u64; 68],
     at: usize,
 ) -> usize
-    ensures { λ r. ⌜ Plain (now (run .entry)) (now (text .entry)) (now (rec .entry)) (now (starts .entry)) (now (lens .entry)) (in-parens ty-vars) at (now (mem .entry)) (now (out .entry)) r (now (mem .exit)) (now (out .exit)) ⌝ }
+    ensures { λ r. ⌜ plainly (in-parens ty-vars) run text rec starts lens out mem at r ⌝ }
 {
     let given = present(rec, starts.len(), at);
     match given {
@@ -220,7 +221,7 @@ fn ty_var_seq_there<'a>(
     mem: &mut [u64; 68],
     at: usize,
 ) -> usize
-    ensures { λ r. ⌜ Plain (now (run .entry)) (now (text .entry)) (now (rec .entry)) (now (starts .entry)) (now (lens .entry)) ty-var-seq-there at (now (mem .entry)) (now (out .entry)) r (now (mem .exit)) (now (out .exit)) ⌝ }
+    ensures { λ r. ⌜ plainly ty-var-seq-there run text rec starts lens out mem at r ⌝ }
 {
     let r1 = group(rec, at);
     let Answer::Done(s1) = told(r1) else {
@@ -245,7 +246,7 @@ pub fn ty_var_seq<'a>(
     mem: &mut [u64; 68],
     at: usize,
 ) -> usize
-    ensures { λ r. ⌜ Plain (now (run .entry)) (now (text .entry)) (now (rec .entry)) (now (starts .entry)) (now (lens .entry)) ty-var-seq at (now (mem .entry)) (now (out .entry)) r (now (mem .exit)) (now (out .exit)) ⌝ }
+    ensures { λ r. ⌜ plainly ty-var-seq run text rec starts lens out mem at r ⌝ }
 {
     let gone = absent(rec, at);
     match gone {
@@ -257,14 +258,14 @@ pub fn ty_var_seq<'a>(
 // ---- lines
 // `cfg.output_indent(st)`.
 pub fn indent(out: &mut [u8], mem: &mut [u64; 68], cfg: Cfg)
-    ensures { λ _. ⌜ ((words : List ℕ) → Sure words (indentOf (cfgOf cfg)) (now (mem .entry)) (now (out .entry)) (now (mem .exit)) (now (out .exit))) ⌝ }
+    ensures { λ _. ⌜ indents (indentOf (cfgOf cfg)) out mem ⌝ }
 {
     indent_at(out, mem, cfg.depth);
 }
 
 // A line feed and an indent.
 pub fn line<'a>(run: &'a [u8; 351], text: &'a [u8], out: &mut [u8], mem: &mut [u64; 68], cfg: Cfg)
-    ensures { λ _. ⌜ Sure (now (run .entry)) (wordOf· "\n" ⨾ indentOf (cfgOf cfg)) (now (mem .entry)) (now (out .entry)) (now (mem .exit)) (now (out .exit)) ⌝ }
+    ensures { λ _. ⌜ writes (wordOf· "\n" ⨾ indentOf (cfgOf cfg)) run out mem ⌝ }
 {
     word(run, text, out, mem, words::LINE_FEED);
     indent(out, mem, cfg);
@@ -282,7 +283,7 @@ pub fn deepen(mem: &mut [u64; 68], cfg: Cfg)
 // An indent one deeper.
 pub fn indent_in(out: &mut [u8], mem: &mut [u64; 68], cfg: Cfg)
     requires { ⌜ cfg .depth + 1 ≤ 1000 ⌝ }
-    ensures { λ _. ⌜ ((words : List ℕ) → Sure words (indentOf (deeper (cfgOf cfg))) (now (mem .entry)) (now (out .entry)) (now (mem .exit)) (now (out .exit))) ⌝ }
+    ensures { λ _. ⌜ indents (indentOf (deeper (cfgOf cfg))) out mem ⌝ }
 {
     let new = cfg.indented();
     indent(out, mem, new);
@@ -291,7 +292,7 @@ pub fn indent_in(out: &mut [u8], mem: &mut [u64; 68], cfg: Cfg)
 // An indent one deeper, at a depth that is formed here.
 pub fn indent_deeper(out: &mut [u8], mem: &mut [u64; 68], cfg: Cfg)
     requires { ⌜ cfg .depth + 1 ≤ 1000 ⌝ }
-    ensures { λ _. ⌜ ((words : List ℕ) → Sure words (indent-deeper (cfgOf cfg)) (now (mem .entry)) (now (out .entry)) (now (mem .exit)) (now (out .exit))) ⌝ }
+    ensures { λ _. ⌜ indents (indent-deeper (cfgOf cfg)) out mem ⌝ }
 {
     deepen(mem, cfg);
     indent_in(out, mem, cfg);
@@ -306,7 +307,7 @@ pub fn line_in<'a>(
     cfg: Cfg,
 )
     requires { ⌜ cfg .depth + 1 ≤ 1000 ⌝ }
-    ensures { λ _. ⌜ Sure (now (run .entry)) (wordOf· "\n" ⨾ indentOf (deeper (cfgOf cfg))) (now (mem .entry)) (now (out .entry)) (now (mem .exit)) (now (out .exit)) ⌝ }
+    ensures { λ _. ⌜ writes (wordOf· "\n" ⨾ indentOf (deeper (cfgOf cfg))) run out mem ⌝ }
 {
     word(run, text, out, mem, words::LINE_FEED);
     indent_in(out, mem, cfg);
@@ -314,7 +315,7 @@ pub fn line_in<'a>(
 
 // A blank line where the configuration has them.
 fn blank<'a>(run: &'a [u8; 351], text: &'a [u8], out: &mut [u8], mem: &mut [u64; 68], cfg: Cfg)
-    ensures { λ _. ⌜ Sure (now (run .entry)) (when (cfg .blank) (wordOf· "\n")) (now (mem .entry)) (now (out .entry)) (now (mem .exit)) (now (out .exit)) ⌝ }
+    ensures { λ _. ⌜ writes (when (cfg .blank) (wordOf· "\n")) run out mem ⌝ }
 {
     let blank = cfg.blank;
     if blank {
@@ -331,7 +332,7 @@ fn later_line<'a>(
     cfg: Cfg,
     w: usize,
 )
-    ensures { λ _. ⌜ Sure (now (run .entry)) (new-line (cfgOf cfg) (wordOf w)) (now (mem .entry)) (now (out .entry)) (now (mem .exit)) (now (out .exit)) ⌝ }
+    ensures { λ _. ⌜ writes (new-line (cfgOf cfg) (wordOf w)) run out mem ⌝ }
 {
     word(run, text, out, mem, words::LINE_FEED);
     blank(run, text, out, mem, cfg);
@@ -349,7 +350,7 @@ pub fn new_line<'a>(
     w: usize,
     i: usize,
 )
-    ensures { λ _. ⌜ Sure (now (run .entry)) (joint (new-line (cfgOf cfg) (wordOf w)) i) (now (mem .entry)) (now (out .entry)) (now (mem .exit)) (now (out .exit)) ⌝ }
+    ensures { λ _. ⌜ writes (joint (new-line (cfgOf cfg) (wordOf w)) i) run out mem ⌝ }
 {
     if 0 < i {
         later_line(run, text, out, mem, cfg, w);
@@ -367,7 +368,7 @@ pub fn new_line_in<'a>(
     i: usize,
 )
     requires { ⌜ cfg .depth + 1 ≤ 1000 ⌝ }
-    ensures { λ _. ⌜ Sure (now (run .entry)) (joint (new-line (deeper (cfgOf cfg)) (wordOf w)) i) (now (mem .entry)) (now (out .entry)) (now (mem .exit)) (now (out .exit)) ⌝ }
+    ensures { λ _. ⌜ writes (joint (new-line (deeper (cfgOf cfg)) (wordOf w)) i) run out mem ⌝ }
 {
     let new = cfg.indented();
     new_line(run, text, out, mem, new, w, i);
@@ -395,7 +396,7 @@ fn op<'a>(
     mem: &mut [u64; 68],
     at: usize,
 ) -> usize
-    ensures { λ r. ⌜ Plain (now (run .entry)) (now (text .entry)) (now (rec .entry)) (now (starts .entry)) (now (lens .entry)) opLayout at (now (mem .entry)) (now (out .entry)) r (now (mem .exit)) (now (out .exit)) ⌝ }
+    ensures { λ r. ⌜ plainly opLayout run text rec starts lens out mem at r ⌝ }
 {
     let r1 = group(rec, at);
     let Answer::Done(_s) = told(r1) else {
@@ -420,7 +421,7 @@ fn op_path_there<'a>(
     mem: &mut [u64; 68],
     at: usize,
 ) -> usize
-    ensures { λ r. ⌜ Plain (now (run .entry)) (now (text .entry)) (now (rec .entry)) (now (starts .entry)) (now (lens .entry)) (opLayout ⨾ pathLayout) at (now (mem .entry)) (now (out .entry)) r (now (mem .exit)) (now (out .exit)) ⌝ }
+    ensures { λ r. ⌜ plainly (opLayout ⨾ pathLayout) run text rec starts lens out mem at r ⌝ }
 {
     let r1 = op(run, text, rec, starts, lens, out, mem, at);
     let Answer::Done(s1) = told(r1) else {
@@ -440,7 +441,7 @@ pub fn op_path<'a>(
     mem: &mut [u64; 68],
     at: usize,
 ) -> usize
-    ensures { λ r. ⌜ Plain (now (run .entry)) (now (text .entry)) (now (rec .entry)) (now (starts .entry)) (now (lens .entry)) op-path at (now (mem .entry)) (now (out .entry)) r (now (mem .exit)) (now (out .exit)) ⌝ }
+    ensures { λ r. ⌜ plainly op-path run text rec starts lens out mem at r ⌝ }
 {
     let given = present(rec, starts.len(), at);
     match given {
@@ -463,7 +464,7 @@ pub fn comment_above<'a>(
     cfg: Cfg,
     first: Number,
 )
-    ensures { λ _. ⌜ CommentedAbove (now (run .entry)) (now (text .entry)) (now (kinds .entry)) (now (starts .entry)) (now (lens .entry)) (numberIn first) (comment-line (cfgOf cfg)) (now (mem .entry)) (now (out .entry)) (now (mem .exit)) (now (out .exit)) ⌝ }
+    ensures { λ _. ⌜ writesAbove (comment-line (cfgOf cfg)) run text kinds starts lens out mem (numberIn first) ⌝ }
 {
     let Number::Is(k) = first else {
         return;

@@ -16,7 +16,8 @@ ghost use Rattle.layout.specs.Words.{wordOf, wordRun};
 ghost use Rattle.text.specs.Bytes.{bytes};
 ghost use mathlib.Core.List.{List};
 ghost use Rattle.layout.specs.Layout.{word};
-ghost use Rattle.layout.specs.State.{toldOf, placeAt, placed, spaced, deepened, Put, Sure, Texted, Indented, Commented, struck, pieceOf, Deeper};
+ghost use Rattle.layout.specs.Lent.{writes, writesToken, strikesComment};
+ghost use Rattle.layout.specs.State.{toldOf, placeAt, placed, spaced, deepened, Put, Indented, struck, pieceOf, Deeper};
 
 // A walk answers a number: below STOP the cursor behind what was read, else STOP + 2 × the offset in the record of the
 // part that is absent; 1 more at an import.
@@ -192,7 +193,7 @@ fn word_piece(w: usize) -> Piece
 
 // A fixed word, by its place.
 pub fn word<'a>(run: &'a [u8; 351], text: &'a [u8], out: &mut [u8], mem: &mut [u64; 68], w: usize)
-    ensures { λ _. ⌜ Sure (now (run .entry)) (word (wordOf w)) (now (mem .entry)) (now (out .entry)) (now (mem .exit)) (now (out .exit)) ⌝ }
+    ensures { λ _. ⌜ writes (word (wordOf w)) run out mem ⌝ }
 {
     put(out, mem, piece_of(run, text, word_piece(w)));
 }
@@ -218,7 +219,7 @@ pub fn token<'a>(
     mem: &mut [u64; 68],
     k: usize,
 )
-    ensures { λ _. ⌜ Texted (now (text .entry)) (now (starts .entry)) (now (lens .entry)) k (now (mem .entry)) (now (out .entry)) (now (mem .exit)) (now (out .exit)) ⌝ }
+    ensures { λ _. ⌜ writesToken text starts lens out mem k ⌝ }
 {
     let which = Piece::Text(entry(starts, k), entry(lens, k));
     put(out, mem, piece_of(run, text, which));
@@ -244,7 +245,7 @@ pub fn comment(
     mem: &mut [u64; 68],
     k: usize,
 )
-    ensures { λ _. ⌜ Commented (now (text .entry)) (now (starts .entry)) (now (lens .entry)) k (now (mem .entry)) (now (out .entry)) (now (mem .exit)) (now (out .exit)) ⌝ }
+    ensures { λ _. ⌜ strikesComment text starts lens out mem k ⌝ }
 {
     strike(mem, k);
     let n = entry(lens, k);

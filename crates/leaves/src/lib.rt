@@ -33,18 +33,20 @@ use patterns::get_pat;
 use types::get_ty;
 ghost use mathlib.Core.Path.{_≡_};
 ghost use mathlib.Core.Bool.{_&&_};
-ghost use mathlib.Core.List.{List};
-ghost use Prim.Native.Nat.{ℕ, _+_, _≤_};
+ghost use Prim.Native.Nat.{_+_, _≤_};
 ghost use lib.Dec.{eqb};
 ghost use Rattle.layout.specs.Words.{wordOf};
 ghost use Rattle.layout.specs.Layout.{word as wordOf·, choice as choice·, _⨾_};
 ghost use Rattle.layout.specs.Helpers.{indent as indentOf, indent-deeper as indentDeeper, new-line, items, when};
-ghost use Rattle.layout.specs.State.{Plain, Sure, Operated, BangIs, SymbolicIs, Stops, cfgOf, headIn};
+ghost use Rattle.layout.specs.Lent.{plainly, writes, indents, writesOperator};
+ghost use Rattle.layout.specs.State.{BangIs, SymbolicIs, Stops, cfgOf, headIn};
 ghost use Rattle.layout.specs.Walk.{walks};
 ghost use Rattle.layout.specs.Exp.{item-semi, app-space, pipe, exp as exp·};
 ghost use Rattle.reader.specs.Forms.{SelectorExp};
 ghost use Rattle.layout.specs.GetDec.{sharing-tail, sharing-tails};
-ghost use Rattle.layout.specs.DecOne.{ty-bind, ty-binds, with-type, con-bind, con-binds, dat-bind, dat-binds, PrefixFunBindCaseHead, infix-head, InfixFunBindCaseHead, case-head, case-pats, ex-bind-of, int-lit, names-space, dec-one as dec-one·};
+ghost use Rattle.layout.specs.DecOne.{ty-bind, ty-binds, with-type, con-bind, con-binds, dat-bind, dat-binds};
+ghost use Rattle.layout.specs.DecOne.{PrefixFunBindCaseHead, infix-head, InfixFunBindCaseHead, case-head, case-pats, ex-bind-of};
+ghost use Rattle.layout.specs.DecOne.{int-lit, names-space, dec-one as dec-one·};
 ghost use Rattle.reader.specs.Forms.{TyDec, DatDec, DatCopyDec, OpenDec, NonfixDec};
 ghost use Rattle.leaves.specs.Heads.{missedAt};
 
@@ -58,7 +60,7 @@ fn word_when<'a>(
     w: usize,
     b: bool,
 )
-    ensures { λ _. ⌜ Sure (now (run .entry)) (when b (wordOf· (wordOf w))) (now (mem .entry)) (now (out .entry)) (now (mem .exit)) (now (out .exit)) ⌝ }
+    ensures { λ _. ⌜ writes (when b (wordOf· (wordOf w))) run out mem ⌝ }
 {
     if b {
         word(run, text, out, mem, w);
@@ -67,7 +69,7 @@ fn word_when<'a>(
 
 // An indent, where a condition holds.
 fn indent_when(out: &mut [u8], mem: &mut [u64; 68], cfg: Cfg, b: bool)
-    ensures { λ _. ⌜ ((words : List ℕ) → Sure words (when b (indentOf (cfgOf cfg))) (now (mem .entry)) (now (out .entry)) (now (mem .exit)) (now (out .exit))) ⌝ }
+    ensures { λ _. ⌜ indents (when b (indentOf (cfgOf cfg))) out mem ⌝ }
 {
     if b {
         indent(out, mem, cfg);
@@ -83,7 +85,7 @@ pub fn app_end<'a>(
     cfg: Cfg,
     needs: bool,
 )
-    ensures { λ _. ⌜ Sure (now (run .entry)) (when needs (indentOf (cfgOf cfg)) ⨾ wordOf· ")") (now (mem .entry)) (now (out .entry)) (now (mem .exit)) (now (out .exit)) ⌝ }
+    ensures { λ _. ⌜ writes (when needs (indentOf (cfgOf cfg)) ⨾ wordOf· ")") run out mem ⌝ }
 {
     indent_when(out, mem, cfg, needs);
     word(run, text, out, mem, words::R_ROUND);
@@ -123,7 +125,7 @@ pub fn app_space<'a>(
     bang: bool,
     symbolic: bool,
 )
-    ensures { λ _. ⌜ Sure (now (run .entry)) (app-space bang symbolic) (now (mem .entry)) (now (out .entry)) (now (mem .exit)) (now (out .exit)) ⌝ }
+    ensures { λ _. ⌜ writes (app-space bang symbolic) run out mem ⌝ }
 {
     if bang {
         word_when(run, text, out, mem, words::SPACE, symbolic);
@@ -154,7 +156,7 @@ pub fn item_semi<'a>(
     at: usize,
     write: bool,
 ) -> usize
-    ensures { λ r. ⌜ Plain (now (run .entry)) (now (text .entry)) (now (rec .entry)) (now (starts .entry)) (now (lens .entry)) (item-semi write) at (now (mem .entry)) (now (out .entry)) r (now (mem .exit)) (now (out .exit)) ⌝ }
+    ensures { λ r. ⌜ plainly (item-semi write) run text rec starts lens out mem at r ⌝ }
 {
     let given = present(rec, starts.len(), at);
     match given {
@@ -179,7 +181,7 @@ pub fn selector_exp<'a>(
     at: usize,
     cfg: Cfg,
 ) -> usize
-    ensures { λ r. ⌜ Plain (now (run .entry)) (now (text .entry)) (now (rec .entry)) (now (starts .entry)) (now (lens .entry)) (exp· (walks (cfg .left)) (cfgOf cfg) SelectorExp) at (now (mem .entry)) (now (out .entry)) r (now (mem .exit)) (now (out .exit)) ⌝ }
+    ensures { λ r. ⌜ plainly (exp· (walks (cfg .left)) (cfgOf cfg) SelectorExp) run text rec starts lens out mem at r ⌝ }
 {
     word(run, text, out, mem, words::HASH);
     text_of(run, text, rec, starts, lens, out, mem, at)
@@ -198,7 +200,7 @@ pub fn infix_operator<'a>(
     operator: usize,
 )
     requires { ⌜ cfg .depth + 1 ≤ 1000 ⌝ }
-    ensures { λ _. ⌜ Operated (now (run .entry)) (now (text .entry)) (now (rec .entry)) (now (starts .entry)) (now (lens .entry)) operator (pipe (cfgOf cfg)) (wordOf· " ") (now (mem .entry)) (now (out .entry)) (now (mem .exit)) (now (out .exit)) ⌝ }
+    ensures { λ _. ⌜ writesOperator (pipe (cfgOf cfg)) (wordOf· " ") run text rec starts lens out mem operator ⌝ }
 {
     if is_pipe(text, starts, lens, operator) {
         word(run, text, out, mem, words::LINE_FEED);
@@ -224,7 +226,7 @@ fn ty_bind<'a>(
     at: usize,
     cfg: Cfg,
 ) -> usize
-    ensures { λ r. ⌜ Plain (now (run .entry)) (now (text .entry)) (now (rec .entry)) (now (starts .entry)) (now (lens .entry)) (ty-bind (walks (cfg .left))) at (now (mem .entry)) (now (out .entry)) r (now (mem .exit)) (now (out .exit)) ⌝ }
+    ensures { λ r. ⌜ plainly (ty-bind (walks (cfg .left))) run text rec starts lens out mem at r ⌝ }
 {
     let r1 = group(rec, at);
     let Answer::Done(s1) = told(r1) else {
@@ -261,7 +263,7 @@ fn ty_binds<'a>(
     at: usize,
     cfg: Cfg,
 ) -> usize
-    ensures { λ r. ⌜ Plain (now (run .entry)) (now (text .entry)) (now (rec .entry)) (now (starts .entry)) (now (lens .entry)) (ty-binds (walks (cfg .left)) (cfgOf cfg)) at (now (mem .entry)) (now (out .entry)) r (now (mem .exit)) (now (out .exit)) ⌝ }
+    ensures { λ r. ⌜ plainly (ty-binds (walks (cfg .left)) (cfgOf cfg)) run text rec starts lens out mem at r ⌝ }
 {
     let Read::Is(n, s0) = list(rec, at) else {
         return stop(at);
@@ -292,7 +294,7 @@ pub fn with_type<'a>(
     at: usize,
     cfg: Cfg,
 ) -> usize
-    ensures { λ r. ⌜ Plain (now (run .entry)) (now (text .entry)) (now (rec .entry)) (now (starts .entry)) (now (lens .entry)) (with-type (walks (cfg .left)) (cfgOf cfg)) at (now (mem .entry)) (now (out .entry)) r (now (mem .exit)) (now (out .exit)) ⌝ }
+    ensures { λ r. ⌜ plainly (with-type (walks (cfg .left)) (cfgOf cfg)) run text rec starts lens out mem at r ⌝ }
 {
     if let Gone::Past(s0) = absent(rec, at) {
         return s0;
@@ -318,7 +320,7 @@ fn con_bind<'a>(
     at: usize,
     cfg: Cfg,
 ) -> usize
-    ensures { λ r. ⌜ Plain (now (run .entry)) (now (text .entry)) (now (rec .entry)) (now (starts .entry)) (now (lens .entry)) (con-bind (walks (cfg .left))) at (now (mem .entry)) (now (out .entry)) r (now (mem .exit)) (now (out .exit)) ⌝ }
+    ensures { λ r. ⌜ plainly (con-bind (walks (cfg .left))) run text rec starts lens out mem at r ⌝ }
 {
     let r1 = group(rec, at);
     let Answer::Done(s1) = told(r1) else {
@@ -353,7 +355,10 @@ fn con_lines<'a>(
     n: usize,
 ) -> usize
     requires { ⌜ cfg .depth + 1 ≤ 1000 ⌝ }
-    ensures { λ r. ⌜ Plain (now (run .entry)) (now (text .entry)) (now (rec .entry)) (now (starts .entry)) (now (lens .entry)) (wordOf· " =\n" ⨾ indentDeeper (cfgOf cfg) ⨾ items n (con-bind (walks (cfg .left))) (new-line (cfgOf cfg) "| " ⨾ con-bind (walks (cfg .left)))) at (now (mem .entry)) (now (out .entry)) r (now (mem .exit)) (now (out .exit)) ⌝ }
+    ensures { λ r. ⌜
+        plainly
+        (wordOf· " =\n" ⨾ indentDeeper (cfgOf cfg) ⨾ items n (con-bind (walks (cfg .left))) (new-line (cfgOf cfg) "| " ⨾ con-bind (walks (cfg .left))))
+        run text rec starts lens out mem at r ⌝ }
 {
     word(run, text, out, mem, words::EQ_LINE);
     indent_deeper(out, mem, cfg);
@@ -384,7 +389,9 @@ fn con_row<'a>(
     cfg: Cfg,
     n: usize,
 ) -> usize
-    ensures { λ r. ⌜ Plain (now (run .entry)) (now (text .entry)) (now (rec .entry)) (now (starts .entry)) (now (lens .entry)) (wordOf· " = " ⨾ items n (con-bind (walks (cfg .left))) (wordOf· " | " ⨾ con-bind (walks (cfg .left)))) at (now (mem .entry)) (now (out .entry)) r (now (mem .exit)) (now (out .exit)) ⌝ }
+    ensures { λ r. ⌜
+        plainly (wordOf· " = " ⨾ items n (con-bind (walks (cfg .left))) (wordOf· " | " ⨾ con-bind (walks (cfg .left))))
+        run text rec starts lens out mem at r ⌝ }
 {
     word(run, text, out, mem, words::EQ_SPACED);
     let mut s = at;
@@ -415,7 +422,7 @@ fn con_binds<'a>(
     n: usize,
 ) -> usize
     requires { ⌜ cfg .depth + 1 ≤ 1000 ⌝ }
-    ensures { λ r. ⌜ Plain (now (run .entry)) (now (text .entry)) (now (rec .entry)) (now (starts .entry)) (now (lens .entry)) (con-binds (walks (cfg .left)) (cfgOf cfg) n) at (now (mem .entry)) (now (out .entry)) r (now (mem .exit)) (now (out .exit)) ⌝ }
+    ensures { λ r. ⌜ plainly (con-binds (walks (cfg .left)) (cfgOf cfg) n) run text rec starts lens out mem at r ⌝ }
 {
     if 1 < n {
         return con_lines(run, text, rec, starts, lens, out, mem, at, cfg, n);
@@ -436,7 +443,7 @@ fn dat_bind<'a>(
     cfg: Cfg,
 ) -> usize
     requires { ⌜ cfg .depth + 1 ≤ 1000 ⌝ }
-    ensures { λ r. ⌜ Plain (now (run .entry)) (now (text .entry)) (now (rec .entry)) (now (starts .entry)) (now (lens .entry)) (dat-bind (walks (cfg .left)) (cfgOf cfg)) at (now (mem .entry)) (now (out .entry)) r (now (mem .exit)) (now (out .exit)) ⌝ }
+    ensures { λ r. ⌜ plainly (dat-bind (walks (cfg .left)) (cfgOf cfg)) run text rec starts lens out mem at r ⌝ }
 {
     let r1 = group(rec, at);
     let Answer::Done(s1) = told(r1) else {
@@ -473,7 +480,7 @@ pub fn dat_binds<'a>(
     cfg: Cfg,
 ) -> usize
     requires { ⌜ cfg .depth + 1 ≤ 1000 ⌝ }
-    ensures { λ r. ⌜ Plain (now (run .entry)) (now (text .entry)) (now (rec .entry)) (now (starts .entry)) (now (lens .entry)) (dat-binds (walks (cfg .left)) (cfgOf cfg)) at (now (mem .entry)) (now (out .entry)) r (now (mem .exit)) (now (out .exit)) ⌝ }
+    ensures { λ r. ⌜ plainly (dat-binds (walks (cfg .left)) (cfgOf cfg)) run text rec starts lens out mem at r ⌝ }
 {
     let Read::Is(n, s0) = list(rec, at) else {
         return stop(at);
@@ -504,7 +511,7 @@ pub fn ty_dec<'a>(
     at: usize,
     cfg: Cfg,
 ) -> usize
-    ensures { λ r. ⌜ Plain (now (run .entry)) (now (text .entry)) (now (rec .entry)) (now (starts .entry)) (now (lens .entry)) (dec-one· (walks (cfg .left)) (cfgOf cfg) TyDec) at (now (mem .entry)) (now (out .entry)) r (now (mem .exit)) (now (out .exit)) ⌝ }
+    ensures { λ r. ⌜ plainly (dec-one· (walks (cfg .left)) (cfgOf cfg) TyDec) run text rec starts lens out mem at r ⌝ }
 {
     let r1 = text_of(run, text, rec, starts, lens, out, mem, at);
     let Answer::Done(s1) = told(r1) else {
@@ -527,7 +534,7 @@ pub fn dat_dec<'a>(
     cfg: Cfg,
 ) -> usize
     requires { ⌜ cfg .depth + 1 ≤ 1000 ⌝ }
-    ensures { λ r. ⌜ Plain (now (run .entry)) (now (text .entry)) (now (rec .entry)) (now (starts .entry)) (now (lens .entry)) (dec-one· (walks (cfg .left)) (cfgOf cfg) DatDec) at (now (mem .entry)) (now (out .entry)) r (now (mem .exit)) (now (out .exit)) ⌝ }
+    ensures { λ r. ⌜ plainly (dec-one· (walks (cfg .left)) (cfgOf cfg) DatDec) run text rec starts lens out mem at r ⌝ }
 {
     word(run, text, out, mem, words::DATATYPE);
     let r1 = dat_binds(run, text, rec, starts, lens, out, mem, at, cfg);
@@ -549,7 +556,7 @@ pub fn dat_copy_dec<'a>(
     at: usize,
     cfg: Cfg,
 ) -> usize
-    ensures { λ r. ⌜ Plain (now (run .entry)) (now (text .entry)) (now (rec .entry)) (now (starts .entry)) (now (lens .entry)) (dec-one· (walks (cfg .left)) (cfgOf cfg) DatCopyDec) at (now (mem .entry)) (now (out .entry)) r (now (mem .exit)) (now (out .exit)) ⌝ }
+    ensures { λ r. ⌜ plainly (dec-one· (walks (cfg .left)) (cfgOf cfg) DatCopyDec) run text rec starts lens out mem at r ⌝ }
 {
     word(run, text, out, mem, words::DATATYPE);
     let r1 = text_of(run, text, rec, starts, lens, out, mem, at);
@@ -573,7 +580,7 @@ pub fn open_dec<'a>(
     at: usize,
     cfg: Cfg,
 ) -> usize
-    ensures { λ r. ⌜ Plain (now (run .entry)) (now (text .entry)) (now (rec .entry)) (now (starts .entry)) (now (lens .entry)) (dec-one· (walks (cfg .left)) (cfgOf cfg) OpenDec) at (now (mem .entry)) (now (out .entry)) r (now (mem .exit)) (now (out .exit)) ⌝ }
+    ensures { λ r. ⌜ plainly (dec-one· (walks (cfg .left)) (cfgOf cfg) OpenDec) run text rec starts lens out mem at r ⌝ }
 {
     word(run, text, out, mem, words::OPEN);
     let Read::Is(n, s1) = list(rec, at) else {
@@ -605,7 +612,7 @@ fn names_space<'a>(
     at: usize,
     cfg: Cfg,
 ) -> usize
-    ensures { λ r. ⌜ Plain (now (run .entry)) (now (text .entry)) (now (rec .entry)) (now (starts .entry)) (now (lens .entry)) (names-space (walks (cfg .left))) at (now (mem .entry)) (now (out .entry)) r (now (mem .exit)) (now (out .exit)) ⌝ }
+    ensures { λ r. ⌜ plainly (names-space (walks (cfg .left))) run text rec starts lens out mem at r ⌝ }
 {
     let Read::Is(n, s0) = list(rec, at) else {
         return stop(at);
@@ -636,7 +643,7 @@ fn int_lit<'a>(
     at: usize,
     cfg: Cfg,
 ) -> usize
-    ensures { λ r. ⌜ Plain (now (run .entry)) (now (text .entry)) (now (rec .entry)) (now (starts .entry)) (now (lens .entry)) (int-lit (walks (cfg .left))) at (now (mem .entry)) (now (out .entry)) r (now (mem .exit)) (now (out .exit)) ⌝ }
+    ensures { λ r. ⌜ plainly (int-lit (walks (cfg .left))) run text rec starts lens out mem at r ⌝ }
 {
     if let Gone::Past(s0) = absent(rec, at) {
         return s0;
@@ -662,7 +669,9 @@ pub fn infix_dec<'a>(
     cfg: Cfg,
     w: usize,
 ) -> usize
-    ensures { λ r. ⌜ Plain (now (run .entry)) (now (text .entry)) (now (rec .entry)) (now (starts .entry)) (now (lens .entry)) (wordOf· (wordOf w) ⨾ int-lit (walks (cfg .left)) ⨾ names-space (walks (cfg .left))) at (now (mem .entry)) (now (out .entry)) r (now (mem .exit)) (now (out .exit)) ⌝ }
+    ensures { λ r. ⌜
+        plainly (wordOf· (wordOf w) ⨾ int-lit (walks (cfg .left)) ⨾ names-space (walks (cfg .left)))
+        run text rec starts lens out mem at r ⌝ }
 {
     word(run, text, out, mem, w);
     let r1 = int_lit(run, text, rec, starts, lens, out, mem, at, cfg);
@@ -684,7 +693,7 @@ pub fn nonfix_dec<'a>(
     at: usize,
     cfg: Cfg,
 ) -> usize
-    ensures { λ r. ⌜ Plain (now (run .entry)) (now (text .entry)) (now (rec .entry)) (now (starts .entry)) (now (lens .entry)) (dec-one· (walks (cfg .left)) (cfgOf cfg) NonfixDec) at (now (mem .entry)) (now (out .entry)) r (now (mem .exit)) (now (out .exit)) ⌝ }
+    ensures { λ r. ⌜ plainly (dec-one· (walks (cfg .left)) (cfgOf cfg) NonfixDec) run text rec starts lens out mem at r ⌝ }
 {
     word(run, text, out, mem, words::NONFIX);
     names_space(run, text, rec, starts, lens, out, mem, at, cfg)
@@ -703,7 +712,7 @@ fn prefix_head<'a>(
     at: usize,
     cfg: Cfg,
 ) -> usize
-    ensures { λ r. ⌜ Plain (now (run .entry)) (now (text .entry)) (now (rec .entry)) (now (starts .entry)) (now (lens .entry)) (PrefixFunBindCaseHead (walks (cfg .left))) at (now (mem .entry)) (now (out .entry)) r (now (mem .exit)) (now (out .exit)) ⌝ }
+    ensures { λ r. ⌜ plainly (PrefixFunBindCaseHead (walks (cfg .left))) run text rec starts lens out mem at r ⌝ }
 {
     let r1 = word_if(run, text, rec, starts, lens, out, mem, at, words::OP_SPACE);
     let Answer::Done(s1) = told(r1) else {
@@ -724,7 +733,7 @@ fn infix_pats<'a>(
     at: usize,
     cfg: Cfg,
 ) -> usize
-    ensures { λ r. ⌜ Plain (now (run .entry)) (now (text .entry)) (now (rec .entry)) (now (starts .entry)) (now (lens .entry)) (infix-head (walks (cfg .left))) at (now (mem .entry)) (now (out .entry)) r (now (mem .exit)) (now (out .exit)) ⌝ }
+    ensures { λ r. ⌜ plainly (infix-head (walks (cfg .left))) run text rec starts lens out mem at r ⌝ }
 {
     let r1 = get_pat(run, text, rec, starts, lens, out, mem, at, cfg);
     let Answer::Done(s1) = told(r1) else {
@@ -751,7 +760,7 @@ fn infix_in_parens<'a>(
     at: usize,
     cfg: Cfg,
 ) -> usize
-    ensures { λ r. ⌜ Plain (now (run .entry)) (now (text .entry)) (now (rec .entry)) (now (starts .entry)) (now (lens .entry)) (wordOf· "(" ⨾ infix-head (walks (cfg .left)) ⨾ wordOf· ")") at (now (mem .entry)) (now (out .entry)) r (now (mem .exit)) (now (out .exit)) ⌝ }
+    ensures { λ r. ⌜ plainly (wordOf· "(" ⨾ infix-head (walks (cfg .left)) ⨾ wordOf· ")") run text rec starts lens out mem at r ⌝ }
 {
     word(run, text, out, mem, words::L_ROUND);
     let r1 = infix_pats(run, text, rec, starts, lens, out, mem, at, cfg);
@@ -774,7 +783,7 @@ fn infix_head<'a>(
     at: usize,
     cfg: Cfg,
 ) -> usize
-    ensures { λ r. ⌜ Plain (now (run .entry)) (now (text .entry)) (now (rec .entry)) (now (starts .entry)) (now (lens .entry)) (InfixFunBindCaseHead (walks (cfg .left))) at (now (mem .entry)) (now (out .entry)) r (now (mem .exit)) (now (out .exit)) ⌝ }
+    ensures { λ r. ⌜ plainly (InfixFunBindCaseHead (walks (cfg .left))) run text rec starts lens out mem at r ⌝ }
 {
     let given = present(rec, starts.len(), at);
     match given {
@@ -797,7 +806,7 @@ fn case_head_of<'a>(
     cfg: Cfg,
     which: usize,
 ) -> usize
-    ensures { λ r. ⌜ Plain (now (run .entry)) (now (text .entry)) (now (rec .entry)) (now (starts .entry)) (now (lens .entry)) (case-head (walks (cfg .left)) which) at (now (mem .entry)) (now (out .entry)) r (now (mem .exit)) (now (out .exit)) ⌝ }
+    ensures { λ r. ⌜ plainly (case-head (walks (cfg .left)) which) run text rec starts lens out mem at r ⌝ }
 {
     match which {
         0 => prefix_head(run, text, rec, starts, lens, out, mem, at, cfg),
@@ -818,7 +827,7 @@ pub fn case_head<'a>(
     at: usize,
     cfg: Cfg,
 ) -> usize
-    ensures { λ r. ⌜ Plain (now (run .entry)) (now (text .entry)) (now (rec .entry)) (now (starts .entry)) (now (lens .entry)) (choice· (case-head (walks (cfg .left)))) at (now (mem .entry)) (now (out .entry)) r (now (mem .exit)) (now (out .exit)) ⌝ }
+    ensures { λ r. ⌜ plainly (choice· (case-head (walks (cfg .left)))) run text rec starts lens out mem at r ⌝ }
 {
     let Read::Is(k, s1) = choice(rec, at) else {
         return stop(at);
@@ -838,7 +847,7 @@ pub fn case_pats<'a>(
     at: usize,
     cfg: Cfg,
 ) -> usize
-    ensures { λ r. ⌜ Plain (now (run .entry)) (now (text .entry)) (now (rec .entry)) (now (starts .entry)) (now (lens .entry)) (case-pats (walks (cfg .left))) at (now (mem .entry)) (now (out .entry)) r (now (mem .exit)) (now (out .exit)) ⌝ }
+    ensures { λ r. ⌜ plainly (case-pats (walks (cfg .left))) run text rec starts lens out mem at r ⌝ }
 {
     let Read::Is(n, s0) = list(rec, at) else {
         return stop(at);
@@ -870,7 +879,7 @@ pub fn ex_bind_of<'a>(
     at: usize,
     cfg: Cfg,
 ) -> usize
-    ensures { λ r. ⌜ Plain (now (run .entry)) (now (text .entry)) (now (rec .entry)) (now (starts .entry)) (now (lens .entry)) (ex-bind-of (walks (cfg .left))) at (now (mem .entry)) (now (out .entry)) r (now (mem .exit)) (now (out .exit)) ⌝ }
+    ensures { λ r. ⌜ plainly (ex-bind-of (walks (cfg .left))) run text rec starts lens out mem at r ⌝ }
 {
     word(run, text, out, mem, words::OF);
     get_ty(run, text, rec, starts, lens, out, mem, at, cfg)
@@ -888,7 +897,7 @@ fn sharing_tail<'a>(
     at: usize,
     cfg: Cfg,
 ) -> usize
-    ensures { λ r. ⌜ Plain (now (run .entry)) (now (text .entry)) (now (rec .entry)) (now (starts .entry)) (now (lens .entry)) (sharing-tail (walks (cfg .left)) (cfgOf cfg)) at (now (mem .entry)) (now (out .entry)) r (now (mem .exit)) (now (out .exit)) ⌝ }
+    ensures { λ r. ⌜ plainly (sharing-tail (walks (cfg .left)) (cfgOf cfg)) run text rec starts lens out mem at r ⌝ }
 {
     let r1 = group(rec, at);
     let Answer::Done(s1) = told(r1) else {
@@ -929,7 +938,7 @@ pub fn sharing_tails<'a>(
     at: usize,
     cfg: Cfg,
 ) -> usize
-    ensures { λ r. ⌜ Plain (now (run .entry)) (now (text .entry)) (now (rec .entry)) (now (starts .entry)) (now (lens .entry)) (sharing-tails (walks (cfg .left)) (cfgOf cfg)) at (now (mem .entry)) (now (out .entry)) r (now (mem .exit)) (now (out .exit)) ⌝ }
+    ensures { λ r. ⌜ plainly (sharing-tails (walks (cfg .left)) (cfgOf cfg)) run text rec starts lens out mem at r ⌝ }
 {
     let Read::Is(n, s0) = list(rec, at) else {
         return stop(at);

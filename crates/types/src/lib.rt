@@ -16,10 +16,7 @@ use layout::told;
 use layout::word;
 use layout::words;
 use reader::commands::Family;
-ghost use Prim.Native.Nat.{_+_};
-ghost use Rattle.layout.specs.State.{Plain};
-ghost use Rattle.layout.specs.Helpers.{sep, for-each};
-ghost use Rattle.layout.specs.Layout.{group as groupOf, maybe as maybeOf};
+ghost use Rattle.layout.specs.Lent.{plainly};
 ghost use Rattle.layout.specs.Walk.{walks};
 ghost use Rattle.layout.specs.Ty.{ty-row, ty-rows, ty-seq, ty-seq-there, ty-args, star-ty, star-tys, ty-annotation-there, ty-annotation, ty as ty·};
 ghost use Rattle.reader.specs.Forms.{RecordTy, ConTy, OneArgConTy, TupleTy, FnTy, ParenTy};
@@ -36,7 +33,7 @@ fn ty_row<'a>(
     at: usize,
     cfg: Cfg,
 ) -> usize
-    ensures { λ r. ⌜ Plain (now (run .entry)) (now (text .entry)) (now (rec .entry)) (now (starts .entry)) (now (lens .entry)) (ty-row (walks (cfg .left))) at (now (mem .entry)) (now (out .entry)) r (now (mem .exit)) (now (out .exit)) ⌝ }
+    ensures { λ r. ⌜ plainly (ty-row (walks (cfg .left))) run text rec starts lens out mem at r ⌝ }
 {
     let r1 = group(rec, at);
     let Answer::Done(s1) = told(r1) else {
@@ -62,7 +59,7 @@ fn ty_rows<'a>(
     at: usize,
     cfg: Cfg,
 ) -> usize
-    ensures { λ r. ⌜ Plain (now (run .entry)) (now (text .entry)) (now (rec .entry)) (now (starts .entry)) (now (lens .entry)) (ty-rows (walks (cfg .left))) at (now (mem .entry)) (now (out .entry)) r (now (mem .exit)) (now (out .exit)) ⌝ }
+    ensures { λ r. ⌜ plainly (ty-rows (walks (cfg .left))) run text rec starts lens out mem at r ⌝ }
 {
     let Read::Is(n, s0) = list(rec, at) else {
         return stop(at);
@@ -93,7 +90,7 @@ fn record_ty<'a>(
     at: usize,
     cfg: Cfg,
 ) -> usize
-    ensures { λ r. ⌜ Plain (now (run .entry)) (now (text .entry)) (now (rec .entry)) (now (starts .entry)) (now (lens .entry)) (ty· (walks (cfg .left)) RecordTy) at (now (mem .entry)) (now (out .entry)) r (now (mem .exit)) (now (out .exit)) ⌝ }
+    ensures { λ r. ⌜ plainly (ty· (walks (cfg .left)) RecordTy) run text rec starts lens out mem at r ⌝ }
 {
     word(run, text, out, mem, words::L_CURLY);
     let r1 = ty_rows(run, text, rec, starts, lens, out, mem, at, cfg);
@@ -116,7 +113,7 @@ fn ty_args<'a>(
     at: usize,
     cfg: Cfg,
 ) -> usize
-    ensures { λ r. ⌜ Plain (now (run .entry)) (now (text .entry)) (now (rec .entry)) (now (starts .entry)) (now (lens .entry)) (ty-args (walks (cfg .left))) at (now (mem .entry)) (now (out .entry)) r (now (mem .exit)) (now (out .exit)) ⌝ }
+    ensures { λ r. ⌜ plainly (ty-args (walks (cfg .left))) run text rec starts lens out mem at r ⌝ }
 {
     let Read::Is(n, s0) = list(rec, at) else {
         return stop(at);
@@ -151,7 +148,7 @@ fn ty_seq<'a>(
     at: usize,
     cfg: Cfg,
 ) -> usize
-    ensures { λ r. ⌜ Plain (now (run .entry)) (now (text .entry)) (now (rec .entry)) (now (starts .entry)) (now (lens .entry)) (ty-seq (walks (cfg .left))) at (now (mem .entry)) (now (out .entry)) r (now (mem .exit)) (now (out .exit)) ⌝ }
+    ensures { λ r. ⌜ plainly (ty-seq (walks (cfg .left))) run text rec starts lens out mem at r ⌝ }
 {
     let gone = absent(rec, at);
     match gone {
@@ -172,7 +169,7 @@ fn ty_seq_there<'a>(
     at: usize,
     cfg: Cfg,
 ) -> usize
-    ensures { λ r. ⌜ Plain (now (run .entry)) (now (text .entry)) (now (rec .entry)) (now (starts .entry)) (now (lens .entry)) (ty-seq-there (walks (cfg .left))) at (now (mem .entry)) (now (out .entry)) r (now (mem .exit)) (now (out .exit)) ⌝ }
+    ensures { λ r. ⌜ plainly (ty-seq-there (walks (cfg .left))) run text rec starts lens out mem at r ⌝ }
 {
     let r1 = group(rec, at);
     let Answer::Done(s1) = told(r1) else {
@@ -199,7 +196,7 @@ fn con_ty<'a>(
     at: usize,
     cfg: Cfg,
 ) -> usize
-    ensures { λ r. ⌜ Plain (now (run .entry)) (now (text .entry)) (now (rec .entry)) (now (starts .entry)) (now (lens .entry)) (ty· (walks (cfg .left)) ConTy) at (now (mem .entry)) (now (out .entry)) r (now (mem .exit)) (now (out .exit)) ⌝ }
+    ensures { λ r. ⌜ plainly (ty· (walks (cfg .left)) ConTy) run text rec starts lens out mem at r ⌝ }
 {
     let r1 = ty_seq(run, text, rec, starts, lens, out, mem, at, cfg);
     let Answer::Done(s1) = told(r1) else {
@@ -220,7 +217,7 @@ fn one_arg_con_ty<'a>(
     at: usize,
     cfg: Cfg,
 ) -> usize
-    ensures { λ r. ⌜ Plain (now (run .entry)) (now (text .entry)) (now (rec .entry)) (now (starts .entry)) (now (lens .entry)) (ty· (walks (cfg .left)) OneArgConTy) at (now (mem .entry)) (now (out .entry)) r (now (mem .exit)) (now (out .exit)) ⌝ }
+    ensures { λ r. ⌜ plainly (ty· (walks (cfg .left)) OneArgConTy) run text rec starts lens out mem at r ⌝ }
 {
     let r1 = get_ty(run, text, rec, starts, lens, out, mem, at, cfg);
     let Answer::Done(s1) = told(r1) else {
@@ -242,7 +239,7 @@ fn star_ty<'a>(
     at: usize,
     cfg: Cfg,
 ) -> usize
-    ensures { λ r. ⌜ Plain (now (run .entry)) (now (text .entry)) (now (rec .entry)) (now (starts .entry)) (now (lens .entry)) (star-ty (walks (cfg .left))) at (now (mem .entry)) (now (out .entry)) r (now (mem .exit)) (now (out .exit)) ⌝ }
+    ensures { λ r. ⌜ plainly (star-ty (walks (cfg .left))) run text rec starts lens out mem at r ⌝ }
 {
     let r1 = group(rec, at);
     let Answer::Done(s1) = told(r1) else {
@@ -264,7 +261,7 @@ fn star_tys<'a>(
     at: usize,
     cfg: Cfg,
 ) -> usize
-    ensures { λ r. ⌜ Plain (now (run .entry)) (now (text .entry)) (now (rec .entry)) (now (starts .entry)) (now (lens .entry)) (star-tys (walks (cfg .left))) at (now (mem .entry)) (now (out .entry)) r (now (mem .exit)) (now (out .exit)) ⌝ }
+    ensures { λ r. ⌜ plainly (star-tys (walks (cfg .left))) run text rec starts lens out mem at r ⌝ }
 {
     let Read::Is(n, s0) = list(rec, at) else {
         return stop(at);
@@ -294,7 +291,7 @@ fn tuple_ty<'a>(
     at: usize,
     cfg: Cfg,
 ) -> usize
-    ensures { λ r. ⌜ Plain (now (run .entry)) (now (text .entry)) (now (rec .entry)) (now (starts .entry)) (now (lens .entry)) (ty· (walks (cfg .left)) TupleTy) at (now (mem .entry)) (now (out .entry)) r (now (mem .exit)) (now (out .exit)) ⌝ }
+    ensures { λ r. ⌜ plainly (ty· (walks (cfg .left)) TupleTy) run text rec starts lens out mem at r ⌝ }
 {
     let count = starts.len();
     let r0 = get_ty(run, text, rec, starts, lens, out, mem, at, cfg);
@@ -317,7 +314,7 @@ fn fn_ty<'a>(
     at: usize,
     cfg: Cfg,
 ) -> usize
-    ensures { λ r. ⌜ Plain (now (run .entry)) (now (text .entry)) (now (rec .entry)) (now (starts .entry)) (now (lens .entry)) (ty· (walks (cfg .left)) FnTy) at (now (mem .entry)) (now (out .entry)) r (now (mem .exit)) (now (out .exit)) ⌝ }
+    ensures { λ r. ⌜ plainly (ty· (walks (cfg .left)) FnTy) run text rec starts lens out mem at r ⌝ }
 {
     let r1 = get_ty(run, text, rec, starts, lens, out, mem, at, cfg);
     let Answer::Done(s1) = told(r1) else {
@@ -339,7 +336,7 @@ fn paren_ty<'a>(
     at: usize,
     cfg: Cfg,
 ) -> usize
-    ensures { λ r. ⌜ Plain (now (run .entry)) (now (text .entry)) (now (rec .entry)) (now (starts .entry)) (now (lens .entry)) (ty· (walks (cfg .left)) ParenTy) at (now (mem .entry)) (now (out .entry)) r (now (mem .exit)) (now (out .exit)) ⌝ }
+    ensures { λ r. ⌜ plainly (ty· (walks (cfg .left)) ParenTy) run text rec starts lens out mem at r ⌝ }
 {
     word(run, text, out, mem, words::L_ROUND);
     let r1 = get_ty(run, text, rec, starts, lens, out, mem, at, cfg);
@@ -362,7 +359,7 @@ pub fn get_ty<'a>(
     at: usize,
     cfg: Cfg,
 ) -> usize
-    ensures { λ r. ⌜ Plain (now (run .entry)) (now (text .entry)) (now (rec .entry)) (now (starts .entry)) (now (lens .entry)) (walks (cfg .left) .get-ty) at (now (mem .entry)) (now (out .entry)) r (now (mem .exit)) (now (out .exit)) ⌝ }
+    ensures { λ r. ⌜ plainly (walks (cfg .left) .get-ty) run text rec starts lens out mem at r ⌝ }
 {
     let left = cfg.left;
     if left == 0 {
@@ -408,7 +405,7 @@ fn ty_annotation_there<'a>(
     at: usize,
     cfg: Cfg,
 ) -> usize
-    ensures { λ r. ⌜ Plain (now (run .entry)) (now (text .entry)) (now (rec .entry)) (now (starts .entry)) (now (lens .entry)) (ty-annotation-there (walks (cfg .left))) at (now (mem .entry)) (now (out .entry)) r (now (mem .exit)) (now (out .exit)) ⌝ }
+    ensures { λ r. ⌜ plainly (ty-annotation-there (walks (cfg .left))) run text rec starts lens out mem at r ⌝ }
 {
     let r1 = group(rec, at);
     let Answer::Done(s1) = told(r1) else {
@@ -430,7 +427,7 @@ pub fn ty_annotation<'a>(
     at: usize,
     cfg: Cfg,
 ) -> usize
-    ensures { λ r. ⌜ Plain (now (run .entry)) (now (text .entry)) (now (rec .entry)) (now (starts .entry)) (now (lens .entry)) (ty-annotation (walks (cfg .left))) at (now (mem .entry)) (now (out .entry)) r (now (mem .exit)) (now (out .exit)) ⌝ }
+    ensures { λ r. ⌜ plainly (ty-annotation (walks (cfg .left))) run text rec starts lens out mem at r ⌝ }
 {
     let gone = absent(rec, at);
     match gone {

@@ -77,12 +77,14 @@ ghost use Prim.Native.Nat.{_+_, _-_, _*_, _≤_, _<_};
 ghost use Rattle.reader.specs.Check.{maxForms};
 ghost use Rattle.layout.specs.Words.{wordOf};
 ghost use Rattle.layout.specs.Layout.{word as word·, text as text·, maybe, halt, _⨾_};
-ghost use Rattle.layout.specs.State.{Does, Walked, page, runOf};
+ghost use Rattle.layout.specs.Lent.{does, walked};
 ghost use Rattle.layout.specs.Walk.{walks, top};
-ghost use Rattle.layout.specs.Exp.{indented-levels, get-matcher-arm, get-matcher-across-lines, eq-body, exp-args, exp-semi-item, exp-semi-more, exp-semi-seq, exp-row, exp-rows, exp as exp·};
+ghost use Rattle.layout.specs.Exp.{indented-levels, get-matcher-arm, get-matcher-across-lines, eq-body, exp-args, exp-semi-item, exp-semi-more};
+ghost use Rattle.layout.specs.Exp.{exp-semi-seq, exp-row, exp-rows, exp as exp·};
 ghost use Rattle.reader.specs.Forms.{RecordExp, ParenExp, VectorExp, SeqExp, LetExp, AppExp, InfixExp, TypedExp, IfExp, WhileExp, CaseExp, FnExp};
 ghost use Rattle.layout.specs.GetDec.{dec as dec·, dec-in-seq, dec-in-seqs, get-dec, dec-arg};
-ghost use Rattle.layout.specs.DecOne.{decs as decs·, val-bind, fun-bind-case, fun-bind, ex-bind-inner, ex-bind, local-decs, str-bind, functor-arg, functor-args, functor-bind, dec-one as dec-one·};
+ghost use Rattle.layout.specs.DecOne.{decs as decs·, val-bind, fun-bind-case, fun-bind, ex-bind-inner, ex-bind};
+ghost use Rattle.layout.specs.DecOne.{local-decs, str-bind, functor-arg, functor-args, functor-bind, dec-one as dec-one·};
 ghost use Rattle.reader.specs.Forms.{ValDec, FunDec, AbstypeDec, ExDec, LocalDec, StructureDec, SignatureDec, FunctorDec, IncludeDec};
 ghost use Rattle.layout.specs.StrExp.{app-arg, str-exp as str-exp·};
 ghost use Rattle.reader.specs.Forms.{StructStrExp, AscriptionStrExp, AppStrExp, LetStrExp};
@@ -126,7 +128,7 @@ fn ro<'a>(
     cfg: Cfg,
 ) -> usize
     requires { ⌜ cfg .depth + 2 * cfg .left + 2 ≤ 402 ⌝ }
-    ensures { λ r. ⌜ Does (now (run .entry)) (page (now (text .entry)) (now (rec .entry)) (now (kinds .entry)) (now (starts .entry)) (now (lens .entry))) cfg exp-row (runOf at (now (mem .entry)) (now (out .entry))) r (now (mem .exit)) (now (out .exit)) ⌝ }
+    ensures { λ r. ⌜ does exp-row run text rec kinds starts lens out mem at cfg r ⌝ }
 {
     let r1 = group(rec, at);
     let Answer::Done(s1) = told(r1) else {
@@ -161,7 +163,7 @@ fn rs<'a>(
     cfg: Cfg,
 ) -> usize
     requires { ⌜ cfg .depth + 2 * cfg .left + 2 ≤ 402 ⌝ }
-    ensures { λ r. ⌜ Does (now (run .entry)) (page (now (text .entry)) (now (rec .entry)) (now (kinds .entry)) (now (starts .entry)) (now (lens .entry))) cfg exp-rows (runOf at (now (mem .entry)) (now (out .entry))) r (now (mem .exit)) (now (out .exit)) ⌝ }
+    ensures { λ r. ⌜ does exp-rows run text rec kinds starts lens out mem at cfg r ⌝ }
 {
     let Read::Is(n, s0) = list(rec, at) else {
         return stop(at);
@@ -194,7 +196,7 @@ fn rc<'a>(
     cfg: Cfg,
 ) -> usize
     requires { ⌜ cfg .depth + 2 * cfg .left + 2 ≤ 402 ⌝ }
-    ensures { λ r. ⌜ Does (now (run .entry)) (page (now (text .entry)) (now (rec .entry)) (now (kinds .entry)) (now (starts .entry)) (now (lens .entry))) cfg (λ ws c. exp· ws c RecordExp) (runOf at (now (mem .entry)) (now (out .entry))) r (now (mem .exit)) (now (out .exit)) ⌝ }
+    ensures { λ r. ⌜ does (λ ws c. exp· ws c RecordExp) run text rec kinds starts lens out mem at cfg r ⌝ }
 {
     word(run, text, out, mem, words::L_CURLY);
     let r1 = rs(run, text, rec, kinds, starts, lens, out, mem, at, cfg);
@@ -219,7 +221,7 @@ fn pa<'a>(
     cfg: Cfg,
 ) -> usize
     requires { ⌜ cfg .depth + 2 * cfg .left + 2 ≤ 402 ⌝ }
-    ensures { λ r. ⌜ Does (now (run .entry)) (page (now (text .entry)) (now (rec .entry)) (now (kinds .entry)) (now (starts .entry)) (now (lens .entry))) cfg (λ ws c. exp· ws c ParenExp) (runOf at (now (mem .entry)) (now (out .entry))) r (now (mem .exit)) (now (out .exit)) ⌝ }
+    ensures { λ r. ⌜ does (λ ws c. exp· ws c ParenExp) run text rec kinds starts lens out mem at cfg r ⌝ }
 {
     word(run, text, out, mem, words::L_ROUND);
     let r1 = exp(run, text, rec, kinds, starts, lens, out, mem, at, cfg);
@@ -244,7 +246,7 @@ fn ar<'a>(
     cfg: Cfg,
 ) -> usize
     requires { ⌜ cfg .depth + 2 * cfg .left + 2 ≤ 402 ⌝ }
-    ensures { λ r. ⌜ Does (now (run .entry)) (page (now (text .entry)) (now (rec .entry)) (now (kinds .entry)) (now (starts .entry)) (now (lens .entry))) cfg exp-args (runOf at (now (mem .entry)) (now (out .entry))) r (now (mem .exit)) (now (out .exit)) ⌝ }
+    ensures { λ r. ⌜ does exp-args run text rec kinds starts lens out mem at cfg r ⌝ }
 {
     let Read::Is(n, s0) = list(rec, at) else {
         return stop(at);
@@ -283,7 +285,9 @@ fn br<'a>(
     closes: usize,
 ) -> usize
     requires { ⌜ cfg .depth + 2 * cfg .left + 2 ≤ 402 ⌝ }
-    ensures { λ r. ⌜ Does (now (run .entry)) (page (now (text .entry)) (now (rec .entry)) (now (kinds .entry)) (now (starts .entry)) (now (lens .entry))) cfg (λ ws c. word· (wordOf opens) ⨾ exp-args ws c ⨾ word· (wordOf closes)) (runOf at (now (mem .entry)) (now (out .entry))) r (now (mem .exit)) (now (out .exit)) ⌝ }
+    ensures { λ r. ⌜
+        does (λ ws c. word· (wordOf opens) ⨾ exp-args ws c ⨾ word· (wordOf closes))
+        run text rec kinds starts lens out mem at cfg r ⌝ }
 {
     word(run, text, out, mem, opens);
     let r1 = ar(run, text, rec, kinds, starts, lens, out, mem, at, cfg);
@@ -308,7 +312,7 @@ fn ve<'a>(
     cfg: Cfg,
 ) -> usize
     requires { ⌜ cfg .depth + 2 * cfg .left + 2 ≤ 402 ⌝ }
-    ensures { λ r. ⌜ Does (now (run .entry)) (page (now (text .entry)) (now (rec .entry)) (now (kinds .entry)) (now (starts .entry)) (now (lens .entry))) cfg (λ ws c. exp· ws c VectorExp) (runOf at (now (mem .entry)) (now (out .entry))) r (now (mem .exit)) (now (out .exit)) ⌝ }
+    ensures { λ r. ⌜ does (λ ws c. exp· ws c VectorExp) run text rec kinds starts lens out mem at cfg r ⌝ }
 {
     word(run, text, out, mem, words::HASH_L_SQUARE);
     let r1 = group(rec, at);
@@ -338,7 +342,7 @@ fn it<'a>(
     write: bool,
 ) -> usize
     requires { ⌜ cfg .depth + 2 * cfg .left + 0 ≤ 402 ⌝ }
-    ensures { λ r. ⌜ Does (now (run .entry)) (page (now (text .entry)) (now (rec .entry)) (now (kinds .entry)) (now (starts .entry)) (now (lens .entry))) cfg (λ ws c. exp-semi-item ws c write) (runOf at (now (mem .entry)) (now (out .entry))) r (now (mem .exit)) (now (out .exit)) ⌝ }
+    ensures { λ r. ⌜ does (λ ws c. exp-semi-item ws c write) run text rec kinds starts lens out mem at cfg r ⌝ }
 {
     let r1 = group(rec, at);
     let Answer::Done(s1) = told(r1) else {
@@ -367,7 +371,7 @@ fn mo<'a>(
     n: usize,
 ) -> usize
     requires { ⌜ cfg .depth + 2 * cfg .left + 0 ≤ 402 ⌝ }
-    ensures { λ r. ⌜ Does (now (run .entry)) (page (now (text .entry)) (now (rec .entry)) (now (kinds .entry)) (now (starts .entry)) (now (lens .entry))) cfg (λ ws c. exp-semi-more ws c allow n) (runOf at (now (mem .entry)) (now (out .entry))) r (now (mem .exit)) (now (out .exit)) ⌝ }
+    ensures { λ r. ⌜ does (λ ws c. exp-semi-more ws c allow n) run text rec kinds starts lens out mem at cfg r ⌝ }
 {
     let mut s = at;
     let mut i = 0;
@@ -400,7 +404,7 @@ fn sm<'a>(
     allow: bool,
 ) -> usize
     requires { ⌜ cfg .depth + 2 * cfg .left + 0 ≤ 402 ⌝ }
-    ensures { λ r. ⌜ Does (now (run .entry)) (page (now (text .entry)) (now (rec .entry)) (now (kinds .entry)) (now (starts .entry)) (now (lens .entry))) cfg (λ ws c. exp-semi-seq ws c allow) (runOf at (now (mem .entry)) (now (out .entry))) r (now (mem .exit)) (now (out .exit)) ⌝ }
+    ensures { λ r. ⌜ does (λ ws c. exp-semi-seq ws c allow) run text rec kinds starts lens out mem at cfg r ⌝ }
 {
     let Read::Is(n, s1) = list(rec, at) else {
         return stop(at);
@@ -454,7 +458,7 @@ fn seq<'a>(
     cfg: Cfg,
 ) -> usize
     requires { ⌜ cfg .depth + 2 * cfg .left + 2 ≤ 402 ⌝ }
-    ensures { λ r. ⌜ Does (now (run .entry)) (page (now (text .entry)) (now (rec .entry)) (now (kinds .entry)) (now (starts .entry)) (now (lens .entry))) cfg (λ ws c. exp· ws c SeqExp) (runOf at (now (mem .entry)) (now (out .entry))) r (now (mem .exit)) (now (out .exit)) ⌝ }
+    ensures { λ r. ⌜ does (λ ws c. exp· ws c SeqExp) run text rec kinds starts lens out mem at cfg r ⌝ }
 {
     word(run, text, out, mem, words::L_ROUND_LINE);
     indent_deeper(out, mem, cfg);
@@ -494,7 +498,7 @@ fn lx<'a>(
     cfg: Cfg,
 ) -> usize
     requires { ⌜ cfg .depth + 2 * cfg .left + 2 ≤ 402 ⌝ }
-    ensures { λ r. ⌜ Does (now (run .entry)) (page (now (text .entry)) (now (rec .entry)) (now (kinds .entry)) (now (starts .entry)) (now (lens .entry))) cfg (λ ws c. exp· ws c LetExp) (runOf at (now (mem .entry)) (now (out .entry))) r (now (mem .exit)) (now (out .exit)) ⌝ }
+    ensures { λ r. ⌜ does (λ ws c. exp· ws c LetExp) run text rec kinds starts lens out mem at cfg r ⌝ }
 {
     word(run, text, out, mem, words::LET);
     word(run, text, out, mem, words::LINE_FEED);
@@ -530,7 +534,7 @@ fn app<'a>(
     cfg: Cfg,
 ) -> usize
     requires { ⌜ cfg .depth + 2 * cfg .left + 2 ≤ 402 ⌝ }
-    ensures { λ r. ⌜ Does (now (run .entry)) (page (now (text .entry)) (now (rec .entry)) (now (kinds .entry)) (now (starts .entry)) (now (lens .entry))) cfg (λ ws c. exp· ws c AppExp) (runOf at (now (mem .entry)) (now (out .entry))) r (now (mem .exit)) (now (out .exit)) ⌝ }
+    ensures { λ r. ⌜ does (λ ws c. exp· ws c AppExp) run text rec kinds starts lens out mem at cfg r ⌝ }
 {
     let r1 = exp(run, text, rec, kinds, starts, lens, out, mem, at, cfg);
     let Answer::Done(s1) = told(r1) else {
@@ -560,7 +564,7 @@ fn fx<'a>(
     cfg: Cfg,
 ) -> usize
     requires { ⌜ cfg .depth + 2 * cfg .left + 2 ≤ 402 ⌝ }
-    ensures { λ r. ⌜ Does (now (run .entry)) (page (now (text .entry)) (now (rec .entry)) (now (kinds .entry)) (now (starts .entry)) (now (lens .entry))) cfg (λ ws c. exp· ws c InfixExp) (runOf at (now (mem .entry)) (now (out .entry))) r (now (mem .exit)) (now (out .exit)) ⌝ }
+    ensures { λ r. ⌜ does (λ ws c. exp· ws c InfixExp) run text rec kinds starts lens out mem at cfg r ⌝ }
 {
     let Read::Is(k, s1) = token_no(rec, starts.len(), at) else {
         return stop(at);
@@ -587,7 +591,7 @@ fn ty<'a>(
     cfg: Cfg,
 ) -> usize
     requires { ⌜ cfg .depth + 2 * cfg .left + 2 ≤ 402 ⌝ }
-    ensures { λ r. ⌜ Does (now (run .entry)) (page (now (text .entry)) (now (rec .entry)) (now (kinds .entry)) (now (starts .entry)) (now (lens .entry))) cfg (λ ws c. exp· ws c TypedExp) (runOf at (now (mem .entry)) (now (out .entry))) r (now (mem .exit)) (now (out .exit)) ⌝ }
+    ensures { λ r. ⌜ does (λ ws c. exp· ws c TypedExp) run text rec kinds starts lens out mem at cfg r ⌝ }
 {
     let r1 = exp(run, text, rec, kinds, starts, lens, out, mem, at, cfg);
     let Answer::Done(s1) = told(r1) else {
@@ -612,7 +616,7 @@ fn du<'a>(
     w: usize,
 ) -> usize
     requires { ⌜ cfg .depth + 2 * cfg .left + 2 ≤ 402 ⌝ }
-    ensures { λ r. ⌜ Does (now (run .entry)) (page (now (text .entry)) (now (rec .entry)) (now (kinds .entry)) (now (starts .entry)) (now (lens .entry))) cfg (λ ws c. ws .get-exp c ⨾ word· (wordOf w) ⨾ ws .get-exp c) (runOf at (now (mem .entry)) (now (out .entry))) r (now (mem .exit)) (now (out .exit)) ⌝ }
+    ensures { λ r. ⌜ does (λ ws c. ws .get-exp c ⨾ word· (wordOf w) ⨾ ws .get-exp c) run text rec kinds starts lens out mem at cfg r ⌝ }
 {
     let r1 = exp(run, text, rec, kinds, starts, lens, out, mem, at, cfg);
     let Answer::Done(s1) = told(r1) else {
@@ -636,7 +640,7 @@ fn wh<'a>(
     cfg: Cfg,
 ) -> usize
     requires { ⌜ cfg .depth + 2 * cfg .left + 2 ≤ 402 ⌝ }
-    ensures { λ r. ⌜ Does (now (run .entry)) (page (now (text .entry)) (now (rec .entry)) (now (kinds .entry)) (now (starts .entry)) (now (lens .entry))) cfg (λ ws c. exp· ws c WhileExp) (runOf at (now (mem .entry)) (now (out .entry))) r (now (mem .exit)) (now (out .exit)) ⌝ }
+    ensures { λ r. ⌜ does (λ ws c. exp· ws c WhileExp) run text rec kinds starts lens out mem at cfg r ⌝ }
 {
     word(run, text, out, mem, words::WHILE);
     du(
@@ -669,7 +673,9 @@ fn ha<'a>(
     w: usize,
 ) -> usize
     requires { ⌜ cfg .depth + 2 * cfg .left + 2 ≤ 402 ⌝ }
-    ensures { λ r. ⌜ Does (now (run .entry)) (page (now (text .entry)) (now (rec .entry)) (now (kinds .entry)) (now (starts .entry)) (now (lens .entry))) cfg (λ ws c. ws .get-exp c ⨾ word· (wordOf w) ⨾ get-matcher-across-lines ws c) (runOf at (now (mem .entry)) (now (out .entry))) r (now (mem .exit)) (now (out .exit)) ⌝ }
+    ensures { λ r. ⌜
+        does (λ ws c. ws .get-exp c ⨾ word· (wordOf w) ⨾ get-matcher-across-lines ws c)
+        run text rec kinds starts lens out mem at cfg r ⌝ }
 {
     let r1 = exp(run, text, rec, kinds, starts, lens, out, mem, at, cfg);
     let Answer::Done(s1) = told(r1) else {
@@ -693,7 +699,7 @@ fn ca<'a>(
     cfg: Cfg,
 ) -> usize
     requires { ⌜ cfg .depth + 2 * cfg .left + 2 ≤ 402 ⌝ }
-    ensures { λ r. ⌜ Does (now (run .entry)) (page (now (text .entry)) (now (rec .entry)) (now (kinds .entry)) (now (starts .entry)) (now (lens .entry))) cfg (λ ws c. exp· ws c CaseExp) (runOf at (now (mem .entry)) (now (out .entry))) r (now (mem .exit)) (now (out .exit)) ⌝ }
+    ensures { λ r. ⌜ does (λ ws c. exp· ws c CaseExp) run text rec kinds starts lens out mem at cfg r ⌝ }
 {
     word(run, text, out, mem, words::CASE);
     ha(
@@ -726,7 +732,7 @@ fn pr<'a>(
     w: usize,
 ) -> usize
     requires { ⌜ cfg .depth + 2 * cfg .left + 2 ≤ 402 ⌝ }
-    ensures { λ r. ⌜ Does (now (run .entry)) (page (now (text .entry)) (now (rec .entry)) (now (kinds .entry)) (now (starts .entry)) (now (lens .entry))) cfg (λ ws c. word· (wordOf w) ⨾ ws .get-exp c) (runOf at (now (mem .entry)) (now (out .entry))) r (now (mem .exit)) (now (out .exit)) ⌝ }
+    ensures { λ r. ⌜ does (λ ws c. word· (wordOf w) ⨾ ws .get-exp c) run text rec kinds starts lens out mem at cfg r ⌝ }
 {
     word(run, text, out, mem, w);
     exp(run, text, rec, kinds, starts, lens, out, mem, at, cfg)
@@ -746,7 +752,7 @@ fn ie<'a>(
     cfg: Cfg,
 ) -> usize
     requires { ⌜ cfg .depth + 2 * cfg .left + 2 ≤ 402 ⌝ }
-    ensures { λ r. ⌜ Does (now (run .entry)) (page (now (text .entry)) (now (rec .entry)) (now (kinds .entry)) (now (starts .entry)) (now (lens .entry))) cfg (λ ws c. exp· ws c IfExp) (runOf at (now (mem .entry)) (now (out .entry))) r (now (mem .exit)) (now (out .exit)) ⌝ }
+    ensures { λ r. ⌜ does (λ ws c. exp· ws c IfExp) run text rec kinds starts lens out mem at cfg r ⌝ }
 {
     word(run, text, out, mem, words::IF);
     let r1 = exp(run, text, rec, kinds, starts, lens, out, mem, at, cfg);
@@ -787,7 +793,7 @@ fn ma<'a>(
     cfg: Cfg,
 ) -> usize
     requires { ⌜ cfg .depth + 2 * cfg .left + 2 ≤ 402 ⌝ }
-    ensures { λ r. ⌜ Does (now (run .entry)) (page (now (text .entry)) (now (rec .entry)) (now (kinds .entry)) (now (starts .entry)) (now (lens .entry))) cfg get-matcher-across-lines (runOf at (now (mem .entry)) (now (out .entry))) r (now (mem .exit)) (now (out .exit)) ⌝ }
+    ensures { λ r. ⌜ does get-matcher-across-lines run text rec kinds starts lens out mem at cfg r ⌝ }
 {
     if let Gone::Past(s0) = absent(rec, at) {
         return s0;
@@ -828,7 +834,7 @@ fn arm<'a>(
     cfg: Cfg,
 ) -> usize
     requires { ⌜ cfg .depth + 2 * cfg .left + 2 ≤ 402 ⌝ }
-    ensures { λ r. ⌜ Does (now (run .entry)) (page (now (text .entry)) (now (rec .entry)) (now (kinds .entry)) (now (starts .entry)) (now (lens .entry))) cfg get-matcher-arm (runOf at (now (mem .entry)) (now (out .entry))) r (now (mem .exit)) (now (out .exit)) ⌝ }
+    ensures { λ r. ⌜ does get-matcher-arm run text rec kinds starts lens out mem at cfg r ⌝ }
 {
     let r1 = group(rec, at);
     let Answer::Done(s1) = told(r1) else {
@@ -866,7 +872,7 @@ fn dp<'a>(
     cfg: Cfg,
 ) -> usize
     requires { ⌜ cfg .depth + 2 * cfg .left + 1 ≤ 402 ⌝ }
-    ensures { λ r. ⌜ Does (now (run .entry)) (page (now (text .entry)) (now (rec .entry)) (now (kinds .entry)) (now (starts .entry)) (now (lens .entry))) cfg (λ ws c. indented-levels ws c 1) (runOf at (now (mem .entry)) (now (out .entry))) r (now (mem .exit)) (now (out .exit)) ⌝ }
+    ensures { λ r. ⌜ does (λ ws c. indented-levels ws c 1) run text rec kinds starts lens out mem at cfg r ⌝ }
 {
     indent_deeper(out, mem, cfg);
     let new = cfg.indented();
@@ -887,7 +893,7 @@ fn qb<'a>(
     cfg: Cfg,
 ) -> usize
     requires { ⌜ cfg .depth + 2 * cfg .left + 2 ≤ 402 ⌝ }
-    ensures { λ r. ⌜ Does (now (run .entry)) (page (now (text .entry)) (now (rec .entry)) (now (kinds .entry)) (now (starts .entry)) (now (lens .entry))) cfg eq-body (runOf at (now (mem .entry)) (now (out .entry))) r (now (mem .exit)) (now (out .exit)) ⌝ }
+    ensures { λ r. ⌜ does eq-body run text rec kinds starts lens out mem at cfg r ⌝ }
 {
     if let Gone::Past(s0) = absent(rec, at) {
         return s0;
@@ -922,7 +928,7 @@ fn fe<'a>(
     cfg: Cfg,
 ) -> usize
     requires { ⌜ cfg .depth + 2 * cfg .left + 2 ≤ 402 ⌝ }
-    ensures { λ r. ⌜ Does (now (run .entry)) (page (now (text .entry)) (now (rec .entry)) (now (kinds .entry)) (now (starts .entry)) (now (lens .entry))) cfg (λ ws c. exp· ws c FnExp) (runOf at (now (mem .entry)) (now (out .entry))) r (now (mem .exit)) (now (out .exit)) ⌝ }
+    ensures { λ r. ⌜ does (λ ws c. exp· ws c FnExp) run text rec kinds starts lens out mem at cfg r ⌝ }
 {
     word(run, text, out, mem, words::FN);
     let r1 = group(rec, at);
@@ -960,7 +966,7 @@ fn exp<'a>(
     cfg: Cfg,
 ) -> usize
     requires { ⌜ cfg .depth + 2 * cfg .left + 0 ≤ 402 ⌝ }
-    ensures { λ r. ⌜ Does (now (run .entry)) (page (now (text .entry)) (now (rec .entry)) (now (kinds .entry)) (now (starts .entry)) (now (lens .entry))) cfg (λ ws c. ws .get-exp c) (runOf at (now (mem .entry)) (now (out .entry))) r (now (mem .exit)) (now (out .exit)) ⌝ }
+    ensures { λ r. ⌜ does (λ ws c. ws .get-exp c) run text rec kinds starts lens out mem at cfg r ⌝ }
 {
     let forms_left = cfg.left;
     if forms_left == 0 {
@@ -1093,7 +1099,7 @@ fn ds<'a>(
     cfg: Cfg,
 ) -> usize
     requires { ⌜ cfg .depth + 2 * cfg .left + 0 ≤ 402 ⌝ }
-    ensures { λ r. ⌜ Does (now (run .entry)) (page (now (text .entry)) (now (rec .entry)) (now (kinds .entry)) (now (starts .entry)) (now (lens .entry))) cfg get-dec (runOf at (now (mem .entry)) (now (out .entry))) r (now (mem .exit)) (now (out .exit)) ⌝ }
+    ensures { λ r. ⌜ does get-dec run text rec kinds starts lens out mem at cfg r ⌝ }
 {
     let Read::Is(n, s0) = list(rec, at) else {
         return stop(at);
@@ -1130,7 +1136,7 @@ fn dec<'a>(
     cfg: Cfg,
 ) -> usize
     requires { ⌜ cfg .depth + 2 * cfg .left + 0 ≤ 402 ⌝ }
-    ensures { λ r. ⌜ Does (now (run .entry)) (page (now (text .entry)) (now (rec .entry)) (now (kinds .entry)) (now (starts .entry)) (now (lens .entry))) cfg dec· (runOf at (now (mem .entry)) (now (out .entry))) r (now (mem .exit)) (now (out .exit)) ⌝ }
+    ensures { λ r. ⌜ does dec· run text rec kinds starts lens out mem at cfg r ⌝ }
 {
     let r1 = group(rec, at);
     let Answer::Done(s1) = told(r1) else {
@@ -1161,7 +1167,7 @@ fn qs<'a>(
     cfg: Cfg,
 ) -> usize
     requires { ⌜ cfg .depth + 2 * cfg .left + 0 ≤ 402 ⌝ }
-    ensures { λ r. ⌜ Does (now (run .entry)) (page (now (text .entry)) (now (rec .entry)) (now (kinds .entry)) (now (starts .entry)) (now (lens .entry))) cfg dec-in-seqs (runOf at (now (mem .entry)) (now (out .entry))) r (now (mem .exit)) (now (out .exit)) ⌝ }
+    ensures { λ r. ⌜ does dec-in-seqs run text rec kinds starts lens out mem at cfg r ⌝ }
 {
     let Read::Is(n, s0) = list(rec, at) else {
         return stop(at);
@@ -1194,7 +1200,7 @@ fn sq<'a>(
     cfg: Cfg,
 ) -> usize
     requires { ⌜ cfg .depth + 2 * cfg .left + 0 ≤ 402 ⌝ }
-    ensures { λ r. ⌜ Does (now (run .entry)) (page (now (text .entry)) (now (rec .entry)) (now (kinds .entry)) (now (starts .entry)) (now (lens .entry))) cfg dec-in-seq (runOf at (now (mem .entry)) (now (out .entry))) r (now (mem .exit)) (now (out .exit)) ⌝ }
+    ensures { λ r. ⌜ does dec-in-seq run text rec kinds starts lens out mem at cfg r ⌝ }
 {
     let r1 = group(rec, at);
     let Answer::Done(s1) = told(r1) else {
@@ -1226,7 +1232,7 @@ fn one<'a>(
     cfg: Cfg,
 ) -> usize
     requires { ⌜ cfg .depth + 2 * cfg .left + 0 ≤ 402 ⌝ }
-    ensures { λ r. ⌜ Does (now (run .entry)) (page (now (text .entry)) (now (rec .entry)) (now (kinds .entry)) (now (starts .entry)) (now (lens .entry))) cfg (λ ws c. ws .get-dec-one c) (runOf at (now (mem .entry)) (now (out .entry))) r (now (mem .exit)) (now (out .exit)) ⌝ }
+    ensures { λ r. ⌜ does (λ ws c. ws .get-dec-one c) run text rec kinds starts lens out mem at cfg r ⌝ }
 {
     let forms_left = cfg.left;
     if forms_left == 0 {
@@ -1264,7 +1270,7 @@ fn nu<'a>(
     which: usize,
 ) -> usize
     requires { ⌜ cfg .depth + 2 * cfg .left + 2 ≤ 402 ⌝ }
-    ensures { λ r. ⌜ Does (now (run .entry)) (page (now (text .entry)) (now (rec .entry)) (now (kinds .entry)) (now (starts .entry)) (now (lens .entry))) cfg (λ ws c. getD (decs· ws c) which halt) (runOf at (now (mem .entry)) (now (out .entry))) r (now (mem .exit)) (now (out .exit)) ⌝ }
+    ensures { λ r. ⌜ does (λ ws c. getD (decs· ws c) which halt) run text rec kinds starts lens out mem at cfg r ⌝ }
 {
     match which {
         0 => {
@@ -1342,7 +1348,7 @@ fn vd<'a>(
     cfg: Cfg,
 ) -> usize
     requires { ⌜ cfg .depth + 2 * cfg .left + 2 ≤ 402 ⌝ }
-    ensures { λ r. ⌜ Does (now (run .entry)) (page (now (text .entry)) (now (rec .entry)) (now (kinds .entry)) (now (starts .entry)) (now (lens .entry))) cfg (λ ws c. dec-one· ws c ValDec) (runOf at (now (mem .entry)) (now (out .entry))) r (now (mem .exit)) (now (out .exit)) ⌝ }
+    ensures { λ r. ⌜ does (λ ws c. dec-one· ws c ValDec) run text rec kinds starts lens out mem at cfg r ⌝ }
 {
     word(run, text, out, mem, words::VAL);
     let Read::Is(n, s1) = list(rec, at) else {
@@ -1376,7 +1382,7 @@ fn vb<'a>(
     cfg: Cfg,
 ) -> usize
     requires { ⌜ cfg .depth + 2 * cfg .left + 2 ≤ 402 ⌝ }
-    ensures { λ r. ⌜ Does (now (run .entry)) (page (now (text .entry)) (now (rec .entry)) (now (kinds .entry)) (now (starts .entry)) (now (lens .entry))) cfg val-bind (runOf at (now (mem .entry)) (now (out .entry))) r (now (mem .exit)) (now (out .exit)) ⌝ }
+    ensures { λ r. ⌜ does val-bind run text rec kinds starts lens out mem at cfg r ⌝ }
 {
     let r1 = group(rec, at);
     let Answer::Done(s1) = told(r1) else {
@@ -1407,7 +1413,7 @@ fn fd<'a>(
     cfg: Cfg,
 ) -> usize
     requires { ⌜ cfg .depth + 2 * cfg .left + 2 ≤ 402 ⌝ }
-    ensures { λ r. ⌜ Does (now (run .entry)) (page (now (text .entry)) (now (rec .entry)) (now (kinds .entry)) (now (starts .entry)) (now (lens .entry))) cfg (λ ws c. dec-one· ws c FunDec) (runOf at (now (mem .entry)) (now (out .entry))) r (now (mem .exit)) (now (out .exit)) ⌝ }
+    ensures { λ r. ⌜ does (λ ws c. dec-one· ws c FunDec) run text rec kinds starts lens out mem at cfg r ⌝ }
 {
     word(run, text, out, mem, words::FUN);
     let r1 = ty_var_seq(run, text, rec, starts, lens, out, mem, at);
@@ -1445,7 +1451,7 @@ fn fb<'a>(
     cfg: Cfg,
 ) -> usize
     requires { ⌜ cfg .depth + 2 * cfg .left + 2 ≤ 402 ⌝ }
-    ensures { λ r. ⌜ Does (now (run .entry)) (page (now (text .entry)) (now (rec .entry)) (now (kinds .entry)) (now (starts .entry)) (now (lens .entry))) cfg fun-bind (runOf at (now (mem .entry)) (now (out .entry))) r (now (mem .exit)) (now (out .exit)) ⌝ }
+    ensures { λ r. ⌜ does fun-bind run text rec kinds starts lens out mem at cfg r ⌝ }
 {
     let r1 = group(rec, at);
     let Answer::Done(s1) = told(r1) else {
@@ -1483,7 +1489,7 @@ fn fc<'a>(
     cfg: Cfg,
 ) -> usize
     requires { ⌜ cfg .depth + 2 * cfg .left + 2 ≤ 402 ⌝ }
-    ensures { λ r. ⌜ Does (now (run .entry)) (page (now (text .entry)) (now (rec .entry)) (now (kinds .entry)) (now (starts .entry)) (now (lens .entry))) cfg fun-bind-case (runOf at (now (mem .entry)) (now (out .entry))) r (now (mem .exit)) (now (out .exit)) ⌝ }
+    ensures { λ r. ⌜ does fun-bind-case run text rec kinds starts lens out mem at cfg r ⌝ }
 {
     let r1 = group(rec, at);
     let Answer::Done(s1) = told(r1) else {
@@ -1518,7 +1524,7 @@ fn ab<'a>(
     cfg: Cfg,
 ) -> usize
     requires { ⌜ cfg .depth + 2 * cfg .left + 2 ≤ 402 ⌝ }
-    ensures { λ r. ⌜ Does (now (run .entry)) (page (now (text .entry)) (now (rec .entry)) (now (kinds .entry)) (now (starts .entry)) (now (lens .entry))) cfg (λ ws c. dec-one· ws c AbstypeDec) (runOf at (now (mem .entry)) (now (out .entry))) r (now (mem .exit)) (now (out .exit)) ⌝ }
+    ensures { λ r. ⌜ does (λ ws c. dec-one· ws c AbstypeDec) run text rec kinds starts lens out mem at cfg r ⌝ }
 {
     word(run, text, out, mem, words::ABSTYPE);
     let r1 = dat_binds(run, text, rec, starts, lens, out, mem, at, cfg);
@@ -1552,7 +1558,7 @@ fn xd<'a>(
     cfg: Cfg,
 ) -> usize
     requires { ⌜ cfg .depth + 2 * cfg .left + 2 ≤ 402 ⌝ }
-    ensures { λ r. ⌜ Does (now (run .entry)) (page (now (text .entry)) (now (rec .entry)) (now (kinds .entry)) (now (starts .entry)) (now (lens .entry))) cfg (λ ws c. dec-one· ws c ExDec) (runOf at (now (mem .entry)) (now (out .entry))) r (now (mem .exit)) (now (out .exit)) ⌝ }
+    ensures { λ r. ⌜ does (λ ws c. dec-one· ws c ExDec) run text rec kinds starts lens out mem at cfg r ⌝ }
 {
     word(run, text, out, mem, words::EXCEPTION);
     let Read::Is(n, s1) = list(rec, at) else {
@@ -1586,7 +1592,7 @@ fn xb<'a>(
     cfg: Cfg,
 ) -> usize
     requires { ⌜ cfg .depth + 2 * cfg .left + 2 ≤ 402 ⌝ }
-    ensures { λ r. ⌜ Does (now (run .entry)) (page (now (text .entry)) (now (rec .entry)) (now (kinds .entry)) (now (starts .entry)) (now (lens .entry))) cfg ex-bind (runOf at (now (mem .entry)) (now (out .entry))) r (now (mem .exit)) (now (out .exit)) ⌝ }
+    ensures { λ r. ⌜ does ex-bind run text rec kinds starts lens out mem at cfg r ⌝ }
 {
     let r1 = group(rec, at);
     let Answer::Done(s1) = told(r1) else {
@@ -1620,7 +1626,7 @@ fn xi<'a>(
     which: usize,
 ) -> usize
     requires { ⌜ cfg .depth + 2 * cfg .left + 2 ≤ 402 ⌝ }
-    ensures { λ r. ⌜ Does (now (run .entry)) (page (now (text .entry)) (now (rec .entry)) (now (kinds .entry)) (now (starts .entry)) (now (lens .entry))) cfg (λ ws c. ex-bind-inner ws c which) (runOf at (now (mem .entry)) (now (out .entry))) r (now (mem .exit)) (now (out .exit)) ⌝ }
+    ensures { λ r. ⌜ does (λ ws c. ex-bind-inner ws c which) run text rec kinds starts lens out mem at cfg r ⌝ }
 {
     match which {
         0 => ex_bind_of(run, text, rec, starts, lens, out, mem, at, cfg),
@@ -1655,7 +1661,7 @@ fn lo<'a>(
     cfg: Cfg,
 ) -> usize
     requires { ⌜ cfg .depth + 2 * cfg .left + 2 ≤ 402 ⌝ }
-    ensures { λ r. ⌜ Does (now (run .entry)) (page (now (text .entry)) (now (rec .entry)) (now (kinds .entry)) (now (starts .entry)) (now (lens .entry))) cfg (λ ws c. dec-one· ws c LocalDec) (runOf at (now (mem .entry)) (now (out .entry))) r (now (mem .exit)) (now (out .exit)) ⌝ }
+    ensures { λ r. ⌜ does (λ ws c. dec-one· ws c LocalDec) run text rec kinds starts lens out mem at cfg r ⌝ }
 {
     word(run, text, out, mem, words::LOCAL);
     word(run, text, out, mem, words::LINE_FEED);
@@ -1691,7 +1697,7 @@ fn ld<'a>(
     cfg: Cfg,
 ) -> usize
     requires { ⌜ cfg .depth + 2 * cfg .left + 0 ≤ 402 ⌝ }
-    ensures { λ r. ⌜ Does (now (run .entry)) (page (now (text .entry)) (now (rec .entry)) (now (kinds .entry)) (now (starts .entry)) (now (lens .entry))) cfg local-decs (runOf at (now (mem .entry)) (now (out .entry))) r (now (mem .exit)) (now (out .exit)) ⌝ }
+    ensures { λ r. ⌜ does local-decs run text rec kinds starts lens out mem at cfg r ⌝ }
 {
     if let Gone::Past(s0) = absent(rec, at) {
         return s0;
@@ -1717,7 +1723,7 @@ fn sd<'a>(
     cfg: Cfg,
 ) -> usize
     requires { ⌜ cfg .depth + 2 * cfg .left + 2 ≤ 402 ⌝ }
-    ensures { λ r. ⌜ Does (now (run .entry)) (page (now (text .entry)) (now (rec .entry)) (now (kinds .entry)) (now (starts .entry)) (now (lens .entry))) cfg (λ ws c. dec-one· ws c StructureDec) (runOf at (now (mem .entry)) (now (out .entry))) r (now (mem .exit)) (now (out .exit)) ⌝ }
+    ensures { λ r. ⌜ does (λ ws c. dec-one· ws c StructureDec) run text rec kinds starts lens out mem at cfg r ⌝ }
 {
     word(run, text, out, mem, words::STRUCTURE);
     let Read::Is(n, s1) = list(rec, at) else {
@@ -1751,7 +1757,7 @@ fn sb<'a>(
     cfg: Cfg,
 ) -> usize
     requires { ⌜ cfg .depth + 2 * cfg .left + 2 ≤ 402 ⌝ }
-    ensures { λ r. ⌜ Does (now (run .entry)) (page (now (text .entry)) (now (rec .entry)) (now (kinds .entry)) (now (starts .entry)) (now (lens .entry))) cfg str-bind (runOf at (now (mem .entry)) (now (out .entry))) r (now (mem .exit)) (now (out .exit)) ⌝ }
+    ensures { λ r. ⌜ does str-bind run text rec kinds starts lens out mem at cfg r ⌝ }
 {
     let r1 = group(rec, at);
     let Answer::Done(s1) = told(r1) else {
@@ -1790,7 +1796,7 @@ fn gd<'a>(
     cfg: Cfg,
 ) -> usize
     requires { ⌜ cfg .depth + 2 * cfg .left + 2 ≤ 402 ⌝ }
-    ensures { λ r. ⌜ Does (now (run .entry)) (page (now (text .entry)) (now (rec .entry)) (now (kinds .entry)) (now (starts .entry)) (now (lens .entry))) cfg (λ ws c. dec-one· ws c SignatureDec) (runOf at (now (mem .entry)) (now (out .entry))) r (now (mem .exit)) (now (out .exit)) ⌝ }
+    ensures { λ r. ⌜ does (λ ws c. dec-one· ws c SignatureDec) run text rec kinds starts lens out mem at cfg r ⌝ }
 {
     word(run, text, out, mem, words::SIGNATURE);
     let Read::Is(n, s1) = list(rec, at) else {
@@ -1841,7 +1847,7 @@ fn nm<'a>(
     w: usize,
 ) -> usize
     requires { ⌜ cfg .depth + 2 * cfg .left + 2 ≤ 402 ⌝ }
-    ensures { λ r. ⌜ Does (now (run .entry)) (page (now (text .entry)) (now (rec .entry)) (now (kinds .entry)) (now (starts .entry)) (now (lens .entry))) cfg (λ ws c. text· ⨾ word· (wordOf w) ⨾ ws .get-sig-exp c) (runOf at (now (mem .entry)) (now (out .entry))) r (now (mem .exit)) (now (out .exit)) ⌝ }
+    ensures { λ r. ⌜ does (λ ws c. text· ⨾ word· (wordOf w) ⨾ ws .get-sig-exp c) run text rec kinds starts lens out mem at cfg r ⌝ }
 {
     let r1 = text_of(run, text, rec, starts, lens, out, mem, at);
     let Answer::Done(s1) = told(r1) else {
@@ -1865,7 +1871,7 @@ fn cd<'a>(
     cfg: Cfg,
 ) -> usize
     requires { ⌜ cfg .depth + 2 * cfg .left + 2 ≤ 402 ⌝ }
-    ensures { λ r. ⌜ Does (now (run .entry)) (page (now (text .entry)) (now (rec .entry)) (now (kinds .entry)) (now (starts .entry)) (now (lens .entry))) cfg (λ ws c. dec-one· ws c FunctorDec) (runOf at (now (mem .entry)) (now (out .entry))) r (now (mem .exit)) (now (out .exit)) ⌝ }
+    ensures { λ r. ⌜ does (λ ws c. dec-one· ws c FunctorDec) run text rec kinds starts lens out mem at cfg r ⌝ }
 {
     word(run, text, out, mem, words::FUNCTOR);
     let Read::Is(n, s1) = list(rec, at) else {
@@ -1899,7 +1905,7 @@ fn cb<'a>(
     cfg: Cfg,
 ) -> usize
     requires { ⌜ cfg .depth + 2 * cfg .left + 2 ≤ 402 ⌝ }
-    ensures { λ r. ⌜ Does (now (run .entry)) (page (now (text .entry)) (now (rec .entry)) (now (kinds .entry)) (now (starts .entry)) (now (lens .entry))) cfg functor-bind (runOf at (now (mem .entry)) (now (out .entry))) r (now (mem .exit)) (now (out .exit)) ⌝ }
+    ensures { λ r. ⌜ does functor-bind run text rec kinds starts lens out mem at cfg r ⌝ }
 {
     let r1 = group(rec, at);
     let Answer::Done(s1) = told(r1) else {
@@ -1937,7 +1943,7 @@ fn fs<'a>(
     cfg: Cfg,
 ) -> usize
     requires { ⌜ cfg .depth + 2 * cfg .left + 2 ≤ 402 ⌝ }
-    ensures { λ r. ⌜ Does (now (run .entry)) (page (now (text .entry)) (now (rec .entry)) (now (kinds .entry)) (now (starts .entry)) (now (lens .entry))) cfg functor-args (runOf at (now (mem .entry)) (now (out .entry))) r (now (mem .exit)) (now (out .exit)) ⌝ }
+    ensures { λ r. ⌜ does functor-args run text rec kinds starts lens out mem at cfg r ⌝ }
 {
     let Read::Is(n, s0) = list(rec, at) else {
         return stop(at);
@@ -1973,7 +1979,7 @@ fn fa<'a>(
     which: usize,
 ) -> usize
     requires { ⌜ cfg .depth + 2 * cfg .left + 2 ≤ 402 ⌝ }
-    ensures { λ r. ⌜ Does (now (run .entry)) (page (now (text .entry)) (now (rec .entry)) (now (kinds .entry)) (now (starts .entry)) (now (lens .entry))) cfg (λ ws c. functor-arg ws c which) (runOf at (now (mem .entry)) (now (out .entry))) r (now (mem .exit)) (now (out .exit)) ⌝ }
+    ensures { λ r. ⌜ does (λ ws c. functor-arg ws c which) run text rec kinds starts lens out mem at cfg r ⌝ }
 {
     match which {
         0 => nm(
@@ -2008,7 +2014,7 @@ fn ic<'a>(
     cfg: Cfg,
 ) -> usize
     requires { ⌜ cfg .depth + 2 * cfg .left + 2 ≤ 402 ⌝ }
-    ensures { λ r. ⌜ Does (now (run .entry)) (page (now (text .entry)) (now (rec .entry)) (now (kinds .entry)) (now (starts .entry)) (now (lens .entry))) cfg (λ ws c. dec-one· ws c IncludeDec) (runOf at (now (mem .entry)) (now (out .entry))) r (now (mem .exit)) (now (out .exit)) ⌝ }
+    ensures { λ r. ⌜ does (λ ws c. dec-one· ws c IncludeDec) run text rec kinds starts lens out mem at cfg r ⌝ }
 {
     word(run, text, out, mem, words::INCLUDE);
     let Read::Is(n, s1) = list(rec, at) else {
@@ -2042,7 +2048,7 @@ fn da<'a>(
     cfg: Cfg,
 ) -> usize
     requires { ⌜ cfg .depth + 2 * cfg .left + 2 ≤ 402 ⌝ }
-    ensures { λ r. ⌜ Does (now (run .entry)) (page (now (text .entry)) (now (rec .entry)) (now (kinds .entry)) (now (starts .entry)) (now (lens .entry))) cfg dec-arg (runOf at (now (mem .entry)) (now (out .entry))) r (now (mem .exit)) (now (out .exit)) ⌝ }
+    ensures { λ r. ⌜ does dec-arg run text rec kinds starts lens out mem at cfg r ⌝ }
 {
     word(run, text, out, mem, words::LINE_FEED);
     indent_deeper(out, mem, cfg);
@@ -2070,7 +2076,7 @@ fn str<'a>(
     cfg: Cfg,
 ) -> usize
     requires { ⌜ cfg .depth + 2 * cfg .left + 0 ≤ 402 ⌝ }
-    ensures { λ r. ⌜ Does (now (run .entry)) (page (now (text .entry)) (now (rec .entry)) (now (kinds .entry)) (now (starts .entry)) (now (lens .entry))) cfg (λ ws c. ws .get-str-exp c) (runOf at (now (mem .entry)) (now (out .entry))) r (now (mem .exit)) (now (out .exit)) ⌝ }
+    ensures { λ r. ⌜ does (λ ws c. ws .get-str-exp c) run text rec kinds starts lens out mem at cfg r ⌝ }
 {
     let forms_left = cfg.left;
     if forms_left == 0 {
@@ -2108,7 +2114,7 @@ fn ss<'a>(
     cfg: Cfg,
 ) -> usize
     requires { ⌜ cfg .depth + 2 * cfg .left + 2 ≤ 402 ⌝ }
-    ensures { λ r. ⌜ Does (now (run .entry)) (page (now (text .entry)) (now (rec .entry)) (now (kinds .entry)) (now (starts .entry)) (now (lens .entry))) cfg (λ ws c. str-exp· ws c StructStrExp) (runOf at (now (mem .entry)) (now (out .entry))) r (now (mem .exit)) (now (out .exit)) ⌝ }
+    ensures { λ r. ⌜ does (λ ws c. str-exp· ws c StructStrExp) run text rec kinds starts lens out mem at cfg r ⌝ }
 {
     word(run, text, out, mem, words::STRUCT);
     indent_deeper(out, mem, cfg);
@@ -2141,7 +2147,7 @@ fn an<'a>(
     cfg: Cfg,
 ) -> usize
     requires { ⌜ cfg .depth + 2 * cfg .left + 2 ≤ 402 ⌝ }
-    ensures { λ r. ⌜ Does (now (run .entry)) (page (now (text .entry)) (now (rec .entry)) (now (kinds .entry)) (now (starts .entry)) (now (lens .entry))) cfg (λ ws c. str-exp· ws c AscriptionStrExp) (runOf at (now (mem .entry)) (now (out .entry))) r (now (mem .exit)) (now (out .exit)) ⌝ }
+    ensures { λ r. ⌜ does (λ ws c. str-exp· ws c AscriptionStrExp) run text rec kinds starts lens out mem at cfg r ⌝ }
 {
     let r1 = str(run, text, rec, kinds, starts, lens, out, mem, at, cfg);
     let Answer::Done(s1) = told(r1) else {
@@ -2164,7 +2170,7 @@ fn ta<'a>(
     cfg: Cfg,
 ) -> usize
     requires { ⌜ cfg .depth + 2 * cfg .left + 2 ≤ 402 ⌝ }
-    ensures { λ r. ⌜ Does (now (run .entry)) (page (now (text .entry)) (now (rec .entry)) (now (kinds .entry)) (now (starts .entry)) (now (lens .entry))) cfg ascription-tail (runOf at (now (mem .entry)) (now (out .entry))) r (now (mem .exit)) (now (out .exit)) ⌝ }
+    ensures { λ r. ⌜ does ascription-tail run text rec kinds starts lens out mem at cfg r ⌝ }
 {
     let r1 = group(rec, at);
     let Answer::Done(s1) = told(r1) else {
@@ -2193,7 +2199,7 @@ fn ac<'a>(
     cfg: Cfg,
 ) -> usize
     requires { ⌜ cfg .depth + 2 * cfg .left + 2 ≤ 402 ⌝ }
-    ensures { λ r. ⌜ Does (now (run .entry)) (page (now (text .entry)) (now (rec .entry)) (now (kinds .entry)) (now (starts .entry)) (now (lens .entry))) cfg (λ ws c. maybe (ascription-tail ws c)) (runOf at (now (mem .entry)) (now (out .entry))) r (now (mem .exit)) (now (out .exit)) ⌝ }
+    ensures { λ r. ⌜ does (λ ws c. maybe (ascription-tail ws c)) run text rec kinds starts lens out mem at cfg r ⌝ }
 {
     if let Gone::Past(s0) = absent(rec, at) {
         return s0;
@@ -2215,7 +2221,7 @@ fn sp<'a>(
     cfg: Cfg,
 ) -> usize
     requires { ⌜ cfg .depth + 2 * cfg .left + 2 ≤ 402 ⌝ }
-    ensures { λ r. ⌜ Does (now (run .entry)) (page (now (text .entry)) (now (rec .entry)) (now (kinds .entry)) (now (starts .entry)) (now (lens .entry))) cfg (λ ws c. str-exp· ws c AppStrExp) (runOf at (now (mem .entry)) (now (out .entry))) r (now (mem .exit)) (now (out .exit)) ⌝ }
+    ensures { λ r. ⌜ does (λ ws c. str-exp· ws c AppStrExp) run text rec kinds starts lens out mem at cfg r ⌝ }
 {
     let r1 = text_of(run, text, rec, starts, lens, out, mem, at);
     let Answer::Done(s1) = told(r1) else {
@@ -2259,7 +2265,7 @@ fn sa<'a>(
     which: usize,
 ) -> usize
     requires { ⌜ cfg .depth + 2 * cfg .left + 2 ≤ 402 ⌝ }
-    ensures { λ r. ⌜ Does (now (run .entry)) (page (now (text .entry)) (now (rec .entry)) (now (kinds .entry)) (now (starts .entry)) (now (lens .entry))) cfg (λ ws c. app-arg ws c which) (runOf at (now (mem .entry)) (now (out .entry))) r (now (mem .exit)) (now (out .exit)) ⌝ }
+    ensures { λ r. ⌜ does (λ ws c. app-arg ws c which) run text rec kinds starts lens out mem at cfg r ⌝ }
 {
     match which {
         0 => str(run, text, rec, kinds, starts, lens, out, mem, at, cfg),
@@ -2282,7 +2288,7 @@ fn sl<'a>(
     cfg: Cfg,
 ) -> usize
     requires { ⌜ cfg .depth + 2 * cfg .left + 2 ≤ 402 ⌝ }
-    ensures { λ r. ⌜ Does (now (run .entry)) (page (now (text .entry)) (now (rec .entry)) (now (kinds .entry)) (now (starts .entry)) (now (lens .entry))) cfg (λ ws c. str-exp· ws c LetStrExp) (runOf at (now (mem .entry)) (now (out .entry))) r (now (mem .exit)) (now (out .exit)) ⌝ }
+    ensures { λ r. ⌜ does (λ ws c. str-exp· ws c LetStrExp) run text rec kinds starts lens out mem at cfg r ⌝ }
 {
     word(run, text, out, mem, words::LET);
     word(run, text, out, mem, words::LINE_FEED);
@@ -2319,7 +2325,7 @@ fn sig<'a>(
     cfg: Cfg,
 ) -> usize
     requires { ⌜ cfg .depth + 2 * cfg .left + 0 ≤ 402 ⌝ }
-    ensures { λ r. ⌜ Does (now (run .entry)) (page (now (text .entry)) (now (rec .entry)) (now (kinds .entry)) (now (starts .entry)) (now (lens .entry))) cfg (λ ws c. ws .get-sig-exp c) (runOf at (now (mem .entry)) (now (out .entry))) r (now (mem .exit)) (now (out .exit)) ⌝ }
+    ensures { λ r. ⌜ does (λ ws c. ws .get-sig-exp c) run text rec kinds starts lens out mem at cfg r ⌝ }
 {
     let forms_left = cfg.left;
     if forms_left == 0 {
@@ -2356,7 +2362,7 @@ fn sg<'a>(
     cfg: Cfg,
 ) -> usize
     requires { ⌜ cfg .depth + 2 * cfg .left + 2 ≤ 402 ⌝ }
-    ensures { λ r. ⌜ Does (now (run .entry)) (page (now (text .entry)) (now (rec .entry)) (now (kinds .entry)) (now (starts .entry)) (now (lens .entry))) cfg (λ ws c. sig-exp· ws c SigSigExp) (runOf at (now (mem .entry)) (now (out .entry))) r (now (mem .exit)) (now (out .exit)) ⌝ }
+    ensures { λ r. ⌜ does (λ ws c. sig-exp· ws c SigSigExp) run text rec kinds starts lens out mem at cfg r ⌝ }
 {
     word(run, text, out, mem, words::SIG);
     indent_deeper(out, mem, cfg);
@@ -2384,7 +2390,7 @@ fn wt<'a>(
     cfg: Cfg,
 ) -> usize
     requires { ⌜ cfg .depth + 2 * cfg .left + 2 ≤ 402 ⌝ }
-    ensures { λ r. ⌜ Does (now (run .entry)) (page (now (text .entry)) (now (rec .entry)) (now (kinds .entry)) (now (starts .entry)) (now (lens .entry))) cfg (λ ws c. sig-exp· ws c WhereTypeSigExp) (runOf at (now (mem .entry)) (now (out .entry))) r (now (mem .exit)) (now (out .exit)) ⌝ }
+    ensures { λ r. ⌜ does (λ ws c. sig-exp· ws c WhereTypeSigExp) run text rec kinds starts lens out mem at cfg r ⌝ }
 {
     let r1 = sig(run, text, rec, kinds, starts, lens, out, mem, at, cfg);
     let Answer::Done(s1) = told(r1) else {
@@ -2417,7 +2423,7 @@ fn wr<'a>(
     cfg: Cfg,
 ) -> usize
     requires { ⌜ cfg .depth + 2 * cfg .left + 2 ≤ 402 ⌝ }
-    ensures { λ r. ⌜ Does (now (run .entry)) (page (now (text .entry)) (now (rec .entry)) (now (kinds .entry)) (now (starts .entry)) (now (lens .entry))) cfg (λ ws c. sig-exp· ws c WhereSigExp) (runOf at (now (mem .entry)) (now (out .entry))) r (now (mem .exit)) (now (out .exit)) ⌝ }
+    ensures { λ r. ⌜ does (λ ws c. sig-exp· ws c WhereSigExp) run text rec kinds starts lens out mem at cfg r ⌝ }
 {
     let r1 = sig(run, text, rec, kinds, starts, lens, out, mem, at, cfg);
     let Answer::Done(s1) = told(r1) else {
@@ -2445,7 +2451,7 @@ pub fn walk<'a>(
     mem: &mut [u64; 68],
     tree: usize,
 ) -> usize
-    ensures { λ r. ⌜ Walked false (now (run .entry)) (page (now (text .entry)) (now (rec .entry)) (now (kinds .entry)) (now (starts .entry)) (now (lens .entry))) (get-dec (walks maxForms) top) (runOf tree (now (mem .entry)) (now (out .entry))) r (now (mem .exit)) (now (out .exit)) ⌝ }
+    ensures { λ r. ⌜ walked (get-dec (walks maxForms) top) run text rec kinds starts lens out mem tree r ⌝ }
 {
     let cfg = Cfg {
         depth: 0,
