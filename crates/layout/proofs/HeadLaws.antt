@@ -1,8 +1,9 @@
 -- Laws of what AppExp sees of its expressions.
 use mathlib.Core.Path.{_≡_, refl, sym, ap, _∙_}
-use mathlib.Core.Bool.{Bool, false}
+use mathlib.Core.Bool.{Bool, true, false}
+use mathlib.Core.Option.{Option, none, some}
 use mathlib.Core.List.{List}
-use Prim.Native.Nat.{ℕ, _+_}
+use Prim.Native.Nat.{ℕ, zero, suc, _+_}
 use lib.ListN.{length}
 use borrow.Author.Tests.{eq-eqb, ne-eqb}
 use Rattle.reader.specs.Fields as Fields
@@ -11,7 +12,8 @@ use Rattle.reader.specs.Forms.{expNumber}
 use Rattle.reader.specs.declared.commands.Family.the-variants as Case
 use Rattle.reader.specs.declared.commands.Number.{Number}
 use Rattle.reader.specs.declared.tree.Checked as Tree
-use Rattle.reader.specs.Commands.{FormAt}
+use Rattle.reader.specs.Commands.{FormAt, absentAt, formAt}
+use Rattle.reader.specs.Check.{Checked, ok, malformed, tooDeep, maxForms, fields, orAbsent, formCheck, formFits, fieldEnd}
 use Rattle.reader.specs.Tree.{checkedIn, Ends}
 use Rattle.reader.proofs.CommandLaws.{form-not, form-read}
 use Rattle.layout.specs.declared.Answer.{Answer}
@@ -54,24 +56,6 @@ module _ {rec : List ℕ} {arg : ℕ} {x : Number} (e : FormAt Case.Exp rec arg 
   unfolding headsFrom
   from-both h i p r s = rw (form-read e h, headsFrom, ← i, ← p, ← r) s
 
-module _ {rec : List ℕ} {func : ℕ} {x : Number} (e : FormAt Case.Exp rec func x) (count : ℕ) where
-  pub at-missing : x ≡ Number.Not → missing func ≡ headsAt rec count func
-  unfolding headsAt
-  at-missing f = rw (form-not e f, headsAt) refl
-
-  module _ {n : ℕ} {y : Tree.Checked} (f : x ≡ Number.Is n) (h : Ends rec count (Fields.form Exp) func y) where
-    pub at-both : {arg : ℕ} {z : Heads} → y ≡ Tree.Checked.Ok arg → z ≡ headsFrom rec n func arg → z ≡ headsAt rec count func
-    unfolding headsAt
-    at-both i j = rw (form-read e f, headsAt, sym (h .is) ∙ ap checkedIn i) j
-
-    pub at-malformed : {place : ℕ} → y ≡ Tree.Checked.Malformed place → missing place ≡ headsAt rec count func
-    unfolding headsAt
-    at-malformed i = rw (form-read e f, headsAt, sym (h .is) ∙ ap checkedIn i) refl
-
-    pub at-deep : {place : ℕ} → y ≡ Tree.Checked.TooDeep place → missing place ≡ headsAt rec count func
-    unfolding headsAt
-    at-deep i = rw (form-read e f, headsAt, sym (h .is) ∙ ap checkedIn i) refl
-
 -- ---- where the first one's walk ended
 module _ {rec : List ℕ} {func : ℕ} (arg : ℕ) {x : Number} (e : FormAt Case.Exp rec func x) where
   pub behind-missing : x ≡ Number.Not → missing func ≡ headsBehind rec func arg
@@ -81,6 +65,52 @@ module _ {rec : List ℕ} {func : ℕ} (arg : ℕ) {x : Number} (e : FormAt Case
   pub behind-both : {n : ℕ} {z : Heads} → x ≡ Number.Is n → z ≡ headsFrom rec n func arg → z ≡ headsBehind rec func arg
   unfolding headsBehind
   behind-both f j = rw (form-read e f, headsBehind) j
+
+-- ---- where its end is looked for
+-- Where a check refuses.
+abbrev refusedAt : ℕ → Checked → ℕ
+refusedAt at (ok next) = at
+refusedAt at (malformed place) = place
+refusedAt at (tooDeep place) = place
+
+module _ (rec : List ℕ) (count func : ℕ) where
+  no-fit : (left : ℕ) → formAt rec Exp func ≡ none → formCheck rec count left Exp func ≡ malformed func
+  unfolding formCheck formFits
+  no-fit zero e = let f : formFits rec count Exp func ≡ none = rw (e, formFits) refl in rw (f, formCheck) refl
+  no-fit (suc left) e = let f : formFits rec count Exp func ≡ none = rw (e, formFits) refl in rw (f, formCheck) refl
+
+  gone-or : (gone : Bool) (x : Checked) → x ≡ malformed func → refusedAt func (elim gone as (λ y. Checked) [ true ↦ ok (func + 1) | false ↦ x ]) ≡ func
+  gone-or true x e = refl
+  gone-or false x e = ap (refusedAt func) e
+
+  no-form : formAt rec Exp func ≡ none → refusedAt func (fieldEnd rec count (Fields.form Exp) func) ≡ func
+  unfolding fieldEnd fields orAbsent
+  no-form e = gone-or (absentAt rec func) (formCheck rec count maxForms Exp func) (no-fit maxForms e)
+
+module _ {rec : List ℕ} {count func : ℕ} {y : Tree.Checked} (h : Ends rec count (Fields.form Exp) func y) where
+  pub at-end : {arg : ℕ} {z : Heads} → y ≡ Tree.Checked.Ok arg → z ≡ headsBehind rec func arg → z ≡ headsAt rec count func
+  unfolding headsAt headsBehind
+  at-end {arg} i j = j ∙ go (formAt rec Exp func) refl
+    where
+      go : (o : Option ℕ) → formAt rec Exp func ≡ o → headsBehind rec func arg ≡ headsAt rec count func
+      go (some n) q = rw (q, headsBehind, headsAt, sym (h .is) ∙ ap checkedIn i) refl
+      go none q = rw (q, headsBehind, headsAt) refl
+
+  refused : (x : Checked) → fieldEnd rec count (Fields.form Exp) func ≡ x
+      → ((n : ℕ) → missing (refusedAt func x) ≡ elim x [ ok arg ↦ headsFrom rec n func arg | malformed place ↦ missing place | tooDeep place ↦ missing place ])
+      → missing (refusedAt func x) ≡ headsAt rec count func
+  unfolding headsAt
+  refused x e f = go (formAt rec Exp func) refl
+    where
+      go : (o : Option ℕ) → formAt rec Exp func ≡ o → missing (refusedAt func x) ≡ headsAt rec count func
+      go (some n) q = rw (q, headsAt, e) (f n)
+      go none q = rw (q, headsAt) (ap missing (sym (ap (refusedAt func) e) ∙ no-form rec count func q))
+
+  pub at-malformed : {place : ℕ} → y ≡ Tree.Checked.Malformed place → missing place ≡ headsAt rec count func
+  at-malformed {place} i = refused (malformed place) (sym (h .is) ∙ ap checkedIn i) (λ n. refl)
+
+  pub at-deep : {place : ℕ} → y ≡ Tree.Checked.TooDeep place → missing place ≡ headsAt rec count func
+  at-deep {place} i = refused (tooDeep place) (sym (h .is) ∙ ap checkedIn i) (λ n. refl)
 
 -- ---- where it stopped
 module _ {rec : List ℕ} {count func n : ℕ} {y : Both.BothSeen} (e : headsIn y ≡ headsAt rec count func) where

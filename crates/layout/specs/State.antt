@@ -91,6 +91,10 @@ abbrev pub pieceOf : List ℕ → List ℕ → Piece → List ℕ
 pieceOf run text (Piece.Word a n) = take n (drop a run)
 pieceOf run text (Piece.Text a n) = take n (drop a text)
 
+-- The text of a token, by number, where the tables have its start and its length.
+abbrev pub textAt : List ℕ → List ℕ → List ℕ → ℕ → List ℕ
+textAt x starts lens k = take (getD lens k 0) (drop (getD starts k 0) x)
+
 -- The state of a run: the cursor, the words and the output that are lent.
 pub record Run : Type 0 where
   pub at : ℕ
@@ -216,7 +220,7 @@ pub record Deeper (c new : Cfg) : Type 0 where
 
 -- A token's text is written.
 pub record Texted (x starts lens : List ℕ) (k : ℕ) (m o m′ o′ : List ℕ) : Type 0 where
-  pub is : Put (take (getD lens k 0) (drop (getD starts k 0) x)) m o m′ o′
+  pub is : Put (textAt x starts lens k) m o m′ o′
 
 -- A stop at an offset of the record.
 pub record Stops (a n : ℕ) : Type 0 where
@@ -320,7 +324,7 @@ pub record Looked (r : List ℕ) (l : Look) (at : ℕ) (b : Bool) : Type 0 where
 
 -- A comment's trimmed text is written, and the comment is not left any more.
 pub record Commented (x starts lens : List ℕ) (k : ℕ) (m o m′ o′ : List ℕ) : Type 0 where
-  pub is : Put (trim (take (getD lens k 0) (drop (getD starts k 0) x))) (struck m k) o m′ o′
+  pub is : Put (trim (textAt x starts lens k)) (struck m k) o m′ o′
 
 -- What answers about AppExp's expressions stand for.
 abbrev pub headIn : Looks.Head → Head

@@ -17,7 +17,7 @@ ghost use Rattle.text.specs.Bytes.{bytes};
 ghost use mathlib.Core.List.{List};
 ghost use Rattle.layout.specs.Layout.{word};
 ghost use Rattle.layout.specs.Lent.{writes, writesToken, strikesComment};
-ghost use Rattle.layout.specs.State.{toldOf, placeAt, placed, spaced, deepened, Put, Indented, struck, pieceOf, Deeper};
+ghost use Rattle.layout.specs.State.{toldOf, placeAt, placed, spaced, deepened, Put, Indented, struck, pieceOf, textAt, Deeper};
 
 // A walk answers a number: below STOP the cursor behind what was read, else STOP + 2 × the offset in the record of the
 // part that is absent; 1 more at an import.
@@ -210,6 +210,14 @@ pub fn entry(table: &[u16], k: usize) -> usize
 }
 
 // The text of a token, by number.
+pub fn token_text<'a>(text: &'a [u8], starts: &[u16], lens: &[u16], k: usize) -> &'a [u8]
+    ensures { λ r. ⌜ now r ≡ textAt (now (text .entry)) (now (starts .entry)) (now (lens .entry)) k ⌝ }
+{
+    let n = entry(lens, k);
+    part(text, entry(starts, k), n)
+}
+
+// It is written.
 pub fn token<'a>(
     run: &'a [u8; 351],
     text: &'a [u8],
@@ -248,6 +256,5 @@ pub fn comment(
     ensures { λ _. ⌜ strikesComment text starts lens out mem k ⌝ }
 {
     strike(mem, k);
-    let n = entry(lens, k);
-    put(out, mem, trim(part(text, entry(starts, k), n)));
+    put(out, mem, trim(token_text(text, starts, lens, k)));
 }

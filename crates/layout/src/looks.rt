@@ -1,11 +1,10 @@
 // Questions about the form at an offset and about a token's text; what `AppExp` sees of its expressions.
-use crate::entry;
 use crate::fields::Read;
 use crate::fields::form;
 use crate::fields::stop;
 use crate::names::Name;
 use crate::names::op_path_name;
-use crate::part;
+use crate::token_text;
 use reader::commands::Family;
 use reader::commands::Number;
 use reader::commands::byte_at;
@@ -43,29 +42,25 @@ const CASE_EXP: u8 = 0x57;
 pub fn is_bang(text: &[u8], starts: &[u16], lens: &[u16], k: usize) -> bool
     ensures { λ r. ⌜ TestedText (now (text .entry)) (now (starts .entry)) (now (lens .entry)) isBang k r ⌝ }
 {
-    let n = entry(lens, k);
-    same(part(text, entry(starts, k), n), b"!")
+    same(token_text(text, starts, lens, k), b"!")
 }
 
 pub fn is_pipe(text: &[u8], starts: &[u16], lens: &[u16], k: usize) -> bool
     ensures { λ r. ⌜ TestedText (now (text .entry)) (now (starts .entry)) (now (lens .entry)) isPipe k r ⌝ }
 {
-    let n = entry(lens, k);
-    same(part(text, entry(starts, k), n), b"|>")
+    same(token_text(text, starts, lens, k), b"|>")
 }
 
 pub fn alphabetic(text: &[u8], starts: &[u16], lens: &[u16], k: usize) -> bool
     ensures { λ r. ⌜ TestedText (now (text .entry)) (now (starts .entry)) (now (lens .entry)) isAlphabetic k r ⌝ }
 {
-    let n = entry(lens, k);
-    starts_with_letter(part(text, entry(starts, k), n))
+    starts_with_letter(token_text(text, starts, lens, k))
 }
 
 pub fn alphanumeric(text: &[u8], starts: &[u16], lens: &[u16], k: usize) -> bool
     ensures { λ r. ⌜ TestedText (now (text .entry)) (now (starts .entry)) (now (lens .entry)) isAlphanumeric k r ⌝ }
 {
-    let n = entry(lens, k);
-    starts_alphanumeric(part(text, entry(starts, k), n))
+    starts_alphanumeric(token_text(text, starts, lens, k))
 }
 
 // ---- the form at an offset
@@ -177,22 +172,7 @@ fn heads_from(rec: &[u8], number: usize, fields: usize, arg: usize) -> BothSeen
     both_seen(f, a)
 }
 
-// What `AppExp` sees of `func`, at the offset, and of `arg`, behind it.
-fn heads(rec: &[u8], count: usize, func: usize) -> BothSeen
-    ensures { λ r. ⌜ headsIn r ≡ headsAt (now (rec .entry)) count func ⌝ }
-{
-    let Number::Is(number) = form_at(rec, Family::Exp, func) else {
-        return BothSeen::Missing(func);
-    };
-    let end = exp_end(rec, count, func);
-    match end {
-        Checked::Ok(arg) => heads_from(rec, number, func + 1, arg),
-        Checked::Malformed(place) => BothSeen::Missing(place),
-        Checked::TooDeep(place) => BothSeen::Missing(place),
-    }
-}
-
-// The same where `func` was walked into, and its walk ended at `arg`: it is not read again.
+// What `AppExp` sees of `func`, at the offset, and of `arg`, where `func` ends.
 pub fn heads_behind(rec: &[u8], func: usize, arg: usize) -> BothSeen
     ensures { λ r. ⌜ headsIn r ≡ headsBehind (now (rec .entry)) func arg ⌝ }
 {
@@ -200,6 +180,18 @@ pub fn heads_behind(rec: &[u8], func: usize, arg: usize) -> BothSeen
         return BothSeen::Missing(func);
     };
     heads_from(rec, number, func + 1, arg)
+}
+
+// The same where `func` was not walked to its end: the end is looked for.
+fn heads(rec: &[u8], count: usize, func: usize) -> BothSeen
+    ensures { λ r. ⌜ headsIn r ≡ headsAt (now (rec .entry)) count func ⌝ }
+{
+    let end = exp_end(rec, count, func);
+    match end {
+        Checked::Ok(arg) => heads_behind(rec, func, arg),
+        Checked::Malformed(place) => BothSeen::Missing(place),
+        Checked::TooDeep(place) => BothSeen::Missing(place),
+    }
 }
 
 // Where `AppExp` stops whose `func` stopped with this number: 000 asks for both expressions and their names before it walks.

@@ -7,27 +7,15 @@ use borrow.Author.Needs.{needs}
 use Rattle.layout.proofs.looks.alphabetic.Statement.{statement}
 use Rattle.layout.proofs.looks.alphabetic.Tie as tie
 
-entry-requires : tie.Need-entry-requires
-entry-requires c κs = search needs
-
-entry-requires-2 : tie.Need-entry-requires-2
-entry-requires-2 c κs = search needs
-
-part-requires : tie.Need-part-requires
-part-requires c κs = search needs
+token-text-requires : tie.Need-token-text-requires
+token-text-requires c κs = search needs
 
 starts-with-letter-requires : tie.Need-starts-with-letter-requires
 starts-with-letter-requires c κs = search needs
 
 returns : tie.Need-returns
 unfolding passes tokenText textOf
-returns c =
-    record {
-      is = λ r kinds. c .starts-with-letter .ensures
-          ∙ ap (firstIs isLetter) (rw (c .before .before .before .entry .ensures, c .before .before .entry2 .ensures) at (c .before .part .ensures));
-    }
+returns c = record { is = λ r kinds. c .starts-with-letter .ensures ∙ ap (firstIs isLetter) (c .before .token-text .ensures) }
 
 pub alphabetic-spec : {M : Type 1} → statement M
-alphabetic-spec =
-    tie.close
-    (tie.spec entry-requires entry-requires-2 part-requires starts-with-letter-requires returns)
+alphabetic-spec = tie.close (tie.spec token-text-requires starts-with-letter-requires returns)

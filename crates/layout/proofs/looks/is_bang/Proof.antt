@@ -7,14 +7,8 @@ use borrow.Author.Needs.{needs}
 use Rattle.layout.proofs.looks.is_bang.Statement.{statement}
 use Rattle.layout.proofs.looks.is_bang.Tie as tie
 
-entry-requires : tie.Need-entry-requires
-entry-requires c κs = search needs
-
-entry-requires-2 : tie.Need-entry-requires-2
-entry-requires-2 c κs = search needs
-
-part-requires : tie.Need-part-requires
-part-requires c κs = search needs
+token-text-requires : tie.Need-token-text-requires
+token-text-requires c κs = search needs
 
 slice-aggregate-same : tie.Need-slice-aggregate-same
 slice-aggregate-same c = search needs
@@ -24,19 +18,7 @@ same-requires c κs = search needs
 
 returns : tie.Need-returns
 unfolding passes tokenText textOf bytes
-returns c =
-    record {
-      is = λ r kinds. c .same .ensures
-          ∙ ap (λ x. sameBytes x (bytes "!")) (rw (c .before .before .before .before .entry .ensures, c .before .before .before .entry2 .ensures) at (c .before .before .part .ensures));
-    }
+returns c = record { is = λ r kinds. c .same .ensures ∙ ap (λ x. sameBytes x (bytes "!")) (c .before .before .token-text .ensures) }
 
 pub is-bang-spec : {M : Type 1} → statement M
-is-bang-spec =
-    tie.close
-    (tie.spec
-    entry-requires
-    entry-requires-2
-    part-requires
-    slice-aggregate-same
-    same-requires
-    returns)
+is-bang-spec = tie.close (tie.spec token-text-requires slice-aggregate-same same-requires returns)
