@@ -1,6 +1,6 @@
 -- From what the walk's code leaves to the verdicts of `check` and `get`. Assumes nothing.
 use Prim.Native.Nat.{ℕ, _+_, _-_, _*_, _/_, _%_, _≤_, _<_}
-use native.Mathlib.Nat.{mul-comm, mul-le-mul, zero-add}
+use native.Mathlib.Nat.{mul-comm, mul-le-mul, mul-zero, zero-add}
 use native.Mathlib.Omega.{arith}
 use mathlib.Core.Path.{_≡_, refl, sym, ap, ap₂, _∙_, subst}
 use mathlib.Core.Bool.{Bool, true, false, cond}
@@ -29,8 +29,8 @@ use Rattle.layout.specs.Words.{wordRun}
 use Rattle.layout.specs.Walk.{walks, top, walk}
 use Rattle.layout.specs.GetDec.{get-dec}
 use Rattle.layout.specs.Events.{deepest, letters, units, formatted, isLeft}
-use Rattle.layout.specs.State.{Run, runOf, at, effects, Ran, went, fell, run, runs, packed, shown, stopNo, stopOf, Fair, Walked, page}
-use Rattle.layout.proofs.Exact.{cap, Sums, lent, steps, exact, exact-letters, exact-units, exact-deepest}
+use Rattle.layout.specs.State.{Run, runOf, at, sumOf, widthOf, effects, Ran, went, fell, run, runs, packed, shown, stopNo, stopOf, Fair, Walked, page}
+use Rattle.layout.proofs.Exact.{cap, Sums, place, lent, letters-is, steps, exact, exact-letters, exact-units, exact-deepest}
 use Rattle.layout.proofs.Steps.{shown-went}
 use Rattle.agreement.specs.Agreement.{EndsAt, Proper}
 use Rattle.agreement.proofs.Knot.{passes-walks}
@@ -154,7 +154,7 @@ module _ {run· : List ℕ} {p : Page} {tree tab : ℕ} {words m o : List ℕ} {
 
   whole : shown false (packed r m′ o′) ≡ shown false (run p (walk p tree) start)
   unfolding runs walk
-  whole = w .is (s .fair) ∙ ap (λ x. shown false (run p (walk p tree) (runOf tree x o))) (s .mem)
+  whole = w .is (s .fair) ∙ ap (λ x. shown false (run p (walk p tree) (runOf tree x o))) (s .mem ∙ ap (λ z. z ∷ 0 ∷ 0 ∷ tab ∷ words) (omega (arith, mul-zero tab)))
 
   module _ {end : ℕ} {es : List Event} (e : walk p tree ≡ done end es) (few : letters p es ≤ cap) (low : units es ≤ cap) where
     abbrev sums : Sums
@@ -276,12 +276,21 @@ module _ {run· : List ℕ} {p : Page} {tree tab : ℕ} {words m o : List ℕ} {
             (take-append-seam (formatted p tab fs) (drop (length (formatted p tab fs)) o));
       }
 
-  weight : Weight p tree (record { deepest = getD m₁ 2 0; letters = getD m₁ 0 0; units = getD m₁ 1 0 })
+  -- The letters are what the position leaves without the indents.
+  abbrev LettersAre : ℕ → Type 0
+  LettersAre n = (n < 0x1_0000_0000_0000_0000) × (sumOf n (widthOf tab (getD m₁ 1 0)) ≡ getD m₁ 0 0)
+
+  weight : {n : ℕ} → LettersAre n → Weight p tree (record { deepest = getD m₁ 2 0; letters = n; units = getD m₁ 1 0 })
   unfolding measuresOf
-  weight =
+  weight {n} a =
       let small : Small p es = is-small in
-      let l : getD m₁ 0 0 ≡ letters p es = ap (λ x. getD x 0 0) mem-is ∙ exact-letters p tab es (begin words o) ∙ omega arith in
-      let u : getD m₁ 1 0 ≡ units es = ap (λ x. getD x 1 0) mem-is ∙ exact-units p tab es (begin words o) ∙ omega arith in
+      let l′ : all-sums .letters ≡ letters p es = exact-letters p tab es (begin words o) ∙ omega arith in
+      let u′ : all-sums .units ≡ units es = exact-units p tab es (begin words o) ∙ omega arith in
+      let u : getD m₁ 1 0 ≡ units es = ap (λ x. getD x 1 0) mem-is ∙ u′ in
+      let q : sumOf n (widthOf tab (all-sums .units)) ≡ place tab all-sums =
+      ap (λ x. sumOf n (widthOf tab (getD x 1 0))) (sym mem-is) ∙ a .1 ∙ ap (λ x. getD x 0 0) mem-is in
+      let l : n ≡ letters p es =
+      letters-is tab (all-sums .letters) (all-sums .units) n (s .tab-fits) (omega (arith, l′, small .both)) (omega (arith, u′, small .both)) (a .0) q ∙ l′ in
       let d : getD m₁ 2 0 ≡ deepest es = ap (λ x. getD x 2 0) mem-is ∙ exact-deepest p tab es (begin words o) ∙ omega arith in
       record {
         short = rec-fits;
@@ -300,14 +309,14 @@ module _ {run· : List ℕ} {p : Page} {tree tab : ℕ} {words m o : List ℕ} {
   walked-is = rw (walk-is, byWalk, eq-eqb r (length (p .rec)) whole-read) refl
 
   module _ {b : Bool} (h : b ≡ eqb (count (holds m′) 0 room) 0) where
-    pub weigh-accepts : {count : ℕ} → length o′ ≡ length o → b ≡ true
-        → Weighs p count tree tab o′ m′ (Says.Accepted count tree (record { deepest = getD m₁ 2 0; letters = getD m₁ 0 0; units = getD m₁ 1 0 }))
+    pub weigh-accepts : {count n : ℕ} → length o′ ≡ length o → b ≡ true → LettersAre n
+        → Weighs p count tree tab o′ m′ (Says.Accepted count tree (record { deepest = getD m₁ 2 0; letters = n; units = getD m₁ 1 0 }))
     unfolding weight
-    weigh-accepts long e =
+    weigh-accepts long e a =
         let z : count (holds m′) 0 room ≡ 0 = eqb-true (count (holds m′) 0 room) 0 (sym h ∙ e) in
         let gone : first (isLeft (p .tokens .kinds) es) 0 (length (p .tokens .kinds)) ≡ none = empty-left (p .tokens .kinds) es m′ few words-are .0 z in
         let none-left = comments-none p es m′ few words-are (first-left (p .tokens .kinds) es m′ few words-are ∙ gone) in
-        record { is = (refl, refl, record { weight = weight; accepts = walked-is ∙ none-left .0; drafts = drafts long; empty = none-left .1 }) }
+        record { is = (refl, refl, record { weight = weight a; accepts = walked-is ∙ none-left .0; drafts = drafts long; empty = none-left .1 }) }
 
     module _ {x : First} (i : firstAt x ≡ first (holds m′) 0 room) where
       pub weigh-comments : {k place count : ℕ} {draft : List ℕ} → x ≡ Seen.At k → place ≡ getD (p .tokens .starts) k 0

@@ -6,12 +6,13 @@ use comments::First;
 use comments::Passed;
 use comments::Set;
 use layout::DEEPEST;
-use layout::LETTERS;
+use layout::POSITION;
 use layout::SET;
 use layout::STOP;
 use layout::TAB;
 use layout::UNITS;
 use layout::entry;
+use layout::letters_at;
 use layout::words;
 use reader::MAX_RECORD;
 use reader::MAX_TEXT;
@@ -210,10 +211,11 @@ fn weigh(
     let unwritten = set.words;
     *left = unwritten;
     if set.is_empty() {
+        let units = mem[UNITS];
         let measures = Measures {
             deepest: mem[DEEPEST],
-            letters: mem[LETTERS],
-            units: mem[UNITS],
+            letters: letters_at(tab as u64, mem[POSITION], units),
+            units,
         };
         return Judged::Accepted {
             count,

@@ -1,7 +1,7 @@
 -- What the walk's code counts and writes, without the wrap: from words that stand for these sums its effects are those of document 01, as
 -- long as no sum is large.
 use native.Mathlib.Omega.{arith}
-use native.Mathlib.Nat.{mul-le-mul}
+use native.Mathlib.Nat.{mul-le-mul, mul-add}
 use mathlib.Core.Path.{_≡_, refl, sym, ap, ap₂, _∙_}
 use mathlib.Core.Bool.{Bool, true, false, cond}
 use mathlib.Core.List.{List, [], _∷_}
@@ -13,7 +13,7 @@ use Rattle.comments.specs.Set.{clear}
 use Rattle.layout.specs.Meaning.{Page, Event, Word, Token, Comment, Formed, Indent, tokenText}
 use Rattle.layout.specs.Events as Events
 use Rattle.layout.specs.Events.{formedDepth, indentDepth, lettersOf, trimmed}
-use Rattle.layout.specs.State.{Run, runOf, sumOf, placeAt, struck, placed, spaced, effect, effects}
+use Rattle.layout.specs.State.{Run, runOf, sumOf, widthOf, struck, placed, spaced, effect, effects}
 
 -- No sum is over this.
 abbrev pub cap : ℕ
@@ -27,16 +27,17 @@ pub record Sums : Type 0 where
   pub left : List ℕ
   pub out : List ℕ
 
--- The words that are lent to the walk, for these sums.
-abbrev pub lent : ℕ → Sums → List ℕ
-lent tab s = s .letters ∷ s .units ∷ s .deepest ∷ tab ∷ s .left
-
 -- The words of a set without a token.
 abbrev pub without : List ℕ → ℕ → List ℕ
 without words k = cond (ltb (k / 64) 64) (set words (k / 64) (clear (getD words (k / 64) 0) (k % 64))) words
 
+-- The offset in the output where the next byte goes.
 abbrev pub place : ℕ → Sums → ℕ
 place tab s = s .letters + tab * s .units
+
+-- The words that are lent to the walk, for these sums.
+abbrev pub lent : ℕ → Sums → List ℕ
+lent tab s = place tab s ∷ s .units ∷ s .deepest ∷ tab ∷ s .left
 
 abbrev pub wrote : ℕ → List ℕ → Sums → Sums
 wrote tab w s =
@@ -117,12 +118,32 @@ module _ (p : Page) (tab : ℕ) where
 sum-is : (a b : ℕ) → a + b ≤ cap → sumOf a b ≡ a + b
 sum-is a b h = omega arith
 
-place-is : (tab l u : ℕ) → tab < 0x1_0000_0000 → l ≤ cap → u ≤ cap → placeAt tab l u ≡ l + tab * u
-place-is tab l u t h k =
+-- The width of indents, and that it is not large.
+width-is : (tab u : ℕ) → tab < 0x1_0000_0000 → u ≤ cap → (widthOf tab u ≡ tab * u) × (tab * u ≤ 0x7FFF_FFFF_8000_0000)
+width-is tab u t k =
     let x : tab % 0x1_0000_0000 ≡ tab = omega arith in
     let y : u % 0x1_0000_0000 ≡ u = omega arith in
     let z : tab ≤ 0xFFFF_FFFF = omega arith in
-    rw (x, y) (omega (arith, mul-le-mul z k))
+    (rw (x, y) refl, omega (arith, mul-le-mul z k))
+
+-- The position behind n bytes more.
+later-is : (tab l u n : ℕ) → tab < 0x1_0000_0000 → l + n ≤ cap → u ≤ cap → sumOf (l + tab * u) n ≡ l + n + tab * u
+later-is tab l u n t h k = omega (arith, width-is tab u t k .1)
+
+-- The position behind an indent.
+behind-is : (tab l u d : ℕ) → tab < 0x1_0000_0000 → l ≤ cap → u + d ≤ cap → sumOf (l + tab * u) (widthOf tab d) ≡ l + tab * (u + d)
+behind-is tab l u d t h k =
+    let w : widthOf tab d ≡ tab * d = width-is tab d t (omega arith) .0 in
+    let b : tab * (u + d) ≤ 0x7FFF_FFFF_8000_0000 = width-is tab (u + d) t k .1 in
+    let m : tab * (u + d) ≡ tab * u + tab * d = mul-add tab u d in
+    rw w (omega (arith, b, m))
+
+-- The letters before a position.
+pub letters-is : (tab l u r : ℕ) → tab < 0x1_0000_0000 → l ≤ cap → u ≤ cap → r < 0x1_0000_0000_0000_0000 → sumOf r (widthOf tab u) ≡ l + tab * u → r ≡ l
+letters-is tab l u r t h k n e =
+    let w = width-is tab u t k in
+    let f : sumOf r (tab * u) ≡ l + tab * u = rw (w .0) at e in
+    omega (arith, w .1, f)
 
 -- ---- the words behind the first four
 set-behind : (a b c d : ℕ) (ws : List ℕ) (i x : ℕ) → set (a ∷ b ∷ c ∷ d ∷ ws) (4 + i) x ≡ a ∷ b ∷ c ∷ d ∷ set ws i x
@@ -150,19 +171,15 @@ module _ (p : Page) (tab a : ℕ) (t : tab < 0x1_0000_0000) where
 
   one-exact : (e : Event) (s : Sums) → s .letters + lettersIn p tab e ≤ cap → s .units + indentDepth e ≤ cap → effect p e (stands s) ≡ stands (step p tab e s)
   unfolding effect step lettersOf indentDepth
-  one-exact (Word w) s h k =
-      rw (sum-is (s .letters) (length (bytes w)) h, place-is tab (s .letters) (s .units) t (omega arith) (omega arith)) refl
-  one-exact (Token j) s h k =
-      rw (sum-is (s .letters) (length (tokenText p j)) h, place-is tab (s .letters) (s .units) t (omega arith) (omega arith)) refl
+  one-exact (Word w) s h k = rw (later-is tab (s .letters) (s .units) (length (bytes w)) t h (omega arith)) refl
+  one-exact (Token j) s h k = rw (later-is tab (s .letters) (s .units) (length (tokenText p j)) t h (omega arith)) refl
   one-exact (Comment j) s h k =
       rw
-      (struck-behind (s .letters) (s .units) (s .deepest) tab (s .left) j, sum-is (s .letters) (length (trimmed p j)) h, place-is tab (s .letters) (s .units) t (omega arith) (omega arith))
+      (struck-behind (place tab s) (s .units) (s .deepest) tab (s .left) j, later-is tab (s .letters) (s .units) (length (trimmed p j)) t h (omega arith))
       refl
   one-exact (Formed d) s h k = refl
   one-exact (Indent d) s h k =
-      rw
-      (sum-is (s .units) d k, place-is tab (s .letters) (s .units) t (omega arith) (omega arith), place-is tab (s .letters) (s .units + d) t (omega arith) k)
-      refl
+      rw (behind-is tab (s .letters) (s .units) d t (omega arith) k, sum-is (s .units) d k) refl
 
   pub exact : (es : List Event) (s : Sums) → s .letters + Events.letters p es ≤ cap → s .units + Events.units es ≤ cap → effects p es (stands s) ≡ stands (steps p tab es s)
   unfolding effects steps Events.letters Events.units Events.sumOf

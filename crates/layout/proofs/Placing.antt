@@ -1,14 +1,14 @@
 -- Laws of writing: a piece or spaces at an offset of a lent output, what a turn of the loops that do it leaves, and what becomes of the lent words.
 use native.Mathlib.Omega.{arith}
 use native.Mathlib.Numerals.{add-one}
-use mathlib.Core.Path.{_≡_, refl, sym, ap, _∙_}
+use mathlib.Core.Path.{_≡_, refl, sym, ap, ap₂, _∙_}
 use mathlib.Core.List.{List}
 use Prim.Native.Nat.{ℕ, _+_, _-_, _/_, _%_, _≤_, _<_}
 use lib.ListN.{length, set, getD, replicate, length-replicate, getD-replicate}
 use lib.Seq.{paste, paste-suc}
 use borrow.Author.Tests.{le-leb, lt-leb, lt-ltb, le-ltb}
 use Rattle.comments.specs.Set.{clear}
-use Rattle.layout.specs.State.{sumOf, placeAt, lettersIn, unitsIn, tabIn, placeIn, placed, spaced, struck, Put, Indented}
+use Rattle.layout.specs.State.{sumOf, positionIn, unitsIn, indentEnd, placed, spaced, struck, Put, Indented}
 
 pub placed-yes : (o : List ℕ) (at : ℕ) (w : List ℕ) → at + length w ≤ length o → placed o at w ≡ paste o at w (length w)
 placed-yes o at w h = simp (le-leb _ _ h)
@@ -38,12 +38,12 @@ space-turn o₀ o at end p h e k l =
     rw q (ap (set o p) (sym v) ∙ copy-turn o₀ o w at (p - at) p (omega arith) e (omega arith) (omega arith))
 
 -- ---- the lent words
-pub put-is : {w m o o′ : List ℕ} {at x : ℕ} → at ≡ placeIn m → o′ ≡ placed o at w → x ≡ sumOf (lettersIn m) (length w) → Put w m o (set m 0 x) o′
-put-is {m = m} e f g = record { mem = ap (set m 0) g; out = rw e at f }
+pub put-is : {w m o o′ : List ℕ} {x : ℕ} → o′ ≡ placed o (positionIn m) w → x ≡ sumOf (positionIn m) (length w) → Put w m o (set m 0 x) o′
+put-is {m = m} f g = record { mem = ap (set m 0) g; out = f }
 
-pub indent-is : {m o o′ : List ℕ} {d at end x : ℕ} → x ≡ sumOf (unitsIn m) d → at ≡ placeIn m → end ≡ placeAt (tabIn m) (lettersIn m) x → o′ ≡ spaced o at end
-    → Indented d m o (set m 1 x) o′
-indent-is {m} e f g h = record { mem = ap (set m 1) e; out = rw (f, g, e) at h }
+pub indent-is : {m o o′ : List ℕ} {d end x : ℕ} → end ≡ indentEnd d m → x ≡ sumOf (unitsIn m) d → o′ ≡ spaced o (positionIn m) end
+    → Indented d m o (set (set m 0 end) 1 x) o′
+indent-is {m} e f g = record { mem = ap₂ (λ y z. set (set m 0 y) 1 z) e f; out = rw e at g }
 
 pub struck-is : (m : List ℕ) (k : ℕ) {x : ℕ} → k / 64 < 64 → x ≡ clear (getD m (4 + k / 64) 0) (k % 64) → set m (4 + k / 64) x ≡ struck m k
 struck-is m k h e = rw (lt-ltb _ _ h) (ap (set m (4 + k / 64)) e)

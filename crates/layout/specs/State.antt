@@ -45,13 +45,14 @@ use Rattle.layout.specs.Walk.{walks}
 abbrev pub sumOf : ℕ → ℕ → ℕ
 sumOf a b = (a + b) % 0x1_0000_0000_0000_0000
 
--- The offset in the output where the next byte goes.
-abbrev pub placeAt : ℕ → ℕ → ℕ → ℕ
-placeAt tab letters units = sumOf letters (tab % 0x1_0000_0000 * (units % 0x1_0000_0000))
+-- The width of indents, by the sum of their depths.
+abbrev pub widthOf : ℕ → ℕ → ℕ
+widthOf tab units = tab % 0x1_0000_0000 * (units % 0x1_0000_0000)
 
--- The words that are lent to the walk: letters, units, deepest and the tab size, then those of the set of comments left.
-abbrev pub lettersIn : List ℕ → ℕ
-lettersIn m = getD m 0 0
+-- The words that are lent to the walk: the position, which is the offset in the output where the next byte goes; units, deepest and
+-- the tab size; then those of the set of comments left.
+abbrev pub positionIn : List ℕ → ℕ
+positionIn m = getD m 0 0
 
 abbrev pub unitsIn : List ℕ → ℕ
 unitsIn m = getD m 1 0
@@ -62,14 +63,15 @@ deepestIn m = getD m 2 0
 abbrev pub tabIn : List ℕ → ℕ
 tabIn m = getD m 3 0
 
-abbrev pub placeIn : List ℕ → ℕ
-placeIn m = placeAt (tabIn m) (lettersIn m) (unitsIn m)
+-- Where an indent ends that starts at the position.
+abbrev pub indentEnd : ℕ → List ℕ → ℕ
+indentEnd d m = sumOf (positionIn m) (widthOf (tabIn m) d)
 
-abbrev pub addLetters : ℕ → List ℕ → List ℕ
-addLetters n m = set m 0 (sumOf (lettersIn m) n)
+abbrev pub advanced : ℕ → List ℕ → List ℕ
+advanced n m = set m 0 (sumOf (positionIn m) n)
 
 abbrev pub addUnits : ℕ → List ℕ → List ℕ
-addUnits d m = set m 1 (sumOf (unitsIn m) d)
+addUnits d m = set (set m 0 (indentEnd d m)) 1 (sumOf (unitsIn m) d)
 
 abbrev pub deepened : ℕ → List ℕ → List ℕ
 deepened d m = set m 2 (max (deepestIn m) d)
@@ -109,13 +111,11 @@ at a g = runOf a (g .mem) (g .out)
 
 -- A piece is written.
 abbrev pub wrote : List ℕ → Run → Run
-wrote w g = runOf (g .at) (addLetters (length w) (g .mem)) (placed (g .out) (placeIn (g .mem)) w)
+wrote w g = runOf (g .at) (advanced (length w) (g .mem)) (placed (g .out) (positionIn (g .mem)) w)
 
 -- An indent is written.
 abbrev pub indented : ℕ → Run → Run
-indented d g =
-    runOf (g .at) (addUnits d (g .mem))
-    (spaced (g .out) (placeIn (g .mem)) (placeAt (tabIn (g .mem)) (lettersIn (g .mem)) (sumOf (unitsIn (g .mem)) d)))
+indented d g = runOf (g .at) (addUnits d (g .mem)) (spaced (g .out) (positionIn (g .mem)) (indentEnd d (g .mem)))
 
 module _ (p : Page) where
   unfoldable pub effect : Event → Run → Run
@@ -202,13 +202,13 @@ pub record Plain (words x r starts lens : List ℕ) (w : Layout) (a : ℕ) (m o 
 
 -- A piece is written.
 pub record Put (w m o m′ o′ : List ℕ) : Type 0 where
-  pub mem : m′ ≡ addLetters (length w) m
-  pub out : o′ ≡ placed o (placeIn m) w
+  pub mem : m′ ≡ advanced (length w) m
+  pub out : o′ ≡ placed o (positionIn m) w
 
 -- An indent is written.
 pub record Indented (d : ℕ) (m o m′ o′ : List ℕ) : Type 0 where
   pub mem : m′ ≡ addUnits d m
-  pub out : o′ ≡ spaced o (placeIn m) (placeAt (tabIn m) (lettersIn m) (sumOf (unitsIn m) d))
+  pub out : o′ ≡ spaced o (positionIn m) (indentEnd d m)
 
 -- What a function says that only writes, and fixed words alone: from any cursor the words and the output are what the layout's run leaves.
 pub record Sure (words : List ℕ) (w : Layout) (m o m′ o′ : List ℕ) : Type 0 where

@@ -8,6 +8,7 @@ pub mod helpers; // helpers.rt: helpers of 000 that serve more than one family
 
 use comments::cleared;
 use std::num::wrapping_add_u64;
+use std::num::wrapping_sub_u64;
 use text::trim;
 ghost use mathlib.Core.Path.{_≡_};
 ghost use Prim.Native.Nat.{ℕ, _+_, _≤_, max};
@@ -17,15 +18,15 @@ ghost use Rattle.text.specs.Bytes.{bytes};
 ghost use mathlib.Core.List.{List};
 ghost use Rattle.layout.specs.Layout.{word};
 ghost use Rattle.layout.specs.Lent.{writes, writesToken, strikesComment};
-ghost use Rattle.layout.specs.State.{toldOf, placeAt, placed, spaced, deepened, Put, Indented, struck, pieceOf, textAt, Deeper};
+ghost use Rattle.layout.specs.State.{toldOf, sumOf, widthOf, placed, spaced, deepened, Put, Indented, struck, pieceOf, textAt, Deeper};
 
 // A walk answers a number: below STOP the cursor behind what was read, else STOP + 2 × the offset in the record of the
 // part that is absent; 1 more at an import.
 pub const STOP: usize = 0x1_0000_0000;
 
-// The words that are lent to the walk: the measures of what was written, the tab size, and from SET on the words of the
-// set of comments left.
-pub const LETTERS: usize = 0;
+// The words that are lent to the walk: the position, which is the offset in the output where the next byte goes; units, deepest and the
+// tab size; and from SET on the words of the set of comments left.
+pub const POSITION: usize = 0;
 
 pub const UNITS: usize = 1;
 
@@ -71,11 +72,18 @@ pub fn told(n: usize) -> Answer
     Answer::Stopped
 }
 
-// The offset in the output where the next byte goes.
-fn place(letters: u64, units: u64, tab: u64) -> u64
-    ensures { λ r. ⌜ r ≡ placeAt tab letters units ⌝ }
+// The width of indents, by the sum of their depths.
+fn width(tab: u64, units: u64) -> u64
+    ensures { λ r. ⌜ r ≡ widthOf tab units ⌝ }
 {
-    wrapping_add_u64(letters, (tab % 0x1_0000_0000) * (units % 0x1_0000_0000))
+    (tab % 0x1_0000_0000) * (units % 0x1_0000_0000)
+}
+
+// The letters of what was written up to a position: all but the indents.
+pub fn letters_at(tab: u64, position: u64, units: u64) -> u64
+    ensures { λ r. ⌜ sumOf r (widthOf tab units) ≡ position ⌝ }
+{
+    wrapping_sub_u64(position, width(tab, units))
 }
 
 // Copies a piece into the output at an offset, where it fits.
@@ -119,24 +127,21 @@ fn space(out: &mut [u8], at: u64, end: u64)
 fn put(out: &mut [u8], mem: &mut [u64; 68], piece: &[u8])
     ensures { λ _. ⌜ Put (now (piece .entry)) (now (mem .entry)) (now (out .entry)) (now (mem .exit)) (now (out .exit)) ⌝ }
 {
-    let letters = mem[LETTERS];
-    let at = place(letters, mem[UNITS], mem[TAB]);
+    let at = mem[POSITION];
     copy_in(out, at, piece);
-    mem[LETTERS] = wrapping_add_u64(letters, piece.len() as u64);
+    mem[POSITION] = wrapping_add_u64(at, piece.len() as u64);
 }
 
 // An indent at a depth.
 pub fn indent_at(out: &mut [u8], mem: &mut [u64; 68], depth: u64)
     ensures { λ _. ⌜ Indented depth (now (mem .entry)) (now (out .entry)) (now (mem .exit)) (now (out .exit)) ⌝ }
 {
-    let letters = mem[LETTERS];
+    let at = mem[POSITION];
     let units = mem[UNITS];
-    let tab = mem[TAB];
-    let more = wrapping_add_u64(units, depth);
-    let at = place(letters, units, tab);
-    let end = place(letters, more, tab);
+    let end = wrapping_add_u64(at, width(mem[TAB], depth));
     space(out, at, end);
-    mem[UNITS] = more;
+    mem[POSITION] = end;
+    mem[UNITS] = wrapping_add_u64(units, depth);
 }
 
 fn larger(a: u64, b: u64) -> u64

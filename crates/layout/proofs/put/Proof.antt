@@ -4,17 +4,8 @@ use borrow.Author.Needs.{needs}
 use Rattle.layout.proofs.put.Statement.{statement}
 use Rattle.layout.proofs.put.Tie as tie
 
-element-copy-out-letters : tie.Need-element-copy-out-letters
-element-copy-out-letters c = search needs
-
-element-copy-out-place : tie.Need-element-copy-out-place
-element-copy-out-place c = search needs
-
-element-copy-out-place-2 : tie.Need-element-copy-out-place-2
-element-copy-out-place-2 c = search needs
-
-place-requires : tie.Need-place-requires
-place-requires c κs = search needs
+element-copy-out-at : tie.Need-element-copy-out-at
+element-copy-out-at c = search needs
 
 copy-in-requires : tie.Need-copy-in-requires
 copy-in-requires c κs = search needs
@@ -29,18 +20,9 @@ same-length : tie.Need-same-length
 same-length c = search needs
 
 returns : tie.Need-returns
-returns c = put-is (c .before .before .before .before .before .place .ensures) (c .before .before .before .copy-in .ensures) (c .wrapping-add-u64 .ensures)
+returns c = put-is (c .before .before .before .copy-in .ensures) (c .wrapping-add-u64 .ensures)
 
 pub put-spec : {M : Type 1} → statement M
 put-spec =
     tie.close
-    (tie.spec
-    element-copy-out-letters
-    element-copy-out-place
-    element-copy-out-place-2
-    place-requires
-    copy-in-requires
-    wrapping-add-u64-requires
-    element-write-mem
-    same-length
-    returns)
+    (tie.spec element-copy-out-at copy-in-requires wrapping-add-u64-requires element-write-mem same-length returns)
