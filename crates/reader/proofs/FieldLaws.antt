@@ -19,12 +19,15 @@ use Rattle.reader.specs.Commands.{absentAt, tokenAt, listAt, groupAt, ch
 use Rattle.reader.specs.Check.{Checked, ok, malformed, tooDeep, andThen, items, operandFits, tokenFits, orAbsent, fields, formFits, formCheck, treeCheck}
 use Rattle.reader.proofs.CommandLaws.{some-true}
 use Rattle.reader.specs.Grammar.{groups, nodes, node, fieldOf, digits, fieldsOf}
-use Rattle.reader.specs.Tree.{checkedIn, opened, Opens, FieldsEnd, ItemsEnd, TreeEnd}
+use Rattle.reader.specs.Tree.{checkedIn, opened, Opens, ran, Runs, FieldsEnd, ItemsEnd, TreeEnd}
 use Rattle.reader.specs.declared.tree.Checked as Code
 use Rattle.reader.specs.declared.tree.Checked.the-variants.{Ok, Malformed, TooDeep}
 use Rattle.reader.specs.declared.tree.Opened.{Opened}
 use Rattle.reader.specs.declared.tree.Opened.the-variants as Opened
 use Rattle.reader.specs.declared.tree.Opened.the-variants.{Token, Inside}
+use Rattle.reader.specs.declared.tree.Run.{Run}
+use Rattle.reader.specs.declared.tree.Run.the-variants as Running
+use Rattle.reader.specs.declared.tree.Run.the-variants.{Nodes}
 
 -- ---- what a check that passes says of its parts
 -- Two checks one after the other: where the first ends.
@@ -213,24 +216,53 @@ field-list : (code : ℕ) → 128 ≤ code → fieldOf code ≡ list (node (code
 unfolding fieldOf
 field-list code h = rw (le-ltb code 128 h, fieldOf)
 
--- ---- what a field says, from its command
-module _ {rec : List ℕ} {count left code at : ℕ} where
-  pub list-none : 128 ≤ code → listAt rec at ≡ none → FieldsEnd rec count left true (fieldOf code) at (Malformed at)
-  unfolding fields
-  list-none h e = record { is = rw (field-list code h) (rw (e, fields)) }
+then-ok : (x : Checked) → andThen x (λ next. ok next) ≡ x
+unfolding andThen
+then-ok (ok m) = refl
+then-ok (malformed p) = refl
+then-ok (tooDeep p) = refl
 
-  pub list-some : {n : ℕ} {r : Code.Checked} → 128 ≤ code → listAt rec at ≡ some n → ItemsEnd rec count left n (node (code - 128)) (at + 3) r
-      → FieldsEnd rec count left true (fieldOf code) at r
-  unfolding fields
-  list-some h e i = record { is = i .is ∙ rw (field-list code h) (rw (e, fields)) }
+-- ---- the nodes of a field, from its command
+module _ {rec : List ℕ} {code at : ℕ} where
+  pub list-none : 128 ≤ code → listAt rec at ≡ none → Runs rec code at Running.Malformed
+  unfolding fields ran
+  list-none h e = record { is = λ count left. rw (field-list code h) (rw (e, fields)); on = tt }
 
-  pub field-absent : code < 128 → absentAt rec at ≡ true → FieldsEnd rec count left true (fieldOf code) at (Ok (at + 1))
-  field-absent h e = record { is = rw (field-node code h) (absent rec count (formCheck rec count left) at (node code) (node-atom code) e) }
+  pub list-some : {n : ℕ} → 128 ≤ code → listAt rec at ≡ some n → Runs rec code at (Nodes (code - 128) n (at + 3))
+  unfolding fields ran
+  list-some h e = record { is = λ count left. rw (field-list code h) (rw (e, fields)); on = omega arith }
 
-  pub field-item : {r : Code.Checked} → code < 128 → absentAt rec at ≡ false → FieldsEnd rec count left false (node code) at r
-      → FieldsEnd rec count left true (fieldOf code) at r
-  field-item h e i =
-      record { is = i .is ∙ rw (field-node code h) (present rec count (formCheck rec count left) at (node code) (node-atom code) e) }
+  pub field-absent : code < 128 → absentAt rec at ≡ true → Runs rec code at (Nodes code 0 (at + 1))
+  unfolding ran items
+  field-absent h e =
+      record {
+        is = λ count left. rw (field-node code h) (absent rec count (formCheck rec count left) at (node code) (node-atom code) e);
+        on = omega arith;
+      }
+
+  pub field-item : code < 128 → absentAt rec at ≡ false → Runs rec code at (Nodes code 1 at)
+  unfolding ran items
+  field-item h e =
+      record {
+        is = λ count left.
+            then-ok (fields rec count (formCheck rec count left) false (node code) at)
+            ∙ rw (field-node code h) (present rec count (formCheck rec count left) at (node code) (node-atom code) e);
+        on = omega arith;
+      }
+
+-- ---- what a field says, from its nodes
+module _ {rec : List ℕ} {code at : ℕ} {run : Run} (s : Runs rec code at run) where
+  pub run-malformed : {count left : ℕ} → run ≡ Running.Malformed → FieldsEnd rec count left true (fieldOf code) at (Malformed at)
+  unfolding ran
+  run-malformed {count} {left} e = record { is = ap (ran rec count left at) (sym e) ∙ s .is count left }
+
+  module _ {inner n first : ℕ} (e : run ≡ Nodes inner n first) where
+    pub run-nodes : {count left : ℕ} {r : Code.Checked} → ItemsEnd rec count left n (node inner) first r → FieldsEnd rec count left true (fieldOf code) at r
+    unfolding ran
+    run-nodes {count} {left} i = record { is = i .is ∙ ap (ran rec count left at) (sym e) ∙ s .is count left }
+
+    pub run-onwards : at ≤ first
+    run-onwards = rw e at (s .on)
 
 -- ---- what a node says, from its command
 module _ {rec : List ℕ} {count left at : ℕ} {f : Fields} {o : Opened} (s : Opens rec count left f at o) where
@@ -279,12 +311,6 @@ enough : (n codes : ℕ) → codes < bound n → digits n codes ≡ digits (suc 
 unfolding digits
 enough zero codes h = let z : codes ≡ 0 = omega arith in rw z (sym (digits-zero 1))
 enough (suc n) codes h = enough-some n codes (enough n (codes / 256) (omega arith)) (eqb codes 0) refl
-
-then-ok : (x : Checked) → andThen x (λ next. ok next) ≡ x
-unfolding andThen
-then-ok (ok m) = refl
-then-ok (malformed p) = refl
-then-ok (tooDeep p) = refl
 
 module _ (n codes : ℕ) (z : codes ≡ 0 → ⊥) where
   last-digit : eqb (codes / 256) 0 ≡ true → digits (suc n) codes ≡ fieldOf (codes % 256)
@@ -363,6 +389,10 @@ module _ {rec : List ℕ} {count left codes at : ℕ} where
 
     turn : andThen (checkedIn r) then ≡ fields rec count (formCheck rec count left) true (fieldsOf codes) at
     turn = ap (λ (x : Checked). andThen x then) (s .is) ∙ sym (row-step rec count (formCheck rec count left) rest next (p .small) z) ∙ p .same
+
+    pub row-breaks : {place : ℕ} → r ≡ Malformed place → FieldsEnd rec count left true (fieldsOf codes) at (Malformed place)
+    unfolding andThen
+    row-breaks e = record { is = ap (λ (x : Code.Checked). andThen (checkedIn x) then) (sym e) ∙ turn }
 
     pub row-stops : Stopped r → FieldsEnd rec count left true (fieldsOf codes) at r
     row-stops w = record { is = sym (stops r w then) ∙ turn }

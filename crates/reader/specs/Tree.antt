@@ -7,12 +7,14 @@ use lib.ListN.{length, getD}
 use Rattle.reader.specs.Fields as Fields
 use Rattle.reader.specs.Fields.{Fields, choice}
 use Rattle.reader.specs.Check.{Checked, ok, malformed, tooDeep, items, fields, formCheck, treeCheck, fieldEnd}
-use Rattle.reader.specs.Grammar.{fieldsOf, node, rows}
+use Rattle.reader.specs.Grammar.{fieldOf, fieldsOf, node, rows}
 use Rattle.reader.specs.declared.tree.Choice.{Choice}
 use Rattle.reader.specs.declared.tree.Checked as Code
 use Rattle.reader.specs.declared.tree.Checked.the-variants as Case
 use Rattle.reader.specs.declared.tree.Opened.{Opened}
 use Rattle.reader.specs.declared.tree.Opened.the-variants as Opening
+use Rattle.reader.specs.declared.tree.Run.{Run}
+use Rattle.reader.specs.declared.tree.Run.the-variants as Running
 
 -- What an answer says.
 abbrev pub checkedIn : Code.Checked → Checked
@@ -39,6 +41,21 @@ module _ (rec : List ℕ) (count : ℕ) where
 pub record Opens (rec : List ℕ) (count left : ℕ) (f : Fields) (at : ℕ) (r : Opened) : Type 0 where
   pub is : opened rec count at r ≡ fields rec count (formCheck rec count left) false f at
   pub on : ahead rec count at r
+
+-- What is left of a field at an offset once its own command is read: so many nodes.
+unfoldable pub ran : List ℕ → ℕ → ℕ → ℕ → Run → Checked
+ran rec count left at (Running.Nodes code n next) = items n (λ x. fields rec count (formCheck rec count left) false (node code) x) next
+ran rec count left at Running.Malformed = malformed at
+
+-- Its nodes do not stand before it.
+abbrev pub onwards : ℕ → Run → Type 0
+onwards at (Running.Nodes code n next) = at ≤ next
+onwards at Running.Malformed = Unit {0}
+
+-- The field of a code, whatever the number of tokens and of forms that may stand inside one another.
+pub record Runs (rec : List ℕ) (code at : ℕ) (r : Run) : Type 0 where
+  pub is : (count left : ℕ) → ran rec count left at r ≡ fields rec count (formCheck rec count left) true (fieldOf code) at
+  pub on : onwards at r
 
 -- A choice between the nodes of rows in a row.
 abbrev pub choiceOf : Choice → Fields

@@ -1,34 +1,26 @@
--- `field`, `fields`, `item` and `items` meet their contracts. They end because the record left falls.
+-- `fields`, `item` and `items` meet their contracts. They end because the record left falls.
 use Prim.Native.Nat.{ℕ, _<_, _+_, _*_, _-_}
 use borrow.Fn.Kinds.{In}
 use borrow.Fn.PlainCycle.{Measures, is, falls, and}
-use Rattle.reader.proofs.tree.field.Reads as field
-use Rattle.reader.proofs.tree.field.Kinds as field-kinds
-use Rattle.reader.proofs.tree.+field+fields+item+items.Lts-field as field-lts
 use Rattle.reader.proofs.tree.fields.Reads as fields
 use Rattle.reader.proofs.tree.fields.Kinds as fields-kinds
-use Rattle.reader.proofs.tree.+field+fields+item+items.Lts-fields as fields-lts
+use Rattle.reader.proofs.tree.+fields+item+items.Lts-fields as fields-lts
 use Rattle.reader.proofs.tree.item.Reads as item
 use Rattle.reader.proofs.tree.item.Kinds as item-kinds
-use Rattle.reader.proofs.tree.+field+fields+item+items.Lts-item as item-lts
+use Rattle.reader.proofs.tree.+fields+item+items.Lts-item as item-lts
 use Rattle.reader.proofs.tree.items.Reads as items
 use Rattle.reader.proofs.tree.items.Kinds as items-kinds
-use Rattle.reader.proofs.tree.+field+fields+item+items.Lts-items as items-lts
-use Rattle.reader.proofs.commands.absent_at.Reads as absent-at-reads
-use Rattle.reader.proofs.commands.list_at.Reads as list-at-reads
+use Rattle.reader.proofs.tree.+fields+item+items.Lts-items as items-lts
 use Rattle.reader.proofs.tree.open_node.Reads as open-node-reads
-use Rattle.reader.proofs.tree.+field+fields+item+items.{statement}
-use Rattle.reader.proofs.tree.+field+fields+item+items.Tie.{close}
-use mathlib.Core.Path.{sym, _∙_}
+use Rattle.reader.proofs.tree.run_at.Reads as run-at-reads
+use Rattle.reader.proofs.tree.+fields+item+items.{statement}
+use Rattle.reader.proofs.tree.+fields+item+items.Tie.{close}
+use mathlib.Core.Path.{refl}
 use borrow.Author.Needs.{needs}
 use native.Mathlib.Omega.{arith}
 use lib.ListN.{length}
 use Rattle.reader.specs.Grammar.{node}
-use Rattle.reader.proofs.CommandLaws.{read-not, read-is, list-fits, absent-fits}
-use Rattle.reader.proofs.FieldLaws.{list-none, list-some, field-absent, field-item, opened-token, opened-inside, opened-malformed, opened-deep, opened-ahead, Passed, row-starts, row-stops, row-goes, row-ends, Counted, list-starts, list-stops, list-goes, list-ends}
-
-abbrev μ-field : Measures 2 field-kinds.ps ℕ
-μ-field κs a = 3 * (length (a .1 .0 .now) - a .1 .1 .1 .1 .0) + 1
+use Rattle.reader.proofs.FieldLaws.{opened-token, opened-inside, opened-malformed, opened-deep, opened-ahead, run-malformed, run-nodes, run-onwards, Passed, row-starts, row-breaks, row-stops, row-goes, row-ends, Counted, list-starts, list-stops, list-goes, list-ends}
 
 abbrev μ-fields : Measures 2 fields-kinds.ps ℕ
 μ-fields κs a = 3 * (length (a .1 .0 .now) - a .1 .1 .1 .1 .0) + 2
@@ -38,12 +30,6 @@ abbrev μ-item : Measures 2 item-kinds.ps ℕ
 
 abbrev μ-items : Measures 2 items-kinds.ps ℕ
 μ-items κs a = 3 * (length (a .1 .0 .now) - a .1 .1 .1 .1 .1 .0) + 1
-
-abbrev field-at : ℕ → In 2 field-kinds.ps
-field-at t = and 2 field-kinds.ps (is 2 field-kinds.ps μ-field t) field.Pre
-
-abbrev field-below : ℕ → In 2 field-kinds.ps
-field-below t = and 2 field-kinds.ps (falls 2 field-kinds.ps _<_ μ-field t) field.Pre
 
 abbrev fields-at : ℕ → In 2 fields-kinds.ps
 fields-at t = and 2 fields-kinds.ps (is 2 fields-kinds.ps μ-fields t) fields.Pre
@@ -63,51 +49,10 @@ items-at t = and 2 items-kinds.ps (is 2 items-kinds.ps μ-items t) items.Pre
 abbrev items-below : ℕ → In 2 items-kinds.ps
 items-below t = and 2 items-kinds.ps (falls 2 items-kinds.ps _<_ μ-items t) items.Pre
 
--- ---- `field`
-
-abbrev field-claims : ℕ → field-lts.Claims
-field-claims t = (list-at-reads.Asked, list-at-reads.Learnt, items-below t, items.Post, absent-at-reads.Asked, absent-at-reads.Learnt, item-below t, item.Post)
-
-field-list-at-requires : (t : ℕ) → field-lts.Need-list-at-requires (field-claims t) (field-at t) field.Post
-field-list-at-requires t c κs = search needs
-
-field-enum-known-n : (t : ℕ) → field-lts.Need-enum-known-n (field-claims t) (field-at t) field.Post
-field-enum-known-n t c = search needs
-
-field-enum-told : (t : ℕ) → field-lts.Need-enum-told (field-claims t) (field-at t) field.Post
-field-enum-told t c = search needs
-
-field-returns : (t : ℕ) → field-lts.Need-returns (field-claims t) (field-at t) field.Post
-field-returns t c = list-none (c .before .before .before .if1 .taken) (read-not (c .before .before .list-at .ensures) (c .enum-told .given .1))
-
-field-add-items : (t : ℕ) → field-lts.Need-add-items (field-claims t) (field-at t) field.Post
-field-add-items t c = omega (arith, list-fits _ _ _ (read-is (c .before .before .before .list-at .ensures) (c .before .n .given .1)))
-
-field-items-requires : (t : ℕ) → field-lts.Need-items-requires (field-claims t) (field-at t) field.Post
-field-items-requires t c κs = (omega (arith, c .before .before .before .before .before .before .pre .0, list-fits _ _ _ (read-is (c .before .before .before .list-at .ensures) (c .before .n .given .1))), c .before .before .before .before .before .before .pre .1)
-
-field-returns-2 : (t : ℕ) → field-lts.Need-returns-2 (field-claims t) (field-at t) field.Post
-field-returns-2 t c = list-some (c .before .before .before .before .before .if1 .taken) (read-is (c .before .before .before .before .list-at .ensures) (c .before .before .n .given .1)) (c .items .ensures)
-
-field-absent-at-requires : (t : ℕ) → field-lts.Need-absent-at-requires (field-claims t) (field-at t) field.Post
-field-absent-at-requires t c κs = search needs
-
-field-add-t13 : (t : ℕ) → field-lts.Need-add-t13 (field-claims t) (field-at t) field.Post
-field-add-t13 t c = omega (arith, absent-fits _ _ (sym (c .before .absent-at .ensures .is) ∙ c .if2 .taken))
-
-field-returns-3 : (t : ℕ) → field-lts.Need-returns-3 (field-claims t) (field-at t) field.Post
-field-returns-3 t c = field-absent (c .before .before .if1 .left) (sym (c .before .absent-at .ensures .is) ∙ c .if2 .taken)
-
-field-item-requires : (t : ℕ) → field-lts.Need-item-requires (field-claims t) (field-at t) field.Post
-field-item-requires t c κs = (omega (arith, c .before .before .before .before .pre .0), c .before .before .before .before .pre .1)
-
-field-returns-4 : (t : ℕ) → field-lts.Need-returns-4 (field-claims t) (field-at t) field.Post
-field-returns-4 t c = field-item (c .before .before .before .if1 .left) (sym (c .before .before .absent-at .ensures .is) ∙ c .before .if2 .left) (c .item .ensures)
-
 -- ---- `fields`
 
 abbrev fields-claims : ℕ → fields-lts.Claims
-fields-claims t = (field-below t, field.Post)
+fields-claims t = (run-at-reads.Asked, run-at-reads.Learnt, items-below t, items.Post)
 
 abbrev fields-Inv-loop : fields-lts.InvT-loop
 fields-Inv-loop table rec count codes at left rest₀ next₀ rest next = Passed rec count left codes at rest next
@@ -118,23 +63,35 @@ fields-μ-loop table rec count codes at left rest₀ next₀ rest next = rest
 fields-loop-holds : (t : ℕ) → fields-lts.Need-loop-holds (fields-claims t) (fields-at t) fields.Post fields-Inv-loop fields-μ-loop
 fields-loop-holds t c = row-starts (omega arith)
 
-fields-field-requires : (t : ℕ) → fields-lts.Need-field-requires (fields-claims t) (fields-at t) fields.Post fields-Inv-loop fields-μ-loop
-fields-field-requires t c κs = (omega (arith, c .before .before .before .pre .0, c .before .loop .inv .on), c .before .before .before .pre .1)
+fields-run-at-requires : (t : ℕ) → fields-lts.Need-run-at-requires (fields-claims t) (fields-at t) fields.Post fields-Inv-loop fields-μ-loop
+fields-run-at-requires t c κs = search needs
+
+fields-enum-known-code : (t : ℕ) → fields-lts.Need-enum-known-code (fields-claims t) (fields-at t) fields.Post fields-Inv-loop fields-μ-loop
+fields-enum-known-code t c = search needs
+
+fields-enum-told : (t : ℕ) → fields-lts.Need-enum-told (fields-claims t) (fields-at t) fields.Post fields-Inv-loop fields-μ-loop
+fields-enum-told t c = search needs
+
+fields-returns : (t : ℕ) → fields-lts.Need-returns (fields-claims t) (fields-at t) fields.Post fields-Inv-loop fields-μ-loop
+fields-returns t c = row-breaks (c .before .before .before .before .loop .inv) (c .before .before .before .loop-test .taken) (run-malformed (c .before .before .run-at .ensures) (c .enum-told .given .1)) refl
+
+fields-items-requires : (t : ℕ) → fields-lts.Need-items-requires (fields-claims t) (fields-at t) fields.Post fields-Inv-loop fields-μ-loop
+fields-items-requires t c κs = (omega (arith, c .before .before .before .before .before .before .before .pre .0, c .before .before .before .before .before .loop .inv .on, run-onwards (c .before .before .before .run-at .ensures) (c .before .code .given .1)), c .before .before .before .before .before .before .before .pre .1)
 
 fields-enum-known-found : (t : ℕ) → fields-lts.Need-enum-known-found (fields-claims t) (fields-at t) fields.Post fields-Inv-loop fields-μ-loop
 fields-enum-known-found t c = search needs
 
-fields-returns : (t : ℕ) → fields-lts.Need-returns (fields-claims t) (fields-at t) fields.Post fields-Inv-loop fields-μ-loop
-fields-returns t c = row-stops (c .before .before .before .loop .inv) (c .before .before .loop-test .taken) (c .before .field .ensures) (c .match .keys2)
+fields-returns-2 : (t : ℕ) → fields-lts.Need-returns-2 (fields-claims t) (fields-at t) fields.Post fields-Inv-loop fields-μ-loop
+fields-returns-2 t c = row-stops (c .before .before .before .before .before .before .before .loop .inv) (c .before .before .before .before .before .before .loop-test .taken) (run-nodes (c .before .before .before .before .before .run-at .ensures) (c .before .before .before .code .given .1) (c .before .items .ensures)) (c .match2 .keys2)
 
 fields-loop-less : (t : ℕ) → fields-lts.Need-loop-less (fields-claims t) (fields-at t) fields.Post fields-Inv-loop fields-μ-loop
 fields-loop-less t c = omega arith
 
 fields-loop-again : (t : ℕ) → fields-lts.Need-loop-again (fields-claims t) (fields-at t) fields.Post fields-Inv-loop fields-μ-loop
-fields-loop-again t c = row-goes (c .before .before .before .before .before .loop .inv) (c .before .before .before .before .loop-test .taken) (c .before .before .before .field .ensures) (c .before .found .given .1)
+fields-loop-again t c = row-goes (c .before .before .before .before .before .before .before .before .before .loop .inv) (c .before .before .before .before .before .before .before .before .loop-test .taken) (run-nodes (c .before .before .before .before .before .before .before .run-at .ensures) (c .before .before .before .before .before .code .given .1) (c .before .before .before .items .ensures)) (c .before .found .given .1)
 
-fields-returns-2 : (t : ℕ) → fields-lts.Need-returns-2 (fields-claims t) (fields-at t) fields.Post fields-Inv-loop fields-μ-loop
-fields-returns-2 t c = row-ends (c .before .loop .inv) (c .loop-test .left)
+fields-returns-3 : (t : ℕ) → fields-lts.Need-returns-3 (fields-claims t) (fields-at t) fields.Post fields-Inv-loop fields-μ-loop
+fields-returns-3 t c = row-ends (c .before .loop .inv) (c .loop-test .left)
 
 -- ---- `item`
 
@@ -206,34 +163,23 @@ items-loop-again t c = list-goes (c .before .before .before .before .before .loo
 items-returns-2 : (t : ℕ) → items-lts.Need-returns-2 (items-claims t) (items-at t) items.Post items-Inv-loop items-μ-loop
 items-returns-2 t c = list-ends (c .before .loop .inv) (c .loop-test .left)
 
-pub +field+fields+item+items-spec : {M : Type 1} → statement M
-+field+fields+item+items-spec = close μ-field μ-fields μ-item μ-items (λ t. field-lts.spec (field-claims t)
-    (field-at t)
-    field.Post
-    (field-list-at-requires t)
-    (field-enum-known-n t)
-    (field-enum-told t)
-    (field-returns t)
-    (field-add-items t)
-    (field-items-requires t)
-    (field-returns-2 t)
-    (field-absent-at-requires t)
-    (field-add-t13 t)
-    (field-returns-3 t)
-    (field-item-requires t)
-    (field-returns-4 t))
-    (λ t. fields-lts.spec (fields-claims t)
+pub +fields+item+items-spec : {M : Type 1} → statement M
++fields+item+items-spec = close μ-fields μ-item μ-items (λ t. fields-lts.spec (fields-claims t)
     (fields-at t)
     fields.Post
     fields-Inv-loop
     fields-μ-loop
     (fields-loop-holds t)
-    (fields-field-requires t)
-    (fields-enum-known-found t)
+    (fields-run-at-requires t)
+    (fields-enum-known-code t)
+    (fields-enum-told t)
     (fields-returns t)
+    (fields-items-requires t)
+    (fields-enum-known-found t)
+    (fields-returns-2 t)
     (fields-loop-less t)
     (fields-loop-again t)
-    (fields-returns-2 t))
+    (fields-returns-3 t))
     (λ t. item-lts.spec (item-claims t)
     (item-at t)
     item.Post
