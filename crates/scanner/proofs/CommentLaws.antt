@@ -3,55 +3,20 @@ use Prim.Native.Nat.{ℕ, suc, _+_, _-_, _≤_, _<_}
 use native.Mathlib.Omega.{arith}
 use native.Mathlib.Numerals.{add-one}
 use mathlib.Core.Path.{_≡_, refl, sym, ap, ap₂, _∙_}
-use mathlib.Core.Bool.{Bool, true, false, _&&_, false≢true}
+use mathlib.Core.Bool.{Bool, true, false, _&&_}
 use mathlib.Core.List.{List, [], _∷_}
 use mathlib.Core.Option.{Option, none, some}
-use lib.Dec.{eqb}
-use lib.ListN.{length, getD, drop, length-drop, drop-of-length-le}
-use lib.Seq.{drop-cons, drop-drop}
-use borrow.Author.Tests.{eq-eqb, ne-eqb}
-use Rattle.text.specs.Bytes.{firstIs}
+use lib.Dec.{leb, eqb}
+use lib.ListN.{length, getD, drop, drop-of-length-le}
+use lib.Seq.{drop-cons}
+use borrow.Author.Tests.{eq-eqb, ne-eqb, leb-true, leb-false}
 use Rattle.scanner.specs.Lexical.{closes}
-use Rattle.scanner.specs.Reach.{longer, reach, taken, markOf}
-use Rattle.scanner.specs.declared.lexical.Mark.{Mark}
-use Rattle.scanner.specs.declared.lexical.Mark.the-variants.{Opens, Closes, Other}
+use Rattle.scanner.specs.Reach.{longer, reach, taken}
 use Rattle.scanner.proofs.ReachLaws.{longer-longer, empty, onward, reach-nil, reach-first, reach-step, reach-here}
 
 -- What closes this many comments.
 abbrev closing : ℕ → List ℕ → Bool
 closing depth t = closes t depth
-
--- ---- what two bytes mean
-
-module _ (b : ℕ) where
-  pub mark-opens : (u : List ℕ) → b ≡ 40 → firstIs (λ c. eqb c 42) u ≡ true → Opens ≡ markOf (b ∷ u)
-  unfolding firstIs markOf
-  mark-opens [] h e = absurd (false≢true e)
-  mark-opens (c ∷ u) h e = rw (markOf, eq-eqb b 40 h, e)
-
-  pub mark-bracket : (u : List ℕ) → b ≡ 40 → firstIs (λ c. eqb c 42) u ≡ false → Other ≡ markOf (b ∷ u)
-  unfolding firstIs markOf
-  mark-bracket [] h e = refl
-  mark-bracket (c ∷ u) h e = rw (markOf, eq-eqb b 40 h, e, ne-eqb b 42 (λ f. absurd (omega arith)))
-
-  module _ (other : b ≡ 40 → ⊥) where
-    pub mark-closes : (u : List ℕ) → b ≡ 42 → firstIs (λ c. eqb c 41) u ≡ true → Closes ≡ markOf (b ∷ u)
-    unfolding firstIs markOf
-    mark-closes [] h e = absurd (false≢true e)
-    mark-closes (c ∷ u) h e = rw (markOf, ne-eqb b 40 other, eq-eqb b 42 h, e)
-
-    pub mark-star : (u : List ℕ) → b ≡ 42 → firstIs (λ c. eqb c 41) u ≡ false → Other ≡ markOf (b ∷ u)
-    unfolding firstIs markOf
-    mark-star [] h e = refl
-    mark-star (c ∷ u) h e = rw (markOf, ne-eqb b 40 other, eq-eqb b 42 h, e)
-
-    pub mark-other : (u : List ℕ) → (b ≡ 42 → ⊥) → Other ≡ markOf (b ∷ u)
-    unfolding markOf
-    mark-other [] h = refl
-    mark-other (c ∷ u) h = rw (markOf, ne-eqb b 40 other, ne-eqb b 42 h)
-
-pub mark-here : (s : List ℕ) (at : ℕ) → at < length s → markOf (getD s at 0 ∷ drop (at + 1) s) ≡ markOf (drop at s)
-mark-here s at h = ap markOf (ap (λ (n : ℕ). getD s at 0 ∷ drop n s) (add-one at) ∙ sym (drop-cons s at 0 h))
 
 -- ---- a step
 
@@ -106,12 +71,6 @@ reach-closing-nil : (depth : ℕ) → reach (closing (suc depth)) [] ≡ none
 unfolding empty
 reach-closing-nil depth = reach-nil (closing (suc depth)) ∙ ap empty (closing-nil depth)
 
--- What is left of a comment behind its first mark.
-unfoldable behindMark : Mark → ℕ → List ℕ → Option ℕ
-behindMark Opens depth u = longer 2 (reach (closing (suc (suc depth))) (drop 2 u))
-behindMark Closes depth u = longer 2 (reach (closing depth) (drop 2 u))
-behindMark Other depth u = longer 1 (reach (closing (suc depth)) (drop 1 u))
-
 lone-byte : (depth b : ℕ) → reach (closing (suc depth)) (b ∷ []) ≡ longer 1 (reach (closing (suc depth)) [])
 unfolding longer onward empty
 lone-byte depth b =
@@ -124,101 +83,95 @@ one-step depth b c t e f =
     ∙ ap (longer 1)
     (reach-first (λ u. closing (suc depth) (b ∷ u)) (closing (suc depth)) c t (closing-one depth b ∙ sym (closing-nil depth)) (λ u. step-other depth b c u e f))
 
-reach-mark : (depth b : ℕ) (u : List ℕ) → reach (closing (suc depth)) (b ∷ u) ≡ behindMark (markOf (b ∷ u)) depth (b ∷ u)
-unfolding behindMark markOf
-reach-mark depth b [] = lone-byte depth b
-reach-mark depth b (c ∷ t) = go (eqb b 40 && eqb c 42) refl (eqb b 42 && eqb c 41) refl
-  where
-    go : (x : Bool) → (eqb b 40 && eqb c 42) ≡ x → (y : Bool) → (eqb b 42 && eqb c 41) ≡ y → reach (closing (suc depth)) (b ∷ c ∷ t) ≡ behindMark (elim x as (λ z. Mark) [ true ↦ Opens | false ↦ elim y as (λ z. Mark) [ true ↦ Closes | false ↦ Other ] ]) depth (b ∷ c ∷ t)
-    go true e y f = two-steps depth b c t (λ u. step-opens depth b c u e)
-    go false e true f = two-steps depth b c t (λ u. step-closes depth b c u e f)
-    go false e false f = one-step depth b c t e f
-
--- How many bytes a mark takes.
-unfoldable pub markLength : Mark → ℕ
-markLength Opens = 2
-markLength Closes = 2
-markLength Other = 1
-
-mark-fits : (b : ℕ) (u : List ℕ) → markLength (markOf (b ∷ u)) ≤ length (b ∷ u)
-unfolding markOf markLength
-mark-fits b [] = omega arith
-mark-fits b (c ∷ t) = go (markOf (b ∷ c ∷ t))
-  where
-    go : (m : Mark) → markLength m ≤ length (b ∷ c ∷ t)
-    go Opens = omega arith
-    go Closes = omega arith
-    go Other = omega arith
-
-mark-room : (u : List ℕ) → 0 < length u → markLength (markOf u) ≤ length u
-mark-room [] h = absurd (omega arith)
-mark-room (b ∷ u) h = mark-fits b u
-
 -- ---- at an offset
+pub comment-empty : (s : List ℕ) (at : ℕ) → length s ≡ 0 → 0 ≡ taken (longer at (reach (closing 1) (drop at s)))
+unfolding longer taken
+comment-empty s at e =
+    let h : length s ≤ at = omega (arith, e) in
+    ap taken (sym (ap (λ (u : List ℕ). longer at (reach (closing 1) u)) (drop-of-length-le s h) ∙ ap (longer at) (reach-closing-nil 0)))
 
-module _ (s : List ℕ) (at depth : ℕ) (some-open : 1 ≤ depth) where
-  pub comment-over : length s ≤ at → longer at (reach (closing depth) (drop at s)) ≡ none
+module _ (s : List ℕ) (at depth last : ℕ) (size : last + 1 ≡ length s) (some-open : 1 ≤ depth) where
+  deep : depth ≡ suc (depth - 1)
+  deep = omega arith
+
+  -- A comment does not end at the last byte.
+  pub comment-over : last ≤ at → longer at (reach (closing depth) (drop at s)) ≡ none
   unfolding longer
-  comment-over h =
-      ap (λ (u : List ℕ). longer at (reach (closing depth) u)) (drop-of-length-le s h)
-      ∙ ap (λ (d : ℕ). longer at (reach (closing d) [])) deep
-      ∙ ap (longer at) (reach-closing-nil (depth - 1))
+  comment-over h = ap (λ (d : ℕ). longer at (reach (closing d) (drop at s))) deep ∙ go (leb (length s) at) refl
     where
-      deep : depth ≡ suc (depth - 1)
-      deep = omega arith
+      go : (x : Bool) → leb (length s) at ≡ x → longer at (reach (closing (suc (depth - 1))) (drop at s)) ≡ none
+      go true e =
+          ap (λ (u : List ℕ). longer at (reach (closing (suc (depth - 1))) u)) (drop-of-length-le s (leb-true (length s) at e))
+          ∙ ap (longer at) (reach-closing-nil (depth - 1))
+      go false e =
+          let i = leb-false (length s) at e in
+          let j : length s ≤ suc at = omega (arith, size, h) in
+          ap (λ (u : List ℕ). longer at (reach (closing (suc (depth - 1))) u))
+          (drop-cons s at 0 i ∙ ap (λ (u : List ℕ). getD s at 0 ∷ u) (drop-of-length-le s j))
+          ∙ ap (longer at) (lone-byte (depth - 1) (getD s at 0) ∙ ap (longer 1) (reach-closing-nil (depth - 1)))
 
-  module _ (h : at < length s) (m : Mark) (is : m ≡ markOf (drop at s)) where
-    deep : depth ≡ suc (depth - 1)
-    deep = omega arith
+  module _ (h : at < last) where
+    abbrev b : ℕ
+    b = getD s at 0
 
-    at-byte : drop at s ≡ getD s at 0 ∷ drop (suc at) s
-    at-byte = drop-cons s at 0 h
+    abbrev c : ℕ
+    c = getD s (at + 1) 0
 
-    by-mark : reach (closing depth) (drop at s) ≡ behindMark m (depth - 1) (drop at s)
-    by-mark =
-        ap (λ (d : ℕ). reach (closing d) (drop at s)) deep
-        ∙ ap (reach (closing (suc (depth - 1)))) at-byte
-        ∙ reach-mark (depth - 1) (getD s at 0) (drop (suc at) s)
-        ∙ ap (λ (u : List ℕ). behindMark (markOf u) (depth - 1) u) (sym at-byte)
-        ∙ ap (λ (x : Mark). behindMark x (depth - 1) (drop at s)) (sym is)
+    second : drop (at + 1) s ≡ c ∷ drop (at + 1 + 1) s
+    second = drop-cons s (at + 1) 0 (omega (arith, size, h)) ∙ ap (λ (n : ℕ). c ∷ drop n s) (sym (add-one (at + 1)))
 
-    pub mark-inside : at + markLength m ≤ length s
-    mark-inside = omega (arith, mark-room (drop at s) (omega (arith, length-drop at s)), ap markLength is, length-drop at s)
+    here : drop at s ≡ b ∷ c ∷ drop (at + 1 + 1) s
+    here =
+        drop-cons s at 0 (omega (arith, size, h))
+        ∙ ap (λ (n : ℕ). b ∷ drop n s) (sym (add-one at))
+        ∙ ap (λ (u : List ℕ). b ∷ u) second
 
-    onward-by : (k : ℕ) (d : ℕ) → reach (closing depth) (drop at s) ≡ longer k (reach (closing d) (drop k (drop at s))) → longer at (reach (closing depth) (drop at s)) ≡ longer (at + k) (reach (closing d) (drop (at + k) s))
-    onward-by k d e =
-        ap (longer at) e
-        ∙ longer-longer at k (reach (closing d) (drop k (drop at s)))
-        ∙ ap (λ (u : List ℕ). longer (at + k) (reach (closing d) u)) (drop-drop k at s)
+    begins : longer at (reach (closing depth) (drop at s)) ≡ longer at (reach (closing (suc (depth - 1))) (b ∷ c ∷ drop (at + 1 + 1) s))
+    begins = ap (λ (d : ℕ). longer at (reach (closing d) (drop at s))) deep ∙ ap (λ (u : List ℕ). longer at (reach (closing (suc (depth - 1))) u)) here
 
-    pub comment-opens : m ≡ Opens → longer at (reach (closing depth) (drop at s)) ≡ longer (at + 2) (reach (closing (depth + 1)) (drop (at + 2) s))
-    unfolding behindMark
-    comment-opens e =
-        onward-by 2 (suc (suc (depth - 1))) (by-mark ∙ ap (λ (x : Mark). behindMark x (depth - 1) (drop at s)) e)
-        ∙ ap (λ (d : ℕ). longer (at + 2) (reach (closing d) (drop (at + 2) s))) deeper
+    onward-two : (d : ℕ) → ((t : List ℕ) → closing (suc (depth - 1)) (b ∷ c ∷ t) ≡ closing d t) → longer at (reach (closing depth) (drop at s)) ≡ longer (at + 1 + 1) (reach (closing d) (drop (at + 1 + 1) s))
+    onward-two d e =
+        begins
+        ∙ ap (longer at) (two-steps (depth - 1) b c (drop (at + 1 + 1) s) e)
+        ∙ longer-longer at 2 (reach (closing d) (drop (at + 1 + 1) s))
+        ∙ ap (λ (n : ℕ). longer n (reach (closing d) (drop (at + 1 + 1) s))) two
+      where
+        two : at + 2 ≡ at + 1 + 1
+        two = omega arith
+
+    pub comment-opens : b ≡ 40 → c ≡ 42 → longer at (reach (closing depth) (drop at s)) ≡ longer (at + 1 + 1) (reach (closing (depth + 1)) (drop (at + 1 + 1) s))
+    comment-opens e f = onward-two (depth + 1) (λ t. step-opens (depth - 1) b c t (rw (eq-eqb b 40 e, eq-eqb c 42 f)) ∙ ap (λ (d : ℕ). closing d t) deeper)
       where
         deeper : suc (suc (depth - 1)) ≡ depth + 1
         deeper = omega arith
 
-    pub comment-closes : m ≡ Closes → longer at (reach (closing depth) (drop at s)) ≡ longer (at + 2) (reach (closing (depth - 1)) (drop (at + 2) s))
-    unfolding behindMark
-    comment-closes e = onward-by 2 (depth - 1) (by-mark ∙ ap (λ (x : Mark). behindMark x (depth - 1) (drop at s)) e)
+    pub comment-closes : b ≡ 42 → c ≡ 41 → longer at (reach (closing depth) (drop at s)) ≡ longer (at + 1 + 1) (reach (closing (depth - 1)) (drop (at + 1 + 1) s))
+    comment-closes e f =
+        onward-two (depth - 1)
+        (λ t. step-closes (depth - 1) b c t (rw (ne-eqb b 40 (λ g. absurd (omega (arith, e, g))))) (rw (eq-eqb b 42 e, eq-eqb c 41 f)))
 
-    pub comment-shut : m ≡ Closes → depth - 1 ≡ 0 → at + 2 ≡ taken (longer at (reach (closing depth) (drop at s)))
+    pub comment-shut : b ≡ 42 → c ≡ 41 → depth - 1 ≡ 0 → at + 1 + 1 ≡ taken (longer at (reach (closing depth) (drop at s)))
     unfolding longer taken
-    comment-shut e z =
-        let f : longer at (reach (closing depth) (drop at s)) ≡ some (at + 2 + 0) =
-        comment-closes e
-        ∙ ap (λ (d : ℕ). longer (at + 2) (reach (closing d) (drop (at + 2) s))) z
-        ∙ ap (longer (at + 2)) (reach-shut (drop (at + 2) s)) in
-        rw f (omega arith)
+    comment-shut e f z =
+        let g : longer at (reach (closing depth) (drop at s)) ≡ some (at + 1 + 1 + 0) =
+        comment-closes e f
+        ∙ ap (λ (d : ℕ). longer (at + 1 + 1) (reach (closing d) (drop (at + 1 + 1) s))) z
+        ∙ ap (longer (at + 1 + 1)) (reach-shut (drop (at + 1 + 1) s)) in
+        rw g (omega arith)
 
-    pub comment-other : m ≡ Other → longer at (reach (closing depth) (drop at s)) ≡ longer (at + 1) (reach (closing depth) (drop (at + 1) s))
-    unfolding behindMark
-    comment-other e =
-        onward-by 1 (suc (depth - 1)) (by-mark ∙ ap (λ (x : Mark). behindMark x (depth - 1) (drop at s)) e)
+    onward-one : (eqb b 40 && eqb c 42) ≡ false → (eqb b 42 && eqb c 41) ≡ false → longer at (reach (closing depth) (drop at s)) ≡ longer (at + 1) (reach (closing depth) (drop (at + 1) s))
+    onward-one e f =
+        begins
+        ∙ ap (longer at) (one-step (depth - 1) b c (drop (at + 1 + 1) s) e f)
+        ∙ longer-longer at 1 (reach (closing (suc (depth - 1))) (c ∷ drop (at + 1 + 1) s))
+        ∙ ap (λ (u : List ℕ). longer (at + 1) (reach (closing (suc (depth - 1))) u)) (sym second)
         ∙ ap (λ (d : ℕ). longer (at + 1) (reach (closing d) (drop (at + 1) s))) (sym deep)
 
-    pub two-inside : (m ≡ Opens → at + 2 ≤ length s) × (m ≡ Closes → at + 2 ≤ length s)
-    unfolding markLength
-    two-inside = (λ e. rw e at mark-inside, λ e. rw e at mark-inside)
+    pub comment-star : b ≡ 42 → (c ≡ 41 → ⊥) → longer at (reach (closing depth) (drop at s)) ≡ longer (at + 1) (reach (closing depth) (drop (at + 1) s))
+    comment-star e f = onward-one (rw (ne-eqb b 40 (λ g. absurd (omega (arith, e, g))))) (rw (eq-eqb b 42 e, ne-eqb c 41 f))
+
+    pub comment-bracket : (b ≡ 42 → ⊥) → b ≡ 40 → (c ≡ 42 → ⊥) → longer at (reach (closing depth) (drop at s)) ≡ longer (at + 1) (reach (closing depth) (drop (at + 1) s))
+    comment-bracket d e f = onward-one (rw (eq-eqb b 40 e, ne-eqb c 42 f)) (rw (ne-eqb b 42 d))
+
+    pub comment-plain : (b ≡ 42 → ⊥) → (b ≡ 40 → ⊥) → longer at (reach (closing depth) (drop at s)) ≡ longer (at + 1) (reach (closing depth) (drop (at + 1) s))
+    comment-plain d e = onward-one (rw (ne-eqb b 40 e)) (rw (ne-eqb b 42 d))

@@ -2,7 +2,7 @@
 use Prim.Native.Nat.{ℕ, suc, _+_, _<_}
 use mathlib.Core.Path.{_≡_}
 use mathlib.Core.List.{List, [], _∷_}
-use mathlib.Core.Bool.{Bool, true, false, _&&_, _||_}
+use mathlib.Core.Bool.{Bool, true, false, _||_}
 use mathlib.Core.Option.{Option, none, some}
 use lib.Dec.{eqb}
 use lib.ListN.{getD}
@@ -12,8 +12,6 @@ use Rattle.scanner.specs.Constants.{isHexDigit, digitsThen, isFraction, 
 use Rattle.scanner.specs.Lexical.{isAlphanumericByte, isSymbol}
 use Rattle.scanner.specs.declared.runs.Class.{Class}
 use Rattle.scanner.specs.declared.runs.Class.the-variants.{Blank, Alphanumeric, Digit, HexDigit, Plain}
-use Rattle.scanner.specs.declared.lexical.Mark.{Mark}
-use Rattle.scanner.specs.declared.lexical.Mark.the-variants.{Opens, Closes, Other}
 
 -- A length, some bytes more.
 unfoldable pub longer : ℕ → Option ℕ → Option ℕ
@@ -58,12 +56,6 @@ isHexadecimal t = behind (bytes "0x") (oneOrMore isHexDigit) t
 
 unfoldable pub isMagnitude : List ℕ → Bool
 isMagnitude t = oneOrMore isDigit t || isHexadecimal t || digitsThen (λ r. isFraction r || isExponent r) t
-
--- What the first two bytes mean in a comment.
-unfoldable pub markOf : List ℕ → Mark
-markOf [] = Other
-markOf (b ∷ []) = Other
-markOf (b ∷ c ∷ t) = elim (eqb b 40 && eqb c 42) [ true ↦ Opens | false ↦ elim (eqb b 42 && eqb c 41) [ true ↦ Closes | false ↦ Other ] ]
 
 -- The kind where the text is the word, else the other.
 unfoldable pub kindIf : List ℕ → List ℕ → ℕ → ℕ → ℕ

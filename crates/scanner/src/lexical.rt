@@ -7,62 +7,38 @@ use crate::strings::Quoted;
 ghost use mathlib.Core.Path.{_≡_};
 ghost use mathlib.Core.List.{_∷_};
 ghost use mathlib.Core.Bool.{true, false};
-ghost use Prim.Native.Nat.{_<_};
-ghost use lib.ListN.{length, drop};
+ghost use lib.ListN.{drop};
 ghost use Rattle.text.specs.Bytes.{isSpace, isLetter, isDigit, classTable};
 ghost use Rattle.scanner.specs.Lexical.{closes, longest, kindOf};
-ghost use Rattle.scanner.specs.Reach.{longer, reach, taken, markOf, kindIf, TellsSymbols};
-
-// What two bytes mean in a comment.
-enum Mark {
-    Opens,
-    Closes,
-    Other,
-}
-
-fn mark_at(s: &[u8], at: usize) -> Mark
-    requires { ⌜ at < length (now s) ⌝ }
-    ensures { λ r. ⌜ r ≡ markOf (drop at (now (s .entry))) ⌝ }
-{
-    let b = s[at];
-    if b == 40 {
-        if runs::stands(s, at + 1, 42) {
-            return Mark::Opens;
-        }
-        return Mark::Other;
-    }
-    if b == 42 {
-        if runs::stands(s, at + 1, 41) {
-            return Mark::Closes;
-        }
-    }
-    Mark::Other
-}
+ghost use Rattle.scanner.specs.Reach.{longer, reach, taken, kindIf, TellsSymbols};
 
 // The end of a comment that starts with the two bytes before an offset; 0 where it has none.
 fn comment_end(s: &[u8], from: usize) -> usize
     ensures { λ r. ⌜ r ≡ taken (longer from (reach (λ t. closes t 1) (drop from (now (s .entry))))) ⌝ }
 {
+    if s.len() == 0 {
+        return 0;
+    }
+    let last = s.len() - 1;
     let mut at = from;
     let mut depth: usize = 1;
-    while at < s.len() {
-        match mark_at(s, at) {
-            Mark::Opens => {
-                depth += 1;
-                at += 2;
-                continue;
-            }
-            Mark::Closes => {
+    while at < last {
+        let b = s[at];
+        at += 1;
+        if b == 42 {
+            if s[at] == 41 {
+                at += 1;
                 depth -= 1;
-                at += 2;
                 if depth == 0 {
                     return at;
                 }
-                continue;
             }
-            Mark::Other => {
+            continue;
+        }
+        if b == 40 {
+            if s[at] == 42 {
                 at += 1;
-                continue;
+                depth += 1;
             }
         }
     }
