@@ -1,31 +1,13 @@
--- Laws of pieces: a part of a run of bytes, and a fixed word as one.
-use native.Mathlib.Omega.{arith}
-use mathlib.Core.Path.{_≡_, refl, sym, ap, _∙_}
+-- Laws of pieces: a fixed word as a part of the run of words.
+use mathlib.Core.Path.{_≡_, refl, ap, _∙_}
 use mathlib.Core.List.{List, _∷_}
 use Prim.Native.Char.{code}
 use Prim.Native.String.{String}
-use Prim.Native.Nat.{ℕ, zero, suc, _+_, _-_, _/_, _%_, _≤_, _<_}
-use lib.ListN.{length, take, drop, length-drop, drop-of-length-le}
-use lib.Seq.{take-all, take-nil}
+use Prim.Native.Nat.{ℕ, zero, suc, _/_, _%_}
+use lib.ListN.{take, drop}
 use Rattle.text.specs.Bytes.{bytes}
 use Rattle.layout.specs.Words.{wordText, takeText, dropText, wordOf, wordRun}
 use Rattle.layout.specs.State.{Put}
-
--- ---- a part, as far as it is there
-pub part-past : (s : List ℕ) (a n : ℕ) → length s ≤ a → take (length s - length s) (drop (length s) s) ≡ take n (drop a s)
-part-past s a n h =
-    let k : length s ≤ length s = omega arith in
-    rw (drop-of-length-le s k, drop-of-length-le s h) (take-nil (length s - length s) ∙ sym (take-nil n))
-
-pub part-short : (s : List ℕ) (a n : ℕ) → length s - a < n → take (length s - a) (drop a s) ≡ take n (drop a s)
-part-short s a n h =
-    let l = length-drop a s in
-    take-all (length s - a) (drop a s) (omega (arith, l)) ∙ sym (take-all n (drop a s) (omega (arith, l)))
-
-pub part-whole : (s : List ℕ) (a n : ℕ) → take (a + n - a) (drop a s) ≡ take n (drop a s)
-part-whole s a n =
-    let q : a + n - a ≡ n = omega arith in
-    rw q refl
 
 -- ---- a fixed word
 take-bytes : (n : ℕ) (s : String) → take n (bytes s) ≡ bytes (takeText n s)

@@ -9,6 +9,7 @@ pub mod helpers; // helpers.rt: helpers of 000 that serve more than one family
 use comments::cleared;
 use std::num::wrapping_add_u64;
 use std::num::wrapping_sub_u64;
+use text::at::part;
 use text::trim;
 ghost use mathlib.Core.Path.{_≡_};
 ghost use Prim.Native.Nat.{ℕ, _+_, _≤_, max};
@@ -162,21 +163,6 @@ pub fn formed(mem: &mut [u64; 68], depth: u64)
 pub enum Piece {
     Word(usize, usize),
     Text(usize, usize),
-}
-
-// n bytes from an offset on, as far as they are there.
-pub fn part(s: &[u8], a: usize, n: usize) -> &[u8]
-    ensures { λ r. ⌜ now r ≡ take n (drop a (now (s .entry))) ⌝ }
-{
-    let len = s.len();
-    if len <= a {
-        return &s[len..len];
-    }
-    if len - a < n {
-        return &s[a..len];
-    }
-    let e = a + n;
-    &s[a..e]
 }
 
 // The piece, as a part of one of the two runs lent.

@@ -2,7 +2,7 @@
 use formatter::Answer;
 use formatter::numbers::Numbers;
 use formatter::numbers::numbers_of;
-use reader::commands::u16_at;
+use text::at::u16_at;
 ghost use mathlib.Core.Path.{_≡_};
 ghost use mathlib.Core.List.{[], _∷_, _++_};
 ghost use Prim.Native.Nat.{_+_, _≤_, _<_};

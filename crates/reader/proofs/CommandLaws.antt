@@ -5,10 +5,11 @@ use mathlib.Core.List.{List}
 use mathlib.Core.Bool.{Bool, true, false, _&&_}
 use mathlib.Core.Option.{Option, none, some}
 use native.Mathlib.Omega.{arith}
-use lib.ListN.{length, getD, List·getD-eq-default}
+use lib.ListN.{length, getD}
 use lib.Dec.{leb, ltb, eqb}
 use borrow.Author.Tests.{le-leb, lt-leb, leb-true, leb-false, ltb-true, lt-ltb, le-ltb, eq-eqb, ne-eqb, eqb-true, eqb-false}
 use Rattle.text.proofs.Laws.{never}
+use Rattle.text.proofs.AtLaws.{u16-past}
 use Rattle.reader.specs.declared.commands.Family.{Family}
 use Rattle.reader.specs.declared.commands.Family.the-variants as Code
 use Rattle.reader.specs.declared.commands.Facts.{Facts}
@@ -65,13 +66,6 @@ module _ {rec : List ℕ} {at : ℕ} {b : Bool} where
   pub choice-no : CommandAt 4 2 rec at b → b ≡ false → NumberAt choiceAt rec at Not
   unfolding choiceAt numberIn
   choice-no s t = record { is = rw (← s .is, choiceAt, t) }
-
--- The bytes past the end count 0.
-pub u16-past : (rec : List ℕ) (at : ℕ) → length rec ≤ at → 0 ≡ u16 rec at
-unfolding u16
-u16-past rec at h =
-    let k : length rec ≤ at + 1 = omega arith in
-    rw (List·getD-eq-default rec 0 {n = at} h, List·getD-eq-default rec 0 {n = at + 1} k)
 
 -- The facts of a family, one by one.
 module _ (family : Fields.Family) {facts : Facts} (e : facts ≡ factsOf family) where

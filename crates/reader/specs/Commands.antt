@@ -15,6 +15,8 @@ use Rattle.reader.specs.declared.commands.Declaration.{Declaration}
 use Rattle.reader.specs.declared.commands.Declaration.the-variants as Whole
 use Rattle.reader.specs.Fields.{Family, DecOne, StrExp, SigExp, Exp, Pat, Ty, forms, firstForm}
 use Rattle.reader.specs.Grammar.{firstRow}
+-- An operand of two bytes.
+unfoldable pub use Rattle.text.specs.At.{u16}
 
 -- How many bytes a form's command has: a declaration's has one operand, the first token.
 unfoldable pub formWidth : Family → ℕ
@@ -26,9 +28,6 @@ formWidth Pat = 1
 formWidth Ty = 1
 
 module _ (rec : List ℕ) where
-  unfoldable pub u16 : ℕ → ℕ
-  u16 at = getD rec at 0 + 256 * getD rec (at + 1) 0
-
   -- The command `tag`, `width` bytes with its operands, stands whole at the offset.
   unfoldable pub command : ℕ → ℕ → ℕ → Bool
   command tag width at = leb (at + width) (length rec) && eqb (getD rec at 0) tag
@@ -39,11 +38,11 @@ module _ (rec : List ℕ) where
 
   -- 0x01 number(u16): a token.
   unfoldable pub tokenAt : ℕ → Option ℕ
-  tokenAt at = elim (command 0x01 3 at) [ true ↦ some (u16 (at + 1)) | false ↦ none ]
+  tokenAt at = elim (command 0x01 3 at) [ true ↦ some (u16 rec (at + 1)) | false ↦ none ]
 
   -- 0x02 count(u16): a list.
   unfoldable pub listAt : ℕ → Option ℕ
-  listAt at = elim (command 0x02 3 at) [ true ↦ some (u16 (at + 1)) | false ↦ none ]
+  listAt at = elim (command 0x02 3 at) [ true ↦ some (u16 rec (at + 1)) | false ↦ none ]
 
   -- 0x03: a group.
   unfoldable pub groupAt : ℕ → Bool

@@ -3,9 +3,9 @@ mod vector; // vector.rt: the layout of a stored call
 
 use formatter::Answer;
 use formatter::numbers::numbers_of;
-use layout::part;
 use libc::STDIN_FILENO;
 use libc::STDOUT_FILENO;
+use text::at::part;
 use vector::FIXED;
 use vector::Vector;
 use vector::byte_at;

@@ -1,6 +1,6 @@
 // The layout of a stored call (reference/vectors/README.md). A part that is not there counts as empty, a byte as 0.
-use layout::part;
-use reader::commands::u16_at;
+use text::at::part;
+use text::at::u16_at;
 ghost use Prim.Native.Nat.{_≤_};
 ghost use lib.ListN.{length};
 

@@ -6,3 +6,4 @@ pub mod EncodeLaws
 pub mod WholeLaws
 pub mod WellFormedLaws
 pub mod OutputLaws
+pub mod AtLaws

@@ -5,7 +5,6 @@ use Rattle.layout.proofs.piece_of.Statement.{statement}
 use Rattle.layout.proofs.piece_of.Tie as tie
 use Rattle.layout.proofs.piece_of.Reads as reads
 use Rattle.layout.proofs.piece_of.Lts as lts
-use Rattle.layout.proofs.part.Reads as part-reads
 
 enum-known-which : tie.Need-enum-known-which
 enum-known-which c = search needs

@@ -1,9 +1,9 @@
 -- `u16_at` meets its contract.
-use Rattle.reader.proofs.CommandLaws.{u16-past}
-use Rattle.reader.specs.Commands.{u16}
+use Rattle.text.proofs.AtLaws.{u16-past}
+use Rattle.text.specs.At.{u16}
 use borrow.Author.Needs.{needs}
-use Rattle.reader.proofs.commands.u16_at.Statement.{statement}
-use Rattle.reader.proofs.commands.u16_at.Tie as tie
+use Rattle.text.proofs.at.u16_at.Statement.{statement}
+use Rattle.text.proofs.at.u16_at.Tie as tie
 
 byte-at-requires : tie.Need-byte-at-requires
 byte-at-requires c κs = search needs
@@ -22,7 +22,7 @@ unfolding u16
 returns c = simp (c .two .ensures .0, c .before .byte-at2 .ensures, c .before .before .byte-at .ensures)
 
 returns-2 : tie.Need-returns-2
-returns-2 c = u16-past (c .before .before .args .rec .now) (c .before .before .args .at) (c .if1 .left)
+returns-2 c = u16-past (c .before .before .args .s .now) (c .before .before .args .at) (c .if1 .left)
 
 pub u16-at-spec : {M : Type 1} → statement M
 u16-at-spec =

@@ -1,9 +1,8 @@
-use Rattle.layout.proofs.Pieces.{part-past, part-short, part-whole}
+-- `part` meets its contract.
+use Rattle.text.proofs.AtLaws.{part-past, part-short, part-whole}
 use borrow.Author.Needs.{needs}
-use Rattle.layout.proofs.part.Statement.{statement}
-use Rattle.layout.proofs.part.Tie as tie
-use Rattle.layout.proofs.part.Reads as reads
-use Rattle.layout.proofs.part.Lts as lts
+use Rattle.text.proofs.at.part.Statement.{statement}
+use Rattle.text.proofs.at.part.Tie as tie
 
 sub-result : tie.Need-sub-result
 sub-result c = search needs
@@ -15,7 +14,7 @@ part-result-end : tie.Need-part-result-end
 part-result-end c = search needs
 
 returns : tie.Need-returns
-returns c = let a = c .before .before .args in part-past (a .s .now) (a .a) (a .n) (c .before .if1 .taken)
+returns c = let a = c .before .before .args in part-past (a .s .now) (a .at) (a .n) (c .before .if1 .taken)
 
 sub-if2 : tie.Need-sub-if2
 sub-if2 c = search needs
@@ -30,10 +29,10 @@ part-result-end-2 : tie.Need-part-result-end-2
 part-result-end-2 c = search needs
 
 returns-2 : tie.Need-returns-2
-returns-2 c = let a = c .before .before .before .args in part-short (a .s .now) (a .a) (a .n) (c .before .if2 .taken)
+returns-2 c = let a = c .before .before .before .args in part-short (a .s .now) (a .at) (a .n) (c .before .if2 .taken)
 
-add-e : tie.Need-add-e
-add-e c = search needs
+add-end : tie.Need-add-end
+add-end c = search needs
 
 sub-result-3 : tie.Need-sub-result-3
 sub-result-3 c = search needs
@@ -45,7 +44,7 @@ part-result-end-3 : tie.Need-part-result-end-3
 part-result-end-3 c = search needs
 
 returns-3 : tie.Need-returns-3
-returns-3 c = let a = c .before .before .before .args in part-whole (a .s .now) (a .a) (a .n)
+returns-3 c = let a = c .before .before .before .args in part-whole (a .s .now) (a .at) (a .n)
 
 pub part-spec : {M : Type 1} → statement M
 part-spec =
@@ -60,7 +59,7 @@ part-spec =
     part-result-start-2
     part-result-end-2
     returns-2
-    add-e
+    add-end
     sub-result-3
     part-result-start-3
     part-result-end-3
