@@ -2,6 +2,7 @@
 use formatter::Answer;
 use formatter::numbers::Numbers;
 use formatter::numbers::numbers_of;
+use text::at::part;
 use text::at::u16_at;
 ghost use mathlib.Core.Path.{_≡_};
 ghost use mathlib.Core.List.{[], _∷_, _++_};
@@ -96,11 +97,9 @@ fn text_length(input: &[u8]) -> usize
 
 // What follows the head: the text, then the record.
 fn text_in(input: &[u8], n: usize) -> &[u8]
-    requires { ⌜ headLength + n ≤ length (now input) ⌝ }
     ensures { λ r. ⌜ now r ≡ take n (drop headLength (now (input .entry))) ⌝ }
 {
-    let end = 6 + n;
-    &input[6..end]
+    part(input, 6, n)
 }
 
 fn record_in(input: &[u8], n: usize) -> &[u8]
