@@ -16,8 +16,8 @@ use Rattle.reader.specs.Commands.{FormAt, absentAt, formAt}
 use Rattle.reader.specs.Check.{Checked, ok, malformed, tooDeep, maxForms, fields, orAbsent, formCheck, formFits, fieldEnd}
 use Rattle.reader.specs.Tree.{checkedIn, Ends}
 use Rattle.reader.proofs.CommandLaws.{form-not, form-read}
-use Rattle.layout.specs.declared.Answer.{Answer}
-use Rattle.layout.specs.declared.Answer.the-variants.{Stopped}
+use Rattle.layout.specs.declared.Status.{Status}
+use Rattle.layout.specs.declared.Status.the-variants.{Stopped}
 use Rattle.layout.specs.declared.names.Name as Code
 use Rattle.layout.specs.declared.looks.Head as Looks
 use Rattle.layout.specs.declared.looks.BothSeen as Both
@@ -152,7 +152,7 @@ module _ {words x r kinds starts lens : List ℕ} {a : ℕ} {m o : List ℕ} {k 
       }
 
 -- The first expression stopped.
-module _ {words : List ℕ} {p : Page} {a n r : ℕ} {m o m′ o′ : List ℕ} {v : Layout} {w : Bool → Bool → Layout} {y : Answer} where
+module _ {words : List ℕ} {p : Page} {a n r : ℕ} {m o m′ o′ : List ℕ} {v : Layout} {w : Bool → Bool → Layout} {y : Status} where
   pub application-stop : Walked false words p v (runOf a m o) n m′ o′ → y ≡ toldOf n → y ≡ Stopped → AskedFirst (p .rec) (length (p .tokens .starts)) a n r
       → Walked false words p (application (λ b c. v ⨾ w b c)) (runOf a m o) r m′ o′
   unfolding runs outcome run effects shown askedFirst

@@ -11,8 +11,8 @@ use lib.Dec.{ltb}
 use Rattle.text.specs.Bytes.{bytes}
 use Rattle.text.proofs.Laws.{never}
 use Rattle.layout.specs.declared.Cfg.{Cfg}
-use Rattle.layout.specs.declared.Answer.{Answer}
-use Rattle.layout.specs.declared.Answer.the-variants.{Done, Stopped}
+use Rattle.layout.specs.declared.Status.{Status}
+use Rattle.layout.specs.declared.Status.the-variants.{Done, Stopped}
 use Rattle.layout.specs.Layout.{Layout, skip, _⨾_, word, output-indent, formed, text, group, choice, form, list, maybe, present, Look, look, Test, isPipe, firstName, operator, halt}
 use Rattle.layout.specs.Meaning.{Page, Event, Word, Token, Comment, Formed, Indent, Outcome, done, stopped, Stop, absent, imported, after, bind, orStop, outcome, operated, tokenText, namePasses, sees, passes}
 use Rattle.layout.specs.Words.{wordRun}
@@ -157,7 +157,7 @@ pub exactly : {words : List ℕ} {p : Page} {w : Layout} {g : Run} {r : ℕ} {m 
 exactly {keep = keep} e = record { is = λ fair. ap (shown keep) (e fair) }
 
 -- A run that ended, by its number.
-pub ended-at : (keep : Bool) {x : Ran} (r : ℕ) {s : ℕ} {m o : List ℕ} {a : Answer} → shown keep (packed r m o) ≡ shown keep x → a ≡ toldOf r → a ≡ Done s → x ≡ went (runOf s m o)
+pub ended-at : (keep : Bool) {x : Ran} (r : ℕ) {s : ℕ} {m o : List ℕ} {a : Status} → shown keep (packed r m o) ≡ shown keep x → a ≡ toldOf r → a ≡ Done s → x ≡ went (runOf s m o)
 ended-at keep {x} r {s} {m} {o} e t f =
     let q = told-done r s (sym t ∙ f) in
     let d : packed r m o ≡ went (runOf s m o) = packed-done r m o (q .1) ∙ ap (λ a. went (runOf a m o)) (q .0) in
@@ -178,7 +178,7 @@ module _ {words : List ℕ} {p : Page} where
   unfolding runs
   ended e = record { is = e .is }
 
-  pub ended-done : {f k : ℕ → Outcome} {g : Run} {s′ : ℕ} {m′ o′ m″ o″ : List ℕ} {r r′ : ℕ} {x : Answer} {keep : Bool} → Ended keep words p f g r′ m′ o′ → x ≡ toldOf r′ → x ≡ Done s′
+  pub ended-done : {f k : ℕ → Outcome} {g : Run} {s′ : ℕ} {m′ o′ m″ o″ : List ℕ} {r r′ : ℕ} {x : Status} {keep : Bool} → Ended keep words p f g r′ m′ o′ → x ≡ toldOf r′ → x ≡ Done s′
       → Ended keep words p k (runOf s′ m′ o′) r m″ o″ → Ended keep words p (λ a. bind (f a) k) g r m″ o″
   ended-done {f} {k} {g} {s′} {r′ = r′} {keep = keep} e t h i =
       let q = told-done r′ s′ (sym t ∙ h) in
@@ -188,7 +188,7 @@ module _ {words : List ℕ} {p : Page} where
             ∙ ap (shown keep) (sym (run-bind p (f (g .at)) k g ∙ ap (λ x. andThen x (λ x. run p (k (x .at)) x)) (ended-at keep r′ (e .is fair) t h)));
       }
 
-  pub ended-stop : {f : ℕ → Outcome} (k : ℕ → Outcome) {g : Run} {m′ o′ : List ℕ} {r′ : ℕ} {x : Answer} {keep : Bool} → Ended keep words p f g r′ m′ o′ → x ≡ toldOf r′
+  pub ended-stop : {f : ℕ → Outcome} (k : ℕ → Outcome) {g : Run} {m′ o′ : List ℕ} {r′ : ℕ} {x : Status} {keep : Bool} → Ended keep words p f g r′ m′ o′ → x ≡ toldOf r′
       → x ≡ Stopped → Ended keep words p (λ a. bind (f a) k) g r′ m′ o′
   ended-stop {f} k {g} {m′} {o′} {r′} {keep = keep} e t h =
       record {
@@ -208,7 +208,7 @@ module _ (p : Page) (f : ℕ → Outcome) (a : ℕ) (m o : List ℕ) {m′ o′ 
 
 -- ---- a step for each kind of statement
 module _ {words : List ℕ} {p : Page} where
-  pub then-done : {g : Run} {m′ o′ m″ o″ : List ℕ} {v w : Layout} {s′ r r′ : ℕ} {x : Answer} {keep : Bool} → Walked keep words p v g r′ m′ o′ → x ≡ toldOf r′ → x ≡ Done s′
+  pub then-done : {g : Run} {m′ o′ m″ o″ : List ℕ} {v w : Layout} {s′ r r′ : ℕ} {x : Status} {keep : Bool} → Walked keep words p v g r′ m′ o′ → x ≡ toldOf r′ → x ≡ Done s′
       → Walked keep words p w (runOf s′ m′ o′) r m″ o″ → Walked keep words p (v ⨾ w) g r m″ o″
   then-done {g} {v = v} {w} {s′} {r} {r′} {keep = keep} e t f h =
       let q = told-done r′ s′ (sym t ∙ f) in
@@ -220,7 +220,7 @@ module _ {words : List ℕ} {p : Page} where
   then-fell {g} {m′} {o′} {v} {w} {r′} {keep = keep} e f =
       record { is = λ fair. stopped-at keep (runs p v g) (runs p w) r′ m′ o′ (e .is fair) (f fair) ∙ ap (shown keep) (sym (runs-seq p v w g)) }
 
-  pub then-stop : {g : Run} {m′ o′ : List ℕ} {v w : Layout} {r′ : ℕ} {x : Answer} {keep : Bool} → Walked keep words p v g r′ m′ o′ → x ≡ toldOf r′ → x ≡ Stopped
+  pub then-stop : {g : Run} {m′ o′ : List ℕ} {v w : Layout} {r′ : ℕ} {x : Status} {keep : Bool} → Walked keep words p v g r′ m′ o′ → x ≡ toldOf r′ → x ≡ Stopped
       → Walked keep words p (v ⨾ w) g r′ m′ o′
   then-stop {r′ = r′} e t f = then-fell e (λ fair. told-stop r′ (sym t ∙ f))
 
@@ -416,28 +416,28 @@ module _ {words : List ℕ} {p : Page} {a : ℕ} {m o : List ℕ} {x : Read} whe
           is = λ fair. h .is (fair-on fair (token-behind fair e f)) ∙ ap (shown keep) (sym (reads-end p 3 (reads-token p a) (kept p lhs pipe gap) k a b m o (sym f ∙ e .is)));
         }
 
-    pub operator-stop : {k b r : ℕ} {m′ o′ : List ℕ} {y : Answer} {keep : Bool} → TokenRead p a x → x ≡ Is k b
+    pub operator-stop : {k b r : ℕ} {m′ o′ : List ℕ} {y : Status} {keep : Bool} → TokenRead p a x → x ≡ Is k b
         → Walked keep words p lhs (runOf b m o) r m′ o′ → y ≡ toldOf r → y ≡ Stopped → Walked keep words p (operator lhs pipe gap) (runOf a m o) r m′ o′
     operator-stop e f h t i = operator-ends e f (ended-stop (operated p _ (λ next. outcome p pipe next) (λ next. outcome p gap next)) (ended h) t i)
 
-    pub operator-done : {k b c r r′ : ℕ} {m′ o′ m″ o″ : List ℕ} {y : Answer} {keep : Bool} → TokenRead p a x → x ≡ Is k b
+    pub operator-done : {k b c r r′ : ℕ} {m′ o′ m″ o″ : List ℕ} {y : Status} {keep : Bool} → TokenRead p a x → x ≡ Is k b
         → Walked keep words p lhs (runOf b m o) r′ m′ o′ → y ≡ toldOf r′ → y ≡ Done c
         → Ended keep words p (operated p k (λ next. outcome p pipe next) (λ next. outcome p gap next)) (runOf c m′ o′) r m″ o″
         → Walked keep words p (operator lhs pipe gap) (runOf a m o) r m″ o″
     operator-done e f h t i j = operator-ends e f (ended-done (ended h) t i j)
 
 -- ---- a group
-group-true : (b : Bool) (a n s : ℕ) {x : Answer} → a < stopNo → n ≡ groupOf a b → x ≡ toldOf n → x ≡ Done s → (b ≡ true) × (s ≡ a + 1)
+group-true : (b : Bool) (a n s : ℕ) {x : Status} → a < stopNo → n ≡ groupOf a b → x ≡ toldOf n → x ≡ Done s → (b ≡ true) × (s ≡ a + 1)
 unfolding groupOf
 group-true true a n s h e t f = (refl, sym (told-done n s (sym t ∙ f) .0) ∙ e)
 group-true false a n s h e t f = absurd (omega (arith, e, told-done n s (sym t ∙ f) .1))
 
-group-false : (b : Bool) (a n : ℕ) {x : Answer} → (b ≡ true → a + 1 < stopNo) → n ≡ groupOf a b → x ≡ toldOf n → x ≡ Stopped → (b ≡ false) × (n ≡ stopNo + 2 * a)
+group-false : (b : Bool) (a n : ℕ) {x : Status} → (b ≡ true → a + 1 < stopNo) → n ≡ groupOf a b → x ≡ toldOf n → x ≡ Stopped → (b ≡ false) × (n ≡ stopNo + 2 * a)
 unfolding groupOf
 group-false true a n h e t f = absurd (omega (arith, h refl, e, told-stop n (sym t ∙ f)))
 group-false false a n h e t f = (refl, e)
 
-module _ {words : List ℕ} {p : Page} {a n : ℕ} {m o : List ℕ} {w : Layout} {x : Answer} where
+module _ {words : List ℕ} {p : Page} {a n : ℕ} {m o : List ℕ} {w : Layout} {x : Status} where
   pub group-is : {s : ℕ} → GroupRead (p .rec) a n → x ≡ toldOf n → x ≡ Done s → Same words p (group w) (runOf a m o) w (runOf s m o)
   unfolding runs outcome
   group-is {s} e t f =
@@ -681,7 +681,7 @@ module _ {words : List ℕ} {p : Page} {a : ℕ} {m o : List ℕ} {l : Look} {v 
       exactly (λ fair. reads-stop p (formWidth Exp) (formAt (p .rec) Exp a) (λ k. either p v w a (sees p l a)) a r m o (sym f ∙ e .is) (h .is (fair .cursor)))
 
 -- About the first name of the path at the cursor.
-module _ {words x r kinds starts lens : List ℕ} {a n : ℕ} {m o : List ℕ} {t : Test} {v w : Layout} {y : Answer} where
+module _ {words x r kinds starts lens : List ℕ} {a n : ℕ} {m o : List ℕ} {t : Test} {v w : Layout} {y : Status} where
   pub name-yes : {s : ℕ} {b : Bool} → GroupRead r a n → y ≡ toldOf n → y ≡ Done s → TestedName x r starts lens t a b → b ≡ true
       → Same words (page x r kinds starts lens) (firstName t v w) (runOf a m o) v (runOf a m o)
   unfolding runs outcome

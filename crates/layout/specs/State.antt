@@ -11,7 +11,7 @@ use lib.Dec.{leb, ltb, eqb}
 use Rattle.text.specs.Bytes.{bytes, trim}
 use Rattle.comments.specs.Set.{clear}
 use Rattle.layout.specs.declared.Cfg.{Cfg}
-use Rattle.layout.specs.declared.Answer.{Answer}
+use Rattle.layout.specs.declared.Status.{Status}
 use Rattle.layout.specs.declared.Piece.{Piece}
 use Rattle.layout.specs.declared.fields.Read.{Read}
 use Rattle.layout.specs.declared.fields.Read.the-variants.{Is}
@@ -30,7 +30,7 @@ use Rattle.reader.specs.Check.{ok, malformed, tooDeep, tokenFits, formFits, end
 use Rattle.reader.specs.Commands.{absentAt, groupAt, formAt, formWidth, firstToken, familyOf, declarationIn}
 use Rattle.reader.specs.declared.commands.Declaration.{Declaration}
 use mathlib.Core.Option.{Option, none, some}
-use Rattle.layout.specs.declared.Answer.the-variants.{Done, Stopped}
+use Rattle.layout.specs.declared.Status.the-variants.{Done, Stopped}
 use Rattle.layout.specs.Layout.{Layout, Look, Test, skip}
 use Rattle.layout.specs.Words.{wordRun}
 use Rattle.layout.specs.Helpers as Helpers
@@ -151,7 +151,7 @@ unfoldable pub stopOf : ℕ → Stop
 stopOf n = cond (eqb (n % 2) 0) (absent (n / 2)) (imported (n / 2))
 
 -- What a walk's number says.
-abbrev pub toldOf : ℕ → Answer
+abbrev pub toldOf : ℕ → Status
 toldOf n = cond (ltb n stopNo) (Done n) Stopped
 
 -- A walk's number with the words and the output beside it. At a stop the cursor does not count.

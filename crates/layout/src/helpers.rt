@@ -1,6 +1,6 @@
 // Helpers of 000 that serve more than one family. A helper has 000's name.
-use crate::Answer;
 use crate::Cfg;
+use crate::Status;
 use crate::comment;
 use crate::fields::Given;
 use crate::fields::Gone;
@@ -83,7 +83,7 @@ pub fn path<'a>(
     ensures { λ r. ⌜ plainly pathLayout run text rec starts lens out mem at r ⌝ }
 {
     let r0 = group(rec, at);
-    let Answer::Done(s0) = told(r0) else {
+    let Status::Done(s0) = told(r0) else {
         return r0;
     };
     let Read::Is(n, s1) = list(rec, s0) else {
@@ -94,11 +94,11 @@ pub fn path<'a>(
     while i < n {
         between(run, text, out, mem, words::DOT, i);
         let r2 = group(rec, s);
-        let Answer::Done(s2) = told(r2) else {
+        let Status::Done(s2) = told(r2) else {
             return r2;
         };
         let r3 = text_of(run, text, rec, starts, lens, out, mem, s2);
-        let Answer::Done(s3) = told(r3) else {
+        let Status::Done(s3) = told(r3) else {
             return r3;
         };
         s = s3;
@@ -154,11 +154,11 @@ fn ty_vars<'a>(
     while i < n {
         between(run, text, out, mem, words::COMMA, i);
         let r1 = group(rec, s);
-        let Answer::Done(s1) = told(r1) else {
+        let Status::Done(s1) = told(r1) else {
             return r1;
         };
         let r2 = text_of(run, text, rec, starts, lens, out, mem, s1);
-        let Answer::Done(s2) = told(r2) else {
+        let Status::Done(s2) = told(r2) else {
             return r2;
         };
         s = s2;
@@ -182,7 +182,7 @@ fn ty_vars_parens<'a>(
 {
     word(run, text, out, mem, words::L_ROUND);
     let r1 = ty_vars(run, text, rec, starts, lens, out, mem, at);
-    let Answer::Done(s1) = told(r1) else {
+    let Status::Done(s1) = told(r1) else {
         return r1;
     };
     word(run, text, out, mem, words::R_ROUND);
@@ -224,11 +224,11 @@ fn ty_var_seq_there<'a>(
     ensures { λ r. ⌜ plainly ty-var-seq-there run text rec starts lens out mem at r ⌝ }
 {
     let r1 = group(rec, at);
-    let Answer::Done(s1) = told(r1) else {
+    let Status::Done(s1) = told(r1) else {
         return r1;
     };
     let r2 = ty_vars_in_parens(run, text, rec, starts, lens, out, mem, s1);
-    let Answer::Done(s2) = told(r2) else {
+    let Status::Done(s2) = told(r2) else {
         return r2;
     };
     word(run, text, out, mem, words::SPACE);
@@ -399,7 +399,7 @@ fn op<'a>(
     ensures { λ r. ⌜ plainly opLayout run text rec starts lens out mem at r ⌝ }
 {
     let r1 = group(rec, at);
-    let Answer::Done(_s) = told(r1) else {
+    let Status::Done(_s) = told(r1) else {
         return r1;
     };
     word(run, text, out, mem, words::OP);
@@ -424,7 +424,7 @@ fn op_path_there<'a>(
     ensures { λ r. ⌜ plainly (opLayout ⨾ pathLayout) run text rec starts lens out mem at r ⌝ }
 {
     let r1 = op(run, text, rec, starts, lens, out, mem, at);
-    let Answer::Done(s1) = told(r1) else {
+    let Status::Done(s1) = told(r1) else {
         return r1;
     };
     path(run, text, rec, starts, lens, out, mem, s1)

@@ -58,19 +58,19 @@ impl Cfg {
     }
 }
 
-// What a walk's number says.
-pub enum Answer {
+// What a walk's number says: an answer enum, as 01 has it.
+pub enum Status {
     Done(usize),
     Stopped,
 }
 
-pub fn told(n: usize) -> Answer
+pub fn told(n: usize) -> Status
     ensures { λ r. ⌜ r ≡ toldOf n ⌝ }
 {
     if n < STOP {
-        return Answer::Done(n);
+        return Status::Done(n);
     }
-    Answer::Stopped
+    Status::Stopped
 }
 
 // The width of indents, by the sum of their depths.

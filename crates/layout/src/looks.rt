@@ -11,7 +11,6 @@ use reader::commands::form_at;
 use reader::tree::Checked;
 use reader::tree::exp_end;
 use text::at::byte_at;
-use text::at::part;
 use text::same;
 use text::starts_alphanumeric;
 use text::starts_with_letter;

@@ -1,7 +1,7 @@
 // The walk's parts that hold no expression, structure or signature: declarations of types and of precedence, heads of
 // functions' cases, what stands between the expressions of an application.
-use layout::Answer;
 use layout::Cfg;
+use layout::Status;
 use layout::fields::Given;
 use layout::fields::Gone;
 use layout::fields::Read;
@@ -229,22 +229,22 @@ fn ty_bind<'a>(
     ensures { λ r. ⌜ plainly (ty-bind (walks (cfg .left))) run text rec starts lens out mem at r ⌝ }
 {
     let r1 = group(rec, at);
-    let Answer::Done(s1) = told(r1) else {
+    let Status::Done(s1) = told(r1) else {
         return r1;
     };
     let r2 = ty_var_seq(run, text, rec, starts, lens, out, mem, s1);
-    let Answer::Done(s2) = told(r2) else {
+    let Status::Done(s2) = told(r2) else {
         return r2;
     };
     let r3 = text_of(run, text, rec, starts, lens, out, mem, s2);
-    let Answer::Done(s3) = told(r3) else {
+    let Status::Done(s3) = told(r3) else {
         return r3;
     };
     if let Gone::Past(s4) = absent(rec, s3) {
         return s4;
     }
     let r5 = group(rec, s3);
-    let Answer::Done(s5) = told(r5) else {
+    let Status::Done(s5) = told(r5) else {
         return r5;
     };
     word(run, text, out, mem, words::EQ_SPACED);
@@ -273,7 +273,7 @@ fn ty_binds<'a>(
     while i < n {
         new_line(run, text, out, mem, cfg, words::AND, i);
         let r1 = ty_bind(run, text, rec, starts, lens, out, mem, s, cfg);
-        let Answer::Done(s1) = told(r1) else {
+        let Status::Done(s1) = told(r1) else {
             return r1;
         };
         s = s1;
@@ -300,7 +300,7 @@ pub fn with_type<'a>(
         return s0;
     }
     let r1 = group(rec, at);
-    let Answer::Done(s1) = told(r1) else {
+    let Status::Done(s1) = told(r1) else {
         return r1;
     };
     line(run, text, out, mem, cfg);
@@ -323,18 +323,18 @@ fn con_bind<'a>(
     ensures { λ r. ⌜ plainly (con-bind (walks (cfg .left))) run text rec starts lens out mem at r ⌝ }
 {
     let r1 = group(rec, at);
-    let Answer::Done(s1) = told(r1) else {
+    let Status::Done(s1) = told(r1) else {
         return r1;
     };
     let r2 = text_of(run, text, rec, starts, lens, out, mem, s1);
-    let Answer::Done(s2) = told(r2) else {
+    let Status::Done(s2) = told(r2) else {
         return r2;
     };
     if let Gone::Past(s3) = absent(rec, s2) {
         return s3;
     }
     let r4 = group(rec, s2);
-    let Answer::Done(s4) = told(r4) else {
+    let Status::Done(s4) = told(r4) else {
         return r4;
     };
     word(run, text, out, mem, words::OF);
@@ -367,7 +367,7 @@ fn con_lines<'a>(
     while i < n {
         new_line(run, text, out, mem, cfg, words::BAR, i);
         let r1 = con_bind(run, text, rec, starts, lens, out, mem, s, cfg);
-        let Answer::Done(s1) = told(r1) else {
+        let Status::Done(s1) = told(r1) else {
             return r1;
         };
         s = s1;
@@ -399,7 +399,7 @@ fn con_row<'a>(
     while i < n {
         between(run, text, out, mem, words::BAR_SPACED, i);
         let r1 = con_bind(run, text, rec, starts, lens, out, mem, s, cfg);
-        let Answer::Done(s1) = told(r1) else {
+        let Status::Done(s1) = told(r1) else {
             return r1;
         };
         s = s1;
@@ -446,19 +446,19 @@ fn dat_bind<'a>(
     ensures { λ r. ⌜ plainly (dat-bind (walks (cfg .left)) (cfgOf cfg)) run text rec starts lens out mem at r ⌝ }
 {
     let r1 = group(rec, at);
-    let Answer::Done(s1) = told(r1) else {
+    let Status::Done(s1) = told(r1) else {
         return r1;
     };
     let r2 = ty_var_seq(run, text, rec, starts, lens, out, mem, s1);
-    let Answer::Done(s2) = told(r2) else {
+    let Status::Done(s2) = told(r2) else {
         return r2;
     };
     let r3 = text_of(run, text, rec, starts, lens, out, mem, s2);
-    let Answer::Done(s3) = told(r3) else {
+    let Status::Done(s3) = told(r3) else {
         return r3;
     };
     let r4 = group(rec, s3);
-    let Answer::Done(s4) = told(r4) else {
+    let Status::Done(s4) = told(r4) else {
         return r4;
     };
     let Read::Is(n, s5) = list(rec, s4) else {
@@ -490,7 +490,7 @@ pub fn dat_binds<'a>(
     while i < n {
         new_line(run, text, out, mem, cfg, words::AND, i);
         let r1 = dat_bind(run, text, rec, starts, lens, out, mem, s, cfg);
-        let Answer::Done(s1) = told(r1) else {
+        let Status::Done(s1) = told(r1) else {
             return r1;
         };
         s = s1;
@@ -514,7 +514,7 @@ pub fn ty_dec<'a>(
     ensures { λ r. ⌜ plainly (dec-one· (walks (cfg .left)) (cfgOf cfg) TyDec) run text rec starts lens out mem at r ⌝ }
 {
     let r1 = text_of(run, text, rec, starts, lens, out, mem, at);
-    let Answer::Done(s1) = told(r1) else {
+    let Status::Done(s1) = told(r1) else {
         return r1;
     };
     word(run, text, out, mem, words::SPACE);
@@ -538,7 +538,7 @@ pub fn dat_dec<'a>(
 {
     word(run, text, out, mem, words::DATATYPE);
     let r1 = dat_binds(run, text, rec, starts, lens, out, mem, at, cfg);
-    let Answer::Done(s1) = told(r1) else {
+    let Status::Done(s1) = told(r1) else {
         return r1;
     };
     with_type(run, text, rec, starts, lens, out, mem, s1, cfg)
@@ -560,7 +560,7 @@ pub fn dat_copy_dec<'a>(
 {
     word(run, text, out, mem, words::DATATYPE);
     let r1 = text_of(run, text, rec, starts, lens, out, mem, at);
-    let Answer::Done(s1) = told(r1) else {
+    let Status::Done(s1) = told(r1) else {
         return r1;
     };
     word(run, text, out, mem, words::EQ_DATATYPE);
@@ -591,7 +591,7 @@ pub fn open_dec<'a>(
     while i < n {
         between(run, text, out, mem, words::SPACE, i);
         let r2 = path(run, text, rec, starts, lens, out, mem, s);
-        let Answer::Done(s2) = told(r2) else {
+        let Status::Done(s2) = told(r2) else {
             return r2;
         };
         s = s2;
@@ -622,7 +622,7 @@ fn names_space<'a>(
     while i < n {
         between(run, text, out, mem, words::SPACE, i);
         let r1 = text_of(run, text, rec, starts, lens, out, mem, s);
-        let Answer::Done(s1) = told(r1) else {
+        let Status::Done(s1) = told(r1) else {
             return r1;
         };
         s = s1;
@@ -649,7 +649,7 @@ fn int_lit<'a>(
         return s0;
     }
     let r1 = text_of(run, text, rec, starts, lens, out, mem, at);
-    let Answer::Done(s1) = told(r1) else {
+    let Status::Done(s1) = told(r1) else {
         return r1;
     };
     word(run, text, out, mem, words::SPACE);
@@ -675,7 +675,7 @@ pub fn infix_dec<'a>(
 {
     word(run, text, out, mem, w);
     let r1 = int_lit(run, text, rec, starts, lens, out, mem, at, cfg);
-    let Answer::Done(s1) = told(r1) else {
+    let Status::Done(s1) = told(r1) else {
         return r1;
     };
     names_space(run, text, rec, starts, lens, out, mem, s1, cfg)
@@ -715,7 +715,7 @@ fn prefix_head<'a>(
     ensures { λ r. ⌜ plainly (PrefixFunBindCaseHead (walks (cfg .left))) run text rec starts lens out mem at r ⌝ }
 {
     let r1 = word_if(run, text, rec, starts, lens, out, mem, at, words::OP_SPACE);
-    let Answer::Done(s1) = told(r1) else {
+    let Status::Done(s1) = told(r1) else {
         return r1;
     };
     text_of(run, text, rec, starts, lens, out, mem, s1)
@@ -736,12 +736,12 @@ fn infix_pats<'a>(
     ensures { λ r. ⌜ plainly (infix-head (walks (cfg .left))) run text rec starts lens out mem at r ⌝ }
 {
     let r1 = get_pat(run, text, rec, starts, lens, out, mem, at, cfg);
-    let Answer::Done(s1) = told(r1) else {
+    let Status::Done(s1) = told(r1) else {
         return r1;
     };
     word(run, text, out, mem, words::SPACE);
     let r2 = text_of(run, text, rec, starts, lens, out, mem, s1);
-    let Answer::Done(s2) = told(r2) else {
+    let Status::Done(s2) = told(r2) else {
         return r2;
     };
     word(run, text, out, mem, words::SPACE);
@@ -764,7 +764,7 @@ fn infix_in_parens<'a>(
 {
     word(run, text, out, mem, words::L_ROUND);
     let r1 = infix_pats(run, text, rec, starts, lens, out, mem, at, cfg);
-    let Answer::Done(s1) = told(r1) else {
+    let Status::Done(s1) = told(r1) else {
         return r1;
     };
     word(run, text, out, mem, words::R_ROUND);
@@ -857,7 +857,7 @@ pub fn case_pats<'a>(
     while i < n {
         word(run, text, out, mem, words::SPACE);
         let r1 = get_pat(run, text, rec, starts, lens, out, mem, s, cfg);
-        let Answer::Done(s1) = told(r1) else {
+        let Status::Done(s1) = told(r1) else {
             return r1;
         };
         s = s1;
@@ -900,7 +900,7 @@ fn sharing_tail<'a>(
     ensures { λ r. ⌜ plainly (sharing-tail (walks (cfg .left)) (cfgOf cfg)) run text rec starts lens out mem at r ⌝ }
 {
     let r1 = group(rec, at);
-    let Answer::Done(s1) = told(r1) else {
+    let Status::Done(s1) = told(r1) else {
         return r1;
     };
     line(run, text, out, mem, cfg);
@@ -913,11 +913,11 @@ fn sharing_tail<'a>(
     while i < n {
         between(run, text, out, mem, words::EQ_SPACED, i);
         let r3 = group(rec, s);
-        let Answer::Done(s3) = told(r3) else {
+        let Status::Done(s3) = told(r3) else {
             return r3;
         };
         let r4 = path(run, text, rec, starts, lens, out, mem, s3);
-        let Answer::Done(s4) = told(r4) else {
+        let Status::Done(s4) = told(r4) else {
             return r4;
         };
         s = s4;
@@ -947,7 +947,7 @@ pub fn sharing_tails<'a>(
     let mut i = 0;
     while i < n {
         let r1 = sharing_tail(run, text, rec, starts, lens, out, mem, s, cfg);
-        let Answer::Done(s1) = told(r1) else {
+        let Status::Done(s1) = told(r1) else {
             return r1;
         };
         s = s1;

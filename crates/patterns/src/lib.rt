@@ -1,6 +1,6 @@
 // `get_pat` of 000: the walk over patterns. A function for each arm, over configurations one form deeper.
-use layout::Answer;
 use layout::Cfg;
+use layout::Status;
 use layout::fields::Gone;
 use layout::fields::Read;
 use layout::fields::absent;
@@ -78,7 +78,7 @@ fn con_pat<'a>(
     ensures { λ r. ⌜ plainly (pat· (walks (cfg .left)) ConPat) run text rec starts lens out mem at r ⌝ }
 {
     let r1 = op_path(run, text, rec, starts, lens, out, mem, at);
-    let Answer::Done(s1) = told(r1) else {
+    let Status::Done(s1) = told(r1) else {
         return r1;
     };
     con_arg(run, text, rec, starts, lens, out, mem, s1, cfg)
@@ -99,7 +99,7 @@ fn lab_and_pat<'a>(
     ensures { λ r. ⌜ plainly (LabAndPatPatRow (walks (cfg .left))) run text rec starts lens out mem at r ⌝ }
 {
     let r1 = text_of(run, text, rec, starts, lens, out, mem, at);
-    let Answer::Done(s1) = told(r1) else {
+    let Status::Done(s1) = told(r1) else {
         return r1;
     };
     word(run, text, out, mem, words::EQ_SPACED);
@@ -121,7 +121,7 @@ fn as_tail_there<'a>(
     ensures { λ r. ⌜ plainly (as-tail-there (walks (cfg .left))) run text rec starts lens out mem at r ⌝ }
 {
     let r1 = group(rec, at);
-    let Answer::Done(s1) = told(r1) else {
+    let Status::Done(s1) = told(r1) else {
         return r1;
     };
     word(run, text, out, mem, words::AS);
@@ -164,11 +164,11 @@ fn lab_pat<'a>(
     ensures { λ r. ⌜ plainly (LabPatRow (walks (cfg .left))) run text rec starts lens out mem at r ⌝ }
 {
     let r1 = text_of(run, text, rec, starts, lens, out, mem, at);
-    let Answer::Done(s1) = told(r1) else {
+    let Status::Done(s1) = told(r1) else {
         return r1;
     };
     let r2 = ty_annotation(run, text, rec, starts, lens, out, mem, s1, cfg);
-    let Answer::Done(s2) = told(r2) else {
+    let Status::Done(s2) = told(r2) else {
         return r2;
     };
     as_tail(run, text, rec, starts, lens, out, mem, s2, cfg)
@@ -215,7 +215,7 @@ fn row<'a>(
     ensures { λ r. ⌜ plainly (pat-row (walks (cfg .left))) run text rec starts lens out mem at r ⌝ }
 {
     let r1 = group(rec, at);
-    let Answer::Done(s1) = told(r1) else {
+    let Status::Done(s1) = told(r1) else {
         return r1;
     };
     let Read::Is(k, s2) = choice(rec, s1) else {
@@ -246,7 +246,7 @@ fn rows<'a>(
     while i < n {
         between(run, text, out, mem, words::COMMA, i);
         let r1 = row(run, text, rec, starts, lens, out, mem, s, cfg);
-        let Answer::Done(s1) = told(r1) else {
+        let Status::Done(s1) = told(r1) else {
             return r1;
         };
         s = s1;
@@ -271,7 +271,7 @@ fn record_pat<'a>(
 {
     word(run, text, out, mem, words::L_CURLY);
     let r1 = rows(run, text, rec, starts, lens, out, mem, at, cfg);
-    let Answer::Done(s1) = told(r1) else {
+    let Status::Done(s1) = told(r1) else {
         return r1;
     };
     word(run, text, out, mem, words::R_CURLY);
@@ -294,7 +294,7 @@ fn paren_pat<'a>(
 {
     word(run, text, out, mem, words::L_ROUND);
     let r1 = get_pat(run, text, rec, starts, lens, out, mem, at, cfg);
-    let Answer::Done(s1) = told(r1) else {
+    let Status::Done(s1) = told(r1) else {
         return r1;
     };
     word(run, text, out, mem, words::R_ROUND);
@@ -323,11 +323,11 @@ fn pat_args<'a>(
     while i < n {
         between(run, text, out, mem, words::COMMA, i);
         let r1 = group(rec, s);
-        let Answer::Done(s1) = told(r1) else {
+        let Status::Done(s1) = told(r1) else {
             return r1;
         };
         let r2 = get_pat(run, text, rec, starts, lens, out, mem, s1, cfg);
-        let Answer::Done(s2) = told(r2) else {
+        let Status::Done(s2) = told(r2) else {
             return r2;
         };
         s = s2;
@@ -352,7 +352,7 @@ fn tuple_pat<'a>(
 {
     word(run, text, out, mem, words::L_ROUND);
     let r1 = pat_args(run, text, rec, starts, lens, out, mem, at, cfg);
-    let Answer::Done(s1) = told(r1) else {
+    let Status::Done(s1) = told(r1) else {
         return r1;
     };
     word(run, text, out, mem, words::R_ROUND);
@@ -375,7 +375,7 @@ fn list_pat<'a>(
 {
     word(run, text, out, mem, words::L_SQUARE);
     let r1 = pat_args(run, text, rec, starts, lens, out, mem, at, cfg);
-    let Answer::Done(s1) = told(r1) else {
+    let Status::Done(s1) = told(r1) else {
         return r1;
     };
     word(run, text, out, mem, words::R_SQUARE);
@@ -398,11 +398,11 @@ fn vector_pat<'a>(
 {
     word(run, text, out, mem, words::HASH_L_SQUARE);
     let r1 = group(rec, at);
-    let Answer::Done(s1) = told(r1) else {
+    let Status::Done(s1) = told(r1) else {
         return r1;
     };
     let r2 = pat_args(run, text, rec, starts, lens, out, mem, s1, cfg);
-    let Answer::Done(s2) = told(r2) else {
+    let Status::Done(s2) = told(r2) else {
         return r2;
     };
     word(run, text, out, mem, words::R_SQUARE);
@@ -424,12 +424,12 @@ fn infix_pat<'a>(
     ensures { λ r. ⌜ plainly (pat· (walks (cfg .left)) InfixPat) run text rec starts lens out mem at r ⌝ }
 {
     let r1 = get_pat(run, text, rec, starts, lens, out, mem, at, cfg);
-    let Answer::Done(s1) = told(r1) else {
+    let Status::Done(s1) = told(r1) else {
         return r1;
     };
     word(run, text, out, mem, words::SPACE);
     let r2 = text_of(run, text, rec, starts, lens, out, mem, s1);
-    let Answer::Done(s2) = told(r2) else {
+    let Status::Done(s2) = told(r2) else {
         return r2;
     };
     word(run, text, out, mem, words::SPACE);
@@ -451,7 +451,7 @@ fn typed_pat<'a>(
     ensures { λ r. ⌜ plainly (pat· (walks (cfg .left)) TypedPat) run text rec starts lens out mem at r ⌝ }
 {
     let r1 = get_pat(run, text, rec, starts, lens, out, mem, at, cfg);
-    let Answer::Done(s1) = told(r1) else {
+    let Status::Done(s1) = told(r1) else {
         return r1;
     };
     word(run, text, out, mem, words::COLON);
@@ -473,12 +473,12 @@ fn as_pat<'a>(
     ensures { λ r. ⌜ plainly (pat· (walks (cfg .left)) AsPat) run text rec starts lens out mem at r ⌝ }
 {
     let r1 = get_pat(run, text, rec, starts, lens, out, mem, at, cfg);
-    let Answer::Done(s1) = told(r1) else {
+    let Status::Done(s1) = told(r1) else {
         return r1;
     };
     word(run, text, out, mem, words::AS);
     let r2 = group(rec, s1);
-    let Answer::Done(s2) = told(r2) else {
+    let Status::Done(s2) = told(r2) else {
         return r2;
     };
     get_pat(run, text, rec, starts, lens, out, mem, s2, cfg)
@@ -499,7 +499,7 @@ fn or_pat<'a>(
     ensures { λ r. ⌜ plainly (pat· (walks (cfg .left)) OrPat) run text rec starts lens out mem at r ⌝ }
 {
     let r1 = get_pat(run, text, rec, starts, lens, out, mem, at, cfg);
-    let Answer::Done(s1) = told(r1) else {
+    let Status::Done(s1) = told(r1) else {
         return r1;
     };
     word(run, text, out, mem, words::BAR_SPACED);

@@ -1,6 +1,6 @@
 // `get_ty` of 000: the walk over types. A function for each arm, over configurations one form deeper.
-use layout::Answer;
 use layout::Cfg;
+use layout::Status;
 use layout::fields::Gone;
 use layout::fields::Read;
 use layout::fields::absent;
@@ -36,11 +36,11 @@ fn ty_row<'a>(
     ensures { λ r. ⌜ plainly (ty-row (walks (cfg .left))) run text rec starts lens out mem at r ⌝ }
 {
     let r1 = group(rec, at);
-    let Answer::Done(s1) = told(r1) else {
+    let Status::Done(s1) = told(r1) else {
         return r1;
     };
     let r2 = text_of(run, text, rec, starts, lens, out, mem, s1);
-    let Answer::Done(s2) = told(r2) else {
+    let Status::Done(s2) = told(r2) else {
         return r2;
     };
     word(run, text, out, mem, words::COLON);
@@ -69,7 +69,7 @@ fn ty_rows<'a>(
     while i < n {
         between(run, text, out, mem, words::COMMA, i);
         let r1 = ty_row(run, text, rec, starts, lens, out, mem, s, cfg);
-        let Answer::Done(s1) = told(r1) else {
+        let Status::Done(s1) = told(r1) else {
             return r1;
         };
         s = s1;
@@ -94,7 +94,7 @@ fn record_ty<'a>(
 {
     word(run, text, out, mem, words::L_CURLY);
     let r1 = ty_rows(run, text, rec, starts, lens, out, mem, at, cfg);
-    let Answer::Done(s1) = told(r1) else {
+    let Status::Done(s1) = told(r1) else {
         return r1;
     };
     word(run, text, out, mem, words::R_CURLY);
@@ -123,11 +123,11 @@ fn ty_args<'a>(
     while i < n {
         between(run, text, out, mem, words::COMMA, i);
         let r1 = group(rec, s);
-        let Answer::Done(s1) = told(r1) else {
+        let Status::Done(s1) = told(r1) else {
             return r1;
         };
         let r2 = get_ty(run, text, rec, starts, lens, out, mem, s1, cfg);
-        let Answer::Done(s2) = told(r2) else {
+        let Status::Done(s2) = told(r2) else {
             return r2;
         };
         s = s2;
@@ -172,12 +172,12 @@ fn ty_seq_there<'a>(
     ensures { λ r. ⌜ plainly (ty-seq-there (walks (cfg .left))) run text rec starts lens out mem at r ⌝ }
 {
     let r1 = group(rec, at);
-    let Answer::Done(s1) = told(r1) else {
+    let Status::Done(s1) = told(r1) else {
         return r1;
     };
     word(run, text, out, mem, words::L_ROUND);
     let r2 = ty_args(run, text, rec, starts, lens, out, mem, s1, cfg);
-    let Answer::Done(s2) = told(r2) else {
+    let Status::Done(s2) = told(r2) else {
         return r2;
     };
     word(run, text, out, mem, words::R_ROUND_SPACE);
@@ -199,7 +199,7 @@ fn con_ty<'a>(
     ensures { λ r. ⌜ plainly (ty· (walks (cfg .left)) ConTy) run text rec starts lens out mem at r ⌝ }
 {
     let r1 = ty_seq(run, text, rec, starts, lens, out, mem, at, cfg);
-    let Answer::Done(s1) = told(r1) else {
+    let Status::Done(s1) = told(r1) else {
         return r1;
     };
     path(run, text, rec, starts, lens, out, mem, s1)
@@ -220,7 +220,7 @@ fn one_arg_con_ty<'a>(
     ensures { λ r. ⌜ plainly (ty· (walks (cfg .left)) OneArgConTy) run text rec starts lens out mem at r ⌝ }
 {
     let r1 = get_ty(run, text, rec, starts, lens, out, mem, at, cfg);
-    let Answer::Done(s1) = told(r1) else {
+    let Status::Done(s1) = told(r1) else {
         return r1;
     };
     word(run, text, out, mem, words::SPACE);
@@ -242,7 +242,7 @@ fn star_ty<'a>(
     ensures { λ r. ⌜ plainly (star-ty (walks (cfg .left))) run text rec starts lens out mem at r ⌝ }
 {
     let r1 = group(rec, at);
-    let Answer::Done(s1) = told(r1) else {
+    let Status::Done(s1) = told(r1) else {
         return r1;
     };
     word(run, text, out, mem, words::STAR);
@@ -270,7 +270,7 @@ fn star_tys<'a>(
     let mut i = 0;
     while i < n {
         let r1 = star_ty(run, text, rec, starts, lens, out, mem, s, cfg);
-        let Answer::Done(s1) = told(r1) else {
+        let Status::Done(s1) = told(r1) else {
             return r1;
         };
         s = s1;
@@ -296,7 +296,7 @@ fn tuple_ty<'a>(
     let count = starts.len();
     let r0 = get_ty(run, text, rec, starts, lens, out, mem, at, cfg);
     let r1 = onwards(rec, count, cfg.left as usize, at, r0);
-    let Answer::Done(s1) = told(r1) else {
+    let Status::Done(s1) = told(r1) else {
         return r1;
     };
     star_tys(run, text, rec, starts, lens, out, mem, s1, cfg)
@@ -317,7 +317,7 @@ fn fn_ty<'a>(
     ensures { λ r. ⌜ plainly (ty· (walks (cfg .left)) FnTy) run text rec starts lens out mem at r ⌝ }
 {
     let r1 = get_ty(run, text, rec, starts, lens, out, mem, at, cfg);
-    let Answer::Done(s1) = told(r1) else {
+    let Status::Done(s1) = told(r1) else {
         return r1;
     };
     word(run, text, out, mem, words::ARROW);
@@ -340,7 +340,7 @@ fn paren_ty<'a>(
 {
     word(run, text, out, mem, words::L_ROUND);
     let r1 = get_ty(run, text, rec, starts, lens, out, mem, at, cfg);
-    let Answer::Done(s1) = told(r1) else {
+    let Status::Done(s1) = told(r1) else {
         return r1;
     };
     word(run, text, out, mem, words::R_ROUND);
@@ -408,7 +408,7 @@ fn ty_annotation_there<'a>(
     ensures { λ r. ⌜ plainly (ty-annotation-there (walks (cfg .left))) run text rec starts lens out mem at r ⌝ }
 {
     let r1 = group(rec, at);
-    let Answer::Done(s1) = told(r1) else {
+    let Status::Done(s1) = told(r1) else {
         return r1;
     };
     word(run, text, out, mem, words::COLON);

@@ -9,8 +9,8 @@ use lib.ListN.{length}
 use lib.Dec.{eqb}
 use borrow.Author.Tests.{eq-eqb, ne-eqb, lt-ltb}
 use Rattle.text.proofs.Laws.{never}
-use Rattle.layout.specs.declared.Answer.{Answer}
-use Rattle.layout.specs.declared.Answer.the-variants.{Done}
+use Rattle.layout.specs.declared.Status.{Status}
+use Rattle.layout.specs.declared.Status.the-variants.{Done}
 use Rattle.layout.specs.declared.fields.Read.{Read}
 use Rattle.layout.specs.declared.fields.Read.the-variants.{Is}
 use Rattle.layout.specs.Layout.{Layout, word, choice, operator, import, _⨾_}
@@ -96,7 +96,7 @@ module _ {words : List ℕ} {p : Page} (ws : Walkers) (c : Cfg) where
 
 -- ---- an operator that was kept
 -- Behind the left side stands what is written, at the same cursor, and behind it the right side.
-pub operator-then : {words x r kinds starts lens : List ℕ} {lhs pipe gap rhs : Layout} {a b c k n n′ : ℕ} {m o m₁ o₁ m₂ o₂ m₃ o₃ : List ℕ} {y : Read} {z : Answer} {keep : Bool}
+pub operator-then : {words x r kinds starts lens : List ℕ} {lhs pipe gap rhs : Layout} {a b c k n n′ : ℕ} {m o m₁ o₁ m₂ o₂ m₃ o₃ : List ℕ} {y : Read} {z : Status} {keep : Bool}
     → TokenRead (page x r kinds starts lens) a y → y ≡ Is k b
     → Walked keep words (page x r kinds starts lens) lhs (runOf b m o) n′ m₁ o₁ → z ≡ toldOf n′ → z ≡ Done c
     → Operated words x r starts lens k pipe gap m₁ o₁ m₂ o₂ → Walked keep words (page x r kinds starts lens) rhs (runOf c m₂ o₂) n m₃ o₃
@@ -118,7 +118,7 @@ done-by p (done a es) g h e = (es, ap (λ b. done b es) (ap atOf e))
 done-by p (stopped why es) g h e = never (cc)
 
 -- The first expression was walked into before both are looked at.
-pub seen-behind : {words x r kinds starts lens : List ℕ} (n : ℕ) (c : Cfg) {a s k : ℕ} {m o m′ o′ : List ℕ} {y : Heads} {z : Answer} → n ≤ 200
+pub seen-behind : {words x r kinds starts lens : List ℕ} (n : ℕ) (c : Cfg) {a s k : ℕ} {m o m′ o′ : List ℕ} {y : Heads} {z : Status} → n ≤ 200
     → Walked false words (page x r kinds starts lens) (walks n .get-exp c) (runOf a m o) k m′ o′ → z ≡ toldOf k → z ≡ Done s → y ≡ headsBehind r a s
     → Fair words (page x r kinds starts lens) a → y ≡ headsAt r (length starts) a
 unfolding runs

@@ -3,8 +3,8 @@
 // The names are short, because all names of a cycle share one limit; the comment above a function has 000's name.
 // `vd` is a declaration of values and `vb` one of its bindings; so with `f` for functions, `x` for exceptions, `s` for
 // structures, `g` for signatures, `c` for functors.
-use layout::Answer;
 use layout::Cfg;
+use layout::Status;
 use layout::fields::Gone;
 use layout::fields::Read;
 use layout::fields::absent;
@@ -131,18 +131,18 @@ fn ro<'a>(
     ensures { λ r. ⌜ does exp-row run text rec kinds starts lens out mem at cfg r ⌝ }
 {
     let r1 = group(rec, at);
-    let Answer::Done(s1) = told(r1) else {
+    let Status::Done(s1) = told(r1) else {
         return r1;
     };
     let r2 = text_of(run, text, rec, starts, lens, out, mem, s1);
-    let Answer::Done(s2) = told(r2) else {
+    let Status::Done(s2) = told(r2) else {
         return r2;
     };
     if let Gone::Past(s3) = absent(rec, s2) {
         return s3;
     }
     let r4 = group(rec, s2);
-    let Answer::Done(s4) = told(r4) else {
+    let Status::Done(s4) = told(r4) else {
         return r4;
     };
     word(run, text, out, mem, words::EQ_SPACED);
@@ -173,7 +173,7 @@ fn rs<'a>(
     while i < n {
         between(run, text, out, mem, words::COMMA, i);
         let r1 = ro(run, text, rec, kinds, starts, lens, out, mem, s, cfg);
-        let Answer::Done(s1) = told(r1) else {
+        let Status::Done(s1) = told(r1) else {
             return r1;
         };
         s = s1;
@@ -200,7 +200,7 @@ fn rc<'a>(
 {
     word(run, text, out, mem, words::L_CURLY);
     let r1 = rs(run, text, rec, kinds, starts, lens, out, mem, at, cfg);
-    let Answer::Done(s1) = told(r1) else {
+    let Status::Done(s1) = told(r1) else {
         return r1;
     };
     word(run, text, out, mem, words::R_CURLY);
@@ -225,7 +225,7 @@ fn pa<'a>(
 {
     word(run, text, out, mem, words::L_ROUND);
     let r1 = exp(run, text, rec, kinds, starts, lens, out, mem, at, cfg);
-    let Answer::Done(s1) = told(r1) else {
+    let Status::Done(s1) = told(r1) else {
         return r1;
     };
     word(run, text, out, mem, words::R_ROUND);
@@ -256,11 +256,11 @@ fn ar<'a>(
     while i < n {
         between(run, text, out, mem, words::COMMA, i);
         let r1 = group(rec, s);
-        let Answer::Done(s1) = told(r1) else {
+        let Status::Done(s1) = told(r1) else {
             return r1;
         };
         let r2 = exp(run, text, rec, kinds, starts, lens, out, mem, s1, cfg);
-        let Answer::Done(s2) = told(r2) else {
+        let Status::Done(s2) = told(r2) else {
             return r2;
         };
         s = s2;
@@ -291,7 +291,7 @@ fn br<'a>(
 {
     word(run, text, out, mem, opens);
     let r1 = ar(run, text, rec, kinds, starts, lens, out, mem, at, cfg);
-    let Answer::Done(s1) = told(r1) else {
+    let Status::Done(s1) = told(r1) else {
         return r1;
     };
     word(run, text, out, mem, closes);
@@ -316,11 +316,11 @@ fn ve<'a>(
 {
     word(run, text, out, mem, words::HASH_L_SQUARE);
     let r1 = group(rec, at);
-    let Answer::Done(s1) = told(r1) else {
+    let Status::Done(s1) = told(r1) else {
         return r1;
     };
     let r2 = ar(run, text, rec, kinds, starts, lens, out, mem, s1, cfg);
-    let Answer::Done(s2) = told(r2) else {
+    let Status::Done(s2) = told(r2) else {
         return r2;
     };
     word(run, text, out, mem, words::R_SQUARE);
@@ -345,11 +345,11 @@ fn it<'a>(
     ensures { λ r. ⌜ does (λ ws c. exp-semi-item ws c write) run text rec kinds starts lens out mem at cfg r ⌝ }
 {
     let r1 = group(rec, at);
-    let Answer::Done(s1) = told(r1) else {
+    let Status::Done(s1) = told(r1) else {
         return r1;
     };
     let r2 = exp(run, text, rec, kinds, starts, lens, out, mem, s1, cfg);
-    let Answer::Done(s2) = told(r2) else {
+    let Status::Done(s2) = told(r2) else {
         return r2;
     };
     item_semi(run, text, rec, starts, lens, out, mem, s2, write)
@@ -380,7 +380,7 @@ fn mo<'a>(
         word(run, text, out, mem, words::SEMICOLON_LINE);
         indent(out, mem, cfg);
         let r1 = it(run, text, rec, kinds, starts, lens, out, mem, s, cfg, write);
-        let Answer::Done(s1) = told(r1) else {
+        let Status::Done(s1) = told(r1) else {
             return r1;
         };
         s = s1;
@@ -425,7 +425,7 @@ fn sm<'a>(
         cfg,
         false,
     );
-    let Answer::Done(s2) = told(r2) else {
+    let Status::Done(s2) = told(r2) else {
         return r2;
     };
     mo(
@@ -476,7 +476,7 @@ fn seq<'a>(
         new,
         false,
     );
-    let Answer::Done(s1) = told(r1) else {
+    let Status::Done(s1) = told(r1) else {
         return r1;
     };
     line(run, text, out, mem, cfg);
@@ -505,14 +505,14 @@ fn lx<'a>(
     indent_deeper(out, mem, cfg);
     let new = cfg.indented();
     let r1 = ds(run, text, rec, kinds, starts, lens, out, mem, at, new);
-    let Answer::Done(s1) = told(r1) else {
+    let Status::Done(s1) = told(r1) else {
         return r1;
     };
     line(run, text, out, mem, cfg);
     word(run, text, out, mem, words::IN);
     indent_in(out, mem, cfg);
     let r2 = sm(run, text, rec, kinds, starts, lens, out, mem, s1, new, true);
-    let Answer::Done(s2) = told(r2) else {
+    let Status::Done(s2) = told(r2) else {
         return r2;
     };
     line(run, text, out, mem, cfg);
@@ -537,7 +537,7 @@ fn app<'a>(
     ensures { λ r. ⌜ does (λ ws c. exp· ws c AppExp) run text rec kinds starts lens out mem at cfg r ⌝ }
 {
     let r1 = exp(run, text, rec, kinds, starts, lens, out, mem, at, cfg);
-    let Answer::Done(s1) = told(r1) else {
+    let Status::Done(s1) = told(r1) else {
         return asked_first(rec, starts.len(), at, r1);
     };
     let seen = heads_behind(rec, at, s1);
@@ -570,7 +570,7 @@ fn fx<'a>(
         return stop(at);
     };
     let r2 = exp(run, text, rec, kinds, starts, lens, out, mem, s1, cfg);
-    let Answer::Done(s2) = told(r2) else {
+    let Status::Done(s2) = told(r2) else {
         return r2;
     };
     infix_operator(run, text, rec, starts, lens, out, mem, cfg, k);
@@ -594,7 +594,7 @@ fn ty<'a>(
     ensures { λ r. ⌜ does (λ ws c. exp· ws c TypedExp) run text rec kinds starts lens out mem at cfg r ⌝ }
 {
     let r1 = exp(run, text, rec, kinds, starts, lens, out, mem, at, cfg);
-    let Answer::Done(s1) = told(r1) else {
+    let Status::Done(s1) = told(r1) else {
         return r1;
     };
     word(run, text, out, mem, words::COLON);
@@ -619,7 +619,7 @@ fn du<'a>(
     ensures { λ r. ⌜ does (λ ws c. ws .get-exp c ⨾ word· (wordOf w) ⨾ ws .get-exp c) run text rec kinds starts lens out mem at cfg r ⌝ }
 {
     let r1 = exp(run, text, rec, kinds, starts, lens, out, mem, at, cfg);
-    let Answer::Done(s1) = told(r1) else {
+    let Status::Done(s1) = told(r1) else {
         return r1;
     };
     word(run, text, out, mem, w);
@@ -678,7 +678,7 @@ fn ha<'a>(
         run text rec kinds starts lens out mem at cfg r ⌝ }
 {
     let r1 = exp(run, text, rec, kinds, starts, lens, out, mem, at, cfg);
-    let Answer::Done(s1) = told(r1) else {
+    let Status::Done(s1) = told(r1) else {
         return r1;
     };
     word(run, text, out, mem, w);
@@ -756,14 +756,14 @@ fn ie<'a>(
 {
     word(run, text, out, mem, words::IF);
     let r1 = exp(run, text, rec, kinds, starts, lens, out, mem, at, cfg);
-    let Answer::Done(s1) = told(r1) else {
+    let Status::Done(s1) = told(r1) else {
         return r1;
     };
     word(run, text, out, mem, words::THEN);
     indent_deeper(out, mem, cfg);
     let new = cfg.indented();
     let r2 = exp(run, text, rec, kinds, starts, lens, out, mem, s1, new);
-    let Answer::Done(s2) = told(r2) else {
+    let Status::Done(s2) = told(r2) else {
         return r2;
     };
     line(run, text, out, mem, cfg);
@@ -799,7 +799,7 @@ fn ma<'a>(
         return s0;
     }
     let r1 = group(rec, at);
-    let Answer::Done(s1) = told(r1) else {
+    let Status::Done(s1) = told(r1) else {
         return r1;
     };
     indent_deeper(out, mem, cfg);
@@ -811,7 +811,7 @@ fn ma<'a>(
     while i < n {
         new_line(run, text, out, mem, cfg, words::BAR, i);
         let r3 = arm(run, text, rec, kinds, starts, lens, out, mem, s, cfg);
-        let Answer::Done(s3) = told(r3) else {
+        let Status::Done(s3) = told(r3) else {
             return r3;
         };
         s = s3;
@@ -837,11 +837,11 @@ fn arm<'a>(
     ensures { λ r. ⌜ does get-matcher-arm run text rec kinds starts lens out mem at cfg r ⌝ }
 {
     let r1 = group(rec, at);
-    let Answer::Done(s1) = told(r1) else {
+    let Status::Done(s1) = told(r1) else {
         return r1;
     };
     let r2 = get_pat(run, text, rec, starts, lens, out, mem, s1, cfg);
-    let Answer::Done(s2) = told(r2) else {
+    let Status::Done(s2) = told(r2) else {
         return r2;
     };
     word(run, text, out, mem, words::EQ_ARROW);
@@ -899,7 +899,7 @@ fn qb<'a>(
         return s0;
     }
     let r1 = group(rec, at);
-    let Answer::Done(s1) = told(r1) else {
+    let Status::Done(s1) = told(r1) else {
         return r1;
     };
     word(run, text, out, mem, words::EQ);
@@ -932,7 +932,7 @@ fn fe<'a>(
 {
     word(run, text, out, mem, words::FN);
     let r1 = group(rec, at);
-    let Answer::Done(s1) = told(r1) else {
+    let Status::Done(s1) = told(r1) else {
         return r1;
     };
     let Read::Is(n, s2) = list(rec, s1) else {
@@ -943,7 +943,7 @@ fn fe<'a>(
     while i < n {
         between(run, text, out, mem, words::BAR_SPACED, i);
         let r3 = arm(run, text, rec, kinds, starts, lens, out, mem, s, cfg);
-        let Answer::Done(s3) = told(r3) else {
+        let Status::Done(s3) = told(r3) else {
             return r3;
         };
         s = s3;
@@ -1109,11 +1109,11 @@ fn ds<'a>(
     while i < n {
         new_line(run, text, out, mem, cfg, words::NOTHING, i);
         let r1 = group(rec, s);
-        let Answer::Done(s1) = told(r1) else {
+        let Status::Done(s1) = told(r1) else {
             return r1;
         };
         let r2 = dec(run, text, rec, kinds, starts, lens, out, mem, s1, cfg);
-        let Answer::Done(s2) = told(r2) else {
+        let Status::Done(s2) = told(r2) else {
             return r2;
         };
         s = s2;
@@ -1139,15 +1139,15 @@ fn dec<'a>(
     ensures { λ r. ⌜ does dec· run text rec kinds starts lens out mem at cfg r ⌝ }
 {
     let r1 = group(rec, at);
-    let Answer::Done(s1) = told(r1) else {
+    let Status::Done(s1) = told(r1) else {
         return r1;
     };
     let r2 = qs(run, text, rec, kinds, starts, lens, out, mem, s1, cfg);
-    let Answer::Done(s2) = told(r2) else {
+    let Status::Done(s2) = told(r2) else {
         return r2;
     };
     let r3 = sharing_tails(run, text, rec, starts, lens, out, mem, s2, cfg);
-    let Answer::Done(s3) = told(r3) else {
+    let Status::Done(s3) = told(r3) else {
         return r3;
     };
     word_if(run, text, rec, starts, lens, out, mem, s3, words::SEMICOLON)
@@ -1177,7 +1177,7 @@ fn qs<'a>(
     while i < n {
         new_line(run, text, out, mem, cfg, words::NOTHING, i);
         let r1 = sq(run, text, rec, kinds, starts, lens, out, mem, s, cfg);
-        let Answer::Done(s1) = told(r1) else {
+        let Status::Done(s1) = told(r1) else {
             return r1;
         };
         s = s1;
@@ -1203,7 +1203,7 @@ fn sq<'a>(
     ensures { λ r. ⌜ does dec-in-seq run text rec kinds starts lens out mem at cfg r ⌝ }
 {
     let r1 = group(rec, at);
-    let Answer::Done(s1) = told(r1) else {
+    let Status::Done(s1) = told(r1) else {
         return r1;
     };
     let calm = Cfg {
@@ -1212,7 +1212,7 @@ fn sq<'a>(
         left: cfg.left,
     };
     let r2 = one(run, text, rec, kinds, starts, lens, out, mem, s1, calm);
-    let Answer::Done(s2) = told(r2) else {
+    let Status::Done(s2) = told(r2) else {
         return r2;
     };
     word_if(run, text, rec, starts, lens, out, mem, s2, words::SEMICOLON)
@@ -1359,7 +1359,7 @@ fn vd<'a>(
     while i < n {
         new_line(run, text, out, mem, cfg, words::AND, i);
         let r2 = vb(run, text, rec, kinds, starts, lens, out, mem, s, cfg);
-        let Answer::Done(s2) = told(r2) else {
+        let Status::Done(s2) = told(r2) else {
             return r2;
         };
         s = s2;
@@ -1385,15 +1385,15 @@ fn vb<'a>(
     ensures { λ r. ⌜ does val-bind run text rec kinds starts lens out mem at cfg r ⌝ }
 {
     let r1 = group(rec, at);
-    let Answer::Done(s1) = told(r1) else {
+    let Status::Done(s1) = told(r1) else {
         return r1;
     };
     let r2 = word_if(run, text, rec, starts, lens, out, mem, s1, words::REC);
-    let Answer::Done(s2) = told(r2) else {
+    let Status::Done(s2) = told(r2) else {
         return r2;
     };
     let r3 = get_pat(run, text, rec, starts, lens, out, mem, s2, cfg);
-    let Answer::Done(s3) = told(r3) else {
+    let Status::Done(s3) = told(r3) else {
         return r3;
     };
     qb(run, text, rec, kinds, starts, lens, out, mem, s3, cfg)
@@ -1417,7 +1417,7 @@ fn fd<'a>(
 {
     word(run, text, out, mem, words::FUN);
     let r1 = ty_var_seq(run, text, rec, starts, lens, out, mem, at);
-    let Answer::Done(s1) = told(r1) else {
+    let Status::Done(s1) = told(r1) else {
         return r1;
     };
     let Read::Is(n, s2) = list(rec, s1) else {
@@ -1428,7 +1428,7 @@ fn fd<'a>(
     while i < n {
         new_line(run, text, out, mem, cfg, words::AND, i);
         let r3 = fb(run, text, rec, kinds, starts, lens, out, mem, s, cfg);
-        let Answer::Done(s3) = told(r3) else {
+        let Status::Done(s3) = told(r3) else {
             return r3;
         };
         s = s3;
@@ -1454,7 +1454,7 @@ fn fb<'a>(
     ensures { λ r. ⌜ does fun-bind run text rec kinds starts lens out mem at cfg r ⌝ }
 {
     let r1 = group(rec, at);
-    let Answer::Done(s1) = told(r1) else {
+    let Status::Done(s1) = told(r1) else {
         return r1;
     };
     deepen(mem, cfg);
@@ -1466,7 +1466,7 @@ fn fb<'a>(
     while i < n {
         new_line_in(run, text, out, mem, cfg, words::BAR, i);
         let r3 = fc(run, text, rec, kinds, starts, lens, out, mem, s, cfg);
-        let Answer::Done(s3) = told(r3) else {
+        let Status::Done(s3) = told(r3) else {
             return r3;
         };
         s = s3;
@@ -1492,19 +1492,19 @@ fn fc<'a>(
     ensures { λ r. ⌜ does fun-bind-case run text rec kinds starts lens out mem at cfg r ⌝ }
 {
     let r1 = group(rec, at);
-    let Answer::Done(s1) = told(r1) else {
+    let Status::Done(s1) = told(r1) else {
         return r1;
     };
     let r2 = case_head(run, text, rec, starts, lens, out, mem, s1, cfg);
-    let Answer::Done(s2) = told(r2) else {
+    let Status::Done(s2) = told(r2) else {
         return r2;
     };
     let r3 = case_pats(run, text, rec, starts, lens, out, mem, s2, cfg);
-    let Answer::Done(s3) = told(r3) else {
+    let Status::Done(s3) = told(r3) else {
         return r3;
     };
     let r4 = ty_annotation(run, text, rec, starts, lens, out, mem, s3, cfg);
-    let Answer::Done(s4) = told(r4) else {
+    let Status::Done(s4) = told(r4) else {
         return r4;
     };
     qb(run, text, rec, kinds, starts, lens, out, mem, s4, cfg)
@@ -1528,16 +1528,16 @@ fn ab<'a>(
 {
     word(run, text, out, mem, words::ABSTYPE);
     let r1 = dat_binds(run, text, rec, starts, lens, out, mem, at, cfg);
-    let Answer::Done(s1) = told(r1) else {
+    let Status::Done(s1) = told(r1) else {
         return r1;
     };
     let r2 = with_type(run, text, rec, starts, lens, out, mem, s1, cfg);
-    let Answer::Done(s2) = told(r2) else {
+    let Status::Done(s2) = told(r2) else {
         return r2;
     };
     word(run, text, out, mem, words::WITH);
     let r3 = ds(run, text, rec, kinds, starts, lens, out, mem, s2, cfg);
-    let Answer::Done(s3) = told(r3) else {
+    let Status::Done(s3) = told(r3) else {
         return r3;
     };
     word(run, text, out, mem, words::WITH_END);
@@ -1569,7 +1569,7 @@ fn xd<'a>(
     while i < n {
         new_line(run, text, out, mem, cfg, words::AND, i);
         let r2 = xb(run, text, rec, kinds, starts, lens, out, mem, s, cfg);
-        let Answer::Done(s2) = told(r2) else {
+        let Status::Done(s2) = told(r2) else {
             return r2;
         };
         s = s2;
@@ -1595,11 +1595,11 @@ fn xb<'a>(
     ensures { λ r. ⌜ does ex-bind run text rec kinds starts lens out mem at cfg r ⌝ }
 {
     let r1 = group(rec, at);
-    let Answer::Done(s1) = told(r1) else {
+    let Status::Done(s1) = told(r1) else {
         return r1;
     };
     let r2 = text_of(run, text, rec, starts, lens, out, mem, s1);
-    let Answer::Done(s2) = told(r2) else {
+    let Status::Done(s2) = told(r2) else {
         return r2;
     };
     if let Gone::Past(s3) = absent(rec, s2) {
@@ -1668,14 +1668,14 @@ fn lo<'a>(
     indent_deeper(out, mem, cfg);
     let new = cfg.indented();
     let r1 = ld(run, text, rec, kinds, starts, lens, out, mem, at, new);
-    let Answer::Done(s1) = told(r1) else {
+    let Status::Done(s1) = told(r1) else {
         return r1;
     };
     line(run, text, out, mem, cfg);
     word(run, text, out, mem, words::IN);
     indent_in(out, mem, cfg);
     let r2 = ld(run, text, rec, kinds, starts, lens, out, mem, s1, new);
-    let Answer::Done(s2) = told(r2) else {
+    let Status::Done(s2) = told(r2) else {
         return r2;
     };
     line(run, text, out, mem, cfg);
@@ -1703,7 +1703,7 @@ fn ld<'a>(
         return s0;
     }
     let r1 = group(rec, at);
-    let Answer::Done(s1) = told(r1) else {
+    let Status::Done(s1) = told(r1) else {
         return r1;
     };
     ds(run, text, rec, kinds, starts, lens, out, mem, s1, cfg)
@@ -1734,7 +1734,7 @@ fn sd<'a>(
     while i < n {
         new_line(run, text, out, mem, cfg, words::AND, i);
         let r2 = sb(run, text, rec, kinds, starts, lens, out, mem, s, cfg);
-        let Answer::Done(s2) = told(r2) else {
+        let Status::Done(s2) = told(r2) else {
             return r2;
         };
         s = s2;
@@ -1760,22 +1760,22 @@ fn sb<'a>(
     ensures { λ r. ⌜ does str-bind run text rec kinds starts lens out mem at cfg r ⌝ }
 {
     let r1 = group(rec, at);
-    let Answer::Done(s1) = told(r1) else {
+    let Status::Done(s1) = told(r1) else {
         return r1;
     };
     let r2 = text_of(run, text, rec, starts, lens, out, mem, s1);
-    let Answer::Done(s2) = told(r2) else {
+    let Status::Done(s2) = told(r2) else {
         return r2;
     };
     let r3 = ac(run, text, rec, kinds, starts, lens, out, mem, s2, cfg);
-    let Answer::Done(s3) = told(r3) else {
+    let Status::Done(s3) = told(r3) else {
         return r3;
     };
     if let Gone::Past(s4) = absent(rec, s3) {
         return s4;
     }
     let r5 = group(rec, s3);
-    let Answer::Done(s5) = told(r5) else {
+    let Status::Done(s5) = told(r5) else {
         return r5;
     };
     word(run, text, out, mem, words::EQ_SPACED);
@@ -1807,7 +1807,7 @@ fn gd<'a>(
     while i < n {
         new_line(run, text, out, mem, cfg, words::AND, i);
         let r2 = group(rec, s);
-        let Answer::Done(s2) = told(r2) else {
+        let Status::Done(s2) = told(r2) else {
             return r2;
         };
         let r3 = nm(
@@ -1823,7 +1823,7 @@ fn gd<'a>(
             cfg,
             words::EQ_SPACED,
         );
-        let Answer::Done(s3) = told(r3) else {
+        let Status::Done(s3) = told(r3) else {
             return r3;
         };
         s = s3;
@@ -1850,7 +1850,7 @@ fn nm<'a>(
     ensures { λ r. ⌜ does (λ ws c. text· ⨾ word· (wordOf w) ⨾ ws .get-sig-exp c) run text rec kinds starts lens out mem at cfg r ⌝ }
 {
     let r1 = text_of(run, text, rec, starts, lens, out, mem, at);
-    let Answer::Done(s1) = told(r1) else {
+    let Status::Done(s1) = told(r1) else {
         return r1;
     };
     word(run, text, out, mem, w);
@@ -1882,7 +1882,7 @@ fn cd<'a>(
     while i < n {
         new_line(run, text, out, mem, cfg, words::AND, i);
         let r2 = cb(run, text, rec, kinds, starts, lens, out, mem, s, cfg);
-        let Answer::Done(s2) = told(r2) else {
+        let Status::Done(s2) = told(r2) else {
             return r2;
         };
         s = s2;
@@ -1908,21 +1908,21 @@ fn cb<'a>(
     ensures { λ r. ⌜ does functor-bind run text rec kinds starts lens out mem at cfg r ⌝ }
 {
     let r1 = group(rec, at);
-    let Answer::Done(s1) = told(r1) else {
+    let Status::Done(s1) = told(r1) else {
         return r1;
     };
     let r2 = text_of(run, text, rec, starts, lens, out, mem, s1);
-    let Answer::Done(s2) = told(r2) else {
+    let Status::Done(s2) = told(r2) else {
         return r2;
     };
     word(run, text, out, mem, words::ARGS);
     let r3 = fs(run, text, rec, kinds, starts, lens, out, mem, s2, cfg);
-    let Answer::Done(s3) = told(r3) else {
+    let Status::Done(s3) = told(r3) else {
         return r3;
     };
     word(run, text, out, mem, words::R_ROUND);
     let r4 = ac(run, text, rec, kinds, starts, lens, out, mem, s3, cfg);
-    let Answer::Done(s4) = told(r4) else {
+    let Status::Done(s4) = told(r4) else {
         return r4;
     };
     word(run, text, out, mem, words::EQ_SPACED);
@@ -1955,7 +1955,7 @@ fn fs<'a>(
             return stop(s);
         };
         let r2 = fa(run, text, rec, kinds, starts, lens, out, mem, s1, cfg, k);
-        let Answer::Done(s2) = told(r2) else {
+        let Status::Done(s2) = told(r2) else {
             return r2;
         };
         s = s2;
@@ -2025,7 +2025,7 @@ fn ic<'a>(
     while i < n {
         between(run, text, out, mem, words::SPACE, i);
         let r2 = sig(run, text, rec, kinds, starts, lens, out, mem, s, cfg);
-        let Answer::Done(s2) = told(r2) else {
+        let Status::Done(s2) = told(r2) else {
             return r2;
         };
         s = s2;
@@ -2054,7 +2054,7 @@ fn da<'a>(
     indent_deeper(out, mem, cfg);
     let new = cfg.indented();
     let r1 = dec(run, text, rec, kinds, starts, lens, out, mem, at, new);
-    let Answer::Done(s1) = told(r1) else {
+    let Status::Done(s1) = told(r1) else {
         return r1;
     };
     word(run, text, out, mem, words::LINE_FEED);
@@ -2125,7 +2125,7 @@ fn ss<'a>(
     };
     let new = wide.indented();
     let r1 = ds(run, text, rec, kinds, starts, lens, out, mem, at, new);
-    let Answer::Done(s1) = told(r1) else {
+    let Status::Done(s1) = told(r1) else {
         return r1;
     };
     line(run, text, out, mem, cfg);
@@ -2150,7 +2150,7 @@ fn an<'a>(
     ensures { λ r. ⌜ does (λ ws c. str-exp· ws c AscriptionStrExp) run text rec kinds starts lens out mem at cfg r ⌝ }
 {
     let r1 = str(run, text, rec, kinds, starts, lens, out, mem, at, cfg);
-    let Answer::Done(s1) = told(r1) else {
+    let Status::Done(s1) = told(r1) else {
         return r1;
     };
     ta(run, text, rec, kinds, starts, lens, out, mem, s1, cfg)
@@ -2173,12 +2173,12 @@ fn ta<'a>(
     ensures { λ r. ⌜ does ascription-tail run text rec kinds starts lens out mem at cfg r ⌝ }
 {
     let r1 = group(rec, at);
-    let Answer::Done(s1) = told(r1) else {
+    let Status::Done(s1) = told(r1) else {
         return r1;
     };
     word(run, text, out, mem, words::SPACE);
     let r2 = text_of(run, text, rec, starts, lens, out, mem, s1);
-    let Answer::Done(s2) = told(r2) else {
+    let Status::Done(s2) = told(r2) else {
         return r2;
     };
     word(run, text, out, mem, words::SPACE);
@@ -2224,7 +2224,7 @@ fn sp<'a>(
     ensures { λ r. ⌜ does (λ ws c. str-exp· ws c AppStrExp) run text rec kinds starts lens out mem at cfg r ⌝ }
 {
     let r1 = text_of(run, text, rec, starts, lens, out, mem, at);
-    let Answer::Done(s1) = told(r1) else {
+    let Status::Done(s1) = told(r1) else {
         return r1;
     };
     word(run, text, out, mem, words::ARGS);
@@ -2239,7 +2239,7 @@ fn sp<'a>(
             return stop(s);
         };
         let r4 = sa(run, text, rec, kinds, starts, lens, out, mem, s3, cfg, k);
-        let Answer::Done(s4) = told(r4) else {
+        let Status::Done(s4) = told(r4) else {
             return r4;
         };
         needs = later_needs(needs, k);
@@ -2295,14 +2295,14 @@ fn sl<'a>(
     indent_deeper(out, mem, cfg);
     let new = cfg.indented();
     let r1 = ds(run, text, rec, kinds, starts, lens, out, mem, at, new);
-    let Answer::Done(s1) = told(r1) else {
+    let Status::Done(s1) = told(r1) else {
         return r1;
     };
     line(run, text, out, mem, cfg);
     word(run, text, out, mem, words::IN);
     indent_in(out, mem, cfg);
     let r2 = str(run, text, rec, kinds, starts, lens, out, mem, s1, new);
-    let Answer::Done(s2) = told(r2) else {
+    let Status::Done(s2) = told(r2) else {
         return r2;
     };
     line(run, text, out, mem, cfg);
@@ -2368,7 +2368,7 @@ fn sg<'a>(
     indent_deeper(out, mem, cfg);
     let new = cfg.indented();
     let r1 = ds(run, text, rec, kinds, starts, lens, out, mem, at, new);
-    let Answer::Done(s1) = told(r1) else {
+    let Status::Done(s1) = told(r1) else {
         return r1;
     };
     line(run, text, out, mem, cfg);
@@ -2393,16 +2393,16 @@ fn wt<'a>(
     ensures { λ r. ⌜ does (λ ws c. sig-exp· ws c WhereTypeSigExp) run text rec kinds starts lens out mem at cfg r ⌝ }
 {
     let r1 = sig(run, text, rec, kinds, starts, lens, out, mem, at, cfg);
-    let Answer::Done(s1) = told(r1) else {
+    let Status::Done(s1) = told(r1) else {
         return r1;
     };
     word(run, text, out, mem, words::WHERE_TYPE);
     let r2 = ty_var_seq(run, text, rec, starts, lens, out, mem, s1);
-    let Answer::Done(s2) = told(r2) else {
+    let Status::Done(s2) = told(r2) else {
         return r2;
     };
     let r3 = path(run, text, rec, starts, lens, out, mem, s2);
-    let Answer::Done(s3) = told(r3) else {
+    let Status::Done(s3) = told(r3) else {
         return r3;
     };
     word(run, text, out, mem, words::EQ_SPACED);
@@ -2426,12 +2426,12 @@ fn wr<'a>(
     ensures { λ r. ⌜ does (λ ws c. sig-exp· ws c WhereSigExp) run text rec kinds starts lens out mem at cfg r ⌝ }
 {
     let r1 = sig(run, text, rec, kinds, starts, lens, out, mem, at, cfg);
-    let Answer::Done(s1) = told(r1) else {
+    let Status::Done(s1) = told(r1) else {
         return r1;
     };
     word(run, text, out, mem, words::WHERE);
     let r2 = path(run, text, rec, starts, lens, out, mem, s1);
-    let Answer::Done(s2) = told(r2) else {
+    let Status::Done(s2) = told(r2) else {
         return r2;
     };
     word(run, text, out, mem, words::EQ_SPACED);
