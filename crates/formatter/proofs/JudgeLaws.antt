@@ -30,7 +30,7 @@ use Rattle.layout.specs.Walk.{walks, top, walk}
 use Rattle.layout.specs.GetDec.{get-dec}
 use Rattle.layout.specs.Events.{deepest, letters, units, formatted, isLeft}
 use Rattle.layout.specs.State.{Run, runOf, at, sumOf, widthOf, effects, Ran, went, fell, run, runs, packed, shown, stopNo, stopOf, Fair, Walked, page}
-use Rattle.layout.proofs.Exact.{cap, Sums, place, lent, letters-is, steps, exact, exact-letters, exact-units, exact-deepest}
+use Rattle.layout.proofs.Exact.{cap, Sums, position, lent, letters-is, steps, exact, exact-letters, exact-units, exact-deepest}
 use Rattle.layout.proofs.Steps.{shown-went}
 use Rattle.agreement.specs.Agreement.{EndsAt, Proper}
 use Rattle.agreement.proofs.Knot.{passes-walks}
@@ -287,7 +287,7 @@ module _ {run· : List ℕ} {p : Page} {tree tab : ℕ} {words m o : List ℕ} {
       let l′ : all-sums .letters ≡ letters p es = exact-letters p tab es (begin words o) ∙ omega arith in
       let u′ : all-sums .units ≡ units es = exact-units p tab es (begin words o) ∙ omega arith in
       let u : getD m₁ 1 0 ≡ units es = ap (λ x. getD x 1 0) mem-is ∙ u′ in
-      let q : sumOf n (widthOf tab (all-sums .units)) ≡ place tab all-sums =
+      let q : sumOf n (widthOf tab (all-sums .units)) ≡ position tab all-sums =
       ap (λ x. sumOf n (widthOf tab (getD x 1 0))) (sym mem-is) ∙ a .1 ∙ ap (λ x. getD x 0 0) mem-is in
       let l : n ≡ letters p es =
       letters-is tab (all-sums .letters) (all-sums .units) n (s .tab-fits) (omega (arith, l′, small .both)) (omega (arith, u′, small .both)) (a .0) q ∙ l′ in

@@ -19,7 +19,7 @@ use Rattle.layout.specs.Meaning.{Page, Event, Word, Token, Comment, Formed, Ind
 use Rattle.layout.specs.Events.{sumOf, indentDepth, units, lettersOf, trimmed, letters, spelt, formatted, writesComment, written, isLeft}
 use Rattle.layout.specs.State.{placed, spaced}
 use Rattle.layout.proofs.Placing.{placed-yes, spaced-yes}
-use Rattle.layout.proofs.Exact.{Sums, place, step, steps, exact-letters, exact-units}
+use Rattle.layout.proofs.Exact.{Sums, position, step, steps, exact-letters, exact-units}
 use Rattle.layout.proofs.Exact.{without as struck}
 use Rattle.formatter.proofs.EventLaws.{lettersIn, length-spelt, length-formatted, left-past, not-left}
 use Rattle.formatter.specs.Verdict.{emptySet, noMeasures, declined, accepted, comments}
@@ -41,15 +41,15 @@ paste-paste o x y a h =
     ∙ ap (λ l. l ++ drop (a + length (x ++ y)) o) (append-assoc (take a o) x y ∙ ap (λ l. take a o ++ l) (sym (take-length (x ++ y))))
 
 module _ (p : Page) (tab : ℕ) where
-  one-out : (e : Event) (s : Sums) → place tab s + length (spelt p tab e) ≤ length (s .out)
-      → step p tab e s .out ≡ paste (s .out) (place tab s) (spelt p tab e) (length (spelt p tab e))
+  one-out : (e : Event) (s : Sums) → position tab s + length (spelt p tab e) ≤ length (s .out)
+      → step p tab e s .out ≡ paste (s .out) (position tab s) (spelt p tab e) (length (spelt p tab e))
   unfolding step spelt
-  one-out (Word w) s room = placed-yes (s .out) (place tab s) (bytes w) room
-  one-out (Token j) s room = placed-yes (s .out) (place tab s) (tokenText p j) room
-  one-out (Comment j) s room = placed-yes (s .out) (place tab s) (trimmed p j) room
-  one-out (Formed d) s room = paste-zero (s .out) (place tab s) []
+  one-out (Word w) s room = placed-yes (s .out) (position tab s) (bytes w) room
+  one-out (Token j) s room = placed-yes (s .out) (position tab s) (tokenText p j) room
+  one-out (Comment j) s room = placed-yes (s .out) (position tab s) (trimmed p j) room
+  one-out (Formed d) s room = paste-zero (s .out) (position tab s) []
   one-out (Indent d) s room =
-      let a = place tab s in
+      let a = position tab s in
       let end : s .letters + tab * (s .units + d) ≡ a + d * tab = omega (arith, mul-add tab (s .units) d, mul-comm d tab) in
       let width : a + d * tab - a ≡ d * tab = omega arith in
       let size = length-replicate {A = ℕ} (d * tab) 32 in
@@ -59,12 +59,12 @@ module _ (p : Page) (tab : ℕ) where
       ∙ ap (λ n. paste (s .out) a (replicate (d * tab) 32) n) (sym size)
 
   -- Behind what is written already.
-  later-out : (es : List Event) (s : Sums) → place tab s + length (formatted p tab es) ≤ length (s .out)
-      → steps p tab es s .out ≡ paste (s .out) (place tab s) (formatted p tab es) (length (formatted p tab es))
+  later-out : (es : List Event) (s : Sums) → position tab s + length (formatted p tab es) ≤ length (s .out)
+      → steps p tab es s .out ≡ paste (s .out) (position tab s) (formatted p tab es) (length (formatted p tab es))
   unfolding steps letters units sumOf formatted
-  later-out [] s room = paste-zero (s .out) (place tab s) []
+  later-out [] s room = paste-zero (s .out) (position tab s) []
   later-out (e ∷ es) s room =
-      let a = place tab s in
+      let a = position tab s in
       let x : List ℕ = spelt p tab e in
       let y : List ℕ = formatted p tab es in
       let s′ : Sums = step p tab e s in
@@ -72,7 +72,7 @@ module _ (p : Page) (tab : ℕ) where
       let first : s′ .out ≡ paste (s .out) a x (length x) = one-out e s (omega arith) in
       let l = exact-letters p tab (e ∷ []) s in
       let u = exact-units p tab (e ∷ []) s in
-      let next : place tab s′ ≡ a + length x =
+      let next : position tab s′ ≡ a + length x =
       ap₂ (λ i j. i + tab * j) l u ∙ omega (arith, length-spelt p tab e, mul-add tab (s .units) (indentDepth e)) in
       let long : length (s′ .out) ≡ length (s .out) = ap length first ∙ length-paste (s .out) a x (length x) (omega arith) (omega arith) in
       later-out es s′ (omega (arith, next, long))
@@ -84,7 +84,7 @@ module _ (p : Page) (tab : ℕ) where
       → steps p tab es s .out ≡ formatted p tab es ++ drop (length (formatted p tab es)) (s .out)
   out-is es s l u room =
       let w : List ℕ = formatted p tab es in
-      let start : place tab s ≡ 0 = ap₂ (λ i j. i + tab * j) l u ∙ omega (arith, mul-zero tab) in
+      let start : position tab s ≡ 0 = ap₂ (λ i j. i + tab * j) l u ∙ omega (arith, mul-zero tab) in
       later-out es s (omega (arith, start, length-formatted p tab es))
       ∙ ap (λ a. paste (s .out) a w (length w)) start
       ∙ ap₂ (λ x n. x ++ drop n (s .out)) (take-length w) (zero-add (length w))

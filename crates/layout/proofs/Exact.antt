@@ -32,12 +32,12 @@ abbrev pub without : List ℕ → ℕ → List ℕ
 without words k = cond (ltb (k / 64) 64) (set words (k / 64) (clear (getD words (k / 64) 0) (k % 64))) words
 
 -- The offset in the output where the next byte goes.
-abbrev pub place : ℕ → Sums → ℕ
-place tab s = s .letters + tab * s .units
+abbrev pub position : ℕ → Sums → ℕ
+position tab s = s .letters + tab * s .units
 
 -- The words that are lent to the walk, for these sums.
 abbrev pub lent : ℕ → Sums → List ℕ
-lent tab s = place tab s ∷ s .units ∷ s .deepest ∷ tab ∷ s .left
+lent tab s = position tab s ∷ s .units ∷ s .deepest ∷ tab ∷ s .left
 
 abbrev pub wrote : ℕ → List ℕ → Sums → Sums
 wrote tab w s =
@@ -46,7 +46,7 @@ wrote tab w s =
       units = s .units;
       deepest = s .deepest;
       left = s .left;
-      out = placed (s .out) (place tab s) w;
+      out = placed (s .out) (position tab s) w;
     }
 
 module _ (p : Page) (tab : ℕ) where
@@ -64,7 +64,7 @@ module _ (p : Page) (tab : ℕ) where
         units = s .units + d;
         deepest = s .deepest;
         left = s .left;
-        out = spaced (s .out) (place tab s) (s .letters + tab * (s .units + d));
+        out = spaced (s .out) (position tab s) (s .letters + tab * (s .units + d));
       }
 
   unfoldable pub steps : List Event → Sums → Sums
@@ -175,7 +175,7 @@ module _ (p : Page) (tab a : ℕ) (t : tab < 0x1_0000_0000) where
   one-exact (Token j) s h k = rw (later-is tab (s .letters) (s .units) (length (tokenText p j)) t h (omega arith)) refl
   one-exact (Comment j) s h k =
       rw
-      (struck-behind (place tab s) (s .units) (s .deepest) tab (s .left) j, later-is tab (s .letters) (s .units) (length (trimmed p j)) t h (omega arith))
+      (struck-behind (position tab s) (s .units) (s .deepest) tab (s .left) j, later-is tab (s .letters) (s .units) (length (trimmed p j)) t h (omega arith))
       refl
   one-exact (Formed d) s h k = refl
   one-exact (Indent d) s h k =
