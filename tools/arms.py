@@ -15,8 +15,10 @@ The answers: "functions" has an entry for each function that is written by this 
   "tail": calls whose layout is followed by another in the same function; "regroup": those of two such layouts;
   "grouped": indents one deeper that stand as one layout; "before": terms that go before the step of a call;
   "needs": answers to single needs, in which @call stands for the path to that call;
-"use" the lines that the answers need; "left" the path to the forms left, in a crate whose functions call each other in a cycle. The records of
+"use" the lines that the answers need; "left" the path to the forms left, in a crate whose functions call each other in a cycle; "files" is "each"
+where each of them has a file of its own. The records of
 functions of lower crates are those that the lower crates' answers give. Which functions ask for a bound of the depth is read from the sources.
+Functions that call each other are proved in one file, or in a folder: the root, Base with their measures, a file for each.
 """
 import glob
 import json
@@ -34,6 +36,16 @@ BOTH = {"line", "line-in", "indent-deeper"}
 LOOKS = {"is-if-exp", "body-exp-needs-newline"}
 DEEPER = set()  # the functions that ask for a bound of the depth: those of the sources
 STEPS = "Rattle.layout.proofs.Steps"
+
+
+def read(path):
+    with open(path, encoding="utf-8") as file:
+        return file.read()
+
+
+def write(path, text):
+    with open(path, "w", encoding="utf-8") as file:
+        file.write(text)
 
 
 def base(thing):
@@ -437,23 +449,112 @@ def with_uses(uses, text):
     return "".join(line + "\n" for line in uses) + "\n".join(line for line in text.split("\n") if line not in uses)
 
 
+def used(uses, body):
+    """The `use` lines that a text needs: of each the names that stand in it, none twice."""
+    words, aliases, kept = set(re.findall(r"[^\s(){},;.@]+", body)), [], {}
+    for line in uses:
+        alias = re.fullmatch(r"use \S+ as (\S+)", line)
+        if alias:
+            aliases += [line] if re.search(r"(?<![\w·-])%s\." % re.escape(alias.group(1)), body) else []
+            continue
+        path, names = re.fullmatch(r"use (\S+)\.\{(.*)\}", line).groups()
+        known = kept.setdefault(path, [])
+        known += [name for name in names.split(", ") if words & {name, name.strip("_")} and name not in known]
+    return ["use %s.{%s}" % (path, ", ".join(names)) for path, names in kept.items() if names] + aliases
+
+
+def camel(name):
+    return "".join(part.capitalize() for part in re.split("[-_]", name))
+
+
+def members_of(text):
+    """The members of a cycle of calls, of which each has a measure."""
+    return re.findall(r"^abbrev (?:pub )?μ-([a-z0-9-]+) :", text, re.M)
+
+
+def abbreviated(text):
+    """The proof of a cycle of calls, with one name for what a member counts on."""
+    head, body = text.split("\nabbrev μ-", 1)
+    head, body, claims = re.sub(r"\{\s+([^{}]*?),\s+\}", r"{\1}", head), "\nabbrev μ-" + body, []
+    for name in members_of(body):
+        given = r"\(([^()]*?),?\s*\)(?=\s+\(%s-at t\))" % name
+        said = re.sub(r"\s+", " ", re.search(given, body).group(1).strip())
+        claims.append("abbrev {0}-claims : ℕ → {0}-lts.Claims\n{0}-claims t = ({1})".format(name, said))
+        body = re.sub(given, "(%s-claims t)" % name, body)
+    last = list(re.finditer(r"^abbrev \S+-below : .*?\n\n", body, re.M | re.S))[-1].end()
+    return head + body[:last] + "\n\n".join(claims) + "\n\n" + body[last:]
+
+
+def parted(crate, cycle, text):
+    """The proof of a cycle of calls as files: {"Proof.antt": the root, "Proof/Base.antt": the measures, "Proof/NAME.antt": a member}."""
+    uses = [line for line in text.split("\n") if line.startswith("use ")]
+    body, root = text[text.index("\nabbrev μ-"):].split("\npub +", 1)
+    path, base, own = "Rattle.%s.proofs.%s" % (crate, cycle), [], dict((name, []) for name in members_of(body))
+    for block in re.split(r"\n\n+", body.strip("\n")):
+        name = re.match(r"(?:abbrev )?([^\s:]+)", block).group(1)
+        if name.startswith("μ-") or name.rsplit("-", 1)[0] in own and name.endswith(("-at", "-below")):
+            base.append(block.replace("abbrev ", "abbrev pub ", 1))
+        else:
+            own[max((other for other in own if name.startswith(other + "-")), key=len)].append(block)
+    ends = dict(re.findall(r"λ t\. ([a-z0-9-]+)-lts\.spec\s(.*?)(?=\(?λ t\.|\Z)", root, re.S))
+    base = "\n\n".join(base)
+    shared = "use %s.Proof.Base.{%s}" % (path, ", ".join(re.findall(r"^abbrev pub (\S+) :", base, re.M)))
+    files = {"Proof/Base.antt": (used(uses, base), base)}
+    for name in own:
+        part = member(name, own[name], ends[name])
+        lines = [line for line in uses if "PlainCycle" not in line and not line.endswith("-lts")]
+        lines += ["use %s.Lts-%s as lts" % (path, name.replace("-", "_")), shared]
+        files["Proof/%s.antt" % camel(name)] = (used(lines, part), part)
+    tie = "\n    ".join(["pub +" + root[:root.index("close\n")] + "close"] + ["μ-" + name for name in own] + ["P%s.met" % camel(name) for name in own])
+    lines = ["mod Base"] + ["mod " + camel(name) for name in own] + used(uses, tie)
+    lines += ["use Base.{%s}" % ", ".join("μ-" + name for name in own)] + ["use {0} as P{0}".format(camel(name)) for name in own]
+    files["Proof.antt"] = (lines, tie)
+    return dict((file, "\n".join(lines) + "\n\n" + part.rstrip("\n") + "\n") for file, (lines, part) in files.items())
+
+
+def member(name, blocks, end):
+    """The proof of a member: what it counts on, its needs under their own names, and that it meets its contract."""
+    handed = needs_of(name, end)
+    text = "\n\n".join(blocks).replace("abbrev %s-claims" % name, "abbrev pub claims").replace("%s-claims t" % name, "claims t")
+    text = re.sub(r"(?m)(^|abbrev |\s)%s-(?=%s\b)" % (name, r"\b|".join(handed)), r"\1", text).replace("%s-lts." % name, "lts.")
+    kind = "(claims t) (%s-at t) %s.Post" % (name, name)
+    needs = " ".join(need if need.endswith("-loop") else "(%s t)" % need for need in handed)
+    return "%s\n\npub met : {M : Type 1} (t : ℕ) → lts.Closed %s M\nmet t = lts.spec %s %s" % (text, kind, kind, needs)
+
+
+def needs_of(name, end):
+    """The needs of a member and what its loops say, in the order in which they are handed on."""
+    return re.findall(r"(?<![\w-])%s-((?:Inv|μ)-loop\S*?|[a-z0-9-]+(?= t\)))(?=[\s)])" % name, re.split(r"\(%s-at t\)\s+%s\.Post" % (name, name), end, maxsplit=1)[1])
+
+
+def cycle_files(crate, cycle, text, which):
+    """{file: text} of a cycle's folder: one file, or one for each member."""
+    text = abbreviated(text)
+    if which != "each":
+        return {"Proof.antt": "-- The functions of a cycle of calls equal their layouts. Written by tools/arms.py.\n" + text}
+    heads = {"Proof/Base.antt": "The measures of a cycle of calls, and what its members are given and asked.",
+             "Proof.antt": "The functions of a cycle of calls equal their layouts: a file for each, and what ties them."}
+    heads.update(("Proof/%s.antt" % camel(name), "`%s::%s` equals its layout: a member of a cycle of calls." % (crate, name)) for name in cycle[1:].split("+"))
+    return dict((file, "-- %s Written by tools/arms.py.\n%s" % (heads[file], part)) for file, part in parted(crate, cycle, text).items())
+
+
 def write_cycle(crate, root, path, text, answers, members):
     folder, functions = os.path.dirname(path), {}
     names = os.path.basename(folder)[1:].split("+")
-    source = open("crates/%s/src/lib.rt" % crate).read()
+    source = read("crates/%s/src/lib.rt" % crate)
     for name in names:
-        places = Places(open("%s/%s/Lts-%s.antt" % (root, os.path.basename(folder), name)).read())
+        places = Places(read("%s/%s/Lts-%s.antt" % (root, os.path.basename(folder), name)))
         functions[dashed(name)] = Function(name, places, answers["functions"][name], members, [dashed(other) for other in names], deep_calls(source, name))
-    os.makedirs(folder, exist_ok=True)
     filled_text = re.sub(r"(?m)^-- src/.*\n", "", filled_cycle(functions, text, answers["left"]))
-    head = "-- The functions of a cycle of calls equal their layouts. Written by tools/arms.py.\n"
-    open(path, "w").write(head + with_uses(answers["use"], filled_text))
+    for file, part in cycle_files(crate, os.path.basename(folder), with_uses(answers["use"], filled_text), answers.get("files")).items():
+        os.makedirs(os.path.dirname("%s/%s" % (folder, file)), exist_ok=True)
+        write("%s/%s" % (folder, file), part)
     print("wrote", os.path.basename(folder))
 
 
 def below(crate):
     """The crates that a crate sees, and those that they see, as crates.txt has them."""
-    lines = (line.split(":") for line in open("crates.txt") if ":" in line and not line.startswith("#"))
+    lines = (line.split(":") for line in read("crates.txt").split("\n") if ":" in line and not line.startswith("#"))
     sees = dict((name.strip(), names.split()) for name, names in lines)
     found = []
     for name in sees.get(crate, []):
@@ -467,7 +568,7 @@ def known(crate, answers):
     for name in below(crate):
         path = "crates/%s/arms.json" % name
         if os.path.exists(path):
-            members.update(known_of(json.load(open(path))))
+            members.update(known_of(json.loads(read(path))))
     members.update(known_of(answers))
     return members
 
@@ -482,7 +583,7 @@ def bounded(crate, answers):
     for name in below(crate) + ([] if "left" in answers else [crate]):
         for path in glob.glob("crates/%s/src/*.rt" % name):
             pattern = r"\bfn (\w+)(?:<'a>)?\([^{}]*?\)[^{}]*?requires \{ ⌜ ([^⌝]*)⌝"
-            found |= set(dashed(fn) for fn, bound in re.findall(pattern, open(path).read()) if ".depth" in bound)
+            found |= set(dashed(fn) for fn, bound in re.findall(pattern, read(path)) if ".depth" in bound)
     return found
 
 
@@ -490,7 +591,7 @@ def main():
     if len(sys.argv) < 2 or not os.path.exists("crates/%s/arms.json" % sys.argv[1]):
         raise SystemExit("usage: tools/arms.py CRATE [FUNCTION..], from the root, where crates/CRATE/arms.json stands")
     crate = sys.argv[1]
-    answers = json.load(open("crates/%s/arms.json" % crate))
+    answers = json.loads(read("crates/%s/arms.json" % crate))
     wanted = sys.argv[2:] or list(answers["functions"])
     unknown = [name for name in wanted if name not in answers["functions"]]
     if unknown:
@@ -518,11 +619,11 @@ def main():
                 if name.startswith("+"):
                     write_cycle(crate, root, path, files[path], answers, members)
                     continue
-                places = Places(open("%s/%s/Lts.antt" % (root, name)).read())
+                places = Places(read("%s/%s/Lts.antt" % (root, name)))
                 function = Function(name, places, answers["functions"][name], members)
                 os.makedirs(os.path.dirname(path), exist_ok=True)
                 head = "-- `%s::%s` equals its layout. Written by tools/arms.py.\n" % (crate, name.replace("/", "::"))
-                open(path, "w").write(head + with_uses(answers["use"], filled(function, files[path])))
+                write(path, head + with_uses(answers["use"], filled(function, files[path])))
                 print("wrote", name)
 
 

@@ -1,7 +1,9 @@
 #!/usr/bin/env python3
-"""Tests of arms.py: the terms that it writes for small functions, from their places."""
+"""Tests of arms.py: the terms that it writes for small functions, from their places; the files of a cycle."""
+import glob
 import json
 import os
+import re
 import subprocess
 import sys
 import unittest
@@ -144,6 +146,143 @@ class Sources(unittest.TestCase):
         self.assertLessEqual({"indented", "dat-binds"}, arms.bounded("walk", self.answers("walk")))
         self.assertNotIn("app", arms.bounded("walk", self.answers("walk")))
         self.assertIn("con-lines", arms.bounded("leaves", self.answers("leaves")))
+
+
+CYCLE = """use a.Omega.{arith}
+use b.Nat.{ℕ, _<_, _+_}
+use b.Nat.{ℕ, _-_}
+use borrow.Fn.PlainCycle.{Measures, is, falls, and}
+use r.get.Reads as get
+use r.get.Kinds as get-kinds
+use r.+get+row.Lts-get as get-lts
+use r.row.Reads as row
+use r.row.Kinds as row-kinds
+use r.+get+row.Lts-row as row-lts
+use l.told.Reads as told-reads
+use r.+get+row.{
+  statement,
+}
+use r.+get+row.Tie.{
+  close,
+}
+
+abbrev μ-get : Measures get-kinds.ps ℕ
+μ-get a = 16 + 0
+
+abbrev μ-row : Measures row-kinds.ps ℕ
+μ-row a = 16 + 1
+
+abbrev get-at : ℕ → In get-kinds.ps
+get-at t = is μ-get t
+
+abbrev get-below : ℕ → In get-kinds.ps
+get-below t = falls _<_ μ-get t
+
+abbrev row-at : ℕ → In row-kinds.ps
+row-at t = is μ-row t
+
+abbrev row-below : ℕ → In row-kinds.ps
+row-below t = falls _<_ μ-row t
+
+get-row-requires : (t : ℕ) → get-lts.Need-row-requires (row-below t, row.Post) (get-at t) get.Post
+get-row-requires t c = omega (arith, c .pre)
+
+get-returns : (t : ℕ) → get-lts.Need-returns (row-below t, row.Post) (get-at t) get.Post
+unfolding Ty.ty
+get-returns t c = record { is = c .row .ensures }
+
+abbrev row-Inv-loop : row-lts.InvT-loop
+row-Inv-loop n i = n - i
+
+row-get-requires : (t : ℕ) → row-lts.Need-get-requires (
+  get-below t,
+  get.Post,
+  told-reads.Asked,
+) (row-at t) row.Post row-Inv-loop
+row-get-requires t c = omega (arith, c .pre)
+
+pub +get+row-spec :
+    {M : Type 1} → statement M
++get+row-spec =
+    close
+    μ-get
+    μ-row
+    (λ t. get-lts.spec (row-below t, row.Post)
+    (get-at t)
+    get.Post
+    (get-row-requires t)
+    (get-returns t))
+    λ t. row-lts.spec (
+      get-below t,
+      get.Post,
+      told-reads.Asked,
+    )
+    (row-at t)
+    row.Post
+    row-Inv-loop
+    (row-get-requires t)
+"""
+
+
+class Files(unittest.TestCase):
+    """The files of a cycle of calls."""
+
+    def setUp(self):
+        self.files = arms.parted("types", "+get+row", arms.abbreviated(CYCLE))
+
+    def test_a_file_for_each_member(self):
+        self.assertEqual({"Proof.antt", "Proof/Base.antt", "Proof/Get.antt", "Proof/Row.antt"}, set(self.files))
+
+    def test_base_has_the_measures(self):
+        base = self.files["Proof/Base.antt"]
+        self.assertEqual(["μ-get", "μ-row", "get-at", "get-below", "row-at", "row-below"], re.findall(r"^abbrev pub (\S+) :", base, re.M))
+        self.assertIn("use b.Nat.{ℕ, _<_, _+_}\n", base)
+        self.assertNotIn("told-reads", base)
+
+    def test_a_member(self):
+        self.assertEqual("""use b.Nat.{ℕ}
+use Rattle.types.proofs.+get+row.Proof.Base.{get-at, row-below}
+""", "".join(line + "\n" for line in self.files["Proof/Get.antt"].split("\n") if line.startswith("use ") and "Nat" in line or "Base" in line))
+        body = self.files["Proof/Get.antt"].split("\n\n", 1)[1]
+        self.assertEqual("""abbrev pub claims : ℕ → lts.Claims
+claims t = (row-below t, row.Post)
+
+row-requires : (t : ℕ) → lts.Need-row-requires (claims t) (get-at t) get.Post
+row-requires t c = omega (arith, c .pre)
+
+returns : (t : ℕ) → lts.Need-returns (claims t) (get-at t) get.Post
+unfolding Ty.ty
+returns t c = record { is = c .row .ensures }
+
+pub met : {M : Type 1} (t : ℕ) → lts.Closed (claims t) (get-at t) get.Post M
+met t = lts.spec (claims t) (get-at t) get.Post (row-requires t) (returns t)
+""", body)
+
+    def test_a_member_with_a_loop(self):
+        row = self.files["Proof/Row.antt"]
+        self.assertIn("claims t = (get-below t, get.Post, told-reads.Asked)\n", row)
+        self.assertIn("abbrev Inv-loop : lts.InvT-loop\nInv-loop n i = n - i\n", row)
+        self.assertIn("get-requires : (t : ℕ) → lts.Need-get-requires (claims t) (row-at t) row.Post Inv-loop\n", row)
+        self.assertIn("met t = lts.spec (claims t) (row-at t) row.Post Inv-loop (get-requires t)\n", row)
+
+    def test_the_root_ties_them(self):
+        root = self.files["Proof.antt"]
+        self.assertTrue(root.startswith("mod Base\nmod Get\nmod Row\n"))
+        self.assertTrue(root.endswith("    close\n    μ-get\n    μ-row\n    PGet.met\n    PRow.met\n"))
+
+    def test_one_file(self):
+        files = arms.cycle_files("types", "+get+row", CYCLE, None)
+        self.assertEqual(["Proof.antt"], list(files))
+        self.assertIn("row-below t = falls _<_ μ-row t\n\nabbrev get-claims : ℕ → get-lts.Claims\nget-claims t = (row-below t, row.Post)\n\nabbrev row-claims", files["Proof.antt"])
+        self.assertIn("row-get-requires : (t : ℕ) → row-lts.Need-get-requires (row-claims t) (row-at t) row.Post row-Inv-loop\n", files["Proof.antt"])
+        self.assertIn("    (λ t. get-lts.spec (get-claims t)\n    (get-at t)\n", files["Proof.antt"])
+
+    def test_names_of_files_fit_the_archive(self):
+        """A checked module is kept in an archive up to 249 bytes of name (DECISIONS C7)."""
+        for path in glob.glob("crates/*/proofs/+*/**/*.antt", recursive=True):
+            crate, name = path.split("/")[1], path.split("/proofs/")[1][:-len(".antt")].replace("/", ".")
+            module = "Rattle.%s.proofs.%s" % (crate, name)
+            self.assertLessEqual(len(module.encode()), 249, "%s has %d bytes; see tools/test_schema.py" % (module, len(module.encode())))
 
 
 if __name__ == "__main__":

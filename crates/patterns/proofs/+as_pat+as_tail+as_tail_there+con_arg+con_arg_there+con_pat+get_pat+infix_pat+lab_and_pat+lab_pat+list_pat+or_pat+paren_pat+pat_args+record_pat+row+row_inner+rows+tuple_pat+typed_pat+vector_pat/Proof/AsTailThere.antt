@@ -1,0 +1,49 @@
+-- `patterns::as_tail_there` equals its layout: a member of a cycle of calls. Written by tools/arms.py.
+use borrow.Author.Needs.{needs}
+use native.Mathlib.Omega.{arith}
+use mathlib.Core.Path.{_∙_}
+use Prim.Native.Nat.{ℕ}
+use Rattle.layout.proofs.Steps.{plain, by-same, then-sure, group-is, group-not}
+use Rattle.patterns.proofs.+as_pat+as_tail+as_tail_there+con_arg+con_arg_there+con_pat+get_pat+infix_pat+lab_and_pat+lab_pat+list_pat+or_pat+paren_pat+pat_args+record_pat+row+row_inner+rows+tuple_pat+typed_pat+vector_pat.Proof.Base.{as-tail-there-at, get-pat-below}
+use Rattle.layout.specs.Pat as Pat
+use Rattle.patterns.proofs.as_tail_there.Reads as as-tail-there
+use Rattle.patterns.proofs.get_pat.Reads as get-pat
+use Rattle.layout.proofs.fields.group.Reads as group-reads
+use Rattle.layout.proofs.told.Reads as told-reads
+use Rattle.layout.proofs.word.Reads as word-reads
+use Rattle.patterns.proofs.+as_pat+as_tail+as_tail_there+con_arg+con_arg_there+con_pat+get_pat+infix_pat+lab_and_pat+lab_pat+list_pat+or_pat+paren_pat+pat_args+record_pat+row+row_inner+rows+tuple_pat+typed_pat+vector_pat.Lts-as_tail_there as lts
+
+abbrev pub claims : ℕ → lts.Claims
+claims t = (group-reads.Asked, group-reads.Learnt, told-reads.Asked, told-reads.Learnt, word-reads.Asked, word-reads.Learnt, get-pat-below t, get-pat.Post)
+
+group-requires : (t : ℕ) → lts.Need-group-requires (claims t) (as-tail-there-at t) as-tail-there.Post
+group-requires t c κs = search needs
+
+told-requires : (t : ℕ) → lts.Need-told-requires (claims t) (as-tail-there-at t) as-tail-there.Post
+told-requires t c κs = search needs
+
+enum-known-s1 : (t : ℕ) → lts.Need-enum-known-s1 (claims t) (as-tail-there-at t) as-tail-there.Post
+enum-known-s1 t c = search needs
+
+enum-told : (t : ℕ) → lts.Need-enum-told (claims t) (as-tail-there-at t) as-tail-there.Post
+enum-told t c = search needs
+
+returns : (t : ℕ) → lts.Need-returns (claims t) (as-tail-there-at t) as-tail-there.Post
+unfolding Pat.as-tail-there
+returns t c = record { is = λ kinds. group-not (c .before .before .before .group .ensures) (c .before .before .told .ensures) (c .enum-told .given .1) }
+
+word-requires : (t : ℕ) → lts.Need-word-requires (claims t) (as-tail-there-at t) as-tail-there.Post
+word-requires t c κs = search needs
+
+get-pat-requires : (t : ℕ) → lts.Need-get-pat-requires (claims t) (as-tail-there-at t) as-tail-there.Post
+get-pat-requires t c κs = omega (arith, c .before .before .before .before .before .before .before .before .before .before .before .before .before .before .before .before .before .pre .0)
+
+same-length : (t : ℕ) → lts.Need-same-length (claims t) (as-tail-there-at t) as-tail-there.Post
+same-length t c = c .before .before .get-pat .kept .1 .1 .1 .1 .1 .0 ∙ c .before .before .before .before .before .before .before .word .kept .1 .1 .0
+
+returns-2 : (t : ℕ) → lts.Need-returns-2 (claims t) (as-tail-there-at t) as-tail-there.Post
+unfolding Pat.as-tail-there
+returns-2 t c = record { is = λ kinds. by-same (group-is (c .before .before .before .before .before .before .before .before .before .before .before .before .before .before .group .ensures) (c .before .before .before .before .before .before .before .before .before .before .before .before .before .told .ensures) (c .before .before .before .before .before .before .before .before .before .before .before .s1 .given .1)) (then-sure (c .before .before .before .before .before .before .before .word .ensures) (plain (c .before .before .get-pat .ensures))) }
+
+pub met : {M : Type 1} (t : ℕ) → lts.Closed (claims t) (as-tail-there-at t) as-tail-there.Post M
+met t = lts.spec (claims t) (as-tail-there-at t) as-tail-there.Post (group-requires t) (told-requires t) (enum-known-s1 t) (enum-told t) (returns t) (word-requires t) (get-pat-requires t) (same-length t) (returns-2 t)
