@@ -1,5 +1,6 @@
 #!/usr/bin/env python3
 """arms.py CRATE [FUNCTION..]: writes the proofs of the functions of CRATE that are proved equal to a layout.
+arms.py --check [CRATE..]: whether the proofs are those that were written from what stands in the tree now; needs no `rt`.
 
 A function of the walk is a chain of calls, and its proof is the chain of the steps that the laws of
 crates/layout/proofs/Steps.antt give for them. This tool reads the proof files that `rt dev` offers
@@ -19,8 +20,13 @@ The answers: "functions" has an entry for each function that is written by this 
 where each of them has a file of its own. The records of
 functions of lower crates are those that the lower crates' answers give. Which functions ask for a bound of the depth is read from the sources.
 Functions that call each other are proved in one file, or in a folder: the root, Base with their measures, a file for each.
+
+crates/CRATE/arms.sum has a sum of what each function's proof was written from (its code and contract, its answers, the records of what it calls, the
+rules of this tool) and of each file that was written; spaces and comments of the code do not count.
 """
 import glob
+import hashlib
+import io
 import json
 import os
 import re
@@ -28,6 +34,7 @@ import shutil
 import subprocess
 import sys
 import tempfile
+import tokenize
 
 READS = {"list": "list", "choice": "choice", "form": "form", "expression": "look"}
 SURE = {"word", "between", "indent", "indent-in", "new-line", "new-line-in", "word-when", "app-end", "app-space"}
@@ -587,9 +594,98 @@ def bounded(crate, answers):
     return found
 
 
+# ---- sums: what was written, and from what. The rules of writing stand above this line.
+def sum_of(*parts):
+    """A short digest of texts, spaces aside."""
+    return hashlib.sha256("\n".join(re.sub(r"\s+", " ", part).strip() for part in parts).encode()).hexdigest()[:16]
+
+
+def rules():
+    """The code of this tool above the sums, without comments and what stands as a text by itself."""
+    source = read(os.path.abspath(__file__)).split("\n# ---- sums:")[0]
+    kept, starts = [], True
+    for token in tokenize.generate_tokens(io.StringIO(source).readline):
+        if token.type in (tokenize.NEWLINE, tokenize.INDENT, tokenize.DEDENT, tokenize.NL, tokenize.COMMENT):
+            starts = starts or token.type == tokenize.NEWLINE
+            continue
+        if not (starts and token.type == tokenize.STRING):
+            kept.append(token.string)
+        starts = False
+    return " ".join(kept)
+
+
+def item_of(crate, name):
+    """The code of a function with its contract, without comments."""
+    *modules, short = name.split("/")
+    source = "\n" + read("crates/%s/src/%s.rt" % (crate, "/".join(modules) or "lib"))
+    found = re.search(r"\n(?:pub )?fn %s(?:<'a>)?\(.*?\n}\n" % short, source, re.S)
+    return re.sub(r"(?m)//.*$", "", found.group(0)) if found else ""
+
+
+class Sums:
+    """The sums of a crate: what the tree has now, and what was noted when the proofs were written."""
+
+    def __init__(self, crate):
+        self.crate, self.path, self.noted = crate, "crates/%s/arms.sum" % crate, {"from": {}, "is": {}}
+        self.answers = json.loads(read("crates/%s/arms.json" % crate))
+        self.members, self.bounded, self.rules = known(crate, self.answers), bounded(crate, self.answers), rules()
+        if os.path.exists(self.path):
+            self.noted = json.loads(read(self.path))
+
+    def source(self, name):
+        """The sum of what the proof of a function is written from."""
+        item = item_of(self.crate, name)
+        called = sorted(set(dashed(word) for word in re.findall(r"\w+", item)))
+        read = [self.answers["functions"][name], self.answers["use"], self.answers.get("left"),
+                [(word, self.members[word]) for word in called if word in self.members], [word for word in called if word in self.bounded]]
+        return sum_of(self.rules, item, json.dumps(read, sort_keys=True))
+
+    def written(self):
+        """{file: its sum}: the proofs that are there, of the functions that have answers; a cycle has several files."""
+        found = {}
+        for path in sorted(glob.glob("crates/%s/proofs/**/*.antt" % self.crate, recursive=True)):
+            name = path.split("/proofs/", 1)[1]
+            if name.startswith("+") or name[:-len("/Proof.antt")] in self.answers["functions"]:
+                found[name] = sum_of(read(path))
+        return found
+
+    def note(self, names):
+        """Notes the proofs of some functions, which were written now, and those of a cycle, which are written with any."""
+        there = self.written()
+        new = set(path for path in there if path.startswith("+") or path[:-len("/Proof.antt")] in names)
+        names = set(names) | set(name for path in new if path.startswith("+") for name in path.split("/")[0][1:].split("+"))
+        known = [(name, noted) for name, noted in self.noted["from"].items() if name in self.answers["functions"]]
+        files = [(path, noted) for path, noted in self.noted["is"].items() if path in there]
+        sums = {"written by": "tools/arms.py", "from": dict(known + [(name, self.source(name)) for name in names]),
+                "is": dict(files + [(path, there[path]) for path in new])}
+        write(self.path, json.dumps(sums, indent=1, sort_keys=True, ensure_ascii=False) + "\n")
+
+    def stale(self):
+        """What is not as it was noted: a sentence for each."""
+        run = "run: python3 tools/arms.py %s" % self.crate
+        for name in self.answers["functions"]:
+            if self.noted["from"].get(name) != self.source(name):
+                yield "crates/%s: `%s`, its answers or the rules changed since its proof was written; %s %s" % (self.crate, name, run, name)
+        there = self.written()
+        for name in sorted(set(there) | set(self.noted["is"])):
+            if there.get(name) != self.noted["is"].get(name):
+                yield "crates/%s/proofs/%s is not what was written; %s" % (self.crate, name, run)
+
+
+def check(crates):
+    """Says what is stale, of these crates or of all that have answers."""
+    told = [line for crate in crates or sorted(path.split("/")[1] for path in glob.glob("crates/*/arms.json")) for line in Sums(crate).stale()]
+    for line in told:
+        print("arms: " + line)
+    return 1 if told else 0
+
+
 def main():
-    if len(sys.argv) < 2 or not os.path.exists("crates/%s/arms.json" % sys.argv[1]):
-        raise SystemExit("usage: tools/arms.py CRATE [FUNCTION..], from the root, where crates/CRATE/arms.json stands")
+    crates = sys.argv[2:] if sys.argv[1:2] == ["--check"] else sys.argv[1:2] or [""]
+    if not all(os.path.exists("crates/%s/arms.json" % crate) for crate in crates):
+        raise SystemExit("usage: tools/arms.py CRATE [FUNCTION..], or --check [CRATE..], from the root, where crates/CRATE/arms.json stands")
+    if sys.argv[1] == "--check":
+        raise SystemExit(check(crates))
     crate = sys.argv[1]
     answers = json.loads(read("crates/%s/arms.json" % crate))
     wanted = sys.argv[2:] or list(answers["functions"])
@@ -625,6 +721,7 @@ def main():
                 head = "-- `%s::%s` equals its layout. Written by tools/arms.py.\n" % (crate, name.replace("/", "::"))
                 write(path, head + with_uses(answers["use"], filled(function, files[path])))
                 print("wrote", name)
+    Sums(crate).note(wanted)
 
 
 if __name__ == "__main__":

@@ -1,11 +1,13 @@
 #!/usr/bin/env python3
-"""Tests of arms.py: the terms that it writes for small functions, from their places; the files of a cycle."""
+"""Tests of arms.py: the terms that it writes for small functions, from their places; the files of a cycle; that the proofs are what it wrote."""
 import glob
 import json
 import os
 import re
+import shutil
 import subprocess
 import sys
+import tempfile
 import unittest
 
 sys.path.insert(0, os.path.dirname(os.path.abspath(__file__)))
@@ -283,6 +285,66 @@ met t = lts.spec (claims t) (get-at t) get.Post (row-requires t) (returns t)
             crate, name = path.split("/")[1], path.split("/proofs/")[1][:-len(".antt")].replace("/", ".")
             module = "Rattle.%s.proofs.%s" % (crate, name)
             self.assertLessEqual(len(module.encode()), 249, "%s has %d bytes; see tools/test_schema.py" % (module, len(module.encode())))
+
+
+class Sums(unittest.TestCase):
+    """The proofs are what was written from the tree."""
+
+    def setUp(self):
+        self.root = tempfile.mkdtemp()
+        self.addCleanup(shutil.rmtree, self.root)
+        shutil.copy("crates.txt", self.root)
+        for path in glob.glob("crates/*/arms.json") + glob.glob("crates/*/src/*.rt") + glob.glob("crates/types/arms.sum"):
+            os.makedirs(os.path.join(self.root, os.path.dirname(path)), exist_ok=True)
+            shutil.copy(path, os.path.join(self.root, path))
+        shutil.copytree("crates/types/proofs", os.path.join(self.root, "crates/types/proofs"))
+
+    def check(self, *crates, root=None):
+        tool = os.path.abspath(os.path.join(os.path.dirname(os.path.abspath(__file__)), "arms.py"))
+        run = subprocess.run([sys.executable, tool, "--check", *crates], capture_output=True, text=True, cwd=root or self.root)
+        return run.returncode, run.stdout
+
+    def edit(self, path, old, new):
+        path = os.path.join(self.root, path)
+        with open(path, encoding="utf-8") as file:
+            text = file.read()
+        self.assertIn(old, text)
+        with open(path, "w", encoding="utf-8") as file:
+            file.write(text.replace(old, new, 1))
+
+    def test_the_tree(self):
+        self.assertEqual((0, ""), self.check(root="."))
+
+    def test_spaces_and_comments_do_not_count(self):
+        self.edit("crates/types/src/lib.rt", "    word(run, text, out, mem, words::STAR);", "    // A star.\n    word(run,  text, out, mem, words::STAR);")
+        self.edit("crates/types/proofs/ty_annotation/Proof.antt", "search needs", "search\n    needs")
+        self.assertEqual((0, ""), self.check("types"))
+
+    def test_a_changed_function(self):
+        self.edit("crates/types/src/lib.rt", "words::STAR", "words::ARROW")
+        code, told = self.check("types")
+        self.assertEqual(1, code)
+        self.assertRegex(told, r"^arms: crates/types: `star_ty`, .*run: python3 tools/arms\.py types star_ty\n$")
+
+    def test_changed_answers(self):
+        self.edit("crates/types/arms.json", '"ty_annotation": {', '"ty_annotation": { "skip": ["path"],')
+        self.assertIn("`ty_annotation`", self.check("types")[1])
+
+    def test_answers_of_a_lower_crate(self):
+        self.edit("crates/layout/arms.json", '"helpers/text_of": {\n      "as": "plain"', '"helpers/text_of": {\n      "as": "does"')
+        code, told = self.check("types")
+        self.assertEqual(1, code)
+        self.assertEqual(["get_ty", "ty_row"], sorted(re.findall(r"`(\w+)`", told)))
+
+    def test_a_proof_edited_by_hand(self):
+        path = glob.glob("crates/types/proofs/+*/Proof/StarTy.antt")[0]
+        self.edit(path, "search needs", "omega arith")
+        code, told = self.check("types")
+        self.assertEqual((1, "arms: %s is not what was written; run: python3 tools/arms.py types\n" % path), (code, told))
+
+    def test_a_proof_that_is_gone(self):
+        os.remove(os.path.join(self.root, "crates/types/proofs/ty_annotation/Proof.antt"))
+        self.assertIn("crates/types/proofs/ty_annotation/Proof.antt is not what was written", self.check("types")[1])
 
 
 if __name__ == "__main__":
