@@ -21,7 +21,7 @@ use Rattle.agreement.proofs.Layouts.{_▹_, no-more, pick}
 -- The walks one form deeper agree with the check where as many forms may stand inside one another.
 pub record Walks (p : Page) (d : ℕ) (ws : Walkers) : Type 0 where
   pub ty : {may : Bool} → Agrees p d may (Fields.form Ty) (ws .get-ty)
-  pub dropped-ty : Agrees p d true (Fields.form Ty) (dropped (ws .left) (ws .get-ty))
+  pub dropped-ty : Agrees p d true (Fields.form Ty) (dropped (ws .nesting) (ws .get-ty))
   pub pat : {may : Bool} → Agrees p d may (Fields.form Pat) (ws .get-pat)
   pub exp : {may : Bool} (c : Cfg) → Agrees p d may (Fields.form Exp) (ws .get-exp c)
   pub str-exp : {may : Bool} (c : Cfg) → Agrees p d may (Fields.form StrExp) (ws .get-str-exp c)

@@ -105,13 +105,13 @@ module _ (p : Page) (left a : ℕ) (short : length (p .rec) < stopNo) where
           (λ k f. end-below (p .rec) (length (p .tokens .starts)) stopNo short left (Fields.form Ty) a c)
 
 -- The walks have as many forms left as their number says.
-pub left-is : (n : ℕ) → walks n .left ≡ n
+pub left-is : (n : ℕ) → walks n .nesting ≡ n
 unfolding walks
 left-is zero = refl
 left-is (suc n) = refl
 
 pub dropped-by : {words : List ℕ} {p : Page} {n : ℕ} {w : Layout} {a r s : ℕ} {m o m′ o′ : List ℕ} → Walked true words p w (runOf a m o) r m′ o′
-    → Onwards (p .rec) (length (p .tokens .starts)) n a r s → Walked true words p (dropped (walks n .left) w) (runOf a m o) s m′ o′
+    → Onwards (p .rec) (length (p .tokens .starts)) n a r s → Walked true words p (dropped (walks n .nesting) w) (runOf a m o) s m′ o′
 unfolding runs outcome
 dropped-by {words} {p} {n} {w} {a} {r} {s} {m} {o} {m′} {o′} e f =
     subst (λ (l : ℕ). Walked true words p (dropped l w) (runOf a m o) s m′ o′) (sym (left-is n))

@@ -761,13 +761,13 @@ module _ {c new : Cfg} (e : Deeper c new) where
   pub deep-depth : new .depth ≡ c .depth + 1
   deep-depth = ap (λ x. x .depth) (e .is)
 
-  pub deep-left : new .left ≡ c .left
-  deep-left = ap (λ x. x .left) (e .is)
+  pub deep-left : new .nesting ≡ c .nesting
+  deep-left = ap (λ x. x .nesting) (e .is)
 
   pub sure-in : (w : Helpers.Cfg → Layout) {words m o m′ o′ : List ℕ} → Sure words (w (cfgOf new)) m o m′ o′ → Sure words (w (Helpers.deeper (cfgOf c))) m o m′ o′
   sure-in w {words} {m} {o} {m′} {o′} f = subst (λ x. Sure words (w (cfgOf x)) m o m′ o′) (e .is) f
 
   -- A function that is called with the deeper configuration.
   pub along : {words : List ℕ} {p : Page} {w : Helpers.Walkers → Helpers.Cfg → Layout} {g : Run} {r : ℕ} {m o : List ℕ} → Does words p new w g r m o
-      → Walked false words p (w (walks (c .left)) (Helpers.deeper (cfgOf c))) g r m o
-  along {words} {p} {w} {g} {r} {m} {o} f = subst (λ x. Walked false words p (w (walks (x .left)) (cfgOf x)) g r m o) (e .is) (f .is)
+      → Walked false words p (w (walks (c .nesting)) (Helpers.deeper (cfgOf c))) g r m o
+  along {words} {p} {w} {g} {r} {m} {o} f = subst (λ x. Walked false words p (w (walks (x .nesting)) (cfgOf x)) g r m o) (e .is) (f .is)

@@ -12,7 +12,7 @@ pub record Cfg : Type 0 where
 
 -- The walks of the forms one deeper, by 000's names, and how many forms may stand inside one another there.
 pub record Walkers : Type 0 where
-  pub left : ℕ
+  pub nesting : ℕ
   pub get-ty : Layout
   pub get-pat : Layout
   pub get-exp : Cfg → Layout

@@ -189,10 +189,10 @@ module _ (p : Page) where
   -- A type that stopped: what it did stays, and the walk goes on behind the whole of it. The type itself is there.
   -- As many forms may stand inside one another in it as the walk has left.
   unfoldable pub onwards : ℕ → ℕ → Outcome → Outcome
-  onwards left at (done next es) = done next es
-  onwards left at (stopped why es) =
+  onwards nesting at (done next es) = done next es
+  onwards nesting at (stopped why es) =
       elim (formAt (p .rec) Ty at) [
-        | some n ↦ elim (endWithin (p .rec) count left (Fields.form Ty) at)
+        | some n ↦ elim (endWithin (p .rec) count nesting (Fields.form Ty) at)
             [ ok next ↦ done next es | malformed place ↦ stopped (absent place) es | tooDeep place ↦ stopped (absent place) es ]
         | none ↦ stopped why es
       ]
@@ -231,6 +231,6 @@ module _ (p : Page) where
       orStop (formFits (p .rec) count DecOne at) at
       (λ n. bind (commented (aboveFirst (firstToken (p .rec) at)) (λ next. outcome line next) (at + formWidth DecOne))
       (λ next. outcome (arm n) next))
-  outcome (dropped left w) at = onwards left at (outcome w at)
+  outcome (dropped nesting w) at = onwards nesting at (outcome w at)
   outcome halt at = stopped (absent at) []
   outcome import at = stopped (imported at) []

@@ -194,7 +194,7 @@ pub record Ended (keep : Bool) (words : List ℕ) (p : Page) (f : ℕ → Outcom
 -- The same of a function whose layout is given by the walks one form deeper and the configuration. AppExp walks into its first
 -- expression before it asks what 000 asks before; so nothing is said of what stands in the words and in the output at a stop.
 pub record Does (words : List ℕ) (p : Page) (c : Cfg) (w : Helpers.Walkers → Helpers.Cfg → Layout) (g : Run) (r : ℕ) (m o : List ℕ) : Type 0 where
-  pub is : Walked false words p (w (walks (c .left)) (cfgOf c)) g r m o
+  pub is : Walked false words p (w (walks (c .nesting)) (cfgOf c)) g r m o
 
 -- The same of a function that asks no kinds. TupleTy goes on behind a type that stopped, so all is kept.
 pub record Plain (words x r starts lens : List ℕ) (w : Layout) (a : ℕ) (m o : List ℕ) (n : ℕ) (m′ o′ : List ℕ) : Type 0 where
@@ -216,7 +216,7 @@ pub record Sure (words : List ℕ) (w : Layout) (m o m′ o′ : List ℕ) : Typ
 
 -- A configuration is one deeper than another.
 pub record Deeper (c new : Cfg) : Type 0 where
-  pub is : new ≡ record { depth = c .depth + 1; blank = c .blank; left = c .left }
+  pub is : new ≡ record { depth = c .depth + 1; blank = c .blank; nesting = c .nesting }
 
 -- A token's text is written.
 pub record Texted (x starts lens : List ℕ) (k : ℕ) (m o m′ o′ : List ℕ) : Type 0 where
@@ -294,16 +294,16 @@ pub record CommentedAbove (words x kinds starts lens : List ℕ) (first : Option
 
 -- Where the walk goes on after a type whose answer is dropped, at the type's offset.
 unfoldable pub onwardsOf : List ℕ → ℕ → ℕ → ℕ → ℕ → ℕ
-onwardsOf r count left a n =
+onwardsOf r count nesting a n =
     cond (ltb n stopNo) n
     (elim (formAt r Ty a) [
-      | some k ↦ elim (endWithin r count left (Fields.form Ty) a)
+      | some k ↦ elim (endWithin r count nesting (Fields.form Ty) a)
           [ ok next ↦ next | malformed place ↦ stopNo + 2 * place | tooDeep place ↦ stopNo + 2 * place ]
       | none ↦ n
     ])
 
-pub record Onwards (r : List ℕ) (count left a n b : ℕ) : Type 0 where
-  pub is : length r < stopNo → b ≡ onwardsOf r count left a n
+pub record Onwards (r : List ℕ) (count nesting a n b : ℕ) : Type 0 where
+  pub is : length r < stopNo → b ≡ onwardsOf r count nesting a n
 
 -- The first name that an answer holds.
 abbrev pub nameIn : Code.Name → Name

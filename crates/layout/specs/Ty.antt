@@ -5,7 +5,7 @@ use Rattle.layout.specs.Layout.{Layout, _⨾_, word, text, group, maybe,
 use Rattle.layout.specs.Helpers.{Walkers, path, sep, for-each}
 
 module _ (ws : Walkers) where
-  open Walkers ws using (left, get-ty)
+  open Walkers ws using (nesting, get-ty)
 
   unfoldable pub ty-row : Layout
   ty-row = group (text ⨾ word " : " ⨾ get-ty)
@@ -37,7 +37,7 @@ module _ (ws : Walkers) where
   ty ConTy = ty-seq ⨾ path
   ty OneArgConTy = get-ty ⨾ word " " ⨾ path
   -- The first call of `get_ty` drops its result.
-  ty TupleTy = dropped left get-ty ⨾ star-tys
+  ty TupleTy = dropped nesting get-ty ⨾ star-tys
   ty FnTy = get-ty ⨾ word " -> " ⨾ get-ty
   ty ParenTy = word "(" ⨾ get-ty ⨾ word ")"
 

@@ -19,7 +19,7 @@ use Rattle.layout.specs.Meaning.{Page, Outcome, outcome}
 unfoldable pub walks : ℕ → Walkers
 walks zero =
     record {
-      left = zero;
+      nesting = zero;
       get-ty = halt;
       get-pat = halt;
       get-exp = λ c. halt;
@@ -29,7 +29,7 @@ walks zero =
     }
 walks (suc n) =
     record {
-      left = suc n;
+      nesting = suc n;
       get-ty = form Ty (λ k. getD (tys (walks n)) k halt);
       get-pat = form Pat (λ k. getD (pats (walks n)) k halt);
       get-exp = λ c. form Exp (λ k. getD (exps (walks n) c) k halt);

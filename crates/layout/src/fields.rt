@@ -139,8 +139,8 @@ pub fn declared(rec: &[u8], count: usize, at: usize) -> Declaration
 }
 
 // Where the walk goes on after a type at an offset whose answer is dropped: behind the whole of it.
-pub fn onwards(rec: &[u8], count: usize, left: usize, at: usize, r: usize) -> usize
-    ensures { λ b. ⌜ Onwards (now (rec .entry)) count left at r b ⌝ }
+pub fn onwards(rec: &[u8], count: usize, nesting: usize, at: usize, r: usize) -> usize
+    ensures { λ b. ⌜ Onwards (now (rec .entry)) count nesting at r b ⌝ }
 {
     if r < STOP {
         return r;
@@ -148,7 +148,7 @@ pub fn onwards(rec: &[u8], count: usize, left: usize, at: usize, r: usize) -> us
     let Number::Is(_k) = reader::commands::form_at(rec, Family::Ty, at) else {
         return r;
     };
-    let end = reader::tree::ty_end_within(rec, count, left, at);
+    let end = reader::tree::ty_end_within(rec, count, nesting, at);
     match end {
         Checked::Ok(next) => next,
         Checked::Malformed(place) => stop(place),

@@ -41,7 +41,7 @@ pub const SET: usize = 4;
 pub struct Cfg {
     pub depth: u64,
     pub blank: bool,
-    pub left: u64,
+    pub nesting: u64,
 }
 
 impl Cfg {
@@ -53,7 +53,7 @@ impl Cfg {
         Cfg {
             depth: self.depth + 1,
             blank: self.blank,
-            left: self.left,
+            nesting: self.nesting,
         }
     }
 }

@@ -181,7 +181,7 @@ pub fn selector_exp<'a>(
     at: usize,
     cfg: Cfg,
 ) -> usize
-    ensures { λ r. ⌜ plainly (exp· (walks (cfg .left)) (cfgOf cfg) SelectorExp) run text rec starts lens out mem at r ⌝ }
+    ensures { λ r. ⌜ plainly (exp· (walks (cfg .nesting)) (cfgOf cfg) SelectorExp) run text rec starts lens out mem at r ⌝ }
 {
     word(run, text, out, mem, words::HASH);
     text_of(run, text, rec, starts, lens, out, mem, at)
@@ -226,7 +226,7 @@ fn ty_bind<'a>(
     at: usize,
     cfg: Cfg,
 ) -> usize
-    ensures { λ r. ⌜ plainly (ty-bind (walks (cfg .left))) run text rec starts lens out mem at r ⌝ }
+    ensures { λ r. ⌜ plainly (ty-bind (walks (cfg .nesting))) run text rec starts lens out mem at r ⌝ }
 {
     let r1 = group(rec, at);
     let Status::Done(s1) = told(r1) else {
@@ -263,7 +263,7 @@ fn ty_binds<'a>(
     at: usize,
     cfg: Cfg,
 ) -> usize
-    ensures { λ r. ⌜ plainly (ty-binds (walks (cfg .left)) (cfgOf cfg)) run text rec starts lens out mem at r ⌝ }
+    ensures { λ r. ⌜ plainly (ty-binds (walks (cfg .nesting)) (cfgOf cfg)) run text rec starts lens out mem at r ⌝ }
 {
     let Read::Is(n, s0) = list(rec, at) else {
         return stop(at);
@@ -294,7 +294,7 @@ pub fn with_type<'a>(
     at: usize,
     cfg: Cfg,
 ) -> usize
-    ensures { λ r. ⌜ plainly (with-type (walks (cfg .left)) (cfgOf cfg)) run text rec starts lens out mem at r ⌝ }
+    ensures { λ r. ⌜ plainly (with-type (walks (cfg .nesting)) (cfgOf cfg)) run text rec starts lens out mem at r ⌝ }
 {
     if let Gone::Past(s0) = absent(rec, at) {
         return s0;
@@ -320,7 +320,7 @@ fn con_bind<'a>(
     at: usize,
     cfg: Cfg,
 ) -> usize
-    ensures { λ r. ⌜ plainly (con-bind (walks (cfg .left))) run text rec starts lens out mem at r ⌝ }
+    ensures { λ r. ⌜ plainly (con-bind (walks (cfg .nesting))) run text rec starts lens out mem at r ⌝ }
 {
     let r1 = group(rec, at);
     let Status::Done(s1) = told(r1) else {
@@ -357,7 +357,7 @@ fn con_lines<'a>(
     requires { ⌜ cfg .depth + 1 ≤ 1000 ⌝ }
     ensures { λ r. ⌜
         plainly
-        (wordOf· " =\n" ⨾ indentDeeper (cfgOf cfg) ⨾ items n (con-bind (walks (cfg .left))) (new-line (cfgOf cfg) "| " ⨾ con-bind (walks (cfg .left))))
+        (wordOf· " =\n" ⨾ indentDeeper (cfgOf cfg) ⨾ items n (con-bind (walks (cfg .nesting))) (new-line (cfgOf cfg) "| " ⨾ con-bind (walks (cfg .nesting))))
         run text rec starts lens out mem at r ⌝ }
 {
     word(run, text, out, mem, words::EQ_LINE);
@@ -390,7 +390,7 @@ fn con_row<'a>(
     n: usize,
 ) -> usize
     ensures { λ r. ⌜
-        plainly (wordOf· " = " ⨾ items n (con-bind (walks (cfg .left))) (wordOf· " | " ⨾ con-bind (walks (cfg .left))))
+        plainly (wordOf· " = " ⨾ items n (con-bind (walks (cfg .nesting))) (wordOf· " | " ⨾ con-bind (walks (cfg .nesting))))
         run text rec starts lens out mem at r ⌝ }
 {
     word(run, text, out, mem, words::EQ_SPACED);
@@ -422,7 +422,7 @@ fn con_binds<'a>(
     n: usize,
 ) -> usize
     requires { ⌜ cfg .depth + 1 ≤ 1000 ⌝ }
-    ensures { λ r. ⌜ plainly (con-binds (walks (cfg .left)) (cfgOf cfg) n) run text rec starts lens out mem at r ⌝ }
+    ensures { λ r. ⌜ plainly (con-binds (walks (cfg .nesting)) (cfgOf cfg) n) run text rec starts lens out mem at r ⌝ }
 {
     if 1 < n {
         return con_lines(run, text, rec, starts, lens, out, mem, at, cfg, n);
@@ -443,7 +443,7 @@ fn dat_bind<'a>(
     cfg: Cfg,
 ) -> usize
     requires { ⌜ cfg .depth + 1 ≤ 1000 ⌝ }
-    ensures { λ r. ⌜ plainly (dat-bind (walks (cfg .left)) (cfgOf cfg)) run text rec starts lens out mem at r ⌝ }
+    ensures { λ r. ⌜ plainly (dat-bind (walks (cfg .nesting)) (cfgOf cfg)) run text rec starts lens out mem at r ⌝ }
 {
     let r1 = group(rec, at);
     let Status::Done(s1) = told(r1) else {
@@ -480,7 +480,7 @@ pub fn dat_binds<'a>(
     cfg: Cfg,
 ) -> usize
     requires { ⌜ cfg .depth + 1 ≤ 1000 ⌝ }
-    ensures { λ r. ⌜ plainly (dat-binds (walks (cfg .left)) (cfgOf cfg)) run text rec starts lens out mem at r ⌝ }
+    ensures { λ r. ⌜ plainly (dat-binds (walks (cfg .nesting)) (cfgOf cfg)) run text rec starts lens out mem at r ⌝ }
 {
     let Read::Is(n, s0) = list(rec, at) else {
         return stop(at);
@@ -511,7 +511,7 @@ pub fn ty_dec<'a>(
     at: usize,
     cfg: Cfg,
 ) -> usize
-    ensures { λ r. ⌜ plainly (dec-one· (walks (cfg .left)) (cfgOf cfg) TyDec) run text rec starts lens out mem at r ⌝ }
+    ensures { λ r. ⌜ plainly (dec-one· (walks (cfg .nesting)) (cfgOf cfg) TyDec) run text rec starts lens out mem at r ⌝ }
 {
     let r1 = text_of(run, text, rec, starts, lens, out, mem, at);
     let Status::Done(s1) = told(r1) else {
@@ -534,7 +534,7 @@ pub fn dat_dec<'a>(
     cfg: Cfg,
 ) -> usize
     requires { ⌜ cfg .depth + 1 ≤ 1000 ⌝ }
-    ensures { λ r. ⌜ plainly (dec-one· (walks (cfg .left)) (cfgOf cfg) DatDec) run text rec starts lens out mem at r ⌝ }
+    ensures { λ r. ⌜ plainly (dec-one· (walks (cfg .nesting)) (cfgOf cfg) DatDec) run text rec starts lens out mem at r ⌝ }
 {
     word(run, text, out, mem, words::DATATYPE);
     let r1 = dat_binds(run, text, rec, starts, lens, out, mem, at, cfg);
@@ -556,7 +556,7 @@ pub fn dat_copy_dec<'a>(
     at: usize,
     cfg: Cfg,
 ) -> usize
-    ensures { λ r. ⌜ plainly (dec-one· (walks (cfg .left)) (cfgOf cfg) DatCopyDec) run text rec starts lens out mem at r ⌝ }
+    ensures { λ r. ⌜ plainly (dec-one· (walks (cfg .nesting)) (cfgOf cfg) DatCopyDec) run text rec starts lens out mem at r ⌝ }
 {
     word(run, text, out, mem, words::DATATYPE);
     let r1 = text_of(run, text, rec, starts, lens, out, mem, at);
@@ -580,7 +580,7 @@ pub fn open_dec<'a>(
     at: usize,
     cfg: Cfg,
 ) -> usize
-    ensures { λ r. ⌜ plainly (dec-one· (walks (cfg .left)) (cfgOf cfg) OpenDec) run text rec starts lens out mem at r ⌝ }
+    ensures { λ r. ⌜ plainly (dec-one· (walks (cfg .nesting)) (cfgOf cfg) OpenDec) run text rec starts lens out mem at r ⌝ }
 {
     word(run, text, out, mem, words::OPEN);
     let Read::Is(n, s1) = list(rec, at) else {
@@ -612,7 +612,7 @@ fn names_space<'a>(
     at: usize,
     cfg: Cfg,
 ) -> usize
-    ensures { λ r. ⌜ plainly (names-space (walks (cfg .left))) run text rec starts lens out mem at r ⌝ }
+    ensures { λ r. ⌜ plainly (names-space (walks (cfg .nesting))) run text rec starts lens out mem at r ⌝ }
 {
     let Read::Is(n, s0) = list(rec, at) else {
         return stop(at);
@@ -643,7 +643,7 @@ fn int_lit<'a>(
     at: usize,
     cfg: Cfg,
 ) -> usize
-    ensures { λ r. ⌜ plainly (int-lit (walks (cfg .left))) run text rec starts lens out mem at r ⌝ }
+    ensures { λ r. ⌜ plainly (int-lit (walks (cfg .nesting))) run text rec starts lens out mem at r ⌝ }
 {
     if let Gone::Past(s0) = absent(rec, at) {
         return s0;
@@ -670,7 +670,7 @@ pub fn infix_dec<'a>(
     w: usize,
 ) -> usize
     ensures { λ r. ⌜
-        plainly (wordOf· (wordOf w) ⨾ int-lit (walks (cfg .left)) ⨾ names-space (walks (cfg .left)))
+        plainly (wordOf· (wordOf w) ⨾ int-lit (walks (cfg .nesting)) ⨾ names-space (walks (cfg .nesting)))
         run text rec starts lens out mem at r ⌝ }
 {
     word(run, text, out, mem, w);
@@ -693,7 +693,7 @@ pub fn nonfix_dec<'a>(
     at: usize,
     cfg: Cfg,
 ) -> usize
-    ensures { λ r. ⌜ plainly (dec-one· (walks (cfg .left)) (cfgOf cfg) NonfixDec) run text rec starts lens out mem at r ⌝ }
+    ensures { λ r. ⌜ plainly (dec-one· (walks (cfg .nesting)) (cfgOf cfg) NonfixDec) run text rec starts lens out mem at r ⌝ }
 {
     word(run, text, out, mem, words::NONFIX);
     names_space(run, text, rec, starts, lens, out, mem, at, cfg)
@@ -712,7 +712,7 @@ fn prefix_head<'a>(
     at: usize,
     cfg: Cfg,
 ) -> usize
-    ensures { λ r. ⌜ plainly (PrefixFunBindCaseHead (walks (cfg .left))) run text rec starts lens out mem at r ⌝ }
+    ensures { λ r. ⌜ plainly (PrefixFunBindCaseHead (walks (cfg .nesting))) run text rec starts lens out mem at r ⌝ }
 {
     let r1 = word_if(run, text, rec, starts, lens, out, mem, at, words::OP_SPACE);
     let Status::Done(s1) = told(r1) else {
@@ -733,7 +733,7 @@ fn infix_pats<'a>(
     at: usize,
     cfg: Cfg,
 ) -> usize
-    ensures { λ r. ⌜ plainly (infix-head (walks (cfg .left))) run text rec starts lens out mem at r ⌝ }
+    ensures { λ r. ⌜ plainly (infix-head (walks (cfg .nesting))) run text rec starts lens out mem at r ⌝ }
 {
     let r1 = get_pat(run, text, rec, starts, lens, out, mem, at, cfg);
     let Status::Done(s1) = told(r1) else {
@@ -760,7 +760,7 @@ fn infix_in_parens<'a>(
     at: usize,
     cfg: Cfg,
 ) -> usize
-    ensures { λ r. ⌜ plainly (wordOf· "(" ⨾ infix-head (walks (cfg .left)) ⨾ wordOf· ")") run text rec starts lens out mem at r ⌝ }
+    ensures { λ r. ⌜ plainly (wordOf· "(" ⨾ infix-head (walks (cfg .nesting)) ⨾ wordOf· ")") run text rec starts lens out mem at r ⌝ }
 {
     word(run, text, out, mem, words::L_ROUND);
     let r1 = infix_pats(run, text, rec, starts, lens, out, mem, at, cfg);
@@ -783,7 +783,7 @@ fn infix_head<'a>(
     at: usize,
     cfg: Cfg,
 ) -> usize
-    ensures { λ r. ⌜ plainly (InfixFunBindCaseHead (walks (cfg .left))) run text rec starts lens out mem at r ⌝ }
+    ensures { λ r. ⌜ plainly (InfixFunBindCaseHead (walks (cfg .nesting))) run text rec starts lens out mem at r ⌝ }
 {
     let given = present(rec, starts.len(), at);
     match given {
@@ -806,7 +806,7 @@ fn case_head_of<'a>(
     cfg: Cfg,
     which: usize,
 ) -> usize
-    ensures { λ r. ⌜ plainly (case-head (walks (cfg .left)) which) run text rec starts lens out mem at r ⌝ }
+    ensures { λ r. ⌜ plainly (case-head (walks (cfg .nesting)) which) run text rec starts lens out mem at r ⌝ }
 {
     match which {
         0 => prefix_head(run, text, rec, starts, lens, out, mem, at, cfg),
@@ -827,7 +827,7 @@ pub fn case_head<'a>(
     at: usize,
     cfg: Cfg,
 ) -> usize
-    ensures { λ r. ⌜ plainly (choice· (case-head (walks (cfg .left)))) run text rec starts lens out mem at r ⌝ }
+    ensures { λ r. ⌜ plainly (choice· (case-head (walks (cfg .nesting)))) run text rec starts lens out mem at r ⌝ }
 {
     let Read::Is(k, s1) = choice(rec, at) else {
         return stop(at);
@@ -847,7 +847,7 @@ pub fn case_pats<'a>(
     at: usize,
     cfg: Cfg,
 ) -> usize
-    ensures { λ r. ⌜ plainly (case-pats (walks (cfg .left))) run text rec starts lens out mem at r ⌝ }
+    ensures { λ r. ⌜ plainly (case-pats (walks (cfg .nesting))) run text rec starts lens out mem at r ⌝ }
 {
     let Read::Is(n, s0) = list(rec, at) else {
         return stop(at);
@@ -879,7 +879,7 @@ pub fn ex_bind_of<'a>(
     at: usize,
     cfg: Cfg,
 ) -> usize
-    ensures { λ r. ⌜ plainly (ex-bind-of (walks (cfg .left))) run text rec starts lens out mem at r ⌝ }
+    ensures { λ r. ⌜ plainly (ex-bind-of (walks (cfg .nesting))) run text rec starts lens out mem at r ⌝ }
 {
     word(run, text, out, mem, words::OF);
     get_ty(run, text, rec, starts, lens, out, mem, at, cfg)
@@ -897,7 +897,7 @@ fn sharing_tail<'a>(
     at: usize,
     cfg: Cfg,
 ) -> usize
-    ensures { λ r. ⌜ plainly (sharing-tail (walks (cfg .left)) (cfgOf cfg)) run text rec starts lens out mem at r ⌝ }
+    ensures { λ r. ⌜ plainly (sharing-tail (walks (cfg .nesting)) (cfgOf cfg)) run text rec starts lens out mem at r ⌝ }
 {
     let r1 = group(rec, at);
     let Status::Done(s1) = told(r1) else {
@@ -938,7 +938,7 @@ pub fn sharing_tails<'a>(
     at: usize,
     cfg: Cfg,
 ) -> usize
-    ensures { λ r. ⌜ plainly (sharing-tails (walks (cfg .left)) (cfgOf cfg)) run text rec starts lens out mem at r ⌝ }
+    ensures { λ r. ⌜ plainly (sharing-tails (walks (cfg .nesting)) (cfgOf cfg)) run text rec starts lens out mem at r ⌝ }
 {
     let Read::Is(n, s0) = list(rec, at) else {
         return stop(at);

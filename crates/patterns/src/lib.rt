@@ -36,7 +36,7 @@ fn con_arg_there<'a>(
     at: usize,
     cfg: Cfg,
 ) -> usize
-    ensures { λ r. ⌜ plainly (con-arg-there (walks (cfg .left))) run text rec starts lens out mem at r ⌝ }
+    ensures { λ r. ⌜ plainly (con-arg-there (walks (cfg .nesting))) run text rec starts lens out mem at r ⌝ }
 {
     word(run, text, out, mem, words::SPACE);
     get_pat(run, text, rec, starts, lens, out, mem, at, cfg)
@@ -54,7 +54,7 @@ fn con_arg<'a>(
     at: usize,
     cfg: Cfg,
 ) -> usize
-    ensures { λ r. ⌜ plainly (con-arg (walks (cfg .left))) run text rec starts lens out mem at r ⌝ }
+    ensures { λ r. ⌜ plainly (con-arg (walks (cfg .nesting))) run text rec starts lens out mem at r ⌝ }
 {
     let gone = absent(rec, at);
     match gone {
@@ -75,7 +75,7 @@ fn con_pat<'a>(
     at: usize,
     cfg: Cfg,
 ) -> usize
-    ensures { λ r. ⌜ plainly (pat· (walks (cfg .left)) ConPat) run text rec starts lens out mem at r ⌝ }
+    ensures { λ r. ⌜ plainly (pat· (walks (cfg .nesting)) ConPat) run text rec starts lens out mem at r ⌝ }
 {
     let r1 = op_path(run, text, rec, starts, lens, out, mem, at);
     let Status::Done(s1) = told(r1) else {
@@ -96,7 +96,7 @@ fn lab_and_pat<'a>(
     at: usize,
     cfg: Cfg,
 ) -> usize
-    ensures { λ r. ⌜ plainly (LabAndPatPatRow (walks (cfg .left))) run text rec starts lens out mem at r ⌝ }
+    ensures { λ r. ⌜ plainly (LabAndPatPatRow (walks (cfg .nesting))) run text rec starts lens out mem at r ⌝ }
 {
     let r1 = text_of(run, text, rec, starts, lens, out, mem, at);
     let Status::Done(s1) = told(r1) else {
@@ -118,7 +118,7 @@ fn as_tail_there<'a>(
     at: usize,
     cfg: Cfg,
 ) -> usize
-    ensures { λ r. ⌜ plainly (as-tail-there (walks (cfg .left))) run text rec starts lens out mem at r ⌝ }
+    ensures { λ r. ⌜ plainly (as-tail-there (walks (cfg .nesting))) run text rec starts lens out mem at r ⌝ }
 {
     let r1 = group(rec, at);
     let Status::Done(s1) = told(r1) else {
@@ -140,7 +140,7 @@ fn as_tail<'a>(
     at: usize,
     cfg: Cfg,
 ) -> usize
-    ensures { λ r. ⌜ plainly (as-tail (walks (cfg .left))) run text rec starts lens out mem at r ⌝ }
+    ensures { λ r. ⌜ plainly (as-tail (walks (cfg .nesting))) run text rec starts lens out mem at r ⌝ }
 {
     let gone = absent(rec, at);
     match gone {
@@ -161,7 +161,7 @@ fn lab_pat<'a>(
     at: usize,
     cfg: Cfg,
 ) -> usize
-    ensures { λ r. ⌜ plainly (LabPatRow (walks (cfg .left))) run text rec starts lens out mem at r ⌝ }
+    ensures { λ r. ⌜ plainly (LabPatRow (walks (cfg .nesting))) run text rec starts lens out mem at r ⌝ }
 {
     let r1 = text_of(run, text, rec, starts, lens, out, mem, at);
     let Status::Done(s1) = told(r1) else {
@@ -187,7 +187,7 @@ fn row_inner<'a>(
     cfg: Cfg,
     which: usize,
 ) -> usize
-    ensures { λ r. ⌜ plainly (pat-row-inner (walks (cfg .left)) which) run text rec starts lens out mem at r ⌝ }
+    ensures { λ r. ⌜ plainly (pat-row-inner (walks (cfg .nesting)) which) run text rec starts lens out mem at r ⌝ }
 {
     match which {
         0 => {
@@ -212,7 +212,7 @@ fn row<'a>(
     at: usize,
     cfg: Cfg,
 ) -> usize
-    ensures { λ r. ⌜ plainly (pat-row (walks (cfg .left))) run text rec starts lens out mem at r ⌝ }
+    ensures { λ r. ⌜ plainly (pat-row (walks (cfg .nesting))) run text rec starts lens out mem at r ⌝ }
 {
     let r1 = group(rec, at);
     let Status::Done(s1) = told(r1) else {
@@ -236,7 +236,7 @@ fn rows<'a>(
     at: usize,
     cfg: Cfg,
 ) -> usize
-    ensures { λ r. ⌜ plainly (pat-rows (walks (cfg .left))) run text rec starts lens out mem at r ⌝ }
+    ensures { λ r. ⌜ plainly (pat-rows (walks (cfg .nesting))) run text rec starts lens out mem at r ⌝ }
 {
     let Read::Is(n, s0) = list(rec, at) else {
         return stop(at);
@@ -267,7 +267,7 @@ fn record_pat<'a>(
     at: usize,
     cfg: Cfg,
 ) -> usize
-    ensures { λ r. ⌜ plainly (pat· (walks (cfg .left)) RecordPat) run text rec starts lens out mem at r ⌝ }
+    ensures { λ r. ⌜ plainly (pat· (walks (cfg .nesting)) RecordPat) run text rec starts lens out mem at r ⌝ }
 {
     word(run, text, out, mem, words::L_CURLY);
     let r1 = rows(run, text, rec, starts, lens, out, mem, at, cfg);
@@ -290,7 +290,7 @@ fn paren_pat<'a>(
     at: usize,
     cfg: Cfg,
 ) -> usize
-    ensures { λ r. ⌜ plainly (pat· (walks (cfg .left)) ParenPat) run text rec starts lens out mem at r ⌝ }
+    ensures { λ r. ⌜ plainly (pat· (walks (cfg .nesting)) ParenPat) run text rec starts lens out mem at r ⌝ }
 {
     word(run, text, out, mem, words::L_ROUND);
     let r1 = get_pat(run, text, rec, starts, lens, out, mem, at, cfg);
@@ -313,7 +313,7 @@ fn pat_args<'a>(
     at: usize,
     cfg: Cfg,
 ) -> usize
-    ensures { λ r. ⌜ plainly (pat-args (walks (cfg .left))) run text rec starts lens out mem at r ⌝ }
+    ensures { λ r. ⌜ plainly (pat-args (walks (cfg .nesting))) run text rec starts lens out mem at r ⌝ }
 {
     let Read::Is(n, s0) = list(rec, at) else {
         return stop(at);
@@ -348,7 +348,7 @@ fn tuple_pat<'a>(
     at: usize,
     cfg: Cfg,
 ) -> usize
-    ensures { λ r. ⌜ plainly (pat· (walks (cfg .left)) TuplePat) run text rec starts lens out mem at r ⌝ }
+    ensures { λ r. ⌜ plainly (pat· (walks (cfg .nesting)) TuplePat) run text rec starts lens out mem at r ⌝ }
 {
     word(run, text, out, mem, words::L_ROUND);
     let r1 = pat_args(run, text, rec, starts, lens, out, mem, at, cfg);
@@ -371,7 +371,7 @@ fn list_pat<'a>(
     at: usize,
     cfg: Cfg,
 ) -> usize
-    ensures { λ r. ⌜ plainly (pat· (walks (cfg .left)) ListPat) run text rec starts lens out mem at r ⌝ }
+    ensures { λ r. ⌜ plainly (pat· (walks (cfg .nesting)) ListPat) run text rec starts lens out mem at r ⌝ }
 {
     word(run, text, out, mem, words::L_SQUARE);
     let r1 = pat_args(run, text, rec, starts, lens, out, mem, at, cfg);
@@ -394,7 +394,7 @@ fn vector_pat<'a>(
     at: usize,
     cfg: Cfg,
 ) -> usize
-    ensures { λ r. ⌜ plainly (pat· (walks (cfg .left)) VectorPat) run text rec starts lens out mem at r ⌝ }
+    ensures { λ r. ⌜ plainly (pat· (walks (cfg .nesting)) VectorPat) run text rec starts lens out mem at r ⌝ }
 {
     word(run, text, out, mem, words::HASH_L_SQUARE);
     let r1 = group(rec, at);
@@ -421,7 +421,7 @@ fn infix_pat<'a>(
     at: usize,
     cfg: Cfg,
 ) -> usize
-    ensures { λ r. ⌜ plainly (pat· (walks (cfg .left)) InfixPat) run text rec starts lens out mem at r ⌝ }
+    ensures { λ r. ⌜ plainly (pat· (walks (cfg .nesting)) InfixPat) run text rec starts lens out mem at r ⌝ }
 {
     let r1 = get_pat(run, text, rec, starts, lens, out, mem, at, cfg);
     let Status::Done(s1) = told(r1) else {
@@ -448,7 +448,7 @@ fn typed_pat<'a>(
     at: usize,
     cfg: Cfg,
 ) -> usize
-    ensures { λ r. ⌜ plainly (pat· (walks (cfg .left)) TypedPat) run text rec starts lens out mem at r ⌝ }
+    ensures { λ r. ⌜ plainly (pat· (walks (cfg .nesting)) TypedPat) run text rec starts lens out mem at r ⌝ }
 {
     let r1 = get_pat(run, text, rec, starts, lens, out, mem, at, cfg);
     let Status::Done(s1) = told(r1) else {
@@ -470,7 +470,7 @@ fn as_pat<'a>(
     at: usize,
     cfg: Cfg,
 ) -> usize
-    ensures { λ r. ⌜ plainly (pat· (walks (cfg .left)) AsPat) run text rec starts lens out mem at r ⌝ }
+    ensures { λ r. ⌜ plainly (pat· (walks (cfg .nesting)) AsPat) run text rec starts lens out mem at r ⌝ }
 {
     let r1 = get_pat(run, text, rec, starts, lens, out, mem, at, cfg);
     let Status::Done(s1) = told(r1) else {
@@ -496,7 +496,7 @@ fn or_pat<'a>(
     at: usize,
     cfg: Cfg,
 ) -> usize
-    ensures { λ r. ⌜ plainly (pat· (walks (cfg .left)) OrPat) run text rec starts lens out mem at r ⌝ }
+    ensures { λ r. ⌜ plainly (pat· (walks (cfg .nesting)) OrPat) run text rec starts lens out mem at r ⌝ }
 {
     let r1 = get_pat(run, text, rec, starts, lens, out, mem, at, cfg);
     let Status::Done(s1) = told(r1) else {
@@ -518,9 +518,9 @@ pub fn get_pat<'a>(
     at: usize,
     cfg: Cfg,
 ) -> usize
-    ensures { λ r. ⌜ plainly (walks (cfg .left) .get-pat) run text rec starts lens out mem at r ⌝ }
+    ensures { λ r. ⌜ plainly (walks (cfg .nesting) .get-pat) run text rec starts lens out mem at r ⌝ }
 {
-    let left = cfg.left;
+    let left = cfg.nesting;
     if left == 0 {
         return stop(at);
     }
@@ -530,7 +530,7 @@ pub fn get_pat<'a>(
     let sub = Cfg {
         depth: cfg.depth,
         blank: cfg.blank,
-        left: left - 1,
+        nesting: left - 1,
     };
     match k {
         0 => {

@@ -81,7 +81,7 @@ module _ (rec : List ℕ) (count : ℕ) where
 
   -- The end of a field, where at most this many more forms may stand inside one another.
   abbrev pub endWithin : ℕ → Fields → ℕ → Checked
-  endWithin left f at = fields (formCheck left) true f at
+  endWithin nesting f at = fields (formCheck nesting) true f at
 
   -- The list `root.decs()`, then nothing: the place of bytes left over is that of the first.
   unfoldable pub treeCheck : ℕ → Checked

@@ -26,26 +26,26 @@ module _ (rec : List ℕ) (count : ℕ) where
   -- What is left of a node at an offset once its command is read.
   unfoldable pub opened : ℕ → Opened → Checked
   opened at (Opening.Token next) = ok next
-  opened at (Opening.Inside codes next left) = fields rec count (formCheck rec count left) true (fieldsOf codes) next
+  opened at (Opening.Inside codes next nesting) = fields rec count (formCheck rec count nesting) true (fieldsOf codes) next
   opened at Opening.Malformed = malformed at
   opened at Opening.TooDeep = tooDeep at
 
   -- A command that opens a node stands in the record, and the fields inside behind it.
   abbrev pub ahead : ℕ → Opened → Type 0
   ahead at (Opening.Token next) = Unit {0}
-  ahead at (Opening.Inside codes next left) = (at < next) × (next ≤ length rec)
+  ahead at (Opening.Inside codes next nesting) = (at < next) × (next ≤ length rec)
   ahead at Opening.Malformed = Unit {0}
   ahead at Opening.TooDeep = Unit {0}
 
 -- A node, where this many more forms may stand inside one another.
-pub record Opens (rec : List ℕ) (count left : ℕ) (f : Fields) (at : ℕ) (r : Opened) : Type 0 where
-  pub is : opened rec count at r ≡ fields rec count (formCheck rec count left) false f at
+pub record Opens (rec : List ℕ) (count nesting : ℕ) (f : Fields) (at : ℕ) (r : Opened) : Type 0 where
+  pub is : opened rec count at r ≡ fields rec count (formCheck rec count nesting) false f at
   pub on : ahead rec count at r
 
 -- What is left of a field at an offset once its own command is read: so many nodes.
 unfoldable pub ran : List ℕ → ℕ → ℕ → ℕ → Run → Checked
-ran rec count left at (Running.Nodes code n next) = items n (λ x. fields rec count (formCheck rec count left) false (node code) x) next
-ran rec count left at Running.Malformed = malformed at
+ran rec count nesting at (Running.Nodes code n next) = items n (λ x. fields rec count (formCheck rec count nesting) false (node code) x) next
+ran rec count nesting at Running.Malformed = malformed at
 
 -- Its nodes do not stand before it.
 abbrev pub onwards : ℕ → Run → Type 0
@@ -54,7 +54,7 @@ onwards at Running.Malformed = Unit {0}
 
 -- The field of a code, whatever the number of tokens and of forms that may stand inside one another.
 pub record Runs (rec : List ℕ) (code at : ℕ) (r : Run) : Type 0 where
-  pub is : (count left : ℕ) → ran rec count left at r ≡ fields rec count (formCheck rec count left) true (fieldOf code) at
+  pub is : (count nesting : ℕ) → ran rec count nesting at r ≡ fields rec count (formCheck rec count nesting) true (fieldOf code) at
   pub on : onwards at r
 
 -- A choice between the nodes of rows in a row.
@@ -63,13 +63,13 @@ choiceOf c = choice (c .n) (λ which. getD rows (c .row + which) Fields.none)
 
 -- It reads as the node of a code.
 pub record Chooses (code : ℕ) (c : Choice) : Type 0 where
-  pub reads : {rec : List ℕ} {count left at : ℕ} {r : Opened} → Opens rec count left (choiceOf c) at r → Opens rec count left (node code) at r
+  pub reads : {rec : List ℕ} {count nesting at : ℕ} {r : Opened} → Opens rec count nesting (choiceOf c) at r → Opens rec count nesting (node code) at r
 
-pub record FieldsEnd (rec : List ℕ) (count left : ℕ) (may : Bool) (f : Fields) (at : ℕ) (r : Code.Checked) : Type 0 where
-  pub is : checkedIn r ≡ fields rec count (formCheck rec count left) may f at
+pub record FieldsEnd (rec : List ℕ) (count nesting : ℕ) (may : Bool) (f : Fields) (at : ℕ) (r : Code.Checked) : Type 0 where
+  pub is : checkedIn r ≡ fields rec count (formCheck rec count nesting) may f at
 
-pub record ItemsEnd (rec : List ℕ) (count left n : ℕ) (f : Fields) (at : ℕ) (r : Code.Checked) : Type 0 where
-  pub is : checkedIn r ≡ items n (λ next. fields rec count (formCheck rec count left) false f next) at
+pub record ItemsEnd (rec : List ℕ) (count nesting n : ℕ) (f : Fields) (at : ℕ) (r : Code.Checked) : Type 0 where
+  pub is : checkedIn r ≡ items n (λ next. fields rec count (formCheck rec count nesting) false f next) at
 
 -- A field, read by itself.
 pub record Ends (rec : List ℕ) (count : ℕ) (f : Fields) (at : ℕ) (r : Code.Checked) : Type 0 where

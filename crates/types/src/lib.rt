@@ -33,7 +33,7 @@ fn ty_row<'a>(
     at: usize,
     cfg: Cfg,
 ) -> usize
-    ensures { λ r. ⌜ plainly (ty-row (walks (cfg .left))) run text rec starts lens out mem at r ⌝ }
+    ensures { λ r. ⌜ plainly (ty-row (walks (cfg .nesting))) run text rec starts lens out mem at r ⌝ }
 {
     let r1 = group(rec, at);
     let Status::Done(s1) = told(r1) else {
@@ -59,7 +59,7 @@ fn ty_rows<'a>(
     at: usize,
     cfg: Cfg,
 ) -> usize
-    ensures { λ r. ⌜ plainly (ty-rows (walks (cfg .left))) run text rec starts lens out mem at r ⌝ }
+    ensures { λ r. ⌜ plainly (ty-rows (walks (cfg .nesting))) run text rec starts lens out mem at r ⌝ }
 {
     let Read::Is(n, s0) = list(rec, at) else {
         return stop(at);
@@ -90,7 +90,7 @@ fn record_ty<'a>(
     at: usize,
     cfg: Cfg,
 ) -> usize
-    ensures { λ r. ⌜ plainly (ty· (walks (cfg .left)) RecordTy) run text rec starts lens out mem at r ⌝ }
+    ensures { λ r. ⌜ plainly (ty· (walks (cfg .nesting)) RecordTy) run text rec starts lens out mem at r ⌝ }
 {
     word(run, text, out, mem, words::L_CURLY);
     let r1 = ty_rows(run, text, rec, starts, lens, out, mem, at, cfg);
@@ -113,7 +113,7 @@ fn ty_args<'a>(
     at: usize,
     cfg: Cfg,
 ) -> usize
-    ensures { λ r. ⌜ plainly (ty-args (walks (cfg .left))) run text rec starts lens out mem at r ⌝ }
+    ensures { λ r. ⌜ plainly (ty-args (walks (cfg .nesting))) run text rec starts lens out mem at r ⌝ }
 {
     let Read::Is(n, s0) = list(rec, at) else {
         return stop(at);
@@ -148,7 +148,7 @@ fn ty_seq<'a>(
     at: usize,
     cfg: Cfg,
 ) -> usize
-    ensures { λ r. ⌜ plainly (ty-seq (walks (cfg .left))) run text rec starts lens out mem at r ⌝ }
+    ensures { λ r. ⌜ plainly (ty-seq (walks (cfg .nesting))) run text rec starts lens out mem at r ⌝ }
 {
     let gone = absent(rec, at);
     match gone {
@@ -169,7 +169,7 @@ fn ty_seq_there<'a>(
     at: usize,
     cfg: Cfg,
 ) -> usize
-    ensures { λ r. ⌜ plainly (ty-seq-there (walks (cfg .left))) run text rec starts lens out mem at r ⌝ }
+    ensures { λ r. ⌜ plainly (ty-seq-there (walks (cfg .nesting))) run text rec starts lens out mem at r ⌝ }
 {
     let r1 = group(rec, at);
     let Status::Done(s1) = told(r1) else {
@@ -196,7 +196,7 @@ fn con_ty<'a>(
     at: usize,
     cfg: Cfg,
 ) -> usize
-    ensures { λ r. ⌜ plainly (ty· (walks (cfg .left)) ConTy) run text rec starts lens out mem at r ⌝ }
+    ensures { λ r. ⌜ plainly (ty· (walks (cfg .nesting)) ConTy) run text rec starts lens out mem at r ⌝ }
 {
     let r1 = ty_seq(run, text, rec, starts, lens, out, mem, at, cfg);
     let Status::Done(s1) = told(r1) else {
@@ -217,7 +217,7 @@ fn one_arg_con_ty<'a>(
     at: usize,
     cfg: Cfg,
 ) -> usize
-    ensures { λ r. ⌜ plainly (ty· (walks (cfg .left)) OneArgConTy) run text rec starts lens out mem at r ⌝ }
+    ensures { λ r. ⌜ plainly (ty· (walks (cfg .nesting)) OneArgConTy) run text rec starts lens out mem at r ⌝ }
 {
     let r1 = get_ty(run, text, rec, starts, lens, out, mem, at, cfg);
     let Status::Done(s1) = told(r1) else {
@@ -239,7 +239,7 @@ fn star_ty<'a>(
     at: usize,
     cfg: Cfg,
 ) -> usize
-    ensures { λ r. ⌜ plainly (star-ty (walks (cfg .left))) run text rec starts lens out mem at r ⌝ }
+    ensures { λ r. ⌜ plainly (star-ty (walks (cfg .nesting))) run text rec starts lens out mem at r ⌝ }
 {
     let r1 = group(rec, at);
     let Status::Done(s1) = told(r1) else {
@@ -261,7 +261,7 @@ fn star_tys<'a>(
     at: usize,
     cfg: Cfg,
 ) -> usize
-    ensures { λ r. ⌜ plainly (star-tys (walks (cfg .left))) run text rec starts lens out mem at r ⌝ }
+    ensures { λ r. ⌜ plainly (star-tys (walks (cfg .nesting))) run text rec starts lens out mem at r ⌝ }
 {
     let Read::Is(n, s0) = list(rec, at) else {
         return stop(at);
@@ -291,11 +291,11 @@ fn tuple_ty<'a>(
     at: usize,
     cfg: Cfg,
 ) -> usize
-    ensures { λ r. ⌜ plainly (ty· (walks (cfg .left)) TupleTy) run text rec starts lens out mem at r ⌝ }
+    ensures { λ r. ⌜ plainly (ty· (walks (cfg .nesting)) TupleTy) run text rec starts lens out mem at r ⌝ }
 {
     let count = starts.len();
     let r0 = get_ty(run, text, rec, starts, lens, out, mem, at, cfg);
-    let r1 = onwards(rec, count, cfg.left as usize, at, r0);
+    let r1 = onwards(rec, count, cfg.nesting as usize, at, r0);
     let Status::Done(s1) = told(r1) else {
         return r1;
     };
@@ -314,7 +314,7 @@ fn fn_ty<'a>(
     at: usize,
     cfg: Cfg,
 ) -> usize
-    ensures { λ r. ⌜ plainly (ty· (walks (cfg .left)) FnTy) run text rec starts lens out mem at r ⌝ }
+    ensures { λ r. ⌜ plainly (ty· (walks (cfg .nesting)) FnTy) run text rec starts lens out mem at r ⌝ }
 {
     let r1 = get_ty(run, text, rec, starts, lens, out, mem, at, cfg);
     let Status::Done(s1) = told(r1) else {
@@ -336,7 +336,7 @@ fn paren_ty<'a>(
     at: usize,
     cfg: Cfg,
 ) -> usize
-    ensures { λ r. ⌜ plainly (ty· (walks (cfg .left)) ParenTy) run text rec starts lens out mem at r ⌝ }
+    ensures { λ r. ⌜ plainly (ty· (walks (cfg .nesting)) ParenTy) run text rec starts lens out mem at r ⌝ }
 {
     word(run, text, out, mem, words::L_ROUND);
     let r1 = get_ty(run, text, rec, starts, lens, out, mem, at, cfg);
@@ -359,9 +359,9 @@ pub fn get_ty<'a>(
     at: usize,
     cfg: Cfg,
 ) -> usize
-    ensures { λ r. ⌜ plainly (walks (cfg .left) .get-ty) run text rec starts lens out mem at r ⌝ }
+    ensures { λ r. ⌜ plainly (walks (cfg .nesting) .get-ty) run text rec starts lens out mem at r ⌝ }
 {
-    let left = cfg.left;
+    let left = cfg.nesting;
     if left == 0 {
         return stop(at);
     }
@@ -371,7 +371,7 @@ pub fn get_ty<'a>(
     let sub = Cfg {
         depth: cfg.depth,
         blank: cfg.blank,
-        left: left - 1,
+        nesting: left - 1,
     };
     match k {
         0 => {
@@ -405,7 +405,7 @@ fn ty_annotation_there<'a>(
     at: usize,
     cfg: Cfg,
 ) -> usize
-    ensures { λ r. ⌜ plainly (ty-annotation-there (walks (cfg .left))) run text rec starts lens out mem at r ⌝ }
+    ensures { λ r. ⌜ plainly (ty-annotation-there (walks (cfg .nesting))) run text rec starts lens out mem at r ⌝ }
 {
     let r1 = group(rec, at);
     let Status::Done(s1) = told(r1) else {
@@ -427,7 +427,7 @@ pub fn ty_annotation<'a>(
     at: usize,
     cfg: Cfg,
 ) -> usize
-    ensures { λ r. ⌜ plainly (ty-annotation (walks (cfg .left))) run text rec starts lens out mem at r ⌝ }
+    ensures { λ r. ⌜ plainly (ty-annotation (walks (cfg .nesting))) run text rec starts lens out mem at r ⌝ }
 {
     let gone = absent(rec, at);
     match gone {

@@ -127,7 +127,7 @@ fn ro<'a>(
     at: usize,
     cfg: Cfg,
 ) -> usize
-    requires { ⌜ cfg .depth + 2 * cfg .left + 2 ≤ 402 ⌝ }
+    requires { ⌜ cfg .depth + 2 * cfg .nesting + 2 ≤ 402 ⌝ }
     ensures { λ r. ⌜ does exp-row run text rec kinds starts lens out mem at cfg r ⌝ }
 {
     let r1 = group(rec, at);
@@ -162,7 +162,7 @@ fn rs<'a>(
     at: usize,
     cfg: Cfg,
 ) -> usize
-    requires { ⌜ cfg .depth + 2 * cfg .left + 2 ≤ 402 ⌝ }
+    requires { ⌜ cfg .depth + 2 * cfg .nesting + 2 ≤ 402 ⌝ }
     ensures { λ r. ⌜ does exp-rows run text rec kinds starts lens out mem at cfg r ⌝ }
 {
     let Read::Is(n, s0) = list(rec, at) else {
@@ -195,7 +195,7 @@ fn rc<'a>(
     at: usize,
     cfg: Cfg,
 ) -> usize
-    requires { ⌜ cfg .depth + 2 * cfg .left + 2 ≤ 402 ⌝ }
+    requires { ⌜ cfg .depth + 2 * cfg .nesting + 2 ≤ 402 ⌝ }
     ensures { λ r. ⌜ does (λ ws c. exp· ws c RecordExp) run text rec kinds starts lens out mem at cfg r ⌝ }
 {
     word(run, text, out, mem, words::L_CURLY);
@@ -220,7 +220,7 @@ fn pa<'a>(
     at: usize,
     cfg: Cfg,
 ) -> usize
-    requires { ⌜ cfg .depth + 2 * cfg .left + 2 ≤ 402 ⌝ }
+    requires { ⌜ cfg .depth + 2 * cfg .nesting + 2 ≤ 402 ⌝ }
     ensures { λ r. ⌜ does (λ ws c. exp· ws c ParenExp) run text rec kinds starts lens out mem at cfg r ⌝ }
 {
     word(run, text, out, mem, words::L_ROUND);
@@ -245,7 +245,7 @@ fn ar<'a>(
     at: usize,
     cfg: Cfg,
 ) -> usize
-    requires { ⌜ cfg .depth + 2 * cfg .left + 2 ≤ 402 ⌝ }
+    requires { ⌜ cfg .depth + 2 * cfg .nesting + 2 ≤ 402 ⌝ }
     ensures { λ r. ⌜ does exp-args run text rec kinds starts lens out mem at cfg r ⌝ }
 {
     let Read::Is(n, s0) = list(rec, at) else {
@@ -284,7 +284,7 @@ fn br<'a>(
     opens: usize,
     closes: usize,
 ) -> usize
-    requires { ⌜ cfg .depth + 2 * cfg .left + 2 ≤ 402 ⌝ }
+    requires { ⌜ cfg .depth + 2 * cfg .nesting + 2 ≤ 402 ⌝ }
     ensures { λ r. ⌜
         does (λ ws c. word· (wordOf opens) ⨾ exp-args ws c ⨾ word· (wordOf closes))
         run text rec kinds starts lens out mem at cfg r ⌝ }
@@ -311,7 +311,7 @@ fn ve<'a>(
     at: usize,
     cfg: Cfg,
 ) -> usize
-    requires { ⌜ cfg .depth + 2 * cfg .left + 2 ≤ 402 ⌝ }
+    requires { ⌜ cfg .depth + 2 * cfg .nesting + 2 ≤ 402 ⌝ }
     ensures { λ r. ⌜ does (λ ws c. exp· ws c VectorExp) run text rec kinds starts lens out mem at cfg r ⌝ }
 {
     word(run, text, out, mem, words::HASH_L_SQUARE);
@@ -341,7 +341,7 @@ fn it<'a>(
     cfg: Cfg,
     write: bool,
 ) -> usize
-    requires { ⌜ cfg .depth + 2 * cfg .left + 0 ≤ 402 ⌝ }
+    requires { ⌜ cfg .depth + 2 * cfg .nesting + 0 ≤ 402 ⌝ }
     ensures { λ r. ⌜ does (λ ws c. exp-semi-item ws c write) run text rec kinds starts lens out mem at cfg r ⌝ }
 {
     let r1 = group(rec, at);
@@ -370,7 +370,7 @@ fn mo<'a>(
     allow: bool,
     n: usize,
 ) -> usize
-    requires { ⌜ cfg .depth + 2 * cfg .left + 0 ≤ 402 ⌝ }
+    requires { ⌜ cfg .depth + 2 * cfg .nesting + 0 ≤ 402 ⌝ }
     ensures { λ r. ⌜ does (λ ws c. exp-semi-more ws c allow n) run text rec kinds starts lens out mem at cfg r ⌝ }
 {
     let mut s = at;
@@ -403,7 +403,7 @@ fn sm<'a>(
     cfg: Cfg,
     allow: bool,
 ) -> usize
-    requires { ⌜ cfg .depth + 2 * cfg .left + 0 ≤ 402 ⌝ }
+    requires { ⌜ cfg .depth + 2 * cfg .nesting + 0 ≤ 402 ⌝ }
     ensures { λ r. ⌜ does (λ ws c. exp-semi-seq ws c allow) run text rec kinds starts lens out mem at cfg r ⌝ }
 {
     let Read::Is(n, s1) = list(rec, at) else {
@@ -457,7 +457,7 @@ fn seq<'a>(
     at: usize,
     cfg: Cfg,
 ) -> usize
-    requires { ⌜ cfg .depth + 2 * cfg .left + 2 ≤ 402 ⌝ }
+    requires { ⌜ cfg .depth + 2 * cfg .nesting + 2 ≤ 402 ⌝ }
     ensures { λ r. ⌜ does (λ ws c. exp· ws c SeqExp) run text rec kinds starts lens out mem at cfg r ⌝ }
 {
     word(run, text, out, mem, words::L_ROUND_LINE);
@@ -497,7 +497,7 @@ fn lx<'a>(
     at: usize,
     cfg: Cfg,
 ) -> usize
-    requires { ⌜ cfg .depth + 2 * cfg .left + 2 ≤ 402 ⌝ }
+    requires { ⌜ cfg .depth + 2 * cfg .nesting + 2 ≤ 402 ⌝ }
     ensures { λ r. ⌜ does (λ ws c. exp· ws c LetExp) run text rec kinds starts lens out mem at cfg r ⌝ }
 {
     word(run, text, out, mem, words::LET);
@@ -533,7 +533,7 @@ fn app<'a>(
     at: usize,
     cfg: Cfg,
 ) -> usize
-    requires { ⌜ cfg .depth + 2 * cfg .left + 2 ≤ 402 ⌝ }
+    requires { ⌜ cfg .depth + 2 * cfg .nesting + 2 ≤ 402 ⌝ }
     ensures { λ r. ⌜ does (λ ws c. exp· ws c AppExp) run text rec kinds starts lens out mem at cfg r ⌝ }
 {
     let r1 = exp(run, text, rec, kinds, starts, lens, out, mem, at, cfg);
@@ -563,7 +563,7 @@ fn fx<'a>(
     at: usize,
     cfg: Cfg,
 ) -> usize
-    requires { ⌜ cfg .depth + 2 * cfg .left + 2 ≤ 402 ⌝ }
+    requires { ⌜ cfg .depth + 2 * cfg .nesting + 2 ≤ 402 ⌝ }
     ensures { λ r. ⌜ does (λ ws c. exp· ws c InfixExp) run text rec kinds starts lens out mem at cfg r ⌝ }
 {
     let Read::Is(k, s1) = token_no(rec, starts.len(), at) else {
@@ -590,7 +590,7 @@ fn ty<'a>(
     at: usize,
     cfg: Cfg,
 ) -> usize
-    requires { ⌜ cfg .depth + 2 * cfg .left + 2 ≤ 402 ⌝ }
+    requires { ⌜ cfg .depth + 2 * cfg .nesting + 2 ≤ 402 ⌝ }
     ensures { λ r. ⌜ does (λ ws c. exp· ws c TypedExp) run text rec kinds starts lens out mem at cfg r ⌝ }
 {
     let r1 = exp(run, text, rec, kinds, starts, lens, out, mem, at, cfg);
@@ -615,7 +615,7 @@ fn du<'a>(
     cfg: Cfg,
     w: usize,
 ) -> usize
-    requires { ⌜ cfg .depth + 2 * cfg .left + 2 ≤ 402 ⌝ }
+    requires { ⌜ cfg .depth + 2 * cfg .nesting + 2 ≤ 402 ⌝ }
     ensures { λ r. ⌜ does (λ ws c. ws .get-exp c ⨾ word· (wordOf w) ⨾ ws .get-exp c) run text rec kinds starts lens out mem at cfg r ⌝ }
 {
     let r1 = exp(run, text, rec, kinds, starts, lens, out, mem, at, cfg);
@@ -639,7 +639,7 @@ fn wh<'a>(
     at: usize,
     cfg: Cfg,
 ) -> usize
-    requires { ⌜ cfg .depth + 2 * cfg .left + 2 ≤ 402 ⌝ }
+    requires { ⌜ cfg .depth + 2 * cfg .nesting + 2 ≤ 402 ⌝ }
     ensures { λ r. ⌜ does (λ ws c. exp· ws c WhileExp) run text rec kinds starts lens out mem at cfg r ⌝ }
 {
     word(run, text, out, mem, words::WHILE);
@@ -672,7 +672,7 @@ fn ha<'a>(
     cfg: Cfg,
     w: usize,
 ) -> usize
-    requires { ⌜ cfg .depth + 2 * cfg .left + 2 ≤ 402 ⌝ }
+    requires { ⌜ cfg .depth + 2 * cfg .nesting + 2 ≤ 402 ⌝ }
     ensures { λ r. ⌜
         does (λ ws c. ws .get-exp c ⨾ word· (wordOf w) ⨾ get-matcher-across-lines ws c)
         run text rec kinds starts lens out mem at cfg r ⌝ }
@@ -698,7 +698,7 @@ fn ca<'a>(
     at: usize,
     cfg: Cfg,
 ) -> usize
-    requires { ⌜ cfg .depth + 2 * cfg .left + 2 ≤ 402 ⌝ }
+    requires { ⌜ cfg .depth + 2 * cfg .nesting + 2 ≤ 402 ⌝ }
     ensures { λ r. ⌜ does (λ ws c. exp· ws c CaseExp) run text rec kinds starts lens out mem at cfg r ⌝ }
 {
     word(run, text, out, mem, words::CASE);
@@ -731,7 +731,7 @@ fn pr<'a>(
     cfg: Cfg,
     w: usize,
 ) -> usize
-    requires { ⌜ cfg .depth + 2 * cfg .left + 2 ≤ 402 ⌝ }
+    requires { ⌜ cfg .depth + 2 * cfg .nesting + 2 ≤ 402 ⌝ }
     ensures { λ r. ⌜ does (λ ws c. word· (wordOf w) ⨾ ws .get-exp c) run text rec kinds starts lens out mem at cfg r ⌝ }
 {
     word(run, text, out, mem, w);
@@ -751,7 +751,7 @@ fn ie<'a>(
     at: usize,
     cfg: Cfg,
 ) -> usize
-    requires { ⌜ cfg .depth + 2 * cfg .left + 2 ≤ 402 ⌝ }
+    requires { ⌜ cfg .depth + 2 * cfg .nesting + 2 ≤ 402 ⌝ }
     ensures { λ r. ⌜ does (λ ws c. exp· ws c IfExp) run text rec kinds starts lens out mem at cfg r ⌝ }
 {
     word(run, text, out, mem, words::IF);
@@ -792,7 +792,7 @@ fn ma<'a>(
     at: usize,
     cfg: Cfg,
 ) -> usize
-    requires { ⌜ cfg .depth + 2 * cfg .left + 2 ≤ 402 ⌝ }
+    requires { ⌜ cfg .depth + 2 * cfg .nesting + 2 ≤ 402 ⌝ }
     ensures { λ r. ⌜ does get-matcher-across-lines run text rec kinds starts lens out mem at cfg r ⌝ }
 {
     if let Gone::Past(s0) = absent(rec, at) {
@@ -833,7 +833,7 @@ fn arm<'a>(
     at: usize,
     cfg: Cfg,
 ) -> usize
-    requires { ⌜ cfg .depth + 2 * cfg .left + 2 ≤ 402 ⌝ }
+    requires { ⌜ cfg .depth + 2 * cfg .nesting + 2 ≤ 402 ⌝ }
     ensures { λ r. ⌜ does get-matcher-arm run text rec kinds starts lens out mem at cfg r ⌝ }
 {
     let r1 = group(rec, at);
@@ -871,7 +871,7 @@ fn dp<'a>(
     at: usize,
     cfg: Cfg,
 ) -> usize
-    requires { ⌜ cfg .depth + 2 * cfg .left + 1 ≤ 402 ⌝ }
+    requires { ⌜ cfg .depth + 2 * cfg .nesting + 1 ≤ 402 ⌝ }
     ensures { λ r. ⌜ does (λ ws c. indented-levels ws c 1) run text rec kinds starts lens out mem at cfg r ⌝ }
 {
     indent_deeper(out, mem, cfg);
@@ -892,7 +892,7 @@ fn qb<'a>(
     at: usize,
     cfg: Cfg,
 ) -> usize
-    requires { ⌜ cfg .depth + 2 * cfg .left + 2 ≤ 402 ⌝ }
+    requires { ⌜ cfg .depth + 2 * cfg .nesting + 2 ≤ 402 ⌝ }
     ensures { λ r. ⌜ does eq-body run text rec kinds starts lens out mem at cfg r ⌝ }
 {
     if let Gone::Past(s0) = absent(rec, at) {
@@ -927,7 +927,7 @@ fn fe<'a>(
     at: usize,
     cfg: Cfg,
 ) -> usize
-    requires { ⌜ cfg .depth + 2 * cfg .left + 2 ≤ 402 ⌝ }
+    requires { ⌜ cfg .depth + 2 * cfg .nesting + 2 ≤ 402 ⌝ }
     ensures { λ r. ⌜ does (λ ws c. exp· ws c FnExp) run text rec kinds starts lens out mem at cfg r ⌝ }
 {
     word(run, text, out, mem, words::FN);
@@ -965,10 +965,10 @@ fn exp<'a>(
     at: usize,
     cfg: Cfg,
 ) -> usize
-    requires { ⌜ cfg .depth + 2 * cfg .left + 0 ≤ 402 ⌝ }
+    requires { ⌜ cfg .depth + 2 * cfg .nesting + 0 ≤ 402 ⌝ }
     ensures { λ r. ⌜ does (λ ws c. ws .get-exp c) run text rec kinds starts lens out mem at cfg r ⌝ }
 {
-    let forms_left = cfg.left;
+    let forms_left = cfg.nesting;
     if forms_left == 0 {
         return stop(at);
     }
@@ -978,7 +978,7 @@ fn exp<'a>(
     let sub = Cfg {
         depth: cfg.depth,
         blank: cfg.blank,
-        left: forms_left - 1,
+        nesting: forms_left - 1,
     };
     match k {
         0 => {
@@ -1098,7 +1098,7 @@ fn ds<'a>(
     at: usize,
     cfg: Cfg,
 ) -> usize
-    requires { ⌜ cfg .depth + 2 * cfg .left + 0 ≤ 402 ⌝ }
+    requires { ⌜ cfg .depth + 2 * cfg .nesting + 0 ≤ 402 ⌝ }
     ensures { λ r. ⌜ does get-dec run text rec kinds starts lens out mem at cfg r ⌝ }
 {
     let Read::Is(n, s0) = list(rec, at) else {
@@ -1135,7 +1135,7 @@ fn dec<'a>(
     at: usize,
     cfg: Cfg,
 ) -> usize
-    requires { ⌜ cfg .depth + 2 * cfg .left + 0 ≤ 402 ⌝ }
+    requires { ⌜ cfg .depth + 2 * cfg .nesting + 0 ≤ 402 ⌝ }
     ensures { λ r. ⌜ does dec· run text rec kinds starts lens out mem at cfg r ⌝ }
 {
     let r1 = group(rec, at);
@@ -1166,7 +1166,7 @@ fn qs<'a>(
     at: usize,
     cfg: Cfg,
 ) -> usize
-    requires { ⌜ cfg .depth + 2 * cfg .left + 0 ≤ 402 ⌝ }
+    requires { ⌜ cfg .depth + 2 * cfg .nesting + 0 ≤ 402 ⌝ }
     ensures { λ r. ⌜ does dec-in-seqs run text rec kinds starts lens out mem at cfg r ⌝ }
 {
     let Read::Is(n, s0) = list(rec, at) else {
@@ -1199,7 +1199,7 @@ fn sq<'a>(
     at: usize,
     cfg: Cfg,
 ) -> usize
-    requires { ⌜ cfg .depth + 2 * cfg .left + 0 ≤ 402 ⌝ }
+    requires { ⌜ cfg .depth + 2 * cfg .nesting + 0 ≤ 402 ⌝ }
     ensures { λ r. ⌜ does dec-in-seq run text rec kinds starts lens out mem at cfg r ⌝ }
 {
     let r1 = group(rec, at);
@@ -1209,7 +1209,7 @@ fn sq<'a>(
     let calm = Cfg {
         depth: cfg.depth,
         blank: false,
-        left: cfg.left,
+        nesting: cfg.nesting,
     };
     let r2 = one(run, text, rec, kinds, starts, lens, out, mem, s1, calm);
     let Status::Done(s2) = told(r2) else {
@@ -1231,10 +1231,10 @@ fn one<'a>(
     at: usize,
     cfg: Cfg,
 ) -> usize
-    requires { ⌜ cfg .depth + 2 * cfg .left + 0 ≤ 402 ⌝ }
+    requires { ⌜ cfg .depth + 2 * cfg .nesting + 0 ≤ 402 ⌝ }
     ensures { λ r. ⌜ does (λ ws c. ws .get-dec-one c) run text rec kinds starts lens out mem at cfg r ⌝ }
 {
-    let forms_left = cfg.left;
+    let forms_left = cfg.nesting;
     if forms_left == 0 {
         return stop(at);
     }
@@ -1250,7 +1250,7 @@ fn one<'a>(
     let sub = Cfg {
         depth: cfg.depth,
         blank: cfg.blank,
-        left: forms_left - 1,
+        nesting: forms_left - 1,
     };
     nu(run, text, rec, kinds, starts, lens, out, mem, next, sub, k)
 }
@@ -1269,7 +1269,7 @@ fn nu<'a>(
     cfg: Cfg,
     which: usize,
 ) -> usize
-    requires { ⌜ cfg .depth + 2 * cfg .left + 2 ≤ 402 ⌝ }
+    requires { ⌜ cfg .depth + 2 * cfg .nesting + 2 ≤ 402 ⌝ }
     ensures { λ r. ⌜ does (λ ws c. getD (decs· ws c) which halt) run text rec kinds starts lens out mem at cfg r ⌝ }
 {
     match which {
@@ -1347,7 +1347,7 @@ fn vd<'a>(
     at: usize,
     cfg: Cfg,
 ) -> usize
-    requires { ⌜ cfg .depth + 2 * cfg .left + 2 ≤ 402 ⌝ }
+    requires { ⌜ cfg .depth + 2 * cfg .nesting + 2 ≤ 402 ⌝ }
     ensures { λ r. ⌜ does (λ ws c. dec-one· ws c ValDec) run text rec kinds starts lens out mem at cfg r ⌝ }
 {
     word(run, text, out, mem, words::VAL);
@@ -1381,7 +1381,7 @@ fn vb<'a>(
     at: usize,
     cfg: Cfg,
 ) -> usize
-    requires { ⌜ cfg .depth + 2 * cfg .left + 2 ≤ 402 ⌝ }
+    requires { ⌜ cfg .depth + 2 * cfg .nesting + 2 ≤ 402 ⌝ }
     ensures { λ r. ⌜ does val-bind run text rec kinds starts lens out mem at cfg r ⌝ }
 {
     let r1 = group(rec, at);
@@ -1412,7 +1412,7 @@ fn fd<'a>(
     at: usize,
     cfg: Cfg,
 ) -> usize
-    requires { ⌜ cfg .depth + 2 * cfg .left + 2 ≤ 402 ⌝ }
+    requires { ⌜ cfg .depth + 2 * cfg .nesting + 2 ≤ 402 ⌝ }
     ensures { λ r. ⌜ does (λ ws c. dec-one· ws c FunDec) run text rec kinds starts lens out mem at cfg r ⌝ }
 {
     word(run, text, out, mem, words::FUN);
@@ -1450,7 +1450,7 @@ fn fb<'a>(
     at: usize,
     cfg: Cfg,
 ) -> usize
-    requires { ⌜ cfg .depth + 2 * cfg .left + 2 ≤ 402 ⌝ }
+    requires { ⌜ cfg .depth + 2 * cfg .nesting + 2 ≤ 402 ⌝ }
     ensures { λ r. ⌜ does fun-bind run text rec kinds starts lens out mem at cfg r ⌝ }
 {
     let r1 = group(rec, at);
@@ -1488,7 +1488,7 @@ fn fc<'a>(
     at: usize,
     cfg: Cfg,
 ) -> usize
-    requires { ⌜ cfg .depth + 2 * cfg .left + 2 ≤ 402 ⌝ }
+    requires { ⌜ cfg .depth + 2 * cfg .nesting + 2 ≤ 402 ⌝ }
     ensures { λ r. ⌜ does fun-bind-case run text rec kinds starts lens out mem at cfg r ⌝ }
 {
     let r1 = group(rec, at);
@@ -1523,7 +1523,7 @@ fn ab<'a>(
     at: usize,
     cfg: Cfg,
 ) -> usize
-    requires { ⌜ cfg .depth + 2 * cfg .left + 2 ≤ 402 ⌝ }
+    requires { ⌜ cfg .depth + 2 * cfg .nesting + 2 ≤ 402 ⌝ }
     ensures { λ r. ⌜ does (λ ws c. dec-one· ws c AbstypeDec) run text rec kinds starts lens out mem at cfg r ⌝ }
 {
     word(run, text, out, mem, words::ABSTYPE);
@@ -1557,7 +1557,7 @@ fn xd<'a>(
     at: usize,
     cfg: Cfg,
 ) -> usize
-    requires { ⌜ cfg .depth + 2 * cfg .left + 2 ≤ 402 ⌝ }
+    requires { ⌜ cfg .depth + 2 * cfg .nesting + 2 ≤ 402 ⌝ }
     ensures { λ r. ⌜ does (λ ws c. dec-one· ws c ExDec) run text rec kinds starts lens out mem at cfg r ⌝ }
 {
     word(run, text, out, mem, words::EXCEPTION);
@@ -1591,7 +1591,7 @@ fn xb<'a>(
     at: usize,
     cfg: Cfg,
 ) -> usize
-    requires { ⌜ cfg .depth + 2 * cfg .left + 2 ≤ 402 ⌝ }
+    requires { ⌜ cfg .depth + 2 * cfg .nesting + 2 ≤ 402 ⌝ }
     ensures { λ r. ⌜ does ex-bind run text rec kinds starts lens out mem at cfg r ⌝ }
 {
     let r1 = group(rec, at);
@@ -1625,7 +1625,7 @@ fn xi<'a>(
     cfg: Cfg,
     which: usize,
 ) -> usize
-    requires { ⌜ cfg .depth + 2 * cfg .left + 2 ≤ 402 ⌝ }
+    requires { ⌜ cfg .depth + 2 * cfg .nesting + 2 ≤ 402 ⌝ }
     ensures { λ r. ⌜ does (λ ws c. ex-bind-inner ws c which) run text rec kinds starts lens out mem at cfg r ⌝ }
 {
     match which {
@@ -1660,7 +1660,7 @@ fn lo<'a>(
     at: usize,
     cfg: Cfg,
 ) -> usize
-    requires { ⌜ cfg .depth + 2 * cfg .left + 2 ≤ 402 ⌝ }
+    requires { ⌜ cfg .depth + 2 * cfg .nesting + 2 ≤ 402 ⌝ }
     ensures { λ r. ⌜ does (λ ws c. dec-one· ws c LocalDec) run text rec kinds starts lens out mem at cfg r ⌝ }
 {
     word(run, text, out, mem, words::LOCAL);
@@ -1696,7 +1696,7 @@ fn ld<'a>(
     at: usize,
     cfg: Cfg,
 ) -> usize
-    requires { ⌜ cfg .depth + 2 * cfg .left + 0 ≤ 402 ⌝ }
+    requires { ⌜ cfg .depth + 2 * cfg .nesting + 0 ≤ 402 ⌝ }
     ensures { λ r. ⌜ does local-decs run text rec kinds starts lens out mem at cfg r ⌝ }
 {
     if let Gone::Past(s0) = absent(rec, at) {
@@ -1722,7 +1722,7 @@ fn sd<'a>(
     at: usize,
     cfg: Cfg,
 ) -> usize
-    requires { ⌜ cfg .depth + 2 * cfg .left + 2 ≤ 402 ⌝ }
+    requires { ⌜ cfg .depth + 2 * cfg .nesting + 2 ≤ 402 ⌝ }
     ensures { λ r. ⌜ does (λ ws c. dec-one· ws c StructureDec) run text rec kinds starts lens out mem at cfg r ⌝ }
 {
     word(run, text, out, mem, words::STRUCTURE);
@@ -1756,7 +1756,7 @@ fn sb<'a>(
     at: usize,
     cfg: Cfg,
 ) -> usize
-    requires { ⌜ cfg .depth + 2 * cfg .left + 2 ≤ 402 ⌝ }
+    requires { ⌜ cfg .depth + 2 * cfg .nesting + 2 ≤ 402 ⌝ }
     ensures { λ r. ⌜ does str-bind run text rec kinds starts lens out mem at cfg r ⌝ }
 {
     let r1 = group(rec, at);
@@ -1795,7 +1795,7 @@ fn gd<'a>(
     at: usize,
     cfg: Cfg,
 ) -> usize
-    requires { ⌜ cfg .depth + 2 * cfg .left + 2 ≤ 402 ⌝ }
+    requires { ⌜ cfg .depth + 2 * cfg .nesting + 2 ≤ 402 ⌝ }
     ensures { λ r. ⌜ does (λ ws c. dec-one· ws c SignatureDec) run text rec kinds starts lens out mem at cfg r ⌝ }
 {
     word(run, text, out, mem, words::SIGNATURE);
@@ -1846,7 +1846,7 @@ fn nm<'a>(
     cfg: Cfg,
     w: usize,
 ) -> usize
-    requires { ⌜ cfg .depth + 2 * cfg .left + 2 ≤ 402 ⌝ }
+    requires { ⌜ cfg .depth + 2 * cfg .nesting + 2 ≤ 402 ⌝ }
     ensures { λ r. ⌜ does (λ ws c. text· ⨾ word· (wordOf w) ⨾ ws .get-sig-exp c) run text rec kinds starts lens out mem at cfg r ⌝ }
 {
     let r1 = text_of(run, text, rec, starts, lens, out, mem, at);
@@ -1870,7 +1870,7 @@ fn cd<'a>(
     at: usize,
     cfg: Cfg,
 ) -> usize
-    requires { ⌜ cfg .depth + 2 * cfg .left + 2 ≤ 402 ⌝ }
+    requires { ⌜ cfg .depth + 2 * cfg .nesting + 2 ≤ 402 ⌝ }
     ensures { λ r. ⌜ does (λ ws c. dec-one· ws c FunctorDec) run text rec kinds starts lens out mem at cfg r ⌝ }
 {
     word(run, text, out, mem, words::FUNCTOR);
@@ -1904,7 +1904,7 @@ fn cb<'a>(
     at: usize,
     cfg: Cfg,
 ) -> usize
-    requires { ⌜ cfg .depth + 2 * cfg .left + 2 ≤ 402 ⌝ }
+    requires { ⌜ cfg .depth + 2 * cfg .nesting + 2 ≤ 402 ⌝ }
     ensures { λ r. ⌜ does functor-bind run text rec kinds starts lens out mem at cfg r ⌝ }
 {
     let r1 = group(rec, at);
@@ -1942,7 +1942,7 @@ fn fs<'a>(
     at: usize,
     cfg: Cfg,
 ) -> usize
-    requires { ⌜ cfg .depth + 2 * cfg .left + 2 ≤ 402 ⌝ }
+    requires { ⌜ cfg .depth + 2 * cfg .nesting + 2 ≤ 402 ⌝ }
     ensures { λ r. ⌜ does functor-args run text rec kinds starts lens out mem at cfg r ⌝ }
 {
     let Read::Is(n, s0) = list(rec, at) else {
@@ -1978,7 +1978,7 @@ fn fa<'a>(
     cfg: Cfg,
     which: usize,
 ) -> usize
-    requires { ⌜ cfg .depth + 2 * cfg .left + 2 ≤ 402 ⌝ }
+    requires { ⌜ cfg .depth + 2 * cfg .nesting + 2 ≤ 402 ⌝ }
     ensures { λ r. ⌜ does (λ ws c. functor-arg ws c which) run text rec kinds starts lens out mem at cfg r ⌝ }
 {
     match which {
@@ -2013,7 +2013,7 @@ fn ic<'a>(
     at: usize,
     cfg: Cfg,
 ) -> usize
-    requires { ⌜ cfg .depth + 2 * cfg .left + 2 ≤ 402 ⌝ }
+    requires { ⌜ cfg .depth + 2 * cfg .nesting + 2 ≤ 402 ⌝ }
     ensures { λ r. ⌜ does (λ ws c. dec-one· ws c IncludeDec) run text rec kinds starts lens out mem at cfg r ⌝ }
 {
     word(run, text, out, mem, words::INCLUDE);
@@ -2047,7 +2047,7 @@ fn da<'a>(
     at: usize,
     cfg: Cfg,
 ) -> usize
-    requires { ⌜ cfg .depth + 2 * cfg .left + 2 ≤ 402 ⌝ }
+    requires { ⌜ cfg .depth + 2 * cfg .nesting + 2 ≤ 402 ⌝ }
     ensures { λ r. ⌜ does dec-arg run text rec kinds starts lens out mem at cfg r ⌝ }
 {
     word(run, text, out, mem, words::LINE_FEED);
@@ -2075,10 +2075,10 @@ fn str<'a>(
     at: usize,
     cfg: Cfg,
 ) -> usize
-    requires { ⌜ cfg .depth + 2 * cfg .left + 0 ≤ 402 ⌝ }
+    requires { ⌜ cfg .depth + 2 * cfg .nesting + 0 ≤ 402 ⌝ }
     ensures { λ r. ⌜ does (λ ws c. ws .get-str-exp c) run text rec kinds starts lens out mem at cfg r ⌝ }
 {
-    let forms_left = cfg.left;
+    let forms_left = cfg.nesting;
     if forms_left == 0 {
         return stop(at);
     }
@@ -2088,7 +2088,7 @@ fn str<'a>(
     let sub = Cfg {
         depth: cfg.depth,
         blank: cfg.blank,
-        left: forms_left - 1,
+        nesting: forms_left - 1,
     };
     match k {
         0 => ss(run, text, rec, kinds, starts, lens, out, mem, s, sub),
@@ -2113,7 +2113,7 @@ fn ss<'a>(
     at: usize,
     cfg: Cfg,
 ) -> usize
-    requires { ⌜ cfg .depth + 2 * cfg .left + 2 ≤ 402 ⌝ }
+    requires { ⌜ cfg .depth + 2 * cfg .nesting + 2 ≤ 402 ⌝ }
     ensures { λ r. ⌜ does (λ ws c. str-exp· ws c StructStrExp) run text rec kinds starts lens out mem at cfg r ⌝ }
 {
     word(run, text, out, mem, words::STRUCT);
@@ -2121,7 +2121,7 @@ fn ss<'a>(
     let wide = Cfg {
         depth: cfg.depth,
         blank: true,
-        left: cfg.left,
+        nesting: cfg.nesting,
     };
     let new = wide.indented();
     let r1 = ds(run, text, rec, kinds, starts, lens, out, mem, at, new);
@@ -2146,7 +2146,7 @@ fn an<'a>(
     at: usize,
     cfg: Cfg,
 ) -> usize
-    requires { ⌜ cfg .depth + 2 * cfg .left + 2 ≤ 402 ⌝ }
+    requires { ⌜ cfg .depth + 2 * cfg .nesting + 2 ≤ 402 ⌝ }
     ensures { λ r. ⌜ does (λ ws c. str-exp· ws c AscriptionStrExp) run text rec kinds starts lens out mem at cfg r ⌝ }
 {
     let r1 = str(run, text, rec, kinds, starts, lens, out, mem, at, cfg);
@@ -2169,7 +2169,7 @@ fn ta<'a>(
     at: usize,
     cfg: Cfg,
 ) -> usize
-    requires { ⌜ cfg .depth + 2 * cfg .left + 2 ≤ 402 ⌝ }
+    requires { ⌜ cfg .depth + 2 * cfg .nesting + 2 ≤ 402 ⌝ }
     ensures { λ r. ⌜ does ascription-tail run text rec kinds starts lens out mem at cfg r ⌝ }
 {
     let r1 = group(rec, at);
@@ -2198,7 +2198,7 @@ fn ac<'a>(
     at: usize,
     cfg: Cfg,
 ) -> usize
-    requires { ⌜ cfg .depth + 2 * cfg .left + 2 ≤ 402 ⌝ }
+    requires { ⌜ cfg .depth + 2 * cfg .nesting + 2 ≤ 402 ⌝ }
     ensures { λ r. ⌜ does (λ ws c. maybe (ascription-tail ws c)) run text rec kinds starts lens out mem at cfg r ⌝ }
 {
     if let Gone::Past(s0) = absent(rec, at) {
@@ -2220,7 +2220,7 @@ fn sp<'a>(
     at: usize,
     cfg: Cfg,
 ) -> usize
-    requires { ⌜ cfg .depth + 2 * cfg .left + 2 ≤ 402 ⌝ }
+    requires { ⌜ cfg .depth + 2 * cfg .nesting + 2 ≤ 402 ⌝ }
     ensures { λ r. ⌜ does (λ ws c. str-exp· ws c AppStrExp) run text rec kinds starts lens out mem at cfg r ⌝ }
 {
     let r1 = text_of(run, text, rec, starts, lens, out, mem, at);
@@ -2264,7 +2264,7 @@ fn sa<'a>(
     cfg: Cfg,
     which: usize,
 ) -> usize
-    requires { ⌜ cfg .depth + 2 * cfg .left + 2 ≤ 402 ⌝ }
+    requires { ⌜ cfg .depth + 2 * cfg .nesting + 2 ≤ 402 ⌝ }
     ensures { λ r. ⌜ does (λ ws c. app-arg ws c which) run text rec kinds starts lens out mem at cfg r ⌝ }
 {
     match which {
@@ -2287,7 +2287,7 @@ fn sl<'a>(
     at: usize,
     cfg: Cfg,
 ) -> usize
-    requires { ⌜ cfg .depth + 2 * cfg .left + 2 ≤ 402 ⌝ }
+    requires { ⌜ cfg .depth + 2 * cfg .nesting + 2 ≤ 402 ⌝ }
     ensures { λ r. ⌜ does (λ ws c. str-exp· ws c LetStrExp) run text rec kinds starts lens out mem at cfg r ⌝ }
 {
     word(run, text, out, mem, words::LET);
@@ -2324,10 +2324,10 @@ fn sig<'a>(
     at: usize,
     cfg: Cfg,
 ) -> usize
-    requires { ⌜ cfg .depth + 2 * cfg .left + 0 ≤ 402 ⌝ }
+    requires { ⌜ cfg .depth + 2 * cfg .nesting + 0 ≤ 402 ⌝ }
     ensures { λ r. ⌜ does (λ ws c. ws .get-sig-exp c) run text rec kinds starts lens out mem at cfg r ⌝ }
 {
-    let forms_left = cfg.left;
+    let forms_left = cfg.nesting;
     if forms_left == 0 {
         return stop(at);
     }
@@ -2337,7 +2337,7 @@ fn sig<'a>(
     let sub = Cfg {
         depth: cfg.depth,
         blank: cfg.blank,
-        left: forms_left - 1,
+        nesting: forms_left - 1,
     };
     match k {
         0 => sg(run, text, rec, kinds, starts, lens, out, mem, s, sub),
@@ -2361,7 +2361,7 @@ fn sg<'a>(
     at: usize,
     cfg: Cfg,
 ) -> usize
-    requires { ⌜ cfg .depth + 2 * cfg .left + 2 ≤ 402 ⌝ }
+    requires { ⌜ cfg .depth + 2 * cfg .nesting + 2 ≤ 402 ⌝ }
     ensures { λ r. ⌜ does (λ ws c. sig-exp· ws c SigSigExp) run text rec kinds starts lens out mem at cfg r ⌝ }
 {
     word(run, text, out, mem, words::SIG);
@@ -2389,7 +2389,7 @@ fn wt<'a>(
     at: usize,
     cfg: Cfg,
 ) -> usize
-    requires { ⌜ cfg .depth + 2 * cfg .left + 2 ≤ 402 ⌝ }
+    requires { ⌜ cfg .depth + 2 * cfg .nesting + 2 ≤ 402 ⌝ }
     ensures { λ r. ⌜ does (λ ws c. sig-exp· ws c WhereTypeSigExp) run text rec kinds starts lens out mem at cfg r ⌝ }
 {
     let r1 = sig(run, text, rec, kinds, starts, lens, out, mem, at, cfg);
@@ -2422,7 +2422,7 @@ fn wr<'a>(
     at: usize,
     cfg: Cfg,
 ) -> usize
-    requires { ⌜ cfg .depth + 2 * cfg .left + 2 ≤ 402 ⌝ }
+    requires { ⌜ cfg .depth + 2 * cfg .nesting + 2 ≤ 402 ⌝ }
     ensures { λ r. ⌜ does (λ ws c. sig-exp· ws c WhereSigExp) run text rec kinds starts lens out mem at cfg r ⌝ }
 {
     let r1 = sig(run, text, rec, kinds, starts, lens, out, mem, at, cfg);
@@ -2456,7 +2456,7 @@ pub fn walk<'a>(
     let cfg = Cfg {
         depth: 0,
         blank: true,
-        left: 200,
+        nesting: 200,
     };
     ds(run, text, rec, kinds, starts, lens, out, mem, tree, cfg)
 }

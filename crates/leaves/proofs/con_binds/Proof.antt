@@ -27,7 +27,7 @@ same-length c = c .before .before .con-lines .kept .1 .1 .1 .1 .1 .0
 
 returns : tie.Need-returns
 unfolding DecOne.con-binds
-returns c = record { is = λ kinds. con-over (walks (c .before .before .before .before .before .before .before .before .before .before .before .args .cfg .left)) (cfgOf (c .before .before .before .before .before .before .before .before .before .before .before .args .cfg)) (c .before .before .before .before .before .if1 .taken) (plain (c .before .before .con-lines .ensures)) }
+returns c = record { is = λ kinds. con-over (walks (c .before .before .before .before .before .before .before .before .before .before .before .args .cfg .nesting)) (cfgOf (c .before .before .before .before .before .before .before .before .before .before .before .args .cfg)) (c .before .before .before .before .before .if1 .taken) (plain (c .before .before .con-lines .ensures)) }
 
 con-row-requires : tie.Need-con-row-requires
 con-row-requires c κs = search needs
@@ -37,7 +37,7 @@ same-length-2 c = c .before .before .con-row .kept .1 .1 .1 .1 .1 .0
 
 returns-2 : tie.Need-returns-2
 unfolding DecOne.con-binds
-returns-2 c = record { is = λ kinds. con-under (walks (c .before .before .before .before .before .before .before .before .before .before .before .args .cfg .left)) (cfgOf (c .before .before .before .before .before .before .before .before .before .before .before .args .cfg)) (c .before .before .before .before .before .if1 .left) (plain (c .before .before .con-row .ensures)) }
+returns-2 c = record { is = λ kinds. con-under (walks (c .before .before .before .before .before .before .before .before .before .before .before .args .cfg .nesting)) (cfgOf (c .before .before .before .before .before .before .before .before .before .before .before .args .cfg)) (c .before .before .before .before .before .if1 .left) (plain (c .before .before .con-row .ensures)) }
 
 pub con-binds-spec : {M : Type 1} → statement M
 con-binds-spec =

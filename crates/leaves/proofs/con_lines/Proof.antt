@@ -21,7 +21,7 @@ use Rattle.leaves.proofs.con_lines.Tie as tie
 
 abbrev Inv-loop : tie.InvT-loop
 Inv-loop run text rec starts lens out₀ mem₀ at cfg n s₀ i₀ out mem s i =
-    PlainTurn run text rec starts lens (from (Helpers.new-line (cfgOf cfg) "| ") (DecOne.con-bind (walks (cfg .left)))) n s₀ mem₀ out₀ i s mem out
+    PlainTurn run text rec starts lens (from (Helpers.new-line (cfgOf cfg) "| ") (DecOne.con-bind (walks (cfg .nesting)))) n s₀ mem₀ out₀ i s mem out
 
 abbrev μ-loop : tie.MeasureT-loop
 μ-loop run text rec starts lens out₀ mem₀ at cfg n s₀ i₀ out mem s i = n - i

@@ -286,202 +286,202 @@ use Rattle.walk.proofs.+ab+ac+an+app+ar+arm+br+ca+cb+cd+da+dec+dp+ds+du
 use Rattle.walk.proofs.+ab+ac+an+app+ar+arm+br+ca+cb+cd+da+dec+dp+ds+du+exp+fa+fb+fc+fd+fe+fs+fx+gd+ha+ic+ie+it+ld+lo+lx+ma+mo+nm+nu+one+pa+pr+qb+qs+rc+ro+rs+sa+sb+sd+seq+sg+sig+sl+sm+sp+sq+ss+str+ta+ty+vb+vd+ve+wh+wr+wt+xb+xd+xi.Tie.{close}
 
 abbrev μ-ab : Measures 7 ab-kinds.ps ℕ
-μ-ab κs a = 16 * a .1 .1 .1 .1 .1 .1 .1 .1 .1 .0 .left + 5
+μ-ab κs a = 16 * a .1 .1 .1 .1 .1 .1 .1 .1 .1 .0 .nesting + 5
 
 abbrev μ-ac : Measures 7 ac-kinds.ps ℕ
-μ-ac κs a = 16 * a .1 .1 .1 .1 .1 .1 .1 .1 .1 .0 .left + 2
+μ-ac κs a = 16 * a .1 .1 .1 .1 .1 .1 .1 .1 .1 .0 .nesting + 2
 
 abbrev μ-an : Measures 7 an-kinds.ps ℕ
-μ-an κs a = 16 * a .1 .1 .1 .1 .1 .1 .1 .1 .1 .0 .left + 2
+μ-an κs a = 16 * a .1 .1 .1 .1 .1 .1 .1 .1 .1 .0 .nesting + 2
 
 abbrev μ-app : Measures 7 app-kinds.ps ℕ
-μ-app κs a = 16 * a .1 .1 .1 .1 .1 .1 .1 .1 .1 .0 .left + 1
+μ-app κs a = 16 * a .1 .1 .1 .1 .1 .1 .1 .1 .1 .0 .nesting + 1
 
 abbrev μ-ar : Measures 7 ar-kinds.ps ℕ
-μ-ar κs a = 16 * a .1 .1 .1 .1 .1 .1 .1 .1 .1 .0 .left + 1
+μ-ar κs a = 16 * a .1 .1 .1 .1 .1 .1 .1 .1 .1 .0 .nesting + 1
 
 abbrev μ-arm : Measures 7 arm-kinds.ps ℕ
-μ-arm κs a = 16 * a .1 .1 .1 .1 .1 .1 .1 .1 .1 .0 .left + 2
+μ-arm κs a = 16 * a .1 .1 .1 .1 .1 .1 .1 .1 .1 .0 .nesting + 2
 
 abbrev μ-br : Measures 7 br-kinds.ps ℕ
-μ-br κs a = 16 * a .1 .1 .1 .1 .1 .1 .1 .1 .1 .0 .left + 2
+μ-br κs a = 16 * a .1 .1 .1 .1 .1 .1 .1 .1 .1 .0 .nesting + 2
 
 abbrev μ-ca : Measures 7 ca-kinds.ps ℕ
-μ-ca κs a = 16 * a .1 .1 .1 .1 .1 .1 .1 .1 .1 .0 .left + 5
+μ-ca κs a = 16 * a .1 .1 .1 .1 .1 .1 .1 .1 .1 .0 .nesting + 5
 
 abbrev μ-cb : Measures 7 cb-kinds.ps ℕ
-μ-cb κs a = 16 * a .1 .1 .1 .1 .1 .1 .1 .1 .1 .0 .left + 7
+μ-cb κs a = 16 * a .1 .1 .1 .1 .1 .1 .1 .1 .1 .0 .nesting + 7
 
 abbrev μ-cd : Measures 7 cd-kinds.ps ℕ
-μ-cd κs a = 16 * a .1 .1 .1 .1 .1 .1 .1 .1 .1 .0 .left + 8
+μ-cd κs a = 16 * a .1 .1 .1 .1 .1 .1 .1 .1 .1 .0 .nesting + 8
 
 abbrev μ-da : Measures 7 da-kinds.ps ℕ
-μ-da κs a = 16 * a .1 .1 .1 .1 .1 .1 .1 .1 .1 .0 .left + 4
+μ-da κs a = 16 * a .1 .1 .1 .1 .1 .1 .1 .1 .1 .0 .nesting + 4
 
 abbrev μ-dec : Measures 7 dec-kinds.ps ℕ
-μ-dec κs a = 16 * a .1 .1 .1 .1 .1 .1 .1 .1 .1 .0 .left + 3
+μ-dec κs a = 16 * a .1 .1 .1 .1 .1 .1 .1 .1 .1 .0 .nesting + 3
 
 abbrev μ-dp : Measures 7 dp-kinds.ps ℕ
-μ-dp κs a = 16 * a .1 .1 .1 .1 .1 .1 .1 .1 .1 .0 .left + 1
+μ-dp κs a = 16 * a .1 .1 .1 .1 .1 .1 .1 .1 .1 .0 .nesting + 1
 
 abbrev μ-ds : Measures 7 ds-kinds.ps ℕ
-μ-ds κs a = 16 * a .1 .1 .1 .1 .1 .1 .1 .1 .1 .0 .left + 4
+μ-ds κs a = 16 * a .1 .1 .1 .1 .1 .1 .1 .1 .1 .0 .nesting + 4
 
 abbrev μ-du : Measures 7 du-kinds.ps ℕ
-μ-du κs a = 16 * a .1 .1 .1 .1 .1 .1 .1 .1 .1 .0 .left + 1
+μ-du κs a = 16 * a .1 .1 .1 .1 .1 .1 .1 .1 .1 .0 .nesting + 1
 
 abbrev μ-exp : Measures 7 exp-kinds.ps ℕ
-μ-exp κs a = 16 * a .1 .1 .1 .1 .1 .1 .1 .1 .1 .0 .left + 0
+μ-exp κs a = 16 * a .1 .1 .1 .1 .1 .1 .1 .1 .1 .0 .nesting + 0
 
 abbrev μ-fa : Measures 7 fa-kinds.ps ℕ
-μ-fa κs a = 16 * a .1 .1 .1 .1 .1 .1 .1 .1 .1 .0 .left + 5
+μ-fa κs a = 16 * a .1 .1 .1 .1 .1 .1 .1 .1 .1 .0 .nesting + 5
 
 abbrev μ-fb : Measures 7 fb-kinds.ps ℕ
-μ-fb κs a = 16 * a .1 .1 .1 .1 .1 .1 .1 .1 .1 .0 .left + 4
+μ-fb κs a = 16 * a .1 .1 .1 .1 .1 .1 .1 .1 .1 .0 .nesting + 4
 
 abbrev μ-fc : Measures 7 fc-kinds.ps ℕ
-μ-fc κs a = 16 * a .1 .1 .1 .1 .1 .1 .1 .1 .1 .0 .left + 3
+μ-fc κs a = 16 * a .1 .1 .1 .1 .1 .1 .1 .1 .1 .0 .nesting + 3
 
 abbrev μ-fd : Measures 7 fd-kinds.ps ℕ
-μ-fd κs a = 16 * a .1 .1 .1 .1 .1 .1 .1 .1 .1 .0 .left + 5
+μ-fd κs a = 16 * a .1 .1 .1 .1 .1 .1 .1 .1 .1 .0 .nesting + 5
 
 abbrev μ-fe : Measures 7 fe-kinds.ps ℕ
-μ-fe κs a = 16 * a .1 .1 .1 .1 .1 .1 .1 .1 .1 .0 .left + 3
+μ-fe κs a = 16 * a .1 .1 .1 .1 .1 .1 .1 .1 .1 .0 .nesting + 3
 
 abbrev μ-fs : Measures 7 fs-kinds.ps ℕ
-μ-fs κs a = 16 * a .1 .1 .1 .1 .1 .1 .1 .1 .1 .0 .left + 6
+μ-fs κs a = 16 * a .1 .1 .1 .1 .1 .1 .1 .1 .1 .0 .nesting + 6
 
 abbrev μ-fx : Measures 7 fx-kinds.ps ℕ
-μ-fx κs a = 16 * a .1 .1 .1 .1 .1 .1 .1 .1 .1 .0 .left + 1
+μ-fx κs a = 16 * a .1 .1 .1 .1 .1 .1 .1 .1 .1 .0 .nesting + 1
 
 abbrev μ-gd : Measures 7 gd-kinds.ps ℕ
-μ-gd κs a = 16 * a .1 .1 .1 .1 .1 .1 .1 .1 .1 .0 .left + 2
+μ-gd κs a = 16 * a .1 .1 .1 .1 .1 .1 .1 .1 .1 .0 .nesting + 2
 
 abbrev μ-ha : Measures 7 ha-kinds.ps ℕ
-μ-ha κs a = 16 * a .1 .1 .1 .1 .1 .1 .1 .1 .1 .0 .left + 4
+μ-ha κs a = 16 * a .1 .1 .1 .1 .1 .1 .1 .1 .1 .0 .nesting + 4
 
 abbrev μ-ic : Measures 7 ic-kinds.ps ℕ
-μ-ic κs a = 16 * a .1 .1 .1 .1 .1 .1 .1 .1 .1 .0 .left + 1
+μ-ic κs a = 16 * a .1 .1 .1 .1 .1 .1 .1 .1 .1 .0 .nesting + 1
 
 abbrev μ-ie : Measures 7 ie-kinds.ps ℕ
-μ-ie κs a = 16 * a .1 .1 .1 .1 .1 .1 .1 .1 .1 .0 .left + 1
+μ-ie κs a = 16 * a .1 .1 .1 .1 .1 .1 .1 .1 .1 .0 .nesting + 1
 
 abbrev μ-it : Measures 7 it-kinds.ps ℕ
-μ-it κs a = 16 * a .1 .1 .1 .1 .1 .1 .1 .1 .1 .0 .left + 1
+μ-it κs a = 16 * a .1 .1 .1 .1 .1 .1 .1 .1 .1 .0 .nesting + 1
 
 abbrev μ-ld : Measures 7 ld-kinds.ps ℕ
-μ-ld κs a = 16 * a .1 .1 .1 .1 .1 .1 .1 .1 .1 .0 .left + 5
+μ-ld κs a = 16 * a .1 .1 .1 .1 .1 .1 .1 .1 .1 .0 .nesting + 5
 
 abbrev μ-lo : Measures 7 lo-kinds.ps ℕ
-μ-lo κs a = 16 * a .1 .1 .1 .1 .1 .1 .1 .1 .1 .0 .left + 6
+μ-lo κs a = 16 * a .1 .1 .1 .1 .1 .1 .1 .1 .1 .0 .nesting + 6
 
 abbrev μ-lx : Measures 7 lx-kinds.ps ℕ
-μ-lx κs a = 16 * a .1 .1 .1 .1 .1 .1 .1 .1 .1 .0 .left + 5
+μ-lx κs a = 16 * a .1 .1 .1 .1 .1 .1 .1 .1 .1 .0 .nesting + 5
 
 abbrev μ-ma : Measures 7 ma-kinds.ps ℕ
-μ-ma κs a = 16 * a .1 .1 .1 .1 .1 .1 .1 .1 .1 .0 .left + 3
+μ-ma κs a = 16 * a .1 .1 .1 .1 .1 .1 .1 .1 .1 .0 .nesting + 3
 
 abbrev μ-mo : Measures 7 mo-kinds.ps ℕ
-μ-mo κs a = 16 * a .1 .1 .1 .1 .1 .1 .1 .1 .1 .0 .left + 2
+μ-mo κs a = 16 * a .1 .1 .1 .1 .1 .1 .1 .1 .1 .0 .nesting + 2
 
 abbrev μ-nm : Measures 7 nm-kinds.ps ℕ
-μ-nm κs a = 16 * a .1 .1 .1 .1 .1 .1 .1 .1 .1 .0 .left + 1
+μ-nm κs a = 16 * a .1 .1 .1 .1 .1 .1 .1 .1 .1 .0 .nesting + 1
 
 abbrev μ-nu : Measures 7 nu-kinds.ps ℕ
-μ-nu κs a = 16 * a .1 .1 .1 .1 .1 .1 .1 .1 .1 .0 .left + 9
+μ-nu κs a = 16 * a .1 .1 .1 .1 .1 .1 .1 .1 .1 .0 .nesting + 9
 
 abbrev μ-one : Measures 7 one-kinds.ps ℕ
-μ-one κs a = 16 * a .1 .1 .1 .1 .1 .1 .1 .1 .1 .0 .left + 0
+μ-one κs a = 16 * a .1 .1 .1 .1 .1 .1 .1 .1 .1 .0 .nesting + 0
 
 abbrev μ-pa : Measures 7 pa-kinds.ps ℕ
-μ-pa κs a = 16 * a .1 .1 .1 .1 .1 .1 .1 .1 .1 .0 .left + 1
+μ-pa κs a = 16 * a .1 .1 .1 .1 .1 .1 .1 .1 .1 .0 .nesting + 1
 
 abbrev μ-pr : Measures 7 pr-kinds.ps ℕ
-μ-pr κs a = 16 * a .1 .1 .1 .1 .1 .1 .1 .1 .1 .0 .left + 1
+μ-pr κs a = 16 * a .1 .1 .1 .1 .1 .1 .1 .1 .1 .0 .nesting + 1
 
 abbrev μ-qb : Measures 7 qb-kinds.ps ℕ
-μ-qb κs a = 16 * a .1 .1 .1 .1 .1 .1 .1 .1 .1 .0 .left + 2
+μ-qb κs a = 16 * a .1 .1 .1 .1 .1 .1 .1 .1 .1 .0 .nesting + 2
 
 abbrev μ-qs : Measures 7 qs-kinds.ps ℕ
-μ-qs κs a = 16 * a .1 .1 .1 .1 .1 .1 .1 .1 .1 .0 .left + 2
+μ-qs κs a = 16 * a .1 .1 .1 .1 .1 .1 .1 .1 .1 .0 .nesting + 2
 
 abbrev μ-rc : Measures 7 rc-kinds.ps ℕ
-μ-rc κs a = 16 * a .1 .1 .1 .1 .1 .1 .1 .1 .1 .0 .left + 3
+μ-rc κs a = 16 * a .1 .1 .1 .1 .1 .1 .1 .1 .1 .0 .nesting + 3
 
 abbrev μ-ro : Measures 7 ro-kinds.ps ℕ
-μ-ro κs a = 16 * a .1 .1 .1 .1 .1 .1 .1 .1 .1 .0 .left + 1
+μ-ro κs a = 16 * a .1 .1 .1 .1 .1 .1 .1 .1 .1 .0 .nesting + 1
 
 abbrev μ-rs : Measures 7 rs-kinds.ps ℕ
-μ-rs κs a = 16 * a .1 .1 .1 .1 .1 .1 .1 .1 .1 .0 .left + 2
+μ-rs κs a = 16 * a .1 .1 .1 .1 .1 .1 .1 .1 .1 .0 .nesting + 2
 
 abbrev μ-sa : Measures 7 sa-kinds.ps ℕ
-μ-sa κs a = 16 * a .1 .1 .1 .1 .1 .1 .1 .1 .1 .0 .left + 5
+μ-sa κs a = 16 * a .1 .1 .1 .1 .1 .1 .1 .1 .1 .0 .nesting + 5
 
 abbrev μ-sb : Measures 7 sb-kinds.ps ℕ
-μ-sb κs a = 16 * a .1 .1 .1 .1 .1 .1 .1 .1 .1 .0 .left + 3
+μ-sb κs a = 16 * a .1 .1 .1 .1 .1 .1 .1 .1 .1 .0 .nesting + 3
 
 abbrev μ-sd : Measures 7 sd-kinds.ps ℕ
-μ-sd κs a = 16 * a .1 .1 .1 .1 .1 .1 .1 .1 .1 .0 .left + 4
+μ-sd κs a = 16 * a .1 .1 .1 .1 .1 .1 .1 .1 .1 .0 .nesting + 4
 
 abbrev μ-seq : Measures 7 seq-kinds.ps ℕ
-μ-seq κs a = 16 * a .1 .1 .1 .1 .1 .1 .1 .1 .1 .0 .left + 4
+μ-seq κs a = 16 * a .1 .1 .1 .1 .1 .1 .1 .1 .1 .0 .nesting + 4
 
 abbrev μ-sg : Measures 7 sg-kinds.ps ℕ
-μ-sg κs a = 16 * a .1 .1 .1 .1 .1 .1 .1 .1 .1 .0 .left + 5
+μ-sg κs a = 16 * a .1 .1 .1 .1 .1 .1 .1 .1 .1 .0 .nesting + 5
 
 abbrev μ-sig : Measures 7 sig-kinds.ps ℕ
-μ-sig κs a = 16 * a .1 .1 .1 .1 .1 .1 .1 .1 .1 .0 .left + 0
+μ-sig κs a = 16 * a .1 .1 .1 .1 .1 .1 .1 .1 .1 .0 .nesting + 0
 
 abbrev μ-sl : Measures 7 sl-kinds.ps ℕ
-μ-sl κs a = 16 * a .1 .1 .1 .1 .1 .1 .1 .1 .1 .0 .left + 5
+μ-sl κs a = 16 * a .1 .1 .1 .1 .1 .1 .1 .1 .1 .0 .nesting + 5
 
 abbrev μ-sm : Measures 7 sm-kinds.ps ℕ
-μ-sm κs a = 16 * a .1 .1 .1 .1 .1 .1 .1 .1 .1 .0 .left + 3
+μ-sm κs a = 16 * a .1 .1 .1 .1 .1 .1 .1 .1 .1 .0 .nesting + 3
 
 abbrev μ-sp : Measures 7 sp-kinds.ps ℕ
-μ-sp κs a = 16 * a .1 .1 .1 .1 .1 .1 .1 .1 .1 .0 .left + 6
+μ-sp κs a = 16 * a .1 .1 .1 .1 .1 .1 .1 .1 .1 .0 .nesting + 6
 
 abbrev μ-sq : Measures 7 sq-kinds.ps ℕ
-μ-sq κs a = 16 * a .1 .1 .1 .1 .1 .1 .1 .1 .1 .0 .left + 1
+μ-sq κs a = 16 * a .1 .1 .1 .1 .1 .1 .1 .1 .1 .0 .nesting + 1
 
 abbrev μ-ss : Measures 7 ss-kinds.ps ℕ
-μ-ss κs a = 16 * a .1 .1 .1 .1 .1 .1 .1 .1 .1 .0 .left + 5
+μ-ss κs a = 16 * a .1 .1 .1 .1 .1 .1 .1 .1 .1 .0 .nesting + 5
 
 abbrev μ-str : Measures 7 str-kinds.ps ℕ
-μ-str κs a = 16 * a .1 .1 .1 .1 .1 .1 .1 .1 .1 .0 .left + 0
+μ-str κs a = 16 * a .1 .1 .1 .1 .1 .1 .1 .1 .1 .0 .nesting + 0
 
 abbrev μ-ta : Measures 7 ta-kinds.ps ℕ
-μ-ta κs a = 16 * a .1 .1 .1 .1 .1 .1 .1 .1 .1 .0 .left + 1
+μ-ta κs a = 16 * a .1 .1 .1 .1 .1 .1 .1 .1 .1 .0 .nesting + 1
 
 abbrev μ-ty : Measures 7 ty-kinds.ps ℕ
-μ-ty κs a = 16 * a .1 .1 .1 .1 .1 .1 .1 .1 .1 .0 .left + 1
+μ-ty κs a = 16 * a .1 .1 .1 .1 .1 .1 .1 .1 .1 .0 .nesting + 1
 
 abbrev μ-vb : Measures 7 vb-kinds.ps ℕ
-μ-vb κs a = 16 * a .1 .1 .1 .1 .1 .1 .1 .1 .1 .0 .left + 3
+μ-vb κs a = 16 * a .1 .1 .1 .1 .1 .1 .1 .1 .1 .0 .nesting + 3
 
 abbrev μ-vd : Measures 7 vd-kinds.ps ℕ
-μ-vd κs a = 16 * a .1 .1 .1 .1 .1 .1 .1 .1 .1 .0 .left + 4
+μ-vd κs a = 16 * a .1 .1 .1 .1 .1 .1 .1 .1 .1 .0 .nesting + 4
 
 abbrev μ-ve : Measures 7 ve-kinds.ps ℕ
-μ-ve κs a = 16 * a .1 .1 .1 .1 .1 .1 .1 .1 .1 .0 .left + 2
+μ-ve κs a = 16 * a .1 .1 .1 .1 .1 .1 .1 .1 .1 .0 .nesting + 2
 
 abbrev μ-wh : Measures 7 wh-kinds.ps ℕ
-μ-wh κs a = 16 * a .1 .1 .1 .1 .1 .1 .1 .1 .1 .0 .left + 2
+μ-wh κs a = 16 * a .1 .1 .1 .1 .1 .1 .1 .1 .1 .0 .nesting + 2
 
 abbrev μ-wr : Measures 7 wr-kinds.ps ℕ
-μ-wr κs a = 16 * a .1 .1 .1 .1 .1 .1 .1 .1 .1 .0 .left + 1
+μ-wr κs a = 16 * a .1 .1 .1 .1 .1 .1 .1 .1 .1 .0 .nesting + 1
 
 abbrev μ-wt : Measures 7 wt-kinds.ps ℕ
-μ-wt κs a = 16 * a .1 .1 .1 .1 .1 .1 .1 .1 .1 .0 .left + 1
+μ-wt κs a = 16 * a .1 .1 .1 .1 .1 .1 .1 .1 .1 .0 .nesting + 1
 
 abbrev μ-xb : Measures 7 xb-kinds.ps ℕ
-μ-xb κs a = 16 * a .1 .1 .1 .1 .1 .1 .1 .1 .1 .0 .left + 3
+μ-xb κs a = 16 * a .1 .1 .1 .1 .1 .1 .1 .1 .1 .0 .nesting + 3
 
 abbrev μ-xd : Measures 7 xd-kinds.ps ℕ
-μ-xd κs a = 16 * a .1 .1 .1 .1 .1 .1 .1 .1 .1 .0 .left + 4
+μ-xd κs a = 16 * a .1 .1 .1 .1 .1 .1 .1 .1 .1 .0 .nesting + 4
 
 abbrev μ-xi : Measures 7 xi-kinds.ps ℕ
-μ-xi κs a = 16 * a .1 .1 .1 .1 .1 .1 .1 .1 .1 .0 .left + 2
+μ-xi κs a = 16 * a .1 .1 .1 .1 .1 .1 .1 .1 .1 .0 .nesting + 2
 
 abbrev ab-at : ℕ → In 7 ab-kinds.ps
 ab-at t = and 7 ab-kinds.ps (is 7 ab-kinds.ps μ-ab t) ab.Pre
@@ -1239,7 +1239,7 @@ app-same-length-2 t c = c .before .before .before .before .before .before .befor
 
 app-returns-2 : (t : ℕ) → app-lts.Need-returns-2 (app-claims t) (app-at t) app.Post
 unfolding Exp.exp
-app-returns-2 t c = record { is = application-missing (seen-behind (c .before .before .before .before .before .before .before .before .before .before .before .before .before .before .before .before .before .before .before .args .cfg .left) (cfgOf (c .before .before .before .before .before .before .before .before .before .before .before .before .before .before .before .before .before .before .before .args .cfg)) (omega (arith, c .before .before .before .before .before .before .before .before .before .before .before .before .before .before .before .before .before .before .before .pre)) (c .before .before .before .before .before .before .before .before .before .before .exp .ensures .is) (c .before .before .before .before .before .before .before .told .ensures) (c .before .before .before .before .before .s1 .given .1) (c .before .before .before .heads-behind .ensures)) (c .before .enum-told2 .given .1) (missed (c .missing .ensures) (c .before .enum-told2 .given .1)) }
+app-returns-2 t c = record { is = application-missing (seen-behind (c .before .before .before .before .before .before .before .before .before .before .before .before .before .before .before .before .before .before .before .args .cfg .nesting) (cfgOf (c .before .before .before .before .before .before .before .before .before .before .before .before .before .before .before .before .before .before .before .args .cfg)) (omega (arith, c .before .before .before .before .before .before .before .before .before .before .before .before .before .before .before .before .before .before .before .pre)) (c .before .before .before .before .before .before .before .before .before .before .exp .ensures .is) (c .before .before .before .before .before .before .before .told .ensures) (c .before .before .before .before .before .s1 .given .1) (c .before .before .before .heads-behind .ensures)) (c .before .enum-told2 .given .1) (missed (c .missing .ensures) (c .before .enum-told2 .given .1)) }
 
 app-func-is-bang-requires : (t : ℕ) → app-lts.Need-func-is-bang-requires (app-claims t) (app-at t) app.Post
 app-func-is-bang-requires t c κs = search needs
@@ -1258,11 +1258,11 @@ app-same-length-3 t c = c .before .before .exp2 .kept .1 .1 .1 .1 .1 .1 .0 ∙ c
 
 app-returns-3 : (t : ℕ) → app-lts.Need-returns-3 (app-claims t) (app-at t) app.Post
 unfolding Exp.exp
-app-returns-3 t c = record { is = by-same (application-is (seen-behind (c .before .before .before .before .before .before .before .before .before .before .before .before .before .before .before .before .before .before .before .before .before .before .before .before .before .before .before .before .before .before .before .args .cfg .left) (cfgOf (c .before .before .before .before .before .before .before .before .before .before .before .before .before .before .before .before .before .before .before .before .before .before .before .before .before .before .before .before .before .before .before .args .cfg)) (omega (arith, c .before .before .before .before .before .before .before .before .before .before .before .before .before .before .before .before .before .before .before .before .before .before .before .before .before .before .before .before .before .before .before .pre)) (c .before .before .before .before .before .before .before .before .before .before .before .before .before .before .before .before .before .before .before .before .before .before .exp .ensures .is) (c .before .before .before .before .before .before .before .before .before .before .before .before .before .before .before .before .before .before .before .told .ensures) (c .before .before .before .before .before .before .before .before .before .before .before .before .before .before .before .before .before .s1 .given .1) (c .before .before .before .before .before .before .before .before .before .before .before .before .before .before .before .heads-behind .ensures)) (c .before .before .before .before .before .before .before .before .before .before .before .before .before .seen .given .1) (c .before .before .before .before .before .before .before .before .before .before .before .func-is-bang .ensures) (c .before .before .before .before .before .before .before .before .before .before .arg-is-symbolic .ensures)) (then-done (c .before .before .before .before .before .before .before .before .before .before .before .before .before .before .before .before .before .before .before .before .before .before .exp .ensures .is) (c .before .before .before .before .before .before .before .before .before .before .before .before .before .before .before .before .before .before .before .told .ensures) (c .before .before .before .before .before .before .before .before .before .before .before .before .before .before .before .before .before .s1 .given .1) (then-sure (c .before .before .before .before .before .before .before .app-space .ensures) (c .before .before .exp2 .ensures .is))) }
+app-returns-3 t c = record { is = by-same (application-is (seen-behind (c .before .before .before .before .before .before .before .before .before .before .before .before .before .before .before .before .before .before .before .before .before .before .before .before .before .before .before .before .before .before .before .args .cfg .nesting) (cfgOf (c .before .before .before .before .before .before .before .before .before .before .before .before .before .before .before .before .before .before .before .before .before .before .before .before .before .before .before .before .before .before .before .args .cfg)) (omega (arith, c .before .before .before .before .before .before .before .before .before .before .before .before .before .before .before .before .before .before .before .before .before .before .before .before .before .before .before .before .before .before .before .pre)) (c .before .before .before .before .before .before .before .before .before .before .before .before .before .before .before .before .before .before .before .before .before .before .exp .ensures .is) (c .before .before .before .before .before .before .before .before .before .before .before .before .before .before .before .before .before .before .before .told .ensures) (c .before .before .before .before .before .before .before .before .before .before .before .before .before .before .before .before .before .s1 .given .1) (c .before .before .before .before .before .before .before .before .before .before .before .before .before .before .before .heads-behind .ensures)) (c .before .before .before .before .before .before .before .before .before .before .before .before .before .seen .given .1) (c .before .before .before .before .before .before .before .before .before .before .before .func-is-bang .ensures) (c .before .before .before .before .before .before .before .before .before .before .arg-is-symbolic .ensures)) (then-done (c .before .before .before .before .before .before .before .before .before .before .before .before .before .before .before .before .before .before .before .before .before .before .exp .ensures .is) (c .before .before .before .before .before .before .before .before .before .before .before .before .before .before .before .before .before .before .before .told .ensures) (c .before .before .before .before .before .before .before .before .before .before .before .before .before .before .before .before .before .s1 .given .1) (then-sure (c .before .before .before .before .before .before .before .app-space .ensures) (c .before .before .exp2 .ensures .is))) }
 
 abbrev ar-Inv-loop : ar-lts.InvT-loop
 ar-Inv-loop run text rec kinds starts lens out₀ mem₀ at cfg n s0 s₀ i₀ out mem s i =
-    Turn run (page text rec kinds starts lens) (from (Layout.word ", ") (Layout.group (walks (cfg .left) .get-exp (cfgOf cfg)))) n s₀ mem₀ out₀ i s mem out
+    Turn run (page text rec kinds starts lens) (from (Layout.word ", ") (Layout.group (walks (cfg .nesting) .get-exp (cfgOf cfg)))) n s₀ mem₀ out₀ i s mem out
 
 abbrev ar-μ-loop : ar-lts.MeasureT-loop
 ar-μ-loop run text rec kinds starts lens out₀ mem₀ at cfg n s0 s₀ i₀ out mem s i = n - i
@@ -1573,7 +1573,7 @@ cb-returns-5 t c = record { is = by-same (group-is (c .before .before .before .b
 
 abbrev cd-Inv-loop : cd-lts.InvT-loop
 cd-Inv-loop run text rec kinds starts lens out₀ mem₀ at cfg n s1 s₀ i₀ out mem s i =
-    Turn run (page text rec kinds starts lens) (from (Helpers.new-line (cfgOf cfg) "and ") (DecOne.functor-bind (walks (cfg .left)) (cfgOf cfg))) n s₀ mem₀ out₀ i s mem out
+    Turn run (page text rec kinds starts lens) (from (Helpers.new-line (cfgOf cfg) "and ") (DecOne.functor-bind (walks (cfg .nesting)) (cfgOf cfg))) n s₀ mem₀ out₀ i s mem out
 
 abbrev cd-μ-loop : cd-lts.MeasureT-loop
 cd-μ-loop run text rec kinds starts lens out₀ mem₀ at cfg n s1 s₀ i₀ out mem s i = n - i
@@ -1762,7 +1762,7 @@ dp-returns t c = record { is = then-both (c .before .before .before .before .bef
 
 abbrev ds-Inv-loop : ds-lts.InvT-loop
 ds-Inv-loop run text rec kinds starts lens out₀ mem₀ at cfg n s0 s₀ i₀ out mem s i =
-    Turn run (page text rec kinds starts lens) (from (Helpers.new-line (cfgOf cfg) "") (Layout.group (GetDec.dec (walks (cfg .left)) (cfgOf cfg)))) n s₀ mem₀ out₀ i s mem out
+    Turn run (page text rec kinds starts lens) (from (Helpers.new-line (cfgOf cfg) "") (Layout.group (GetDec.dec (walks (cfg .nesting)) (cfgOf cfg)))) n s₀ mem₀ out₀ i s mem out
 
 abbrev ds-μ-loop : ds-lts.MeasureT-loop
 ds-μ-loop run text rec kinds starts lens out₀ mem₀ at cfg n s0 s₀ i₀ out mem s i = n - i
@@ -2155,7 +2155,7 @@ exp-returns-27 t c = record { is = exp-form _ _ (c .before .before .before .befo
 
 exp-returns-28 : (t : ℕ) → exp-lts.Need-returns-28 (exp-claims t) (exp-at t) exp.Post
 unfolding Exp.exps Exp.exp
-exp-returns-28 t c = record { is = exp-form _ _ (c .before .before .before .before .before .before .if1 .left) (by-same (form-is (c .before .before .before .before .before .form .ensures) (c .before .before .before .k .given .1)) (beyond (Exp.exps (walks (c .before .before .before .before .before .before .before .before .before .before .before .before .before .args .cfg .left - 1)) (cfgOf (c .before .before .before .before .before .before .before .before .before .before .before .before .before .args .cfg))) (c .before .before .before .k .given .0 .0) 25 refl (past (past (past (past (past (past (past (past (past (past (past (past (past (past (past (past (past (past (past (past (past (past (past (past (past zero-le (c .before .match2 .rest .0 .0 .0 .0 .0 .0 .0 .0 .0 .0 .0 .0 .0 .0 .0 .0 .0 .0 .0 .0 .0 .0 .0 .0 .1)) (c .before .match2 .rest .0 .0 .0 .0 .0 .0 .0 .0 .0 .0 .0 .0 .0 .0 .0 .0 .0 .0 .0 .0 .0 .0 .0 .1)) (c .before .match2 .rest .0 .0 .0 .0 .0 .0 .0 .0 .0 .0 .0 .0 .0 .0 .0 .0 .0 .0 .0 .0 .0 .0 .1)) (c .before .match2 .rest .0 .0 .0 .0 .0 .0 .0 .0 .0 .0 .0 .0 .0 .0 .0 .0 .0 .0 .0 .0 .0 .1)) (c .before .match2 .rest .0 .0 .0 .0 .0 .0 .0 .0 .0 .0 .0 .0 .0 .0 .0 .0 .0 .0 .0 .0 .1)) (c .before .match2 .rest .0 .0 .0 .0 .0 .0 .0 .0 .0 .0 .0 .0 .0 .0 .0 .0 .0 .0 .0 .1)) (c .before .match2 .rest .0 .0 .0 .0 .0 .0 .0 .0 .0 .0 .0 .0 .0 .0 .0 .0 .0 .0 .1)) (c .before .match2 .rest .0 .0 .0 .0 .0 .0 .0 .0 .0 .0 .0 .0 .0 .0 .0 .0 .0 .1)) (c .before .match2 .rest .0 .0 .0 .0 .0 .0 .0 .0 .0 .0 .0 .0 .0 .0 .0 .0 .1)) (c .before .match2 .rest .0 .0 .0 .0 .0 .0 .0 .0 .0 .0 .0 .0 .0 .0 .0 .1)) (c .before .match2 .rest .0 .0 .0 .0 .0 .0 .0 .0 .0 .0 .0 .0 .0 .0 .1)) (c .before .match2 .rest .0 .0 .0 .0 .0 .0 .0 .0 .0 .0 .0 .0 .0 .1)) (c .before .match2 .rest .0 .0 .0 .0 .0 .0 .0 .0 .0 .0 .0 .0 .1)) (c .before .match2 .rest .0 .0 .0 .0 .0 .0 .0 .0 .0 .0 .0 .1)) (c .before .match2 .rest .0 .0 .0 .0 .0 .0 .0 .0 .0 .0 .1)) (c .before .match2 .rest .0 .0 .0 .0 .0 .0 .0 .0 .0 .1)) (c .before .match2 .rest .0 .0 .0 .0 .0 .0 .0 .0 .1)) (c .before .match2 .rest .0 .0 .0 .0 .0 .0 .0 .1)) (c .before .match2 .rest .0 .0 .0 .0 .0 .0 .1)) (c .before .match2 .rest .0 .0 .0 .0 .0 .1)) (c .before .match2 .rest .0 .0 .0 .0 .1)) (c .before .match2 .rest .0 .0 .0 .1)) (c .before .match2 .rest .0 .0 .1)) (c .before .match2 .rest .0 .1)) (c .before .match2 .rest .1)) (c .stop3 .ensures))) }
+exp-returns-28 t c = record { is = exp-form _ _ (c .before .before .before .before .before .before .if1 .left) (by-same (form-is (c .before .before .before .before .before .form .ensures) (c .before .before .before .k .given .1)) (beyond (Exp.exps (walks (c .before .before .before .before .before .before .before .before .before .before .before .before .before .args .cfg .nesting - 1)) (cfgOf (c .before .before .before .before .before .before .before .before .before .before .before .before .before .args .cfg))) (c .before .before .before .k .given .0 .0) 25 refl (past (past (past (past (past (past (past (past (past (past (past (past (past (past (past (past (past (past (past (past (past (past (past (past (past zero-le (c .before .match2 .rest .0 .0 .0 .0 .0 .0 .0 .0 .0 .0 .0 .0 .0 .0 .0 .0 .0 .0 .0 .0 .0 .0 .0 .0 .1)) (c .before .match2 .rest .0 .0 .0 .0 .0 .0 .0 .0 .0 .0 .0 .0 .0 .0 .0 .0 .0 .0 .0 .0 .0 .0 .0 .1)) (c .before .match2 .rest .0 .0 .0 .0 .0 .0 .0 .0 .0 .0 .0 .0 .0 .0 .0 .0 .0 .0 .0 .0 .0 .0 .1)) (c .before .match2 .rest .0 .0 .0 .0 .0 .0 .0 .0 .0 .0 .0 .0 .0 .0 .0 .0 .0 .0 .0 .0 .0 .1)) (c .before .match2 .rest .0 .0 .0 .0 .0 .0 .0 .0 .0 .0 .0 .0 .0 .0 .0 .0 .0 .0 .0 .0 .1)) (c .before .match2 .rest .0 .0 .0 .0 .0 .0 .0 .0 .0 .0 .0 .0 .0 .0 .0 .0 .0 .0 .0 .1)) (c .before .match2 .rest .0 .0 .0 .0 .0 .0 .0 .0 .0 .0 .0 .0 .0 .0 .0 .0 .0 .0 .1)) (c .before .match2 .rest .0 .0 .0 .0 .0 .0 .0 .0 .0 .0 .0 .0 .0 .0 .0 .0 .0 .1)) (c .before .match2 .rest .0 .0 .0 .0 .0 .0 .0 .0 .0 .0 .0 .0 .0 .0 .0 .0 .1)) (c .before .match2 .rest .0 .0 .0 .0 .0 .0 .0 .0 .0 .0 .0 .0 .0 .0 .0 .1)) (c .before .match2 .rest .0 .0 .0 .0 .0 .0 .0 .0 .0 .0 .0 .0 .0 .0 .1)) (c .before .match2 .rest .0 .0 .0 .0 .0 .0 .0 .0 .0 .0 .0 .0 .0 .1)) (c .before .match2 .rest .0 .0 .0 .0 .0 .0 .0 .0 .0 .0 .0 .0 .1)) (c .before .match2 .rest .0 .0 .0 .0 .0 .0 .0 .0 .0 .0 .0 .1)) (c .before .match2 .rest .0 .0 .0 .0 .0 .0 .0 .0 .0 .0 .1)) (c .before .match2 .rest .0 .0 .0 .0 .0 .0 .0 .0 .0 .1)) (c .before .match2 .rest .0 .0 .0 .0 .0 .0 .0 .0 .1)) (c .before .match2 .rest .0 .0 .0 .0 .0 .0 .0 .1)) (c .before .match2 .rest .0 .0 .0 .0 .0 .0 .1)) (c .before .match2 .rest .0 .0 .0 .0 .0 .1)) (c .before .match2 .rest .0 .0 .0 .0 .1)) (c .before .match2 .rest .0 .0 .0 .1)) (c .before .match2 .rest .0 .0 .1)) (c .before .match2 .rest .0 .1)) (c .before .match2 .rest .1)) (c .stop3 .ensures))) }
 
 fa-nm-requires : (t : ℕ) → fa-lts.Need-nm-requires (fa-claims t) (fa-at t) fa.Post
 fa-nm-requires t c κs = omega (arith, c .before .before .before .before .before .before .before .before .before .pre .0, c .before .before .before .before .before .before .before .before .before .pre .1)
@@ -2171,22 +2171,22 @@ fa-same-length t c = c .before .before .nm .kept .1 .1 .1 .1 .1 .1 .0
 
 fa-returns : (t : ℕ) → fa-lts.Need-returns (fa-claims t) (fa-at t) fa.Post
 unfolding DecOne.functor-arg
-fa-returns t c = record { is = at-key (λ i. DecOne.functor-arg (walks (c .before .before .before .before .before .before .before .before .before .before .before .before .args .cfg .left)) (cfgOf (c .before .before .before .before .before .before .before .before .before .before .before .before .args .cfg)) i) (c .before .before .before .before .before .match .keys1) (c .before .before .nm .ensures .is) }
+fa-returns t c = record { is = at-key (λ i. DecOne.functor-arg (walks (c .before .before .before .before .before .before .before .before .before .before .before .before .args .cfg .nesting)) (cfgOf (c .before .before .before .before .before .before .before .before .before .before .before .before .args .cfg)) i) (c .before .before .before .before .before .match .keys1) (c .before .before .nm .ensures .is) }
 
 fa-same-length-2 : (t : ℕ) → fa-lts.Need-same-length-2 (fa-claims t) (fa-at t) fa.Post
 fa-same-length-2 t c = c .before .before .da .kept .1 .1 .1 .1 .1 .1 .0
 
 fa-returns-2 : (t : ℕ) → fa-lts.Need-returns-2 (fa-claims t) (fa-at t) fa.Post
 unfolding DecOne.functor-arg
-fa-returns-2 t c = record { is = at-key (λ i. DecOne.functor-arg (walks (c .before .before .before .before .before .before .before .before .before .before .before .before .args .cfg .left)) (cfgOf (c .before .before .before .before .before .before .before .before .before .before .before .before .args .cfg)) i) (c .before .before .before .before .before .match .keys2) (c .before .before .da .ensures .is) }
+fa-returns-2 t c = record { is = at-key (λ i. DecOne.functor-arg (walks (c .before .before .before .before .before .before .before .before .before .before .before .before .args .cfg .nesting)) (cfgOf (c .before .before .before .before .before .before .before .before .before .before .before .before .args .cfg)) i) (c .before .before .before .before .before .match .keys2) (c .before .before .da .ensures .is) }
 
 fa-returns-3 : (t : ℕ) → fa-lts.Need-returns-3 (fa-claims t) (fa-at t) fa.Post
 unfolding DecOne.functor-arg
-fa-returns-3 t c = record { is = beyond ((Layout._⨾_ Layout.text (Layout._⨾_ (Layout.word " : ") (walks (c .before .before .before .before .before .before .before .before .args .cfg .left) .get-sig-exp (cfgOf (c .before .before .before .before .before .before .before .before .args .cfg))))) ∷ GetDec.dec-arg (walks (c .before .before .before .before .before .before .before .before .args .cfg .left)) (cfgOf (c .before .before .before .before .before .before .before .before .args .cfg)) ∷ []) (c .before .before .before .before .before .before .before .before .args .which) 2 refl (past (past zero-le (c .before .match .rest .0 .1)) (c .before .match .rest .1)) (c .stop .ensures) }
+fa-returns-3 t c = record { is = beyond ((Layout._⨾_ Layout.text (Layout._⨾_ (Layout.word " : ") (walks (c .before .before .before .before .before .before .before .before .args .cfg .nesting) .get-sig-exp (cfgOf (c .before .before .before .before .before .before .before .before .args .cfg))))) ∷ GetDec.dec-arg (walks (c .before .before .before .before .before .before .before .before .args .cfg .nesting)) (cfgOf (c .before .before .before .before .before .before .before .before .args .cfg)) ∷ []) (c .before .before .before .before .before .before .before .before .args .which) 2 refl (past (past zero-le (c .before .match .rest .0 .1)) (c .before .match .rest .1)) (c .stop .ensures) }
 
 abbrev fb-Inv-loop : fb-lts.InvT-loop
 fb-Inv-loop run text rec kinds starts lens out₀ mem₀ at cfg r1 s1 n s2 s₀ i₀ out mem s i =
-    Turn run (page text rec kinds starts lens) (from (Helpers.new-line (Helpers.deeper (cfgOf cfg)) "| ") (DecOne.fun-bind-case (walks (cfg .left)) (cfgOf cfg))) n s₀ mem₀ out₀ i s mem out
+    Turn run (page text rec kinds starts lens) (from (Helpers.new-line (Helpers.deeper (cfgOf cfg)) "| ") (DecOne.fun-bind-case (walks (cfg .nesting)) (cfgOf cfg))) n s₀ mem₀ out₀ i s mem out
 
 abbrev fb-μ-loop : fb-lts.MeasureT-loop
 fb-μ-loop run text rec kinds starts lens out₀ mem₀ at cfg r1 s1 n s2 s₀ i₀ out mem s i = n - i
@@ -2353,7 +2353,7 @@ fc-returns-5 t c = record { is = by-same (group-is (c .before .before .before .b
 
 abbrev fd-Inv-loop : fd-lts.InvT-loop
 fd-Inv-loop run text rec kinds starts lens out₀ mem₀ at cfg r1 s1 n s2 s₀ i₀ out mem s i =
-    Turn run (page text rec kinds starts lens) (from (Helpers.new-line (cfgOf cfg) "and ") (DecOne.fun-bind (walks (cfg .left)) (cfgOf cfg))) n s₀ mem₀ out₀ i s mem out
+    Turn run (page text rec kinds starts lens) (from (Helpers.new-line (cfgOf cfg) "and ") (DecOne.fun-bind (walks (cfg .nesting)) (cfgOf cfg))) n s₀ mem₀ out₀ i s mem out
 
 abbrev fd-μ-loop : fd-lts.MeasureT-loop
 fd-μ-loop run text rec kinds starts lens out₀ mem₀ at cfg r1 s1 n s2 s₀ i₀ out mem s i = n - i
@@ -2443,7 +2443,7 @@ fd-returns-4 t c = record { is = then-sure (c .before .before .before .before .b
 
 abbrev fe-Inv-loop : fe-lts.InvT-loop
 fe-Inv-loop run text rec kinds starts lens out₀ mem₀ at cfg r1 s1 n s2 s₀ i₀ out mem s i =
-    Turn run (page text rec kinds starts lens) (from (Layout.word " | ") (Exp.get-matcher-arm (walks (cfg .left)) (cfgOf cfg))) n s₀ mem₀ out₀ i s mem out
+    Turn run (page text rec kinds starts lens) (from (Layout.word " | ") (Exp.get-matcher-arm (walks (cfg .nesting)) (cfgOf cfg))) n s₀ mem₀ out₀ i s mem out
 
 abbrev fe-μ-loop : fe-lts.MeasureT-loop
 fe-μ-loop run text rec kinds starts lens out₀ mem₀ at cfg r1 s1 n s2 s₀ i₀ out mem s i = n - i
@@ -2533,7 +2533,7 @@ fe-returns-4 t c = record { is = then-sure (c .before .before .before .before .b
 
 abbrev fs-Inv-loop : fs-lts.InvT-loop
 fs-Inv-loop run text rec kinds starts lens out₀ mem₀ at cfg n s0 s₀ i₀ out mem s i =
-    Turn run (page text rec kinds starts lens) (λ i k. times k (Layout.choice (DecOne.functor-arg (walks (cfg .left)) (cfgOf cfg)))) n s₀ mem₀ out₀ i s mem out
+    Turn run (page text rec kinds starts lens) (λ i k. times k (Layout.choice (DecOne.functor-arg (walks (cfg .nesting)) (cfgOf cfg)))) n s₀ mem₀ out₀ i s mem out
 
 abbrev fs-μ-loop : fs-lts.MeasureT-loop
 fs-μ-loop run text rec kinds starts lens out₀ mem₀ at cfg n s0 s₀ i₀ out mem s i = n - i
@@ -2662,7 +2662,7 @@ fx-returns-3 t c = record { is = operator-then (c .before .before .before .befor
 
 abbrev gd-Inv-loop : gd-lts.InvT-loop
 gd-Inv-loop run text rec kinds starts lens out₀ mem₀ at cfg n s1 s₀ i₀ out mem s i =
-    Turn run (page text rec kinds starts lens) (from (Helpers.new-line (cfgOf cfg) "and ") (DecOne.sig-bind (walks (cfg .left)) (cfgOf cfg))) n s₀ mem₀ out₀ i s mem out
+    Turn run (page text rec kinds starts lens) (from (Helpers.new-line (cfgOf cfg) "and ") (DecOne.sig-bind (walks (cfg .nesting)) (cfgOf cfg))) n s₀ mem₀ out₀ i s mem out
 
 abbrev gd-μ-loop : gd-lts.MeasureT-loop
 gd-μ-loop run text rec kinds starts lens out₀ mem₀ at cfg n s1 s₀ i₀ out mem s i = n - i
@@ -2782,7 +2782,7 @@ ha-returns-2 t c = record { is = then-done (c .before .before .before .before .b
 
 abbrev ic-Inv-loop : ic-lts.InvT-loop
 ic-Inv-loop run text rec kinds starts lens out₀ mem₀ at cfg n s1 s₀ i₀ out mem s i =
-    Turn run (page text rec kinds starts lens) (from (Layout.word " ") (walks (cfg .left) .get-sig-exp (cfgOf cfg))) n s₀ mem₀ out₀ i s mem out
+    Turn run (page text rec kinds starts lens) (from (Layout.word " ") (walks (cfg .nesting) .get-sig-exp (cfgOf cfg))) n s₀ mem₀ out₀ i s mem out
 
 abbrev ic-μ-loop : ic-lts.MeasureT-loop
 ic-μ-loop run text rec kinds starts lens out₀ mem₀ at cfg n s1 s₀ i₀ out mem s i = n - i
@@ -3185,7 +3185,7 @@ lx-returns-3 t c = record { is = then-sure (c .before .before .before .before .b
 
 abbrev ma-Inv-loop : ma-lts.InvT-loop
 ma-Inv-loop run text rec kinds starts lens out₀ mem₀ at cfg r1 s1 n s2 s₀ i₀ out mem s i =
-    Turn run (page text rec kinds starts lens) (from (Helpers.new-line (cfgOf cfg) "| ") (Exp.get-matcher-arm (walks (cfg .left)) (cfgOf cfg))) n s₀ mem₀ out₀ i s mem out
+    Turn run (page text rec kinds starts lens) (from (Helpers.new-line (cfgOf cfg) "| ") (Exp.get-matcher-arm (walks (cfg .nesting)) (cfgOf cfg))) n s₀ mem₀ out₀ i s mem out
 
 abbrev ma-μ-loop : ma-lts.MeasureT-loop
 ma-μ-loop run text rec kinds starts lens out₀ mem₀ at cfg r1 s1 n s2 s₀ i₀ out mem s i = n - i
@@ -3285,7 +3285,7 @@ ma-returns-5 t c = record { is = by-same (maybe-there (c .before .before .before
 
 abbrev mo-Inv-loop : mo-lts.InvT-loop
 mo-Inv-loop run text rec kinds starts lens out₀ mem₀ at cfg allow n s₀ i₀ out mem s i =
-    Turn run (page text rec kinds starts lens) (λ i k. Exp.exp-semi-more (walks (cfg .left)) (cfgOf cfg) allow k) n s₀ mem₀ out₀ i s mem out
+    Turn run (page text rec kinds starts lens) (λ i k. Exp.exp-semi-more (walks (cfg .nesting)) (cfgOf cfg) allow k) n s₀ mem₀ out₀ i s mem out
 
 abbrev mo-μ-loop : mo-lts.MeasureT-loop
 mo-μ-loop run text rec kinds starts lens out₀ mem₀ at cfg allow n s₀ i₀ out mem s i = n - i
@@ -3433,141 +3433,141 @@ nu-same-length t c = c .before .before .word .kept .1 .1 .0
 
 nu-returns : (t : ℕ) → nu-lts.Need-returns (nu-claims t) (nu-at t) nu.Post
 unfolding DecOne.decs DecOne.dec-one
-nu-returns t c = record { is = at-key (λ i. getD (DecOne.decs (walks (c .before .before .before .before .before .before .before .before .before .before .before .before .args .cfg .left)) (cfgOf (c .before .before .before .before .before .before .before .before .before .before .before .before .args .cfg))) i Layout.halt) (c .before .before .before .before .before .match .keys1) (last-sure (c .before .before .word .ensures)) }
+nu-returns t c = record { is = at-key (λ i. getD (DecOne.decs (walks (c .before .before .before .before .before .before .before .before .before .before .before .before .args .cfg .nesting)) (cfgOf (c .before .before .before .before .before .before .before .before .before .before .before .before .args .cfg))) i Layout.halt) (c .before .before .before .before .before .match .keys1) (last-sure (c .before .before .word .ensures)) }
 
 nu-same-length-2 : (t : ℕ) → nu-lts.Need-same-length-2 (nu-claims t) (nu-at t) nu.Post
 nu-same-length-2 t c = c .before .before .vd .kept .1 .1 .1 .1 .1 .1 .0
 
 nu-returns-2 : (t : ℕ) → nu-lts.Need-returns-2 (nu-claims t) (nu-at t) nu.Post
 unfolding DecOne.decs DecOne.dec-one
-nu-returns-2 t c = record { is = at-key (λ i. getD (DecOne.decs (walks (c .before .before .before .before .before .before .before .before .before .before .before .before .args .cfg .left)) (cfgOf (c .before .before .before .before .before .before .before .before .before .before .before .before .args .cfg))) i Layout.halt) (c .before .before .before .before .before .match .keys2) (c .before .before .vd .ensures .is) }
+nu-returns-2 t c = record { is = at-key (λ i. getD (DecOne.decs (walks (c .before .before .before .before .before .before .before .before .before .before .before .before .args .cfg .nesting)) (cfgOf (c .before .before .before .before .before .before .before .before .before .before .before .before .args .cfg))) i Layout.halt) (c .before .before .before .before .before .match .keys2) (c .before .before .vd .ensures .is) }
 
 nu-same-length-3 : (t : ℕ) → nu-lts.Need-same-length-3 (nu-claims t) (nu-at t) nu.Post
 nu-same-length-3 t c = c .before .before .fd .kept .1 .1 .1 .1 .1 .1 .0
 
 nu-returns-3 : (t : ℕ) → nu-lts.Need-returns-3 (nu-claims t) (nu-at t) nu.Post
 unfolding DecOne.decs DecOne.dec-one
-nu-returns-3 t c = record { is = at-key (λ i. getD (DecOne.decs (walks (c .before .before .before .before .before .before .before .before .before .before .before .before .args .cfg .left)) (cfgOf (c .before .before .before .before .before .before .before .before .before .before .before .before .args .cfg))) i Layout.halt) (c .before .before .before .before .before .match .keys3) (c .before .before .fd .ensures .is) }
+nu-returns-3 t c = record { is = at-key (λ i. getD (DecOne.decs (walks (c .before .before .before .before .before .before .before .before .before .before .before .before .args .cfg .nesting)) (cfgOf (c .before .before .before .before .before .before .before .before .before .before .before .before .args .cfg))) i Layout.halt) (c .before .before .before .before .before .match .keys3) (c .before .before .fd .ensures .is) }
 
 nu-same-length-4 : (t : ℕ) → nu-lts.Need-same-length-4 (nu-claims t) (nu-at t) nu.Post
 nu-same-length-4 t c = c .before .before .ty-dec .kept .1 .1 .1 .1 .1 .0
 
 nu-returns-4 : (t : ℕ) → nu-lts.Need-returns-4 (nu-claims t) (nu-at t) nu.Post
 unfolding DecOne.decs DecOne.dec-one
-nu-returns-4 t c = record { is = at-key (λ i. getD (DecOne.decs (walks (c .before .before .before .before .before .before .before .before .before .before .before .before .args .cfg .left)) (cfgOf (c .before .before .before .before .before .before .before .before .before .before .before .before .args .cfg))) i Layout.halt) (c .before .before .before .before .before .match .keys4) (plain (c .before .before .ty-dec .ensures)) }
+nu-returns-4 t c = record { is = at-key (λ i. getD (DecOne.decs (walks (c .before .before .before .before .before .before .before .before .before .before .before .before .args .cfg .nesting)) (cfgOf (c .before .before .before .before .before .before .before .before .before .before .before .before .args .cfg))) i Layout.halt) (c .before .before .before .before .before .match .keys4) (plain (c .before .before .ty-dec .ensures)) }
 
 nu-same-length-5 : (t : ℕ) → nu-lts.Need-same-length-5 (nu-claims t) (nu-at t) nu.Post
 nu-same-length-5 t c = c .before .before .dat-dec .kept .1 .1 .1 .1 .1 .0
 
 nu-returns-5 : (t : ℕ) → nu-lts.Need-returns-5 (nu-claims t) (nu-at t) nu.Post
 unfolding DecOne.decs DecOne.dec-one
-nu-returns-5 t c = record { is = at-key (λ i. getD (DecOne.decs (walks (c .before .before .before .before .before .before .before .before .before .before .before .before .args .cfg .left)) (cfgOf (c .before .before .before .before .before .before .before .before .before .before .before .before .args .cfg))) i Layout.halt) (c .before .before .before .before .before .match .keys5) (plain (c .before .before .dat-dec .ensures)) }
+nu-returns-5 t c = record { is = at-key (λ i. getD (DecOne.decs (walks (c .before .before .before .before .before .before .before .before .before .before .before .before .args .cfg .nesting)) (cfgOf (c .before .before .before .before .before .before .before .before .before .before .before .before .args .cfg))) i Layout.halt) (c .before .before .before .before .before .match .keys5) (plain (c .before .before .dat-dec .ensures)) }
 
 nu-same-length-6 : (t : ℕ) → nu-lts.Need-same-length-6 (nu-claims t) (nu-at t) nu.Post
 nu-same-length-6 t c = c .before .before .dat-copy-dec .kept .1 .1 .1 .1 .1 .0
 
 nu-returns-6 : (t : ℕ) → nu-lts.Need-returns-6 (nu-claims t) (nu-at t) nu.Post
 unfolding DecOne.decs DecOne.dec-one
-nu-returns-6 t c = record { is = at-key (λ i. getD (DecOne.decs (walks (c .before .before .before .before .before .before .before .before .before .before .before .before .args .cfg .left)) (cfgOf (c .before .before .before .before .before .before .before .before .before .before .before .before .args .cfg))) i Layout.halt) (c .before .before .before .before .before .match .keys6) (plain (c .before .before .dat-copy-dec .ensures)) }
+nu-returns-6 t c = record { is = at-key (λ i. getD (DecOne.decs (walks (c .before .before .before .before .before .before .before .before .before .before .before .before .args .cfg .nesting)) (cfgOf (c .before .before .before .before .before .before .before .before .before .before .before .before .args .cfg))) i Layout.halt) (c .before .before .before .before .before .match .keys6) (plain (c .before .before .dat-copy-dec .ensures)) }
 
 nu-same-length-7 : (t : ℕ) → nu-lts.Need-same-length-7 (nu-claims t) (nu-at t) nu.Post
 nu-same-length-7 t c = c .before .before .ab .kept .1 .1 .1 .1 .1 .1 .0
 
 nu-returns-7 : (t : ℕ) → nu-lts.Need-returns-7 (nu-claims t) (nu-at t) nu.Post
 unfolding DecOne.decs DecOne.dec-one
-nu-returns-7 t c = record { is = at-key (λ i. getD (DecOne.decs (walks (c .before .before .before .before .before .before .before .before .before .before .before .before .args .cfg .left)) (cfgOf (c .before .before .before .before .before .before .before .before .before .before .before .before .args .cfg))) i Layout.halt) (c .before .before .before .before .before .match .keys7) (c .before .before .ab .ensures .is) }
+nu-returns-7 t c = record { is = at-key (λ i. getD (DecOne.decs (walks (c .before .before .before .before .before .before .before .before .before .before .before .before .args .cfg .nesting)) (cfgOf (c .before .before .before .before .before .before .before .before .before .before .before .before .args .cfg))) i Layout.halt) (c .before .before .before .before .before .match .keys7) (c .before .before .ab .ensures .is) }
 
 nu-same-length-8 : (t : ℕ) → nu-lts.Need-same-length-8 (nu-claims t) (nu-at t) nu.Post
 nu-same-length-8 t c = c .before .before .xd .kept .1 .1 .1 .1 .1 .1 .0
 
 nu-returns-8 : (t : ℕ) → nu-lts.Need-returns-8 (nu-claims t) (nu-at t) nu.Post
 unfolding DecOne.decs DecOne.dec-one
-nu-returns-8 t c = record { is = at-key (λ i. getD (DecOne.decs (walks (c .before .before .before .before .before .before .before .before .before .before .before .before .args .cfg .left)) (cfgOf (c .before .before .before .before .before .before .before .before .before .before .before .before .args .cfg))) i Layout.halt) (c .before .before .before .before .before .match .keys8) (c .before .before .xd .ensures .is) }
+nu-returns-8 t c = record { is = at-key (λ i. getD (DecOne.decs (walks (c .before .before .before .before .before .before .before .before .before .before .before .before .args .cfg .nesting)) (cfgOf (c .before .before .before .before .before .before .before .before .before .before .before .before .args .cfg))) i Layout.halt) (c .before .before .before .before .before .match .keys8) (c .before .before .xd .ensures .is) }
 
 nu-same-length-9 : (t : ℕ) → nu-lts.Need-same-length-9 (nu-claims t) (nu-at t) nu.Post
 nu-same-length-9 t c = c .before .before .open-dec .kept .1 .1 .1 .1 .1 .0
 
 nu-returns-9 : (t : ℕ) → nu-lts.Need-returns-9 (nu-claims t) (nu-at t) nu.Post
 unfolding DecOne.decs DecOne.dec-one
-nu-returns-9 t c = record { is = at-key (λ i. getD (DecOne.decs (walks (c .before .before .before .before .before .before .before .before .before .before .before .before .args .cfg .left)) (cfgOf (c .before .before .before .before .before .before .before .before .before .before .before .before .args .cfg))) i Layout.halt) (c .before .before .before .before .before .match .keys9) (plain (c .before .before .open-dec .ensures)) }
+nu-returns-9 t c = record { is = at-key (λ i. getD (DecOne.decs (walks (c .before .before .before .before .before .before .before .before .before .before .before .before .args .cfg .nesting)) (cfgOf (c .before .before .before .before .before .before .before .before .before .before .before .before .args .cfg))) i Layout.halt) (c .before .before .before .before .before .match .keys9) (plain (c .before .before .open-dec .ensures)) }
 
 nu-same-length-10 : (t : ℕ) → nu-lts.Need-same-length-10 (nu-claims t) (nu-at t) nu.Post
 nu-same-length-10 t c = c .before .before .infix-dec .kept .1 .1 .1 .1 .1 .0
 
 nu-returns-10 : (t : ℕ) → nu-lts.Need-returns-10 (nu-claims t) (nu-at t) nu.Post
 unfolding DecOne.decs DecOne.dec-one
-nu-returns-10 t c = record { is = at-key (λ i. getD (DecOne.decs (walks (c .before .before .before .before .before .before .before .before .before .before .before .before .args .cfg .left)) (cfgOf (c .before .before .before .before .before .before .before .before .before .before .before .before .args .cfg))) i Layout.halt) (c .before .before .before .before .before .match .keys10) (plain (c .before .before .infix-dec .ensures)) }
+nu-returns-10 t c = record { is = at-key (λ i. getD (DecOne.decs (walks (c .before .before .before .before .before .before .before .before .before .before .before .before .args .cfg .nesting)) (cfgOf (c .before .before .before .before .before .before .before .before .before .before .before .before .args .cfg))) i Layout.halt) (c .before .before .before .before .before .match .keys10) (plain (c .before .before .infix-dec .ensures)) }
 
 nu-same-length-11 : (t : ℕ) → nu-lts.Need-same-length-11 (nu-claims t) (nu-at t) nu.Post
 nu-same-length-11 t c = c .before .before .infix-dec2 .kept .1 .1 .1 .1 .1 .0
 
 nu-returns-11 : (t : ℕ) → nu-lts.Need-returns-11 (nu-claims t) (nu-at t) nu.Post
 unfolding DecOne.decs DecOne.dec-one
-nu-returns-11 t c = record { is = at-key (λ i. getD (DecOne.decs (walks (c .before .before .before .before .before .before .before .before .before .before .before .before .args .cfg .left)) (cfgOf (c .before .before .before .before .before .before .before .before .before .before .before .before .args .cfg))) i Layout.halt) (c .before .before .before .before .before .match .keys11) (plain (c .before .before .infix-dec2 .ensures)) }
+nu-returns-11 t c = record { is = at-key (λ i. getD (DecOne.decs (walks (c .before .before .before .before .before .before .before .before .before .before .before .before .args .cfg .nesting)) (cfgOf (c .before .before .before .before .before .before .before .before .before .before .before .before .args .cfg))) i Layout.halt) (c .before .before .before .before .before .match .keys11) (plain (c .before .before .infix-dec2 .ensures)) }
 
 nu-same-length-12 : (t : ℕ) → nu-lts.Need-same-length-12 (nu-claims t) (nu-at t) nu.Post
 nu-same-length-12 t c = c .before .before .nonfix-dec .kept .1 .1 .1 .1 .1 .0
 
 nu-returns-12 : (t : ℕ) → nu-lts.Need-returns-12 (nu-claims t) (nu-at t) nu.Post
 unfolding DecOne.decs DecOne.dec-one
-nu-returns-12 t c = record { is = at-key (λ i. getD (DecOne.decs (walks (c .before .before .before .before .before .before .before .before .before .before .before .before .args .cfg .left)) (cfgOf (c .before .before .before .before .before .before .before .before .before .before .before .before .args .cfg))) i Layout.halt) (c .before .before .before .before .before .match .keys12) (plain (c .before .before .nonfix-dec .ensures)) }
+nu-returns-12 t c = record { is = at-key (λ i. getD (DecOne.decs (walks (c .before .before .before .before .before .before .before .before .before .before .before .before .args .cfg .nesting)) (cfgOf (c .before .before .before .before .before .before .before .before .before .before .before .before .args .cfg))) i Layout.halt) (c .before .before .before .before .before .match .keys12) (plain (c .before .before .nonfix-dec .ensures)) }
 
 nu-same-length-13 : (t : ℕ) → nu-lts.Need-same-length-13 (nu-claims t) (nu-at t) nu.Post
 nu-same-length-13 t c = c .before .before .pr .kept .1 .1 .1 .1 .1 .1 .0
 
 nu-returns-13 : (t : ℕ) → nu-lts.Need-returns-13 (nu-claims t) (nu-at t) nu.Post
 unfolding DecOne.decs DecOne.dec-one
-nu-returns-13 t c = record { is = at-key (λ i. getD (DecOne.decs (walks (c .before .before .before .before .before .before .before .before .before .before .before .before .args .cfg .left)) (cfgOf (c .before .before .before .before .before .before .before .before .before .before .before .before .args .cfg))) i Layout.halt) (c .before .before .before .before .before .match .keys13) (c .before .before .pr .ensures .is) }
+nu-returns-13 t c = record { is = at-key (λ i. getD (DecOne.decs (walks (c .before .before .before .before .before .before .before .before .before .before .before .before .args .cfg .nesting)) (cfgOf (c .before .before .before .before .before .before .before .before .before .before .before .before .args .cfg))) i Layout.halt) (c .before .before .before .before .before .match .keys13) (c .before .before .pr .ensures .is) }
 
 nu-same-length-14 : (t : ℕ) → nu-lts.Need-same-length-14 (nu-claims t) (nu-at t) nu.Post
 nu-same-length-14 t c = c .before .before .lo .kept .1 .1 .1 .1 .1 .1 .0
 
 nu-returns-14 : (t : ℕ) → nu-lts.Need-returns-14 (nu-claims t) (nu-at t) nu.Post
 unfolding DecOne.decs DecOne.dec-one
-nu-returns-14 t c = record { is = at-key (λ i. getD (DecOne.decs (walks (c .before .before .before .before .before .before .before .before .before .before .before .before .args .cfg .left)) (cfgOf (c .before .before .before .before .before .before .before .before .before .before .before .before .args .cfg))) i Layout.halt) (c .before .before .before .before .before .match .keys14) (c .before .before .lo .ensures .is) }
+nu-returns-14 t c = record { is = at-key (λ i. getD (DecOne.decs (walks (c .before .before .before .before .before .before .before .before .before .before .before .before .args .cfg .nesting)) (cfgOf (c .before .before .before .before .before .before .before .before .before .before .before .before .args .cfg))) i Layout.halt) (c .before .before .before .before .before .match .keys14) (c .before .before .lo .ensures .is) }
 
 nu-same-length-15 : (t : ℕ) → nu-lts.Need-same-length-15 (nu-claims t) (nu-at t) nu.Post
 nu-same-length-15 t c = c .before .before .sd .kept .1 .1 .1 .1 .1 .1 .0
 
 nu-returns-15 : (t : ℕ) → nu-lts.Need-returns-15 (nu-claims t) (nu-at t) nu.Post
 unfolding DecOne.decs DecOne.dec-one
-nu-returns-15 t c = record { is = at-key (λ i. getD (DecOne.decs (walks (c .before .before .before .before .before .before .before .before .before .before .before .before .args .cfg .left)) (cfgOf (c .before .before .before .before .before .before .before .before .before .before .before .before .args .cfg))) i Layout.halt) (c .before .before .before .before .before .match .keys15) (c .before .before .sd .ensures .is) }
+nu-returns-15 t c = record { is = at-key (λ i. getD (DecOne.decs (walks (c .before .before .before .before .before .before .before .before .before .before .before .before .args .cfg .nesting)) (cfgOf (c .before .before .before .before .before .before .before .before .before .before .before .before .args .cfg))) i Layout.halt) (c .before .before .before .before .before .match .keys15) (c .before .before .sd .ensures .is) }
 
 nu-same-length-16 : (t : ℕ) → nu-lts.Need-same-length-16 (nu-claims t) (nu-at t) nu.Post
 nu-same-length-16 t c = c .before .before .gd .kept .1 .1 .1 .1 .1 .1 .0
 
 nu-returns-16 : (t : ℕ) → nu-lts.Need-returns-16 (nu-claims t) (nu-at t) nu.Post
 unfolding DecOne.decs DecOne.dec-one
-nu-returns-16 t c = record { is = at-key (λ i. getD (DecOne.decs (walks (c .before .before .before .before .before .before .before .before .before .before .before .before .args .cfg .left)) (cfgOf (c .before .before .before .before .before .before .before .before .before .before .before .before .args .cfg))) i Layout.halt) (c .before .before .before .before .before .match .keys16) (c .before .before .gd .ensures .is) }
+nu-returns-16 t c = record { is = at-key (λ i. getD (DecOne.decs (walks (c .before .before .before .before .before .before .before .before .before .before .before .before .args .cfg .nesting)) (cfgOf (c .before .before .before .before .before .before .before .before .before .before .before .before .args .cfg))) i Layout.halt) (c .before .before .before .before .before .match .keys16) (c .before .before .gd .ensures .is) }
 
 nu-same-length-17 : (t : ℕ) → nu-lts.Need-same-length-17 (nu-claims t) (nu-at t) nu.Post
 nu-same-length-17 t c = c .before .before .cd .kept .1 .1 .1 .1 .1 .1 .0
 
 nu-returns-17 : (t : ℕ) → nu-lts.Need-returns-17 (nu-claims t) (nu-at t) nu.Post
 unfolding DecOne.decs DecOne.dec-one
-nu-returns-17 t c = record { is = at-key (λ i. getD (DecOne.decs (walks (c .before .before .before .before .before .before .before .before .before .before .before .before .args .cfg .left)) (cfgOf (c .before .before .before .before .before .before .before .before .before .before .before .before .args .cfg))) i Layout.halt) (c .before .before .before .before .before .match .keys17) (c .before .before .cd .ensures .is) }
+nu-returns-17 t c = record { is = at-key (λ i. getD (DecOne.decs (walks (c .before .before .before .before .before .before .before .before .before .before .before .before .args .cfg .nesting)) (cfgOf (c .before .before .before .before .before .before .before .before .before .before .before .before .args .cfg))) i Layout.halt) (c .before .before .before .before .before .match .keys17) (c .before .before .cd .ensures .is) }
 
 nu-same-length-18 : (t : ℕ) → nu-lts.Need-same-length-18 (nu-claims t) (nu-at t) nu.Post
 nu-same-length-18 t c = c .before .before .exp .kept .1 .1 .1 .1 .1 .1 .0
 
 nu-returns-18 : (t : ℕ) → nu-lts.Need-returns-18 (nu-claims t) (nu-at t) nu.Post
 unfolding DecOne.decs DecOne.dec-one
-nu-returns-18 t c = record { is = at-key (λ i. getD (DecOne.decs (walks (c .before .before .before .before .before .before .before .before .before .before .before .before .args .cfg .left)) (cfgOf (c .before .before .before .before .before .before .before .before .before .before .before .before .args .cfg))) i Layout.halt) (c .before .before .before .before .before .match .keys18) (c .before .before .exp .ensures .is) }
+nu-returns-18 t c = record { is = at-key (λ i. getD (DecOne.decs (walks (c .before .before .before .before .before .before .before .before .before .before .before .before .args .cfg .nesting)) (cfgOf (c .before .before .before .before .before .before .before .before .before .before .before .before .args .cfg))) i Layout.halt) (c .before .before .before .before .before .match .keys18) (c .before .before .exp .ensures .is) }
 
 nu-same-length-19 : (t : ℕ) → nu-lts.Need-same-length-19 (nu-claims t) (nu-at t) nu.Post
 nu-same-length-19 t c = c .before .before .ic .kept .1 .1 .1 .1 .1 .1 .0
 
 nu-returns-19 : (t : ℕ) → nu-lts.Need-returns-19 (nu-claims t) (nu-at t) nu.Post
 unfolding DecOne.decs DecOne.dec-one
-nu-returns-19 t c = record { is = at-key (λ i. getD (DecOne.decs (walks (c .before .before .before .before .before .before .before .before .before .before .before .before .args .cfg .left)) (cfgOf (c .before .before .before .before .before .before .before .before .before .before .before .before .args .cfg))) i Layout.halt) (c .before .before .before .before .before .match .keys19) (c .before .before .ic .ensures .is) }
+nu-returns-19 t c = record { is = at-key (λ i. getD (DecOne.decs (walks (c .before .before .before .before .before .before .before .before .before .before .before .before .args .cfg .nesting)) (cfgOf (c .before .before .before .before .before .before .before .before .before .before .before .before .args .cfg))) i Layout.halt) (c .before .before .before .before .before .match .keys19) (c .before .before .ic .ensures .is) }
 
 nu-returns-20 : (t : ℕ) → nu-lts.Need-returns-20 (nu-claims t) (nu-at t) nu.Post
 unfolding DecOne.decs DecOne.dec-one
-nu-returns-20 t c = record { is = at-key (λ i. getD (DecOne.decs (walks (c .before .before .before .before .before .before .before .before .args .cfg .left)) (cfgOf (c .before .before .before .before .before .before .before .before .args .cfg))) i Layout.halt) (c .before .match .keys20) (last-import (c .import .ensures)) }
+nu-returns-20 t c = record { is = at-key (λ i. getD (DecOne.decs (walks (c .before .before .before .before .before .before .before .before .args .cfg .nesting)) (cfgOf (c .before .before .before .before .before .before .before .before .args .cfg))) i Layout.halt) (c .before .match .keys20) (last-import (c .import .ensures)) }
 
 nu-returns-21 : (t : ℕ) → nu-lts.Need-returns-21 (nu-claims t) (nu-at t) nu.Post
 unfolding DecOne.decs DecOne.dec-one
-nu-returns-21 t c = record { is = beyond (DecOne.decs (walks (c .before .before .before .before .before .before .before .before .args .cfg .left)) (cfgOf (c .before .before .before .before .before .before .before .before .args .cfg))) (c .before .before .before .before .before .before .before .before .args .which) 20 refl (past (past (past (past (past (past (past (past (past (past (past (past (past (past (past (past (past (past (past (past zero-le (c .before .match .rest .0 .0 .0 .0 .0 .0 .0 .0 .0 .0 .0 .0 .0 .0 .0 .0 .0 .0 .0 .1)) (c .before .match .rest .0 .0 .0 .0 .0 .0 .0 .0 .0 .0 .0 .0 .0 .0 .0 .0 .0 .0 .1)) (c .before .match .rest .0 .0 .0 .0 .0 .0 .0 .0 .0 .0 .0 .0 .0 .0 .0 .0 .0 .1)) (c .before .match .rest .0 .0 .0 .0 .0 .0 .0 .0 .0 .0 .0 .0 .0 .0 .0 .0 .1)) (c .before .match .rest .0 .0 .0 .0 .0 .0 .0 .0 .0 .0 .0 .0 .0 .0 .0 .1)) (c .before .match .rest .0 .0 .0 .0 .0 .0 .0 .0 .0 .0 .0 .0 .0 .0 .1)) (c .before .match .rest .0 .0 .0 .0 .0 .0 .0 .0 .0 .0 .0 .0 .0 .1)) (c .before .match .rest .0 .0 .0 .0 .0 .0 .0 .0 .0 .0 .0 .0 .1)) (c .before .match .rest .0 .0 .0 .0 .0 .0 .0 .0 .0 .0 .0 .1)) (c .before .match .rest .0 .0 .0 .0 .0 .0 .0 .0 .0 .0 .1)) (c .before .match .rest .0 .0 .0 .0 .0 .0 .0 .0 .0 .1)) (c .before .match .rest .0 .0 .0 .0 .0 .0 .0 .0 .1)) (c .before .match .rest .0 .0 .0 .0 .0 .0 .0 .1)) (c .before .match .rest .0 .0 .0 .0 .0 .0 .1)) (c .before .match .rest .0 .0 .0 .0 .0 .1)) (c .before .match .rest .0 .0 .0 .0 .1)) (c .before .match .rest .0 .0 .0 .1)) (c .before .match .rest .0 .0 .1)) (c .before .match .rest .0 .1)) (c .before .match .rest .1)) (c .stop .ensures) }
+nu-returns-21 t c = record { is = beyond (DecOne.decs (walks (c .before .before .before .before .before .before .before .before .args .cfg .nesting)) (cfgOf (c .before .before .before .before .before .before .before .before .args .cfg))) (c .before .before .before .before .before .before .before .before .args .which) 20 refl (past (past (past (past (past (past (past (past (past (past (past (past (past (past (past (past (past (past (past (past zero-le (c .before .match .rest .0 .0 .0 .0 .0 .0 .0 .0 .0 .0 .0 .0 .0 .0 .0 .0 .0 .0 .0 .1)) (c .before .match .rest .0 .0 .0 .0 .0 .0 .0 .0 .0 .0 .0 .0 .0 .0 .0 .0 .0 .0 .1)) (c .before .match .rest .0 .0 .0 .0 .0 .0 .0 .0 .0 .0 .0 .0 .0 .0 .0 .0 .0 .1)) (c .before .match .rest .0 .0 .0 .0 .0 .0 .0 .0 .0 .0 .0 .0 .0 .0 .0 .0 .1)) (c .before .match .rest .0 .0 .0 .0 .0 .0 .0 .0 .0 .0 .0 .0 .0 .0 .0 .1)) (c .before .match .rest .0 .0 .0 .0 .0 .0 .0 .0 .0 .0 .0 .0 .0 .0 .1)) (c .before .match .rest .0 .0 .0 .0 .0 .0 .0 .0 .0 .0 .0 .0 .0 .1)) (c .before .match .rest .0 .0 .0 .0 .0 .0 .0 .0 .0 .0 .0 .0 .1)) (c .before .match .rest .0 .0 .0 .0 .0 .0 .0 .0 .0 .0 .0 .1)) (c .before .match .rest .0 .0 .0 .0 .0 .0 .0 .0 .0 .0 .1)) (c .before .match .rest .0 .0 .0 .0 .0 .0 .0 .0 .0 .1)) (c .before .match .rest .0 .0 .0 .0 .0 .0 .0 .0 .1)) (c .before .match .rest .0 .0 .0 .0 .0 .0 .0 .1)) (c .before .match .rest .0 .0 .0 .0 .0 .0 .1)) (c .before .match .rest .0 .0 .0 .0 .0 .1)) (c .before .match .rest .0 .0 .0 .0 .1)) (c .before .match .rest .0 .0 .0 .1)) (c .before .match .rest .0 .0 .1)) (c .before .match .rest .0 .1)) (c .before .match .rest .1)) (c .stop .ensures) }
 
 one-stop-requires : (t : ℕ) → one-lts.Need-stop-requires (one-claims t) (one-at t) one.Post
 one-stop-requires t c κs = search needs
@@ -3731,7 +3731,7 @@ qb-returns-5 t c = record { is = by-same (maybe-there (c .before .before .before
 
 abbrev qs-Inv-loop : qs-lts.InvT-loop
 qs-Inv-loop run text rec kinds starts lens out₀ mem₀ at cfg n s0 s₀ i₀ out mem s i =
-    Turn run (page text rec kinds starts lens) (from (Helpers.new-line (cfgOf cfg) "") (GetDec.dec-in-seq (walks (cfg .left)) (cfgOf cfg))) n s₀ mem₀ out₀ i s mem out
+    Turn run (page text rec kinds starts lens) (from (Helpers.new-line (cfgOf cfg) "") (GetDec.dec-in-seq (walks (cfg .nesting)) (cfgOf cfg))) n s₀ mem₀ out₀ i s mem out
 
 abbrev qs-μ-loop : qs-lts.MeasureT-loop
 qs-μ-loop run text rec kinds starts lens out₀ mem₀ at cfg n s0 s₀ i₀ out mem s i = n - i
@@ -3911,7 +3911,7 @@ ro-returns-5 t c = record { is = by-same (group-is (c .before .before .before .b
 
 abbrev rs-Inv-loop : rs-lts.InvT-loop
 rs-Inv-loop run text rec kinds starts lens out₀ mem₀ at cfg n s0 s₀ i₀ out mem s i =
-    Turn run (page text rec kinds starts lens) (from (Layout.word ", ") (Exp.exp-row (walks (cfg .left)) (cfgOf cfg))) n s₀ mem₀ out₀ i s mem out
+    Turn run (page text rec kinds starts lens) (from (Layout.word ", ") (Exp.exp-row (walks (cfg .nesting)) (cfgOf cfg))) n s₀ mem₀ out₀ i s mem out
 
 abbrev rs-μ-loop : rs-lts.MeasureT-loop
 rs-μ-loop run text rec kinds starts lens out₀ mem₀ at cfg n s0 s₀ i₀ out mem s i = n - i
@@ -3988,18 +3988,18 @@ sa-same-length t c = c .before .before .str .kept .1 .1 .1 .1 .1 .1 .0
 
 sa-returns : (t : ℕ) → sa-lts.Need-returns (sa-claims t) (sa-at t) sa.Post
 unfolding StrExp.app-arg
-sa-returns t c = record { is = at-key (λ i. StrExp.app-arg (walks (c .before .before .before .before .before .before .before .before .before .before .before .before .args .cfg .left)) (cfgOf (c .before .before .before .before .before .before .before .before .before .before .before .before .args .cfg)) i) (c .before .before .before .before .before .match .keys1) (c .before .before .str .ensures .is) }
+sa-returns t c = record { is = at-key (λ i. StrExp.app-arg (walks (c .before .before .before .before .before .before .before .before .before .before .before .before .args .cfg .nesting)) (cfgOf (c .before .before .before .before .before .before .before .before .before .before .before .before .args .cfg)) i) (c .before .before .before .before .before .match .keys1) (c .before .before .str .ensures .is) }
 
 sa-same-length-2 : (t : ℕ) → sa-lts.Need-same-length-2 (sa-claims t) (sa-at t) sa.Post
 sa-same-length-2 t c = c .before .before .da .kept .1 .1 .1 .1 .1 .1 .0
 
 sa-returns-2 : (t : ℕ) → sa-lts.Need-returns-2 (sa-claims t) (sa-at t) sa.Post
 unfolding StrExp.app-arg
-sa-returns-2 t c = record { is = at-key (λ i. StrExp.app-arg (walks (c .before .before .before .before .before .before .before .before .before .before .before .before .args .cfg .left)) (cfgOf (c .before .before .before .before .before .before .before .before .before .before .before .before .args .cfg)) i) (c .before .before .before .before .before .match .keys2) (c .before .before .da .ensures .is) }
+sa-returns-2 t c = record { is = at-key (λ i. StrExp.app-arg (walks (c .before .before .before .before .before .before .before .before .before .before .before .before .args .cfg .nesting)) (cfgOf (c .before .before .before .before .before .before .before .before .before .before .before .before .args .cfg)) i) (c .before .before .before .before .before .match .keys2) (c .before .before .da .ensures .is) }
 
 sa-returns-3 : (t : ℕ) → sa-lts.Need-returns-3 (sa-claims t) (sa-at t) sa.Post
 unfolding StrExp.app-arg
-sa-returns-3 t c = record { is = beyond ((walks (c .before .before .before .before .before .before .before .before .args .cfg .left) .get-str-exp (cfgOf (c .before .before .before .before .before .before .before .before .args .cfg))) ∷ GetDec.dec-arg (walks (c .before .before .before .before .before .before .before .before .args .cfg .left)) (cfgOf (c .before .before .before .before .before .before .before .before .args .cfg)) ∷ []) (c .before .before .before .before .before .before .before .before .args .which) 2 refl (past (past zero-le (c .before .match .rest .0 .1)) (c .before .match .rest .1)) (c .stop .ensures) }
+sa-returns-3 t c = record { is = beyond ((walks (c .before .before .before .before .before .before .before .before .args .cfg .nesting) .get-str-exp (cfgOf (c .before .before .before .before .before .before .before .before .args .cfg))) ∷ GetDec.dec-arg (walks (c .before .before .before .before .before .before .before .before .args .cfg .nesting)) (cfgOf (c .before .before .before .before .before .before .before .before .args .cfg)) ∷ []) (c .before .before .before .before .before .before .before .before .args .which) 2 refl (past (past zero-le (c .before .match .rest .0 .1)) (c .before .match .rest .1)) (c .stop .ensures) }
 
 sb-group-requires : (t : ℕ) → sb-lts.Need-group-requires (sb-claims t) (sb-at t) sb.Post
 sb-group-requires t c κs = search needs
@@ -4105,7 +4105,7 @@ sb-returns-6 t c = record { is = by-same (group-is (c .before .before .before .b
 
 abbrev sd-Inv-loop : sd-lts.InvT-loop
 sd-Inv-loop run text rec kinds starts lens out₀ mem₀ at cfg n s1 s₀ i₀ out mem s i =
-    Turn run (page text rec kinds starts lens) (from (Helpers.new-line (cfgOf cfg) "and ") (DecOne.str-bind (walks (cfg .left)) (cfgOf cfg))) n s₀ mem₀ out₀ i s mem out
+    Turn run (page text rec kinds starts lens) (from (Helpers.new-line (cfgOf cfg) "and ") (DecOne.str-bind (walks (cfg .nesting)) (cfgOf cfg))) n s₀ mem₀ out₀ i s mem out
 
 abbrev sd-μ-loop : sd-lts.MeasureT-loop
 sd-μ-loop run text rec kinds starts lens out₀ mem₀ at cfg n s1 s₀ i₀ out mem s i = n - i
@@ -4327,7 +4327,7 @@ sig-returns-6 t c = record { is = sig-form _ _ (c .before .before .before .befor
 
 sig-returns-7 : (t : ℕ) → sig-lts.Need-returns-7 (sig-claims t) (sig-at t) sig.Post
 unfolding SigExp.sig-exps SigExp.sig-exp
-sig-returns-7 t c = record { is = sig-form _ _ (c .before .before .before .before .before .before .if1 .left) (by-same (form-is (c .before .before .before .before .before .form .ensures) (c .before .before .before .k .given .1)) (beyond (SigExp.sig-exps (walks (c .before .before .before .before .before .before .before .before .before .before .before .before .before .args .cfg .left - 1)) (cfgOf (c .before .before .before .before .before .before .before .before .before .before .before .before .before .args .cfg))) (c .before .before .before .k .given .0 .0) 4 refl (past (past (past (past zero-le (c .before .match2 .rest .0 .0 .0 .1)) (c .before .match2 .rest .0 .0 .1)) (c .before .match2 .rest .0 .1)) (c .before .match2 .rest .1)) (c .stop3 .ensures))) }
+sig-returns-7 t c = record { is = sig-form _ _ (c .before .before .before .before .before .before .if1 .left) (by-same (form-is (c .before .before .before .before .before .form .ensures) (c .before .before .before .k .given .1)) (beyond (SigExp.sig-exps (walks (c .before .before .before .before .before .before .before .before .before .before .before .before .before .args .cfg .nesting - 1)) (cfgOf (c .before .before .before .before .before .before .before .before .before .before .before .before .before .args .cfg))) (c .before .before .before .k .given .0 .0) 4 refl (past (past (past (past zero-le (c .before .match2 .rest .0 .0 .0 .1)) (c .before .match2 .rest .0 .0 .1)) (c .before .match2 .rest .0 .1)) (c .before .match2 .rest .1)) (c .stop3 .ensures))) }
 
 sl-word-requires : (t : ℕ) → sl-lts.Need-word-requires (sl-claims t) (sl-at t) sl.Post
 sl-word-requires t c κs = search needs
@@ -4455,7 +4455,7 @@ sm-returns-4 t c = record { is = by-same (list-is (c .before .before .before .be
 
 abbrev sp-Inv-loop : sp-lts.InvT-loop
 sp-Inv-loop run text rec kinds starts lens out₀ mem₀ at cfg r1 s1 n s2 s₀ needs₀ i₀ out mem s needs i =
-    (i ≤ n) × ((r : ℕ) (m′ o′ : List ℕ) → Walked false run (page text rec kinds starts lens) (StrExp.app-args (walks (cfg .left)) (cfgOf cfg) needs (n - i)) (runOf s mem out) r m′ o′ → Walked false run (page text rec kinds starts lens) (StrExp.app-args (walks (cfg .left)) (cfgOf cfg) false (n - 0)) (runOf s₀ mem₀ out₀) r m′ o′) × (length out ≡ length out₀)
+    (i ≤ n) × ((r : ℕ) (m′ o′ : List ℕ) → Walked false run (page text rec kinds starts lens) (StrExp.app-args (walks (cfg .nesting)) (cfgOf cfg) needs (n - i)) (runOf s mem out) r m′ o′ → Walked false run (page text rec kinds starts lens) (StrExp.app-args (walks (cfg .nesting)) (cfgOf cfg) false (n - 0)) (runOf s₀ mem₀ out₀) r m′ o′) × (length out ≡ length out₀)
 
 abbrev sp-μ-loop : sp-lts.MeasureT-loop
 sp-μ-loop run text rec kinds starts lens out₀ mem₀ at cfg r1 s1 n s2 s₀ needs₀ i₀ out mem s needs i = n - i
@@ -4732,7 +4732,7 @@ str-returns-7 t c = record { is = str-form _ _ (c .before .before .before .befor
 
 str-returns-8 : (t : ℕ) → str-lts.Need-returns-8 (str-claims t) (str-at t) str.Post
 unfolding StrExp.str-exps StrExp.str-exp
-str-returns-8 t c = record { is = str-form _ _ (c .before .before .before .before .before .before .if1 .left) (by-same (form-is (c .before .before .before .before .before .form .ensures) (c .before .before .before .k .given .1)) (beyond (StrExp.str-exps (walks (c .before .before .before .before .before .before .before .before .before .before .before .before .before .args .cfg .left - 1)) (cfgOf (c .before .before .before .before .before .before .before .before .before .before .before .before .before .args .cfg))) (c .before .before .before .k .given .0 .0) 5 refl (past (past (past (past (past zero-le (c .before .match2 .rest .0 .0 .0 .0 .1)) (c .before .match2 .rest .0 .0 .0 .1)) (c .before .match2 .rest .0 .0 .1)) (c .before .match2 .rest .0 .1)) (c .before .match2 .rest .1)) (c .stop3 .ensures))) }
+str-returns-8 t c = record { is = str-form _ _ (c .before .before .before .before .before .before .if1 .left) (by-same (form-is (c .before .before .before .before .before .form .ensures) (c .before .before .before .k .given .1)) (beyond (StrExp.str-exps (walks (c .before .before .before .before .before .before .before .before .before .before .before .before .before .args .cfg .nesting - 1)) (cfgOf (c .before .before .before .before .before .before .before .before .before .before .before .before .before .args .cfg))) (c .before .before .before .k .given .0 .0) 5 refl (past (past (past (past (past zero-le (c .before .match2 .rest .0 .0 .0 .0 .1)) (c .before .match2 .rest .0 .0 .0 .1)) (c .before .match2 .rest .0 .0 .1)) (c .before .match2 .rest .0 .1)) (c .before .match2 .rest .1)) (c .stop3 .ensures))) }
 
 ta-group-requires : (t : ℕ) → ta-lts.Need-group-requires (ta-claims t) (ta-at t) ta.Post
 ta-group-requires t c κs = search needs
@@ -4883,7 +4883,7 @@ vb-returns-4 t c = record { is = by-same (group-is (c .before .before .before .b
 
 abbrev vd-Inv-loop : vd-lts.InvT-loop
 vd-Inv-loop run text rec kinds starts lens out₀ mem₀ at cfg n s1 s₀ i₀ out mem s i =
-    Turn run (page text rec kinds starts lens) (from (Helpers.new-line (cfgOf cfg) "and ") (DecOne.val-bind (walks (cfg .left)) (cfgOf cfg))) n s₀ mem₀ out₀ i s mem out
+    Turn run (page text rec kinds starts lens) (from (Helpers.new-line (cfgOf cfg) "and ") (DecOne.val-bind (walks (cfg .nesting)) (cfgOf cfg))) n s₀ mem₀ out₀ i s mem out
 
 abbrev vd-μ-loop : vd-lts.MeasureT-loop
 vd-μ-loop run text rec kinds starts lens out₀ mem₀ at cfg n s1 s₀ i₀ out mem s i = n - i
@@ -5225,7 +5225,7 @@ xb-returns-5 t c = record { is = by-same (group-is (c .before .before .before .b
 
 abbrev xd-Inv-loop : xd-lts.InvT-loop
 xd-Inv-loop run text rec kinds starts lens out₀ mem₀ at cfg n s1 s₀ i₀ out mem s i =
-    Turn run (page text rec kinds starts lens) (from (Helpers.new-line (cfgOf cfg) "and ") (DecOne.ex-bind (walks (cfg .left)) (cfgOf cfg))) n s₀ mem₀ out₀ i s mem out
+    Turn run (page text rec kinds starts lens) (from (Helpers.new-line (cfgOf cfg) "and ") (DecOne.ex-bind (walks (cfg .nesting)) (cfgOf cfg))) n s₀ mem₀ out₀ i s mem out
 
 abbrev xd-μ-loop : xd-lts.MeasureT-loop
 xd-μ-loop run text rec kinds starts lens out₀ mem₀ at cfg n s1 s₀ i₀ out mem s i = n - i
@@ -5308,18 +5308,18 @@ xi-same-length t c = c .before .before .ex-bind-of .kept .1 .1 .1 .1 .1 .0
 
 xi-returns : (t : ℕ) → xi-lts.Need-returns (xi-claims t) (xi-at t) xi.Post
 unfolding DecOne.ex-bind-inner
-xi-returns t c = record { is = at-key (λ i. DecOne.ex-bind-inner (walks (c .before .before .before .before .before .before .before .before .before .before .before .before .args .cfg .left)) (cfgOf (c .before .before .before .before .before .before .before .before .before .before .before .before .args .cfg)) i) (c .before .before .before .before .before .match .keys1) (plain (c .before .before .ex-bind-of .ensures)) }
+xi-returns t c = record { is = at-key (λ i. DecOne.ex-bind-inner (walks (c .before .before .before .before .before .before .before .before .before .before .before .before .args .cfg .nesting)) (cfgOf (c .before .before .before .before .before .before .before .before .before .before .before .before .args .cfg)) i) (c .before .before .before .before .before .match .keys1) (plain (c .before .before .ex-bind-of .ensures)) }
 
 xi-same-length-2 : (t : ℕ) → xi-lts.Need-same-length-2 (xi-claims t) (xi-at t) xi.Post
 xi-same-length-2 t c = c .before .before .pr .kept .1 .1 .1 .1 .1 .1 .0
 
 xi-returns-2 : (t : ℕ) → xi-lts.Need-returns-2 (xi-claims t) (xi-at t) xi.Post
 unfolding DecOne.ex-bind-inner
-xi-returns-2 t c = record { is = at-key (λ i. DecOne.ex-bind-inner (walks (c .before .before .before .before .before .before .before .before .before .before .before .before .args .cfg .left)) (cfgOf (c .before .before .before .before .before .before .before .before .before .before .before .before .args .cfg)) i) (c .before .before .before .before .before .match .keys2) (c .before .before .pr .ensures .is) }
+xi-returns-2 t c = record { is = at-key (λ i. DecOne.ex-bind-inner (walks (c .before .before .before .before .before .before .before .before .before .before .before .before .args .cfg .nesting)) (cfgOf (c .before .before .before .before .before .before .before .before .before .before .before .before .args .cfg)) i) (c .before .before .before .before .before .match .keys2) (c .before .before .pr .ensures .is) }
 
 xi-returns-3 : (t : ℕ) → xi-lts.Need-returns-3 (xi-claims t) (xi-at t) xi.Post
 unfolding DecOne.ex-bind-inner
-xi-returns-3 t c = record { is = beyond (DecOne.ex-bind-of (walks (c .before .before .before .before .before .before .before .before .args .cfg .left)) ∷ (Layout._⨾_ (Layout.word " = ") (walks (c .before .before .before .before .before .before .before .before .args .cfg .left) .get-exp (cfgOf (c .before .before .before .before .before .before .before .before .args .cfg)))) ∷ []) (c .before .before .before .before .before .before .before .before .args .which) 2 refl (past (past zero-le (c .before .match .rest .0 .1)) (c .before .match .rest .1)) (c .stop .ensures) }
+xi-returns-3 t c = record { is = beyond (DecOne.ex-bind-of (walks (c .before .before .before .before .before .before .before .before .args .cfg .nesting)) ∷ (Layout._⨾_ (Layout.word " = ") (walks (c .before .before .before .before .before .before .before .before .args .cfg .nesting) .get-exp (cfgOf (c .before .before .before .before .before .before .before .before .args .cfg)))) ∷ []) (c .before .before .before .before .before .before .before .before .args .which) 2 refl (past (past zero-le (c .before .match .rest .0 .1)) (c .before .match .rest .1)) (c .stop .ensures) }
 
 pub +ab+ac+an+app+ar+arm+br+ca+cb+cd+da+dec+dp+ds+du+exp+fa+fb+fc+fd+fe+fs+fx+gd+ha+ic+ie+it+ld+lo+lx+ma+mo+nm+nu+one+pa+pr+qb+qs+rc+ro+rs+sa+sb+sd+seq+sg+sig+sl+sm+sp+sq+ss+str+ta+ty+vb+vd+ve+wh+wr+wt+xb+xd+xi-spec :
     {M : Type 1} → statement M

@@ -179,7 +179,7 @@ returns-14 t c = record { is = λ kinds. pat-form _ (c .before .before .before .
 
 returns-15 : (t : ℕ) → lts.Need-returns-15 (claims t) (get-pat-at t) get-pat.Post
 unfolding Pat.pats Pat.pat
-returns-15 t c = record { is = λ kinds. pat-form _ (c .before .before .before .before .before .before .if1 .left) (by-same (form-is (c .before .before .before .before .before .form .ensures) (c .before .before .before .k .given .1)) (beyond (Pat.pats (walks (c .before .before .before .before .before .before .before .before .before .before .before .before .args .cfg .left - 1))) (c .before .before .before .k .given .0 .0) 12 refl (past (past (past (past (past (past (past (past (past (past (past (past zero-le (c .before .match2 .rest .0 .0 .0 .0 .0 .0 .0 .0 .0 .0 .0 .1)) (c .before .match2 .rest .0 .0 .0 .0 .0 .0 .0 .0 .0 .0 .1)) (c .before .match2 .rest .0 .0 .0 .0 .0 .0 .0 .0 .0 .1)) (c .before .match2 .rest .0 .0 .0 .0 .0 .0 .0 .0 .1)) (c .before .match2 .rest .0 .0 .0 .0 .0 .0 .0 .1)) (c .before .match2 .rest .0 .0 .0 .0 .0 .0 .1)) (c .before .match2 .rest .0 .0 .0 .0 .0 .1)) (c .before .match2 .rest .0 .0 .0 .0 .1)) (c .before .match2 .rest .0 .0 .0 .1)) (c .before .match2 .rest .0 .0 .1)) (c .before .match2 .rest .0 .1)) (c .before .match2 .rest .1)) (c .stop3 .ensures))) }
+returns-15 t c = record { is = λ kinds. pat-form _ (c .before .before .before .before .before .before .if1 .left) (by-same (form-is (c .before .before .before .before .before .form .ensures) (c .before .before .before .k .given .1)) (beyond (Pat.pats (walks (c .before .before .before .before .before .before .before .before .before .before .before .before .args .cfg .nesting - 1))) (c .before .before .before .k .given .0 .0) 12 refl (past (past (past (past (past (past (past (past (past (past (past (past zero-le (c .before .match2 .rest .0 .0 .0 .0 .0 .0 .0 .0 .0 .0 .0 .1)) (c .before .match2 .rest .0 .0 .0 .0 .0 .0 .0 .0 .0 .0 .1)) (c .before .match2 .rest .0 .0 .0 .0 .0 .0 .0 .0 .0 .1)) (c .before .match2 .rest .0 .0 .0 .0 .0 .0 .0 .0 .1)) (c .before .match2 .rest .0 .0 .0 .0 .0 .0 .0 .1)) (c .before .match2 .rest .0 .0 .0 .0 .0 .0 .1)) (c .before .match2 .rest .0 .0 .0 .0 .0 .1)) (c .before .match2 .rest .0 .0 .0 .0 .1)) (c .before .match2 .rest .0 .0 .0 .1)) (c .before .match2 .rest .0 .0 .1)) (c .before .match2 .rest .0 .1)) (c .before .match2 .rest .1)) (c .stop3 .ensures))) }
 
 pub met : {M : Type 1} (t : ℕ) → lts.Closed (claims t) (get-pat-at t) get-pat.Post M
 met t = lts.spec (claims t) (get-pat-at t) get-pat.Post (stop-requires t) (returns t) (form-requires t) (enum-known-k t) (enum-told t) (stop-requires-2 t) (returns-2 t) (sub-t17 t) (word-requires t) (text-of-requires t) (con-pat-requires t) (record-pat-requires t) (paren-pat-requires t) (tuple-pat-requires t) (list-pat-requires t) (vector-pat-requires t) (infix-pat-requires t) (typed-pat-requires t) (as-pat-requires t) (or-pat-requires t) (stop-requires-3 t) (same-length t) (returns-3 t) (same-length-2 t) (returns-4 t) (same-length-3 t) (returns-5 t) (same-length-4 t) (returns-6 t) (same-length-5 t) (returns-7 t) (same-length-6 t) (returns-8 t) (same-length-7 t) (returns-9 t) (same-length-8 t) (returns-10 t) (same-length-9 t) (returns-11 t) (same-length-10 t) (returns-12 t) (same-length-11 t) (returns-13 t) (same-length-12 t) (returns-14 t) (returns-15 t)

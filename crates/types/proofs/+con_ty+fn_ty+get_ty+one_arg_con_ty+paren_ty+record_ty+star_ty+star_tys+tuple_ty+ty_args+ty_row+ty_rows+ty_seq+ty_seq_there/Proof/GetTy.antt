@@ -145,7 +145,7 @@ returns-11 t c = record { is = λ kinds. ty-form _ (c .before .before .before .b
 
 returns-12 : (t : ℕ) → lts.Need-returns-12 (claims t) (get-ty-at t) get-ty.Post
 unfolding Ty.tys Ty.ty
-returns-12 t c = record { is = λ kinds. ty-form _ (c .before .before .before .before .before .before .if1 .left) (by-same (form-is (c .before .before .before .before .before .form .ensures) (c .before .before .before .k .given .1)) (beyond (Ty.tys (walks (c .before .before .before .before .before .before .before .before .before .before .before .before .args .cfg .left - 1))) (c .before .before .before .k .given .0 .0) 9 refl (past (past (past (past (past (past (past (past (past zero-le (c .before .match2 .rest .0 .0 .0 .0 .0 .0 .0 .0 .1)) (c .before .match2 .rest .0 .0 .0 .0 .0 .0 .0 .1)) (c .before .match2 .rest .0 .0 .0 .0 .0 .0 .1)) (c .before .match2 .rest .0 .0 .0 .0 .0 .1)) (c .before .match2 .rest .0 .0 .0 .0 .1)) (c .before .match2 .rest .0 .0 .0 .1)) (c .before .match2 .rest .0 .0 .1)) (c .before .match2 .rest .0 .1)) (c .before .match2 .rest .1)) (c .stop3 .ensures))) }
+returns-12 t c = record { is = λ kinds. ty-form _ (c .before .before .before .before .before .before .if1 .left) (by-same (form-is (c .before .before .before .before .before .form .ensures) (c .before .before .before .k .given .1)) (beyond (Ty.tys (walks (c .before .before .before .before .before .before .before .before .before .before .before .before .args .cfg .nesting - 1))) (c .before .before .before .k .given .0 .0) 9 refl (past (past (past (past (past (past (past (past (past zero-le (c .before .match2 .rest .0 .0 .0 .0 .0 .0 .0 .0 .1)) (c .before .match2 .rest .0 .0 .0 .0 .0 .0 .0 .1)) (c .before .match2 .rest .0 .0 .0 .0 .0 .0 .1)) (c .before .match2 .rest .0 .0 .0 .0 .0 .1)) (c .before .match2 .rest .0 .0 .0 .0 .1)) (c .before .match2 .rest .0 .0 .0 .1)) (c .before .match2 .rest .0 .0 .1)) (c .before .match2 .rest .0 .1)) (c .before .match2 .rest .1)) (c .stop3 .ensures))) }
 
 pub met : {M : Type 1} (t : ℕ) → lts.Closed (claims t) (get-ty-at t) get-ty.Post M
 met t = lts.spec (claims t) (get-ty-at t) get-ty.Post (stop-requires t) (returns t) (form-requires t) (enum-known-k t) (enum-told t) (stop-requires-2 t) (returns-2 t) (sub-t17 t) (word-requires t) (word-requires-2 t) (text-of-requires t) (record-ty-requires t) (con-ty-requires t) (one-arg-con-ty-requires t) (tuple-ty-requires t) (fn-ty-requires t) (paren-ty-requires t) (stop-requires-3 t) (same-length t) (returns-3 t) (same-length-2 t) (returns-4 t) (same-length-3 t) (returns-5 t) (same-length-4 t) (returns-6 t) (same-length-5 t) (returns-7 t) (same-length-6 t) (returns-8 t) (same-length-7 t) (returns-9 t) (same-length-8 t) (returns-10 t) (same-length-9 t) (returns-11 t) (returns-12 t)
