@@ -60,9 +60,10 @@ def public(text):
 
 
 def specs(crate):
-    """The definitions of a crate: {file: (names, constructors and fields)}."""
-    paths = sorted(glob.glob("crates/%s/specs/*.antt" % crate))
-    files = {os.path.basename(path)[:-5]: public(read(path)) for path in paths}
+    """The definitions of a crate: {file: (names, constructors and fields)}; a file of specs/Contracts is Contracts/File."""
+    folder = "crates/%s/specs/" % crate
+    paths = sorted(glob.glob(folder + "**/*.antt", recursive=True))
+    files = {path[len(folder):-5]: public(read(path)) for path in paths}
     return {file: found for file, found in files.items() if found[0]}
 
 

@@ -30,7 +30,7 @@ FORMS = definition("reader/specs/Check", "maxForms")
 WIDTH = definition("formatter/specs/Verdict", "maxWidth")
 ROOM = definition("program/specs/Program", "room")
 HEAD = definition("program/specs/Program", "headLength")
-LINE = definition("program/specs/Printing", "maxLine")
+LINE = definition("program/specs/Contracts/Printing", "maxLine")
 
 
 class Limits(unittest.TestCase):

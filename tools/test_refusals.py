@@ -72,7 +72,7 @@ class Refusals(unittest.TestCase):
 
     def test_definitions(self):
         count = 0
-        for path in glob.glob(os.path.join(ROOT, "crates/*/specs/*.antt")):
+        for path in glob.glob(os.path.join(ROOT, "crates/*/specs/**/*.antt"), recursive=True):
             where = os.path.relpath(path, ROOT)
             given = r"^ *(?:numberOf|verdictOf|docSaid) \(?(?:Case\.)?(\w+)[^=]*= (?:plain |doc \(looked )?(\d+)\b"
             for case, number in re.findall(given, read(where), re.M):

@@ -44,7 +44,7 @@ class Repository(unittest.TestCase):
 
     def texts(self, *files):
         found = set()
-        for path in glob.glob(os.path.join(ROOT, "crates/layout/specs/*.antt")):
+        for path in glob.glob(os.path.join(ROOT, "crates/layout/specs/**/*.antt"), recursive=True):
             if os.path.basename(path)[:-5] in files:
                 with open(path, encoding="utf-8") as file:
                     found |= {tool.plain(text) for text in re.findall(tool.QUOTED, re.sub(r"--.*", "", file.read()))}

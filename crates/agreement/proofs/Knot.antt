@@ -17,7 +17,7 @@ use Rattle.reader.proofs.CommandLaws.{form-fits}
 use Rattle.reader.proofs.Ends.{ends-more}
 use Rattle.reader.proofs.FieldLaws.{then-parts, if-parts}
 use Rattle.layout.specs.Meaning.{Page, Event, Outcome, done, stopped, outcome, Heads, missing, headsFrom, headsAt}
-use Rattle.layout.specs.State.{headsBehind}
+use Rattle.layout.specs.Contracts.State.{headsBehind}
 use Rattle.layout.specs.Layout.{halt, import}
 use Rattle.layout.specs.Helpers.{Cfg, Walkers}
 use Rattle.layout.specs.GetDec.{get-dec}

@@ -13,7 +13,8 @@ use borrow.Author.Tests.{leb-true, leb-false, le-leb, eqb-false}
 use Rattle.reader.proofs.CommandLaws.{and-left, and-right}
 use Rattle.comments.specs.Set.{isComment}
 use Rattle.comments.proofs.Words.{whether}
-use Rattle.comments.specs.Above.{isKeyword, Found, above, foundAbove, commentIn, commentAbove, isSome, foundOf, commentOf, Reaches}
+use Rattle.comments.specs.Above.{isKeyword, Found, above, foundAbove, commentIn, commentAbove, Reaches}
+use Rattle.comments.specs.Contracts.Above.{isSome, foundOf, commentOf}
 use Rattle.comments.specs.declared.Above.{Above}
 
 module _ (kinds : List ℕ) where

@@ -9,8 +9,7 @@ use lib.Dec.{leb}
 use Rattle.comments.specs.Set.{isComment}
 use Rattle.comments.specs.declared.Passed.{Passed}
 use Rattle.comments.specs.declared.Passed.the-variants as Saw
-use Rattle.comments.specs.declared.Above.{Above}
-use Rattle.comments.specs.declared.Above.the-variants.{Comment, Nothing}
+use Rattle.comments.specs.declared.Above.the-variants.{Nothing}
 
 -- Kinds 2 to 20: the keywords that a declaration starts with.
 unfoldable pub isKeyword : List ℕ → ℕ → Bool
@@ -49,19 +48,7 @@ pub record Reaches (kinds : List ℕ) (first : ℕ) (f : Found) : Type 0 where
   pub keyword : (j : ℕ) → f .keyword ≡ some j → (f .comment < j) × (j ≤ first) × (2 ≤ getD kinds j 0) × (getD kinds j 0 ≤ 20)
   pub others : (i : ℕ) → f .comment < i → i ≤ first → (f .keyword ≡ some i → ⊥) → getD kinds i 0 ≡ 0
 
-unfoldable pub isSome : Option ℕ → Bool
-isSome none = false
-isSome (some j) = true
-
 -- The keyword that an answer of the code gives.
 unfoldable pub passedIn : Passed → Option ℕ
 passedIn (Saw.Keyword j) = some j
 passedIn Saw.Nothing = none
-
--- What an answer of the code gives.
-unfoldable pub foundOf : Above → Option Found
-foundOf (Comment k saw) = some (record { comment = k; keyword = passedIn saw })
-foundOf Nothing = none
-
-unfoldable pub commentOf : Above → Option ℕ
-commentOf a = commentIn (foundOf a)

@@ -1,2 +1,3 @@
 pub mod Set
 pub mod Above
+pub mod Contracts

@@ -18,7 +18,7 @@ use Rattle.formatter.specs.declared.Answer.{Answer}
 use Rattle.formatter.specs.declared.numbers.Numbers.{Numbers}
 use Rattle.formatter.specs.Lookup.{Looked, numberOf as lookupNumber, placeOf as lookupPlace, answerOf, keywordOf, lookedOf}
 use Rattle.formatter.specs.Verdict.{Verdict, Result, verdictOf, get}
-use Rattle.formatter.specs.Numbers.{said, numbered}
+use Rattle.formatter.specs.Contracts.Numbers.{said, numbered}
 use Rattle.doc_comment.specs.Doc.{Doc, docLookup, docLooked}
 use Rattle.diverplume.specs.Numbers.{orNone, commentNumbers, docNumbers, verdictNumbers, replyNumbers, DocOut, GetOut, ScanOut}
 

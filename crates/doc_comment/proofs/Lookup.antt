@@ -10,13 +10,15 @@ use Rattle.reader.specs.Tokens.{textOf}
 use Rattle.comments.specs.declared.Above.{Above}
 use Rattle.comments.specs.declared.Above.the-variants.{Comment, Nothing}
 use Rattle.comments.specs.declared.Passed.{Passed}
-use Rattle.comments.specs.Above.{commentIn, foundAbove, foundOf, commentAbove, commentOf}
+use Rattle.comments.specs.Above.{commentIn, foundAbove, commentAbove}
+use Rattle.comments.specs.Contracts.Above.{foundOf, commentOf}
 use Rattle.comments.proofs.Search.{comment-above-is, comment-told}
 use Rattle.formatter.specs.declared.Lookup.{Lookup}
 use Rattle.formatter.specs.declared.Lookup.the-variants as Case
 use Rattle.formatter.specs.declared.Asked as Code
 use Rattle.formatter.specs.declared.Asked.the-variants.{Tokens, Declined}
-use Rattle.formatter.specs.Lookup.{numberOf, placeOf, answerOf, keywordOf, lookedOf, Asks}
+use Rattle.formatter.specs.Lookup.{numberOf, placeOf, answerOf, keywordOf, lookedOf}
+use Rattle.formatter.specs.Contracts.Lookup.{Asks}
 use Rattle.formatter.proofs.LookupLaws.{asked-says, asked-counts}
 use Rattle.doc_comment.specs.declared.DocText.{DocText}
 use Rattle.doc_comment.specs.Doc.{docOf, docSaid, docLookup, docLooked}

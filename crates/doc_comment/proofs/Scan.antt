@@ -14,7 +14,7 @@ use lib.Seq.{drop-cons, drop-drop, take-nil, take-suc}
 use borrow.Author.Tests.{eq-eqb, ne-eqb, eqb-true, eqb-false}
 use Rattle.text.proofs.Laws.{take-rest}
 use Rattle.doc_comment.specs.Doc.{withoutReturn, linesFrom, afterAsterisk, withoutSpace, starred}
-use Rattle.doc_comment.specs.Lines.{before, Cuts, Starts, kept, FirstKept, Nexts}
+use Rattle.doc_comment.specs.Contracts.Lines.{before, Cuts, Starts, kept, FirstKept, Nexts}
 use Rattle.doc_comment.specs.declared.Start.{Start}
 use Rattle.doc_comment.specs.declared.Start.the-variants.{At, Nowhere}
 use Rattle.doc_comment.specs.declared.Next.{Next}

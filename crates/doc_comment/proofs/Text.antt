@@ -11,7 +11,7 @@ use borrow.Author.Tests.{le-leb, lt-leb}
 use Rattle.text.specs.Bytes.{bytes, sameBytes}
 use Rattle.text.proofs.Laws.{never, same-true, same-refl}
 use Rattle.doc_comment.specs.Doc.{joined, closed, opened, docText, put, docOf, docSaid}
-use Rattle.doc_comment.specs.Lines.{part, kept, FirstKept, size, Closes, Bodies, Joins, fed}
+use Rattle.doc_comment.specs.Contracts.Lines.{part, kept, FirstKept, size, Closes, Bodies, Joins, fed}
 use Rattle.doc_comment.specs.declared.Body.{Body}
 use Rattle.doc_comment.specs.declared.Body.the-variants.{Lines, Open}
 use Rattle.doc_comment.specs.declared.DocText.the-variants.{Found, OutputTooShort, Nothing}

@@ -1,2 +1,2 @@
 pub mod Doc
-pub mod Lines
+pub mod Contracts

@@ -14,10 +14,12 @@ use Rattle.text.proofs.Laws.{never}
 use Rattle.reader.specs.Commands.{formWidth}
 use Rattle.reader.specs.Check.{Checked, maxForms, treeCheck}
 use Rattle.text.specs.declared.Broken.{Broken}
-use Rattle.text.specs.Utf8.{firstBroken, brokenAt, boundary}
-use Rattle.reader.specs.Tokens.{countOf, maxTokens, tokens, tokensIn, tilingIn, Tiles}
+use Rattle.text.specs.Utf8.{firstBroken, boundary}
+use Rattle.text.specs.Contracts.Utf8.{brokenAt}
+use Rattle.reader.specs.Tokens.{countOf, maxTokens, tokens}
+use Rattle.reader.specs.Contracts.Tokens.{tokensIn, tilingIn, Tiles}
 use Rattle.reader.specs.Reading.{maxText, maxRecord}
-use Rattle.reader.specs.Tree.{checkedIn, TreeEnd}
+use Rattle.reader.specs.Contracts.Tree.{checkedIn, TreeEnd}
 use Rattle.reader.specs.declared.tree.Checked as Tree
 use Rattle.reader.specs.declared.tokens.Tiled as Tokens
 use Rattle.reader.specs.declared.tokens.Tiled.the-variants as Tiled
@@ -25,11 +27,11 @@ use Rattle.comments.specs.declared.First.{First}
 use Rattle.comments.specs.declared.First.the-variants as Seen
 use Rattle.comments.specs.Set.{isComment, holds, wordsOf, room, count, first, firstAt}
 use Rattle.layout.specs.Meaning.{Page, Event, Outcome, done, stopped, Stop, absent, imported}
-use Rattle.layout.specs.Words.{wordRun}
+use Rattle.layout.specs.Contracts.Words.{wordRun}
 use Rattle.layout.specs.Walk.{walks, top, walk}
 use Rattle.layout.specs.GetDec.{get-dec}
 use Rattle.layout.specs.Events.{deepest, letters, units, formatted, isLeft}
-use Rattle.layout.specs.State.{Run, runOf, at, sumOf, widthOf, effects, Ran, went, fell, run, runs, packed, shown, stopNo, stopOf, Fair, Walked, page}
+use Rattle.layout.specs.Contracts.State.{Run, runOf, at, sumOf, widthOf, effects, Ran, went, fell, run, runs, packed, shown, stopNo, stopOf, Fair, Walked, page}
 use Rattle.layout.proofs.Exact.{cap, Sums, position, lent, letters-is, steps, exact, exact-letters, exact-units, exact-deepest}
 use Rattle.layout.proofs.Steps.{shown-went}
 use Rattle.agreement.specs.Agreement.{EndsAt, Proper}
@@ -42,8 +44,8 @@ use Rattle.formatter.specs.declared.Answer.the-variants as Case
 use Rattle.formatter.specs.declared.Judged as Code
 use Rattle.formatter.specs.declared.Judged.the-variants as Says
 use Rattle.formatter.specs.Verdict.{Verdict, Result, Judged, judge, check, get, declined, stopVerdict, comments, measuresOf, emptySet, verdictOf, numberOf, placeOf, givenMeasures, format, maxWidth}
-use Rattle.formatter.specs.WalkFirst.{byCheck, byWalk, recordFirst, textFirst, judgeWalkFirst}
-use Rattle.formatter.specs.Judging.{otherwise, BehindCommand, BehindWhere, Limits, Weight, Drafts, Accepts, Weighs, Within, Judges, Puts}
+use Rattle.formatter.specs.Contracts.WalkFirst.{byCheck, byWalk, recordFirst, textFirst, judgeWalkFirst}
+use Rattle.formatter.specs.Contracts.Judging.{otherwise, BehindCommand, BehindWhere, Limits, Weight, Drafts, Accepts, Weighs, Within, Judges, Puts}
 use Rattle.formatter.proofs.EventLaws.{length-formatted}
 use Rattle.formatter.proofs.RunLaws.{out-is, left-comments, empty-left, first-left, comments-some, comments-none}
 use Rattle.formatter.proofs.VerdictLaws.{format-wide, format-short, format-fits, check-declined, get-declined, check-accepted, get-accepted}

@@ -12,20 +12,23 @@ use Rattle.reader.specs.declared.Reading.{Reading}
 use Rattle.reader.specs.declared.Reading.the-variants as Says
 use Rattle.reader.specs.Reading as Reading
 use Rattle.reader.specs.Tokens as Read
-use Rattle.reader.specs.Reading.{Read, refused, sheet, read, Reads}
+use Rattle.reader.specs.Reading.{Read, refused, sheet, read}
+use Rattle.reader.specs.Contracts.Reading.{Reads}
 use Rattle.reader.proofs.ReadingLaws.{reading-says, reading-counts}
 use Rattle.reader.proofs.KindLaws.{kinds-known}
 use Rattle.text.proofs.Laws.{never}
 use Rattle.comments.specs.declared.Above.{Above}
 use Rattle.comments.specs.declared.Above.the-variants.{Comment, Nothing}
 use Rattle.comments.specs.declared.Passed.{Passed}
-use Rattle.comments.specs.Above.{Found, foundAbove, foundOf, Reaches}
+use Rattle.comments.specs.Above.{Found, foundAbove, Reaches}
+use Rattle.comments.specs.Contracts.Above.{foundOf}
 use Rattle.comments.proofs.Search.{found-reaches}
 use Rattle.formatter.specs.declared.Lookup.{Lookup}
 use Rattle.formatter.specs.declared.Lookup.the-variants as Case
 use Rattle.formatter.specs.declared.Asked as Code
 use Rattle.formatter.specs.declared.Asked.the-variants.{Tokens, Declined}
-use Rattle.formatter.specs.Lookup.{Looked, Asked, looked, declined, asked, ask, lookup, told, numberOf, placeOf, answerOf, keywordOf, lookedOf, askedIn, Asks}
+use Rattle.formatter.specs.Lookup.{Looked, Asked, looked, declined, asked, ask, lookup, told, numberOf, placeOf, answerOf, keywordOf, lookedOf}
+use Rattle.formatter.specs.Contracts.Lookup.{askedIn, Asks}
 
 -- ---- 1 to 4, then 9
 module _ {text rec kinds starts lens : List ℕ} {r : Reading} (s : Reads text rec kinds starts lens r) (token : ℕ) where

@@ -17,7 +17,7 @@ use Rattle.comments.specs.Set.{isComment, holds, bits, wordsFrom, wordsOf, room
 use Rattle.comments.proofs.Words.{words-clear, words-past, words-first, first-among, count-none, none-count}
 use Rattle.layout.specs.Meaning.{Page, Event, Word, Token, Comment, Formed, Indent, tokenText}
 use Rattle.layout.specs.Events.{sumOf, indentDepth, units, lettersOf, trimmed, letters, spelt, formatted, writesComment, written, isLeft}
-use Rattle.layout.specs.State.{placed, spaced}
+use Rattle.layout.specs.Contracts.State.{placed, spaced}
 use Rattle.layout.proofs.Placing.{placed-yes, spaced-yes}
 use Rattle.layout.proofs.Exact.{Sums, position, step, steps, exact-letters, exact-units}
 use Rattle.layout.proofs.Exact.{without as struck}

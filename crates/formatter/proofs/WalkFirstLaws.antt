@@ -18,7 +18,7 @@ use Rattle.layout.specs.Walk.{walk}
 use Rattle.agreement.specs.Agreement.{EndsAt}
 use Rattle.agreement.proofs.Knot as Knot
 use Rattle.formatter.specs.Verdict.{Judged, declined, verdict, noMeasures, comments, stopVerdict, walked, judge}
-use Rattle.formatter.specs.WalkFirst.{byCheck, byWalk, recordFirst, textFirst, judgeWalkFirst}
+use Rattle.formatter.specs.Contracts.WalkFirst.{byCheck, byWalk, recordFirst, textFirst, judgeWalkFirst}
 
 abbrev page : List ℕ → List ℕ → Tokens → Page
 page text rec ts = record { text = text; rec = rec; tokens = ts }

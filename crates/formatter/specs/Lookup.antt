@@ -1,19 +1,16 @@
 -- The lookups: 1 to 4, then 9, then 8; number, place, answer and final output for every input.
-use Prim.Native.Nat.{ℕ, _≤_}
-use mathlib.Core.Path.{_≡_}
+use Prim.Native.Nat.{ℕ}
 use mathlib.Core.List.{List}
-use mathlib.Core.Bool.{Bool, true, false}
+use mathlib.Core.Bool.{true, false}
 use mathlib.Core.Option.{Option, none, some}
-use lib.ListN.{length, take}
+use lib.ListN.{length}
 use lib.Dec.{ltb}
-use Rattle.reader.specs.Tokens.{Tokens, tokensIn, maxTokens}
-use Rattle.reader.specs.Reading.{Read, refused, sheet, read}
+use Rattle.reader.specs.Tokens.{Tokens}
+use Rattle.reader.specs.Reading.{refused, sheet, read}
 use Rattle.comments.specs.Above as Above
 use Rattle.comments.specs.Above.{foundAbove, passedIn}
 use Rattle.formatter.specs.declared.Lookup.{Lookup}
 use Rattle.formatter.specs.declared.Lookup.the-variants.{Found, Nothing, TooLong, NotUtf8, Malformed, TooDeep, OutputTooShort, NoToken}
-use Rattle.formatter.specs.declared.Asked as Code
-use Rattle.formatter.specs.declared.Asked.the-variants as Case
 
 -- What a lookup gives: number, place, the comment's token number or the length of the doc text; and the token number of the keyword that
 -- `comment_above` passed, none where it passed none, found no comment or is declined, and for a doc text.
@@ -93,18 +90,3 @@ keywordOf NoToken = none
 -- What an answer stands for.
 unfoldable pub lookedOf : Lookup → Looked
 lookedOf l = record { number = numberOf l; place = placeOf l; answer = answerOf l; keyword = keywordOf l }
-
--- What an answer of `ask` says with the tables.
-abbrev pub askedIn : Code.Asked → List ℕ → List ℕ → List ℕ → Asked
-askedIn (Case.Tokens count) kinds starts lens = asked (tokensIn count kinds starts lens)
-askedIn (Case.Declined l) kinds starts lens = declined (lookedOf l)
-
--- Of the tables as many entries count as the answer says.
-abbrev pub counted : Code.Asked → List ℕ → Type 0
-counted (Case.Tokens count) kinds = (length (take count kinds) ≡ count) × (count ≤ maxTokens)
-counted (Case.Declined l) kinds = Unit {0}
-
--- Contract: refusals 1 to 4, then 9.
-pub record Asks (text rec : List ℕ) (token : ℕ) (kinds starts lens : List ℕ) (r : Code.Asked) : Type 0 where
-  pub is : askedIn r kinds starts lens ≡ ask text rec token
-  pub counts : counted r kinds

@@ -29,11 +29,12 @@ ghost use Prim.Native.Nat.{_*_, _≤_};
 ghost use mathlib.Core.List.{_∷_};
 ghost use lib.ListN.{length, drop};
 ghost use Rattle.reader.specs.Check.{treeCheck};
-ghost use Rattle.layout.specs.State.{page};
-ghost use Rattle.formatter.specs.Lookup.{Asks, lookedOf, lookup};
+ghost use Rattle.layout.specs.Contracts.State.{page};
+ghost use Rattle.formatter.specs.Lookup.{lookedOf, lookup};
+ghost use Rattle.formatter.specs.Contracts.Lookup.{Asks};
 ghost use Rattle.formatter.specs.Verdict.{declined, emptySet, verdictOf, check as check·, get as get·};
-ghost use Rattle.formatter.specs.WalkFirst.{byCheck};
-ghost use Rattle.formatter.specs.Judging.{otherwise, BehindCommand, BehindWhere, Limits, pageIn, Weighs, Drafted, Judges, Puts};
+ghost use Rattle.formatter.specs.Contracts.WalkFirst.{byCheck};
+ghost use Rattle.formatter.specs.Contracts.Judging.{otherwise, BehindCommand, BehindWhere, Limits, pageIn, Weighs, Drafted, Judges, Puts};
 
 // Deepest, letters and units of a walk (document 01, module 5).
 pub struct Measures {

@@ -3,7 +3,7 @@ use crate::Answer;
 use crate::Measures;
 ghost use mathlib.Core.Path.{_≡_};
 ghost use Rattle.formatter.specs.Verdict.{verdict, noMeasures};
-ghost use Rattle.formatter.specs.Numbers.{said, numbered};
+ghost use Rattle.formatter.specs.Contracts.Numbers.{said, numbered};
 
 // Number, place and measures of a verdict.
 pub struct Numbers {

@@ -10,7 +10,8 @@ use Rattle.reader.specs.Fields.{DecOne}
 use Rattle.reader.specs.declared.commands.Declaration.{Declaration}
 use Rattle.reader.specs.declared.commands.Declaration.the-variants as Whole
 use Rattle.reader.specs.declared.commands.Number.{Number}
-use Rattle.reader.specs.Commands.{formWidth, firstToken, numberIn, declarationIn}
+use Rattle.reader.specs.Commands.{formWidth, firstToken}
+use Rattle.reader.specs.Contracts.Commands.{numberIn, declarationIn}
 use Rattle.reader.specs.Check.{formFits}
 use lib.ListN.{length}
 use Rattle.reader.proofs.CommandLaws.{form-fits}
@@ -18,7 +19,7 @@ use Rattle.reader.proofs.FieldLaws.{fits-parts}
 use Rattle.layout.specs.Layout.{Layout, declaration}
 use Rattle.layout.specs.Meaning.{Page, Comment, Outcome, bind, orStop, outcome, commented, aboveFirst, tokenText}
 use Rattle.layout.specs.Events.{trimmed}
-use Rattle.layout.specs.State.{runOf, run, runs, effect, effects, page, shown, Walked, Sure, Stops, Commented, CommentedAbove, declaredAt, DeclaredAt}
+use Rattle.layout.specs.Contracts.State.{runOf, run, runs, effect, effects, page, shown, Walked, Sure, Stops, Commented, CommentedAbove, declaredAt, DeclaredAt}
 use Rattle.layout.proofs.Steps.{run-at, packed-absent, exactly, wrote-then, wrote-after}
 use Rattle.reader.specs.Tokens.{textOf}
 use Rattle.comments.specs.Above.{commentAbove}

@@ -11,13 +11,14 @@ use Rattle.reader.specs.Fields.{Ty}
 use Rattle.reader.specs.declared.commands.Family.the-variants as Case
 use Rattle.reader.specs.declared.commands.Number.{Number}
 use Rattle.reader.specs.declared.tree.Checked as Tree
-use Rattle.reader.specs.Commands.{formAt, FormAt}
+use Rattle.reader.specs.Commands.{formAt}
+use Rattle.reader.specs.Contracts.Commands.{FormAt}
 use Rattle.reader.specs.Check.{Checked, ok, malformed, tooDeep, endWithin}
-use Rattle.reader.specs.Tree.{checkedIn, FieldsEnd}
+use Rattle.reader.specs.Contracts.Tree.{checkedIn, FieldsEnd}
 use Rattle.reader.proofs.CommandLaws.{form-not, form-read, form-fits}
 use Rattle.layout.specs.Layout.{Layout, dropped}
 use Rattle.layout.specs.Meaning.{Page, Event, Outcome, done, stopped, Stop, absent, outcome, onwards}
-use Rattle.layout.specs.State.{Run, runOf, at, effects, Ran, went, fell, run, runs, stopNo, packed, Walked, Stops, Onwards, onwardsOf}
+use Rattle.layout.specs.Contracts.State.{Run, runOf, at, effects, Ran, went, fell, run, runs, stopNo, packed, Walked, Stops, Onwards, onwardsOf}
 use Rattle.layout.proofs.Steps.{packed-done, packed-stop, packed-absent, shown-all, exactly}
 use Rattle.reader.proofs.Bounded.{Below, end-below}
 use borrow.Author.Tests.{lt-ltb, le-ltb, ltb-true, ltb-false}

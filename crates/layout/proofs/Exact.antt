@@ -13,7 +13,7 @@ use Rattle.comments.specs.Set.{clear}
 use Rattle.layout.specs.Meaning.{Page, Event, Word, Token, Comment, Formed, Indent, tokenText}
 use Rattle.layout.specs.Events as Events
 use Rattle.layout.specs.Events.{formedDepth, indentDepth, lettersOf, trimmed}
-use Rattle.layout.specs.State.{Run, runOf, sumOf, widthOf, struck, placed, spaced, effect, effects}
+use Rattle.layout.specs.Contracts.State.{Run, runOf, sumOf, widthOf, struck, placed, spaced, effect, effects}
 
 -- No sum is over this.
 abbrev pub cap : ℕ

@@ -12,9 +12,10 @@ use Rattle.reader.specs.Forms.{expNumber}
 use Rattle.reader.specs.declared.commands.Family.the-variants as Case
 use Rattle.reader.specs.declared.commands.Number.{Number}
 use Rattle.reader.specs.declared.tree.Checked as Tree
-use Rattle.reader.specs.Commands.{FormAt, absentAt, formAt}
+use Rattle.reader.specs.Commands.{absentAt, formAt}
+use Rattle.reader.specs.Contracts.Commands.{FormAt}
 use Rattle.reader.specs.Check.{Checked, ok, malformed, tooDeep, maxForms, fields, orAbsent, formCheck, formFits, fieldEnd}
-use Rattle.reader.specs.Tree.{checkedIn, Ends}
+use Rattle.reader.specs.Contracts.Tree.{checkedIn, Ends}
 use Rattle.reader.proofs.CommandLaws.{form-not, form-read}
 use Rattle.layout.specs.declared.Status.{Status}
 use Rattle.layout.specs.declared.Status.the-variants.{Stopped}
@@ -23,7 +24,7 @@ use Rattle.layout.specs.declared.looks.Head as Looks
 use Rattle.layout.specs.declared.looks.BothSeen as Both
 use Rattle.layout.specs.Layout.{Layout, _⨾_, application}
 use Rattle.layout.specs.Meaning.{Page, opPathName, Head, pathExp, otherExp, Seen, seen, unseen, headOf, Heads, both, missing, bothSeen, headsFrom, headsAt, funcIsBang, argIsSymbolic, outcome}
-use Rattle.layout.specs.State.{runOf, run, runs, effects, page, packed, shown, toldOf, Fair, Walked, Stops, nameIn, headIn, headsIn, headsBehind, askedFirst, AskedFirst, BangIs, SymbolicIs}
+use Rattle.layout.specs.Contracts.State.{runOf, run, runs, effects, page, packed, shown, toldOf, Fair, Walked, Stops, nameIn, headIn, headsIn, headsBehind, askedFirst, AskedFirst, BangIs, SymbolicIs}
 use Rattle.layout.proofs.Steps.{Same, packed-absent, then-stop}
 use Rattle.layout.proofs.HeadPlaces.{missing-below}
 

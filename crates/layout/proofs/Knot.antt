@@ -6,14 +6,14 @@ use mathlib.Core.Bool.{Bool}
 use Prim.Native.Nat.{ℕ, suc, _-_, _≤_}
 use lib.ListN.{length, getD, List·getD-eq-default}
 use Rattle.reader.specs.Fields.{Ty, Pat, Exp, StrExp, SigExp}
-use Rattle.reader.specs.Commands.{familyOf}
+use Rattle.reader.specs.Contracts.Commands.{familyOf}
 use Rattle.reader.specs.declared.commands.Family as Code
 use Rattle.layout.specs.declared.fields.Read.{Read}
 use Rattle.layout.specs.declared.fields.Read.the-variants.{Is}
 use Rattle.layout.specs.Layout.{Layout, form, declaration, halt}
 use Rattle.layout.specs.Helpers.{Cfg}
 use Rattle.layout.specs.Meaning.{Page}
-use Rattle.layout.specs.State.{Run, runOf, Walked, Stops, FormRead}
+use Rattle.layout.specs.Contracts.State.{Run, runOf, Walked, Stops, FormRead}
 use Rattle.layout.specs.Walk.{walks}
 use Rattle.layout.specs.Ty.{tys}
 use Rattle.layout.specs.Pat.{pats}

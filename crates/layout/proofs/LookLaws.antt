@@ -13,7 +13,7 @@ use Rattle.layout.specs.Layout.{bodyExpNeedsNewline}
 use Rattle.reader.specs.Forms.{expNumber}
 use Rattle.reader.specs.Fields.{firstForm}
 use Rattle.layout.specs.Meaning.{isCommand, onNewLine, needsNewline, sees}
-use Rattle.layout.specs.State.{Looked, page}
+use Rattle.layout.specs.Contracts.State.{Looked, page}
 
 pub on-line-last : (b : ℕ) → (b ≡ 0x4C → ⊥) → (b ≡ 0x4D → ⊥) → (b ≡ 0x53 → ⊥) → (b ≡ 0x55 → ⊥) → (b ≡ 0x56 → ⊥) → eqb b 0x57 ≡ onNewLine b
 unfolding onNewLine isCommand expNumber firstForm

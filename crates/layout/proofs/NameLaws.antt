@@ -5,12 +5,13 @@ use mathlib.Core.List.{List}
 use Prim.Native.Nat.{ℕ, _+_}
 use borrow.Author.Tests.{eq-eqb, ne-eqb}
 use Rattle.reader.specs.declared.commands.Number.{Number}
-use Rattle.reader.specs.Commands.{absentAt, tokenAt, listAt, groupAt, SignAt, NumberAt}
+use Rattle.reader.specs.Commands.{absentAt, tokenAt, listAt, groupAt}
+use Rattle.reader.specs.Contracts.Commands.{SignAt, NumberAt}
 use Rattle.reader.proofs.CommandLaws.{read-not, read-is}
 use Rattle.layout.specs.declared.names.Name as Code
 use Rattle.layout.specs.Layout.{Test}
 use Rattle.layout.specs.Meaning.{Name, name, noName, dotName, listName, pathName, opPathName, namePasses}
-use Rattle.layout.specs.State.{nameIn, TestedText, TestedName}
+use Rattle.layout.specs.Contracts.State.{nameIn, TestedText, TestedName}
 
 -- What the record has, from what was read.
 sign : {reads : List ℕ → ℕ → Bool} {r : List ℕ} {at : ℕ} {b v : Bool} → SignAt reads r at b → b ≡ v → reads r at ≡ v

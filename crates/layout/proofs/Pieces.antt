@@ -6,8 +6,8 @@ use Prim.Native.String.{String}
 use Prim.Native.Nat.{ℕ, zero, suc, _/_, _%_}
 use lib.ListN.{take, drop}
 use Rattle.text.specs.Bytes.{bytes}
-use Rattle.layout.specs.Words.{wordText, takeText, dropText, wordOf, wordRun}
-use Rattle.layout.specs.State.{Put}
+use Rattle.layout.specs.Contracts.Words.{wordText, takeText, dropText, wordOf, wordRun}
+use Rattle.layout.specs.Contracts.State.{Put}
 
 -- ---- a fixed word
 take-bytes : (n : ℕ) (s : String) → take n (bytes s) ≡ bytes (takeText n s)

@@ -8,7 +8,7 @@ use lib.ListN.{length, set, getD, replicate, length-replicate, getD-replicate}
 use lib.Seq.{paste, paste-suc}
 use borrow.Author.Tests.{le-leb, lt-leb, lt-ltb, le-ltb}
 use Rattle.comments.specs.Set.{clear}
-use Rattle.layout.specs.State.{sumOf, positionIn, unitsIn, indentEnd, placed, spaced, struck, Put, Indented}
+use Rattle.layout.specs.Contracts.State.{sumOf, positionIn, unitsIn, indentEnd, placed, spaced, struck, Put, Indented}
 
 pub placed-yes : (o : List ℕ) (at : ℕ) (w : List ℕ) → at + length w ≤ length o → placed o at w ≡ paste o at w (length w)
 placed-yes o at w h = simp (le-leb _ _ h)

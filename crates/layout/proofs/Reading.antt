@@ -8,7 +8,8 @@ use borrow.Author.Tests.{lt-ltb, le-ltb}
 use lib.ListN.{length}
 use Rattle.reader.specs.declared.commands.Family.{Family}
 use Rattle.reader.specs.declared.commands.Number.{Number}
-use Rattle.reader.specs.Commands.{absentAt, tokenAt, listAt, groupAt, choiceAt, formAt, formWidth, firstToken, familyOf, declarationAt, declarationIn, SignAt, NumberAt, FormAt, DeclarationAt}
+use Rattle.reader.specs.Commands.{absentAt, tokenAt, listAt, groupAt, choiceAt, formAt, formWidth, firstToken, declarationAt}
+use Rattle.reader.specs.Contracts.Commands.{familyOf, declarationIn, SignAt, NumberAt, FormAt, DeclarationAt}
 use Rattle.reader.specs.Fields.{DecOne}
 use Rattle.reader.specs.Check.{operandFits, tokenFits}
 use Rattle.reader.proofs.FieldLaws.{fits-yes, fits-no}
@@ -19,7 +20,7 @@ use Rattle.reader.proofs.CommandLaws.{read-not, read-is, form-not, form-read}
 use Rattle.layout.specs.declared.fields.Read.{Read}
 use Rattle.layout.specs.declared.fields.Gone.{Gone}
 use Rattle.layout.specs.declared.fields.Given.{Given}
-use Rattle.layout.specs.State.{Stops, readOf, ReadAt, FormRead, groupOf, GroupRead, goneOf, GoneRead, presentOf, PresentRead, declaredAt, DeclaredAt}
+use Rattle.layout.specs.Contracts.State.{Stops, readOf, ReadAt, FormRead, groupOf, GroupRead, goneOf, GoneRead, presentOf, PresentRead, declaredAt, DeclaredAt}
 use Rattle.layout.proofs.Steps.{is-some, not-none, gone-true, gone-false}
 
 -- ---- what was read stands in the record

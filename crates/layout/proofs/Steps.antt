@@ -15,15 +15,16 @@ use Rattle.layout.specs.declared.Status.{Status}
 use Rattle.layout.specs.declared.Status.the-variants.{Done, Stopped}
 use Rattle.layout.specs.Layout.{Layout, skip, _⨾_, word, output-indent, formed, text, group, choice, form, list, maybe, present, Look, look, Test, isPipe, firstName, operator, halt}
 use Rattle.layout.specs.Meaning.{Page, Event, Word, Token, Comment, Formed, Indent, Outcome, done, stopped, Stop, absent, imported, after, bind, orStop, outcome, operated, tokenText, namePasses, sees, passes}
-use Rattle.layout.specs.Words.{wordRun}
-use Rattle.layout.specs.State.{Run, runOf, at, effect, effects, Ran, went, fell, run, runs, stopNo, stopOf, toldOf, packed, shown, page, Fair, Walked, Ended, Plain, Put, Sure, Texted, Indented, deepened, Stops, readOf, ReadAt, FormRead, groupOf, GroupRead, goneOf, GoneRead, presentOf, PresentRead, joint, TestedText, TestedName, Looked, Operated, cfgOf, Deeper, Does}
+use Rattle.layout.specs.Contracts.Words.{wordRun}
+use Rattle.layout.specs.Contracts.State.{Run, runOf, at, effect, effects, Ran, went, fell, run, runs, stopNo, stopOf, toldOf, packed, shown, page, Fair, Walked, Ended, Plain, Put, Sure, Texted, Indented, deepened, Stops, readOf, ReadAt, FormRead, groupOf, GroupRead, goneOf, GoneRead, presentOf, PresentRead, joint, TestedText, TestedName, Looked, Operated, cfgOf, Deeper, Does}
 use Rattle.reader.specs.Tokens.{textOf}
 use Rattle.reader.specs.declared.commands.Family as Code
 use Rattle.reader.specs.declared.commands.Family.the-variants as Case
 use Rattle.reader.specs.Fields as Fields
 use Rattle.reader.specs.Fields.{Exp}
 use Rattle.reader.specs.Check.{tokenFits}
-use Rattle.reader.specs.Commands.{absentAt, tokenAt, listAt, groupAt, choiceAt, formAt, formWidth, familyOf}
+use Rattle.reader.specs.Commands.{absentAt, tokenAt, listAt, groupAt, choiceAt, formAt, formWidth}
+use Rattle.reader.specs.Contracts.Commands.{familyOf}
 use Rattle.reader.proofs.CommandLaws.{token-fits, list-fits, choice-fits, form-fits, absent-fits, group-fits}
 use Rattle.reader.proofs.FieldLaws.{token-parts}
 use Rattle.layout.specs.declared.fields.Read.{Read}

@@ -10,6 +10,4 @@ pub mod StrExp
 pub mod DecOne
 pub mod Walk
 pub mod Events
-pub mod Words
-pub mod State
-pub mod Lent
+pub mod Contracts

@@ -8,7 +8,7 @@ ghost use mathlib.Core.Path.{_≡_};
 ghost use Rattle.reader.specs.Commands.{absentAt, listAt, choiceAt};
 ghost use Rattle.reader.specs.Check.{tokenFits};
 ghost use mathlib.Core.Option.{none};
-ghost use Rattle.layout.specs.State.{Stops, Imports, ReadAt, FormRead, GroupRead, GoneRead, PresentRead, presentOf, DeclaredAt, Onwards};
+ghost use Rattle.layout.specs.Contracts.State.{Stops, Imports, ReadAt, FormRead, GroupRead, GoneRead, PresentRead, presentOf, DeclaredAt, Onwards};
 
 // What is read at the cursor, with the cursor behind it.
 pub enum Read {

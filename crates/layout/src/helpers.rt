@@ -22,16 +22,16 @@ use crate::word;
 use crate::words;
 use comments::Above;
 use reader::commands::Number;
-ghost use Rattle.layout.specs.Words.{wordOf};
+ghost use Rattle.layout.specs.Contracts.Words.{wordOf};
 ghost use Rattle.layout.specs.Layout.{word as wordOf·, text as textField, isAlphanumeric, _⨾_};
 ghost use Rattle.layout.specs.Helpers.{path as pathLayout, word-if, in-parens, ty-vars, ty-var-seq-there, ty-var-seq};
 ghost use Rattle.layout.specs.Helpers.{deeper, indent as indentOf, indent-deeper, when, new-line, op as opLayout, op-path};
 ghost use mathlib.Core.Path.{_≡_};
 ghost use Prim.Native.Nat.{_+_, _≤_};
-ghost use Rattle.reader.specs.Commands.{numberIn};
+ghost use Rattle.reader.specs.Contracts.Commands.{numberIn};
 ghost use Rattle.layout.specs.DecOne.{comment-line};
-ghost use Rattle.layout.specs.Lent.{plainly, writes, indents, writesAbove};
-ghost use Rattle.layout.specs.State.{TestedName, deepened, joint, cfgOf};
+ghost use Rattle.layout.specs.Contracts.Lent.{plainly, writes, indents, writesAbove};
+ghost use Rattle.layout.specs.Contracts.State.{TestedName, deepened, joint, cfgOf};
 
 // A fixed word before an item that is not the first.
 pub fn between<'a>(

@@ -14,12 +14,12 @@ use text::trim;
 ghost use mathlib.Core.Path.{_≡_};
 ghost use Prim.Native.Nat.{ℕ, _+_, _≤_, max};
 ghost use lib.ListN.{take, drop, getD};
-ghost use Rattle.layout.specs.Words.{wordOf, wordRun};
+ghost use Rattle.layout.specs.Contracts.Words.{wordOf, wordRun};
 ghost use Rattle.text.specs.Bytes.{bytes};
 ghost use mathlib.Core.List.{List};
 ghost use Rattle.layout.specs.Layout.{word};
-ghost use Rattle.layout.specs.Lent.{writes, writesToken, strikesComment};
-ghost use Rattle.layout.specs.State.{toldOf, sumOf, widthOf, placed, spaced, deepened, Put, Indented, struck, pieceOf, textAt, Deeper};
+ghost use Rattle.layout.specs.Contracts.Lent.{writes, writesToken, strikesComment};
+ghost use Rattle.layout.specs.Contracts.State.{toldOf, sumOf, widthOf, placed, spaced, deepened, Put, Indented, struck, pieceOf, textAt, Deeper};
 
 // A walk answers a number: below STOP the cursor behind what was read, else STOP + 2 × the offset in the record of the
 // part that is absent; 1 more at an import.

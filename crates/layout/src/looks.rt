@@ -18,7 +18,7 @@ ghost use mathlib.Core.Path.{_≡_};
 ghost use Prim.Native.Nat.{ℕ, _+_};
 ghost use Rattle.layout.specs.Layout.{isBang, isPipe, isAlphabetic, isAlphanumeric, isIfExp, bodyExpNeedsNewline};
 ghost use Rattle.layout.specs.Meaning.{onNewLine, headOf, bothSeen, headsFrom, headsAt};
-ghost use Rattle.layout.specs.State.{TestedText, FormRead, Looked, seenIn, headsIn, headsBehind, AskedFirst};
+ghost use Rattle.layout.specs.Contracts.State.{TestedText, FormRead, Looked, seenIn, headsIn, headsBehind, AskedFirst};
 
 // The number of `PathExp` among the expressions.
 const PATH_EXP: usize = 5;

@@ -6,7 +6,7 @@ use reader::commands::list_at;
 use reader::commands::token_at;
 ghost use mathlib.Core.Path.{_≡_};
 ghost use Rattle.layout.specs.Meaning.{dotName, listName, pathName, opPathName};
-ghost use Rattle.layout.specs.State.{nameIn};
+ghost use Rattle.layout.specs.Contracts.State.{nameIn};
 
 // The first name's token and the number of names; or the offset of the part that is not there.
 pub enum Name {

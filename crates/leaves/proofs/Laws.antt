@@ -11,8 +11,8 @@ use Rattle.layout.specs.Meaning.{Page, passes, funcIsBang, argIsSymbolic}
 use Rattle.layout.specs.Helpers.{Cfg, Walkers, when, indent-deeper, items, new-line}
 use Rattle.layout.specs.DecOne.{con-bind, con-binds}
 use Rattle.layout.specs.Exp.{app-space}
-use Rattle.layout.specs.State.{Run, page, headIn, TestedText, Walked, Sure, Stops, BangIs, SymbolicIs}
-use Rattle.leaves.specs.Heads.{missedAt}
+use Rattle.layout.specs.Contracts.State.{Run, page, headIn, TestedText, Walked, Sure, Stops, BangIs, SymbolicIs}
+use Rattle.leaves.specs.Contracts.Heads.{missedAt}
 
 module _ {x starts lens : List ℕ} where
   pub bang-other : {f : Looks.Head} → f ≡ Looks.Head.OtherExp → BangIs x starts lens (headIn f) false

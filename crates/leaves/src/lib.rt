@@ -35,11 +35,11 @@ ghost use mathlib.Core.Path.{_≡_};
 ghost use mathlib.Core.Bool.{_&&_};
 ghost use Prim.Native.Nat.{_+_, _≤_};
 ghost use lib.Dec.{eqb};
-ghost use Rattle.layout.specs.Words.{wordOf};
+ghost use Rattle.layout.specs.Contracts.Words.{wordOf};
 ghost use Rattle.layout.specs.Layout.{word as wordOf·, choice as choice·, _⨾_};
 ghost use Rattle.layout.specs.Helpers.{indent as indentOf, indent-deeper as indentDeeper, new-line, items, when};
-ghost use Rattle.layout.specs.Lent.{plainly, writes, indents, writesOperator};
-ghost use Rattle.layout.specs.State.{BangIs, SymbolicIs, Stops, cfgOf, headIn};
+ghost use Rattle.layout.specs.Contracts.Lent.{plainly, writes, indents, writesOperator};
+ghost use Rattle.layout.specs.Contracts.State.{BangIs, SymbolicIs, Stops, cfgOf, headIn};
 ghost use Rattle.layout.specs.Walk.{walks};
 ghost use Rattle.layout.specs.Exp.{item-semi, app-space, pipe, exp as exp·};
 ghost use Rattle.reader.specs.Forms.{SelectorExp};
@@ -48,7 +48,7 @@ ghost use Rattle.layout.specs.DecOne.{ty-bind, ty-binds, with-type, con-bind, c
 ghost use Rattle.layout.specs.DecOne.{PrefixFunBindCaseHead, infix-head, InfixFunBindCaseHead, case-head, case-pats, ex-bind-of};
 ghost use Rattle.layout.specs.DecOne.{int-lit, names-space, dec-one as dec-one·};
 ghost use Rattle.reader.specs.Forms.{TyDec, DatDec, DatCopyDec, OpenDec, NonfixDec};
-ghost use Rattle.leaves.specs.Heads.{missedAt};
+ghost use Rattle.leaves.specs.Contracts.Heads.{missedAt};
 
 // ---- what a condition decides
 // A fixed word, where a condition holds.

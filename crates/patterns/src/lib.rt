@@ -18,7 +18,7 @@ use layout::words;
 use reader::commands::Family;
 use types::get_ty;
 use types::ty_annotation;
-ghost use Rattle.layout.specs.Lent.{plainly};
+ghost use Rattle.layout.specs.Contracts.Lent.{plainly};
 ghost use Rattle.layout.specs.Walk.{walks};
 ghost use Rattle.layout.specs.Pat.{con-arg-there, con-arg, LabAndPatPatRow, as-tail-there, as-tail, LabPatRow};
 ghost use Rattle.layout.specs.Pat.{pat-row-inner, pat-row, pat-rows, pat-args, pat as pat·};

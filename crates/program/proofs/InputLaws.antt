@@ -16,7 +16,7 @@ use Rattle.formatter.specs.Verdict.{Result, verdict, noMeasures, measuresOf, de
 use Rattle.formatter.proofs.EventLaws.{length-formatted}
 use Rattle.formatter.proofs.VerdictLaws.{get-declined, get-accepted, format-fits, get-accepts}
 use Rattle.program.specs.Program.{line, textOf, lineOf, printed, room, headLength, tabSize, textLength, formatInput, program}
-use Rattle.program.specs.Printing.{saidWith, shown, TextWithin}
+use Rattle.program.specs.Contracts.Printing.{saidWith, shown, TextWithin}
 
 -- ---- the head
 -- A u16 of bytes.

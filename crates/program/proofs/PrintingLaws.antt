@@ -17,9 +17,10 @@ use Rattle.formatter.specs.declared.Measures.{Measures}
 use Rattle.formatter.specs.declared.Answer.{Answer}
 use Rattle.formatter.specs.declared.Answer.the-variants.{Accepted, TooLong, NotUtf8, Malformed, TooDeep, Missing, Import, CommentsLeft, IndentTooWide, OutputTooShort}
 use Rattle.formatter.specs.Verdict.{Verdict, numberOf, givenMeasures, verdictOf}
-use Rattle.formatter.specs.Numbers.{said}
+use Rattle.formatter.specs.Contracts.Numbers.{said}
 use Rattle.program.specs.Program.{digits, decimal, line}
-use Rattle.program.specs.Printing.{saidWith, shown, TextWithin, Puts, Prints}
+use Rattle.program.specs.Printing.{Prints}
+use Rattle.program.specs.Contracts.Printing.{saidWith, shown, TextWithin, Puts}
 
 -- ---- digits
 

@@ -8,9 +8,10 @@ ghost use mathlib.Core.Path.{_≡_};
 ghost use mathlib.Core.List.{[], _∷_, _++_};
 ghost use Prim.Native.Nat.{_+_, _≤_, _<_};
 ghost use lib.ListN.{length, take, drop};
-ghost use Rattle.formatter.specs.Numbers.{said, numbered};
+ghost use Rattle.formatter.specs.Contracts.Numbers.{said, numbered};
 ghost use Rattle.program.specs.Program.{decimal, headLength, tabSize, textLength, program};
-ghost use Rattle.program.specs.Printing.{maxLine, saidWith, shown, TextWithin, Puts, PutsLine, Prints};
+ghost use Rattle.program.specs.Printing.{Prints};
+ghost use Rattle.program.specs.Contracts.Printing.{maxLine, saidWith, shown, TextWithin, Puts, PutsLine};
 
 // ---- the line
 // Writes a byte at an offset.

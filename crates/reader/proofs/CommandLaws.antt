@@ -18,8 +18,9 @@ use Rattle.reader.specs.declared.commands.Number.{Number}
 use Rattle.reader.specs.declared.commands.Number.the-variants.{Is, Not}
 use Rattle.reader.specs.Fields as Fields
 use Rattle.reader.specs.Fields.{forms, firstForm}
-use Rattle.reader.specs.Grammar.{firstRow}
-use Rattle.reader.specs.Commands.{u16, command, absentAt, operandAt, tokenAt, listAt, groupAt, choiceAt, formAt, firstToken, noToken, formWidth, familyOf, factsOf, numberIn, CommandAt, NumberAt, FormAt, declarationAt, declarationIn, DeclarationAt}
+use Rattle.reader.specs.Contracts.Grammar.{firstRow}
+use Rattle.reader.specs.Commands.{u16, command, absentAt, tokenAt, listAt, groupAt, choiceAt, formAt, firstToken, noToken, formWidth, declarationAt}
+use Rattle.reader.specs.Contracts.Commands.{operandAt, familyOf, factsOf, numberIn, CommandAt, NumberAt, FormAt, declarationIn, DeclarationAt}
 
 pub and-left : (a b : Bool) → (a && b) ≡ true → a ≡ true
 and-left true b e = refl

@@ -18,8 +18,8 @@ use Rattle.reader.specs.Fields.{Family, Fields, _▸_, token, list, grou
 use Rattle.reader.specs.Commands.{absentAt, tokenAt, listAt, groupAt, choiceAt, formAt, formWidth}
 use Rattle.reader.specs.Check.{Checked, ok, malformed, tooDeep, andThen, items, operandFits, tokenFits, orAbsent, fields, formFits, formCheck, treeCheck}
 use Rattle.reader.proofs.CommandLaws.{some-true}
-use Rattle.reader.specs.Grammar.{groups, nodes, node, fieldOf, digits, fieldsOf}
-use Rattle.reader.specs.Tree.{checkedIn, opened, Opens, ran, Runs, FieldsEnd, ItemsEnd, TreeEnd}
+use Rattle.reader.specs.Contracts.Grammar.{groups, nodes, node, fieldOf, digits, fieldsOf}
+use Rattle.reader.specs.Contracts.Tree.{checkedIn, opened, Opens, ran, Runs, FieldsEnd, ItemsEnd, TreeEnd}
 use Rattle.reader.specs.declared.tree.Checked as Code
 use Rattle.reader.specs.declared.tree.Checked.the-variants.{Ok, Malformed, TooDeep}
 use Rattle.reader.specs.declared.tree.Opened.{Opened}

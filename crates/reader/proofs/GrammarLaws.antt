@@ -7,7 +7,7 @@ use lib.ListN.{length, getD, take, drop, List·getD-map, List·getD-append, List
 use lib.Seq.{getD-append-add}
 use Rattle.reader.specs.Fields.{Fields, none, token, group, forms, Family, DecOne, StrExp, SigExp, Exp, Pat, Ty}
 use Rattle.reader.specs.Fields.{PatRowInner, FunBindCaseHead, ExBindInner, FunctorArg, AppStrExpArg}
-use Rattle.reader.specs.Grammar.{groups, nodes, node, digits, fieldsOf, inside, upTo, held, rows, firstRow, Spells}
+use Rattle.reader.specs.Contracts.Grammar.{groups, nodes, node, digits, fieldsOf, inside, upTo, held, rows, firstRow, Spells}
 
 -- A row of a table that spells the fields.
 pub row-at : {l : List ℕ} → Spells l → (row : ℕ) → fieldsOf (getD l row 0) ≡ getD rows row none

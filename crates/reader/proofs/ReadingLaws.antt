@@ -9,19 +9,22 @@ use lib.ListN.{length, take}
 use lib.Dec.{leb}
 use borrow.Author.Tests.{le-leb, lt-leb}
 use Rattle.text.specs.declared.Broken.{Broken}
-use Rattle.text.specs.Utf8.{firstBroken, boundary, brokenAt}
+use Rattle.text.specs.Utf8.{firstBroken, boundary}
+use Rattle.text.specs.Contracts.Utf8.{brokenAt}
 use Rattle.reader.specs.declared.tokens.Tiled as Tiled
 use Rattle.reader.specs.declared.tokens.Tiled.the-variants as Tokens
 use Rattle.reader.specs.declared.tree.Checked as Checked
 use Rattle.reader.specs.declared.tree.Checked.the-variants as Tree
 use Rattle.reader.specs.declared.Reading.{Reading}
 use Rattle.reader.specs.declared.Reading.the-variants.{Sheet, TooLong, NotUtf8, Malformed, TooDeep}
-use Rattle.reader.specs.Tokens.{Tokens, countOf, Tiling, tiled, untiled, tokens, tokensIn, tilingIn, Tiles}
+use Rattle.reader.specs.Tokens.{Tokens, countOf, Tiling, tiled, untiled, tokens}
+use Rattle.reader.specs.Contracts.Tokens.{tokensIn, tilingIn, Tiles}
 use Rattle.reader.specs.Check as Check
 use Rattle.reader.specs.Check.{treeCheck}
-use Rattle.reader.specs.Tree.{checkedIn, TreeEnd}
+use Rattle.reader.specs.Contracts.Tree.{checkedIn, TreeEnd}
 use Rattle.reader.proofs.EvenLaws.{tiled-even}
-use Rattle.reader.specs.Reading.{Read, refused, sheet, maxText, maxRecord, readTree, readRecord, readText, read, numberOf, placeOf, readIn, RecordReads, Reads}
+use Rattle.reader.specs.Reading.{Read, refused, sheet, maxText, maxRecord, readTree, readRecord, readText, read, numberOf, placeOf}
+use Rattle.reader.specs.Contracts.Reading.{readIn, RecordReads, Reads}
 
 -- ---- 3 and 4
 module _ {boundary : ℕ → Bool} {size : ℕ} {rec kinds starts lens : List ℕ} {t : Tiled.Tiled} (s : Tiles boundary size rec kinds starts lens t) where

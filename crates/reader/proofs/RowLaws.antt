@@ -13,7 +13,7 @@ use borrow.Author.Tests.{le-leb, leb-true, leb-false, ltb-true, ltb-false, eq-eq
 use Rattle.reader.specs.Commands.{u16, command}
 use Rattle.reader.specs.declared.tokens.Next.the-variants.{Is}
 use Rattle.reader.specs.declared.tokens.Tiled.the-variants as Case
-use Rattle.reader.specs.Tokens.{nextAt, endAt, Long, Tiles, lengthsTo, Laid, Fits}
+use Rattle.reader.specs.Contracts.Tokens.{nextAt, endAt, Long, Tiles, lengthsTo, Laid, Fits}
 use Rattle.reader.proofs.TokenLaws.{next-end, next-token, Filled, filled-none, filled-more, filled-end, filled-all}
 
 -- ---- the sum of the lengths

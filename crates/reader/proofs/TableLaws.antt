@@ -4,7 +4,7 @@ use mathlib.Core.Path.{_≡_, subst}
 use mathlib.Core.List.{List}
 use native.Mathlib.Omega.{arith}
 use lib.ListN.{length, take, length-take}
-use Rattle.reader.specs.Tokens.{tokensIn}
+use Rattle.reader.specs.Contracts.Tokens.{tokensIn}
 use Rattle.text.specs.Utf8.{boundary}
 use Rattle.reader.specs.Reading.{Read, refused, sheet, read}
 use Rattle.reader.proofs.EvenLaws.{Even, tiled-even}

@@ -10,12 +10,14 @@ use lib.Seq.{take-suc-set, length-take-le}
 use lib.Dec.{leb, eqb}
 use borrow.Author.Tests.{le-leb, lt-leb, leb-true, eq-eqb, ne-eqb}
 use Rattle.text.proofs.Laws.{never}
-use Rattle.reader.specs.Commands.{u16, command, CommandAt}
+use Rattle.reader.specs.Commands.{u16, command}
+use Rattle.reader.specs.Contracts.Commands.{CommandAt}
 use Rattle.reader.specs.declared.tokens.Next.{Next}
 use Rattle.reader.specs.declared.tokens.Next.the-variants.{Is, Malformed, End}
 use Rattle.reader.specs.declared.tokens.Tiled as Code
 use Rattle.reader.specs.declared.tokens.Tiled.the-variants as Case
-use Rattle.reader.specs.Tokens.{Tokens, noTokens, Tiling, tiled, untiled, isToken, endTokens, withToken, tokensFrom, tokens, nextAt, tokensIn, endAt, Long, Tiles}
+use Rattle.reader.specs.Tokens.{Tokens, noTokens, Tiling, tiled, untiled, isToken, endTokens, withToken, tokensFrom, tokens}
+use Rattle.reader.specs.Contracts.Tokens.{nextAt, tokensIn, endAt, Long, Tiles}
 use Rattle.reader.proofs.CommandLaws.{and-left, and-right, command-fits}
 
 -- ---- the next token

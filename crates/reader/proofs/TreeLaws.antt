@@ -16,10 +16,11 @@ use Rattle.reader.specs.declared.tree.Opened.{Opened}
 use Rattle.reader.specs.declared.tree.Opened.the-variants.{Token, Inside, Malformed, TooDeep}
 use Rattle.reader.specs.Fields as Fields
 use Rattle.reader.specs.Fields.{Fields, token, group, choice, form, forms}
-use Rattle.reader.specs.Commands.{u16, tokenAt, groupAt, choiceAt, formAt, formWidth, firstToken, noToken, familyOf, NumberAt, SignAt, FormAt}
+use Rattle.reader.specs.Commands.{u16, tokenAt, groupAt, choiceAt, formAt, formWidth, firstToken, noToken}
+use Rattle.reader.specs.Contracts.Commands.{familyOf, NumberAt, SignAt, FormAt}
 use Rattle.reader.specs.Check.{malformed, tooDeep, operandFits, tokenFits, orAbsent, fields, formFits, formCheck}
-use Rattle.reader.specs.Grammar.{fieldsOf}
-use Rattle.reader.specs.Tree.{opened, Opens}
+use Rattle.reader.specs.Contracts.Grammar.{fieldsOf}
+use Rattle.reader.specs.Contracts.Tree.{opened, Opens}
 use Rattle.reader.proofs.CommandLaws.{read-not, read-is, form-not, form-read, group-fits, choice-fits, form-fits, form-wide}
 
 module _ {rec : List ℕ} {count left at : ℕ} {r : Number} where

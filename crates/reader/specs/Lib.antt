@@ -3,7 +3,6 @@ pub mod Fields
 pub mod Commands
 pub mod Tokens
 pub mod Check
-pub mod Grammar
-pub mod Tree
 pub mod Reading
 pub mod Ascii
+pub mod Contracts

@@ -12,8 +12,8 @@ use tree::Checked;
 use tree::tree_end;
 ghost use mathlib.Core.Path.{_≡_};
 ghost use Rattle.text.specs.Utf8.{boundary};
-ghost use Rattle.reader.specs.Commands.{numberIn};
-ghost use Rattle.reader.specs.Reading.{RecordReads, Reads};
+ghost use Rattle.reader.specs.Contracts.Commands.{numberIn};
+ghost use Rattle.reader.specs.Contracts.Reading.{RecordReads, Reads};
 
 // What the record check says of a text and a record.
 pub enum Reading {

@@ -6,14 +6,16 @@ use mathlib.Core.List.{List, _++_}
 use lib.ListN.{length, take, drop}
 use lib.Seq.{length-take-le}
 use borrow.Author.Tests.{le-leb, lt-leb}
-use Rattle.text.specs.Utf8.{firstBroken, brokenAt}
+use Rattle.text.specs.Utf8.{firstBroken}
+use Rattle.text.specs.Contracts.Utf8.{brokenAt}
 use Rattle.text.specs.declared.Broken.{Broken}
 use Rattle.text.specs.declared.Broken.the-variants.{At, Nowhere}
 use Rattle.text.specs.Output.{plain, declined, fittedPlain}
 use Rattle.text.proofs.OutputLaws.{fitted-room, fitted-short}
 use Rattle.reader.specs.Tokens.{Tokens}
 use Rattle.scanner.specs.Scan.{refused, tokens, read, commands, scan}
-use Rattle.scanner.specs.Answers.{numberOf, placeOf, verdictOf, writtenOf, replyOf, Fills, Reads}
+use Rattle.scanner.specs.Answers.{numberOf, placeOf, verdictOf, writtenOf, replyOf}
+use Rattle.scanner.specs.Contracts.Answers.{Fills, Reads}
 use Rattle.scanner.specs.declared.Refusal.{Refusal}
 use Rattle.scanner.specs.declared.Refusal.the-variants.{TooLong, NotUtf8}
 use Rattle.scanner.specs.declared.Tabled.{Tabled}

@@ -11,7 +11,7 @@ use lib.ListN.{length, getD, drop, drop-of-length-le}
 use lib.Seq.{drop-cons}
 use borrow.Author.Tests.{eq-eqb, ne-eqb, leb-true, leb-false}
 use Rattle.scanner.specs.Lexical.{closes}
-use Rattle.scanner.specs.Reach.{longer, reach, taken}
+use Rattle.scanner.specs.Contracts.Reach.{longer, reach, taken}
 use Rattle.scanner.proofs.ReachLaws.{longer-longer, empty, onward, reach-nil, reach-first, reach-step, reach-here}
 
 -- What closes this many comments.

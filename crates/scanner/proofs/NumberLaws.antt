@@ -13,7 +13,7 @@ use lib.Seq.{drop-cons, drop-drop}
 use Rattle.text.specs.Bytes.{bytes, between, isDigit, firstIs}
 use Rattle.scanner.specs.Parts.{isEmpty, every, oneOrMore, behind, isOneOf}
 use Rattle.scanner.specs.Constants.{isHexDigit, unsigned, isDecimal, digitsThen, isExponent, isFraction, isWord}
-use Rattle.scanner.specs.Reach.{longer, reach, taken, run, isHexadecimal, isMagnitude}
+use Rattle.scanner.specs.Contracts.Reach.{longer, reach, taken, run, isHexadecimal, isMagnitude}
 use Rattle.scanner.proofs.Bytes.{apart, apart-all}
 use Rattle.scanner.proofs.ReachLaws.{longer-longer, longer-zero, best, best-none, empty, reach-nil, reach-same, reach-first, reach-some, reach-step, reach-none, reach-here, reach-or, reach-positive, run-yes, run-no, positive, taken-positive, reach-more, behind-no, behind-two, starts, reach-behind-yes, reach-behind-no, reach-behind-all, reach-two, reach-two-no, wins, none-at, none-of}
 

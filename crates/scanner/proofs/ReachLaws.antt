@@ -12,7 +12,7 @@ use native.Mathlib.Numerals.{add-one}
 use borrow.Author.Tests.{eqb-true}
 use Rattle.text.specs.Bytes.{firstIs}
 use Rattle.scanner.specs.Parts.{every, oneOrMore, behind}
-use Rattle.scanner.specs.Reach.{longer, reach, taken, run}
+use Rattle.scanner.specs.Contracts.Reach.{longer, reach, taken, run}
 
 -- ---- lengths
 

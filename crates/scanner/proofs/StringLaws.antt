@@ -15,8 +15,8 @@ use Rattle.text.specs.Bytes.{bytes, between, isSpace, isDigit, firstIs}
 use Rattle.scanner.specs.Parts.{every, isOneOf}
 use Rattle.scanner.specs.Constants.{isHexDigit}
 use Rattle.scanner.specs.Strings.{Place, between-characters, escape, control, number, gap, closed, Step, wrong, to, character, isDigitOf, digitValue, numberEnds, digit, escaped, next, isClosed, characters}
-use Rattle.scanner.specs.Reach.{longer, reach, run, isPlain}
-use Rattle.scanner.specs.Spans.{Span, ends, endless, further, span, onFrom, Inside, Goes}
+use Rattle.scanner.specs.Contracts.Reach.{longer, reach, run, isPlain}
+use Rattle.scanner.specs.Contracts.Spans.{Span, ends, endless, further, span, onFrom, Inside, Goes}
 use Rattle.scanner.specs.declared.strings.Quoted.{Quoted}
 use Rattle.scanner.specs.declared.strings.Quoted.the-variants.{Ends, Endless}
 use Rattle.text.proofs.Computed.{allBelow, same}

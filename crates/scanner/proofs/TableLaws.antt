@@ -7,11 +7,13 @@ use mathlib.Core.List.{List, [], _∷_, append-assoc}
 use lib.ListN.{length, getD, take, drop, length-set, length-append, length-drop, drop-of-length-le}
 use lib.Seq.{drop-drop, getD-drop}
 use borrow.Author.Tests.{le-leb, lt-leb}
-use Rattle.reader.specs.Tokens.{Tokens, noTokens, tokensIn, Long}
+use Rattle.reader.specs.Tokens.{Tokens, noTokens}
+use Rattle.reader.specs.Contracts.Tokens.{tokensIn, Long}
 use Rattle.reader.proofs.TokenLaws.{joined, one, joined-none, tokens-more}
 use Rattle.scanner.specs.Lexical.{longest, kindOf}
 use Rattle.scanner.specs.Scan.{Scanned, refused, tokens, numberAt, before, scanFrom, scanText, limited}
-use Rattle.scanner.specs.Answers.{numberOf, placeOf, Kept, Fills}
+use Rattle.scanner.specs.Answers.{numberOf, placeOf}
+use Rattle.scanner.specs.Contracts.Answers.{Kept, Fills}
 use Rattle.scanner.specs.declared.Refusal.{Refusal}
 use Rattle.scanner.specs.declared.Refusal.the-variants.{TooLong}
 use Rattle.scanner.specs.declared.Tabled.the-variants.{Tokens as Counted, Refused}

@@ -19,8 +19,8 @@ use Rattle.scanner.specs.Parts.{isEmpty, every, oneOrMore, behind, isOne
 use Rattle.scanner.specs.Constants.{isHexDigit, unsigned, isDecimal, isInteger, isWord, digitsThen, isExponent, isFraction, isReal}
 use Rattle.scanner.specs.Strings.{between-characters, isString, isCharacter}
 use Rattle.scanner.specs.Lexical.{reservedCore, reservedModules, isReserved, isAlphanumericByte, isAlphanumeric, isSymbol, isSymbolic, closes, isComment, isWhiteSpace, isDot, isToken, opensComment, tokenOf, longestUpTo, longest}
-use Rattle.scanner.specs.Reach.{longer, reach, taken, run, isHexadecimal, isMagnitude}
-use Rattle.scanner.specs.Spans.{Span, ends, endless, further, span, spanOf}
+use Rattle.scanner.specs.Contracts.Reach.{longer, reach, taken, run, isHexadecimal, isMagnitude}
+use Rattle.scanner.specs.Contracts.Spans.{Span, ends, endless, further, span, spanOf}
 use Rattle.scanner.specs.declared.strings.Quoted.{Quoted}
 use Rattle.scanner.specs.declared.strings.Quoted.the-variants.{Ends, Endless}
 use Rattle.text.proofs.Computed.{and-left, and-right, allBelow, same}

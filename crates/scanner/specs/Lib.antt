@@ -2,9 +2,8 @@ pub mod Parts
 pub mod Constants
 pub mod Strings
 pub mod Lexical
-pub mod Reach
-pub mod Spans
 pub mod Scan
 pub mod ListOf
 pub mod Answers
 pub mod Ascii
+pub mod Contracts

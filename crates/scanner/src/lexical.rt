@@ -10,7 +10,7 @@ ghost use mathlib.Core.Bool.{true, false};
 ghost use lib.ListN.{drop};
 ghost use Rattle.text.specs.Bytes.{isSpace, isLetter, isDigit, classTable};
 ghost use Rattle.scanner.specs.Lexical.{closes, longest, kindOf};
-ghost use Rattle.scanner.specs.Reach.{longer, reach, taken, kindIf, TellsSymbols};
+ghost use Rattle.scanner.specs.Contracts.Reach.{longer, reach, taken, kindIf, TellsSymbols};
 
 // The end of a comment that starts with the two bytes before an offset; 0 where it has none.
 fn comment_end(s: &[u8], from: usize) -> usize

@@ -16,11 +16,12 @@ ghost use mathlib.Core.List.{_++_};
 ghost use Prim.Native.Nat.{ℕ, _*_, _≤_, _<_};
 ghost use lib.ListN.{length, getD, drop};
 ghost use Rattle.text.specs.Bytes.{classTable};
-ghost use Rattle.reader.specs.Tokens.{Long};
+ghost use Rattle.reader.specs.Contracts.Tokens.{Long};
 ghost use Rattle.reader.specs.Reading.{maxText};
-ghost use Rattle.scanner.specs.Reach.{TellsSymbols};
+ghost use Rattle.scanner.specs.Contracts.Reach.{TellsSymbols};
 ghost use Rattle.scanner.specs.Scan.{numberAt, commands, scan as scan·};
-ghost use Rattle.scanner.specs.Answers.{numberOf, placeOf, replyOf, Kept, Fills, Reads};
+ghost use Rattle.scanner.specs.Answers.{numberOf, placeOf, replyOf};
+ghost use Rattle.scanner.specs.Contracts.Answers.{Kept, Fills, Reads};
 
 // Why a text is refused.
 pub enum Refusal {

@@ -7,7 +7,7 @@ ghost use lib.ListN.{drop};
 ghost use Rattle.text.specs.Bytes.{bytes, classTable};
 ghost use Rattle.scanner.specs.Parts.{isOneOf};
 ghost use Rattle.scanner.specs.Constants.{isDecimal, isExponent, isFraction, isWord};
-ghost use Rattle.scanner.specs.Reach.{reach, taken, isHexadecimal, isMagnitude};
+ghost use Rattle.scanner.specs.Contracts.Reach.{reach, taken, isHexadecimal, isMagnitude};
 
 // An optional negation symbol, then digits.
 fn decimal(table: &[u8; 256], s: &[u8], at: usize) -> usize

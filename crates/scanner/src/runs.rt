@@ -6,7 +6,7 @@ ghost use lib.Dec.{eqb};
 ghost use Rattle.text.specs.Bytes.{isSpace, firstIs, classTable};
 ghost use Rattle.scanner.specs.Constants.{isHexDigit};
 ghost use Rattle.scanner.specs.Lexical.{isAlphanumericByte, isSymbol};
-ghost use Rattle.scanner.specs.Reach.{isPlain, inClass, run, TellsSymbols};
+ghost use Rattle.scanner.specs.Contracts.Reach.{isPlain, inClass, run, TellsSymbols};
 
 pub enum Class {
     Blank,

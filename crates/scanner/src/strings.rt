@@ -7,7 +7,7 @@ ghost use lib.ListN.{length, drop};
 ghost use Rattle.text.specs.Bytes.{bytes, classTable};
 ghost use Rattle.scanner.specs.Parts.{isOneOf};
 ghost use Rattle.scanner.specs.Strings.{between-characters, escape, control, number, gap};
-ghost use Rattle.scanner.specs.Spans.{further, span, spanOf, Goes};
+ghost use Rattle.scanner.specs.Contracts.Spans.{further, span, spanOf, Goes};
 
 // What is read of a string constant: its end, and the characters that are denoted.
 pub enum Quoted {

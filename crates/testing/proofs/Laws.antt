@@ -5,9 +5,10 @@ use mathlib.Core.List.{List, [], _∷_}
 use Rattle.reader.specs.declared.Reading.{Reading}
 use Rattle.reader.specs.declared.Reading.the-variants.{Sheet, TooLong, NotUtf8, Malformed, TooDeep}
 use Rattle.reader.specs.declared.tree.Checked as Code
-use Rattle.reader.specs.Tokens.{tokensIn}
-use Rattle.reader.specs.Tree.{checkedIn}
-use Rattle.reader.specs.Reading.{refused, read, numberOf, placeOf, Reads}
+use Rattle.reader.specs.Contracts.Tokens.{tokensIn}
+use Rattle.reader.specs.Contracts.Tree.{checkedIn}
+use Rattle.reader.specs.Reading.{refused, read, numberOf, placeOf}
+use Rattle.reader.specs.Contracts.Reading.{Reads}
 use Rattle.reader.proofs.ReadingLaws.{reading-says, reading-counts}
 use Rattle.testing.specs.Numbers.{endNumbers, readNumbers, Tabled, ReadOut}
 

@@ -3,7 +3,7 @@ use Prim.Native.Nat.{ℕ}
 use mathlib.Core.Path.{_≡_}
 use mathlib.Core.List.{List, [], _∷_}
 use lib.ListN.{length}
-use Rattle.reader.specs.Tokens.{tokensIn}
+use Rattle.reader.specs.Contracts.Tokens.{tokensIn}
 use Rattle.reader.specs.Check.{Checked, ok, malformed, tooDeep}
 use Rattle.reader.specs.Reading.{Read, refused, sheet, read}
 

@@ -6,7 +6,7 @@ ghost use mathlib.Core.List.{[], _∷_};
 ghost use Rattle.text.specs.Bytes.{isLetter, isDigit, classTable};
 ghost use Rattle.reader.specs.Fields.{form, Exp, Ty};
 ghost use Rattle.reader.specs.Check.{fieldEnd};
-ghost use Rattle.reader.specs.Tree.{checkedIn};
+ghost use Rattle.reader.specs.Contracts.Tree.{checkedIn};
 ghost use Rattle.testing.specs.Numbers.{ReadOut, endNumbers};
 
 fn put_two(answer: &mut [u64; 2], number: u64, place: usize)

@@ -10,7 +10,8 @@ use lib.ListN.{length, getD, take, drop, drop-of-length-le, length-reverse}
 use lib.Seq.{drop-cons, take-suc}
 use borrow.Author.Tests.{eq-eqb, ne-eqb, eqb-true}
 use Rattle.text.specs.Utf8.{encode}
-use Rattle.text.specs.Bytes.{between, isSpace, whiteSpaceCodes, whiteSpace, startsWith, leading, sameBytes, isAmong}
+use Rattle.text.specs.Bytes.{between, isSpace, whiteSpaceCodes, whiteSpace, startsWith, leading, sameBytes}
+use Rattle.text.specs.Contracts.Bytes.{isAmong}
 use Rattle.text.proofs.Computed.{and-left, and-right, allBelow, same, agree}
 use Rattle.text.proofs.Laws.{same-true, same-refl, same-lengths, starts-within}
 

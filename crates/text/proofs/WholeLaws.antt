@@ -9,7 +9,8 @@ use lib.Dec.{leb, eqb}
 use lib.ListN.{length, getD, take, drop}
 use lib.Seq.{getD-take, length-take-le}
 use borrow.Author.Tests.{le-leb, leb-true, leb-false, eqb-true, eqb-false}
-use Rattle.text.specs.Utf8.{_‥_, continuation, wellFormed, charAt, brokenFrom, firstBroken, Asked, Follows, AllFollow}
+use Rattle.text.specs.Utf8.{_‥_, continuation, wellFormed, charAt, brokenFrom, firstBroken}
+use Rattle.text.specs.Contracts.Utf8.{Asked, Follows, AllFollow}
 use Rattle.text.specs.Bytes.{between}
 use Rattle.text.proofs.Computed.{and-left, and-right}
 use Rattle.text.proofs.Utf8Laws.{ascii-char, broken-none, broken-more}

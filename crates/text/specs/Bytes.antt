@@ -104,8 +104,3 @@ sameBytes (b ∷ bs) (c ∷ cs) = eqb b c && sameBytes bs cs
 unfoldable pub firstIs : (ℕ → Bool) → List ℕ → Bool
 firstIs test [] = false
 firstIs test (b ∷ bs) = test b
-
--- Whether a text is one of these words.
-unfoldable pub isAmong : List (List ℕ) → List ℕ → Bool
-isAmong [] t = false
-isAmong (w ∷ ws) t = sameBytes t w || isAmong ws t

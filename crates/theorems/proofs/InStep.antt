@@ -15,7 +15,7 @@ use Rattle.agreement.specs.Agreement.{EndsAt}
 use Rattle.agreement.specs.Unbounded as Unbounded
 use Rattle.agreement.proofs.Knot as Knot
 use Rattle.formatter.specs.Verdict.{judge}
-use Rattle.formatter.specs.WalkFirst.{judgeWalkFirst}
+use Rattle.formatter.specs.Contracts.WalkFirst.{judgeWalkFirst}
 use Rattle.formatter.proofs.WalkFirstLaws as WalkFirstLaws
 
 abbrev pub page : List ℕ → List ℕ → Tokens → Page

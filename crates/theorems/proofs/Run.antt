@@ -4,6 +4,7 @@ use Rattle.text.specs.Utf8 as Utf8
 use Rattle.text.specs.Bytes as Bytes
 use Rattle.text.specs.Output as Output
 use Rattle.text.specs.WellFormed as WellFormed
+use Rattle.text.specs.At as At
 use Rattle.reader.specs.Forms as Forms
 use Rattle.reader.specs.Fields as Fields
 use Rattle.reader.specs.Commands as Commands
@@ -26,18 +27,15 @@ use Rattle.layout.specs.Events as Events
 use Rattle.agreement.specs.Unbounded as Unbounded
 use Rattle.formatter.specs.Verdict as Verdict
 use Rattle.formatter.specs.Lookup as Lookup
-use Rattle.formatter.specs.WalkFirst as WalkFirst
-use Rattle.formatter.specs.Judging as Judging
 use Rattle.program.specs.Program as Program
-use Rattle.program.specs.Printing as Printing
 use Rattle.theorems.specs.Demands as Demands
 
 unfoldable pub runUtf8 : Unit {0}
-unfolding Utf8.isIn Utf8.isScalar Utf8.encode Utf8.encoded Utf8.wellFormed Utf8.fits Utf8.widthIn Utf8.charAt Utf8.brokenFrom Utf8.firstBroken Utf8.isInside Utf8.boundary Utf8.brokenAt
+unfolding Utf8.isIn Utf8.isScalar Utf8.encode Utf8.encoded Utf8.wellFormed Utf8.fits Utf8.widthIn Utf8.charAt Utf8.brokenFrom Utf8.firstBroken Utf8.isInside Utf8.boundary
 runUtf8 = tt
 
 unfoldable pub runBytes : Unit {0}
-unfolding Bytes.bytes Bytes.between Bytes.isSpace Bytes.isLetter Bytes.isDigit Bytes.classOf Bytes.classesFrom Bytes.classTable Bytes.whiteSpaceCodes Bytes.whiteSpace Bytes.startsWith Bytes.leading Bytes.stripFrom Bytes.strip Bytes.trimStart Bytes.trimEnd Bytes.trim Bytes.sameBytes Bytes.firstIs Bytes.isAmong
+unfolding Bytes.bytes Bytes.between Bytes.isSpace Bytes.isLetter Bytes.isDigit Bytes.classOf Bytes.classesFrom Bytes.classTable Bytes.whiteSpaceCodes Bytes.whiteSpace Bytes.startsWith Bytes.leading Bytes.stripFrom Bytes.strip Bytes.trimStart Bytes.trimEnd Bytes.trim Bytes.sameBytes Bytes.firstIs
 runBytes = tt
 
 unfoldable pub runOutput : Unit {0}
@@ -48,6 +46,10 @@ unfoldable pub runWellFormed : Unit {0}
 unfolding WellFormed.All WellFormed.dropWhile WellFormed.dropEnds WellFormed.isOneOf WellFormed.isWhiteSpace WellFormed.firstWide WellFormed.trimAscii
 runWellFormed = tt
 
+unfoldable pub runAt : Unit {0}
+unfolding At.u16
+runAt = tt
+
 unfoldable pub runForms : Unit {0}
 unfolding Forms.decNumber Forms.expNumber
 runForms = tt
@@ -57,11 +59,11 @@ unfolding Fields.forms Fields.firstForm
 runFields = tt
 
 unfoldable pub runCommands : Unit {0}
-unfolding Commands.formWidth Commands.u16 Commands.command Commands.absentAt Commands.tokenAt Commands.listAt Commands.groupAt Commands.choiceAt Commands.formAt Commands.firstToken Commands.declarationAt Commands.numberIn Commands.declarationIn
+unfolding Commands.formWidth Commands.command Commands.absentAt Commands.tokenAt Commands.listAt Commands.groupAt Commands.choiceAt Commands.formAt Commands.firstToken Commands.declarationAt
 runCommands = tt
 
 unfoldable pub runTokens : Unit {0}
-unfolding Tokens.textOf Tokens.endTokens Tokens.withToken Tokens.isToken Tokens.tokensFrom Tokens.tokens Tokens.nextAt Tokens.endAt Tokens.lengthsTo
+unfolding Tokens.textOf Tokens.endTokens Tokens.withToken Tokens.isToken Tokens.tokensFrom Tokens.tokens
 runTokens = tt
 
 unfoldable pub runCheck : Unit {0}
@@ -77,7 +79,7 @@ unfolding Set.isComment Set.bit Set.clear Set.holds Set.bits Set.wordsFrom Set.w
 runSet = tt
 
 unfoldable pub runAbove : Unit {0}
-unfolding Above.isKeyword Above.above Above.foundAbove Above.commentIn Above.commentAbove Above.isSome Above.passedIn Above.foundOf Above.commentOf
+unfolding Above.isKeyword Above.above Above.foundAbove Above.commentIn Above.commentAbove Above.passedIn
 runAbove = tt
 
 unfoldable pub runMeaning : Unit {0}
@@ -136,26 +138,14 @@ unfoldable pub runLookup : Unit {0}
 unfolding Lookup.ask Lookup.told Lookup.lookup Lookup.numberOf Lookup.placeOf Lookup.answerOf Lookup.keywordOf Lookup.lookedOf
 runLookup = tt
 
-unfoldable pub runWalkFirst : Unit {0}
-unfolding WalkFirst.byCheck WalkFirst.byWalk WalkFirst.recordFirst WalkFirst.textFirst WalkFirst.judgeWalkFirst
-runWalkFirst = tt
-
-unfoldable pub runJudging : Unit {0}
-unfolding Judging.otherwise
-runJudging = tt
-
 unfoldable pub runProgram : Unit {0}
 unfolding Program.digits Program.decimal Program.line Program.textOf Program.lineOf Program.printed Program.tabSize Program.textLength Program.formatInput Program.program
 runProgram = tt
-
-unfoldable pub runPrinting : Unit {0}
-unfolding Printing.shown
-runPrinting = tt
 
 unfoldable pub runDemands : Unit {0}
 unfolding Demands.withoutSpaces
 runDemands = tt
 
 unfoldable pub run : Unit {0}
-unfolding runUtf8 runBytes runOutput runWellFormed runForms runFields runCommands runTokens runCheck runReading runSet runAbove runMeaning runHelpers runGetDec runTy runPat runExp runSigExp runStrExp runDecOne runWalk runEvents runUnbounded runVerdict runLookup runWalkFirst runJudging runProgram runPrinting runDemands
+unfolding runUtf8 runBytes runOutput runWellFormed runAt runForms runFields runCommands runTokens runCheck runReading runSet runAbove runMeaning runHelpers runGetDec runTy runPat runExp runSigExp runStrExp runDecOne runWalk runEvents runUnbounded runVerdict runLookup runProgram runDemands
 run = tt

@@ -16,7 +16,7 @@ use layout::told;
 use layout::word;
 use layout::words;
 use reader::commands::Family;
-ghost use Rattle.layout.specs.Lent.{plainly};
+ghost use Rattle.layout.specs.Contracts.Lent.{plainly};
 ghost use Rattle.layout.specs.Walk.{walks};
 ghost use Rattle.layout.specs.Ty.{ty-row, ty-rows, ty-seq, ty-seq-there, ty-args, star-ty, star-tys, ty-annotation-there, ty-annotation, ty as ty·};
 ghost use Rattle.reader.specs.Forms.{RecordTy, ConTy, OneArgConTy, TupleTy, FnTy, ParenTy};

@@ -16,7 +16,7 @@ use Rattle.layout.specs.declared.fields.Read.the-variants.{Is}
 use Rattle.layout.specs.Layout.{Layout, word, choice, operator, import, _⨾_}
 use Rattle.layout.specs.Helpers.{Cfg, Walkers, indent, when}
 use Rattle.layout.specs.Meaning.{Page, Event, Outcome, done, stopped, outcome, Heads, headsAt}
-use Rattle.layout.specs.State.{Run, runOf, Ran, went, fell, run, runs, effects, page, stopNo, toldOf, Fair, Walked, Operated, Imports, headsBehind}
+use Rattle.layout.specs.Contracts.State.{Run, runOf, Ran, went, fell, run, runs, effects, page, stopNo, toldOf, Fair, Walked, Operated, Imports, headsBehind}
 use Rattle.layout.specs.Walk.{walks}
 use Rattle.agreement.proofs.Knot.{heads-behind}
 use Rattle.layout.specs.Exp.{exp-semi-item, exp-semi-more, exp-semi-items}

@@ -4,7 +4,8 @@ use Prim.Native.Nat.{suc, _-_}
 use native.Mathlib.Omega.{arith}
 use mathlib.Core.Path.{_≡_, refl, sym, _∙_}
 use mathlib.Core.Option.{none}
-use Rattle.comments.specs.Above.{above, foundAbove, passedIn, foundOf, isSome}
+use Rattle.comments.specs.Above.{above, foundAbove, passedIn}
+use Rattle.comments.specs.Contracts.Above.{foundOf, isSome}
 use Rattle.comments.proofs.Search.{at-comment, at-first, at-second, at-other, at-start}
 use borrow.Author.Needs.{needs}
 use Rattle.comments.proofs.comment_above.Statement.{statement}

@@ -1,6 +1,7 @@
 -- `comments::is_passed` meets its contract. Assumes nothing.
 use mathlib.Core.Path.{sym, ap}
-use Rattle.comments.specs.Above.{isSome, passedIn}
+use Rattle.comments.specs.Above.{passedIn}
+use Rattle.comments.specs.Contracts.Above.{isSome}
 use borrow.Author.Needs.{needs}
 use Rattle.comments.proofs.is_passed.Statement.{statement}
 use Rattle.comments.proofs.is_passed.Tie as tie

@@ -7,7 +7,7 @@ use mathlib.Core.List.{List}
 use borrow.Author.Tests.{not-true, not-false}
 use denote.Ref.{now}
 use Rattle.text.specs.Bytes.{bytes, sameBytes}
-use Rattle.doc_comment.specs.Lines.{FirstKept, Closes, kept, part}
+use Rattle.doc_comment.specs.Contracts.Lines.{FirstKept, Closes, kept, part}
 use Rattle.doc_comment.specs.declared.Body.the-variants.{Lines}
 use Rattle.doc_comment.proofs.Scan.{next-kept, next-over}
 use Rattle.doc_comment.proofs.Text.{body-closes, body-open, said-empty, said-plain, said-open, said-short, said-found, said-none}

@@ -5,7 +5,7 @@ use native.Mathlib.Nat.{zero-add}
 use native.Mathlib.Omega.{arith}
 use mathlib.Core.Path.{_≡_, sym, ap}
 use lib.ListN.{length, drop}
-use Rattle.doc_comment.specs.Lines.{before}
+use Rattle.doc_comment.specs.Contracts.Lines.{before}
 use Rattle.doc_comment.proofs.Scan.{before-here, before-later, before-end}
 use borrow.Author.Needs.{needs}
 use Rattle.doc_comment.proofs.find.Statement.{statement}

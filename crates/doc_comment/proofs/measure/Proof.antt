@@ -5,7 +5,7 @@ use mathlib.Core.Path.{sym, _∙_}
 use lib.ListN.{length}
 use denote.Ref.{now}
 use Rattle.text.specs.Bytes.{bytes}
-use Rattle.doc_comment.specs.Lines.{FirstKept}
+use Rattle.doc_comment.specs.Contracts.Lines.{FirstKept}
 use Rattle.doc_comment.proofs.Scan.{next-kept, next-over}
 use Rattle.doc_comment.proofs.Text.{Seen, seen-none, seen-more, seen-closed, seen-open}
 use borrow.Author.Needs.{needs}

@@ -9,7 +9,7 @@ use lib.Seq.{length-take-le}
 use Rattle.doc_comment.specs.declared.Cut.{Cut}
 use Rattle.doc_comment.specs.declared.Start.the-variants.{At, Nowhere}
 use Rattle.text.proofs.Laws.{take-rest}
-use Rattle.doc_comment.specs.Lines.{kept, FirstKept, Nexts}
+use Rattle.doc_comment.specs.Contracts.Lines.{kept, FirstKept, Nexts}
 use Rattle.doc_comment.proofs.Scan.{rest-some, line-dropped, line-inside, line-kept, first-from, kept-end}
 use borrow.Author.Needs.{needs}
 use Rattle.doc_comment.proofs.next_line.Statement.{statement}

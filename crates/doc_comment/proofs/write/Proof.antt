@@ -4,7 +4,7 @@ use native.Mathlib.Omega.{arith}
 use mathlib.Core.Path.{_≡_, _∙_}
 use lib.ListN.{length}
 use denote.Ref.{now}
-use Rattle.doc_comment.specs.Lines.{FirstKept, part}
+use Rattle.doc_comment.specs.Contracts.Lines.{FirstKept, part}
 use Rattle.doc_comment.proofs.Scan.{next-kept, next-over}
 use Rattle.doc_comment.proofs.Text.{Writing, writing-none, writing-some, writing-room, writing-more, writing-all, length-part}
 use borrow.Author.Needs.{needs}

@@ -1,7 +1,7 @@
 -- `formatter::by_check` meets its contract: each case of the record check.
 use mathlib.Core.Path.{sym, ap, _∙_}
 use Rattle.formatter.specs.Verdict as Verdict
-use Rattle.formatter.specs.WalkFirst as WalkFirst
+use Rattle.formatter.specs.Contracts.WalkFirst as WalkFirst
 use Rattle.formatter.proofs.JudgeLaws.{tree-end-is, checks}
 use borrow.Author.Needs.{needs}
 use Rattle.formatter.proofs.by_check.Statement.{statement}

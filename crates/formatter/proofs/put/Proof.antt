@@ -3,7 +3,7 @@ use native.Mathlib.Omega.{arith}
 use mathlib.Core.Path.{refl}
 use Prim.Native.Nat.{_≤_}
 use Rattle.text.specs.Bytes.{bytes}
-use Rattle.layout.specs.Words.{wordRun}
+use Rattle.layout.specs.Contracts.Words.{wordRun}
 use Rattle.formatter.proofs.JudgeLaws.{taken, taken-fits, starts, weight-deep, weight-letters, weight-units, put-wide, put-short, put-copied, put-walked}
 use borrow.Author.Needs.{needs}
 use Rattle.formatter.proofs.put.Statement.{statement}

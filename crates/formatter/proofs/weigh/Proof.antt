@@ -3,7 +3,7 @@ use native.Mathlib.Omega.{arith}
 use mathlib.Core.Path.{refl}
 use Prim.Native.Nat.{_≤_}
 use Rattle.text.specs.Bytes.{bytes}
-use Rattle.layout.specs.Words.{wordRun}
+use Rattle.layout.specs.Contracts.Words.{wordRun}
 use Rattle.formatter.proofs.JudgeLaws.{taken, kinds-few, starts, weigh-checked, other-checked, behind, weigh-accepts, weigh-never, weigh-comments}
 use borrow.Author.Needs.{needs}
 use Rattle.formatter.proofs.weigh.Statement.{statement}

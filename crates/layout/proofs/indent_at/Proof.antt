@@ -1,6 +1,6 @@
 -- `layout::indent_at` meets its contract.
 use mathlib.Core.Path.{ap, _∙_}
-use Rattle.layout.specs.State.{sumOf}
+use Rattle.layout.specs.Contracts.State.{sumOf}
 use Rattle.layout.proofs.Placing.{indent-is}
 use borrow.Author.Needs.{needs}
 use Rattle.layout.proofs.indent_at.Statement.{statement}

@@ -1,5 +1,5 @@
 use mathlib.Core.Path.{sym, ap, _∙_}
-use Rattle.layout.specs.State.{pieceOf}
+use Rattle.layout.specs.Contracts.State.{pieceOf}
 use borrow.Author.Needs.{needs}
 use Rattle.layout.proofs.piece_of.Statement.{statement}
 use Rattle.layout.proofs.piece_of.Tie as tie

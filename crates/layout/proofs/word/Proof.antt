@@ -1,7 +1,7 @@
 -- `layout::word` meets its contract.
 use Rattle.layout.proofs.Steps.{sure-word}
 use mathlib.Core.Path.{ap, _∙_}
-use Rattle.layout.specs.State.{pieceOf}
+use Rattle.layout.specs.Contracts.State.{pieceOf}
 use Rattle.layout.proofs.Pieces.{put-same}
 use borrow.Author.Needs.{needs}
 use Rattle.layout.proofs.word.Statement.{statement}

@@ -1,5 +1,5 @@
 -- `leaves::missing` meets its contract.
-use Rattle.leaves.specs.Heads.{missedAt}
+use Rattle.leaves.specs.Contracts.Heads.{missedAt}
 use borrow.Author.Needs.{needs}
 use Rattle.leaves.proofs.missing.Statement.{statement}
 use Rattle.leaves.proofs.missing.Tie as tie

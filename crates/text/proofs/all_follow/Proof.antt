@@ -7,7 +7,7 @@ use Prim.Native.Nat.{ℕ, _-_, _≤_, _<_}
 use native.Mathlib.Omega.{arith}
 use mathlib.Core.Path.{_≡_}
 use lib.ListN.{length, getD}
-use Rattle.text.specs.Utf8.{Follows}
+use Rattle.text.specs.Contracts.Utf8.{Follows}
 use borrow.Author.Needs.{needs}
 use Rattle.text.proofs.all_follow.Statement.{statement}
 use Rattle.text.proofs.all_follow.Tie as tie

@@ -1,7 +1,7 @@
 -- `text::first_broken` meets its contract: where no byte exceeds 127, or each may stand where it does, no character is broken. Assumes nothing.
 use native.Mathlib.Omega.{arith}
 use mathlib.Core.Path.{sym}
-use Rattle.text.specs.Utf8.{brokenAt}
+use Rattle.text.specs.Contracts.Utf8.{brokenAt}
 use Rattle.text.proofs.Utf8Laws.{ascii-whole}
 use borrow.Author.Needs.{needs}
 use Rattle.text.proofs.first_broken.Statement.{statement}

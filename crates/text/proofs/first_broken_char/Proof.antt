@@ -4,7 +4,8 @@ use Prim.Native.Nat.{_≤_, _-_}
 use native.Mathlib.Omega.{arith}
 use mathlib.Core.Path.{_≡_, refl, sym, _∙_}
 use lib.ListN.{length, drop}
-use Rattle.text.specs.Utf8.{brokenFrom, firstBroken, brokenAt}
+use Rattle.text.specs.Utf8.{brokenFrom, firstBroken}
+use Rattle.text.specs.Contracts.Utf8.{brokenAt}
 use Rattle.text.proofs.Utf8Laws.{char-here, char-ends, broken-none, broken-at, broken-more}
 use borrow.Author.Needs.{needs}
 use Rattle.text.proofs.first_broken_char.Statement.{statement}

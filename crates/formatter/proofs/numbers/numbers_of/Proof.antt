@@ -1,7 +1,7 @@
 -- `formatter::numbers::numbers_of` meets its contract: each case of the answer. Assumes nothing.
 use mathlib.Core.Path.{sym, ap, _∙_}
 use Rattle.formatter.specs.Verdict.{verdictOf, numberOf, placeOf, givenMeasures}
-use Rattle.formatter.specs.Numbers.{said}
+use Rattle.formatter.specs.Contracts.Numbers.{said}
 use borrow.Author.Needs.{needs}
 use Rattle.formatter.proofs.numbers.numbers_of.Statement.{statement}
 use Rattle.formatter.proofs.numbers.numbers_of.Tie as tie

@@ -1,7 +1,8 @@
 -- `layout::helpers::comment_above` equals its layout.
 use mathlib.Core.Path.{ap}
-use Rattle.reader.specs.Commands.{numberIn}
-use Rattle.comments.specs.Above.{commentIn, foundOf, commentOf}
+use Rattle.reader.specs.Contracts.Commands.{numberIn}
+use Rattle.comments.specs.Above.{commentIn}
+use Rattle.comments.specs.Contracts.Above.{foundOf, commentOf}
 use Rattle.comments.proofs.Search.{comment-told}
 use Rattle.layout.specs.DecOne.{comment-line}
 use Rattle.layout.proofs.DecLaws.{comment-skip, comment-none, comment-some}

@@ -1,6 +1,6 @@
 -- `layout::helpers::deepen` meets its contract.
 use mathlib.Core.Path.{_∙_, ap}
-use Rattle.layout.specs.State.{deepened}
+use Rattle.layout.specs.Contracts.State.{deepened}
 use Rattle.layout.proofs.Steps.{deep-depth}
 use borrow.Author.Needs.{needs}
 use Rattle.layout.proofs.helpers.deepen.Statement.{statement}

@@ -1,6 +1,6 @@
 -- `layout::helpers::new_line_in` equals its layout.
-use Rattle.layout.specs.Words.{wordOf}
-use Rattle.layout.specs.State.{joint}
+use Rattle.layout.specs.Contracts.Words.{wordOf}
+use Rattle.layout.specs.Contracts.State.{joint}
 use Rattle.layout.specs.Helpers as Helpers
 use Rattle.layout.proofs.Steps.{sure-in}
 use borrow.Author.Needs.{needs}

@@ -1,7 +1,8 @@
 -- `facts_of` meets its contract.
 use Rattle.reader.specs.Fields.{firstForm, forms}
-use Rattle.reader.specs.Grammar.{firstRow}
-use Rattle.reader.specs.Commands.{factsOf, formWidth}
+use Rattle.reader.specs.Contracts.Grammar.{firstRow}
+use Rattle.reader.specs.Commands.{formWidth}
+use Rattle.reader.specs.Contracts.Commands.{factsOf}
 use Rattle.reader.proofs.CommandLaws.{facts-known}
 use borrow.Author.Needs.{needs}
 use Rattle.reader.proofs.commands.facts_of.Statement.{statement}

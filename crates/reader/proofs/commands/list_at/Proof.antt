@@ -1,5 +1,6 @@
 -- `list_at` meets its contract.
-use Rattle.reader.specs.Commands.{operandAt, listAt}
+use Rattle.reader.specs.Commands.{listAt}
+use Rattle.reader.specs.Contracts.Commands.{operandAt}
 use borrow.Author.Needs.{needs}
 use Rattle.reader.proofs.commands.list_at.Statement.{statement}
 use Rattle.reader.proofs.commands.list_at.Tie as tie

@@ -1,5 +1,6 @@
 -- `token_at` meets its contract.
-use Rattle.reader.specs.Commands.{operandAt, tokenAt}
+use Rattle.reader.specs.Commands.{tokenAt}
+use Rattle.reader.specs.Contracts.Commands.{operandAt}
 use borrow.Author.Needs.{needs}
 use Rattle.reader.proofs.commands.token_at.Statement.{statement}
 use Rattle.reader.proofs.commands.token_at.Tie as tie

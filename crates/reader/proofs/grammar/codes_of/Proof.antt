@@ -1,7 +1,7 @@
 -- `codes_of` meets its contract.
 use Rattle.reader.proofs.GrammarLaws.{row-at, row-past}
 use Rattle.reader.specs.Fields.{forms}
-use Rattle.reader.specs.Grammar.{groups, inside, upTo, held, rows}
+use Rattle.reader.specs.Contracts.Grammar.{groups, inside, upTo, held, rows}
 use borrow.Author.Needs.{needs}
 use Rattle.reader.proofs.grammar.codes_of.Statement.{statement}
 use Rattle.reader.proofs.grammar.codes_of.Tie as tie

@@ -1,6 +1,6 @@
 -- `end_tokens` meets its contract.
 use borrow.Author.Tests.{eq-eqb, ne-eqb}
-use Rattle.reader.specs.Tokens.{endAt}
+use Rattle.reader.specs.Contracts.Tokens.{endAt}
 use Rattle.reader.proofs.tokens.end_tokens.Statement.{statement}
 use Rattle.reader.proofs.tokens.end_tokens.Tie as tie
 

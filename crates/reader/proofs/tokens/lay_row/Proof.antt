@@ -2,7 +2,7 @@
 use mathlib.Core.Path.{_≡_, refl, sym, _∙_}
 use lib.ListN.{length, length-set}
 use Prim.Native.Nat.{ℕ, _+_, _-_, _*_, _≤_}
-use Rattle.reader.specs.Tokens.{Laid}
+use Rattle.reader.specs.Contracts.Tokens.{Laid}
 use Rattle.reader.proofs.RowLaws.{laid-none, laid-more, length-is}
 use borrow.Author.Needs.{needs}
 use native.Mathlib.Omega.{arith}

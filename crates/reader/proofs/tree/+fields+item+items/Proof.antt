@@ -19,7 +19,7 @@ use mathlib.Core.Path.{refl}
 use borrow.Author.Needs.{needs}
 use native.Mathlib.Omega.{arith}
 use lib.ListN.{length}
-use Rattle.reader.specs.Grammar.{node}
+use Rattle.reader.specs.Contracts.Grammar.{node}
 use Rattle.reader.proofs.FieldLaws.{opened-token, opened-inside, opened-malformed, opened-deep, opened-ahead, run-malformed, run-nodes, run-onwards, Passed, row-starts, row-breaks, row-stops, row-goes, row-ends, Counted, list-starts, list-stops, list-goes, list-ends}
 
 abbrev μ-fields : Measures 2 fields-kinds.ps ℕ

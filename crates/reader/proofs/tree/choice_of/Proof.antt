@@ -3,7 +3,7 @@ use mathlib.Core.Path.{refl, ap, sym}
 use Rattle.reader.proofs.TreeLaws.{opens-as, choice-same, above, only}
 use Rattle.reader.proofs.GrammarLaws.{within}
 use Rattle.reader.specs.Fields.{forms, PatRowInner, FunBindCaseHead, ExBindInner, FunctorArg, AppStrExpArg}
-use Rattle.reader.specs.Grammar.{node, nodes, groups, held, upTo, rows, inside}
+use Rattle.reader.specs.Contracts.Grammar.{node, nodes, groups, held, upTo, rows, inside}
 use Rattle.reader.proofs.tree.choice_of.Statement.{statement}
 use Rattle.reader.proofs.tree.choice_of.Tie as tie
 

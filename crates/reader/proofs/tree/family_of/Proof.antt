@@ -1,7 +1,7 @@
 -- `family_of` meets its contract.
 use mathlib.Core.Path.{ap}
 use Rattle.reader.proofs.TreeLaws.{above, only}
-use Rattle.reader.specs.Grammar.{node, nodes, groups}
+use Rattle.reader.specs.Contracts.Grammar.{node, nodes, groups}
 use Rattle.reader.proofs.tree.family_of.Statement.{statement}
 use Rattle.reader.proofs.tree.family_of.Tie as tie
 

@@ -7,8 +7,8 @@ use lib.ListN.{getD}
 use Rattle.reader.proofs.TreeLaws.{form-none, form-out, form-deep, form-opens}
 use Rattle.reader.proofs.CommandLaws.{form-fits, form-number, form-read, facts-width, facts-row}
 use Rattle.reader.specs.Fields.{none}
-use Rattle.reader.specs.Grammar.{rows}
-use Rattle.reader.specs.Commands.{familyOf}
+use Rattle.reader.specs.Contracts.Grammar.{rows}
+use Rattle.reader.specs.Contracts.Commands.{familyOf}
 use borrow.Author.Needs.{needs}
 use Rattle.reader.proofs.tree.open_form.Statement.{statement}
 use Rattle.reader.proofs.tree.open_form.Tie as tie

@@ -4,7 +4,7 @@ use native.Mathlib.Omega.{arith}
 use Rattle.reader.proofs.TreeLaws.{opens-as}
 use Rattle.reader.proofs.GrammarLaws.{group-row, token-code}
 use Rattle.reader.specs.Fields.{forms}
-use Rattle.reader.specs.Grammar.{node, nodes, groups, rows, held, upTo, inside}
+use Rattle.reader.specs.Contracts.Grammar.{node, nodes, groups, rows, held, upTo, inside}
 use borrow.Author.Needs.{needs}
 use Rattle.reader.proofs.tree.open_node.Statement.{statement}
 use Rattle.reader.proofs.tree.open_node.Tie as tie

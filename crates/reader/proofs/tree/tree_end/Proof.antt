@@ -1,5 +1,5 @@
 -- `tree_end` meets its contract.
-use Rattle.reader.specs.Grammar.{groups, nodes, node, fieldOf, digits}
+use Rattle.reader.specs.Contracts.Grammar.{groups, nodes, node, fieldOf, digits}
 use Rattle.reader.proofs.FieldLaws.{tree-stops, tree-whole, tree-over}
 use borrow.Author.Needs.{needs}
 use Rattle.reader.proofs.tree.tree_end.Statement.{statement}

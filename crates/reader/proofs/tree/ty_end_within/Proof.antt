@@ -1,5 +1,5 @@
 -- `ty_end_within` meets its contract.
-use Rattle.reader.specs.Grammar.{groups, nodes, node, fieldOf, digits}
+use Rattle.reader.specs.Contracts.Grammar.{groups, nodes, node, fieldOf, digits}
 use borrow.Author.Needs.{needs}
 use Rattle.reader.proofs.tree.ty_end_within.Statement.{statement}
 use Rattle.reader.proofs.tree.ty_end_within.Tie as tie

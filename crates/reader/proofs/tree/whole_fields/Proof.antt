@@ -1,7 +1,7 @@
 -- `whole_fields` meets its contract.
 use mathlib.Core.Path.{refl}
 use Rattle.reader.specs.Fields.{forms}
-use Rattle.reader.specs.Grammar.{groups, nodes, node, fieldOf, digits, inside, upTo, held, rows}
+use Rattle.reader.specs.Contracts.Grammar.{groups, nodes, node, fieldOf, digits, inside, upTo, held, rows}
 use borrow.Author.Needs.{needs}
 use Rattle.reader.proofs.tree.whole_fields.Statement.{statement}
 use Rattle.reader.proofs.tree.whole_fields.Tie as tie

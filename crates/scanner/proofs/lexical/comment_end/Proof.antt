@@ -4,7 +4,7 @@ use native.Mathlib.Omega.{arith}
 use mathlib.Core.Path.{_≡_, refl, sym, ap, _∙_}
 use lib.ListN.{length, drop}
 use Rattle.scanner.specs.Lexical.{closes}
-use Rattle.scanner.specs.Reach.{longer, reach, taken}
+use Rattle.scanner.specs.Contracts.Reach.{longer, reach, taken}
 use Rattle.scanner.proofs.CommentLaws.{comment-empty, comment-over, comment-opens, comment-closes, comment-shut, comment-star, comment-bracket, comment-plain}
 use borrow.Author.Needs.{needs}
 use Rattle.scanner.proofs.lexical.comment_end.Statement.{statement}

@@ -1,6 +1,6 @@
 -- `kind_if` meets its contract. Assumes nothing.
 use mathlib.Core.Path.{sym, _∙_}
-use Rattle.scanner.specs.Reach.{kindIf}
+use Rattle.scanner.specs.Contracts.Reach.{kindIf}
 use borrow.Author.Needs.{needs}
 use Rattle.scanner.proofs.lexical.kind_if.Statement.{statement}
 use Rattle.scanner.proofs.lexical.kind_if.Tie as tie

@@ -8,7 +8,7 @@ use borrow.Author.Tests.{ne-eqb}
 use Rattle.text.specs.Bytes.{bytes, sameBytes}
 use Rattle.scanner.specs.Parts.{behind, isOneOf}
 use Rattle.scanner.specs.Lexical.{opensComment, keywords, numbered, kindOf}
-use Rattle.scanner.specs.Reach.{kindIf}
+use Rattle.scanner.specs.Contracts.Reach.{kindIf}
 use Rattle.scanner.proofs.KindLaws.{kind-short, begins, by-first, kind-comment, kind-bracket, kind-none}
 use borrow.Author.Needs.{needs}
 use Rattle.scanner.proofs.lexical.kind_of.Statement.{statement}

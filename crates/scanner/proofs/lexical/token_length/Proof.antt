@@ -3,7 +3,7 @@ use denote.Ref.{now}
 use native.Mathlib.Omega.{arith}
 use mathlib.Core.Path.{sym, _∙_}
 use lib.ListN.{getD}
-use Rattle.scanner.specs.Reach.{inClass}
+use Rattle.scanner.specs.Contracts.Reach.{inClass}
 use Rattle.scanner.proofs.TokenLaws.{start, longest-empty, longest-space, longest-name, name-letter, name-prime}
 use borrow.Author.Needs.{needs}
 use Rattle.scanner.proofs.lexical.token_length.Statement.{statement}

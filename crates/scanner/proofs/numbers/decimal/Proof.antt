@@ -4,7 +4,7 @@ use native.Mathlib.Omega.{arith}
 use mathlib.Core.Path.{sym, _∙_}
 use lib.ListN.{drop}
 use Rattle.scanner.specs.Constants.{isDecimal}
-use Rattle.scanner.specs.Reach.{inClass, reach}
+use Rattle.scanner.specs.Contracts.Reach.{inClass, reach}
 use Rattle.scanner.proofs.ReachLaws.{first-inside, part-none, part-some}
 use Rattle.scanner.proofs.NumberLaws.{decimal-signed, decimal-plain}
 use borrow.Author.Needs.{needs}

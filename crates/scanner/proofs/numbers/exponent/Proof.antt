@@ -4,7 +4,7 @@ use mathlib.Core.Path.{sym, _∙_}
 use lib.ListN.{drop}
 use borrow.Author.Tests.{not-true, not-false}
 use Rattle.scanner.specs.Constants.{isExponent}
-use Rattle.scanner.specs.Reach.{reach}
+use Rattle.scanner.specs.Contracts.Reach.{reach}
 use Rattle.scanner.proofs.ReachLaws.{none-at, part-none, part-some}
 use Rattle.scanner.proofs.NumberLaws.{exponent-end, exponent-other, exponent-part}
 use borrow.Author.Needs.{needs}

@@ -4,7 +4,7 @@ use native.Mathlib.Omega.{arith}
 use mathlib.Core.Path.{sym, _∙_}
 use lib.ListN.{drop}
 use borrow.Author.Tests.{not-true, not-false}
-use Rattle.scanner.specs.Reach.{inClass}
+use Rattle.scanner.specs.Contracts.Reach.{inClass}
 use Rattle.scanner.proofs.ReachLaws.{first-inside, none-at}
 use Rattle.scanner.proofs.NumberLaws.{fraction-other, fraction-none, fraction-some}
 use borrow.Author.Needs.{needs}

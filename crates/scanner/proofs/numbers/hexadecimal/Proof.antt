@@ -5,7 +5,7 @@ use mathlib.Core.Path.{sym, _∙_}
 use lib.ListN.{drop}
 use Prim.Native.Nat.{_+_}
 use borrow.Author.Tests.{not-true, not-false}
-use Rattle.scanner.specs.Reach.{inClass, reach, isHexadecimal}
+use Rattle.scanner.specs.Contracts.Reach.{inClass, reach, isHexadecimal}
 use Rattle.scanner.proofs.ReachLaws.{first-inside, none-at, part-none, part-some}
 use Rattle.scanner.proofs.NumberLaws.{hexadecimal-other, hexadecimal-zero, hexadecimal-part}
 use borrow.Author.Needs.{needs}

@@ -1,7 +1,7 @@
 -- `magnitude` meets its contract. Assumes nothing.
 use denote.Ref.{now}
 use mathlib.Core.Path.{sym, _∙_}
-use Rattle.scanner.specs.Reach.{inClass}
+use Rattle.scanner.specs.Contracts.Reach.{inClass}
 use Rattle.scanner.proofs.NumberLaws.{magnitude-hex, magnitude-none, magnitude-fraction, magnitude-exponent}
 use borrow.Author.Needs.{needs}
 use Rattle.scanner.proofs.numbers.magnitude.Statement.{statement}

@@ -4,7 +4,7 @@ use native.Mathlib.Omega.{arith}
 use mathlib.Core.Path.{sym, _∙_}
 use borrow.Author.Tests.{not-true, not-false}
 use Rattle.scanner.specs.Constants.{isWord}
-use Rattle.scanner.specs.Reach.{inClass, reach}
+use Rattle.scanner.specs.Contracts.Reach.{inClass, reach}
 use Rattle.scanner.proofs.ReachLaws.{none-at, part-none, part-some}
 use Rattle.scanner.proofs.NumberLaws.{word-other, word-zero, word-hex, word-digits}
 use borrow.Author.Needs.{needs}

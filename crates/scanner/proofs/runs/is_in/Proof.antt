@@ -1,5 +1,5 @@
 -- `is_in` meets its contract. Assumes nothing.
-use Rattle.scanner.specs.Reach.{inClass}
+use Rattle.scanner.specs.Contracts.Reach.{inClass}
 use borrow.Author.Needs.{needs}
 use Rattle.scanner.proofs.runs.is_in.Statement.{statement}
 use Rattle.scanner.proofs.runs.is_in.Tie as tie

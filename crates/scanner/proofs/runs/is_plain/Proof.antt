@@ -1,7 +1,7 @@
 -- `is_plain` meets its contract. Assumes nothing.
 use borrow.Author.Tests.{ne-eqb, le-leb, lt-leb}
 use Rattle.text.specs.Bytes.{between}
-use Rattle.scanner.specs.Reach.{isPlain}
+use Rattle.scanner.specs.Contracts.Reach.{isPlain}
 use Rattle.scanner.proofs.runs.is_plain.Statement.{statement}
 use Rattle.scanner.proofs.runs.is_plain.Tie as tie
 

@@ -1,6 +1,6 @@
 -- `is_symbol` meets its contract, by the rule of the table. Assumes nothing.
 use native.Mathlib.Omega.{arith}
-use Rattle.scanner.specs.Reach.{TellsSymbols}
+use Rattle.scanner.specs.Contracts.Reach.{TellsSymbols}
 use borrow.Author.Needs.{needs}
 use Rattle.scanner.proofs.runs.is_symbol.Statement.{statement}
 use Rattle.scanner.proofs.runs.is_symbol.Tie as tie

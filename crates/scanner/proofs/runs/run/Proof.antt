@@ -6,7 +6,7 @@ use mathlib.Core.Path.{_≡_, refl, sym, _∙_}
 use lib.ListN.{length, drop}
 use borrow.Author.Needs.{needs}
 use borrow.Author.Tests.{not-true, not-false}
-use Rattle.scanner.specs.Reach.{inClass, run}
+use Rattle.scanner.specs.Contracts.Reach.{inClass, run}
 use Rattle.scanner.proofs.ReachLaws.{run-end, run-more, run-stop}
 use Rattle.scanner.proofs.runs.run.Statement.{statement}
 use Rattle.scanner.proofs.runs.run.Tie as tie

@@ -7,7 +7,7 @@ use mathlib.Core.Bool.{true}
 use lib.ListN.{length, drop}
 use borrow.Author.Tests.{eqb-true, not-true, not-false}
 use Rattle.text.specs.Bytes.{between, isSpace}
-use Rattle.scanner.specs.Reach.{inClass, run}
+use Rattle.scanner.specs.Contracts.Reach.{inClass, run}
 use Rattle.scanner.specs.declared.runs.Class.the-variants.{Blank}
 use Rattle.scanner.proofs.ReachLaws.{run-end, run-more, run-stop, run-on}
 use borrow.Author.Needs.{needs}

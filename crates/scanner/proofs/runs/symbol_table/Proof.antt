@@ -8,7 +8,7 @@ use lib.ListN.{getD}
 use Rattle.text.specs.Bytes.{bytes}
 use Rattle.scanner.specs.Parts.{isOneOf}
 use Rattle.scanner.specs.Lexical.{isSymbol}
-use Rattle.scanner.specs.Reach.{TellsSymbols}
+use Rattle.scanner.specs.Contracts.Reach.{TellsSymbols}
 use Rattle.text.proofs.Computed.{allBelow, below, same, same-is}
 use Rattle.scanner.proofs.runs.symbol_table.Statement.{statement}
 use Rattle.scanner.proofs.runs.symbol_table.Tie as tie

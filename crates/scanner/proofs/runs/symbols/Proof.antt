@@ -7,7 +7,7 @@ use lib.ListN.{length, drop}
 use borrow.Author.Needs.{needs}
 use borrow.Author.Tests.{not-true, not-false}
 use Rattle.scanner.specs.Lexical.{isSymbol}
-use Rattle.scanner.specs.Reach.{run}
+use Rattle.scanner.specs.Contracts.Reach.{run}
 use Rattle.scanner.proofs.ReachLaws.{run-end, run-more, run-stop}
 use Rattle.scanner.proofs.runs.symbols.Statement.{statement}
 use Rattle.scanner.proofs.runs.symbols.Tie as tie

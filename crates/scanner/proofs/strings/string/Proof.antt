@@ -5,8 +5,8 @@ use native.Mathlib.Omega.{arith}
 use mathlib.Core.Path.{_≡_, refl, sym, _∙_}
 use lib.ListN.{length, getD, drop}
 use Rattle.scanner.specs.Strings.{between-characters, escape}
-use Rattle.scanner.specs.Reach.{inClass, isPlain}
-use Rattle.scanner.specs.Spans.{further, span, spanOf, Inside}
+use Rattle.scanner.specs.Contracts.Reach.{inClass, isPlain}
+use Rattle.scanner.specs.Contracts.Spans.{further, span, spanOf, Inside}
 use Rattle.scanner.proofs.ReachLaws.{run-inside}
 use Rattle.scanner.proofs.StringLaws.{goes-to, between-escape, open-between, string-quote, string-end, string-plain, string-other, string-endless, string-more, string-inside}
 use borrow.Author.Needs.{needs}

@@ -13,12 +13,12 @@ use Rattle.reader.specs.Reading.{maxText, maxRecord}
 use Rattle.layout.specs.Meaning.{Page, Event, done}
 use Rattle.layout.specs.Walk.{walk}
 use Rattle.layout.specs.Events.{deepest, letters, units, formatted}
-use Rattle.layout.specs.State.{page, stopNo, stopOf}
+use Rattle.layout.specs.Contracts.State.{page, stopNo, stopOf}
 use Rattle.formatter.specs.declared.Measures.{Measures}
 use Rattle.formatter.specs.declared.Answer.{Answer}
 use Rattle.formatter.specs.declared.Judged as Code
 use Rattle.formatter.specs.declared.Judged.the-variants as Case
-use Rattle.formatter.specs.WalkFirst.{byWalk}
+use Rattle.formatter.specs.Contracts.WalkFirst.{byWalk}
 use Rattle.formatter.specs.Verdict.{Verdict, verdict, noMeasures, emptySet, verdictOf, measuresOf}
 use Rattle.formatter.specs.Verdict.{stopVerdict, Judged, declined, accepted, judge, Result, format}
 

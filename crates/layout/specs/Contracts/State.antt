@@ -27,12 +27,13 @@ use Rattle.reader.specs.declared.commands.Family.{Family}
 use Rattle.reader.specs.Fields as Fields
 use Rattle.reader.specs.Fields.{DecOne, Exp, Ty}
 use Rattle.reader.specs.Check.{ok, malformed, tooDeep, tokenFits, formFits, endWithin}
-use Rattle.reader.specs.Commands.{absentAt, groupAt, formAt, formWidth, firstToken, familyOf, declarationIn}
+use Rattle.reader.specs.Commands.{absentAt, groupAt, formAt, formWidth, firstToken}
+use Rattle.reader.specs.Contracts.Commands.{familyOf, declarationIn}
 use Rattle.reader.specs.declared.commands.Declaration.{Declaration}
 use mathlib.Core.Option.{Option, none, some}
 use Rattle.layout.specs.declared.Status.the-variants.{Done, Stopped}
 use Rattle.layout.specs.Layout.{Layout, Look, Test, skip}
-use Rattle.layout.specs.Words.{wordRun}
+use Rattle.layout.specs.Contracts.Words.{wordRun}
 use Rattle.layout.specs.Helpers as Helpers
 use Rattle.layout.specs.Meaning.{Page, Event, Word, Token, Comment, Formed, Indent, Outcome, done, stopped, Stop}
 use Rattle.layout.specs.Meaning.{absent, imported, outcome, operated, commented, aboveFirst, tokenText, passes}

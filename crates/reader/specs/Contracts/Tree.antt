@@ -7,7 +7,7 @@ use lib.ListN.{length, getD}
 use Rattle.reader.specs.Fields as Fields
 use Rattle.reader.specs.Fields.{Fields, choice}
 use Rattle.reader.specs.Check.{Checked, ok, malformed, tooDeep, items, fields, formCheck, treeCheck, fieldEnd}
-use Rattle.reader.specs.Grammar.{fieldOf, fieldsOf, node, rows}
+use Rattle.reader.specs.Contracts.Grammar.{fieldOf, fieldsOf, node, rows}
 use Rattle.reader.specs.declared.tree.Choice.{Choice}
 use Rattle.reader.specs.declared.tree.Checked as Code
 use Rattle.reader.specs.declared.tree.Checked.the-variants as Case

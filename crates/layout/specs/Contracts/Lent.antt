@@ -10,7 +10,7 @@ use Rattle.layout.specs.declared.Cfg.{Cfg}
 use Rattle.layout.specs.Layout.{Layout}
 use Rattle.layout.specs.Helpers as Helpers
 use Rattle.layout.specs.Meaning.{Page}
-use Rattle.layout.specs.State.{Run, runOf, page, Walked, Does, Plain, Sure, Texted, Commented, Operated, CommentedAbove}
+use Rattle.layout.specs.Contracts.State.{Run, runOf, page, Walked, Does, Plain, Sure, Texted, Commented, Operated, CommentedAbove}
 
 -- What is lent: a reference to numbers, at the entry of a function and at its exit.
 abbrev pub Lent : Type 0

@@ -1,0 +1,3 @@
+-- What only contracts use: no definition of 01 or 02 is here.
+pub mod Utf8
+pub mod Bytes
