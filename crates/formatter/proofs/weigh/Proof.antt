@@ -50,21 +50,24 @@ left-in-requires c κs = search needs
 is-empty-requires : tie.Need-is-empty-requires
 is-empty-requires c κs = search needs
 
-array-read-t39 : tie.Need-array-read-t39
-array-read-t39 c = search needs
+array-read-units : tie.Need-array-read-units
+array-read-units c = search needs
 
-array-read-t42 : tie.Need-array-read-t42
-array-read-t42 c = search needs
+array-read-t40 : tie.Need-array-read-t40
+array-read-t40 c = search needs
 
-array-read-t45 : tie.Need-array-read-t45
-array-read-t45 c = search needs
+array-read-letters-at : tie.Need-array-read-letters-at
+array-read-letters-at c = search needs
+
+letters-at-requires : tie.Need-letters-at-requires
+letters-at-requires c κs = search needs
 
 same-length-2 : tie.Need-same-length-2
 same-length-2 c = search needs
 
 returns-2 : tie.Need-returns-2
 unfolding wordRun bytes
-returns-2 c = weigh-accepts (c .before .before .before .before .before .before .before .walk .ensures) (starts refl (c .before .before .before .before .before .before .before .before .before .before .before .before .before .before .before .before .before .before .before .before .before .before .pre .rec-fits) (c .before .before .before .before .before .before .before .before .before .before .before .before .before .before .before .before .before .before .before .before .before .before .pre .near) (tab-fits (c .before .before .before .before .before .before .before .before .before .before .before .before .before .before .before .before .before .before .before .before .before .before)) (c .before .before .before .before .before .before .before .before .before .before .before .lent .ensures)) (c .before .before .before .before .before .before .before .before .before .before .before .before .before .before .before .before .before .before .before .before .before .before .pre .text-fits) (c .before .before .before .before .before .before .before .before .before .before .before .before .before .before .before .before .before .before .before .before .before .before .pre .rec-fits) (kinds-few (c .before .before .before .before .before .before .before .before .before .before .before .before .before .before .before .before .before .before .before .before .before .before .pre)) (c .before .before .before .before .before .before .before .before .before .before .before .before .all .ensures) (c .before .before .before .before .if1 .left) (c .before .before .before .left-in .ensures) (c .before .is-empty .ensures) (c .before .before .before .before .before .before .before .walk .kept .1 .1 .1 .1 .1 .1 .0) (c .if2 .taken)
+returns-2 c = weigh-accepts (c .before .before .before .before .before .before .before .before .walk .ensures) (starts refl (c .before .before .before .before .before .before .before .before .before .before .before .before .before .before .before .before .before .before .before .before .before .before .before .pre .rec-fits) (c .before .before .before .before .before .before .before .before .before .before .before .before .before .before .before .before .before .before .before .before .before .before .before .pre .near) (tab-fits (c .before .before .before .before .before .before .before .before .before .before .before .before .before .before .before .before .before .before .before .before .before .before .before)) (c .before .before .before .before .before .before .before .before .before .before .before .before .lent .ensures)) (c .before .before .before .before .before .before .before .before .before .before .before .before .before .before .before .before .before .before .before .before .before .before .before .pre .text-fits) (c .before .before .before .before .before .before .before .before .before .before .before .before .before .before .before .before .before .before .before .before .before .before .before .pre .rec-fits) (kinds-few (c .before .before .before .before .before .before .before .before .before .before .before .before .before .before .before .before .before .before .before .before .before .before .before .pre)) (c .before .before .before .before .before .before .before .before .before .before .before .before .before .all .ensures) (c .before .before .before .before .before .if1 .left) (c .before .before .before .before .left-in .ensures) (c .before .before .is-empty .ensures) (c .before .before .before .before .before .before .before .before .walk .kept .1 .1 .1 .1 .1 .1 .0) (c .before .if2 .taken) (omega arith, c .letters-at .ensures)
 
 first-requires : tie.Need-first-requires
 first-requires c κs = search needs
@@ -108,9 +111,10 @@ weigh-spec =
     returns
     left-in-requires
     is-empty-requires
-    array-read-t39
-    array-read-t42
-    array-read-t45
+    array-read-units
+    array-read-t40
+    array-read-letters-at
+    letters-at-requires
     same-length-2
     returns-2
     first-requires
