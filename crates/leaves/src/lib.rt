@@ -357,7 +357,8 @@ fn con_lines<'a>(
     requires { ⌜ cfg .depth + 1 ≤ 1000 ⌝ }
     ensures { λ r. ⌜
         plainly
-        (wordOf· " =\n" ⨾ indentDeeper (cfgOf cfg) ⨾ items n (con-bind (walks (cfg .nesting))) (new-line (cfgOf cfg) "| " ⨾ con-bind (walks (cfg .nesting))))
+        (wordOf· " =\n" ⨾ indentDeeper (cfgOf cfg) ⨾ items n (con-bind (walks (cfg .nesting)))
+        (new-line (cfgOf cfg) "| " ⨾ con-bind (walks (cfg .nesting))))
         run text rec starts lens out mem at r ⌝ }
 {
     word(run, text, out, mem, words::EQ_LINE);

@@ -5,12 +5,12 @@ use mathlib.Core.Bool.{true, false, _&&_}
 use mathlib.Core.Option.{none, some}
 use lib.ListN.{length}
 use lib.Dec.{leb}
-use Rattle.text.specs.WellFormed.{firstWide}
+use Rattle.text.specs.WellFormed.{firstNotAscii}
 use Rattle.reader.specs.Reading.{Read, refused, readRecord, maxText, maxRecord}
 
 unfoldable pub readAscii : List ℕ → List ℕ → Read
 readAscii text rec =
     elim (leb (length text) maxText && leb (length rec) maxRecord) [
-      | true ↦ elim (firstWide 0 text) [ none ↦ readRecord rec (λ i. true) (length text) | some place ↦ refused 2 place ]
+      | true ↦ elim (firstNotAscii 0 text) [ none ↦ readRecord rec (λ i. true) (length text) | some place ↦ refused 2 place ]
       | false ↦ refused 1 0
     ]

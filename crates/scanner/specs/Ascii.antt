@@ -5,7 +5,7 @@ use mathlib.Core.Bool.{true, false}
 use mathlib.Core.Option.{none, some}
 use lib.ListN.{length}
 use lib.Dec.{leb}
-use Rattle.text.specs.WellFormed.{firstWide}
+use Rattle.text.specs.WellFormed.{firstNotAscii}
 use Rattle.text.specs.Output.{Plain, plain, Reply, declined, fittedPlain}
 use Rattle.reader.specs.Reading.{maxText}
 use Rattle.scanner.specs.Scan.{Scanned, refused, tokens, scanText, limited, commands}
@@ -13,7 +13,7 @@ use Rattle.scanner.specs.Scan.{Scanned, refused, tokens, scanText, limit
 unfoldable pub readAscii : List ℕ → Scanned
 readAscii text =
     elim (leb (length text) maxText) [
-      | true ↦ elim (firstWide 0 text) [ none ↦ limited (scanText text) | some place ↦ refused 2 place ]
+      | true ↦ elim (firstNotAscii 0 text) [ none ↦ limited (scanText text) | some place ↦ refused 2 place ]
       | false ↦ refused 1 0
     ]
 

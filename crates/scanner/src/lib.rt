@@ -78,7 +78,8 @@ fn keep(
     len: u16,
 )
     requires { ⌜ Long (now kinds) (now starts) (now lens) ⌝ }
-    ensures { λ r. ⌜ Kept (now (kinds .entry)) (now (starts .entry)) (now (lens .entry)) count kind start len (now (kinds .exit)) (now (starts .exit)) (now (lens .exit)) ⌝ }
+    ensures { λ r. ⌜ Kept (now (kinds .entry)) (now (starts .entry)) (now (lens .entry)) count kind start len
+        (now (kinds .exit)) (now (starts .exit)) (now (lens .exit)) ⌝ }
 {
     if count < MAX_TOKENS {
         kinds[count] = kind;

@@ -12,7 +12,7 @@ use lib.Seq.{getD-take, drop-at, take-at, drop-append-add}
 use borrow.Author.Tests.{eq-eqb, eqb-true, eqb-false, leb-true, leb-false, lt-leb}
 use Rattle.text.specs.Utf8.{isIn, isScalar, encode, encoded, continuation, charAt, brokenFrom, firstBroken, isInside, boundary}
 use Rattle.text.specs.Bytes.{between, isSpace, whiteSpaceCodes, whiteSpace, startsWith, leading, stripFrom, strip, trimStart, trimEnd, trim}
-use Rattle.text.specs.WellFormed.{All, Scalar, Encodes, Between, dropWhile, dropEnds, isOneOf, isWhiteSpace, Ascii, firstWide, trimAscii}
+use Rattle.text.specs.WellFormed.{All, Scalar, Encodes, Between, dropWhile, dropEnds, isOneOf, isWhiteSpace, Ascii, firstNotAscii, trimAscii}
 use Rattle.text.proofs.Computed.{and-left, and-right, allBelow, same, agree}
 use Rattle.text.proofs.Laws.{never, strip-none, strip-some}
 use Rattle.text.proofs.Utf8Laws.{broken-cons}
@@ -426,10 +426,10 @@ trim-narrow t h =
     ∙ narrow-encoded (dropEnds isWhiteSpace t) (all-ends Narrow isWhiteSpace t p)
     ∙ narrow-ends t p
 
-pub none-wide : (i : ℕ) (t : List ℕ) → Ascii t → firstWide i t ≡ none
-unfolding firstWide
+pub none-wide : (i : ℕ) (t : List ℕ) → Ascii t → firstNotAscii i t ≡ none
+unfolding firstNotAscii
 none-wide i [] h = refl
-none-wide i (b ∷ t) h = rw (firstWide, lt-leb 128 b (h 0 (omega arith))) (none-wide (suc i) t (λ k l. h (suc k) (omega (arith, l))))
+none-wide i (b ∷ t) h = rw (firstNotAscii, lt-leb 128 b (h 0 (omega arith))) (none-wide (suc i) t (λ k l. h (suc k) (omega (arith, l))))
 
 -- A part of an ASCII text is one.
 pub ascii-drop : (n : ℕ) (t : List ℕ) → Ascii t → Ascii (drop n t)

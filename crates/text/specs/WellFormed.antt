@@ -51,9 +51,9 @@ abbrev pub Ascii : List ℕ → Type 0
 Ascii text = (i : ℕ) → i < length text → getD text i 0 < 128
 
 -- Number 2 before Ticket 5: the offset of the first byte of 128 or more; i is the offset of the first byte of the list.
-unfoldable pub firstWide : ℕ → List ℕ → Option ℕ
-firstWide i [] = none
-firstWide i (b ∷ bs) = elim (leb 128 b) [ true ↦ some i | false ↦ firstWide (suc i) bs ]
+unfoldable pub firstNotAscii : ℕ → List ℕ → Option ℕ
+firstNotAscii i [] = none
+firstNotAscii i (b ∷ bs) = elim (leb 128 b) [ true ↦ some i | false ↦ firstNotAscii (suc i) bs ]
 
 -- Trim before Ticket 5, document 01's: "Trim strips 9 to 13 and 32 at both ends."
 unfoldable pub trimAscii : List ℕ → List ℕ

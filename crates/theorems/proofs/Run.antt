@@ -43,7 +43,7 @@ unfolding Output.fitted
 runOutput = tt
 
 unfoldable pub runWellFormed : Unit {0}
-unfolding WellFormed.All WellFormed.dropWhile WellFormed.dropEnds WellFormed.isOneOf WellFormed.isWhiteSpace WellFormed.firstWide WellFormed.trimAscii
+unfolding WellFormed.All WellFormed.dropWhile WellFormed.dropEnds WellFormed.isOneOf WellFormed.isWhiteSpace WellFormed.firstNotAscii WellFormed.trimAscii
 runWellFormed = tt
 
 unfoldable pub runAt : Unit {0}
