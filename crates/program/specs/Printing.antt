@@ -1,4 +1,4 @@
--- What the contracts of the program's functions cite.
+-- What the program does to its output.
 use Prim.Native.Nat.{ℕ, _≤_}
 use mathlib.Core.Path.{_≡_}
 use mathlib.Core.List.{List, _++_}
