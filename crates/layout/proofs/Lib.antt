@@ -1,4 +1,5 @@
 pub mod Placing
+pub mod CopyLaws
 pub mod Pieces
 pub mod Reading
 pub mod NameLaws

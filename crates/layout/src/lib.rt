@@ -5,6 +5,7 @@ pub mod fields; // fields.rt: the fields of a record, each read at the cursor
 pub mod names; // names.rt: the first name of a path
 pub mod looks; // looks.rt: questions about the form at the cursor and about a token's text
 pub mod helpers; // helpers.rt: helpers of 000 that serve more than one family
+mod copy; // copy.rt: a piece copied, eight bytes at a time
 
 use comments::cleared;
 use std::num::wrapping_add_u64;
@@ -99,13 +100,7 @@ fn copy_in(out: &mut [u8], at: u64, piece: &[u8])
     if n - at < m {
         return;
     }
-    let mut j = 0;
-    let mut o = at as usize;
-    while j < piece.len() {
-        out[o] = piece[j];
-        o += 1;
-        j += 1;
-    }
+    copy::whole(out, at as usize, piece);
 }
 
 // Spaces from an offset to another, where they fit.
