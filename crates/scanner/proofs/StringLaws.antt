@@ -16,21 +16,21 @@ use Rattle.scanner.specs.Parts.{every, isOneOf}
 use Rattle.scanner.specs.Constants.{isHexDigit}
 use Rattle.scanner.specs.Strings.{Place, between-characters, escape, control, number, gap, closed, Step, wrong, to, character, isDigitOf, digitValue, numberEnds, digit, escaped, next, isClosed, characters}
 use Rattle.scanner.specs.Contracts.Reach.{longer, reach, run, isPlain}
-use Rattle.scanner.specs.Contracts.Spans.{Span, ends, endless, further, span, onFrom, Inside, Goes}
+use Rattle.scanner.specs.Contracts.Extents.{Extent, ends, endless, further, extent, onFrom, Inside, Goes}
 use Rattle.scanner.specs.declared.strings.Quoted.{Quoted}
 use Rattle.scanner.specs.declared.strings.Quoted.the-variants.{Ends, Endless}
 use Rattle.text.proofs.Computed.{allBelow, same}
 use Rattle.scanner.proofs.Bytes.{not-so, decides, by-bytes, apart, apart-all, of-ten, of-other, digit-value, hex-small, hex-positive}
 use Rattle.scanner.proofs.ReachLaws.{empty, onward, reach-nil, reach-cons, reach-never, reach-none, reach-step, run-yes, run-no, run-more, first-inside, first-here}
 
--- ---- spans
+-- ---- extents
 
-pub further-further : (a b c d : ℕ) (x : Span) → further a b (further c d x) ≡ further (a + c) (b + d) x
+pub further-further : (a b c d : ℕ) (x : Extent) → further a b (further c d x) ≡ further (a + c) (b + d) x
 unfolding further
 further-further a b c d (ends m n) = ap₂ ends (omega arith) (omega arith)
 further-further a b c d endless = refl
 
-further-zero : (x : Span) → further 0 0 x ≡ x
+further-zero : (x : Extent) → further 0 0 x ≡ x
 unfolding further
 further-zero (ends m n) = ap₂ ends (omega arith) (omega arith)
 further-zero endless = refl
@@ -41,8 +41,8 @@ further-zero endless = refl
 unfoldable pub denotes : (ℕ → Bool) → Place → List ℕ → Bool
 denotes test place t = elim (characters place t) [ none ↦ false | some n ↦ test n ]
 
--- The bytes of a span whose characters pass.
-unfoldable pub bytesOf : (ℕ → Bool) → Span → Option ℕ
+-- The bytes of a extent whose characters pass.
+unfoldable pub bytesOf : (ℕ → Bool) → Extent → Option ℕ
 bytesOf test (ends m n) = elim (test n) [ true ↦ some m | false ↦ none ]
 bytesOf test endless = none
 
@@ -80,7 +80,7 @@ closed-next (number base left value) b e = absurd (false≢true e)
 closed-next gap b e = absurd (false≢true e)
 closed-next closed b e = refl
 
-bytes-to : (test : ℕ → Bool) (x : Span) → longer 1 (bytesOf test x) ≡ bytesOf test (further 1 0 x)
+bytes-to : (test : ℕ → Bool) (x : Extent) → longer 1 (bytesOf test x) ≡ bytesOf test (further 1 0 x)
 unfolding bytesOf further longer
 bytes-to test (ends m n) = rw (zero-add n) (go (test n))
   where
@@ -89,7 +89,7 @@ bytes-to test (ends m n) = rw (zero-add n) (go (test n))
     go false = refl
 bytes-to test endless = refl
 
-bytes-character : (test : ℕ → Bool) (x : Span) → longer 1 (bytesOf (λ n. test (suc n)) x) ≡ bytesOf test (further 1 1 x)
+bytes-character : (test : ℕ → Bool) (x : Extent) → longer 1 (bytesOf (λ n. test (suc n)) x) ≡ bytesOf test (further 1 1 x)
 unfolding bytesOf further longer
 bytes-character test (ends m n) = rw (one-add n) (go (test (suc n)))
   where
@@ -110,65 +110,65 @@ bytes-closed test = go (test 0)
     go false = refl
 
 module _ (place : Place) where
-  span-closed : (s : List ℕ) → isClosed place ≡ true → span place s ≡ ends 0 0
-  unfolding span
-  span-closed [] e = rw (span, e)
-  span-closed (b ∷ s) e = rw (span, e)
+  extent-closed : (s : List ℕ) → isClosed place ≡ true → extent place s ≡ ends 0 0
+  unfolding extent
+  extent-closed [] e = rw (extent, e)
+  extent-closed (b ∷ s) e = rw (extent, e)
 
   module _ (unclosed : isClosed place ≡ false) where
-    span-nil : span place [] ≡ endless
-    unfolding span
-    span-nil = rw (span, unclosed)
+    extent-nil : extent place [] ≡ endless
+    unfolding extent
+    extent-nil = rw (extent, unclosed)
 
     module _ (b : ℕ) (s : List ℕ) where
-      span-wrong : next place b ≡ wrong → span place (b ∷ s) ≡ endless
-      unfolding span
-      span-wrong e = rw (span, unclosed, e)
+      extent-wrong : next place b ≡ wrong → extent place (b ∷ s) ≡ endless
+      unfolding extent
+      extent-wrong e = rw (extent, unclosed, e)
 
-      span-to : (after : Place) → next place b ≡ to after → span place (b ∷ s) ≡ further 1 0 (span after s)
-      unfolding span
-      span-to after e = rw (span, unclosed, e)
+      extent-to : (after : Place) → next place b ≡ to after → extent place (b ∷ s) ≡ further 1 0 (extent after s)
+      unfolding extent
+      extent-to after e = rw (extent, unclosed, e)
 
-      span-character : next place b ≡ character → span place (b ∷ s) ≡ further 1 1 (span between-characters s)
-      unfolding span
-      span-character e = rw (span, unclosed, e)
+      extent-character : next place b ≡ character → extent place (b ∷ s) ≡ further 1 1 (extent between-characters s)
+      unfolding extent
+      extent-character e = rw (extent, unclosed, e)
 
 -- By what the first byte does.
-reach-next : (test : ℕ → Bool) (place : Place) (b : ℕ) (s : List ℕ) → isClosed place ≡ false → ((test : ℕ → Bool) (place : Place) → reach (denotes test place) s ≡ bytesOf test (span place s)) → (x : Step) → next place b ≡ x → reach (denotes test place) (b ∷ s) ≡ bytesOf test (span place (b ∷ s))
+reach-next : (test : ℕ → Bool) (place : Place) (b : ℕ) (s : List ℕ) → isClosed place ≡ false → ((test : ℕ → Bool) (place : Place) → reach (denotes test place) s ≡ bytesOf test (extent place s)) → (x : Step) → next place b ≡ x → reach (denotes test place) (b ∷ s) ≡ bytesOf test (extent place (b ∷ s))
 unfolding bytesOf
 reach-next test place b s unclosed ih wrong e =
-    reach-none (denotes test place) b s (denotes-open test place unclosed) (denotes-wrong test place b e) ∙ ap (bytesOf test) (sym (span-wrong place unclosed b s e))
+    reach-none (denotes test place) b s (denotes-open test place unclosed) (denotes-wrong test place b e) ∙ ap (bytesOf test) (sym (extent-wrong place unclosed b s e))
 reach-next test place b s unclosed ih (to after) e =
     reach-step (denotes test place) b s (denotes-open test place unclosed) (denotes-to test place b after e)
     ∙ ap (longer 1) (ih test after)
-    ∙ bytes-to test (span after s)
-    ∙ ap (bytesOf test) (sym (span-to place unclosed b s after e))
+    ∙ bytes-to test (extent after s)
+    ∙ ap (bytesOf test) (sym (extent-to place unclosed b s after e))
 reach-next test place b s unclosed ih character e =
     reach-step (denotes test place) b s (denotes-open test place unclosed) (denotes-character test place b e)
     ∙ ap (longer 1) (ih (λ n. test (suc n)) between-characters)
-    ∙ bytes-character test (span between-characters s)
-    ∙ ap (bytesOf test) (sym (span-character place unclosed b s e))
+    ∙ bytes-character test (extent between-characters s)
+    ∙ ap (bytesOf test) (sym (extent-character place unclosed b s e))
 
-reach-closed : (test : ℕ → Bool) (place : Place) (s : List ℕ) → isClosed place ≡ true → reach (denotes test place) s ≡ bytesOf test (span place s)
+reach-closed : (test : ℕ → Bool) (place : Place) (s : List ℕ) → isClosed place ≡ true → reach (denotes test place) s ≡ bytesOf test (extent place s)
 unfolding onward
 reach-closed test place [] e =
-    reach-nil (denotes test place) ∙ ap empty (denotes-closed test place e) ∙ bytes-closed test ∙ ap (bytesOf test) (sym (span-closed place [] e))
+    reach-nil (denotes test place) ∙ ap empty (denotes-closed test place e) ∙ bytes-closed test ∙ ap (bytesOf test) (sym (extent-closed place [] e))
 reach-closed test place (b ∷ s) e =
     reach-cons (denotes test place) b s
     ∙ ap₂ onward (reach-never s (denotes-wrong test place b (closed-next place b e))) (denotes-closed test place e)
     ∙ bytes-closed test
-    ∙ ap (bytesOf test) (sym (span-closed place (b ∷ s) e))
+    ∙ ap (bytesOf test) (sym (extent-closed place (b ∷ s) e))
 
-pub reach-denotes : (s : List ℕ) (test : ℕ → Bool) (place : Place) → reach (denotes test place) s ≡ bytesOf test (span place s)
+pub reach-denotes : (s : List ℕ) (test : ℕ → Bool) (place : Place) → reach (denotes test place) s ≡ bytesOf test (extent place s)
 unfolding empty bytesOf
 reach-denotes [] test place = go (isClosed place) refl
   where
-    go : (u : Bool) → isClosed place ≡ u → reach (denotes test place) [] ≡ bytesOf test (span place [])
+    go : (u : Bool) → isClosed place ≡ u → reach (denotes test place) [] ≡ bytesOf test (extent place [])
     go true e = reach-closed test place [] e
-    go false e = reach-nil (denotes test place) ∙ ap empty (denotes-open test place e) ∙ ap (bytesOf test) (sym (span-nil place e))
+    go false e = reach-nil (denotes test place) ∙ ap empty (denotes-open test place e) ∙ ap (bytesOf test) (sym (extent-nil place e))
 reach-denotes (b ∷ s) test place = go (isClosed place) refl (reach-denotes s)
   where
-    go : (u : Bool) → isClosed place ≡ u → ((test : ℕ → Bool) (place : Place) → reach (denotes test place) s ≡ bytesOf test (span place s)) → reach (denotes test place) (b ∷ s) ≡ bytesOf test (span place (b ∷ s))
+    go : (u : Bool) → isClosed place ≡ u → ((test : ℕ → Bool) (place : Place) → reach (denotes test place) s ≡ bytesOf test (extent place s)) → reach (denotes test place) (b ∷ s) ≡ bytesOf test (extent place (b ∷ s))
     go true e ih = reach-closed test place (b ∷ s) e
     go false e ih = reach-next test place b s e ih (next place b) refl
 
@@ -182,40 +182,40 @@ inside-before s at Endless i = tt
 module _ (s : List ℕ) (at : ℕ) (place : Place) (unclosed : isClosed place ≡ false) where
   pub goes-end : length s ≤ at → Goes s place at Endless
   unfolding onFrom Inside further
-  goes-end h = record { is = ap (further at 0) (ap (span place) (drop-of-length-le s h) ∙ span-nil place unclosed); inside = tt }
+  goes-end h = record { is = ap (further at 0) (ap (extent place) (drop-of-length-le s h) ∙ extent-nil place unclosed); inside = tt }
 
   module _ (h : at < length s) where
     pub goes-wrong : next place (getD s at 0) ≡ wrong → Goes s place at Endless
     unfolding onFrom Inside further
     goes-wrong e =
         record {
-          is = ap (further at 0) (ap (span place) (drop-cons s at 0 h) ∙ span-wrong place unclosed (getD s at 0) (drop (suc at) s) e);
+          is = ap (further at 0) (ap (extent place) (drop-cons s at 0 h) ∙ extent-wrong place unclosed (getD s at 0) (drop (suc at) s) e);
           inside = tt;
         }
 
     -- The byte ends what stands before the next character; it denotes one, or none.
-    lands : (count : ℕ) → count ≤ 1 → span place (drop at s) ≡ further 1 count (span between-characters (drop (suc at) s)) → Goes s place at (Ends (at + 1) count)
+    lands : (count : ℕ) → count ≤ 1 → extent place (drop at s) ≡ further 1 count (extent between-characters (drop (suc at) s)) → Goes s place at (Ends (at + 1) count)
     unfolding onFrom Inside
     lands count l e =
         record {
           is = ap (further at 0) e
-              ∙ further-further at 0 1 count (span between-characters (drop (suc at) s))
-              ∙ ap₂ (λ (n : ℕ) (u : List ℕ). further (at + 1) n (span between-characters u)) (zero-add count) (ap (λ (n : ℕ). drop n s) (sym (add-one at)));
+              ∙ further-further at 0 1 count (extent between-characters (drop (suc at) s))
+              ∙ ap₂ (λ (n : ℕ) (u : List ℕ). further (at + 1) n (extent between-characters u)) (zero-add count) (ap (λ (n : ℕ). drop n s) (sym (add-one at)));
           inside = (omega arith, omega arith, omega arith);
         }
 
     pub goes-character : next place (getD s at 0) ≡ character → Goes s place at (Ends (at + 1) 1)
-    goes-character e = lands 1 (omega arith) (ap (span place) (drop-cons s at 0 h) ∙ span-character place unclosed (getD s at 0) (drop (suc at) s) e)
+    goes-character e = lands 1 (omega arith) (ap (extent place) (drop-cons s at 0 h) ∙ extent-character place unclosed (getD s at 0) (drop (suc at) s) e)
 
     pub goes-between : next place (getD s at 0) ≡ to between-characters → Goes s place at (Ends (at + 1) 0)
-    goes-between e = lands 0 (omega arith) (ap (span place) (drop-cons s at 0 h) ∙ span-to place unclosed (getD s at 0) (drop (suc at) s) between-characters e)
+    goes-between e = lands 0 (omega arith) (ap (extent place) (drop-cons s at 0 h) ∙ extent-to place unclosed (getD s at 0) (drop (suc at) s) between-characters e)
 
     pub goes-to : (after : Place) {r : Quoted} → next place (getD s at 0) ≡ to after → Goes s after (at + 1) r → Goes s place at r
     goes-to after {r} e g =
         record {
-          is = ap (further at 0) (ap (span place) (drop-cons s at 0 h) ∙ span-to place unclosed (getD s at 0) (drop (suc at) s) after e)
-              ∙ further-further at 0 1 0 (span after (drop (suc at) s))
-              ∙ ap (λ (n : ℕ). further (at + 1) 0 (span after (drop n s))) (sym (add-one at))
+          is = ap (further at 0) (ap (extent place) (drop-cons s at 0 h) ∙ extent-to place unclosed (getD s at 0) (drop (suc at) s) after e)
+              ∙ further-further at 0 1 0 (extent after (drop (suc at) s))
+              ∙ ap (λ (n : ℕ). further (at + 1) 0 (extent after (drop n s))) (sym (add-one at))
               ∙ g .is;
           inside = inside-before s at r (g .inside);
         }
@@ -224,14 +224,14 @@ module _ (s : List ℕ) (at : ℕ) (place : Place) (unclosed : isClosed place �
     pub goes-as : (other : Place) {r : Quoted} → isClosed other ≡ false → next place (getD s at 0) ≡ next other (getD s at 0) → Goes s other at r → Goes s place at r
     goes-as other {r} o e g =
         record {
-          is = ap (further at 0) (ap (span place) (drop-cons s at 0 h) ∙ same-step (next other (getD s at 0)) e refl ∙ sym (ap (span other) (drop-cons s at 0 h))) ∙ g .is;
+          is = ap (further at 0) (ap (extent place) (drop-cons s at 0 h) ∙ same-step (next other (getD s at 0)) e refl ∙ sym (ap (extent other) (drop-cons s at 0 h))) ∙ g .is;
           inside = g .inside;
         }
       where
-        same-step : (x : Step) → next place (getD s at 0) ≡ x → next other (getD s at 0) ≡ x → span place (getD s at 0 ∷ drop (suc at) s) ≡ span other (getD s at 0 ∷ drop (suc at) s)
-        same-step wrong e f = span-wrong place unclosed (getD s at 0) (drop (suc at) s) e ∙ sym (span-wrong other o (getD s at 0) (drop (suc at) s) f)
-        same-step (to after) e f = span-to place unclosed (getD s at 0) (drop (suc at) s) after e ∙ sym (span-to other o (getD s at 0) (drop (suc at) s) after f)
-        same-step character e f = span-character place unclosed (getD s at 0) (drop (suc at) s) e ∙ sym (span-character other o (getD s at 0) (drop (suc at) s) f)
+        same-step : (x : Step) → next place (getD s at 0) ≡ x → next other (getD s at 0) ≡ x → extent place (getD s at 0 ∷ drop (suc at) s) ≡ extent other (getD s at 0 ∷ drop (suc at) s)
+        same-step wrong e f = extent-wrong place unclosed (getD s at 0) (drop (suc at) s) e ∙ sym (extent-wrong other o (getD s at 0) (drop (suc at) s) f)
+        same-step (to after) e f = extent-to place unclosed (getD s at 0) (drop (suc at) s) after e ∙ sym (extent-to other o (getD s at 0) (drop (suc at) s) after f)
+        same-step character e f = extent-character place unclosed (getD s at 0) (drop (suc at) s) e ∙ sym (extent-character other o (getD s at 0) (drop (suc at) s) f)
 
 -- ---- what a byte does at each place
 
@@ -348,37 +348,37 @@ plain-character b h = go (eqb b 34) refl (eqb b 92) refl h
     go false e true f g = absurd (false≢true g)
     go false e false f g = between-character b (eqb-false b 34 e) (eqb-false b 92 f) g
 
-plain-run : (u : List ℕ) → span between-characters u ≡ further (run isPlain u) (run isPlain u) (span between-characters (drop (run isPlain u) u))
+plain-run : (u : List ℕ) → extent between-characters u ≡ further (run isPlain u) (run isPlain u) (extent between-characters (drop (run isPlain u) u))
 unfolding run
-plain-run [] = sym (further-zero (span between-characters []))
+plain-run [] = sym (further-zero (extent between-characters []))
 plain-run (b ∷ u) = go (isPlain b) refl (plain-run u)
   where
-    go : (x : Bool) → isPlain b ≡ x → span between-characters u ≡ further (run isPlain u) (run isPlain u) (span between-characters (drop (run isPlain u) u)) → span between-characters (b ∷ u) ≡ further (run isPlain (b ∷ u)) (run isPlain (b ∷ u)) (span between-characters (drop (run isPlain (b ∷ u)) (b ∷ u)))
+    go : (x : Bool) → isPlain b ≡ x → extent between-characters u ≡ further (run isPlain u) (run isPlain u) (extent between-characters (drop (run isPlain u) u)) → extent between-characters (b ∷ u) ≡ further (run isPlain (b ∷ u)) (run isPlain (b ∷ u)) (extent between-characters (drop (run isPlain (b ∷ u)) (b ∷ u)))
     go true e ih =
-        span-character between-characters open-between b u (plain-character b e)
+        extent-character between-characters open-between b u (plain-character b e)
         ∙ ap (further 1 1) ih
-        ∙ further-further 1 1 (run isPlain u) (run isPlain u) (span between-characters (drop (run isPlain u) u))
-        ∙ ap (λ (n : ℕ). further n n (span between-characters (drop (run isPlain u) u))) (one-add (run isPlain u))
-        ∙ ap (λ (n : ℕ). further n n (span between-characters (drop n (b ∷ u)))) (sym (run-yes isPlain b u e))
+        ∙ further-further 1 1 (run isPlain u) (run isPlain u) (extent between-characters (drop (run isPlain u) u))
+        ∙ ap (λ (n : ℕ). further n n (extent between-characters (drop (run isPlain u) u))) (one-add (run isPlain u))
+        ∙ ap (λ (n : ℕ). further n n (extent between-characters (drop n (b ∷ u)))) (sym (run-yes isPlain b u e))
     go false e ih =
-        sym (further-zero (span between-characters (b ∷ u))) ∙ ap (λ (n : ℕ). further n n (span between-characters (drop n (b ∷ u)))) (sym (run-no isPlain b u e))
+        sym (further-zero (extent between-characters (b ∷ u))) ∙ ap (λ (n : ℕ). further n n (extent between-characters (drop n (b ∷ u)))) (sym (run-no isPlain b u e))
 
 -- ---- gaps
 
-gap-run : (u : List ℕ) → span gap u ≡ further (run isSpace u) 0 (span gap (drop (run isSpace u) u))
+gap-run : (u : List ℕ) → extent gap u ≡ further (run isSpace u) 0 (extent gap (drop (run isSpace u) u))
 unfolding run
-gap-run [] = sym (further-zero (span gap []))
+gap-run [] = sym (further-zero (extent gap []))
 gap-run (b ∷ u) = go (isSpace b) refl (gap-run u)
   where
-    go : (x : Bool) → isSpace b ≡ x → span gap u ≡ further (run isSpace u) 0 (span gap (drop (run isSpace u) u)) → span gap (b ∷ u) ≡ further (run isSpace (b ∷ u)) 0 (span gap (drop (run isSpace (b ∷ u)) (b ∷ u)))
+    go : (x : Bool) → isSpace b ≡ x → extent gap u ≡ further (run isSpace u) 0 (extent gap (drop (run isSpace u) u)) → extent gap (b ∷ u) ≡ further (run isSpace (b ∷ u)) 0 (extent gap (drop (run isSpace (b ∷ u)) (b ∷ u)))
     go true e ih =
-        span-to gap open-gap b u gap (gap-space b e)
+        extent-to gap open-gap b u gap (gap-space b e)
         ∙ ap (further 1 0) ih
-        ∙ further-further 1 0 (run isSpace u) 0 (span gap (drop (run isSpace u) u))
-        ∙ ap (λ (n : ℕ). further n 0 (span gap (drop (run isSpace u) u))) (one-add (run isSpace u))
-        ∙ ap (λ (n : ℕ). further n 0 (span gap (drop n (b ∷ u)))) (sym (run-yes isSpace b u e))
+        ∙ further-further 1 0 (run isSpace u) 0 (extent gap (drop (run isSpace u) u))
+        ∙ ap (λ (n : ℕ). further n 0 (extent gap (drop (run isSpace u) u))) (one-add (run isSpace u))
+        ∙ ap (λ (n : ℕ). further n 0 (extent gap (drop n (b ∷ u)))) (sym (run-yes isSpace b u e))
     go false e ih =
-        sym (further-zero (span gap (b ∷ u))) ∙ ap (λ (n : ℕ). further n 0 (span gap (drop n (b ∷ u)))) (sym (run-no isSpace b u e))
+        sym (further-zero (extent gap (b ∷ u))) ∙ ap (λ (n : ℕ). further n 0 (extent gap (drop n (b ∷ u)))) (sym (run-no isSpace b u e))
 
 run-past : (test : ℕ → Bool) (u : List ℕ) → run test (drop (run test u) u) ≡ 0
 unfolding run
@@ -389,23 +389,23 @@ run-past test (b ∷ u) = go (test b) refl (run-past test u)
     go true e ih = ap (λ (n : ℕ). run test (drop n (b ∷ u))) (run-yes test b u e) ∙ ih
     go false e ih = ap (λ (n : ℕ). run test (drop n (b ∷ u))) (run-no test b u e) ∙ run-no test b u e
 
-gap-stop : (u : List ℕ) → run isSpace u ≡ 0 → firstIs (λ b. eqb b 92) u ≡ false → span gap u ≡ endless
+gap-stop : (u : List ℕ) → run isSpace u ≡ 0 → firstIs (λ b. eqb b 92) u ≡ false → extent gap u ≡ endless
 unfolding firstIs
-gap-stop [] r e = span-nil gap open-gap
+gap-stop [] r e = extent-nil gap open-gap
 gap-stop (b ∷ u) r e = go (isSpace b) refl
   where
-    go : (x : Bool) → isSpace b ≡ x → span gap (b ∷ u) ≡ endless
+    go : (x : Bool) → isSpace b ≡ x → extent gap (b ∷ u) ≡ endless
     go true f = absurd (omega (arith, run-yes isSpace b u f))
-    go false f = span-wrong gap open-gap b u (gap-wrong b f e)
+    go false f = extent-wrong gap open-gap b u (gap-wrong b f e)
 
 module _ (s : List ℕ) (from at : ℕ) (is : at ≡ from + run isSpace (drop from s)) where
-  gap-span : further from 0 (span gap (drop from s)) ≡ further at 0 (span gap (drop at s))
-  gap-span =
+  gap-extent : further from 0 (extent gap (drop from s)) ≡ further at 0 (extent gap (drop at s))
+  gap-extent =
       let n = run isSpace (drop from s) in
       ap (further from 0) (gap-run (drop from s))
-      ∙ further-further from 0 n 0 (span gap (drop n (drop from s)))
-      ∙ ap (λ (u : List ℕ). further (from + n) 0 (span gap u)) (drop-drop n from s)
-      ∙ ap (λ (m : ℕ). further m 0 (span gap (drop m s))) (sym is)
+      ∙ further-further from 0 n 0 (extent gap (drop n (drop from s)))
+      ∙ ap (λ (u : List ℕ). further (from + n) 0 (extent gap u)) (drop-drop n from s)
+      ∙ ap (λ (m : ℕ). further m 0 (extent gap (drop m s))) (sym is)
 
   pub gap-shut : firstIs (λ b. eqb b 92) (drop at s) ≡ true → Goes s gap from (Ends (at + 1) 0)
   unfolding Inside
@@ -413,22 +413,22 @@ module _ (s : List ℕ) (from at : ℕ) (is : at ≡ from + run isSpace (drop fr
       let l = first-inside (λ b. eqb b 92) s at h in
       let e = eqb-true (getD s at 0) 92 (sym (first-here (λ b. eqb b 92) s at l) ∙ h) in
       let g = goes-between s at gap open-gap l (gap-back (getD s at 0) e) in
-      record { is = gap-span ∙ g .is; inside = (omega arith, omega arith, omega arith) }
+      record { is = gap-extent ∙ g .is; inside = (omega arith, omega arith, omega arith) }
 
   pub gap-open : firstIs (λ b. eqb b 92) (drop at s) ≡ false → Goes s gap from Endless
   unfolding onFrom Inside further
   gap-open h =
       let r : run isSpace (drop at s) ≡ 0 = ap (run isSpace) (ap (λ (m : ℕ). drop m s) is ∙ sym (drop-drop (run isSpace (drop from s)) from s)) ∙ run-past isSpace (drop from s) in
-      record { is = gap-span ∙ ap (further at 0) (gap-stop (drop at s) r h); inside = tt }
+      record { is = gap-extent ∙ ap (further at 0) (gap-stop (drop at s) r h); inside = tt }
 
 -- ---- the digits of `\ddd` and `\uxxxx`
 
 -- What stands behind this many digits less.
-unfoldable pub pending : ℕ → ℕ → ℕ → List ℕ → Span
-pending base zero value u = further 0 1 (span between-characters u)
-pending base (suc left) value u = span (number base (suc left) value) u
+unfoldable pub pending : ℕ → ℕ → ℕ → List ℕ → Extent
+pending base zero value u = further 0 1 (extent between-characters u)
+pending base (suc left) value u = extent (number base (suc left) value) u
 
-pub pending-first : (base count : ℕ) (u : List ℕ) → 1 ≤ count → span (number base count 0) u ≡ pending base count 0 u
+pub pending-first : (base count : ℕ) (u : List ℕ) → 1 ≤ count → extent (number base count 0) u ≡ pending base count 0 u
 unfolding pending
 pending-first base zero u h = absurd (omega arith)
 pending-first base (suc n) u h = refl
@@ -443,11 +443,11 @@ module _ (base left value b : ℕ) (u : List ℕ) where
 
   pending-other : isDigitOf base b ≡ false → pending base (suc left) value (b ∷ u) ≡ endless
   unfolding pending digit
-  pending-other e = span-wrong (number base (suc left) value) (open-number base (suc left) value) b u (number-step ∙ rw (digit, e))
+  pending-other e = extent-wrong (number base (suc left) value) (open-number base (suc left) value) b u (number-step ∙ rw (digit, e))
 
   pending-over : isDigitOf base b ≡ true → leb (value * base + digitValue b) 255 ≡ false → pending base (suc left) value (b ∷ u) ≡ endless
   unfolding pending digit
-  pending-over e f = span-wrong (number base (suc left) value) (open-number base (suc left) value) b u (number-step ∙ rw (digit, e, f))
+  pending-over e f = extent-wrong (number base (suc left) value) (open-number base (suc left) value) b u (number-step ∙ rw (digit, e, f))
 
   digit-ends : isDigitOf base b ≡ true → leb (value * base + digitValue b) 255 ≡ true → next (number base (suc left) value) b ≡ numberEnds base left (value * base + digitValue b)
   unfolding digit
@@ -456,10 +456,10 @@ module _ (base left value b : ℕ) (u : List ℕ) where
 pending-one : (base left value b : ℕ) (u : List ℕ) → isDigitOf base b ≡ true → leb (value * base + digitValue b) 255 ≡ true → pending base (suc left) value (b ∷ u) ≡ further 1 0 (pending base left (value * base + digitValue b) u)
 unfolding pending numberEnds
 pending-one base zero value b u e f =
-    span-character (number base 1 value) (open-number base 1 value) b u (digit-ends base 0 value b u e f)
-    ∙ sym (further-further 1 0 0 1 (span between-characters u))
+    extent-character (number base 1 value) (open-number base 1 value) b u (digit-ends base 0 value b u e f)
+    ∙ sym (further-further 1 0 0 1 (extent between-characters u))
 pending-one base (suc left) value b u e f =
-    span-to (number base (suc (suc left)) value) (open-number base (suc (suc left)) value) b u (number base (suc left) (value * base + digitValue b))
+    extent-to (number base (suc (suc left)) value) (open-number base (suc (suc left)) value) b u (number base (suc left) (value * base + digitValue b))
     (digit-ends base (suc left) value b u e f)
 
 further-endless : (m n : ℕ) → further m n endless ≡ endless
@@ -479,7 +479,7 @@ digit-endless base left value b u behind = go (isDigitOf base b) refl (leb (valu
 pending-short : (base left value : ℕ) (u : List ℕ) → length u < left → pending base left value u ≡ endless
 unfolding pending
 pending-short base zero value u h = absurd (omega arith)
-pending-short base (suc left) value [] h = span-nil (number base (suc left) value) (open-number base (suc left) value)
+pending-short base (suc left) value [] h = extent-nil (number base (suc left) value) (open-number base (suc left) value)
 pending-short base (suc left) value (b ∷ u) h = digit-endless base left value b u (λ e l. pending-short base left (value * base + digitValue b) u (omega arith))
 
 module _ (s : List ℕ) (at base left : ℕ) (h : 1 ≤ left) where
@@ -491,11 +491,11 @@ module _ (s : List ℕ) (at base left : ℕ) (h : 1 ≤ left) where
   digits-short w l = digits-endless (pending-short base left 0 (drop at s) (omega (arith, length-drop at s)))
 
   -- As many bytes as digits, which denote a character.
-  pub digits-read : at + left ≤ length s → pending base left 0 (drop at s) ≡ further left 1 (span between-characters (drop (at + left) s)) → Goes s (number base left 0) at (Ends (at + left) 1)
+  pub digits-read : at + left ≤ length s → pending base left 0 (drop at s) ≡ further left 1 (extent between-characters (drop (at + left) s)) → Goes s (number base left 0) at (Ends (at + left) 1)
   unfolding onFrom Inside
   digits-read w e =
       record {
-        is = ap (further at 0) (pending-first base left (drop at s) h ∙ e) ∙ further-further at 0 left 1 (span between-characters (drop (at + left) s));
+        is = ap (further at 0) (pending-first base left (drop at s) h ∙ e) ∙ further-further at 0 left 1 (extent between-characters (drop (at + left) s));
         inside = (omega arith, omega arith, omega arith);
       }
 
@@ -579,9 +579,9 @@ module _ (s : List ℕ) (at : ℕ) (h : at + 3 ≤ length s) where
         ∙ ap (further 1 0)
         (pending-one 10 1 v₁ second (third ∷ rest) (is-decimal second ∙ d₂) (le-leb v₂ 255 (omega (arith, w, e₁, e₂)))
         ∙ ap (further 1 0) (pending-one 10 0 v₂ third rest (is-decimal third ∙ d₃) (le-leb v₃ 255 (omega (arith, w, e₁, e₂, e₃)))))
-        ∙ ap (further 1 0) (further-further 1 0 1 0 (further 0 1 (span between-characters rest)))
-        ∙ further-further 1 0 2 0 (further 0 1 (span between-characters rest))
-        ∙ further-further 3 0 0 1 (span between-characters rest))
+        ∙ ap (further 1 0) (further-further 1 0 1 0 (further 0 1 (extent between-characters rest)))
+        ∙ further-further 1 0 2 0 (further 0 1 (extent between-characters rest))
+        ∙ further-further 3 0 0 1 (extent between-characters rest))
 
 -- ---- `\uxxxx`
 zero-digit : (left : ℕ) (u : List ℕ) → pending 16 (suc left) 0 (48 ∷ u) ≡ further 1 0 (pending 16 left 0 u)
@@ -668,61 +668,61 @@ module _ (s : List ℕ) (at : ℕ) (h : at + 4 ≤ length s) where
       ∙ ap (further 1 0)
       (pending-one 16 1 0 x₃ (x₄ ∷ behind-four) (is-hex x₃ ∙ d₃) (le-leb v₃ 255 (omega (arith, small₃)))
       ∙ ap (further 1 0) (pending-one 16 0 v₃ x₄ behind-four (is-hex x₄ ∙ d₄) (le-leb v₄ 255 (omega (arith, small₃, small₄))))
-      ∙ further-further 1 0 1 0 (further 0 1 (span between-characters behind-four)))
-      ∙ further-further 1 0 2 0 (further 0 1 (span between-characters behind-four)))
-      ∙ further-further 1 0 3 0 (further 0 1 (span between-characters behind-four))
-      ∙ further-further 4 0 0 1 (span between-characters behind-four))
+      ∙ further-further 1 0 1 0 (further 0 1 (extent between-characters behind-four)))
+      ∙ further-further 1 0 2 0 (further 0 1 (extent between-characters behind-four)))
+      ∙ further-further 1 0 3 0 (further 0 1 (extent between-characters behind-four))
+      ∙ further-further 4 0 0 1 (extent between-characters behind-four))
 
 -- ---- the whole string
 
 module _ (s : List ℕ) (at total : ℕ) where
-  from-total : (x : Span) → further at total x ≡ further 0 total (further at 0 x)
+  from-total : (x : Extent) → further at total x ≡ further 0 total (further at 0 x)
   from-total x = ap₂ (λ (m n : ℕ). further m n x) (omega arith) (omega arith) ∙ sym (further-further 0 total at 0 x)
 
-  pub string-quote : at < length s → getD s at 0 ≡ 34 → further at total (span between-characters (drop at s)) ≡ ends (at + 1) total
+  pub string-quote : at < length s → getD s at 0 ≡ 34 → further at total (extent between-characters (drop at s)) ≡ ends (at + 1) total
   unfolding further
   string-quote h e =
       ap (further at total)
-      (ap (span between-characters) (drop-cons s at 0 h)
-      ∙ span-to between-characters open-between (getD s at 0) (drop (suc at) s) closed (between-quote (getD s at 0) e)
-      ∙ ap (further 1 0) (span-closed closed (drop (suc at) s) closed-is))
+      (ap (extent between-characters) (drop-cons s at 0 h)
+      ∙ extent-to between-characters open-between (getD s at 0) (drop (suc at) s) closed (between-quote (getD s at 0) e)
+      ∙ ap (further 1 0) (extent-closed closed (drop (suc at) s) closed-is))
       ∙ ap₂ ends refl (omega arith)
 
-  pub string-end : length s ≤ at → further at total (span between-characters (drop at s)) ≡ endless
+  pub string-end : length s ≤ at → further at total (extent between-characters (drop at s)) ≡ endless
   unfolding further
-  string-end h = ap (further at total) (ap (span between-characters) (drop-of-length-le s h) ∙ span-nil between-characters open-between)
+  string-end h = ap (further at total) (ap (extent between-characters) (drop-of-length-le s h) ∙ extent-nil between-characters open-between)
 
   -- A run of plain bytes, each a character.
-  pub string-plain : (end : ℕ) → end ≡ at + run isPlain (drop at s) → further at total (span between-characters (drop at s)) ≡ further end (total + (end - at)) (span between-characters (drop end s))
+  pub string-plain : (end : ℕ) → end ≡ at + run isPlain (drop at s) → further at total (extent between-characters (drop at s)) ≡ further end (total + (end - at)) (extent between-characters (drop end s))
   string-plain end e =
       let n = run isPlain (drop at s) in
       ap (further at total) (plain-run (drop at s))
-      ∙ further-further at total n n (span between-characters (drop n (drop at s)))
-      ∙ ap (λ (u : List ℕ). further (at + n) (total + n) (span between-characters u)) (drop-drop n at s)
-      ∙ ap₂ (λ (m k : ℕ). further m k (span between-characters (drop m s))) (sym e) (omega (arith, e))
+      ∙ further-further at total n n (extent between-characters (drop n (drop at s)))
+      ∙ ap (λ (u : List ℕ). further (at + n) (total + n) (extent between-characters u)) (drop-drop n at s)
+      ∙ ap₂ (λ (m k : ℕ). further m k (extent between-characters (drop m s))) (sym e) (omega (arith, e))
 
   -- A byte that is no quote, no backslash and not plain.
-  pub string-other : at < length s → (getD s at 0 ≡ 34 → ⊥) → (getD s at 0 ≡ 92 → ⊥) → at ≡ at + run isPlain (drop at s) → further at total (span between-characters (drop at s)) ≡ endless
+  pub string-other : at < length s → (getD s at 0 ≡ 34 → ⊥) → (getD s at 0 ≡ 92 → ⊥) → at ≡ at + run isPlain (drop at s) → further at total (extent between-characters (drop at s)) ≡ endless
   unfolding further
   string-other h quote backslash e =
       let b = getD s at 0 in
       let other : isPlain b ≡ false = not-so (isPlain b) (λ f. absurd (omega (arith, e, run-more isPlain s at h f))) in
       ap (further at total)
-      (ap (span between-characters) (drop-cons s at 0 h)
-      ∙ span-wrong between-characters open-between b (drop (suc at) s) (between-wrong b quote backslash (sym (plain-is b quote backslash) ∙ other)))
+      (ap (extent between-characters) (drop-cons s at 0 h)
+      ∙ extent-wrong between-characters open-between b (drop (suc at) s) (between-wrong b quote backslash (sym (plain-is b quote backslash) ∙ other)))
 
   module _ (r : Quoted) (g : Goes s between-characters at r) where
-    pub string-endless : r ≡ Endless → further at total (span between-characters (drop at s)) ≡ endless
+    pub string-endless : r ≡ Endless → further at total (extent between-characters (drop at s)) ≡ endless
     unfolding onFrom further
-    string-endless e = from-total (span between-characters (drop at s)) ∙ ap (further 0 total) (g .is ∙ ap (onFrom s) e)
+    string-endless e = from-total (extent between-characters (drop at s)) ∙ ap (further 0 total) (g .is ∙ ap (onFrom s) e)
 
-    pub string-more : (end count : ℕ) → r ≡ Ends end count → further at total (span between-characters (drop at s)) ≡ further end (total + count) (span between-characters (drop end s))
+    pub string-more : (end count : ℕ) → r ≡ Ends end count → further at total (extent between-characters (drop at s)) ≡ further end (total + count) (extent between-characters (drop end s))
     unfolding onFrom
     string-more end count e =
-        from-total (span between-characters (drop at s))
+        from-total (extent between-characters (drop at s))
         ∙ ap (further 0 total) (g .is ∙ ap (onFrom s) e)
-        ∙ further-further 0 total end count (span between-characters (drop end s))
-        ∙ ap (λ (n : ℕ). further n (total + count) (span between-characters (drop end s))) (zero-add end)
+        ∙ further-further 0 total end count (extent between-characters (drop end s))
+        ∙ ap (λ (n : ℕ). further n (total + count) (extent between-characters (drop end s))) (zero-add end)
 
     pub string-inside : (end count : ℕ) → r ≡ Ends end count → Inside s at (Ends end count)
     string-inside end count e = rw e at (g .inside)

@@ -20,7 +20,7 @@ use Rattle.scanner.specs.Constants.{isHexDigit, unsigned, isDecimal, isI
 use Rattle.scanner.specs.Strings.{between-characters, isString, isCharacter}
 use Rattle.scanner.specs.Lexical.{reservedCore, reservedModules, isReserved, isAlphanumericByte, isAlphanumeric, isSymbol, isSymbolic, closes, isComment, isWhiteSpace, isDot, isToken, opensComment, tokenOf, longestUpTo, longest}
 use Rattle.scanner.specs.Contracts.Reach.{longer, reach, taken, run, isHexadecimal, isMagnitude}
-use Rattle.scanner.specs.Contracts.Spans.{Span, ends, endless, further, span, spanOf}
+use Rattle.scanner.specs.Contracts.Extents.{Extent, ends, endless, further, extent, extentOf}
 use Rattle.scanner.specs.declared.strings.Quoted.{Quoted}
 use Rattle.scanner.specs.declared.strings.Quoted.the-variants.{Ends, Endless}
 use Rattle.text.proofs.Computed.{and-left, and-right, allBelow, same}
@@ -477,18 +477,18 @@ module _ (rest : List ℕ) (s : rest ≡ 126 ∷ drop 1 rest) where
 
 -- ---- strings
 
--- What `string` read, against the span behind the quote.
-module _ (test : ℕ → Bool) (k : ℕ) (x : Span) (r : Quoted) (is : spanOf r ≡ further k 0 x) where
+-- What `string` read, against the extent behind the quote.
+module _ (test : ℕ → Bool) (k : ℕ) (x : Extent) (r : Quoted) (is : extentOf r ≡ further k 0 x) where
   pub read-endless : r ≡ Endless → bytesOf test x ≡ none
-  unfolding spanOf further bytesOf
-  read-endless e = go x (sym (ap spanOf e) ∙ is)
+  unfolding extentOf further bytesOf
+  read-endless e = go x (sym (ap extentOf e) ∙ is)
     where
-      go : (x : Span) → endless ≡ further k 0 x → bytesOf test x ≡ none
+      go : (x : Extent) → endless ≡ further k 0 x → bytesOf test x ≡ none
       go (ends m n) f = never (cc)
       go endless f = refl
 
   module _ (end count : ℕ) (e : r ≡ Ends end count) where
-    read-ends : (x : Span) → ends end count ≡ further k 0 x → (m : ℕ) × (x ≡ ends m count) × (end ≡ k + m)
+    read-ends : (x : Extent) → ends end count ≡ further k 0 x → (m : ℕ) × (x ≡ ends m count) × (end ≡ k + m)
     unfolding further
     read-ends (ends m n) f =
         let c : count ≡ 0 + n = cc in
@@ -497,32 +497,32 @@ module _ (test : ℕ → Bool) (k : ℕ) (x : Span) (r : Quoted) (is : spanOf r 
     read-ends endless f = never (cc)
 
     pub read-yes : test count ≡ true → (m : ℕ) × (bytesOf test x ≡ some m) × (end ≡ k + m)
-    unfolding spanOf bytesOf
+    unfolding extentOf bytesOf
     read-yes t =
-        let p = read-ends x (sym (ap spanOf e) ∙ is) in
+        let p = read-ends x (sym (ap extentOf e) ∙ is) in
         (p .0, ap (bytesOf test) (p .1) ∙ rw (bytesOf, t), p .2)
 
     pub read-no : test count ≡ false → bytesOf test x ≡ none
-    unfolding spanOf bytesOf
-    read-no t = let p = read-ends x (sym (ap spanOf e) ∙ is) in ap (bytesOf test) (p .1) ∙ rw (bytesOf, t)
+    unfolding extentOf bytesOf
+    read-no t = let p = read-ends x (sym (ap extentOf e) ∙ is) in ap (bytesOf test) (p .1) ∙ rw (bytesOf, t)
 
-pub longest-quote : (rest : List ℕ) → rest ≡ 34 ∷ drop 1 rest → longest rest ≡ taken (longer 1 (bytesOf (λ n. true) (span between-characters (drop 1 rest))))
+pub longest-quote : (rest : List ℕ) → rest ≡ 34 ∷ drop 1 rest → longest rest ≡ taken (longer 1 (bytesOf (λ n. true) (extent between-characters (drop 1 rest))))
 longest-quote rest s =
     first-byte rest 34 (denotes (λ n. true) between-characters) s (opens-not rest 34 s refl) token-quote
     ∙ ap (λ (x : Option ℕ). taken (longer 1 x)) (reach-denotes (drop 1 rest) (λ n. true) between-characters)
 
-module _ (rest : List ℕ) (s : rest ≡ 34 ∷ drop 1 rest) (r : Quoted) (is : spanOf r ≡ further 1 0 (span between-characters (drop 1 rest))) where
+module _ (rest : List ℕ) (s : rest ≡ 34 ∷ drop 1 rest) (r : Quoted) (is : extentOf r ≡ further 1 0 (extent between-characters (drop 1 rest))) where
   pub quote-endless : r ≡ Endless → 0 ≡ longest rest
   unfolding longer taken
   quote-endless e =
       sym
       (longest-quote rest s
-      ∙ ap (λ (x : Option ℕ). taken (longer 1 x)) (read-endless (λ n. true) 1 (span between-characters (drop 1 rest)) r is e))
+      ∙ ap (λ (x : Option ℕ). taken (longer 1 x)) (read-endless (λ n. true) 1 (extent between-characters (drop 1 rest)) r is e))
 
   pub quote-ends : (end count : ℕ) → r ≡ Ends end count → end ≡ longest rest
   unfolding longer taken
   quote-ends end count e =
-      let p = read-yes (λ n. true) 1 (span between-characters (drop 1 rest)) r is end count e refl in
+      let p = read-yes (λ n. true) 1 (extent between-characters (drop 1 rest)) r is end count e refl in
       p .2 ∙ sym (longest-quote rest s ∙ ap (λ (x : Option ℕ). taken (longer 1 x)) (p .1))
 
 module _ (rest : List ℕ) (s : rest ≡ 35 ∷ drop 1 rest) where
@@ -540,7 +540,7 @@ module _ (rest : List ℕ) (s : rest ≡ 35 ∷ drop 1 rest) where
       ∙ ap (λ (x : Option ℕ). taken (longer 1 (best (some (run isSymbol (drop 1 rest))) x))) (reach-behind-no [] oneCharacter 34 (drop 1 rest) h)
 
   module _ (h : firstIs (λ c. eqb c 34) (drop 1 rest) ≡ true) where
-    pub hash-string : longest rest ≡ 1 + taken (longer 1 (bytesOf (λ n. eqb n 1) (span between-characters (drop 2 rest))))
+    pub hash-string : longest rest ≡ 1 + taken (longer 1 (bytesOf (λ n. eqb n 1) (extent between-characters (drop 2 rest))))
     unfolding longer taken isSymbol isOneOf bytes
     hash-string =
         longest-hash
@@ -551,26 +551,26 @@ module _ (rest : List ℕ) (s : rest ≡ 35 ∷ drop 1 rest) where
         (reach-behind-all oneCharacter (drop 1 (drop 1 rest))
         ∙ ap (reach oneCharacter) (drop-drop 1 1 rest)
         ∙ reach-denotes (drop 2 rest) (λ n. eqb n 1) between-characters))
-        ∙ ap (λ (x : Option ℕ). taken (longer 1 x)) (best-zero (longer 1 (bytesOf (λ n. eqb n 1) (span between-characters (drop 2 rest)))))
+        ∙ ap (λ (x : Option ℕ). taken (longer 1 x)) (best-zero (longer 1 (bytesOf (λ n. eqb n 1) (extent between-characters (drop 2 rest)))))
 
-    module _ (r : Quoted) (is : spanOf r ≡ further 2 0 (span between-characters (drop 2 rest))) where
-      nothing : bytesOf (λ n. eqb n 1) (span between-characters (drop 2 rest)) ≡ none → 1 ≡ longest rest
+    module _ (r : Quoted) (is : extentOf r ≡ further 2 0 (extent between-characters (drop 2 rest))) where
+      nothing : bytesOf (λ n. eqb n 1) (extent between-characters (drop 2 rest)) ≡ none → 1 ≡ longest rest
       unfolding longer taken
       nothing e = sym (hash-string ∙ ap (λ (x : Option ℕ). 1 + taken (longer 1 x)) e)
 
       pub hash-endless : r ≡ Endless → 1 ≡ longest rest
-      hash-endless e = nothing (read-endless (λ n. eqb n 1) 2 (span between-characters (drop 2 rest)) r is e)
+      hash-endless e = nothing (read-endless (λ n. eqb n 1) 2 (extent between-characters (drop 2 rest)) r is e)
 
       module _ (end count : ℕ) (e : r ≡ Ends end count) where
         pub hash-one : eqb count 1 ≡ true → end ≡ longest rest
         unfolding longer taken
         hash-one o =
-            let p = read-yes (λ n. eqb n 1) 2 (span between-characters (drop 2 rest)) r is end count e o in
+            let p = read-yes (λ n. eqb n 1) 2 (extent between-characters (drop 2 rest)) r is end count e o in
             let f : 2 + p .0 ≡ 1 + (1 + p .0) = omega arith in
             p .2 ∙ f ∙ sym (hash-string ∙ ap (λ (x : Option ℕ). 1 + taken (longer 1 x)) (p .1))
 
         pub hash-other : eqb count 1 ≡ false → 1 ≡ longest rest
-        hash-other o = nothing (read-no (λ n. eqb n 1) 2 (span between-characters (drop 2 rest)) r is end count e o)
+        hash-other o = nothing (read-no (λ n. eqb n 1) 2 (extent between-characters (drop 2 rest)) r is end count e o)
 
 -- ---- brackets and dots
 

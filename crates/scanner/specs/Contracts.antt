@@ -1,4 +1,4 @@
 -- What only contracts use: no definition of 01 or 02 is here.
 pub mod Reach
-pub mod Spans
+pub mod Extents
 pub mod Answers

@@ -7,7 +7,7 @@ ghost use lib.ListN.{length, drop};
 ghost use Rattle.text.specs.Bytes.{bytes, classTable};
 ghost use Rattle.scanner.specs.Parts.{isOneOf};
 ghost use Rattle.scanner.specs.Strings.{between-characters, escape, control, number, gap};
-ghost use Rattle.scanner.specs.Contracts.Spans.{further, span, spanOf, Goes};
+ghost use Rattle.scanner.specs.Contracts.Extents.{further, extent, extentOf, Goes};
 
 // What is read of a string constant: its end, and the characters that are denoted.
 pub enum Quoted {
@@ -150,7 +150,7 @@ fn escape(table: &[u8; 256], s: &[u8], at: usize) -> Quoted
 // The string constant whose opening quote stands before an offset.
 pub fn string(table: &[u8; 256], s: &[u8], from: usize) -> Quoted
     requires { ⌜ now table ≡ classTable ⌝ }
-    ensures { λ r. ⌜ spanOf r ≡ further from 0 (span between-characters (drop from (now (s .entry)))) ⌝ }
+    ensures { λ r. ⌜ extentOf r ≡ further from 0 (extent between-characters (drop from (now (s .entry)))) ⌝ }
 {
     let mut at = from;
     let mut total = 0;

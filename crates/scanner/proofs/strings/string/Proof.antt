@@ -6,7 +6,7 @@ use mathlib.Core.Path.{_≡_, refl, sym, _∙_}
 use lib.ListN.{length, getD, drop}
 use Rattle.scanner.specs.Strings.{between-characters, escape}
 use Rattle.scanner.specs.Contracts.Reach.{inClass, isPlain}
-use Rattle.scanner.specs.Contracts.Spans.{further, span, spanOf, Inside}
+use Rattle.scanner.specs.Contracts.Extents.{further, extent, extentOf, Inside}
 use Rattle.scanner.proofs.ReachLaws.{run-inside}
 use Rattle.scanner.proofs.StringLaws.{goes-to, between-escape, open-between, string-quote, string-end, string-plain, string-other, string-endless, string-more, string-inside}
 use borrow.Author.Needs.{needs}
@@ -14,7 +14,7 @@ use Rattle.scanner.proofs.strings.string.Statement.{statement}
 use Rattle.scanner.proofs.strings.string.Tie as tie
 
 abbrev Inv-loop : tie.InvT-loop
-Inv-loop table s from at₀ total₀ at total = (further from 0 (span between-characters (drop from s)) ≡ further at total (span between-characters (drop at s))) × (total ≤ at)
+Inv-loop table s from at₀ total₀ at total = (further from 0 (extent between-characters (drop from s)) ≡ further at total (extent between-characters (drop at s))) × (total ≤ at)
 
 abbrev μ-loop : tie.MeasureT-loop
 μ-loop table s from at₀ total₀ at total = length s - at
@@ -29,7 +29,7 @@ add-t14 : tie.Need-add-t14 Inv-loop μ-loop
 add-t14 c = search needs
 
 returns : tie.Need-returns Inv-loop μ-loop
-unfolding spanOf
+unfolding extentOf
 returns c = let l = c .before .before .before .loop in sym (l .inv .0 ∙ string-quote (now (c .before .before .before .before .before .args .s)) (l .at) (l .total) (c .before .before .loop-test .taken) (c .if1 .taken))
 
 add-escape : tie.Need-add-escape Inv-loop μ-loop
@@ -45,7 +45,7 @@ enum-told : tie.Need-enum-told Inv-loop μ-loop
 enum-told c = search needs
 
 returns-2 : tie.Need-returns-2 Inv-loop μ-loop
-unfolding spanOf
+unfolding extentOf
 returns-2 c = let a = c .before .before .before .before .before .before .before .before .before .args in let l = c .before .before .before .before .before .before .before .loop in sym (l .inv .0 ∙ string-endless (now (a .s)) (l .at) (l .total) _ (goes-to (now (a .s)) (l .at) between-characters open-between (c .before .before .before .before .before .before .loop-test .taken) escape (between-escape (getD (now (a .s)) (l .at) 0) (c .before .before .before .if2 .taken)) (c .before .before .escape .ensures)) (c .enum-told .given .1))
 
 add-total : tie.Need-add-total Inv-loop μ-loop
@@ -64,7 +64,7 @@ run-requires : tie.Need-run-requires Inv-loop μ-loop
 run-requires c κs = search needs
 
 returns-3 : tie.Need-returns-3 Inv-loop μ-loop
-unfolding spanOf inClass
+unfolding extentOf inClass
 returns-3 c = let l = c .before .before .before .before .before .before .loop in sym (l .inv .0 ∙ string-other (now (c .before .before .before .before .before .before .before .before .args .s)) (l .at) (l .total) (c .before .before .before .before .before .loop-test .taken) (c .before .before .before .if1 .left) (c .before .before .if2 .left) (sym (c .if3 .taken) ∙ c .before .run .ensures))
 
 sub-total : tie.Need-sub-total Inv-loop μ-loop
@@ -82,7 +82,7 @@ unfolding inClass
 loop-again-2 c = let l = c .before .before .before .before .before .before .loop in (l .inv .0 ∙ string-plain (now (c .before .before .before .before .before .before .before .before .args .s)) (l .at) (l .total) (c .before .run .result) (c .before .run .ensures), omega (arith, l .inv .1, c .before .run .ensures))
 
 returns-4 : tie.Need-returns-4 Inv-loop μ-loop
-unfolding spanOf
+unfolding extentOf
 returns-4 c = let l = c .before .loop in sym (l .inv .0 ∙ string-end (now (c .before .before .before .args .s)) (l .at) (l .total) (c .loop-test .left))
 
 pub string-spec : {M : Type 1} → statement M

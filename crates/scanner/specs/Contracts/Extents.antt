@@ -9,34 +9,34 @@ use Rattle.scanner.specs.declared.strings.Quoted.{Quoted}
 use Rattle.scanner.specs.declared.strings.Quoted.the-variants.{Ends, Endless}
 
 -- A string constant from a place on: the bytes to its end and the characters that they denote.
-pub data Span : Type 0 where
-  ends : ℕ → ℕ → Span
-  endless : Span
+pub data Extent : Type 0 where
+  ends : ℕ → ℕ → Extent
+  endless : Extent
 
-unfoldable pub further : ℕ → ℕ → Span → Span
+unfoldable pub further : ℕ → ℕ → Extent → Extent
 further bytes count (ends b c) = ends (bytes + b) (count + c)
 further bytes count endless = endless
 
-unfoldable pub span : Place → List ℕ → Span
-span place [] = elim (isClosed place) [ true ↦ ends 0 0 | false ↦ endless ]
-span place (b ∷ s) =
+unfoldable pub extent : Place → List ℕ → Extent
+extent place [] = elim (isClosed place) [ true ↦ ends 0 0 | false ↦ endless ]
+extent place (b ∷ s) =
     elim (isClosed place) [
       | true ↦ ends 0 0
       | false ↦ elim (next place b) [
         | wrong ↦ endless
-        | to after ↦ further 1 0 (span after s)
-        | character ↦ further 1 1 (span between-characters s)
+        | to after ↦ further 1 0 (extent after s)
+        | character ↦ further 1 1 (extent between-characters s)
       ]
     ]
 
 -- The end and the characters that an answer gives.
-unfoldable pub spanOf : Quoted → Span
-spanOf (Ends end count) = ends end count
-spanOf Endless = endless
+unfoldable pub extentOf : Quoted → Extent
+extentOf (Ends end count) = ends end count
+extentOf Endless = endless
 
 -- An answer that ends between two characters, and what stands from there on.
-unfoldable pub onFrom : List ℕ → Quoted → Span
-onFrom s (Ends end count) = further end count (span between-characters (drop end s))
+unfoldable pub onFrom : List ℕ → Quoted → Extent
+onFrom s (Ends end count) = further end count (extent between-characters (drop end s))
 onFrom s Endless = endless
 
 -- A character takes a byte or more.
@@ -46,5 +46,5 @@ Inside s at Endless = Unit {0}
 
 -- From a place at an offset the answer leads to the next place between two characters.
 pub record Goes (s : List ℕ) (place : Place) (at : ℕ) (r : Quoted) : Type 0 where
-  pub is : further at 0 (span place (drop at s)) ≡ onFrom s r
+  pub is : further at 0 (extent place (drop at s)) ≡ onFrom s r
   pub inside : Inside s at r
