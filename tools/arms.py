@@ -368,9 +368,9 @@ class Function:
         return " ∙ ".join(kept[::-1]) or "search needs"
 
     def answers_lent(self, thing):
-        lent = {"indent": ".0", "indent-in": ".0", "indent-deeper": ".0", "token": ".1 .1 .1 .1 .0"}
+        lent = {"indent": ".0", "indent-in": ".0", "indent-deeper": ".0", "token": ".1 .1 .1 .0"}
         lent.update((name, ".1 .1 .0") for name in ("word", "between", "line", "line-in", "new-line", "new-line-in", "word-when", "app-end", "app-space"))
-        member = ".1 .1 .1 .1 .1 .1 .0" if self.members.get(base(thing)) in ("walked", "does") else ".1 .1 .1 .1 .1 .0"
+        member = ".1 .1 .1 .1 .1 .0" if self.members.get(base(thing)) in ("walked", "does") else ".1 .1 .1 .1 .0"
         return lent.get(base(thing)) or lent.get(thing) or member
 
     def invariant(self):
@@ -381,8 +381,8 @@ class Function:
         else:
             left = "λ i k. times k (%s)" % self.answers["loop"][1]
         if self.answers["as"] == "plain":
-            return "PlainTurn run text rec starts lens (%s) n s₀ mem₀ out₀ i s mem out" % left
-        return "Turn run (page text rec kinds starts lens) (%s) n s₀ mem₀ out₀ i s mem out" % left
+            return "PlainTurn run text rec spans (%s) n s₀ mem₀ out₀ i s mem out" % left
+        return "Turn run (pageAt text rec kinds spans) (%s) n s₀ mem₀ out₀ i s mem out" % left
 
 
 def filled(function, text):

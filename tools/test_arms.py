@@ -104,7 +104,7 @@ class Arms(unittest.TestCase):
     def test_an_invariant_offered_on_a_line_of_its_own(self):
         f = self.function({"loop-again": TURN}, {"as": "walked", "loop": ["times", "w"]}, {"item": "walked"})
         text = arms.filled(f, "Inv-loop run s i =\n    ?\n\nμ-loop run s i =\n    ?\n")
-        self.assertIn("Inv-loop run s i =\n    Turn run (page text rec kinds starts lens) (λ i k. times k (w)) n s₀ mem₀ out₀ i s mem out\n", text)
+        self.assertIn("Inv-loop run s i =\n    Turn run (pageAt text rec kinds spans) (λ i k. times k (w)) n s₀ mem₀ out₀ i s mem out\n", text)
         self.assertIn("μ-loop run s i = n - i\n", text)
 
     def test_a_call_named_as_an_argument(self):

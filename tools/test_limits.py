@@ -81,7 +81,7 @@ class Limits(unittest.TestCase):
 
     def test_tables_of_tokens(self):
         for path in ("reader/src/lib", "reader/src/tokens", "scanner/src/lib", "formatter/src/lib", "doc_comment/src/lib", "testing/src/lib"):
-            sizes = re.findall(r"\b(?:kinds|starts|lens)(?:: &mut \[u\d+; (\d+)\]| = \[0u\d+; (\d+)\])", read("crates/%s.rt" % path))
+            sizes = re.findall(r"\b(?:kinds|spans|starts|lens)(?:: &mut \[u\d+; (\d+)\]| = \[0u\d+; (\d+)\])", read("crates/%s.rt" % path))
             self.assertTrue(sizes, path)
             self.assertEqual({number(one or other) for one, other in sizes}, {TOKENS}, path)
 

@@ -1,12 +1,14 @@
 -- Laws of `doc_comment_above`: the doc text of the comment found, as the lookup's answer. Assumes nothing.
 use Prim.Native.Nat.{ℕ, _<_}
-use mathlib.Core.Path.{_≡_, sym, _∙_, ap}
+use mathlib.Core.Path.{_≡_, refl, sym, _∙_, ap}
 use mathlib.Core.List.{List}
 use mathlib.Core.Option.{some}
 use native.Mathlib.Omega.{arith}
 use lib.ListN.{take, drop, getD}
 use lib.Seq.{getD-take}
 use Rattle.reader.specs.Tokens.{textOf}
+use Rattle.reader.specs.Contracts.Tokens.{startOf, lengthOf, startsOf, lengthsOf}
+use Rattle.layout.proofs.Pieces.{span-text}
 use Rattle.comments.specs.declared.Above.{Above}
 use Rattle.comments.specs.declared.Above.the-variants.{Comment, Nothing}
 use Rattle.comments.specs.declared.Passed.{Passed}
@@ -51,6 +53,12 @@ module _ {text rec kinds starts lens : List ℕ} {token : ℕ} {r : Code.Asked} 
       pub found-below : k < 4096
       found-below = omega (arith, below, asked-counts s e .1)
 
-      pub doc-found : (out : List ℕ) → docOf (take (getD lens k 0) (drop (getD starts k 0) text)) out ≡ docLookup text rec token out
+      doc-found : (out : List ℕ) → docOf (take (getD lens k 0) (drop (getD starts k 0) text)) out ≡ docLookup text rec token out
       unfolding docLookup textOf
       doc-found out = rw (asked-says s e, docLookup, found, getD-take count lens k 0 below, getD-take count starts k 0 below)
+
+-- The same by the comment's span.
+pub doc-spanned : {text rec kinds : List ℕ} (spans : List ℕ) {token : ℕ} {r : Code.Asked} (s : Asks text rec token kinds (startsOf spans) (lengthsOf spans) r)
+    {count : ℕ} (e : r ≡ Tokens count) (a : Above) (f : foundOf a ≡ foundAbove (take count kinds) token) {k : ℕ} {saw : Passed} (g : a ≡ Comment k saw)
+    (out : List ℕ) → docOf (take (lengthOf (getD spans k 0)) (drop (startOf (getD spans k 0)) text)) out ≡ docLookup text rec token out
+doc-spanned {text} spans s e a f {k} g out = ap (λ (t : List ℕ). docOf t out) (span-text text spans k refl refl refl) ∙ doc-found s e a f g out

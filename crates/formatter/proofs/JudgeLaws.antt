@@ -6,7 +6,7 @@ use mathlib.Core.Path.{_≡_, refl, sym, ap, ap₂, _∙_, subst}
 use mathlib.Core.Bool.{Bool, true, false, cond}
 use mathlib.Core.List.{List, _∷_, _++_}
 use mathlib.Core.Option.{none}
-use lib.ListN.{length, getD, take, drop, length-take}
+use lib.ListN.{length, getD, take, drop, length-take, length-map}
 use lib.Seq.{paste, take-append-seam, take-length}
 use lib.Dec.{eqb, ltb}
 use borrow.Author.Tests.{eq-eqb, ne-eqb, eqb-true, le-leb, lt-leb, lt-ltb, le-ltb, ltb-true, ltb-false}
@@ -17,7 +17,7 @@ use Rattle.text.specs.declared.Broken.{Broken}
 use Rattle.text.specs.Utf8.{firstBroken, boundary}
 use Rattle.text.specs.Contracts.Utf8.{brokenAt}
 use Rattle.reader.specs.Tokens.{countOf, maxTokens, tokens}
-use Rattle.reader.specs.Contracts.Tokens.{tokensIn, tilingIn, Tiles}
+use Rattle.reader.specs.Contracts.Tokens.{startOf, lengthOf, startsOf, lengthsOf, tokensIn, tilingIn, Tiles}
 use Rattle.reader.specs.Reading.{maxText, maxRecord}
 use Rattle.reader.specs.Contracts.Tree.{checkedIn, TreeEnd}
 use Rattle.reader.specs.declared.tree.Checked as Tree
@@ -45,11 +45,12 @@ use Rattle.formatter.specs.declared.Judged as Code
 use Rattle.formatter.specs.declared.Judged.the-variants as Says
 use Rattle.formatter.specs.Verdict.{Verdict, Result, Judged, judge, check, get, declined, stopVerdict, comments, measuresOf, emptySet, verdictOf, numberOf, placeOf, givenMeasures, format, maxWidth}
 use Rattle.formatter.specs.Contracts.WalkFirst.{byCheck, byWalk, recordFirst, textFirst, judgeWalkFirst}
-use Rattle.formatter.specs.Contracts.Judging.{otherwise, BehindCommand, BehindWhere, Limits, Weight, Drafts, Accepts, Weighs, Within, Judges, Puts}
+use Rattle.formatter.specs.Contracts.Judging.{otherwise, BehindCommand, BehindWhere, Limits, Weight, Drafts, Accepts, Weighs, Within, pageIn, Judges, Puts}
 use Rattle.formatter.proofs.EventLaws.{length-formatted}
 use Rattle.formatter.proofs.RunLaws.{out-is, left-comments, empty-left, first-left, comments-some, comments-none}
 use Rattle.formatter.proofs.VerdictLaws.{format-wide, format-short, format-fits, check-declined, get-declined, check-accepted, get-accepted}
 use Rattle.formatter.proofs.WalkFirstLaws.{walk-first}
+use Rattle.reader.proofs.SpanLaws.{map-take, counted}
 use Rattle.reader.proofs.EvenLaws.{tiled-even}
 use Rattle.reader.proofs.TreePlace.{tree-near}
 
@@ -219,6 +220,15 @@ module _ {run· : List ℕ} {p : Page} {tree tab : ℕ} {words m o : List ℕ} {
 
   pub behind : BehindWhere (treeCheck (p .rec) (countOf (p .tokens)) tree) r
   behind = record { is = λ end e. importing (walk p tree) (passes-walks p tree end e) whole }
+
+-- With the count of a table of spans.
+module _ (rec spans : List ℕ) (tree : ℕ) where
+  pub behind-by : {r : ℕ} → BehindWhere (treeCheck rec (length (startsOf spans)) tree) r → BehindWhere (treeCheck rec (length spans) tree) r
+  behind-by {r} h = subst (λ n. BehindWhere (treeCheck rec n tree) r) (length-map spans startOf) h
+
+  pub checked-by : (r : ℕ) {j : Judged} → j ≡ byCheck (otherwise r) (treeCheck rec (length spans) tree)
+      → j ≡ byCheck (otherwise r) (treeCheck rec (length (startsOf spans)) tree)
+  checked-by r {j} h = counted (λ n. j ≡ byCheck (otherwise r) (treeCheck rec n tree)) spans h
 
 -- The verdict of the walk's number.
 module _ {n : ℕ} where
@@ -414,7 +424,7 @@ taken n l h = omega (arith, length-take n l)
 pub taken-fits : {n k : ℕ} (l : List ℕ) → n ≤ length l → n ≤ k → 0 + length (take n l) ≤ k
 taken-fits {n} l h k = omega (arith, length-take n l)
 
-pub kinds-few : {text rec kinds starts lens : List ℕ} {count tree : ℕ} → Limits text rec kinds starts lens count tree → length (take count kinds) ≤ room
+pub kinds-few : {text rec kinds spans : List ℕ} {count tree : ℕ} → Limits text rec kinds spans count tree → length (take count kinds) ≤ room
 kinds-few {kinds = kinds} {count = count} f = omega (arith, length-take count kinds, f .few)
 
 -- 1 to 3, with the walk before the record check.
@@ -450,35 +460,41 @@ module _ (text rec : List ℕ) where
           unfolding recordFirst verdictOf numberOf placeOf givenMeasures
           not-tiled f = record-first ∙ rw (tiling-is f, recordFirst) refl
 
-          module _ {count tree : ℕ} (f : t ≡ Tiled.Tiled count tree) where
-            abbrev sheetPage : Page
-            sheetPage = page text rec (take count kinds) (take count starts) (take count lens)
+        -- With the tokens in the tables.
+        module _ (e : w ≡ Broken.Nowhere) {kinds : List ℕ} (spans : List ℕ) {t : Tokens.Tiled}
+            (u : Tiles (boundary text) (length text) rec kinds (startsOf spans) (lengthsOf spans) t) {count tree : ℕ} (f : t ≡ Tiled.Tiled count tree) where
+          abbrev sheetPage : Page
+          sheetPage = pageIn text rec count kinds spans
 
-            pub sheet-limits : Limits text rec kinds starts lens count tree
-            sheet-limits =
-                let c : (length (take count kinds) ≡ count) × (count ≤ maxTokens) = rw f at (u .counts) in
-                let even = tiled-even (boundary text) (length text) rec (tokensIn count kinds starts lens) tree (tiling-is f) in
-                let long : Within count kinds starts lens = (
-                  omega (arith, c .0, length-take count kinds),
-                  omega (arith, c .0, even .0, length-take count starts),
-                  omega (arith, c .0, even .1, length-take count lens),
-                ) in
-                let near = tree-near (boundary text) (length text) rec (tokensIn count kinds starts lens) tree (tiling-is f) in
-                record { text-fits = a; rec-fits = b; few = c .1; near = omega (arith, near); within = long }
+          -- The first of the starts are the starts of the first spans; and so the lengths.
+          page-is : page text rec (take count kinds) (take count (startsOf spans)) (take count (lengthsOf spans)) ≡ sheetPage
+          page-is = ap₂ (λ s l. page text rec (take count kinds) s l) (sym (map-take startOf count spans)) (sym (map-take lengthOf count spans))
 
-            judge-is : judge text rec ≡ byWalk sheetPage tree
-            unfolding recordFirst
-            judge-is = record-first ∙ rw (tiling-is f, recordFirst) refl
+          pub sheet-limits : Limits text rec kinds spans count tree
+          sheet-limits =
+              let tokens = tokensIn count kinds (startsOf spans) (lengthsOf spans) in
+              let c : (length (take count kinds) ≡ count) × (count ≤ maxTokens) = rw f at (u .counts) in
+              let even = tiled-even (boundary text) (length text) rec tokens tree (tiling-is e u f) in
+              let long : Within count kinds spans = (
+                omega (arith, c .0, length-take count kinds),
+                omega (arith, c .0, even .0, length-take count (startsOf spans), length-map spans startOf),
+              ) in
+              let near = tree-near (boundary text) (length text) rec tokens tree (tiling-is e u f) in
+              record { text-fits = a; rec-fits = b; few = c .1; near = omega (arith, near); within = long }
 
-            pub judges-sheet : {tab : ℕ} {draft left : List ℕ} {j : Code.Judged} → Weighs sheetPage count tree tab draft left j
-                → Judges text rec tab kinds starts lens draft left j
-            judges-sheet {j = Says.Accepted n at m} x =
-                let d = x .is .2 in
-                record {
-                  is = rw (x .is .0, x .is .1)
-                      (sheet-limits .within, record { weight = d .weight; accepts = judge-is ∙ d .accepts; drafts = d .drafts; empty = d .empty });
-                }
-            judges-sheet {j = Says.Declined a} x = record { is = judge-is ∙ x .is }
+          judge-is : judge text rec ≡ byWalk sheetPage tree
+          unfolding recordFirst
+          judge-is = record-first e u ∙ rw (tiling-is e u f, recordFirst) (ap (λ p. byWalk p tree) page-is)
+
+          pub judges-sheet : {tab : ℕ} {draft left : List ℕ} {j : Code.Judged} → Weighs sheetPage count tree tab draft left j
+              → Judges text rec tab kinds spans draft left j
+          judges-sheet {j = Says.Accepted n at m} x =
+              let d = x .is .2 in
+              record {
+                is = rw (x .is .0, x .is .1)
+                    (sheet-limits .within, record { weight = d .weight; accepts = judge-is ∙ d .accepts; drafts = d .drafts; empty = d .empty });
+              }
+          judges-sheet {j = Says.Declined a} x = record { is = judge-is ∙ x .is }
 
 pub tree-end-is : {rec : List ℕ} {count tree : ℕ} {r x : Tree.Checked} → TreeEnd rec count tree r → r ≡ x → checkedIn x ≡ treeCheck rec count tree
 tree-end-is u e = ap checkedIn (sym e) ∙ u .is
@@ -487,12 +503,12 @@ pub checks : (v : Verdict) {rec : List ℕ} {count tree : ℕ} {r x : Tree.Check
     → byCheck v (checkedIn x) ≡ byCheck v (treeCheck rec count tree)
 checks v u e = ap (byCheck v) (tree-end-is u e)
 
-pub judges-declined : {text rec : List ℕ} {tab : ℕ} {kinds starts lens draft left : List ℕ} {j : Code.Judged} {a : Answer}
-    → judge text rec ≡ declined (verdictOf a emptySet) → (j ≡ Says.Declined a) × (left ≡ emptySet) → Judges text rec tab kinds starts lens draft left j
+pub judges-declined : {text rec : List ℕ} {tab : ℕ} {kinds spans draft left : List ℕ} {j : Code.Judged} {a : Answer}
+    → judge text rec ≡ declined (verdictOf a emptySet) → (j ≡ Says.Declined a) × (left ≡ emptySet) → Judges text rec tab kinds spans draft left j
 judges-declined e h = record { is = rw (h .0, h .1) e }
 
 -- The public calls by what is judged.
-module _ {text rec : List ℕ} {tab : ℕ} {kinds starts lens draft left : List ℕ} {j : Code.Judged} (s : Judges text rec tab kinds starts lens draft left j) where
+module _ {text rec : List ℕ} {tab : ℕ} {kinds spans draft left : List ℕ} {j : Code.Judged} (s : Judges text rec tab kinds spans draft left j) where
   module _ {a : Answer} (e : j ≡ Says.Declined a) where
     judge-declined : judge text rec ≡ declined (verdictOf a left)
     judge-declined = rw e at (s .is)
@@ -505,9 +521,9 @@ module _ {text rec : List ℕ} {tab : ℕ} {kinds starts lens draft left : List 
 
   module _ {count tree : ℕ} {m : Measures} (e : j ≡ Says.Accepted count tree m) where
     abbrev sheetOf : Page
-    sheetOf = page text rec (take count kinds) (take count starts) (take count lens)
+    sheetOf = pageIn text rec count kinds spans
 
-    pub within : Within count kinds starts lens
+    pub within : Within count kinds spans
     within = (rw e at (s .is)) .0
 
     accepts : Accepts (judge text rec) sheetOf tree tab m draft left

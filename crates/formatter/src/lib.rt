@@ -11,14 +11,15 @@ use layout::SET;
 use layout::STOP;
 use layout::TAB;
 use layout::UNITS;
-use layout::entry;
 use layout::letters_at;
+use layout::span_at;
 use layout::words;
 use reader::MAX_RECORD;
 use reader::MAX_TEXT;
 use reader::Reading;
 use reader::tokens::Tiled;
 use reader::tokens::read_tokens;
+use reader::tokens::start_of;
 use reader::tree::Checked;
 use reader::tree::tree_end;
 use text::Broken;
@@ -29,7 +30,8 @@ ghost use Prim.Native.Nat.{_*_, _≤_};
 ghost use mathlib.Core.List.{_∷_};
 ghost use lib.ListN.{length, drop};
 ghost use Rattle.reader.specs.Check.{treeCheck};
-ghost use Rattle.layout.specs.Contracts.State.{page};
+ghost use Rattle.reader.specs.Contracts.Tokens.{startsOf, lengthsOf};
+ghost use Rattle.layout.specs.Contracts.Lent.{pageBy};
 ghost use Rattle.formatter.specs.Lookup.{lookedOf, lookup};
 ghost use Rattle.formatter.specs.Contracts.Lookup.{Asks};
 ghost use Rattle.formatter.specs.Verdict.{declined, emptySet, verdictOf, check as check·, get as get·};
@@ -187,26 +189,24 @@ fn weigh(
     text: &[u8],
     rec: &[u8],
     kinds: &[u8],
-    starts: &[u16],
-    lens: &[u16],
+    spans: &[u32],
     draft: &mut [u8],
     left: &mut [u64; 64],
     count: usize,
     tree: usize,
     tab: u32,
 ) -> Judged
-    requires { ⌜ Limits (now text) (now rec) (now kinds) (now starts) (now lens) count tree ⌝ }
-    ensures { λ r. ⌜ Weighs (pageIn (now (text .entry)) (now (rec .entry)) count (now (kinds .entry)) (now (starts .entry)) (now (lens .entry)))
+    requires { ⌜ Limits (now text) (now rec) (now kinds) (now spans) count tree ⌝ }
+    ensures { λ r. ⌜ Weighs (pageIn (now (text .entry)) (now (rec .entry)) count (now (kinds .entry)) (now (spans .entry)))
         count tree tab (now (draft .exit)) (now (left .exit)) r ⌝ }
 {
     let kinds = &kinds[..count];
-    let starts = &starts[..count];
-    let lens = &lens[..count];
+    let spans = &spans[..count];
     let run = words::RUN;
     let mut mem = lent(tab, Set::all(kinds));
-    let walked = walk::walk(&run, text, rec, kinds, starts, lens, draft, &mut mem, tree);
+    let walked = walk::walk(&run, text, rec, kinds, spans, draft, &mut mem, tree);
     if walked != rec.len() {
-        return refused(left, by_check(rec, starts.len(), tree, walked));
+        return refused(left, by_check(rec, spans.len(), tree, walked));
     }
     let set = left_in(mem);
     let unwritten = set.words;
@@ -227,7 +227,7 @@ fn weigh(
     let First::At(k) = set.first() else {
         return Judged::Declined(Answer::CommentsLeft(0));
     };
-    Judged::Declined(Answer::CommentsLeft(entry(starts, k)))
+    Judged::Declined(Answer::CommentsLeft(start_of(span_at(spans, k))))
 }
 
 // 1 to 4, 13, 14 and 6. The record check is run only where the walk did not end at the record's end.
@@ -236,14 +236,13 @@ fn judge(
     text: &[u8],
     rec: &[u8],
     kinds: &mut [u8; 4096],
-    starts: &mut [u16; 4096],
-    lens: &mut [u16; 4096],
+    spans: &mut [u32; 4096],
     draft: &mut [u8],
     left: &mut [u64; 64],
     tab: u32,
 ) -> Judged
     ensures { λ r. ⌜ Judges (now (text .entry)) (now (rec .entry)) tab
-        (now (kinds .exit)) (now (starts .exit)) (now (lens .exit)) (now (draft .exit)) (now (left .exit)) r ⌝ }
+        (now (kinds .exit)) (now (spans .exit)) (now (draft .exit)) (now (left .exit)) r ⌝ }
 {
     if MAX_TEXT < text.len() {
         return refused(left, Answer::TooLong);
@@ -254,14 +253,13 @@ fn judge(
     if let Broken::At(place) = first_broken(text) {
         return refused(left, Answer::NotUtf8(place));
     }
-    let tokens = read_tokens(text, text.len() as u16, rec, kinds, starts, lens);
+    let tokens = read_tokens(text, text.len() as u16, rec, kinds, spans);
     match tokens {
         Tiled::Tiled { count, tree } => weigh(
             text,
             rec,
             kinds,
-            starts,
-            lens,
+            spans,
             draft,
             left,
             count,
@@ -277,19 +275,9 @@ pub fn check(text: &[u8], rec: &[u8], left: &mut [u64; 64]) -> Answer
     ensures { λ r. ⌜ verdictOf r (now (left .exit)) ≡ check· (now (text .entry)) (now (rec .entry)) ⌝ }
 {
     let mut kinds = [0u8; 4096];
-    let mut starts = [0u16; 4096];
-    let mut lens = [0u16; 4096];
+    let mut spans = [0u32; 4096];
     let mut none = [0u8; 1];
-    let judged = judge(
-        text,
-        rec,
-        &mut kinds,
-        &mut starts,
-        &mut lens,
-        &mut none[..0],
-        left,
-        0,
-    );
+    let judged = judge(text, rec, &mut kinds, &mut spans, &mut none[..0], left, 0);
     match judged {
         Judged::Accepted {
             count: _,
@@ -313,16 +301,15 @@ fn put(
     text: &[u8],
     rec: &[u8],
     kinds: &[u8],
-    starts: &[u16],
-    lens: &[u16],
+    spans: &[u32],
     draft: &[u8],
     out: &mut [u8],
     tree: usize,
     tab: u32,
     measures: Measures,
 ) -> Answer
-    requires { ⌜ Drafted (page (now text) (now rec) (now kinds) (now starts) (now lens)) tree tab measures (now draft) ⌝ }
-    ensures { λ r. ⌜ Puts (page (now (text .entry)) (now (rec .entry)) (now (kinds .entry)) (now (starts .entry)) (now (lens .entry)))
+    requires { ⌜ Drafted (pageBy (now text) (now rec) (now kinds) (now spans)) tree tab measures (now draft) ⌝ }
+    ensures { λ r. ⌜ Puts (pageBy (now (text .entry)) (now (rec .entry)) (now (kinds .entry)) (now (spans .entry)))
         tree tab (now (out .entry)) r (now (out .exit)) ⌝ }
 {
     let deepest = measures.deepest;
@@ -343,7 +330,7 @@ fn put(
     }
     let run = words::RUN;
     let mut mem = lent(tab, Set { words: [0u64; 64] });
-    let _walked = walk::walk(&run, text, rec, kinds, starts, lens, out, &mut mem, tree);
+    let _walked = walk::walk(&run, text, rec, kinds, spans, out, &mut mem, tree);
     Answer::Accepted(measures)
 }
 
@@ -360,18 +347,8 @@ fn drafted(
         ≡ get· (now (text .entry)) (now (rec .entry)) tab (now (out .entry)) ⌝ }
 {
     let mut kinds = [0u8; 4096];
-    let mut starts = [0u16; 4096];
-    let mut lens = [0u16; 4096];
-    let judged = judge(
-        text,
-        rec,
-        &mut kinds,
-        &mut starts,
-        &mut lens,
-        draft,
-        left,
-        tab,
-    );
+    let mut spans = [0u32; 4096];
+    let judged = judge(text, rec, &mut kinds, &mut spans, draft, left, tab);
     match judged {
         Judged::Accepted {
             count,
@@ -381,8 +358,7 @@ fn drafted(
             text,
             rec,
             &kinds[..count],
-            &starts[..count],
-            &lens[..count],
+            &spans[..count],
             draft,
             out,
             tree,
@@ -417,12 +393,11 @@ pub fn ask(
     rec: &[u8],
     token: usize,
     kinds: &mut [u8; 4096],
-    starts: &mut [u16; 4096],
-    lens: &mut [u16; 4096],
+    spans: &mut [u32; 4096],
 ) -> Asked
-    ensures { λ r. ⌜ Asks (now (text .entry)) (now (rec .entry)) token (now (kinds .exit)) (now (starts .exit)) (now (lens .exit)) r ⌝ }
+    ensures { λ r. ⌜ Asks (now (text .entry)) (now (rec .entry)) token (now (kinds .exit)) (startsOf (now (spans .exit))) (lengthsOf (now (spans .exit))) r ⌝ }
 {
-    let reading = reader::check(text, rec, kinds, starts, lens);
+    let reading = reader::check(text, rec, kinds, spans);
     match reading {
         Reading::Sheet { count, tree: _ } => {
             if token < count {
@@ -442,9 +417,8 @@ pub fn comment_above(text: &[u8], rec: &[u8], token: usize) -> Lookup
     ensures { λ r. ⌜ lookedOf r ≡ lookup (now (text .entry)) (now (rec .entry)) token ⌝ }
 {
     let mut kinds = [0u8; 4096];
-    let mut starts = [0u16; 4096];
-    let mut lens = [0u16; 4096];
-    let asked = ask(text, rec, token, &mut kinds, &mut starts, &mut lens);
+    let mut spans = [0u32; 4096];
+    let asked = ask(text, rec, token, &mut kinds, &mut spans);
     match asked {
         Asked::Tokens(count) => {
             let Above::Comment { comment, keyword } = comments::comment_above(

@@ -5,6 +5,8 @@ use mathlib.Core.Option.{Option, none, some}
 use mathlib.Core.List.{List}
 use Prim.Native.Nat.{ℕ, zero, suc, _+_, _*_, _≤_, _<_}
 use lib.ListN.{length}
+use Rattle.reader.specs.Contracts.Tokens.{startsOf}
+use Rattle.reader.proofs.SpanLaws.{counted}
 use Rattle.text.proofs.Laws.{never}
 use Rattle.reader.specs.Fields as Fields
 use Rattle.reader.specs.Fields.{Ty}
@@ -63,6 +65,10 @@ module _ {r : List ℕ} {count left a n : ℕ} where
                 j .is (subst (λ z. Below stopNo (checkedIn z)) i (inside short))
                 ∙ sym (rw (le-ltb n stopNo t, form-read f g, sym (h .is) ∙ ap checkedIn i) refl);
           }
+
+-- With the count of a table of spans.
+pub onwards-by : {r : List ℕ} {nesting a n b : ℕ} (spans : List ℕ) → Onwards r (length spans) nesting a n b → Onwards r (length (startsOf spans)) nesting a n b
+onwards-by {r} {nesting} {a} {n} {b} spans h = counted (λ count. Onwards r count nesting a n b) spans h
 
 -- ---- the walk
 abbrev under : Ran → Run

@@ -5,6 +5,8 @@ use mathlib.Core.Option.{Option, none, some}
 use mathlib.Core.List.{List}
 use Prim.Native.Nat.{ℕ, zero, suc, _+_}
 use lib.ListN.{length}
+use Rattle.reader.specs.Contracts.Tokens.{startsOf}
+use Rattle.reader.proofs.SpanLaws.{counted}
 use borrow.Author.Tests.{eq-eqb, ne-eqb}
 use Rattle.reader.specs.Fields as Fields
 use Rattle.reader.specs.Fields.{Exp}
@@ -127,6 +129,10 @@ module _ {rec : List ℕ} {count func n : ℕ} {y : Both.BothSeen} (e : headsIn 
             let q = sym e ∙ ap headsIn f in
             h .is (missing-below rec count short near q) ∙ sym (rw (q, askedFirst) refl);
       }
+
+-- With the count of a table of spans.
+pub asked-by : {r : List ℕ} {func n b : ℕ} (spans : List ℕ) → AskedFirst r (length spans) func n b → AskedFirst r (length (startsOf spans)) func n b
+asked-by {r} {func} {n} {b} spans h = counted (λ count. AskedFirst r count func n b) spans h
 
 -- ---- the walk
 module _ {words x r kinds starts lens : List ℕ} {a : ℕ} {m o : List ℕ} {k : Bool → Bool → Layout} {y : Both.BothSeen}

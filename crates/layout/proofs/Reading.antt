@@ -6,6 +6,8 @@ use mathlib.Core.List.{List}
 use Prim.Native.Nat.{ℕ, _+_, _≤_, _<_}
 use borrow.Author.Tests.{lt-ltb, le-ltb}
 use lib.ListN.{length}
+use Rattle.reader.specs.Contracts.Tokens.{startsOf}
+use Rattle.reader.proofs.SpanLaws.{counted}
 use Rattle.reader.specs.declared.commands.Family.{Family}
 use Rattle.reader.specs.declared.commands.Number.{Number}
 use Rattle.reader.specs.Commands.{absentAt, tokenAt, listAt, groupAt, choiceAt, formAt, formWidth, firstToken, declarationAt}
@@ -129,3 +131,7 @@ module _ {count : ℕ} {r : List ℕ} {at : ℕ} {x : Declaration} {b : Bool} (e
   pub declared-past : b ≡ false → DeclaredAt count r at Whole.Not
   unfolding declarationIn declaredAt
   declared-past g = record { is = ap (whole r at) (sym (fits-no r count DecOne at (sym f ∙ g))) }
+
+-- With the count of a table of spans.
+pub declared-by : {r : List ℕ} {at : ℕ} {x : Declaration} (spans : List ℕ) → DeclaredAt (length spans) r at x → DeclaredAt (length (startsOf spans)) r at x
+declared-by {r} {at} {x} spans h = counted (λ n. DeclaredAt n r at x) spans h

@@ -8,6 +8,7 @@ use Prim.Native.Nat.{ℕ, zero, suc, _+_, _-_, _*_, _/_, _%_, _≤_, _<_}
 use Prim.Native.String.{String}
 use lib.ListN.{length}
 use lib.Dec.{ltb}
+use denote.Ref.{RefT, now}
 use Rattle.text.specs.Bytes.{bytes}
 use Rattle.text.proofs.Laws.{never}
 use Rattle.layout.specs.declared.Cfg.{Cfg}
@@ -18,6 +19,7 @@ use Rattle.layout.specs.Meaning.{Page, Event, Word, Token, Comment, Form
 use Rattle.layout.specs.Contracts.Words.{wordRun}
 use Rattle.layout.specs.Contracts.State.{Run, runOf, at, effect, effects, Ran, went, fell, run, runs, stopNo, stopOf, toldOf, packed, shown, page, Fair, Walked, Ended, Plain, Put, Sure, Texted, Indented, deepened, Stops, readOf, ReadAt, FormRead, groupOf, GroupRead, goneOf, GoneRead, presentOf, PresentRead, joint, TestedText, TestedName, Looked, Operated, cfgOf, Deeper, Does}
 use Rattle.reader.specs.Tokens.{textOf}
+use Rattle.reader.specs.Contracts.Tokens.{startsOf, lengthsOf}
 use Rattle.reader.specs.declared.commands.Family as Code
 use Rattle.reader.specs.declared.commands.Family.the-variants as Case
 use Rattle.reader.specs.Fields as Fields
@@ -628,12 +630,12 @@ unfolding runs outcome run effects
 sure-skip = record { is = λ h p a. refl }
 
 -- The invariant of a loop over the n items of a list: what is left to run leads on from what was to run.
-abbrev pub PlainTurn : List ℕ → List ℕ → List ℕ → List ℕ → List ℕ → (ℕ → ℕ → Layout) → ℕ → ℕ → List ℕ → List ℕ → ℕ → ℕ → List ℕ → List ℕ → Type 0
-PlainTurn words x r starts lens left n a₀ m₀ o₀ i a m o =
+abbrev pub PlainTurn : List ℕ → List ℕ → List ℕ → RefT (List ℕ) → (ℕ → ℕ → Layout) → ℕ → ℕ → List ℕ → List ℕ → ℕ → ℕ → List ℕ → List ℕ → Type 0
+PlainTurn words x r spans left n a₀ m₀ o₀ i a m o =
     (i ≤ n)
     × ((kinds : List ℕ) (b : ℕ) (m′ o′ : List ℕ)
-    → Walked true words (page x r kinds starts lens) (left i (n - i)) (runOf a m o) b m′ o′
-    → Walked true words (page x r kinds starts lens) (left 0 (n - 0)) (runOf a₀ m₀ o₀) b m′ o′)
+    → Walked true words (page x r kinds (startsOf (now spans)) (lengthsOf (now spans))) (left i (n - i)) (runOf a m o) b m′ o′
+    → Walked true words (page x r kinds (startsOf (now spans)) (lengthsOf (now spans))) (left 0 (n - 0)) (runOf a₀ m₀ o₀) b m′ o′)
     × (length o ≡ length o₀)
 
 -- ---- a joint

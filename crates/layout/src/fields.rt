@@ -8,6 +8,7 @@ ghost use mathlib.Core.Path.{_≡_};
 ghost use Rattle.reader.specs.Commands.{absentAt, listAt, choiceAt};
 ghost use Rattle.reader.specs.Check.{tokenFits};
 ghost use mathlib.Core.Option.{none};
+ghost use Rattle.layout.specs.Contracts.Lent.{count};
 ghost use Rattle.layout.specs.Contracts.State.{Stops, Imports, ReadAt, FormRead, GroupRead, GoneRead, PresentRead, presentOf, DeclaredAt, Onwards};
 
 // What is read at the cursor, with the cursor behind it.
@@ -50,13 +51,13 @@ pub fn import(at: usize) -> usize
 }
 
 // A token, whose number is below the count.
-pub fn token_no(rec: &[u8], count: usize, at: usize) -> Read
-    ensures { λ r. ⌜ ReadAt (λ bytes. tokenFits bytes count) 3 (now (rec .entry)) at r ⌝ }
+pub fn token_no(rec: &[u8], spans: &&[u32], at: usize) -> Read
+    ensures { λ r. ⌜ ReadAt (λ bytes. tokenFits bytes (count spans)) 3 (now (rec .entry)) at r ⌝ }
 {
     let Number::Is(n) = reader::commands::token_at(rec, at) else {
         return Read::Not;
     };
-    if n < count {
+    if n < spans.len() {
         return Read::Is(n, at + 3);
     }
     Read::Not
@@ -118,29 +119,29 @@ fn no_token(rec: &[u8], at: usize) -> Given
     Given::Absent(s)
 }
 
-pub fn present(rec: &[u8], count: usize, at: usize) -> Given
-    ensures { λ r. ⌜ PresentRead count (now (rec .entry)) at r ⌝ }
+pub fn present(rec: &[u8], spans: &&[u32], at: usize) -> Given
+    ensures { λ r. ⌜ PresentRead (count spans) (now (rec .entry)) at r ⌝ }
 {
-    let Read::Is(_n, s) = token_no(rec, count, at) else {
+    let Read::Is(_n, s) = token_no(rec, spans, at) else {
         return no_token(rec, at);
     };
     Given::There(s)
 }
 
 // A declaration's command at an offset. Its first token's number is below the count, or it has none.
-pub fn declared(rec: &[u8], count: usize, at: usize) -> Declaration
-    ensures { λ r. ⌜ DeclaredAt count (now (rec .entry)) at r ⌝ }
+pub fn declared(rec: &[u8], spans: &&[u32], at: usize) -> Declaration
+    ensures { λ r. ⌜ DeclaredAt (count spans) (now (rec .entry)) at r ⌝ }
 {
     let found = reader::commands::declaration_at(rec, at);
-    if reader::tree::first_fits(rec, count, at) {
+    if reader::tree::first_fits(rec, spans.len(), at) {
         return found;
     }
     Declaration::Not
 }
 
 // Where the walk goes on after a type at an offset whose answer is dropped: behind the whole of it.
-pub fn onwards(rec: &[u8], count: usize, nesting: usize, at: usize, r: usize) -> usize
-    ensures { λ b. ⌜ Onwards (now (rec .entry)) count nesting at r b ⌝ }
+pub fn onwards(rec: &[u8], spans: &&[u32], nesting: usize, at: usize, r: usize) -> usize
+    ensures { λ b. ⌜ Onwards (now (rec .entry)) (count spans) nesting at r b ⌝ }
 {
     if r < STOP {
         return r;
@@ -148,7 +149,7 @@ pub fn onwards(rec: &[u8], count: usize, nesting: usize, at: usize, r: usize) ->
     let Number::Is(_k) = reader::commands::form_at(rec, Family::Ty, at) else {
         return r;
     };
-    let end = reader::tree::ty_end_within(rec, count, nesting, at);
+    let end = reader::tree::ty_end_within(rec, spans.len(), nesting, at);
     match end {
         Checked::Ok(next) => next,
         Checked::Malformed(place) => stop(place),

@@ -30,7 +30,7 @@ ghost use mathlib.Core.Path.{_≡_};
 ghost use Prim.Native.Nat.{_+_, _≤_};
 ghost use Rattle.reader.specs.Contracts.Commands.{numberIn};
 ghost use Rattle.layout.specs.DecOne.{comment-line};
-ghost use Rattle.layout.specs.Contracts.Lent.{plainly, writes, indents, writesAbove};
+ghost use Rattle.layout.specs.Contracts.Lent.{starts, lens, plainly, writes, indents, writesAbove};
 ghost use Rattle.layout.specs.Contracts.State.{TestedName, deepened, joint, cfgOf};
 
 // A fixed word before an item that is not the first.
@@ -54,18 +54,17 @@ pub fn text_of<'a>(
     run: &'a [u8; 351],
     text: &'a [u8],
     rec: &[u8],
-    starts: &[u16],
-    lens: &[u16],
+    spans: &&[u32],
     out: &mut [u8],
     mem: &mut [u64; 68],
     at: usize,
 ) -> usize
-    ensures { λ r. ⌜ plainly textField run text rec starts lens out mem at r ⌝ }
+    ensures { λ r. ⌜ plainly textField run text rec spans out mem at r ⌝ }
 {
-    let Read::Is(k, s) = token_no(rec, starts.len(), at) else {
+    let Read::Is(k, s) = token_no(rec, spans, at) else {
         return stop(at);
     };
-    token(run, text, starts, lens, out, mem, k);
+    token(run, text, spans, out, mem, k);
     s
 }
 
@@ -74,13 +73,12 @@ pub fn path<'a>(
     run: &'a [u8; 351],
     text: &'a [u8],
     rec: &[u8],
-    starts: &[u16],
-    lens: &[u16],
+    spans: &&[u32],
     out: &mut [u8],
     mem: &mut [u64; 68],
     at: usize,
 ) -> usize
-    ensures { λ r. ⌜ plainly pathLayout run text rec starts lens out mem at r ⌝ }
+    ensures { λ r. ⌜ plainly pathLayout run text rec spans out mem at r ⌝ }
 {
     let r0 = group(rec, at);
     let Status::Done(s0) = told(r0) else {
@@ -97,7 +95,7 @@ pub fn path<'a>(
         let Status::Done(s2) = told(r2) else {
             return r2;
         };
-        let r3 = text_of(run, text, rec, starts, lens, out, mem, s2);
+        let r3 = text_of(run, text, rec, spans, out, mem, s2);
         let Status::Done(s3) = told(r3) else {
             return r3;
         };
@@ -113,16 +111,15 @@ pub fn word_if<'a>(
     run: &'a [u8; 351],
     text: &'a [u8],
     rec: &[u8],
-    starts: &[u16],
-    lens: &[u16],
+    spans: &&[u32],
     out: &mut [u8],
     mem: &mut [u64; 68],
     at: usize,
     w: usize,
 ) -> usize
-    ensures { λ r. ⌜ plainly (word-if (wordOf w)) run text rec starts lens out mem at r ⌝ }
+    ensures { λ r. ⌜ plainly (word-if (wordOf w)) run text rec spans out mem at r ⌝ }
 {
-    let given = present(rec, starts.len(), at);
+    let given = present(rec, spans, at);
     match given {
         Given::There(s) => {
             word(run, text, out, mem, w);
@@ -138,13 +135,12 @@ fn ty_vars<'a>(
     run: &'a [u8; 351],
     text: &'a [u8],
     rec: &[u8],
-    starts: &[u16],
-    lens: &[u16],
+    spans: &&[u32],
     out: &mut [u8],
     mem: &mut [u64; 68],
     at: usize,
 ) -> usize
-    ensures { λ r. ⌜ plainly ty-vars run text rec starts lens out mem at r ⌝ }
+    ensures { λ r. ⌜ plainly ty-vars run text rec spans out mem at r ⌝ }
 {
     let Read::Is(n, s0) = list(rec, at) else {
         return stop(at);
@@ -157,7 +153,7 @@ fn ty_vars<'a>(
         let Status::Done(s1) = told(r1) else {
             return r1;
         };
-        let r2 = text_of(run, text, rec, starts, lens, out, mem, s1);
+        let r2 = text_of(run, text, rec, spans, out, mem, s1);
         let Status::Done(s2) = told(r2) else {
             return r2;
         };
@@ -172,16 +168,15 @@ fn ty_vars_parens<'a>(
     run: &'a [u8; 351],
     text: &'a [u8],
     rec: &[u8],
-    starts: &[u16],
-    lens: &[u16],
+    spans: &&[u32],
     out: &mut [u8],
     mem: &mut [u64; 68],
     at: usize,
 ) -> usize
-    ensures { λ r. ⌜ plainly (wordOf· "(" ⨾ ty-vars ⨾ wordOf· ")") run text rec starts lens out mem at r ⌝ }
+    ensures { λ r. ⌜ plainly (wordOf· "(" ⨾ ty-vars ⨾ wordOf· ")") run text rec spans out mem at r ⌝ }
 {
     word(run, text, out, mem, words::L_ROUND);
-    let r1 = ty_vars(run, text, rec, starts, lens, out, mem, at);
+    let r1 = ty_vars(run, text, rec, spans, out, mem, at);
     let Status::Done(s1) = told(r1) else {
         return r1;
     };
@@ -194,18 +189,17 @@ fn ty_vars_in_parens<'a>(
     run: &'a [u8; 351],
     text: &'a [u8],
     rec: &[u8],
-    starts: &[u16],
-    lens: &[u16],
+    spans: &&[u32],
     out: &mut [u8],
     mem: &mut [u64; 68],
     at: usize,
 ) -> usize
-    ensures { λ r. ⌜ plainly (in-parens ty-vars) run text rec starts lens out mem at r ⌝ }
+    ensures { λ r. ⌜ plainly (in-parens ty-vars) run text rec spans out mem at r ⌝ }
 {
-    let given = present(rec, starts.len(), at);
+    let given = present(rec, spans, at);
     match given {
-        Given::There(s) => ty_vars_parens(run, text, rec, starts, lens, out, mem, s),
-        Given::Absent(s) => ty_vars(run, text, rec, starts, lens, out, mem, s),
+        Given::There(s) => ty_vars_parens(run, text, rec, spans, out, mem, s),
+        Given::Absent(s) => ty_vars(run, text, rec, spans, out, mem, s),
         Given::Neither => stop(at),
     }
 }
@@ -215,19 +209,18 @@ fn ty_var_seq_there<'a>(
     run: &'a [u8; 351],
     text: &'a [u8],
     rec: &[u8],
-    starts: &[u16],
-    lens: &[u16],
+    spans: &&[u32],
     out: &mut [u8],
     mem: &mut [u64; 68],
     at: usize,
 ) -> usize
-    ensures { λ r. ⌜ plainly ty-var-seq-there run text rec starts lens out mem at r ⌝ }
+    ensures { λ r. ⌜ plainly ty-var-seq-there run text rec spans out mem at r ⌝ }
 {
     let r1 = group(rec, at);
     let Status::Done(s1) = told(r1) else {
         return r1;
     };
-    let r2 = ty_vars_in_parens(run, text, rec, starts, lens, out, mem, s1);
+    let r2 = ty_vars_in_parens(run, text, rec, spans, out, mem, s1);
     let Status::Done(s2) = told(r2) else {
         return r2;
     };
@@ -240,18 +233,17 @@ pub fn ty_var_seq<'a>(
     run: &'a [u8; 351],
     text: &'a [u8],
     rec: &[u8],
-    starts: &[u16],
-    lens: &[u16],
+    spans: &&[u32],
     out: &mut [u8],
     mem: &mut [u64; 68],
     at: usize,
 ) -> usize
-    ensures { λ r. ⌜ plainly ty-var-seq run text rec starts lens out mem at r ⌝ }
+    ensures { λ r. ⌜ plainly ty-var-seq run text rec spans out mem at r ⌝ }
 {
     let gone = absent(rec, at);
     match gone {
         Gone::Past(s) => s,
-        Gone::There => ty_var_seq_there(run, text, rec, starts, lens, out, mem, at),
+        Gone::There => ty_var_seq_there(run, text, rec, spans, out, mem, at),
     }
 }
 
@@ -376,13 +368,13 @@ pub fn new_line_in<'a>(
 
 // ---- paths behind `op`
 // Whether the first name of the path at an offset starts with a letter or a digit.
-fn alphanumeric_name(text: &[u8], rec: &[u8], starts: &[u16], lens: &[u16], at: usize) -> bool
-    ensures { λ r. ⌜ TestedName (now (text .entry)) (now (rec .entry)) (now (starts .entry)) (now (lens .entry)) isAlphanumeric at r ⌝ }
+fn alphanumeric_name(text: &[u8], rec: &[u8], spans: &&[u32], at: usize) -> bool
+    ensures { λ r. ⌜ TestedName (now (text .entry)) (now (rec .entry)) (starts spans) (lens spans) isAlphanumeric at r ⌝ }
 {
     let Name::Is(k, _n) = path_name(rec, at) else {
         return false;
     };
-    alphanumeric(text, starts, lens, k)
+    alphanumeric(text, spans, k)
 }
 
 // `op` before the path at the cursor.
@@ -390,20 +382,19 @@ fn op<'a>(
     run: &'a [u8; 351],
     text: &'a [u8],
     rec: &[u8],
-    starts: &[u16],
-    lens: &[u16],
+    spans: &&[u32],
     out: &mut [u8],
     mem: &mut [u64; 68],
     at: usize,
 ) -> usize
-    ensures { λ r. ⌜ plainly opLayout run text rec starts lens out mem at r ⌝ }
+    ensures { λ r. ⌜ plainly opLayout run text rec spans out mem at r ⌝ }
 {
     let r1 = group(rec, at);
     let Status::Done(_s) = told(r1) else {
         return r1;
     };
     word(run, text, out, mem, words::OP);
-    if alphanumeric_name(text, rec, starts, lens, at) {
+    if alphanumeric_name(text, rec, spans, at) {
         word(run, text, out, mem, words::SPACE);
         return at;
     }
@@ -415,19 +406,18 @@ fn op_path_there<'a>(
     run: &'a [u8; 351],
     text: &'a [u8],
     rec: &[u8],
-    starts: &[u16],
-    lens: &[u16],
+    spans: &&[u32],
     out: &mut [u8],
     mem: &mut [u64; 68],
     at: usize,
 ) -> usize
-    ensures { λ r. ⌜ plainly (opLayout ⨾ pathLayout) run text rec starts lens out mem at r ⌝ }
+    ensures { λ r. ⌜ plainly (opLayout ⨾ pathLayout) run text rec spans out mem at r ⌝ }
 {
-    let r1 = op(run, text, rec, starts, lens, out, mem, at);
+    let r1 = op(run, text, rec, spans, out, mem, at);
     let Status::Done(s1) = told(r1) else {
         return r1;
     };
-    path(run, text, rec, starts, lens, out, mem, s1)
+    path(run, text, rec, spans, out, mem, s1)
 }
 
 // The fields `op_kw` and `path`.
@@ -435,18 +425,17 @@ pub fn op_path<'a>(
     run: &'a [u8; 351],
     text: &'a [u8],
     rec: &[u8],
-    starts: &[u16],
-    lens: &[u16],
+    spans: &&[u32],
     out: &mut [u8],
     mem: &mut [u64; 68],
     at: usize,
 ) -> usize
-    ensures { λ r. ⌜ plainly op-path run text rec starts lens out mem at r ⌝ }
+    ensures { λ r. ⌜ plainly op-path run text rec spans out mem at r ⌝ }
 {
-    let given = present(rec, starts.len(), at);
+    let given = present(rec, spans, at);
     match given {
-        Given::There(s) => op_path_there(run, text, rec, starts, lens, out, mem, s),
-        Given::Absent(s) => path(run, text, rec, starts, lens, out, mem, s),
+        Given::There(s) => op_path_there(run, text, rec, spans, out, mem, s),
+        Given::Absent(s) => path(run, text, rec, spans, out, mem, s),
         Given::Neither => stop(at),
     }
 }
@@ -456,15 +445,14 @@ pub fn op_path<'a>(
 pub fn comment_above<'a>(
     run: &'a [u8; 351],
     text: &'a [u8],
-    kinds: &[u8],
-    starts: &[u16],
-    lens: &[u16],
+    kinds: &&[u8],
+    spans: &&[u32],
     out: &mut [u8],
     mem: &mut [u64; 68],
     cfg: Cfg,
     first: Number,
 )
-    ensures { λ _. ⌜ writesAbove (comment-line (cfgOf cfg)) run text kinds starts lens out mem (numberIn first) ⌝ }
+    ensures { λ _. ⌜ writesAbove (comment-line (cfgOf cfg)) run text kinds spans out mem (numberIn first) ⌝ }
 {
     let Number::Is(k) = first else {
         return;
@@ -472,10 +460,10 @@ pub fn comment_above<'a>(
     let Above::Comment {
         comment: found,
         keyword: _,
-    } = comments::comment_above(kinds, k)
+    } = comments::comment_above(*kinds, k)
     else {
         return;
     };
-    comment(text, starts, lens, out, mem, found);
+    comment(text, spans, out, mem, found);
     line(run, text, out, mem, cfg);
 }

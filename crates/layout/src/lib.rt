@@ -8,6 +8,8 @@ pub mod helpers; // helpers.rt: helpers of 000 that serve more than one family
 mod copy; // copy.rt: a piece copied, eight bytes at a time
 
 use comments::cleared;
+use reader::tokens::len_of;
+use reader::tokens::start_of;
 use std::num::wrapping_add_u64;
 use std::num::wrapping_sub_u64;
 use text::at::part;
@@ -19,7 +21,7 @@ ghost use Rattle.layout.specs.Contracts.Words.{wordOf, wordRun};
 ghost use Rattle.text.specs.Bytes.{bytes};
 ghost use mathlib.Core.List.{List};
 ghost use Rattle.layout.specs.Layout.{word};
-ghost use Rattle.layout.specs.Contracts.Lent.{writes, writesToken, strikesComment};
+ghost use Rattle.layout.specs.Contracts.Lent.{starts, lens, writes, writesToken, strikesComment};
 ghost use Rattle.layout.specs.Contracts.State.{toldOf, sumOf, widthOf, placed, spaced, deepened, Put, Indented, struck, pieceOf, textAt, Deeper};
 
 // A walk answers a number: below STOP the cursor behind what was read, else STOP + 2 × the offset in the record of the
@@ -184,38 +186,34 @@ pub fn word<'a>(run: &'a [u8; 351], text: &'a [u8], out: &mut [u8], mem: &mut [u
     put(out, mem, piece_of(run, text, word_piece(w)));
 }
 
-// The entry of a table, 0 past its end.
-pub fn entry(table: &[u16], k: usize) -> usize
-    ensures { λ r. ⌜ r ≡ getD (now (table .entry)) k 0 ⌝ }
+// The span of a token, by number; 0 past the table's end.
+pub fn span_at(spans: &[u32], k: usize) -> u32
+    ensures { λ r. ⌜ r ≡ getD (now (spans .entry)) k 0 ⌝ }
 {
-    if k < table.len() {
-        table[k] as usize
-    } else {
-        0
-    }
+    if k < spans.len() { spans[k] } else { 0 }
 }
 
 // The text of a token, by number.
-pub fn token_text<'a>(text: &'a [u8], starts: &[u16], lens: &[u16], k: usize) -> &'a [u8]
-    ensures { λ r. ⌜ now r ≡ textAt (now (text .entry)) (now (starts .entry)) (now (lens .entry)) k ⌝ }
+pub fn token_text<'a>(text: &'a [u8], spans: &&[u32], k: usize) -> &'a [u8]
+    ensures { λ r. ⌜ now r ≡ textAt (now (text .entry)) (starts spans) (lens spans) k ⌝ }
 {
-    let n = entry(lens, k);
-    part(text, entry(starts, k), n)
+    let span = span_at(*spans, k);
+    part(text, start_of(span), len_of(span))
 }
 
 // It is written.
 pub fn token<'a>(
     run: &'a [u8; 351],
     text: &'a [u8],
-    starts: &[u16],
-    lens: &[u16],
+    spans: &&[u32],
     out: &mut [u8],
     mem: &mut [u64; 68],
     k: usize,
 )
-    ensures { λ _. ⌜ writesToken text starts lens out mem k ⌝ }
+    ensures { λ _. ⌜ writesToken text spans out mem k ⌝ }
 {
-    let which = Piece::Text(entry(starts, k), entry(lens, k));
+    let span = span_at(*spans, k);
+    let which = Piece::Text(start_of(span), len_of(span));
     put(out, mem, piece_of(run, text, which));
 }
 
@@ -231,16 +229,9 @@ fn strike(mem: &mut [u64; 68], k: usize)
 }
 
 // The trimmed text of a comment, by number; it is then not left any more.
-pub fn comment(
-    text: &[u8],
-    starts: &[u16],
-    lens: &[u16],
-    out: &mut [u8],
-    mem: &mut [u64; 68],
-    k: usize,
-)
-    ensures { λ _. ⌜ strikesComment text starts lens out mem k ⌝ }
+pub fn comment(text: &[u8], spans: &&[u32], out: &mut [u8], mem: &mut [u64; 68], k: usize)
+    ensures { λ _. ⌜ strikesComment text spans out mem k ⌝ }
 {
     strike(mem, k);
-    put(out, mem, trim(token_text(text, starts, lens, k)));
+    put(out, mem, trim(token_text(text, spans, k)));
 }

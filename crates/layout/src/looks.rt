@@ -18,6 +18,7 @@ ghost use mathlib.Core.Path.{_≡_};
 ghost use Prim.Native.Nat.{ℕ, _+_};
 ghost use Rattle.layout.specs.Layout.{isBang, isPipe, isAlphabetic, isAlphanumeric, isIfExp, bodyExpNeedsNewline};
 ghost use Rattle.layout.specs.Meaning.{onNewLine, headOf, bothSeen, headsFrom, headsAt};
+ghost use Rattle.layout.specs.Contracts.Lent.{starts, lens, count};
 ghost use Rattle.layout.specs.Contracts.State.{TestedText, FormRead, Looked, seenIn, headsIn, headsBehind, AskedFirst};
 
 // The number of `PathExp` among the expressions.
@@ -39,28 +40,28 @@ const WHILE_EXP: u8 = 0x56;
 const CASE_EXP: u8 = 0x57;
 
 // ---- a token's text
-pub fn is_bang(text: &[u8], starts: &[u16], lens: &[u16], k: usize) -> bool
-    ensures { λ r. ⌜ TestedText (now (text .entry)) (now (starts .entry)) (now (lens .entry)) isBang k r ⌝ }
+pub fn is_bang(text: &[u8], spans: &&[u32], k: usize) -> bool
+    ensures { λ r. ⌜ TestedText (now (text .entry)) (starts spans) (lens spans) isBang k r ⌝ }
 {
-    same(token_text(text, starts, lens, k), b"!")
+    same(token_text(text, spans, k), b"!")
 }
 
-pub fn is_pipe(text: &[u8], starts: &[u16], lens: &[u16], k: usize) -> bool
-    ensures { λ r. ⌜ TestedText (now (text .entry)) (now (starts .entry)) (now (lens .entry)) isPipe k r ⌝ }
+pub fn is_pipe(text: &[u8], spans: &&[u32], k: usize) -> bool
+    ensures { λ r. ⌜ TestedText (now (text .entry)) (starts spans) (lens spans) isPipe k r ⌝ }
 {
-    same(token_text(text, starts, lens, k), b"|>")
+    same(token_text(text, spans, k), b"|>")
 }
 
-pub fn alphabetic(text: &[u8], starts: &[u16], lens: &[u16], k: usize) -> bool
-    ensures { λ r. ⌜ TestedText (now (text .entry)) (now (starts .entry)) (now (lens .entry)) isAlphabetic k r ⌝ }
+pub fn alphabetic(text: &[u8], spans: &&[u32], k: usize) -> bool
+    ensures { λ r. ⌜ TestedText (now (text .entry)) (starts spans) (lens spans) isAlphabetic k r ⌝ }
 {
-    starts_with_letter(token_text(text, starts, lens, k))
+    starts_with_letter(token_text(text, spans, k))
 }
 
-pub fn alphanumeric(text: &[u8], starts: &[u16], lens: &[u16], k: usize) -> bool
-    ensures { λ r. ⌜ TestedText (now (text .entry)) (now (starts .entry)) (now (lens .entry)) isAlphanumeric k r ⌝ }
+pub fn alphanumeric(text: &[u8], spans: &&[u32], k: usize) -> bool
+    ensures { λ r. ⌜ TestedText (now (text .entry)) (starts spans) (lens spans) isAlphanumeric k r ⌝ }
 {
-    starts_alphanumeric(token_text(text, starts, lens, k))
+    starts_alphanumeric(token_text(text, spans, k))
 }
 
 // ---- the form at an offset
@@ -195,10 +196,10 @@ fn heads(rec: &[u8], count: usize, func: usize) -> BothSeen
 }
 
 // Where `AppExp` stops whose `func` stopped with this number: 000 asks for both expressions and their names before it walks.
-pub fn asked_first(rec: &[u8], count: usize, func: usize, stopped: usize) -> usize
-    ensures { λ r. ⌜ AskedFirst (now (rec .entry)) count func stopped r ⌝ }
+pub fn asked_first(rec: &[u8], spans: &&[u32], func: usize, stopped: usize) -> usize
+    ensures { λ r. ⌜ AskedFirst (now (rec .entry)) (count spans) func stopped r ⌝ }
 {
-    let seen = heads(rec, count, func);
+    let seen = heads(rec, spans.len(), func);
     match seen {
         BothSeen::Are(_f, _a) => stopped,
         BothSeen::Missing(place) => stop(place),

@@ -38,7 +38,7 @@ ghost use lib.Dec.{eqb};
 ghost use Rattle.layout.specs.Contracts.Words.{wordOf};
 ghost use Rattle.layout.specs.Layout.{word as wordOf·, choice as choice·, _⨾_};
 ghost use Rattle.layout.specs.Helpers.{indent as indentOf, indent-deeper as indentDeeper, new-line, items, when};
-ghost use Rattle.layout.specs.Contracts.Lent.{plainly, writes, indents, writesOperator};
+ghost use Rattle.layout.specs.Contracts.Lent.{starts, lens, plainly, writes, indents, writesOperator};
 ghost use Rattle.layout.specs.Contracts.State.{BangIs, SymbolicIs, Stops, cfgOf, headIn};
 ghost use Rattle.layout.specs.Walk.{walks};
 ghost use Rattle.layout.specs.Exp.{item-semi, app-space, pipe, exp as exp·};
@@ -93,26 +93,26 @@ pub fn app_end<'a>(
 
 // ---- between the expressions of an application
 // `func_is_bang`: one name, and it is `!`.
-pub fn func_is_bang(text: &[u8], starts: &[u16], lens: &[u16], func: Head) -> bool
-    ensures { λ r. ⌜ BangIs (now (text .entry)) (now (starts .entry)) (now (lens .entry)) (headIn func) r ⌝ }
+pub fn func_is_bang(text: &[u8], spans: &&[u32], func: Head) -> bool
+    ensures { λ r. ⌜ BangIs (now (text .entry)) (starts spans) (lens spans) (headIn func) r ⌝ }
 {
     let Head::PathExp(k, names) = func else {
         return false;
     };
     if names == 1 {
-        return is_bang(text, starts, lens, k);
+        return is_bang(text, spans, k);
     }
     false
 }
 
 // `arg_is_symbolic`: its first name does not start with a letter.
-pub fn arg_is_symbolic(text: &[u8], starts: &[u16], lens: &[u16], arg: Head) -> bool
-    ensures { λ r. ⌜ SymbolicIs (now (text .entry)) (now (starts .entry)) (now (lens .entry)) (headIn arg) r ⌝ }
+pub fn arg_is_symbolic(text: &[u8], spans: &&[u32], arg: Head) -> bool
+    ensures { λ r. ⌜ SymbolicIs (now (text .entry)) (starts spans) (lens spans) (headIn arg) r ⌝ }
 {
     let Head::PathExp(k, _names) = arg else {
         return false;
     };
-    let letter = alphabetic(text, starts, lens, k);
+    let letter = alphabetic(text, spans, k);
     !letter
 }
 
@@ -149,16 +149,15 @@ pub fn item_semi<'a>(
     run: &'a [u8; 351],
     text: &'a [u8],
     rec: &[u8],
-    starts: &[u16],
-    lens: &[u16],
+    spans: &&[u32],
     out: &mut [u8],
     mem: &mut [u64; 68],
     at: usize,
     write: bool,
 ) -> usize
-    ensures { λ r. ⌜ plainly (item-semi write) run text rec starts lens out mem at r ⌝ }
+    ensures { λ r. ⌜ plainly (item-semi write) run text rec spans out mem at r ⌝ }
 {
-    let given = present(rec, starts.len(), at);
+    let given = present(rec, spans, at);
     match given {
         Given::There(s) => {
             word_when(run, text, out, mem, words::SEMICOLON, write);
@@ -174,17 +173,16 @@ pub fn selector_exp<'a>(
     run: &'a [u8; 351],
     text: &'a [u8],
     rec: &[u8],
-    starts: &[u16],
-    lens: &[u16],
+    spans: &&[u32],
     out: &mut [u8],
     mem: &mut [u64; 68],
     at: usize,
     cfg: Cfg,
 ) -> usize
-    ensures { λ r. ⌜ plainly (exp· (walks (cfg .nesting)) (cfgOf cfg) SelectorExp) run text rec starts lens out mem at r ⌝ }
+    ensures { λ r. ⌜ plainly (exp· (walks (cfg .nesting)) (cfgOf cfg) SelectorExp) run text rec spans out mem at r ⌝ }
 {
     word(run, text, out, mem, words::HASH);
-    text_of(run, text, rec, starts, lens, out, mem, at)
+    text_of(run, text, rec, spans, out, mem, at)
 }
 
 // What `InfixExp` writes between its expressions.
@@ -192,24 +190,23 @@ pub fn infix_operator<'a>(
     run: &'a [u8; 351],
     text: &'a [u8],
     rec: &[u8],
-    starts: &[u16],
-    lens: &[u16],
+    spans: &&[u32],
     out: &mut [u8],
     mem: &mut [u64; 68],
     cfg: Cfg,
     operator: usize,
 )
     requires { ⌜ cfg .depth + 1 ≤ 1000 ⌝ }
-    ensures { λ _. ⌜ writesOperator (pipe (cfgOf cfg)) (wordOf· " ") run text rec starts lens out mem operator ⌝ }
+    ensures { λ _. ⌜ writesOperator (pipe (cfgOf cfg)) (wordOf· " ") run text rec spans out mem operator ⌝ }
 {
-    if is_pipe(text, starts, lens, operator) {
+    if is_pipe(text, spans, operator) {
         word(run, text, out, mem, words::LINE_FEED);
         indent_deeper(out, mem, cfg);
         word(run, text, out, mem, words::PIPE);
         return;
     }
     word(run, text, out, mem, words::SPACE);
-    token(run, text, starts, lens, out, mem, operator);
+    token(run, text, spans, out, mem, operator);
     word(run, text, out, mem, words::SPACE);
 }
 
@@ -219,24 +216,23 @@ fn ty_bind<'a>(
     run: &'a [u8; 351],
     text: &'a [u8],
     rec: &[u8],
-    starts: &[u16],
-    lens: &[u16],
+    spans: &&[u32],
     out: &mut [u8],
     mem: &mut [u64; 68],
     at: usize,
     cfg: Cfg,
 ) -> usize
-    ensures { λ r. ⌜ plainly (ty-bind (walks (cfg .nesting))) run text rec starts lens out mem at r ⌝ }
+    ensures { λ r. ⌜ plainly (ty-bind (walks (cfg .nesting))) run text rec spans out mem at r ⌝ }
 {
     let r1 = group(rec, at);
     let Status::Done(s1) = told(r1) else {
         return r1;
     };
-    let r2 = ty_var_seq(run, text, rec, starts, lens, out, mem, s1);
+    let r2 = ty_var_seq(run, text, rec, spans, out, mem, s1);
     let Status::Done(s2) = told(r2) else {
         return r2;
     };
-    let r3 = text_of(run, text, rec, starts, lens, out, mem, s2);
+    let r3 = text_of(run, text, rec, spans, out, mem, s2);
     let Status::Done(s3) = told(r3) else {
         return r3;
     };
@@ -248,7 +244,7 @@ fn ty_bind<'a>(
         return r5;
     };
     word(run, text, out, mem, words::EQ_SPACED);
-    get_ty(run, text, rec, starts, lens, out, mem, s5, cfg)
+    get_ty(run, text, rec, spans, out, mem, s5, cfg)
 }
 
 // Bindings of types, a line each.
@@ -256,14 +252,13 @@ fn ty_binds<'a>(
     run: &'a [u8; 351],
     text: &'a [u8],
     rec: &[u8],
-    starts: &[u16],
-    lens: &[u16],
+    spans: &&[u32],
     out: &mut [u8],
     mem: &mut [u64; 68],
     at: usize,
     cfg: Cfg,
 ) -> usize
-    ensures { λ r. ⌜ plainly (ty-binds (walks (cfg .nesting)) (cfgOf cfg)) run text rec starts lens out mem at r ⌝ }
+    ensures { λ r. ⌜ plainly (ty-binds (walks (cfg .nesting)) (cfgOf cfg)) run text rec spans out mem at r ⌝ }
 {
     let Read::Is(n, s0) = list(rec, at) else {
         return stop(at);
@@ -272,7 +267,7 @@ fn ty_binds<'a>(
     let mut i = 0;
     while i < n {
         new_line(run, text, out, mem, cfg, words::AND, i);
-        let r1 = ty_bind(run, text, rec, starts, lens, out, mem, s, cfg);
+        let r1 = ty_bind(run, text, rec, spans, out, mem, s, cfg);
         let Status::Done(s1) = told(r1) else {
             return r1;
         };
@@ -287,14 +282,13 @@ pub fn with_type<'a>(
     run: &'a [u8; 351],
     text: &'a [u8],
     rec: &[u8],
-    starts: &[u16],
-    lens: &[u16],
+    spans: &&[u32],
     out: &mut [u8],
     mem: &mut [u64; 68],
     at: usize,
     cfg: Cfg,
 ) -> usize
-    ensures { λ r. ⌜ plainly (with-type (walks (cfg .nesting)) (cfgOf cfg)) run text rec starts lens out mem at r ⌝ }
+    ensures { λ r. ⌜ plainly (with-type (walks (cfg .nesting)) (cfgOf cfg)) run text rec spans out mem at r ⌝ }
 {
     if let Gone::Past(s0) = absent(rec, at) {
         return s0;
@@ -305,7 +299,7 @@ pub fn with_type<'a>(
     };
     line(run, text, out, mem, cfg);
     word(run, text, out, mem, words::WITHTYPE);
-    ty_binds(run, text, rec, starts, lens, out, mem, s1, cfg)
+    ty_binds(run, text, rec, spans, out, mem, s1, cfg)
 }
 
 // A constructor.
@@ -313,20 +307,19 @@ fn con_bind<'a>(
     run: &'a [u8; 351],
     text: &'a [u8],
     rec: &[u8],
-    starts: &[u16],
-    lens: &[u16],
+    spans: &&[u32],
     out: &mut [u8],
     mem: &mut [u64; 68],
     at: usize,
     cfg: Cfg,
 ) -> usize
-    ensures { λ r. ⌜ plainly (con-bind (walks (cfg .nesting))) run text rec starts lens out mem at r ⌝ }
+    ensures { λ r. ⌜ plainly (con-bind (walks (cfg .nesting))) run text rec spans out mem at r ⌝ }
 {
     let r1 = group(rec, at);
     let Status::Done(s1) = told(r1) else {
         return r1;
     };
-    let r2 = text_of(run, text, rec, starts, lens, out, mem, s1);
+    let r2 = text_of(run, text, rec, spans, out, mem, s1);
     let Status::Done(s2) = told(r2) else {
         return r2;
     };
@@ -338,7 +331,7 @@ fn con_bind<'a>(
         return r4;
     };
     word(run, text, out, mem, words::OF);
-    get_ty(run, text, rec, starts, lens, out, mem, s4, cfg)
+    get_ty(run, text, rec, spans, out, mem, s4, cfg)
 }
 
 // Constructors, a line each.
@@ -346,8 +339,7 @@ fn con_lines<'a>(
     run: &'a [u8; 351],
     text: &'a [u8],
     rec: &[u8],
-    starts: &[u16],
-    lens: &[u16],
+    spans: &&[u32],
     out: &mut [u8],
     mem: &mut [u64; 68],
     at: usize,
@@ -359,7 +351,7 @@ fn con_lines<'a>(
         plainly
         (wordOf· " =\n" ⨾ indentDeeper (cfgOf cfg) ⨾ items n (con-bind (walks (cfg .nesting)))
         (new-line (cfgOf cfg) "| " ⨾ con-bind (walks (cfg .nesting))))
-        run text rec starts lens out mem at r ⌝ }
+        run text rec spans out mem at r ⌝ }
 {
     word(run, text, out, mem, words::EQ_LINE);
     indent_deeper(out, mem, cfg);
@@ -367,7 +359,7 @@ fn con_lines<'a>(
     let mut i = 0;
     while i < n {
         new_line(run, text, out, mem, cfg, words::BAR, i);
-        let r1 = con_bind(run, text, rec, starts, lens, out, mem, s, cfg);
+        let r1 = con_bind(run, text, rec, spans, out, mem, s, cfg);
         let Status::Done(s1) = told(r1) else {
             return r1;
         };
@@ -382,8 +374,7 @@ fn con_row<'a>(
     run: &'a [u8; 351],
     text: &'a [u8],
     rec: &[u8],
-    starts: &[u16],
-    lens: &[u16],
+    spans: &&[u32],
     out: &mut [u8],
     mem: &mut [u64; 68],
     at: usize,
@@ -392,14 +383,14 @@ fn con_row<'a>(
 ) -> usize
     ensures { λ r. ⌜
         plainly (wordOf· " = " ⨾ items n (con-bind (walks (cfg .nesting))) (wordOf· " | " ⨾ con-bind (walks (cfg .nesting))))
-        run text rec starts lens out mem at r ⌝ }
+        run text rec spans out mem at r ⌝ }
 {
     word(run, text, out, mem, words::EQ_SPACED);
     let mut s = at;
     let mut i = 0;
     while i < n {
         between(run, text, out, mem, words::BAR_SPACED, i);
-        let r1 = con_bind(run, text, rec, starts, lens, out, mem, s, cfg);
+        let r1 = con_bind(run, text, rec, spans, out, mem, s, cfg);
         let Status::Done(s1) = told(r1) else {
             return r1;
         };
@@ -414,8 +405,7 @@ fn con_binds<'a>(
     run: &'a [u8; 351],
     text: &'a [u8],
     rec: &[u8],
-    starts: &[u16],
-    lens: &[u16],
+    spans: &&[u32],
     out: &mut [u8],
     mem: &mut [u64; 68],
     at: usize,
@@ -423,12 +413,12 @@ fn con_binds<'a>(
     n: usize,
 ) -> usize
     requires { ⌜ cfg .depth + 1 ≤ 1000 ⌝ }
-    ensures { λ r. ⌜ plainly (con-binds (walks (cfg .nesting)) (cfgOf cfg) n) run text rec starts lens out mem at r ⌝ }
+    ensures { λ r. ⌜ plainly (con-binds (walks (cfg .nesting)) (cfgOf cfg) n) run text rec spans out mem at r ⌝ }
 {
     if 1 < n {
-        return con_lines(run, text, rec, starts, lens, out, mem, at, cfg, n);
+        return con_lines(run, text, rec, spans, out, mem, at, cfg, n);
     }
-    con_row(run, text, rec, starts, lens, out, mem, at, cfg, n)
+    con_row(run, text, rec, spans, out, mem, at, cfg, n)
 }
 
 // A binding of `DatDec`.
@@ -436,25 +426,24 @@ fn dat_bind<'a>(
     run: &'a [u8; 351],
     text: &'a [u8],
     rec: &[u8],
-    starts: &[u16],
-    lens: &[u16],
+    spans: &&[u32],
     out: &mut [u8],
     mem: &mut [u64; 68],
     at: usize,
     cfg: Cfg,
 ) -> usize
     requires { ⌜ cfg .depth + 1 ≤ 1000 ⌝ }
-    ensures { λ r. ⌜ plainly (dat-bind (walks (cfg .nesting)) (cfgOf cfg)) run text rec starts lens out mem at r ⌝ }
+    ensures { λ r. ⌜ plainly (dat-bind (walks (cfg .nesting)) (cfgOf cfg)) run text rec spans out mem at r ⌝ }
 {
     let r1 = group(rec, at);
     let Status::Done(s1) = told(r1) else {
         return r1;
     };
-    let r2 = ty_var_seq(run, text, rec, starts, lens, out, mem, s1);
+    let r2 = ty_var_seq(run, text, rec, spans, out, mem, s1);
     let Status::Done(s2) = told(r2) else {
         return r2;
     };
-    let r3 = text_of(run, text, rec, starts, lens, out, mem, s2);
+    let r3 = text_of(run, text, rec, spans, out, mem, s2);
     let Status::Done(s3) = told(r3) else {
         return r3;
     };
@@ -465,7 +454,7 @@ fn dat_bind<'a>(
     let Read::Is(n, s5) = list(rec, s4) else {
         return stop(s4);
     };
-    con_binds(run, text, rec, starts, lens, out, mem, s5, cfg, n)
+    con_binds(run, text, rec, spans, out, mem, s5, cfg, n)
 }
 
 // Bindings of datatypes, a line each.
@@ -473,15 +462,14 @@ pub fn dat_binds<'a>(
     run: &'a [u8; 351],
     text: &'a [u8],
     rec: &[u8],
-    starts: &[u16],
-    lens: &[u16],
+    spans: &&[u32],
     out: &mut [u8],
     mem: &mut [u64; 68],
     at: usize,
     cfg: Cfg,
 ) -> usize
     requires { ⌜ cfg .depth + 1 ≤ 1000 ⌝ }
-    ensures { λ r. ⌜ plainly (dat-binds (walks (cfg .nesting)) (cfgOf cfg)) run text rec starts lens out mem at r ⌝ }
+    ensures { λ r. ⌜ plainly (dat-binds (walks (cfg .nesting)) (cfgOf cfg)) run text rec spans out mem at r ⌝ }
 {
     let Read::Is(n, s0) = list(rec, at) else {
         return stop(at);
@@ -490,7 +478,7 @@ pub fn dat_binds<'a>(
     let mut i = 0;
     while i < n {
         new_line(run, text, out, mem, cfg, words::AND, i);
-        let r1 = dat_bind(run, text, rec, starts, lens, out, mem, s, cfg);
+        let r1 = dat_bind(run, text, rec, spans, out, mem, s, cfg);
         let Status::Done(s1) = told(r1) else {
             return r1;
         };
@@ -505,21 +493,20 @@ pub fn ty_dec<'a>(
     run: &'a [u8; 351],
     text: &'a [u8],
     rec: &[u8],
-    starts: &[u16],
-    lens: &[u16],
+    spans: &&[u32],
     out: &mut [u8],
     mem: &mut [u64; 68],
     at: usize,
     cfg: Cfg,
 ) -> usize
-    ensures { λ r. ⌜ plainly (dec-one· (walks (cfg .nesting)) (cfgOf cfg) TyDec) run text rec starts lens out mem at r ⌝ }
+    ensures { λ r. ⌜ plainly (dec-one· (walks (cfg .nesting)) (cfgOf cfg) TyDec) run text rec spans out mem at r ⌝ }
 {
-    let r1 = text_of(run, text, rec, starts, lens, out, mem, at);
+    let r1 = text_of(run, text, rec, spans, out, mem, at);
     let Status::Done(s1) = told(r1) else {
         return r1;
     };
     word(run, text, out, mem, words::SPACE);
-    ty_binds(run, text, rec, starts, lens, out, mem, s1, cfg)
+    ty_binds(run, text, rec, spans, out, mem, s1, cfg)
 }
 
 // `DatDec`.
@@ -527,22 +514,21 @@ pub fn dat_dec<'a>(
     run: &'a [u8; 351],
     text: &'a [u8],
     rec: &[u8],
-    starts: &[u16],
-    lens: &[u16],
+    spans: &&[u32],
     out: &mut [u8],
     mem: &mut [u64; 68],
     at: usize,
     cfg: Cfg,
 ) -> usize
     requires { ⌜ cfg .depth + 1 ≤ 1000 ⌝ }
-    ensures { λ r. ⌜ plainly (dec-one· (walks (cfg .nesting)) (cfgOf cfg) DatDec) run text rec starts lens out mem at r ⌝ }
+    ensures { λ r. ⌜ plainly (dec-one· (walks (cfg .nesting)) (cfgOf cfg) DatDec) run text rec spans out mem at r ⌝ }
 {
     word(run, text, out, mem, words::DATATYPE);
-    let r1 = dat_binds(run, text, rec, starts, lens, out, mem, at, cfg);
+    let r1 = dat_binds(run, text, rec, spans, out, mem, at, cfg);
     let Status::Done(s1) = told(r1) else {
         return r1;
     };
-    with_type(run, text, rec, starts, lens, out, mem, s1, cfg)
+    with_type(run, text, rec, spans, out, mem, s1, cfg)
 }
 
 // `DatCopyDec`.
@@ -550,22 +536,21 @@ pub fn dat_copy_dec<'a>(
     run: &'a [u8; 351],
     text: &'a [u8],
     rec: &[u8],
-    starts: &[u16],
-    lens: &[u16],
+    spans: &&[u32],
     out: &mut [u8],
     mem: &mut [u64; 68],
     at: usize,
     cfg: Cfg,
 ) -> usize
-    ensures { λ r. ⌜ plainly (dec-one· (walks (cfg .nesting)) (cfgOf cfg) DatCopyDec) run text rec starts lens out mem at r ⌝ }
+    ensures { λ r. ⌜ plainly (dec-one· (walks (cfg .nesting)) (cfgOf cfg) DatCopyDec) run text rec spans out mem at r ⌝ }
 {
     word(run, text, out, mem, words::DATATYPE);
-    let r1 = text_of(run, text, rec, starts, lens, out, mem, at);
+    let r1 = text_of(run, text, rec, spans, out, mem, at);
     let Status::Done(s1) = told(r1) else {
         return r1;
     };
     word(run, text, out, mem, words::EQ_DATATYPE);
-    path(run, text, rec, starts, lens, out, mem, s1)
+    path(run, text, rec, spans, out, mem, s1)
 }
 
 // ---- names
@@ -574,14 +559,13 @@ pub fn open_dec<'a>(
     run: &'a [u8; 351],
     text: &'a [u8],
     rec: &[u8],
-    starts: &[u16],
-    lens: &[u16],
+    spans: &&[u32],
     out: &mut [u8],
     mem: &mut [u64; 68],
     at: usize,
     cfg: Cfg,
 ) -> usize
-    ensures { λ r. ⌜ plainly (dec-one· (walks (cfg .nesting)) (cfgOf cfg) OpenDec) run text rec starts lens out mem at r ⌝ }
+    ensures { λ r. ⌜ plainly (dec-one· (walks (cfg .nesting)) (cfgOf cfg) OpenDec) run text rec spans out mem at r ⌝ }
 {
     word(run, text, out, mem, words::OPEN);
     let Read::Is(n, s1) = list(rec, at) else {
@@ -591,7 +575,7 @@ pub fn open_dec<'a>(
     let mut i = 0;
     while i < n {
         between(run, text, out, mem, words::SPACE, i);
-        let r2 = path(run, text, rec, starts, lens, out, mem, s);
+        let r2 = path(run, text, rec, spans, out, mem, s);
         let Status::Done(s2) = told(r2) else {
             return r2;
         };
@@ -606,14 +590,13 @@ fn names_space<'a>(
     run: &'a [u8; 351],
     text: &'a [u8],
     rec: &[u8],
-    starts: &[u16],
-    lens: &[u16],
+    spans: &&[u32],
     out: &mut [u8],
     mem: &mut [u64; 68],
     at: usize,
     cfg: Cfg,
 ) -> usize
-    ensures { λ r. ⌜ plainly (names-space (walks (cfg .nesting))) run text rec starts lens out mem at r ⌝ }
+    ensures { λ r. ⌜ plainly (names-space (walks (cfg .nesting))) run text rec spans out mem at r ⌝ }
 {
     let Read::Is(n, s0) = list(rec, at) else {
         return stop(at);
@@ -622,7 +605,7 @@ fn names_space<'a>(
     let mut i = 0;
     while i < n {
         between(run, text, out, mem, words::SPACE, i);
-        let r1 = text_of(run, text, rec, starts, lens, out, mem, s);
+        let r1 = text_of(run, text, rec, spans, out, mem, s);
         let Status::Done(s1) = told(r1) else {
             return r1;
         };
@@ -637,19 +620,18 @@ fn int_lit<'a>(
     run: &'a [u8; 351],
     text: &'a [u8],
     rec: &[u8],
-    starts: &[u16],
-    lens: &[u16],
+    spans: &&[u32],
     out: &mut [u8],
     mem: &mut [u64; 68],
     at: usize,
     cfg: Cfg,
 ) -> usize
-    ensures { λ r. ⌜ plainly (int-lit (walks (cfg .nesting))) run text rec starts lens out mem at r ⌝ }
+    ensures { λ r. ⌜ plainly (int-lit (walks (cfg .nesting))) run text rec spans out mem at r ⌝ }
 {
     if let Gone::Past(s0) = absent(rec, at) {
         return s0;
     }
-    let r1 = text_of(run, text, rec, starts, lens, out, mem, at);
+    let r1 = text_of(run, text, rec, spans, out, mem, at);
     let Status::Done(s1) = told(r1) else {
         return r1;
     };
@@ -662,8 +644,7 @@ pub fn infix_dec<'a>(
     run: &'a [u8; 351],
     text: &'a [u8],
     rec: &[u8],
-    starts: &[u16],
-    lens: &[u16],
+    spans: &&[u32],
     out: &mut [u8],
     mem: &mut [u64; 68],
     at: usize,
@@ -672,14 +653,14 @@ pub fn infix_dec<'a>(
 ) -> usize
     ensures { λ r. ⌜
         plainly (wordOf· (wordOf w) ⨾ int-lit (walks (cfg .nesting)) ⨾ names-space (walks (cfg .nesting)))
-        run text rec starts lens out mem at r ⌝ }
+        run text rec spans out mem at r ⌝ }
 {
     word(run, text, out, mem, w);
-    let r1 = int_lit(run, text, rec, starts, lens, out, mem, at, cfg);
+    let r1 = int_lit(run, text, rec, spans, out, mem, at, cfg);
     let Status::Done(s1) = told(r1) else {
         return r1;
     };
-    names_space(run, text, rec, starts, lens, out, mem, s1, cfg)
+    names_space(run, text, rec, spans, out, mem, s1, cfg)
 }
 
 // `NonfixDec`.
@@ -687,17 +668,16 @@ pub fn nonfix_dec<'a>(
     run: &'a [u8; 351],
     text: &'a [u8],
     rec: &[u8],
-    starts: &[u16],
-    lens: &[u16],
+    spans: &&[u32],
     out: &mut [u8],
     mem: &mut [u64; 68],
     at: usize,
     cfg: Cfg,
 ) -> usize
-    ensures { λ r. ⌜ plainly (dec-one· (walks (cfg .nesting)) (cfgOf cfg) NonfixDec) run text rec starts lens out mem at r ⌝ }
+    ensures { λ r. ⌜ plainly (dec-one· (walks (cfg .nesting)) (cfgOf cfg) NonfixDec) run text rec spans out mem at r ⌝ }
 {
     word(run, text, out, mem, words::NONFIX);
-    names_space(run, text, rec, starts, lens, out, mem, at, cfg)
+    names_space(run, text, rec, spans, out, mem, at, cfg)
 }
 
 // ---- cases of functions
@@ -706,20 +686,19 @@ fn prefix_head<'a>(
     run: &'a [u8; 351],
     text: &'a [u8],
     rec: &[u8],
-    starts: &[u16],
-    lens: &[u16],
+    spans: &&[u32],
     out: &mut [u8],
     mem: &mut [u64; 68],
     at: usize,
     cfg: Cfg,
 ) -> usize
-    ensures { λ r. ⌜ plainly (PrefixFunBindCaseHead (walks (cfg .nesting))) run text rec starts lens out mem at r ⌝ }
+    ensures { λ r. ⌜ plainly (PrefixFunBindCaseHead (walks (cfg .nesting))) run text rec spans out mem at r ⌝ }
 {
-    let r1 = word_if(run, text, rec, starts, lens, out, mem, at, words::OP_SPACE);
+    let r1 = word_if(run, text, rec, spans, out, mem, at, words::OP_SPACE);
     let Status::Done(s1) = told(r1) else {
         return r1;
     };
-    text_of(run, text, rec, starts, lens, out, mem, s1)
+    text_of(run, text, rec, spans, out, mem, s1)
 }
 
 // A name between two patterns.
@@ -727,26 +706,25 @@ fn infix_pats<'a>(
     run: &'a [u8; 351],
     text: &'a [u8],
     rec: &[u8],
-    starts: &[u16],
-    lens: &[u16],
+    spans: &&[u32],
     out: &mut [u8],
     mem: &mut [u64; 68],
     at: usize,
     cfg: Cfg,
 ) -> usize
-    ensures { λ r. ⌜ plainly (infix-head (walks (cfg .nesting))) run text rec starts lens out mem at r ⌝ }
+    ensures { λ r. ⌜ plainly (infix-head (walks (cfg .nesting))) run text rec spans out mem at r ⌝ }
 {
-    let r1 = get_pat(run, text, rec, starts, lens, out, mem, at, cfg);
+    let r1 = get_pat(run, text, rec, spans, out, mem, at, cfg);
     let Status::Done(s1) = told(r1) else {
         return r1;
     };
     word(run, text, out, mem, words::SPACE);
-    let r2 = text_of(run, text, rec, starts, lens, out, mem, s1);
+    let r2 = text_of(run, text, rec, spans, out, mem, s1);
     let Status::Done(s2) = told(r2) else {
         return r2;
     };
     word(run, text, out, mem, words::SPACE);
-    get_pat(run, text, rec, starts, lens, out, mem, s2, cfg)
+    get_pat(run, text, rec, spans, out, mem, s2, cfg)
 }
 
 // The same in parentheses.
@@ -754,17 +732,16 @@ fn infix_in_parens<'a>(
     run: &'a [u8; 351],
     text: &'a [u8],
     rec: &[u8],
-    starts: &[u16],
-    lens: &[u16],
+    spans: &&[u32],
     out: &mut [u8],
     mem: &mut [u64; 68],
     at: usize,
     cfg: Cfg,
 ) -> usize
-    ensures { λ r. ⌜ plainly (wordOf· "(" ⨾ infix-head (walks (cfg .nesting)) ⨾ wordOf· ")") run text rec starts lens out mem at r ⌝ }
+    ensures { λ r. ⌜ plainly (wordOf· "(" ⨾ infix-head (walks (cfg .nesting)) ⨾ wordOf· ")") run text rec spans out mem at r ⌝ }
 {
     word(run, text, out, mem, words::L_ROUND);
-    let r1 = infix_pats(run, text, rec, starts, lens, out, mem, at, cfg);
+    let r1 = infix_pats(run, text, rec, spans, out, mem, at, cfg);
     let Status::Done(s1) = told(r1) else {
         return r1;
     };
@@ -777,19 +754,18 @@ fn infix_head<'a>(
     run: &'a [u8; 351],
     text: &'a [u8],
     rec: &[u8],
-    starts: &[u16],
-    lens: &[u16],
+    spans: &&[u32],
     out: &mut [u8],
     mem: &mut [u64; 68],
     at: usize,
     cfg: Cfg,
 ) -> usize
-    ensures { λ r. ⌜ plainly (InfixFunBindCaseHead (walks (cfg .nesting))) run text rec starts lens out mem at r ⌝ }
+    ensures { λ r. ⌜ plainly (InfixFunBindCaseHead (walks (cfg .nesting))) run text rec spans out mem at r ⌝ }
 {
-    let given = present(rec, starts.len(), at);
+    let given = present(rec, spans, at);
     match given {
-        Given::There(s) => infix_in_parens(run, text, rec, starts, lens, out, mem, s, cfg),
-        Given::Absent(s) => infix_pats(run, text, rec, starts, lens, out, mem, s, cfg),
+        Given::There(s) => infix_in_parens(run, text, rec, spans, out, mem, s, cfg),
+        Given::Absent(s) => infix_pats(run, text, rec, spans, out, mem, s, cfg),
         Given::Neither => stop(at),
     }
 }
@@ -799,19 +775,18 @@ fn case_head_of<'a>(
     run: &'a [u8; 351],
     text: &'a [u8],
     rec: &[u8],
-    starts: &[u16],
-    lens: &[u16],
+    spans: &&[u32],
     out: &mut [u8],
     mem: &mut [u64; 68],
     at: usize,
     cfg: Cfg,
     which: usize,
 ) -> usize
-    ensures { λ r. ⌜ plainly (case-head (walks (cfg .nesting)) which) run text rec starts lens out mem at r ⌝ }
+    ensures { λ r. ⌜ plainly (case-head (walks (cfg .nesting)) which) run text rec spans out mem at r ⌝ }
 {
     match which {
-        0 => prefix_head(run, text, rec, starts, lens, out, mem, at, cfg),
-        1 => infix_head(run, text, rec, starts, lens, out, mem, at, cfg),
+        0 => prefix_head(run, text, rec, spans, out, mem, at, cfg),
+        1 => infix_head(run, text, rec, spans, out, mem, at, cfg),
         _ => stop(at),
     }
 }
@@ -821,19 +796,18 @@ pub fn case_head<'a>(
     run: &'a [u8; 351],
     text: &'a [u8],
     rec: &[u8],
-    starts: &[u16],
-    lens: &[u16],
+    spans: &&[u32],
     out: &mut [u8],
     mem: &mut [u64; 68],
     at: usize,
     cfg: Cfg,
 ) -> usize
-    ensures { λ r. ⌜ plainly (choice· (case-head (walks (cfg .nesting)))) run text rec starts lens out mem at r ⌝ }
+    ensures { λ r. ⌜ plainly (choice· (case-head (walks (cfg .nesting)))) run text rec spans out mem at r ⌝ }
 {
     let Read::Is(k, s1) = choice(rec, at) else {
         return stop(at);
     };
-    case_head_of(run, text, rec, starts, lens, out, mem, s1, cfg, k)
+    case_head_of(run, text, rec, spans, out, mem, s1, cfg, k)
 }
 
 // The patterns of a case of `FunDec`, with a space before each.
@@ -841,14 +815,13 @@ pub fn case_pats<'a>(
     run: &'a [u8; 351],
     text: &'a [u8],
     rec: &[u8],
-    starts: &[u16],
-    lens: &[u16],
+    spans: &&[u32],
     out: &mut [u8],
     mem: &mut [u64; 68],
     at: usize,
     cfg: Cfg,
 ) -> usize
-    ensures { λ r. ⌜ plainly (case-pats (walks (cfg .nesting))) run text rec starts lens out mem at r ⌝ }
+    ensures { λ r. ⌜ plainly (case-pats (walks (cfg .nesting))) run text rec spans out mem at r ⌝ }
 {
     let Read::Is(n, s0) = list(rec, at) else {
         return stop(at);
@@ -857,7 +830,7 @@ pub fn case_pats<'a>(
     let mut i = 0;
     while i < n {
         word(run, text, out, mem, words::SPACE);
-        let r1 = get_pat(run, text, rec, starts, lens, out, mem, s, cfg);
+        let r1 = get_pat(run, text, rec, spans, out, mem, s, cfg);
         let Status::Done(s1) = told(r1) else {
             return r1;
         };
@@ -873,17 +846,16 @@ pub fn ex_bind_of<'a>(
     run: &'a [u8; 351],
     text: &'a [u8],
     rec: &[u8],
-    starts: &[u16],
-    lens: &[u16],
+    spans: &&[u32],
     out: &mut [u8],
     mem: &mut [u64; 68],
     at: usize,
     cfg: Cfg,
 ) -> usize
-    ensures { λ r. ⌜ plainly (ex-bind-of (walks (cfg .nesting))) run text rec starts lens out mem at r ⌝ }
+    ensures { λ r. ⌜ plainly (ex-bind-of (walks (cfg .nesting))) run text rec spans out mem at r ⌝ }
 {
     word(run, text, out, mem, words::OF);
-    get_ty(run, text, rec, starts, lens, out, mem, at, cfg)
+    get_ty(run, text, rec, spans, out, mem, at, cfg)
 }
 
 // An item of `sharing_tails`.
@@ -891,14 +863,13 @@ fn sharing_tail<'a>(
     run: &'a [u8; 351],
     text: &'a [u8],
     rec: &[u8],
-    starts: &[u16],
-    lens: &[u16],
+    spans: &&[u32],
     out: &mut [u8],
     mem: &mut [u64; 68],
     at: usize,
     cfg: Cfg,
 ) -> usize
-    ensures { λ r. ⌜ plainly (sharing-tail (walks (cfg .nesting)) (cfgOf cfg)) run text rec starts lens out mem at r ⌝ }
+    ensures { λ r. ⌜ plainly (sharing-tail (walks (cfg .nesting)) (cfgOf cfg)) run text rec spans out mem at r ⌝ }
 {
     let r1 = group(rec, at);
     let Status::Done(s1) = told(r1) else {
@@ -917,7 +888,7 @@ fn sharing_tail<'a>(
         let Status::Done(s3) = told(r3) else {
             return r3;
         };
-        let r4 = path(run, text, rec, starts, lens, out, mem, s3);
+        let r4 = path(run, text, rec, spans, out, mem, s3);
         let Status::Done(s4) = told(r4) else {
             return r4;
         };
@@ -932,14 +903,13 @@ pub fn sharing_tails<'a>(
     run: &'a [u8; 351],
     text: &'a [u8],
     rec: &[u8],
-    starts: &[u16],
-    lens: &[u16],
+    spans: &&[u32],
     out: &mut [u8],
     mem: &mut [u64; 68],
     at: usize,
     cfg: Cfg,
 ) -> usize
-    ensures { λ r. ⌜ plainly (sharing-tails (walks (cfg .nesting)) (cfgOf cfg)) run text rec starts lens out mem at r ⌝ }
+    ensures { λ r. ⌜ plainly (sharing-tails (walks (cfg .nesting)) (cfgOf cfg)) run text rec spans out mem at r ⌝ }
 {
     let Read::Is(n, s0) = list(rec, at) else {
         return stop(at);
@@ -947,7 +917,7 @@ pub fn sharing_tails<'a>(
     let mut s = s0;
     let mut i = 0;
     while i < n {
-        let r1 = sharing_tail(run, text, rec, starts, lens, out, mem, s, cfg);
+        let r1 = sharing_tail(run, text, rec, spans, out, mem, s, cfg);
         let Status::Done(s1) = told(r1) else {
             return r1;
         };

@@ -29,17 +29,16 @@ fn con_arg_there<'a>(
     run: &'a [u8; 351],
     text: &'a [u8],
     rec: &[u8],
-    starts: &[u16],
-    lens: &[u16],
+    spans: &&[u32],
     out: &mut [u8],
     mem: &mut [u64; 68],
     at: usize,
     cfg: Cfg,
 ) -> usize
-    ensures { λ r. ⌜ plainly (con-arg-there (walks (cfg .nesting))) run text rec starts lens out mem at r ⌝ }
+    ensures { λ r. ⌜ plainly (con-arg-there (walks (cfg .nesting))) run text rec spans out mem at r ⌝ }
 {
     word(run, text, out, mem, words::SPACE);
-    get_pat(run, text, rec, starts, lens, out, mem, at, cfg)
+    get_pat(run, text, rec, spans, out, mem, at, cfg)
 }
 
 // The argument of a constructor, where there is one.
@@ -47,19 +46,18 @@ fn con_arg<'a>(
     run: &'a [u8; 351],
     text: &'a [u8],
     rec: &[u8],
-    starts: &[u16],
-    lens: &[u16],
+    spans: &&[u32],
     out: &mut [u8],
     mem: &mut [u64; 68],
     at: usize,
     cfg: Cfg,
 ) -> usize
-    ensures { λ r. ⌜ plainly (con-arg (walks (cfg .nesting))) run text rec starts lens out mem at r ⌝ }
+    ensures { λ r. ⌜ plainly (con-arg (walks (cfg .nesting))) run text rec spans out mem at r ⌝ }
 {
     let gone = absent(rec, at);
     match gone {
         Gone::Past(s) => s,
-        Gone::There => con_arg_there(run, text, rec, starts, lens, out, mem, at, cfg),
+        Gone::There => con_arg_there(run, text, rec, spans, out, mem, at, cfg),
     }
 }
 
@@ -68,20 +66,19 @@ fn con_pat<'a>(
     run: &'a [u8; 351],
     text: &'a [u8],
     rec: &[u8],
-    starts: &[u16],
-    lens: &[u16],
+    spans: &&[u32],
     out: &mut [u8],
     mem: &mut [u64; 68],
     at: usize,
     cfg: Cfg,
 ) -> usize
-    ensures { λ r. ⌜ plainly (pat· (walks (cfg .nesting)) ConPat) run text rec starts lens out mem at r ⌝ }
+    ensures { λ r. ⌜ plainly (pat· (walks (cfg .nesting)) ConPat) run text rec spans out mem at r ⌝ }
 {
-    let r1 = op_path(run, text, rec, starts, lens, out, mem, at);
+    let r1 = op_path(run, text, rec, spans, out, mem, at);
     let Status::Done(s1) = told(r1) else {
         return r1;
     };
-    con_arg(run, text, rec, starts, lens, out, mem, s1, cfg)
+    con_arg(run, text, rec, spans, out, mem, s1, cfg)
 }
 
 // `LabAndPatPatRow`.
@@ -89,21 +86,20 @@ fn lab_and_pat<'a>(
     run: &'a [u8; 351],
     text: &'a [u8],
     rec: &[u8],
-    starts: &[u16],
-    lens: &[u16],
+    spans: &&[u32],
     out: &mut [u8],
     mem: &mut [u64; 68],
     at: usize,
     cfg: Cfg,
 ) -> usize
-    ensures { λ r. ⌜ plainly (LabAndPatPatRow (walks (cfg .nesting))) run text rec starts lens out mem at r ⌝ }
+    ensures { λ r. ⌜ plainly (LabAndPatPatRow (walks (cfg .nesting))) run text rec spans out mem at r ⌝ }
 {
-    let r1 = text_of(run, text, rec, starts, lens, out, mem, at);
+    let r1 = text_of(run, text, rec, spans, out, mem, at);
     let Status::Done(s1) = told(r1) else {
         return r1;
     };
     word(run, text, out, mem, words::EQ_SPACED);
-    get_pat(run, text, rec, starts, lens, out, mem, s1, cfg)
+    get_pat(run, text, rec, spans, out, mem, s1, cfg)
 }
 
 // A tail that is there.
@@ -111,21 +107,20 @@ fn as_tail_there<'a>(
     run: &'a [u8; 351],
     text: &'a [u8],
     rec: &[u8],
-    starts: &[u16],
-    lens: &[u16],
+    spans: &&[u32],
     out: &mut [u8],
     mem: &mut [u64; 68],
     at: usize,
     cfg: Cfg,
 ) -> usize
-    ensures { λ r. ⌜ plainly (as-tail-there (walks (cfg .nesting))) run text rec starts lens out mem at r ⌝ }
+    ensures { λ r. ⌜ plainly (as-tail-there (walks (cfg .nesting))) run text rec spans out mem at r ⌝ }
 {
     let r1 = group(rec, at);
     let Status::Done(s1) = told(r1) else {
         return r1;
     };
     word(run, text, out, mem, words::AS);
-    get_pat(run, text, rec, starts, lens, out, mem, s1, cfg)
+    get_pat(run, text, rec, spans, out, mem, s1, cfg)
 }
 
 // `as` and a pattern, where there are any.
@@ -133,19 +128,18 @@ fn as_tail<'a>(
     run: &'a [u8; 351],
     text: &'a [u8],
     rec: &[u8],
-    starts: &[u16],
-    lens: &[u16],
+    spans: &&[u32],
     out: &mut [u8],
     mem: &mut [u64; 68],
     at: usize,
     cfg: Cfg,
 ) -> usize
-    ensures { λ r. ⌜ plainly (as-tail (walks (cfg .nesting))) run text rec starts lens out mem at r ⌝ }
+    ensures { λ r. ⌜ plainly (as-tail (walks (cfg .nesting))) run text rec spans out mem at r ⌝ }
 {
     let gone = absent(rec, at);
     match gone {
         Gone::Past(s) => s,
-        Gone::There => as_tail_there(run, text, rec, starts, lens, out, mem, at, cfg),
+        Gone::There => as_tail_there(run, text, rec, spans, out, mem, at, cfg),
     }
 }
 
@@ -154,24 +148,23 @@ fn lab_pat<'a>(
     run: &'a [u8; 351],
     text: &'a [u8],
     rec: &[u8],
-    starts: &[u16],
-    lens: &[u16],
+    spans: &&[u32],
     out: &mut [u8],
     mem: &mut [u64; 68],
     at: usize,
     cfg: Cfg,
 ) -> usize
-    ensures { λ r. ⌜ plainly (LabPatRow (walks (cfg .nesting))) run text rec starts lens out mem at r ⌝ }
+    ensures { λ r. ⌜ plainly (LabPatRow (walks (cfg .nesting))) run text rec spans out mem at r ⌝ }
 {
-    let r1 = text_of(run, text, rec, starts, lens, out, mem, at);
+    let r1 = text_of(run, text, rec, spans, out, mem, at);
     let Status::Done(s1) = told(r1) else {
         return r1;
     };
-    let r2 = ty_annotation(run, text, rec, starts, lens, out, mem, s1, cfg);
+    let r2 = ty_annotation(run, text, rec, spans, out, mem, s1, cfg);
     let Status::Done(s2) = told(r2) else {
         return r2;
     };
-    as_tail(run, text, rec, starts, lens, out, mem, s2, cfg)
+    as_tail(run, text, rec, spans, out, mem, s2, cfg)
 }
 
 // What a row holds, by its number.
@@ -179,23 +172,22 @@ fn row_inner<'a>(
     run: &'a [u8; 351],
     text: &'a [u8],
     rec: &[u8],
-    starts: &[u16],
-    lens: &[u16],
+    spans: &&[u32],
     out: &mut [u8],
     mem: &mut [u64; 68],
     at: usize,
     cfg: Cfg,
     which: usize,
 ) -> usize
-    ensures { λ r. ⌜ plainly (pat-row-inner (walks (cfg .nesting)) which) run text rec starts lens out mem at r ⌝ }
+    ensures { λ r. ⌜ plainly (pat-row-inner (walks (cfg .nesting)) which) run text rec spans out mem at r ⌝ }
 {
     match which {
         0 => {
             word(run, text, out, mem, words::DOT_DOT_DOT);
             at
         }
-        1 => lab_and_pat(run, text, rec, starts, lens, out, mem, at, cfg),
-        2 => lab_pat(run, text, rec, starts, lens, out, mem, at, cfg),
+        1 => lab_and_pat(run, text, rec, spans, out, mem, at, cfg),
+        2 => lab_pat(run, text, rec, spans, out, mem, at, cfg),
         _ => stop(at),
     }
 }
@@ -205,14 +197,13 @@ fn row<'a>(
     run: &'a [u8; 351],
     text: &'a [u8],
     rec: &[u8],
-    starts: &[u16],
-    lens: &[u16],
+    spans: &&[u32],
     out: &mut [u8],
     mem: &mut [u64; 68],
     at: usize,
     cfg: Cfg,
 ) -> usize
-    ensures { λ r. ⌜ plainly (pat-row (walks (cfg .nesting))) run text rec starts lens out mem at r ⌝ }
+    ensures { λ r. ⌜ plainly (pat-row (walks (cfg .nesting))) run text rec spans out mem at r ⌝ }
 {
     let r1 = group(rec, at);
     let Status::Done(s1) = told(r1) else {
@@ -221,7 +212,7 @@ fn row<'a>(
     let Read::Is(k, s2) = choice(rec, s1) else {
         return stop(s1);
     };
-    row_inner(run, text, rec, starts, lens, out, mem, s2, cfg, k)
+    row_inner(run, text, rec, spans, out, mem, s2, cfg, k)
 }
 
 // The rows of a record pattern.
@@ -229,14 +220,13 @@ fn rows<'a>(
     run: &'a [u8; 351],
     text: &'a [u8],
     rec: &[u8],
-    starts: &[u16],
-    lens: &[u16],
+    spans: &&[u32],
     out: &mut [u8],
     mem: &mut [u64; 68],
     at: usize,
     cfg: Cfg,
 ) -> usize
-    ensures { λ r. ⌜ plainly (pat-rows (walks (cfg .nesting))) run text rec starts lens out mem at r ⌝ }
+    ensures { λ r. ⌜ plainly (pat-rows (walks (cfg .nesting))) run text rec spans out mem at r ⌝ }
 {
     let Read::Is(n, s0) = list(rec, at) else {
         return stop(at);
@@ -245,7 +235,7 @@ fn rows<'a>(
     let mut i = 0;
     while i < n {
         between(run, text, out, mem, words::COMMA, i);
-        let r1 = row(run, text, rec, starts, lens, out, mem, s, cfg);
+        let r1 = row(run, text, rec, spans, out, mem, s, cfg);
         let Status::Done(s1) = told(r1) else {
             return r1;
         };
@@ -260,17 +250,16 @@ fn record_pat<'a>(
     run: &'a [u8; 351],
     text: &'a [u8],
     rec: &[u8],
-    starts: &[u16],
-    lens: &[u16],
+    spans: &&[u32],
     out: &mut [u8],
     mem: &mut [u64; 68],
     at: usize,
     cfg: Cfg,
 ) -> usize
-    ensures { λ r. ⌜ plainly (pat· (walks (cfg .nesting)) RecordPat) run text rec starts lens out mem at r ⌝ }
+    ensures { λ r. ⌜ plainly (pat· (walks (cfg .nesting)) RecordPat) run text rec spans out mem at r ⌝ }
 {
     word(run, text, out, mem, words::L_CURLY);
-    let r1 = rows(run, text, rec, starts, lens, out, mem, at, cfg);
+    let r1 = rows(run, text, rec, spans, out, mem, at, cfg);
     let Status::Done(s1) = told(r1) else {
         return r1;
     };
@@ -283,17 +272,16 @@ fn paren_pat<'a>(
     run: &'a [u8; 351],
     text: &'a [u8],
     rec: &[u8],
-    starts: &[u16],
-    lens: &[u16],
+    spans: &&[u32],
     out: &mut [u8],
     mem: &mut [u64; 68],
     at: usize,
     cfg: Cfg,
 ) -> usize
-    ensures { λ r. ⌜ plainly (pat· (walks (cfg .nesting)) ParenPat) run text rec starts lens out mem at r ⌝ }
+    ensures { λ r. ⌜ plainly (pat· (walks (cfg .nesting)) ParenPat) run text rec spans out mem at r ⌝ }
 {
     word(run, text, out, mem, words::L_ROUND);
-    let r1 = get_pat(run, text, rec, starts, lens, out, mem, at, cfg);
+    let r1 = get_pat(run, text, rec, spans, out, mem, at, cfg);
     let Status::Done(s1) = told(r1) else {
         return r1;
     };
@@ -306,14 +294,13 @@ fn pat_args<'a>(
     run: &'a [u8; 351],
     text: &'a [u8],
     rec: &[u8],
-    starts: &[u16],
-    lens: &[u16],
+    spans: &&[u32],
     out: &mut [u8],
     mem: &mut [u64; 68],
     at: usize,
     cfg: Cfg,
 ) -> usize
-    ensures { λ r. ⌜ plainly (pat-args (walks (cfg .nesting))) run text rec starts lens out mem at r ⌝ }
+    ensures { λ r. ⌜ plainly (pat-args (walks (cfg .nesting))) run text rec spans out mem at r ⌝ }
 {
     let Read::Is(n, s0) = list(rec, at) else {
         return stop(at);
@@ -326,7 +313,7 @@ fn pat_args<'a>(
         let Status::Done(s1) = told(r1) else {
             return r1;
         };
-        let r2 = get_pat(run, text, rec, starts, lens, out, mem, s1, cfg);
+        let r2 = get_pat(run, text, rec, spans, out, mem, s1, cfg);
         let Status::Done(s2) = told(r2) else {
             return r2;
         };
@@ -341,17 +328,16 @@ fn tuple_pat<'a>(
     run: &'a [u8; 351],
     text: &'a [u8],
     rec: &[u8],
-    starts: &[u16],
-    lens: &[u16],
+    spans: &&[u32],
     out: &mut [u8],
     mem: &mut [u64; 68],
     at: usize,
     cfg: Cfg,
 ) -> usize
-    ensures { λ r. ⌜ plainly (pat· (walks (cfg .nesting)) TuplePat) run text rec starts lens out mem at r ⌝ }
+    ensures { λ r. ⌜ plainly (pat· (walks (cfg .nesting)) TuplePat) run text rec spans out mem at r ⌝ }
 {
     word(run, text, out, mem, words::L_ROUND);
-    let r1 = pat_args(run, text, rec, starts, lens, out, mem, at, cfg);
+    let r1 = pat_args(run, text, rec, spans, out, mem, at, cfg);
     let Status::Done(s1) = told(r1) else {
         return r1;
     };
@@ -364,17 +350,16 @@ fn list_pat<'a>(
     run: &'a [u8; 351],
     text: &'a [u8],
     rec: &[u8],
-    starts: &[u16],
-    lens: &[u16],
+    spans: &&[u32],
     out: &mut [u8],
     mem: &mut [u64; 68],
     at: usize,
     cfg: Cfg,
 ) -> usize
-    ensures { λ r. ⌜ plainly (pat· (walks (cfg .nesting)) ListPat) run text rec starts lens out mem at r ⌝ }
+    ensures { λ r. ⌜ plainly (pat· (walks (cfg .nesting)) ListPat) run text rec spans out mem at r ⌝ }
 {
     word(run, text, out, mem, words::L_SQUARE);
-    let r1 = pat_args(run, text, rec, starts, lens, out, mem, at, cfg);
+    let r1 = pat_args(run, text, rec, spans, out, mem, at, cfg);
     let Status::Done(s1) = told(r1) else {
         return r1;
     };
@@ -387,21 +372,20 @@ fn vector_pat<'a>(
     run: &'a [u8; 351],
     text: &'a [u8],
     rec: &[u8],
-    starts: &[u16],
-    lens: &[u16],
+    spans: &&[u32],
     out: &mut [u8],
     mem: &mut [u64; 68],
     at: usize,
     cfg: Cfg,
 ) -> usize
-    ensures { λ r. ⌜ plainly (pat· (walks (cfg .nesting)) VectorPat) run text rec starts lens out mem at r ⌝ }
+    ensures { λ r. ⌜ plainly (pat· (walks (cfg .nesting)) VectorPat) run text rec spans out mem at r ⌝ }
 {
     word(run, text, out, mem, words::HASH_L_SQUARE);
     let r1 = group(rec, at);
     let Status::Done(s1) = told(r1) else {
         return r1;
     };
-    let r2 = pat_args(run, text, rec, starts, lens, out, mem, s1, cfg);
+    let r2 = pat_args(run, text, rec, spans, out, mem, s1, cfg);
     let Status::Done(s2) = told(r2) else {
         return r2;
     };
@@ -414,26 +398,25 @@ fn infix_pat<'a>(
     run: &'a [u8; 351],
     text: &'a [u8],
     rec: &[u8],
-    starts: &[u16],
-    lens: &[u16],
+    spans: &&[u32],
     out: &mut [u8],
     mem: &mut [u64; 68],
     at: usize,
     cfg: Cfg,
 ) -> usize
-    ensures { λ r. ⌜ plainly (pat· (walks (cfg .nesting)) InfixPat) run text rec starts lens out mem at r ⌝ }
+    ensures { λ r. ⌜ plainly (pat· (walks (cfg .nesting)) InfixPat) run text rec spans out mem at r ⌝ }
 {
-    let r1 = get_pat(run, text, rec, starts, lens, out, mem, at, cfg);
+    let r1 = get_pat(run, text, rec, spans, out, mem, at, cfg);
     let Status::Done(s1) = told(r1) else {
         return r1;
     };
     word(run, text, out, mem, words::SPACE);
-    let r2 = text_of(run, text, rec, starts, lens, out, mem, s1);
+    let r2 = text_of(run, text, rec, spans, out, mem, s1);
     let Status::Done(s2) = told(r2) else {
         return r2;
     };
     word(run, text, out, mem, words::SPACE);
-    get_pat(run, text, rec, starts, lens, out, mem, s2, cfg)
+    get_pat(run, text, rec, spans, out, mem, s2, cfg)
 }
 
 // `TypedPat`.
@@ -441,21 +424,20 @@ fn typed_pat<'a>(
     run: &'a [u8; 351],
     text: &'a [u8],
     rec: &[u8],
-    starts: &[u16],
-    lens: &[u16],
+    spans: &&[u32],
     out: &mut [u8],
     mem: &mut [u64; 68],
     at: usize,
     cfg: Cfg,
 ) -> usize
-    ensures { λ r. ⌜ plainly (pat· (walks (cfg .nesting)) TypedPat) run text rec starts lens out mem at r ⌝ }
+    ensures { λ r. ⌜ plainly (pat· (walks (cfg .nesting)) TypedPat) run text rec spans out mem at r ⌝ }
 {
-    let r1 = get_pat(run, text, rec, starts, lens, out, mem, at, cfg);
+    let r1 = get_pat(run, text, rec, spans, out, mem, at, cfg);
     let Status::Done(s1) = told(r1) else {
         return r1;
     };
     word(run, text, out, mem, words::COLON);
-    get_ty(run, text, rec, starts, lens, out, mem, s1, cfg)
+    get_ty(run, text, rec, spans, out, mem, s1, cfg)
 }
 
 // `AsPat`.
@@ -463,16 +445,15 @@ fn as_pat<'a>(
     run: &'a [u8; 351],
     text: &'a [u8],
     rec: &[u8],
-    starts: &[u16],
-    lens: &[u16],
+    spans: &&[u32],
     out: &mut [u8],
     mem: &mut [u64; 68],
     at: usize,
     cfg: Cfg,
 ) -> usize
-    ensures { λ r. ⌜ plainly (pat· (walks (cfg .nesting)) AsPat) run text rec starts lens out mem at r ⌝ }
+    ensures { λ r. ⌜ plainly (pat· (walks (cfg .nesting)) AsPat) run text rec spans out mem at r ⌝ }
 {
-    let r1 = get_pat(run, text, rec, starts, lens, out, mem, at, cfg);
+    let r1 = get_pat(run, text, rec, spans, out, mem, at, cfg);
     let Status::Done(s1) = told(r1) else {
         return r1;
     };
@@ -481,7 +462,7 @@ fn as_pat<'a>(
     let Status::Done(s2) = told(r2) else {
         return r2;
     };
-    get_pat(run, text, rec, starts, lens, out, mem, s2, cfg)
+    get_pat(run, text, rec, spans, out, mem, s2, cfg)
 }
 
 // `OrPat`.
@@ -489,21 +470,20 @@ fn or_pat<'a>(
     run: &'a [u8; 351],
     text: &'a [u8],
     rec: &[u8],
-    starts: &[u16],
-    lens: &[u16],
+    spans: &&[u32],
     out: &mut [u8],
     mem: &mut [u64; 68],
     at: usize,
     cfg: Cfg,
 ) -> usize
-    ensures { λ r. ⌜ plainly (pat· (walks (cfg .nesting)) OrPat) run text rec starts lens out mem at r ⌝ }
+    ensures { λ r. ⌜ plainly (pat· (walks (cfg .nesting)) OrPat) run text rec spans out mem at r ⌝ }
 {
-    let r1 = get_pat(run, text, rec, starts, lens, out, mem, at, cfg);
+    let r1 = get_pat(run, text, rec, spans, out, mem, at, cfg);
     let Status::Done(s1) = told(r1) else {
         return r1;
     };
     word(run, text, out, mem, words::BAR_SPACED);
-    get_pat(run, text, rec, starts, lens, out, mem, s1, cfg)
+    get_pat(run, text, rec, spans, out, mem, s1, cfg)
 }
 
 // A pattern.
@@ -511,14 +491,13 @@ pub fn get_pat<'a>(
     run: &'a [u8; 351],
     text: &'a [u8],
     rec: &[u8],
-    starts: &[u16],
-    lens: &[u16],
+    spans: &&[u32],
     out: &mut [u8],
     mem: &mut [u64; 68],
     at: usize,
     cfg: Cfg,
 ) -> usize
-    ensures { λ r. ⌜ plainly (walks (cfg .nesting) .get-pat) run text rec starts lens out mem at r ⌝ }
+    ensures { λ r. ⌜ plainly (walks (cfg .nesting) .get-pat) run text rec spans out mem at r ⌝ }
 {
     let left = cfg.nesting;
     if left == 0 {
@@ -537,17 +516,17 @@ pub fn get_pat<'a>(
             word(run, text, out, mem, words::UNDERSCORE);
             s
         }
-        1 => text_of(run, text, rec, starts, lens, out, mem, s),
-        2 => con_pat(run, text, rec, starts, lens, out, mem, s, sub),
-        3 => record_pat(run, text, rec, starts, lens, out, mem, s, sub),
-        4 => paren_pat(run, text, rec, starts, lens, out, mem, s, sub),
-        5 => tuple_pat(run, text, rec, starts, lens, out, mem, s, sub),
-        6 => list_pat(run, text, rec, starts, lens, out, mem, s, sub),
-        7 => vector_pat(run, text, rec, starts, lens, out, mem, s, sub),
-        8 => infix_pat(run, text, rec, starts, lens, out, mem, s, sub),
-        9 => typed_pat(run, text, rec, starts, lens, out, mem, s, sub),
-        10 => as_pat(run, text, rec, starts, lens, out, mem, s, sub),
-        11 => or_pat(run, text, rec, starts, lens, out, mem, s, sub),
+        1 => text_of(run, text, rec, spans, out, mem, s),
+        2 => con_pat(run, text, rec, spans, out, mem, s, sub),
+        3 => record_pat(run, text, rec, spans, out, mem, s, sub),
+        4 => paren_pat(run, text, rec, spans, out, mem, s, sub),
+        5 => tuple_pat(run, text, rec, spans, out, mem, s, sub),
+        6 => list_pat(run, text, rec, spans, out, mem, s, sub),
+        7 => vector_pat(run, text, rec, spans, out, mem, s, sub),
+        8 => infix_pat(run, text, rec, spans, out, mem, s, sub),
+        9 => typed_pat(run, text, rec, spans, out, mem, s, sub),
+        10 => as_pat(run, text, rec, spans, out, mem, s, sub),
+        11 => or_pat(run, text, rec, spans, out, mem, s, sub),
         _ => stop(s),
     }
 }

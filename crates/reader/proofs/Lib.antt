@@ -4,6 +4,7 @@ pub mod GrammarLaws
 pub mod TreeLaws
 pub mod FieldLaws
 pub mod Bounded
+pub mod SpanLaws
 pub mod TokenLaws
 pub mod RowLaws
 pub mod EvenLaws

@@ -1,5 +1,5 @@
 -- Laws of the tokens: the tables, filled from the front, hold what the definition puts together from the back.
-use Prim.Native.Nat.{ℕ, suc, _+_, _-_, _≤_, _<_}
+use Prim.Native.Nat.{ℕ, suc, _+_, _*_, _-_, _≤_, _<_}
 use mathlib.Core.Path.{_≡_, refl, sym, _∙_, ap}
 use mathlib.Core.List.{List, [], _∷_, _++_, append-assoc, append-nil}
 use mathlib.Core.Bool.{Bool, true, false, _&&_}
@@ -17,8 +17,9 @@ use Rattle.reader.specs.declared.tokens.Next.the-variants.{Is, Malformed
 use Rattle.reader.specs.declared.tokens.Tiled as Code
 use Rattle.reader.specs.declared.tokens.Tiled.the-variants as Case
 use Rattle.reader.specs.Tokens.{Tokens, noTokens, Tiling, tiled, untiled, isToken, endTokens, withToken, tokensFrom, tokens}
-use Rattle.reader.specs.Contracts.Tokens.{nextAt, tokensIn, endAt, Long, Tiles}
+use Rattle.reader.specs.Contracts.Tokens.{startsOf, lengthsOf, nextAt, tokensIn, endAt, Long, Tiles}
 use Rattle.reader.proofs.CommandLaws.{and-left, and-right, command-fits}
+use Rattle.reader.proofs.SpanLaws.{starts-set, lengths-set}
 
 -- ---- the next token
 module _ (boundary : ℕ → Bool) (size : ℕ) (rec : List ℕ) (start at : ℕ) where
@@ -242,19 +243,28 @@ module _ {boundary : ℕ → Bool} {size : ℕ} {rec kinds starts lens : List �
   filled-all h e f =
       rw f (ends (eqb start size) refl (ap (prefix (tokensIn count kinds starts lens)) (sym (full-end boundary size rec start at e)) ∙ full h))
 
+-- One more token in a table of spans.
+pub filled-span : {boundary : ℕ → Bool} {size : ℕ} {rec kinds : List ℕ} (spans : List ℕ) {count start at kind span len : ℕ}
+    → Filled boundary size rec kinds (startsOf spans) (lengthsOf spans) count start at → count < 4096 → size < 65536
+    → Is kind len ≡ nextAt boundary size rec start at → span ≡ 65536 * start + len
+    → Filled boundary size rec (set kinds count kind) (startsOf (set spans count span)) (lengthsOf (set spans count span)) (count + 1) (start + len) (at + 4)
+filled-span {boundary} {size} {rec} spans {count} {start} {at} {len = len} p h m e s =
+    let small : len < 65536 = omega (arith, is-within boundary size rec start at e) in
+    rw (starts-set spans count start len s small, lengths-set spans count start len s small) (filled-more p h e)
+
 prefix-nothing : (u : Tiling) → prefix noTokens u ≡ u
 prefix-nothing (tiled us end) = refl
 prefix-nothing (untiled place) = refl
 
-pub filled-none : (boundary : ℕ → Bool) (size : ℕ) (rec kinds starts lens : List ℕ) → length kinds ≡ 4096 → length starts ≡ 4096 → length lens ≡ 4096
+pub filled-none : (boundary : ℕ → Bool) (size : ℕ) (rec kinds starts lens : List ℕ) → Long kinds starts lens
     → Filled boundary size rec kinds starts lens 0 0 0
 unfolding tokens
-filled-none boundary size rec kinds starts lens a b c =
+filled-none boundary size rec kinds starts lens l =
     record {
       below = omega arith;
       within = omega arith;
-      kinds-long = a;
-      starts-long = b;
-      lens-long = c;
+      kinds-long = l .0;
+      starts-long = l .1;
+      lens-long = l .2;
       same = prefix-nothing (tokensFrom boundary size rec 4096 0 0);
     }

@@ -13,6 +13,7 @@ use tree::tree_end;
 ghost use mathlib.Core.Path.{_≡_};
 ghost use Rattle.text.specs.Utf8.{boundary};
 ghost use Rattle.reader.specs.Contracts.Commands.{numberIn};
+ghost use Rattle.reader.specs.Contracts.Tokens.{startsOf, lengthsOf};
 ghost use Rattle.reader.specs.Contracts.Reading.{RecordReads, Reads};
 
 // What the record check says of a text and a record.
@@ -39,12 +40,12 @@ fn read_record(
     size: u16,
     rec: &[u8],
     kinds: &mut [u8; 4096],
-    starts: &mut [u16; 4096],
-    lens: &mut [u16; 4096],
+    spans: &mut [u32; 4096],
 ) -> Reading
-    ensures { λ r. ⌜ RecordReads (boundary (now (text .entry))) size (now (rec .entry)) (now (kinds .exit)) (now (starts .exit)) (now (lens .exit)) r ⌝ }
+    ensures { λ r. ⌜ RecordReads (boundary (now (text .entry))) size (now (rec .entry))
+        (now (kinds .exit)) (startsOf (now (spans .exit))) (lengthsOf (now (spans .exit))) r ⌝ }
 {
-    let tokens = read_tokens(text, size, rec, kinds, starts, lens);
+    let tokens = read_tokens(text, size, rec, kinds, spans);
     match tokens {
         Tiled::Tiled { count, tree } => {
             let found = tree_end(rec, count, tree);
@@ -59,14 +60,8 @@ fn read_record(
 }
 
 // Refusals 1 to 4, in this order; or the number of tokens, which stand in the tables, and where the list of declarations starts.
-pub fn check(
-    text: &[u8],
-    rec: &[u8],
-    kinds: &mut [u8; 4096],
-    starts: &mut [u16; 4096],
-    lens: &mut [u16; 4096],
-) -> Reading
-    ensures { λ r. ⌜ Reads (now (text .entry)) (now (rec .entry)) (now (kinds .exit)) (now (starts .exit)) (now (lens .exit)) r ⌝ }
+pub fn check(text: &[u8], rec: &[u8], kinds: &mut [u8; 4096], spans: &mut [u32; 4096]) -> Reading
+    ensures { λ r. ⌜ Reads (now (text .entry)) (now (rec .entry)) (now (kinds .exit)) (startsOf (now (spans .exit))) (lengthsOf (now (spans .exit))) r ⌝ }
 {
     if MAX_TEXT < text.len() {
         return Reading::TooLong;
@@ -77,5 +72,5 @@ pub fn check(
     if let Broken::At(place) = first_broken(text) {
         return Reading::NotUtf8(place);
     }
-    read_record(text, text.len() as u16, rec, kinds, starts, lens)
+    read_record(text, text.len() as u16, rec, kinds, spans)
 }

@@ -6,6 +6,7 @@ ghost use mathlib.Core.List.{[], _∷_};
 ghost use Rattle.text.specs.Bytes.{isLetter, isDigit, classTable};
 ghost use Rattle.reader.specs.Fields.{form, Exp, Ty};
 ghost use Rattle.reader.specs.Check.{fieldEnd};
+ghost use Rattle.reader.specs.Contracts.Tokens.{startsOf, lengthsOf};
 ghost use Rattle.reader.specs.Contracts.Tree.{checkedIn};
 ghost use Rattle.testing.specs.Numbers.{ReadOut, endNumbers};
 
@@ -39,12 +40,12 @@ pub extern "C" fn diverplume_test_read(
     rec: &[u8],
     answer: &mut [u64; 4],
     kinds: &mut [u8; 4096],
-    starts: &mut [u16; 4096],
-    lens: &mut [u16; 4096],
+    spans: &mut [u32; 4096],
 )
-    ensures { λ r. ⌜ ReadOut (now (text .entry)) (now (rec .entry)) (now (answer .exit)) (now (kinds .exit)) (now (starts .exit)) (now (lens .exit)) ⌝ }
+    ensures { λ r. ⌜ ReadOut (now (text .entry)) (now (rec .entry)) (now (answer .exit))
+        (now (kinds .exit)) (startsOf (now (spans .exit))) (lengthsOf (now (spans .exit))) ⌝ }
 {
-    let reading = reader::check(text, rec, kinds, starts, lens);
+    let reading = reader::check(text, rec, kinds, spans);
     match reading {
         Reading::Sheet { count, tree } => put_read(answer, 0, 0, count, tree),
         Reading::TooLong => put_read(answer, 1, 0, 0, 0),

@@ -26,25 +26,24 @@ fn ty_row<'a>(
     run: &'a [u8; 351],
     text: &'a [u8],
     rec: &[u8],
-    starts: &[u16],
-    lens: &[u16],
+    spans: &&[u32],
     out: &mut [u8],
     mem: &mut [u64; 68],
     at: usize,
     cfg: Cfg,
 ) -> usize
-    ensures { λ r. ⌜ plainly (ty-row (walks (cfg .nesting))) run text rec starts lens out mem at r ⌝ }
+    ensures { λ r. ⌜ plainly (ty-row (walks (cfg .nesting))) run text rec spans out mem at r ⌝ }
 {
     let r1 = group(rec, at);
     let Status::Done(s1) = told(r1) else {
         return r1;
     };
-    let r2 = text_of(run, text, rec, starts, lens, out, mem, s1);
+    let r2 = text_of(run, text, rec, spans, out, mem, s1);
     let Status::Done(s2) = told(r2) else {
         return r2;
     };
     word(run, text, out, mem, words::COLON);
-    get_ty(run, text, rec, starts, lens, out, mem, s2, cfg)
+    get_ty(run, text, rec, spans, out, mem, s2, cfg)
 }
 
 // The rows of a record type.
@@ -52,14 +51,13 @@ fn ty_rows<'a>(
     run: &'a [u8; 351],
     text: &'a [u8],
     rec: &[u8],
-    starts: &[u16],
-    lens: &[u16],
+    spans: &&[u32],
     out: &mut [u8],
     mem: &mut [u64; 68],
     at: usize,
     cfg: Cfg,
 ) -> usize
-    ensures { λ r. ⌜ plainly (ty-rows (walks (cfg .nesting))) run text rec starts lens out mem at r ⌝ }
+    ensures { λ r. ⌜ plainly (ty-rows (walks (cfg .nesting))) run text rec spans out mem at r ⌝ }
 {
     let Read::Is(n, s0) = list(rec, at) else {
         return stop(at);
@@ -68,7 +66,7 @@ fn ty_rows<'a>(
     let mut i = 0;
     while i < n {
         between(run, text, out, mem, words::COMMA, i);
-        let r1 = ty_row(run, text, rec, starts, lens, out, mem, s, cfg);
+        let r1 = ty_row(run, text, rec, spans, out, mem, s, cfg);
         let Status::Done(s1) = told(r1) else {
             return r1;
         };
@@ -83,17 +81,16 @@ fn record_ty<'a>(
     run: &'a [u8; 351],
     text: &'a [u8],
     rec: &[u8],
-    starts: &[u16],
-    lens: &[u16],
+    spans: &&[u32],
     out: &mut [u8],
     mem: &mut [u64; 68],
     at: usize,
     cfg: Cfg,
 ) -> usize
-    ensures { λ r. ⌜ plainly (ty· (walks (cfg .nesting)) RecordTy) run text rec starts lens out mem at r ⌝ }
+    ensures { λ r. ⌜ plainly (ty· (walks (cfg .nesting)) RecordTy) run text rec spans out mem at r ⌝ }
 {
     word(run, text, out, mem, words::L_CURLY);
-    let r1 = ty_rows(run, text, rec, starts, lens, out, mem, at, cfg);
+    let r1 = ty_rows(run, text, rec, spans, out, mem, at, cfg);
     let Status::Done(s1) = told(r1) else {
         return r1;
     };
@@ -106,14 +103,13 @@ fn ty_args<'a>(
     run: &'a [u8; 351],
     text: &'a [u8],
     rec: &[u8],
-    starts: &[u16],
-    lens: &[u16],
+    spans: &&[u32],
     out: &mut [u8],
     mem: &mut [u64; 68],
     at: usize,
     cfg: Cfg,
 ) -> usize
-    ensures { λ r. ⌜ plainly (ty-args (walks (cfg .nesting))) run text rec starts lens out mem at r ⌝ }
+    ensures { λ r. ⌜ plainly (ty-args (walks (cfg .nesting))) run text rec spans out mem at r ⌝ }
 {
     let Read::Is(n, s0) = list(rec, at) else {
         return stop(at);
@@ -126,7 +122,7 @@ fn ty_args<'a>(
         let Status::Done(s1) = told(r1) else {
             return r1;
         };
-        let r2 = get_ty(run, text, rec, starts, lens, out, mem, s1, cfg);
+        let r2 = get_ty(run, text, rec, spans, out, mem, s1, cfg);
         let Status::Done(s2) = told(r2) else {
             return r2;
         };
@@ -141,19 +137,18 @@ fn ty_seq<'a>(
     run: &'a [u8; 351],
     text: &'a [u8],
     rec: &[u8],
-    starts: &[u16],
-    lens: &[u16],
+    spans: &&[u32],
     out: &mut [u8],
     mem: &mut [u64; 68],
     at: usize,
     cfg: Cfg,
 ) -> usize
-    ensures { λ r. ⌜ plainly (ty-seq (walks (cfg .nesting))) run text rec starts lens out mem at r ⌝ }
+    ensures { λ r. ⌜ plainly (ty-seq (walks (cfg .nesting))) run text rec spans out mem at r ⌝ }
 {
     let gone = absent(rec, at);
     match gone {
         Gone::Past(s) => s,
-        Gone::There => ty_seq_there(run, text, rec, starts, lens, out, mem, at, cfg),
+        Gone::There => ty_seq_there(run, text, rec, spans, out, mem, at, cfg),
     }
 }
 
@@ -162,21 +157,20 @@ fn ty_seq_there<'a>(
     run: &'a [u8; 351],
     text: &'a [u8],
     rec: &[u8],
-    starts: &[u16],
-    lens: &[u16],
+    spans: &&[u32],
     out: &mut [u8],
     mem: &mut [u64; 68],
     at: usize,
     cfg: Cfg,
 ) -> usize
-    ensures { λ r. ⌜ plainly (ty-seq-there (walks (cfg .nesting))) run text rec starts lens out mem at r ⌝ }
+    ensures { λ r. ⌜ plainly (ty-seq-there (walks (cfg .nesting))) run text rec spans out mem at r ⌝ }
 {
     let r1 = group(rec, at);
     let Status::Done(s1) = told(r1) else {
         return r1;
     };
     word(run, text, out, mem, words::L_ROUND);
-    let r2 = ty_args(run, text, rec, starts, lens, out, mem, s1, cfg);
+    let r2 = ty_args(run, text, rec, spans, out, mem, s1, cfg);
     let Status::Done(s2) = told(r2) else {
         return r2;
     };
@@ -189,20 +183,19 @@ fn con_ty<'a>(
     run: &'a [u8; 351],
     text: &'a [u8],
     rec: &[u8],
-    starts: &[u16],
-    lens: &[u16],
+    spans: &&[u32],
     out: &mut [u8],
     mem: &mut [u64; 68],
     at: usize,
     cfg: Cfg,
 ) -> usize
-    ensures { λ r. ⌜ plainly (ty· (walks (cfg .nesting)) ConTy) run text rec starts lens out mem at r ⌝ }
+    ensures { λ r. ⌜ plainly (ty· (walks (cfg .nesting)) ConTy) run text rec spans out mem at r ⌝ }
 {
-    let r1 = ty_seq(run, text, rec, starts, lens, out, mem, at, cfg);
+    let r1 = ty_seq(run, text, rec, spans, out, mem, at, cfg);
     let Status::Done(s1) = told(r1) else {
         return r1;
     };
-    path(run, text, rec, starts, lens, out, mem, s1)
+    path(run, text, rec, spans, out, mem, s1)
 }
 
 // `OneArgConTy`.
@@ -210,21 +203,20 @@ fn one_arg_con_ty<'a>(
     run: &'a [u8; 351],
     text: &'a [u8],
     rec: &[u8],
-    starts: &[u16],
-    lens: &[u16],
+    spans: &&[u32],
     out: &mut [u8],
     mem: &mut [u64; 68],
     at: usize,
     cfg: Cfg,
 ) -> usize
-    ensures { λ r. ⌜ plainly (ty· (walks (cfg .nesting)) OneArgConTy) run text rec starts lens out mem at r ⌝ }
+    ensures { λ r. ⌜ plainly (ty· (walks (cfg .nesting)) OneArgConTy) run text rec spans out mem at r ⌝ }
 {
-    let r1 = get_ty(run, text, rec, starts, lens, out, mem, at, cfg);
+    let r1 = get_ty(run, text, rec, spans, out, mem, at, cfg);
     let Status::Done(s1) = told(r1) else {
         return r1;
     };
     word(run, text, out, mem, words::SPACE);
-    path(run, text, rec, starts, lens, out, mem, s1)
+    path(run, text, rec, spans, out, mem, s1)
 }
 
 // A further part of a tuple type.
@@ -232,21 +224,20 @@ fn star_ty<'a>(
     run: &'a [u8; 351],
     text: &'a [u8],
     rec: &[u8],
-    starts: &[u16],
-    lens: &[u16],
+    spans: &&[u32],
     out: &mut [u8],
     mem: &mut [u64; 68],
     at: usize,
     cfg: Cfg,
 ) -> usize
-    ensures { λ r. ⌜ plainly (star-ty (walks (cfg .nesting))) run text rec starts lens out mem at r ⌝ }
+    ensures { λ r. ⌜ plainly (star-ty (walks (cfg .nesting))) run text rec spans out mem at r ⌝ }
 {
     let r1 = group(rec, at);
     let Status::Done(s1) = told(r1) else {
         return r1;
     };
     word(run, text, out, mem, words::STAR);
-    get_ty(run, text, rec, starts, lens, out, mem, s1, cfg)
+    get_ty(run, text, rec, spans, out, mem, s1, cfg)
 }
 
 // The further parts of a tuple type.
@@ -254,14 +245,13 @@ fn star_tys<'a>(
     run: &'a [u8; 351],
     text: &'a [u8],
     rec: &[u8],
-    starts: &[u16],
-    lens: &[u16],
+    spans: &&[u32],
     out: &mut [u8],
     mem: &mut [u64; 68],
     at: usize,
     cfg: Cfg,
 ) -> usize
-    ensures { λ r. ⌜ plainly (star-tys (walks (cfg .nesting))) run text rec starts lens out mem at r ⌝ }
+    ensures { λ r. ⌜ plainly (star-tys (walks (cfg .nesting))) run text rec spans out mem at r ⌝ }
 {
     let Read::Is(n, s0) = list(rec, at) else {
         return stop(at);
@@ -269,7 +259,7 @@ fn star_tys<'a>(
     let mut s = s0;
     let mut i = 0;
     while i < n {
-        let r1 = star_ty(run, text, rec, starts, lens, out, mem, s, cfg);
+        let r1 = star_ty(run, text, rec, spans, out, mem, s, cfg);
         let Status::Done(s1) = told(r1) else {
             return r1;
         };
@@ -284,22 +274,20 @@ fn tuple_ty<'a>(
     run: &'a [u8; 351],
     text: &'a [u8],
     rec: &[u8],
-    starts: &[u16],
-    lens: &[u16],
+    spans: &&[u32],
     out: &mut [u8],
     mem: &mut [u64; 68],
     at: usize,
     cfg: Cfg,
 ) -> usize
-    ensures { λ r. ⌜ plainly (ty· (walks (cfg .nesting)) TupleTy) run text rec starts lens out mem at r ⌝ }
+    ensures { λ r. ⌜ plainly (ty· (walks (cfg .nesting)) TupleTy) run text rec spans out mem at r ⌝ }
 {
-    let count = starts.len();
-    let r0 = get_ty(run, text, rec, starts, lens, out, mem, at, cfg);
-    let r1 = onwards(rec, count, cfg.nesting as usize, at, r0);
+    let r0 = get_ty(run, text, rec, spans, out, mem, at, cfg);
+    let r1 = onwards(rec, spans, cfg.nesting as usize, at, r0);
     let Status::Done(s1) = told(r1) else {
         return r1;
     };
-    star_tys(run, text, rec, starts, lens, out, mem, s1, cfg)
+    star_tys(run, text, rec, spans, out, mem, s1, cfg)
 }
 
 // `FnTy`.
@@ -307,21 +295,20 @@ fn fn_ty<'a>(
     run: &'a [u8; 351],
     text: &'a [u8],
     rec: &[u8],
-    starts: &[u16],
-    lens: &[u16],
+    spans: &&[u32],
     out: &mut [u8],
     mem: &mut [u64; 68],
     at: usize,
     cfg: Cfg,
 ) -> usize
-    ensures { λ r. ⌜ plainly (ty· (walks (cfg .nesting)) FnTy) run text rec starts lens out mem at r ⌝ }
+    ensures { λ r. ⌜ plainly (ty· (walks (cfg .nesting)) FnTy) run text rec spans out mem at r ⌝ }
 {
-    let r1 = get_ty(run, text, rec, starts, lens, out, mem, at, cfg);
+    let r1 = get_ty(run, text, rec, spans, out, mem, at, cfg);
     let Status::Done(s1) = told(r1) else {
         return r1;
     };
     word(run, text, out, mem, words::ARROW);
-    get_ty(run, text, rec, starts, lens, out, mem, s1, cfg)
+    get_ty(run, text, rec, spans, out, mem, s1, cfg)
 }
 
 // `ParenTy`.
@@ -329,17 +316,16 @@ fn paren_ty<'a>(
     run: &'a [u8; 351],
     text: &'a [u8],
     rec: &[u8],
-    starts: &[u16],
-    lens: &[u16],
+    spans: &&[u32],
     out: &mut [u8],
     mem: &mut [u64; 68],
     at: usize,
     cfg: Cfg,
 ) -> usize
-    ensures { λ r. ⌜ plainly (ty· (walks (cfg .nesting)) ParenTy) run text rec starts lens out mem at r ⌝ }
+    ensures { λ r. ⌜ plainly (ty· (walks (cfg .nesting)) ParenTy) run text rec spans out mem at r ⌝ }
 {
     word(run, text, out, mem, words::L_ROUND);
-    let r1 = get_ty(run, text, rec, starts, lens, out, mem, at, cfg);
+    let r1 = get_ty(run, text, rec, spans, out, mem, at, cfg);
     let Status::Done(s1) = told(r1) else {
         return r1;
     };
@@ -352,14 +338,13 @@ pub fn get_ty<'a>(
     run: &'a [u8; 351],
     text: &'a [u8],
     rec: &[u8],
-    starts: &[u16],
-    lens: &[u16],
+    spans: &&[u32],
     out: &mut [u8],
     mem: &mut [u64; 68],
     at: usize,
     cfg: Cfg,
 ) -> usize
-    ensures { λ r. ⌜ plainly (walks (cfg .nesting) .get-ty) run text rec starts lens out mem at r ⌝ }
+    ensures { λ r. ⌜ plainly (walks (cfg .nesting) .get-ty) run text rec spans out mem at r ⌝ }
 {
     let left = cfg.nesting;
     if left == 0 {
@@ -382,13 +367,13 @@ pub fn get_ty<'a>(
             word(run, text, out, mem, words::UNDERSCORE);
             s
         }
-        2 => text_of(run, text, rec, starts, lens, out, mem, s),
-        3 => record_ty(run, text, rec, starts, lens, out, mem, s, sub),
-        4 => con_ty(run, text, rec, starts, lens, out, mem, s, sub),
-        5 => one_arg_con_ty(run, text, rec, starts, lens, out, mem, s, sub),
-        6 => tuple_ty(run, text, rec, starts, lens, out, mem, s, sub),
-        7 => fn_ty(run, text, rec, starts, lens, out, mem, s, sub),
-        8 => paren_ty(run, text, rec, starts, lens, out, mem, s, sub),
+        2 => text_of(run, text, rec, spans, out, mem, s),
+        3 => record_ty(run, text, rec, spans, out, mem, s, sub),
+        4 => con_ty(run, text, rec, spans, out, mem, s, sub),
+        5 => one_arg_con_ty(run, text, rec, spans, out, mem, s, sub),
+        6 => tuple_ty(run, text, rec, spans, out, mem, s, sub),
+        7 => fn_ty(run, text, rec, spans, out, mem, s, sub),
+        8 => paren_ty(run, text, rec, spans, out, mem, s, sub),
         _ => stop(s),
     }
 }
@@ -398,21 +383,20 @@ fn ty_annotation_there<'a>(
     run: &'a [u8; 351],
     text: &'a [u8],
     rec: &[u8],
-    starts: &[u16],
-    lens: &[u16],
+    spans: &&[u32],
     out: &mut [u8],
     mem: &mut [u64; 68],
     at: usize,
     cfg: Cfg,
 ) -> usize
-    ensures { λ r. ⌜ plainly (ty-annotation-there (walks (cfg .nesting))) run text rec starts lens out mem at r ⌝ }
+    ensures { λ r. ⌜ plainly (ty-annotation-there (walks (cfg .nesting))) run text rec spans out mem at r ⌝ }
 {
     let r1 = group(rec, at);
     let Status::Done(s1) = told(r1) else {
         return r1;
     };
     word(run, text, out, mem, words::COLON);
-    get_ty(run, text, rec, starts, lens, out, mem, s1, cfg)
+    get_ty(run, text, rec, spans, out, mem, s1, cfg)
 }
 
 // A colon and a type, where there are any.
@@ -420,18 +404,17 @@ pub fn ty_annotation<'a>(
     run: &'a [u8; 351],
     text: &'a [u8],
     rec: &[u8],
-    starts: &[u16],
-    lens: &[u16],
+    spans: &&[u32],
     out: &mut [u8],
     mem: &mut [u64; 68],
     at: usize,
     cfg: Cfg,
 ) -> usize
-    ensures { λ r. ⌜ plainly (ty-annotation (walks (cfg .nesting))) run text rec starts lens out mem at r ⌝ }
+    ensures { λ r. ⌜ plainly (ty-annotation (walks (cfg .nesting))) run text rec spans out mem at r ⌝ }
 {
     let gone = absent(rec, at);
     match gone {
         Gone::Past(s) => s,
-        Gone::There => ty_annotation_there(run, text, rec, starts, lens, out, mem, at, cfg),
+        Gone::There => ty_annotation_there(run, text, rec, spans, out, mem, at, cfg),
     }
 }

@@ -119,22 +119,21 @@ fn ro<'a>(
     run: &'a [u8; 351],
     text: &'a [u8],
     rec: &[u8],
-    kinds: &[u8],
-    starts: &[u16],
-    lens: &[u16],
+    kinds: &&[u8],
+    spans: &&[u32],
     out: &mut [u8],
     mem: &mut [u64; 68],
     at: usize,
     cfg: Cfg,
 ) -> usize
     requires { ⌜ cfg .depth + 2 * cfg .nesting + 2 ≤ 402 ⌝ }
-    ensures { λ r. ⌜ does exp-row run text rec kinds starts lens out mem at cfg r ⌝ }
+    ensures { λ r. ⌜ does exp-row run text rec kinds spans out mem at cfg r ⌝ }
 {
     let r1 = group(rec, at);
     let Status::Done(s1) = told(r1) else {
         return r1;
     };
-    let r2 = text_of(run, text, rec, starts, lens, out, mem, s1);
+    let r2 = text_of(run, text, rec, spans, out, mem, s1);
     let Status::Done(s2) = told(r2) else {
         return r2;
     };
@@ -146,7 +145,7 @@ fn ro<'a>(
         return r4;
     };
     word(run, text, out, mem, words::EQ_SPACED);
-    exp(run, text, rec, kinds, starts, lens, out, mem, s4, cfg)
+    exp(run, text, rec, kinds, spans, out, mem, s4, cfg)
 }
 
 // The rows of `RecordExp`.
@@ -154,16 +153,15 @@ fn rs<'a>(
     run: &'a [u8; 351],
     text: &'a [u8],
     rec: &[u8],
-    kinds: &[u8],
-    starts: &[u16],
-    lens: &[u16],
+    kinds: &&[u8],
+    spans: &&[u32],
     out: &mut [u8],
     mem: &mut [u64; 68],
     at: usize,
     cfg: Cfg,
 ) -> usize
     requires { ⌜ cfg .depth + 2 * cfg .nesting + 2 ≤ 402 ⌝ }
-    ensures { λ r. ⌜ does exp-rows run text rec kinds starts lens out mem at cfg r ⌝ }
+    ensures { λ r. ⌜ does exp-rows run text rec kinds spans out mem at cfg r ⌝ }
 {
     let Read::Is(n, s0) = list(rec, at) else {
         return stop(at);
@@ -172,7 +170,7 @@ fn rs<'a>(
     let mut i = 0;
     while i < n {
         between(run, text, out, mem, words::COMMA, i);
-        let r1 = ro(run, text, rec, kinds, starts, lens, out, mem, s, cfg);
+        let r1 = ro(run, text, rec, kinds, spans, out, mem, s, cfg);
         let Status::Done(s1) = told(r1) else {
             return r1;
         };
@@ -187,19 +185,18 @@ fn rc<'a>(
     run: &'a [u8; 351],
     text: &'a [u8],
     rec: &[u8],
-    kinds: &[u8],
-    starts: &[u16],
-    lens: &[u16],
+    kinds: &&[u8],
+    spans: &&[u32],
     out: &mut [u8],
     mem: &mut [u64; 68],
     at: usize,
     cfg: Cfg,
 ) -> usize
     requires { ⌜ cfg .depth + 2 * cfg .nesting + 2 ≤ 402 ⌝ }
-    ensures { λ r. ⌜ does (λ ws c. exp· ws c RecordExp) run text rec kinds starts lens out mem at cfg r ⌝ }
+    ensures { λ r. ⌜ does (λ ws c. exp· ws c RecordExp) run text rec kinds spans out mem at cfg r ⌝ }
 {
     word(run, text, out, mem, words::L_CURLY);
-    let r1 = rs(run, text, rec, kinds, starts, lens, out, mem, at, cfg);
+    let r1 = rs(run, text, rec, kinds, spans, out, mem, at, cfg);
     let Status::Done(s1) = told(r1) else {
         return r1;
     };
@@ -212,19 +209,18 @@ fn pa<'a>(
     run: &'a [u8; 351],
     text: &'a [u8],
     rec: &[u8],
-    kinds: &[u8],
-    starts: &[u16],
-    lens: &[u16],
+    kinds: &&[u8],
+    spans: &&[u32],
     out: &mut [u8],
     mem: &mut [u64; 68],
     at: usize,
     cfg: Cfg,
 ) -> usize
     requires { ⌜ cfg .depth + 2 * cfg .nesting + 2 ≤ 402 ⌝ }
-    ensures { λ r. ⌜ does (λ ws c. exp· ws c ParenExp) run text rec kinds starts lens out mem at cfg r ⌝ }
+    ensures { λ r. ⌜ does (λ ws c. exp· ws c ParenExp) run text rec kinds spans out mem at cfg r ⌝ }
 {
     word(run, text, out, mem, words::L_ROUND);
-    let r1 = exp(run, text, rec, kinds, starts, lens, out, mem, at, cfg);
+    let r1 = exp(run, text, rec, kinds, spans, out, mem, at, cfg);
     let Status::Done(s1) = told(r1) else {
         return r1;
     };
@@ -237,16 +233,15 @@ fn ar<'a>(
     run: &'a [u8; 351],
     text: &'a [u8],
     rec: &[u8],
-    kinds: &[u8],
-    starts: &[u16],
-    lens: &[u16],
+    kinds: &&[u8],
+    spans: &&[u32],
     out: &mut [u8],
     mem: &mut [u64; 68],
     at: usize,
     cfg: Cfg,
 ) -> usize
     requires { ⌜ cfg .depth + 2 * cfg .nesting + 2 ≤ 402 ⌝ }
-    ensures { λ r. ⌜ does exp-args run text rec kinds starts lens out mem at cfg r ⌝ }
+    ensures { λ r. ⌜ does exp-args run text rec kinds spans out mem at cfg r ⌝ }
 {
     let Read::Is(n, s0) = list(rec, at) else {
         return stop(at);
@@ -259,7 +254,7 @@ fn ar<'a>(
         let Status::Done(s1) = told(r1) else {
             return r1;
         };
-        let r2 = exp(run, text, rec, kinds, starts, lens, out, mem, s1, cfg);
+        let r2 = exp(run, text, rec, kinds, spans, out, mem, s1, cfg);
         let Status::Done(s2) = told(r2) else {
             return r2;
         };
@@ -274,9 +269,8 @@ fn br<'a>(
     run: &'a [u8; 351],
     text: &'a [u8],
     rec: &[u8],
-    kinds: &[u8],
-    starts: &[u16],
-    lens: &[u16],
+    kinds: &&[u8],
+    spans: &&[u32],
     out: &mut [u8],
     mem: &mut [u64; 68],
     at: usize,
@@ -287,10 +281,10 @@ fn br<'a>(
     requires { ⌜ cfg .depth + 2 * cfg .nesting + 2 ≤ 402 ⌝ }
     ensures { λ r. ⌜
         does (λ ws c. word· (wordOf opens) ⨾ exp-args ws c ⨾ word· (wordOf closes))
-        run text rec kinds starts lens out mem at cfg r ⌝ }
+        run text rec kinds spans out mem at cfg r ⌝ }
 {
     word(run, text, out, mem, opens);
-    let r1 = ar(run, text, rec, kinds, starts, lens, out, mem, at, cfg);
+    let r1 = ar(run, text, rec, kinds, spans, out, mem, at, cfg);
     let Status::Done(s1) = told(r1) else {
         return r1;
     };
@@ -303,23 +297,22 @@ fn ve<'a>(
     run: &'a [u8; 351],
     text: &'a [u8],
     rec: &[u8],
-    kinds: &[u8],
-    starts: &[u16],
-    lens: &[u16],
+    kinds: &&[u8],
+    spans: &&[u32],
     out: &mut [u8],
     mem: &mut [u64; 68],
     at: usize,
     cfg: Cfg,
 ) -> usize
     requires { ⌜ cfg .depth + 2 * cfg .nesting + 2 ≤ 402 ⌝ }
-    ensures { λ r. ⌜ does (λ ws c. exp· ws c VectorExp) run text rec kinds starts lens out mem at cfg r ⌝ }
+    ensures { λ r. ⌜ does (λ ws c. exp· ws c VectorExp) run text rec kinds spans out mem at cfg r ⌝ }
 {
     word(run, text, out, mem, words::HASH_L_SQUARE);
     let r1 = group(rec, at);
     let Status::Done(s1) = told(r1) else {
         return r1;
     };
-    let r2 = ar(run, text, rec, kinds, starts, lens, out, mem, s1, cfg);
+    let r2 = ar(run, text, rec, kinds, spans, out, mem, s1, cfg);
     let Status::Done(s2) = told(r2) else {
         return r2;
     };
@@ -332,9 +325,8 @@ fn it<'a>(
     run: &'a [u8; 351],
     text: &'a [u8],
     rec: &[u8],
-    kinds: &[u8],
-    starts: &[u16],
-    lens: &[u16],
+    kinds: &&[u8],
+    spans: &&[u32],
     out: &mut [u8],
     mem: &mut [u64; 68],
     at: usize,
@@ -342,17 +334,17 @@ fn it<'a>(
     write: bool,
 ) -> usize
     requires { ⌜ cfg .depth + 2 * cfg .nesting + 0 ≤ 402 ⌝ }
-    ensures { λ r. ⌜ does (λ ws c. exp-semi-item ws c write) run text rec kinds starts lens out mem at cfg r ⌝ }
+    ensures { λ r. ⌜ does (λ ws c. exp-semi-item ws c write) run text rec kinds spans out mem at cfg r ⌝ }
 {
     let r1 = group(rec, at);
     let Status::Done(s1) = told(r1) else {
         return r1;
     };
-    let r2 = exp(run, text, rec, kinds, starts, lens, out, mem, s1, cfg);
+    let r2 = exp(run, text, rec, kinds, spans, out, mem, s1, cfg);
     let Status::Done(s2) = told(r2) else {
         return r2;
     };
-    item_semi(run, text, rec, starts, lens, out, mem, s2, write)
+    item_semi(run, text, rec, spans, out, mem, s2, write)
 }
 
 // The last n items of a sequence, the first not among them.
@@ -360,9 +352,8 @@ fn mo<'a>(
     run: &'a [u8; 351],
     text: &'a [u8],
     rec: &[u8],
-    kinds: &[u8],
-    starts: &[u16],
-    lens: &[u16],
+    kinds: &&[u8],
+    spans: &&[u32],
     out: &mut [u8],
     mem: &mut [u64; 68],
     at: usize,
@@ -371,7 +362,7 @@ fn mo<'a>(
     n: usize,
 ) -> usize
     requires { ⌜ cfg .depth + 2 * cfg .nesting + 0 ≤ 402 ⌝ }
-    ensures { λ r. ⌜ does (λ ws c. exp-semi-more ws c allow n) run text rec kinds starts lens out mem at cfg r ⌝ }
+    ensures { λ r. ⌜ does (λ ws c. exp-semi-more ws c allow n) run text rec kinds spans out mem at cfg r ⌝ }
 {
     let mut s = at;
     let mut i = 0;
@@ -379,7 +370,7 @@ fn mo<'a>(
         let write = last_semi(allow, i, n);
         word(run, text, out, mem, words::SEMICOLON_LINE);
         indent(out, mem, cfg);
-        let r1 = it(run, text, rec, kinds, starts, lens, out, mem, s, cfg, write);
+        let r1 = it(run, text, rec, kinds, spans, out, mem, s, cfg, write);
         let Status::Done(s1) = told(r1) else {
             return r1;
         };
@@ -394,9 +385,8 @@ fn sm<'a>(
     run: &'a [u8; 351],
     text: &'a [u8],
     rec: &[u8],
-    kinds: &[u8],
-    starts: &[u16],
-    lens: &[u16],
+    kinds: &&[u8],
+    spans: &&[u32],
     out: &mut [u8],
     mem: &mut [u64; 68],
     at: usize,
@@ -404,7 +394,7 @@ fn sm<'a>(
     allow: bool,
 ) -> usize
     requires { ⌜ cfg .depth + 2 * cfg .nesting + 0 ≤ 402 ⌝ }
-    ensures { λ r. ⌜ does (λ ws c. exp-semi-seq ws c allow) run text rec kinds starts lens out mem at cfg r ⌝ }
+    ensures { λ r. ⌜ does (λ ws c. exp-semi-seq ws c allow) run text rec kinds spans out mem at cfg r ⌝ }
 {
     let Read::Is(n, s1) = list(rec, at) else {
         return stop(at);
@@ -412,19 +402,7 @@ fn sm<'a>(
     if n == 0 {
         return s1;
     }
-    let r2 = it(
-        run,
-        text,
-        rec,
-        kinds,
-        starts,
-        lens,
-        out,
-        mem,
-        s1,
-        cfg,
-        false,
-    );
+    let r2 = it(run, text, rec, kinds, spans, out, mem, s1, cfg, false);
     let Status::Done(s2) = told(r2) else {
         return r2;
     };
@@ -433,8 +411,7 @@ fn sm<'a>(
         text,
         rec,
         kinds,
-        starts,
-        lens,
+        spans,
         out,
         mem,
         s2,
@@ -449,33 +426,20 @@ fn seq<'a>(
     run: &'a [u8; 351],
     text: &'a [u8],
     rec: &[u8],
-    kinds: &[u8],
-    starts: &[u16],
-    lens: &[u16],
+    kinds: &&[u8],
+    spans: &&[u32],
     out: &mut [u8],
     mem: &mut [u64; 68],
     at: usize,
     cfg: Cfg,
 ) -> usize
     requires { ⌜ cfg .depth + 2 * cfg .nesting + 2 ≤ 402 ⌝ }
-    ensures { λ r. ⌜ does (λ ws c. exp· ws c SeqExp) run text rec kinds starts lens out mem at cfg r ⌝ }
+    ensures { λ r. ⌜ does (λ ws c. exp· ws c SeqExp) run text rec kinds spans out mem at cfg r ⌝ }
 {
     word(run, text, out, mem, words::L_ROUND_LINE);
     indent_deeper(out, mem, cfg);
     let new = cfg.indented();
-    let r1 = sm(
-        run,
-        text,
-        rec,
-        kinds,
-        starts,
-        lens,
-        out,
-        mem,
-        at,
-        new,
-        false,
-    );
+    let r1 = sm(run, text, rec, kinds, spans, out, mem, at, new, false);
     let Status::Done(s1) = told(r1) else {
         return r1;
     };
@@ -489,29 +453,28 @@ fn lx<'a>(
     run: &'a [u8; 351],
     text: &'a [u8],
     rec: &[u8],
-    kinds: &[u8],
-    starts: &[u16],
-    lens: &[u16],
+    kinds: &&[u8],
+    spans: &&[u32],
     out: &mut [u8],
     mem: &mut [u64; 68],
     at: usize,
     cfg: Cfg,
 ) -> usize
     requires { ⌜ cfg .depth + 2 * cfg .nesting + 2 ≤ 402 ⌝ }
-    ensures { λ r. ⌜ does (λ ws c. exp· ws c LetExp) run text rec kinds starts lens out mem at cfg r ⌝ }
+    ensures { λ r. ⌜ does (λ ws c. exp· ws c LetExp) run text rec kinds spans out mem at cfg r ⌝ }
 {
     word(run, text, out, mem, words::LET);
     word(run, text, out, mem, words::LINE_FEED);
     indent_deeper(out, mem, cfg);
     let new = cfg.indented();
-    let r1 = ds(run, text, rec, kinds, starts, lens, out, mem, at, new);
+    let r1 = ds(run, text, rec, kinds, spans, out, mem, at, new);
     let Status::Done(s1) = told(r1) else {
         return r1;
     };
     line(run, text, out, mem, cfg);
     word(run, text, out, mem, words::IN);
     indent_in(out, mem, cfg);
-    let r2 = sm(run, text, rec, kinds, starts, lens, out, mem, s1, new, true);
+    let r2 = sm(run, text, rec, kinds, spans, out, mem, s1, new, true);
     let Status::Done(s2) = told(r2) else {
         return r2;
     };
@@ -525,29 +488,28 @@ fn app<'a>(
     run: &'a [u8; 351],
     text: &'a [u8],
     rec: &[u8],
-    kinds: &[u8],
-    starts: &[u16],
-    lens: &[u16],
+    kinds: &&[u8],
+    spans: &&[u32],
     out: &mut [u8],
     mem: &mut [u64; 68],
     at: usize,
     cfg: Cfg,
 ) -> usize
     requires { ⌜ cfg .depth + 2 * cfg .nesting + 2 ≤ 402 ⌝ }
-    ensures { λ r. ⌜ does (λ ws c. exp· ws c AppExp) run text rec kinds starts lens out mem at cfg r ⌝ }
+    ensures { λ r. ⌜ does (λ ws c. exp· ws c AppExp) run text rec kinds spans out mem at cfg r ⌝ }
 {
-    let r1 = exp(run, text, rec, kinds, starts, lens, out, mem, at, cfg);
+    let r1 = exp(run, text, rec, kinds, spans, out, mem, at, cfg);
     let Status::Done(s1) = told(r1) else {
-        return asked_first(rec, starts.len(), at, r1);
+        return asked_first(rec, spans, at, r1);
     };
     let seen = heads_behind(rec, at, s1);
     let BothSeen::Are(func, arg) = seen else {
         return missing(seen);
     };
-    let bang = func_is_bang(text, starts, lens, func);
-    let symbolic = arg_is_symbolic(text, starts, lens, arg);
+    let bang = func_is_bang(text, spans, func);
+    let symbolic = arg_is_symbolic(text, spans, arg);
     app_space(run, text, out, mem, bang, symbolic);
-    exp(run, text, rec, kinds, starts, lens, out, mem, s1, cfg)
+    exp(run, text, rec, kinds, spans, out, mem, s1, cfg)
 }
 
 // `InfixExp`.
@@ -555,26 +517,25 @@ fn fx<'a>(
     run: &'a [u8; 351],
     text: &'a [u8],
     rec: &[u8],
-    kinds: &[u8],
-    starts: &[u16],
-    lens: &[u16],
+    kinds: &&[u8],
+    spans: &&[u32],
     out: &mut [u8],
     mem: &mut [u64; 68],
     at: usize,
     cfg: Cfg,
 ) -> usize
     requires { ⌜ cfg .depth + 2 * cfg .nesting + 2 ≤ 402 ⌝ }
-    ensures { λ r. ⌜ does (λ ws c. exp· ws c InfixExp) run text rec kinds starts lens out mem at cfg r ⌝ }
+    ensures { λ r. ⌜ does (λ ws c. exp· ws c InfixExp) run text rec kinds spans out mem at cfg r ⌝ }
 {
-    let Read::Is(k, s1) = token_no(rec, starts.len(), at) else {
+    let Read::Is(k, s1) = token_no(rec, spans, at) else {
         return stop(at);
     };
-    let r2 = exp(run, text, rec, kinds, starts, lens, out, mem, s1, cfg);
+    let r2 = exp(run, text, rec, kinds, spans, out, mem, s1, cfg);
     let Status::Done(s2) = told(r2) else {
         return r2;
     };
-    infix_operator(run, text, rec, starts, lens, out, mem, cfg, k);
-    exp(run, text, rec, kinds, starts, lens, out, mem, s2, cfg)
+    infix_operator(run, text, rec, spans, out, mem, cfg, k);
+    exp(run, text, rec, kinds, spans, out, mem, s2, cfg)
 }
 
 // `TypedExp`.
@@ -582,23 +543,22 @@ fn ty<'a>(
     run: &'a [u8; 351],
     text: &'a [u8],
     rec: &[u8],
-    kinds: &[u8],
-    starts: &[u16],
-    lens: &[u16],
+    kinds: &&[u8],
+    spans: &&[u32],
     out: &mut [u8],
     mem: &mut [u64; 68],
     at: usize,
     cfg: Cfg,
 ) -> usize
     requires { ⌜ cfg .depth + 2 * cfg .nesting + 2 ≤ 402 ⌝ }
-    ensures { λ r. ⌜ does (λ ws c. exp· ws c TypedExp) run text rec kinds starts lens out mem at cfg r ⌝ }
+    ensures { λ r. ⌜ does (λ ws c. exp· ws c TypedExp) run text rec kinds spans out mem at cfg r ⌝ }
 {
-    let r1 = exp(run, text, rec, kinds, starts, lens, out, mem, at, cfg);
+    let r1 = exp(run, text, rec, kinds, spans, out, mem, at, cfg);
     let Status::Done(s1) = told(r1) else {
         return r1;
     };
     word(run, text, out, mem, words::COLON);
-    get_ty(run, text, rec, starts, lens, out, mem, s1, cfg)
+    get_ty(run, text, rec, spans, out, mem, s1, cfg)
 }
 
 // `AndalsoExp` and `OrelseExp`, by their word.
@@ -606,9 +566,8 @@ fn du<'a>(
     run: &'a [u8; 351],
     text: &'a [u8],
     rec: &[u8],
-    kinds: &[u8],
-    starts: &[u16],
-    lens: &[u16],
+    kinds: &&[u8],
+    spans: &&[u32],
     out: &mut [u8],
     mem: &mut [u64; 68],
     at: usize,
@@ -616,14 +575,14 @@ fn du<'a>(
     w: usize,
 ) -> usize
     requires { ⌜ cfg .depth + 2 * cfg .nesting + 2 ≤ 402 ⌝ }
-    ensures { λ r. ⌜ does (λ ws c. ws .get-exp c ⨾ word· (wordOf w) ⨾ ws .get-exp c) run text rec kinds starts lens out mem at cfg r ⌝ }
+    ensures { λ r. ⌜ does (λ ws c. ws .get-exp c ⨾ word· (wordOf w) ⨾ ws .get-exp c) run text rec kinds spans out mem at cfg r ⌝ }
 {
-    let r1 = exp(run, text, rec, kinds, starts, lens, out, mem, at, cfg);
+    let r1 = exp(run, text, rec, kinds, spans, out, mem, at, cfg);
     let Status::Done(s1) = told(r1) else {
         return r1;
     };
     word(run, text, out, mem, w);
-    exp(run, text, rec, kinds, starts, lens, out, mem, s1, cfg)
+    exp(run, text, rec, kinds, spans, out, mem, s1, cfg)
 }
 
 // `WhileExp`.
@@ -631,16 +590,15 @@ fn wh<'a>(
     run: &'a [u8; 351],
     text: &'a [u8],
     rec: &[u8],
-    kinds: &[u8],
-    starts: &[u16],
-    lens: &[u16],
+    kinds: &&[u8],
+    spans: &&[u32],
     out: &mut [u8],
     mem: &mut [u64; 68],
     at: usize,
     cfg: Cfg,
 ) -> usize
     requires { ⌜ cfg .depth + 2 * cfg .nesting + 2 ≤ 402 ⌝ }
-    ensures { λ r. ⌜ does (λ ws c. exp· ws c WhileExp) run text rec kinds starts lens out mem at cfg r ⌝ }
+    ensures { λ r. ⌜ does (λ ws c. exp· ws c WhileExp) run text rec kinds spans out mem at cfg r ⌝ }
 {
     word(run, text, out, mem, words::WHILE);
     du(
@@ -648,8 +606,7 @@ fn wh<'a>(
         text,
         rec,
         kinds,
-        starts,
-        lens,
+        spans,
         out,
         mem,
         at,
@@ -663,9 +620,8 @@ fn ha<'a>(
     run: &'a [u8; 351],
     text: &'a [u8],
     rec: &[u8],
-    kinds: &[u8],
-    starts: &[u16],
-    lens: &[u16],
+    kinds: &&[u8],
+    spans: &&[u32],
     out: &mut [u8],
     mem: &mut [u64; 68],
     at: usize,
@@ -675,14 +631,14 @@ fn ha<'a>(
     requires { ⌜ cfg .depth + 2 * cfg .nesting + 2 ≤ 402 ⌝ }
     ensures { λ r. ⌜
         does (λ ws c. ws .get-exp c ⨾ word· (wordOf w) ⨾ get-matcher-across-lines ws c)
-        run text rec kinds starts lens out mem at cfg r ⌝ }
+        run text rec kinds spans out mem at cfg r ⌝ }
 {
-    let r1 = exp(run, text, rec, kinds, starts, lens, out, mem, at, cfg);
+    let r1 = exp(run, text, rec, kinds, spans, out, mem, at, cfg);
     let Status::Done(s1) = told(r1) else {
         return r1;
     };
     word(run, text, out, mem, w);
-    ma(run, text, rec, kinds, starts, lens, out, mem, s1, cfg)
+    ma(run, text, rec, kinds, spans, out, mem, s1, cfg)
 }
 
 // `CaseExp`.
@@ -690,16 +646,15 @@ fn ca<'a>(
     run: &'a [u8; 351],
     text: &'a [u8],
     rec: &[u8],
-    kinds: &[u8],
-    starts: &[u16],
-    lens: &[u16],
+    kinds: &&[u8],
+    spans: &&[u32],
     out: &mut [u8],
     mem: &mut [u64; 68],
     at: usize,
     cfg: Cfg,
 ) -> usize
     requires { ⌜ cfg .depth + 2 * cfg .nesting + 2 ≤ 402 ⌝ }
-    ensures { λ r. ⌜ does (λ ws c. exp· ws c CaseExp) run text rec kinds starts lens out mem at cfg r ⌝ }
+    ensures { λ r. ⌜ does (λ ws c. exp· ws c CaseExp) run text rec kinds spans out mem at cfg r ⌝ }
 {
     word(run, text, out, mem, words::CASE);
     ha(
@@ -707,8 +662,7 @@ fn ca<'a>(
         text,
         rec,
         kinds,
-        starts,
-        lens,
+        spans,
         out,
         mem,
         at,
@@ -722,9 +676,8 @@ fn pr<'a>(
     run: &'a [u8; 351],
     text: &'a [u8],
     rec: &[u8],
-    kinds: &[u8],
-    starts: &[u16],
-    lens: &[u16],
+    kinds: &&[u8],
+    spans: &&[u32],
     out: &mut [u8],
     mem: &mut [u64; 68],
     at: usize,
@@ -732,10 +685,10 @@ fn pr<'a>(
     w: usize,
 ) -> usize
     requires { ⌜ cfg .depth + 2 * cfg .nesting + 2 ≤ 402 ⌝ }
-    ensures { λ r. ⌜ does (λ ws c. word· (wordOf w) ⨾ ws .get-exp c) run text rec kinds starts lens out mem at cfg r ⌝ }
+    ensures { λ r. ⌜ does (λ ws c. word· (wordOf w) ⨾ ws .get-exp c) run text rec kinds spans out mem at cfg r ⌝ }
 {
     word(run, text, out, mem, w);
-    exp(run, text, rec, kinds, starts, lens, out, mem, at, cfg)
+    exp(run, text, rec, kinds, spans, out, mem, at, cfg)
 }
 
 // `IfExp`. Another `if` stays on the line of `else`.
@@ -743,26 +696,25 @@ fn ie<'a>(
     run: &'a [u8; 351],
     text: &'a [u8],
     rec: &[u8],
-    kinds: &[u8],
-    starts: &[u16],
-    lens: &[u16],
+    kinds: &&[u8],
+    spans: &&[u32],
     out: &mut [u8],
     mem: &mut [u64; 68],
     at: usize,
     cfg: Cfg,
 ) -> usize
     requires { ⌜ cfg .depth + 2 * cfg .nesting + 2 ≤ 402 ⌝ }
-    ensures { λ r. ⌜ does (λ ws c. exp· ws c IfExp) run text rec kinds starts lens out mem at cfg r ⌝ }
+    ensures { λ r. ⌜ does (λ ws c. exp· ws c IfExp) run text rec kinds spans out mem at cfg r ⌝ }
 {
     word(run, text, out, mem, words::IF);
-    let r1 = exp(run, text, rec, kinds, starts, lens, out, mem, at, cfg);
+    let r1 = exp(run, text, rec, kinds, spans, out, mem, at, cfg);
     let Status::Done(s1) = told(r1) else {
         return r1;
     };
     word(run, text, out, mem, words::THEN);
     indent_deeper(out, mem, cfg);
     let new = cfg.indented();
-    let r2 = exp(run, text, rec, kinds, starts, lens, out, mem, s1, new);
+    let r2 = exp(run, text, rec, kinds, spans, out, mem, s1, new);
     let Status::Done(s2) = told(r2) else {
         return r2;
     };
@@ -773,10 +725,10 @@ fn ie<'a>(
     };
     if is_if_exp(rec, s2) {
         word(run, text, out, mem, words::SPACE);
-        return exp(run, text, rec, kinds, starts, lens, out, mem, s2, cfg);
+        return exp(run, text, rec, kinds, spans, out, mem, s2, cfg);
     }
     line_in(run, text, out, mem, cfg);
-    exp(run, text, rec, kinds, starts, lens, out, mem, s2, new)
+    exp(run, text, rec, kinds, spans, out, mem, s2, new)
 }
 
 // `get_matcher_across_lines`. No matcher is allowed.
@@ -784,16 +736,15 @@ fn ma<'a>(
     run: &'a [u8; 351],
     text: &'a [u8],
     rec: &[u8],
-    kinds: &[u8],
-    starts: &[u16],
-    lens: &[u16],
+    kinds: &&[u8],
+    spans: &&[u32],
     out: &mut [u8],
     mem: &mut [u64; 68],
     at: usize,
     cfg: Cfg,
 ) -> usize
     requires { ⌜ cfg .depth + 2 * cfg .nesting + 2 ≤ 402 ⌝ }
-    ensures { λ r. ⌜ does get-matcher-across-lines run text rec kinds starts lens out mem at cfg r ⌝ }
+    ensures { λ r. ⌜ does get-matcher-across-lines run text rec kinds spans out mem at cfg r ⌝ }
 {
     if let Gone::Past(s0) = absent(rec, at) {
         return s0;
@@ -810,7 +761,7 @@ fn ma<'a>(
     let mut i = 0;
     while i < n {
         new_line(run, text, out, mem, cfg, words::BAR, i);
-        let r3 = arm(run, text, rec, kinds, starts, lens, out, mem, s, cfg);
+        let r3 = arm(run, text, rec, kinds, spans, out, mem, s, cfg);
         let Status::Done(s3) = told(r3) else {
             return r3;
         };
@@ -825,22 +776,21 @@ fn arm<'a>(
     run: &'a [u8; 351],
     text: &'a [u8],
     rec: &[u8],
-    kinds: &[u8],
-    starts: &[u16],
-    lens: &[u16],
+    kinds: &&[u8],
+    spans: &&[u32],
     out: &mut [u8],
     mem: &mut [u64; 68],
     at: usize,
     cfg: Cfg,
 ) -> usize
     requires { ⌜ cfg .depth + 2 * cfg .nesting + 2 ≤ 402 ⌝ }
-    ensures { λ r. ⌜ does get-matcher-arm run text rec kinds starts lens out mem at cfg r ⌝ }
+    ensures { λ r. ⌜ does get-matcher-arm run text rec kinds spans out mem at cfg r ⌝ }
 {
     let r1 = group(rec, at);
     let Status::Done(s1) = told(r1) else {
         return r1;
     };
-    let r2 = get_pat(run, text, rec, starts, lens, out, mem, s1, cfg);
+    let r2 = get_pat(run, text, rec, spans, out, mem, s1, cfg);
     let Status::Done(s2) = told(r2) else {
         return r2;
     };
@@ -852,10 +802,10 @@ fn arm<'a>(
         word(run, text, out, mem, words::LINE_FEED);
         deepen(mem, cfg);
         let new = cfg.indented();
-        return dp(run, text, rec, kinds, starts, lens, out, mem, s2, new);
+        return dp(run, text, rec, kinds, spans, out, mem, s2, new);
     }
     word(run, text, out, mem, words::SPACE);
-    exp(run, text, rec, kinds, starts, lens, out, mem, s2, cfg)
+    exp(run, text, rec, kinds, spans, out, mem, s2, cfg)
 }
 
 // An expression one deeper.
@@ -863,20 +813,19 @@ fn dp<'a>(
     run: &'a [u8; 351],
     text: &'a [u8],
     rec: &[u8],
-    kinds: &[u8],
-    starts: &[u16],
-    lens: &[u16],
+    kinds: &&[u8],
+    spans: &&[u32],
     out: &mut [u8],
     mem: &mut [u64; 68],
     at: usize,
     cfg: Cfg,
 ) -> usize
     requires { ⌜ cfg .depth + 2 * cfg .nesting + 1 ≤ 402 ⌝ }
-    ensures { λ r. ⌜ does (λ ws c. indented-levels ws c 1) run text rec kinds starts lens out mem at cfg r ⌝ }
+    ensures { λ r. ⌜ does (λ ws c. indented-levels ws c 1) run text rec kinds spans out mem at cfg r ⌝ }
 {
     indent_deeper(out, mem, cfg);
     let new = cfg.indented();
-    exp(run, text, rec, kinds, starts, lens, out, mem, at, new)
+    exp(run, text, rec, kinds, spans, out, mem, at, new)
 }
 
 // ` =` and the body of a binding, where there is one.
@@ -884,16 +833,15 @@ fn qb<'a>(
     run: &'a [u8; 351],
     text: &'a [u8],
     rec: &[u8],
-    kinds: &[u8],
-    starts: &[u16],
-    lens: &[u16],
+    kinds: &&[u8],
+    spans: &&[u32],
     out: &mut [u8],
     mem: &mut [u64; 68],
     at: usize,
     cfg: Cfg,
 ) -> usize
     requires { ⌜ cfg .depth + 2 * cfg .nesting + 2 ≤ 402 ⌝ }
-    ensures { λ r. ⌜ does eq-body run text rec kinds starts lens out mem at cfg r ⌝ }
+    ensures { λ r. ⌜ does eq-body run text rec kinds spans out mem at cfg r ⌝ }
 {
     if let Gone::Past(s0) = absent(rec, at) {
         return s0;
@@ -908,10 +856,10 @@ fn qb<'a>(
     };
     if body_exp_needs_newline(rec, s1) {
         word(run, text, out, mem, words::LINE_FEED);
-        return dp(run, text, rec, kinds, starts, lens, out, mem, s1, cfg);
+        return dp(run, text, rec, kinds, spans, out, mem, s1, cfg);
     }
     word(run, text, out, mem, words::SPACE);
-    exp(run, text, rec, kinds, starts, lens, out, mem, s1, cfg)
+    exp(run, text, rec, kinds, spans, out, mem, s1, cfg)
 }
 
 // `FnExp`.
@@ -919,16 +867,15 @@ fn fe<'a>(
     run: &'a [u8; 351],
     text: &'a [u8],
     rec: &[u8],
-    kinds: &[u8],
-    starts: &[u16],
-    lens: &[u16],
+    kinds: &&[u8],
+    spans: &&[u32],
     out: &mut [u8],
     mem: &mut [u64; 68],
     at: usize,
     cfg: Cfg,
 ) -> usize
     requires { ⌜ cfg .depth + 2 * cfg .nesting + 2 ≤ 402 ⌝ }
-    ensures { λ r. ⌜ does (λ ws c. exp· ws c FnExp) run text rec kinds starts lens out mem at cfg r ⌝ }
+    ensures { λ r. ⌜ does (λ ws c. exp· ws c FnExp) run text rec kinds spans out mem at cfg r ⌝ }
 {
     word(run, text, out, mem, words::FN);
     let r1 = group(rec, at);
@@ -942,7 +889,7 @@ fn fe<'a>(
     let mut i = 0;
     while i < n {
         between(run, text, out, mem, words::BAR_SPACED, i);
-        let r3 = arm(run, text, rec, kinds, starts, lens, out, mem, s, cfg);
+        let r3 = arm(run, text, rec, kinds, spans, out, mem, s, cfg);
         let Status::Done(s3) = told(r3) else {
             return r3;
         };
@@ -957,16 +904,15 @@ fn exp<'a>(
     run: &'a [u8; 351],
     text: &'a [u8],
     rec: &[u8],
-    kinds: &[u8],
-    starts: &[u16],
-    lens: &[u16],
+    kinds: &&[u8],
+    spans: &&[u32],
     out: &mut [u8],
     mem: &mut [u64; 68],
     at: usize,
     cfg: Cfg,
 ) -> usize
     requires { ⌜ cfg .depth + 2 * cfg .nesting + 0 ≤ 402 ⌝ }
-    ensures { λ r. ⌜ does (λ ws c. ws .get-exp c) run text rec kinds starts lens out mem at cfg r ⌝ }
+    ensures { λ r. ⌜ does (λ ws c. ws .get-exp c) run text rec kinds spans out mem at cfg r ⌝ }
 {
     let forms_left = cfg.nesting;
     if forms_left == 0 {
@@ -997,18 +943,17 @@ fn exp<'a>(
             word(run, text, out, mem, words::OP_ORELSE);
             s
         }
-        4 => text_of(run, text, rec, starts, lens, out, mem, s),
-        5 => op_path(run, text, rec, starts, lens, out, mem, s),
-        6 => rc(run, text, rec, kinds, starts, lens, out, mem, s, sub),
-        7 => selector_exp(run, text, rec, starts, lens, out, mem, s, sub),
-        8 => pa(run, text, rec, kinds, starts, lens, out, mem, s, sub),
+        4 => text_of(run, text, rec, spans, out, mem, s),
+        5 => op_path(run, text, rec, spans, out, mem, s),
+        6 => rc(run, text, rec, kinds, spans, out, mem, s, sub),
+        7 => selector_exp(run, text, rec, spans, out, mem, s, sub),
+        8 => pa(run, text, rec, kinds, spans, out, mem, s, sub),
         9 => br(
             run,
             text,
             rec,
             kinds,
-            starts,
-            lens,
+            spans,
             out,
             mem,
             s,
@@ -1021,8 +966,7 @@ fn exp<'a>(
             text,
             rec,
             kinds,
-            starts,
-            lens,
+            spans,
             out,
             mem,
             s,
@@ -1030,56 +974,20 @@ fn exp<'a>(
             words::L_SQUARE,
             words::R_SQUARE,
         ),
-        11 => ve(run, text, rec, kinds, starts, lens, out, mem, s, sub),
-        12 => seq(run, text, rec, kinds, starts, lens, out, mem, s, sub),
-        13 => lx(run, text, rec, kinds, starts, lens, out, mem, s, sub),
-        14 => app(run, text, rec, kinds, starts, lens, out, mem, s, sub),
-        15 => fx(run, text, rec, kinds, starts, lens, out, mem, s, sub),
-        16 => ty(run, text, rec, kinds, starts, lens, out, mem, s, sub),
-        17 => du(
-            run,
-            text,
-            rec,
-            kinds,
-            starts,
-            lens,
-            out,
-            mem,
-            s,
-            sub,
-            ANDALSO,
-        ),
-        18 => du(
-            run,
-            text,
-            rec,
-            kinds,
-            starts,
-            lens,
-            out,
-            mem,
-            s,
-            sub,
-            ORELSE,
-        ),
-        19 => ha(
-            run,
-            text,
-            rec,
-            kinds,
-            starts,
-            lens,
-            out,
-            mem,
-            s,
-            sub,
-            HANDLE,
-        ),
-        20 => pr(run, text, rec, kinds, starts, lens, out, mem, s, sub, RAISE),
-        21 => ie(run, text, rec, kinds, starts, lens, out, mem, s, sub),
-        22 => wh(run, text, rec, kinds, starts, lens, out, mem, s, sub),
-        23 => ca(run, text, rec, kinds, starts, lens, out, mem, s, sub),
-        24 => fe(run, text, rec, kinds, starts, lens, out, mem, s, sub),
+        11 => ve(run, text, rec, kinds, spans, out, mem, s, sub),
+        12 => seq(run, text, rec, kinds, spans, out, mem, s, sub),
+        13 => lx(run, text, rec, kinds, spans, out, mem, s, sub),
+        14 => app(run, text, rec, kinds, spans, out, mem, s, sub),
+        15 => fx(run, text, rec, kinds, spans, out, mem, s, sub),
+        16 => ty(run, text, rec, kinds, spans, out, mem, s, sub),
+        17 => du(run, text, rec, kinds, spans, out, mem, s, sub, ANDALSO),
+        18 => du(run, text, rec, kinds, spans, out, mem, s, sub, ORELSE),
+        19 => ha(run, text, rec, kinds, spans, out, mem, s, sub, HANDLE),
+        20 => pr(run, text, rec, kinds, spans, out, mem, s, sub, RAISE),
+        21 => ie(run, text, rec, kinds, spans, out, mem, s, sub),
+        22 => wh(run, text, rec, kinds, spans, out, mem, s, sub),
+        23 => ca(run, text, rec, kinds, spans, out, mem, s, sub),
+        24 => fe(run, text, rec, kinds, spans, out, mem, s, sub),
         _ => stop(s),
     }
 }
@@ -1090,16 +998,15 @@ fn ds<'a>(
     run: &'a [u8; 351],
     text: &'a [u8],
     rec: &[u8],
-    kinds: &[u8],
-    starts: &[u16],
-    lens: &[u16],
+    kinds: &&[u8],
+    spans: &&[u32],
     out: &mut [u8],
     mem: &mut [u64; 68],
     at: usize,
     cfg: Cfg,
 ) -> usize
     requires { ⌜ cfg .depth + 2 * cfg .nesting + 0 ≤ 402 ⌝ }
-    ensures { λ r. ⌜ does get-dec run text rec kinds starts lens out mem at cfg r ⌝ }
+    ensures { λ r. ⌜ does get-dec run text rec kinds spans out mem at cfg r ⌝ }
 {
     let Read::Is(n, s0) = list(rec, at) else {
         return stop(at);
@@ -1112,7 +1019,7 @@ fn ds<'a>(
         let Status::Done(s1) = told(r1) else {
             return r1;
         };
-        let r2 = dec(run, text, rec, kinds, starts, lens, out, mem, s1, cfg);
+        let r2 = dec(run, text, rec, kinds, spans, out, mem, s1, cfg);
         let Status::Done(s2) = told(r2) else {
             return r2;
         };
@@ -1127,30 +1034,29 @@ fn dec<'a>(
     run: &'a [u8; 351],
     text: &'a [u8],
     rec: &[u8],
-    kinds: &[u8],
-    starts: &[u16],
-    lens: &[u16],
+    kinds: &&[u8],
+    spans: &&[u32],
     out: &mut [u8],
     mem: &mut [u64; 68],
     at: usize,
     cfg: Cfg,
 ) -> usize
     requires { ⌜ cfg .depth + 2 * cfg .nesting + 0 ≤ 402 ⌝ }
-    ensures { λ r. ⌜ does dec· run text rec kinds starts lens out mem at cfg r ⌝ }
+    ensures { λ r. ⌜ does dec· run text rec kinds spans out mem at cfg r ⌝ }
 {
     let r1 = group(rec, at);
     let Status::Done(s1) = told(r1) else {
         return r1;
     };
-    let r2 = qs(run, text, rec, kinds, starts, lens, out, mem, s1, cfg);
+    let r2 = qs(run, text, rec, kinds, spans, out, mem, s1, cfg);
     let Status::Done(s2) = told(r2) else {
         return r2;
     };
-    let r3 = sharing_tails(run, text, rec, starts, lens, out, mem, s2, cfg);
+    let r3 = sharing_tails(run, text, rec, spans, out, mem, s2, cfg);
     let Status::Done(s3) = told(r3) else {
         return r3;
     };
-    word_if(run, text, rec, starts, lens, out, mem, s3, words::SEMICOLON)
+    word_if(run, text, rec, spans, out, mem, s3, words::SEMICOLON)
 }
 
 // `dec_in_seqs`.
@@ -1158,16 +1064,15 @@ fn qs<'a>(
     run: &'a [u8; 351],
     text: &'a [u8],
     rec: &[u8],
-    kinds: &[u8],
-    starts: &[u16],
-    lens: &[u16],
+    kinds: &&[u8],
+    spans: &&[u32],
     out: &mut [u8],
     mem: &mut [u64; 68],
     at: usize,
     cfg: Cfg,
 ) -> usize
     requires { ⌜ cfg .depth + 2 * cfg .nesting + 0 ≤ 402 ⌝ }
-    ensures { λ r. ⌜ does dec-in-seqs run text rec kinds starts lens out mem at cfg r ⌝ }
+    ensures { λ r. ⌜ does dec-in-seqs run text rec kinds spans out mem at cfg r ⌝ }
 {
     let Read::Is(n, s0) = list(rec, at) else {
         return stop(at);
@@ -1176,7 +1081,7 @@ fn qs<'a>(
     let mut i = 0;
     while i < n {
         new_line(run, text, out, mem, cfg, words::NOTHING, i);
-        let r1 = sq(run, text, rec, kinds, starts, lens, out, mem, s, cfg);
+        let r1 = sq(run, text, rec, kinds, spans, out, mem, s, cfg);
         let Status::Done(s1) = told(r1) else {
             return r1;
         };
@@ -1191,16 +1096,15 @@ fn sq<'a>(
     run: &'a [u8; 351],
     text: &'a [u8],
     rec: &[u8],
-    kinds: &[u8],
-    starts: &[u16],
-    lens: &[u16],
+    kinds: &&[u8],
+    spans: &&[u32],
     out: &mut [u8],
     mem: &mut [u64; 68],
     at: usize,
     cfg: Cfg,
 ) -> usize
     requires { ⌜ cfg .depth + 2 * cfg .nesting + 0 ≤ 402 ⌝ }
-    ensures { λ r. ⌜ does dec-in-seq run text rec kinds starts lens out mem at cfg r ⌝ }
+    ensures { λ r. ⌜ does dec-in-seq run text rec kinds spans out mem at cfg r ⌝ }
 {
     let r1 = group(rec, at);
     let Status::Done(s1) = told(r1) else {
@@ -1211,11 +1115,11 @@ fn sq<'a>(
         blank: false,
         nesting: cfg.nesting,
     };
-    let r2 = one(run, text, rec, kinds, starts, lens, out, mem, s1, calm);
+    let r2 = one(run, text, rec, kinds, spans, out, mem, s1, calm);
     let Status::Done(s2) = told(r2) else {
         return r2;
     };
-    word_if(run, text, rec, starts, lens, out, mem, s2, words::SEMICOLON)
+    word_if(run, text, rec, spans, out, mem, s2, words::SEMICOLON)
 }
 
 // `get_dec_one`: the comment above a declaration, then the declaration.
@@ -1223,16 +1127,15 @@ fn one<'a>(
     run: &'a [u8; 351],
     text: &'a [u8],
     rec: &[u8],
-    kinds: &[u8],
-    starts: &[u16],
-    lens: &[u16],
+    kinds: &&[u8],
+    spans: &&[u32],
     out: &mut [u8],
     mem: &mut [u64; 68],
     at: usize,
     cfg: Cfg,
 ) -> usize
     requires { ⌜ cfg .depth + 2 * cfg .nesting + 0 ≤ 402 ⌝ }
-    ensures { λ r. ⌜ does (λ ws c. ws .get-dec-one c) run text rec kinds starts lens out mem at cfg r ⌝ }
+    ensures { λ r. ⌜ does (λ ws c. ws .get-dec-one c) run text rec kinds spans out mem at cfg r ⌝ }
 {
     let forms_left = cfg.nesting;
     if forms_left == 0 {
@@ -1242,17 +1145,17 @@ fn one<'a>(
         number: k,
         first: first,
         next: next,
-    } = declared(rec, starts.len(), at)
+    } = declared(rec, spans, at)
     else {
         return stop(at);
     };
-    comment_above(run, text, kinds, starts, lens, out, mem, cfg, first);
+    comment_above(run, text, kinds, spans, out, mem, cfg, first);
     let sub = Cfg {
         depth: cfg.depth,
         blank: cfg.blank,
         nesting: forms_left - 1,
     };
-    nu(run, text, rec, kinds, starts, lens, out, mem, next, sub, k)
+    nu(run, text, rec, kinds, spans, out, mem, next, sub, k)
 }
 
 // A declaration by its number, from its fields on.
@@ -1260,9 +1163,8 @@ fn nu<'a>(
     run: &'a [u8; 351],
     text: &'a [u8],
     rec: &[u8],
-    kinds: &[u8],
-    starts: &[u16],
-    lens: &[u16],
+    kinds: &&[u8],
+    spans: &&[u32],
     out: &mut [u8],
     mem: &mut [u64; 68],
     at: usize,
@@ -1270,65 +1172,31 @@ fn nu<'a>(
     which: usize,
 ) -> usize
     requires { ⌜ cfg .depth + 2 * cfg .nesting + 2 ≤ 402 ⌝ }
-    ensures { λ r. ⌜ does (λ ws c. getD (decs· ws c) which halt) run text rec kinds starts lens out mem at cfg r ⌝ }
+    ensures { λ r. ⌜ does (λ ws c. getD (decs· ws c) which halt) run text rec kinds spans out mem at cfg r ⌝ }
 {
     match which {
         0 => {
             word(run, text, out, mem, words::DOT_DOT_DOT);
             at
         }
-        1 => vd(run, text, rec, kinds, starts, lens, out, mem, at, cfg),
-        2 => fd(run, text, rec, kinds, starts, lens, out, mem, at, cfg),
-        3 => ty_dec(run, text, rec, starts, lens, out, mem, at, cfg),
-        4 => dat_dec(run, text, rec, starts, lens, out, mem, at, cfg),
-        5 => dat_copy_dec(run, text, rec, starts, lens, out, mem, at, cfg),
-        6 => ab(run, text, rec, kinds, starts, lens, out, mem, at, cfg),
-        7 => xd(run, text, rec, kinds, starts, lens, out, mem, at, cfg),
-        8 => open_dec(run, text, rec, starts, lens, out, mem, at, cfg),
-        9 => infix_dec(
-            run,
-            text,
-            rec,
-            starts,
-            lens,
-            out,
-            mem,
-            at,
-            cfg,
-            words::INFIX,
-        ),
-        10 => infix_dec(
-            run,
-            text,
-            rec,
-            starts,
-            lens,
-            out,
-            mem,
-            at,
-            cfg,
-            words::INFIXR,
-        ),
-        11 => nonfix_dec(run, text, rec, starts, lens, out, mem, at, cfg),
-        12 => pr(
-            run,
-            text,
-            rec,
-            kinds,
-            starts,
-            lens,
-            out,
-            mem,
-            at,
-            cfg,
-            words::DO,
-        ),
-        13 => lo(run, text, rec, kinds, starts, lens, out, mem, at, cfg),
-        14 => sd(run, text, rec, kinds, starts, lens, out, mem, at, cfg),
-        15 => gd(run, text, rec, kinds, starts, lens, out, mem, at, cfg),
-        16 => cd(run, text, rec, kinds, starts, lens, out, mem, at, cfg),
-        17 => exp(run, text, rec, kinds, starts, lens, out, mem, at, cfg),
-        18 => ic(run, text, rec, kinds, starts, lens, out, mem, at, cfg),
+        1 => vd(run, text, rec, kinds, spans, out, mem, at, cfg),
+        2 => fd(run, text, rec, kinds, spans, out, mem, at, cfg),
+        3 => ty_dec(run, text, rec, spans, out, mem, at, cfg),
+        4 => dat_dec(run, text, rec, spans, out, mem, at, cfg),
+        5 => dat_copy_dec(run, text, rec, spans, out, mem, at, cfg),
+        6 => ab(run, text, rec, kinds, spans, out, mem, at, cfg),
+        7 => xd(run, text, rec, kinds, spans, out, mem, at, cfg),
+        8 => open_dec(run, text, rec, spans, out, mem, at, cfg),
+        9 => infix_dec(run, text, rec, spans, out, mem, at, cfg, words::INFIX),
+        10 => infix_dec(run, text, rec, spans, out, mem, at, cfg, words::INFIXR),
+        11 => nonfix_dec(run, text, rec, spans, out, mem, at, cfg),
+        12 => pr(run, text, rec, kinds, spans, out, mem, at, cfg, words::DO),
+        13 => lo(run, text, rec, kinds, spans, out, mem, at, cfg),
+        14 => sd(run, text, rec, kinds, spans, out, mem, at, cfg),
+        15 => gd(run, text, rec, kinds, spans, out, mem, at, cfg),
+        16 => cd(run, text, rec, kinds, spans, out, mem, at, cfg),
+        17 => exp(run, text, rec, kinds, spans, out, mem, at, cfg),
+        18 => ic(run, text, rec, kinds, spans, out, mem, at, cfg),
         19 => import(at),
         _ => stop(at),
     }
@@ -1339,16 +1207,15 @@ fn vd<'a>(
     run: &'a [u8; 351],
     text: &'a [u8],
     rec: &[u8],
-    kinds: &[u8],
-    starts: &[u16],
-    lens: &[u16],
+    kinds: &&[u8],
+    spans: &&[u32],
     out: &mut [u8],
     mem: &mut [u64; 68],
     at: usize,
     cfg: Cfg,
 ) -> usize
     requires { ⌜ cfg .depth + 2 * cfg .nesting + 2 ≤ 402 ⌝ }
-    ensures { λ r. ⌜ does (λ ws c. dec-one· ws c ValDec) run text rec kinds starts lens out mem at cfg r ⌝ }
+    ensures { λ r. ⌜ does (λ ws c. dec-one· ws c ValDec) run text rec kinds spans out mem at cfg r ⌝ }
 {
     word(run, text, out, mem, words::VAL);
     let Read::Is(n, s1) = list(rec, at) else {
@@ -1358,7 +1225,7 @@ fn vd<'a>(
     let mut i = 0;
     while i < n {
         new_line(run, text, out, mem, cfg, words::AND, i);
-        let r2 = vb(run, text, rec, kinds, starts, lens, out, mem, s, cfg);
+        let r2 = vb(run, text, rec, kinds, spans, out, mem, s, cfg);
         let Status::Done(s2) = told(r2) else {
             return r2;
         };
@@ -1373,30 +1240,29 @@ fn vb<'a>(
     run: &'a [u8; 351],
     text: &'a [u8],
     rec: &[u8],
-    kinds: &[u8],
-    starts: &[u16],
-    lens: &[u16],
+    kinds: &&[u8],
+    spans: &&[u32],
     out: &mut [u8],
     mem: &mut [u64; 68],
     at: usize,
     cfg: Cfg,
 ) -> usize
     requires { ⌜ cfg .depth + 2 * cfg .nesting + 2 ≤ 402 ⌝ }
-    ensures { λ r. ⌜ does val-bind run text rec kinds starts lens out mem at cfg r ⌝ }
+    ensures { λ r. ⌜ does val-bind run text rec kinds spans out mem at cfg r ⌝ }
 {
     let r1 = group(rec, at);
     let Status::Done(s1) = told(r1) else {
         return r1;
     };
-    let r2 = word_if(run, text, rec, starts, lens, out, mem, s1, words::REC);
+    let r2 = word_if(run, text, rec, spans, out, mem, s1, words::REC);
     let Status::Done(s2) = told(r2) else {
         return r2;
     };
-    let r3 = get_pat(run, text, rec, starts, lens, out, mem, s2, cfg);
+    let r3 = get_pat(run, text, rec, spans, out, mem, s2, cfg);
     let Status::Done(s3) = told(r3) else {
         return r3;
     };
-    qb(run, text, rec, kinds, starts, lens, out, mem, s3, cfg)
+    qb(run, text, rec, kinds, spans, out, mem, s3, cfg)
 }
 
 // `FunDec`.
@@ -1404,19 +1270,18 @@ fn fd<'a>(
     run: &'a [u8; 351],
     text: &'a [u8],
     rec: &[u8],
-    kinds: &[u8],
-    starts: &[u16],
-    lens: &[u16],
+    kinds: &&[u8],
+    spans: &&[u32],
     out: &mut [u8],
     mem: &mut [u64; 68],
     at: usize,
     cfg: Cfg,
 ) -> usize
     requires { ⌜ cfg .depth + 2 * cfg .nesting + 2 ≤ 402 ⌝ }
-    ensures { λ r. ⌜ does (λ ws c. dec-one· ws c FunDec) run text rec kinds starts lens out mem at cfg r ⌝ }
+    ensures { λ r. ⌜ does (λ ws c. dec-one· ws c FunDec) run text rec kinds spans out mem at cfg r ⌝ }
 {
     word(run, text, out, mem, words::FUN);
-    let r1 = ty_var_seq(run, text, rec, starts, lens, out, mem, at);
+    let r1 = ty_var_seq(run, text, rec, spans, out, mem, at);
     let Status::Done(s1) = told(r1) else {
         return r1;
     };
@@ -1427,7 +1292,7 @@ fn fd<'a>(
     let mut i = 0;
     while i < n {
         new_line(run, text, out, mem, cfg, words::AND, i);
-        let r3 = fb(run, text, rec, kinds, starts, lens, out, mem, s, cfg);
+        let r3 = fb(run, text, rec, kinds, spans, out, mem, s, cfg);
         let Status::Done(s3) = told(r3) else {
             return r3;
         };
@@ -1442,16 +1307,15 @@ fn fb<'a>(
     run: &'a [u8; 351],
     text: &'a [u8],
     rec: &[u8],
-    kinds: &[u8],
-    starts: &[u16],
-    lens: &[u16],
+    kinds: &&[u8],
+    spans: &&[u32],
     out: &mut [u8],
     mem: &mut [u64; 68],
     at: usize,
     cfg: Cfg,
 ) -> usize
     requires { ⌜ cfg .depth + 2 * cfg .nesting + 2 ≤ 402 ⌝ }
-    ensures { λ r. ⌜ does fun-bind run text rec kinds starts lens out mem at cfg r ⌝ }
+    ensures { λ r. ⌜ does fun-bind run text rec kinds spans out mem at cfg r ⌝ }
 {
     let r1 = group(rec, at);
     let Status::Done(s1) = told(r1) else {
@@ -1465,7 +1329,7 @@ fn fb<'a>(
     let mut i = 0;
     while i < n {
         new_line_in(run, text, out, mem, cfg, words::BAR, i);
-        let r3 = fc(run, text, rec, kinds, starts, lens, out, mem, s, cfg);
+        let r3 = fc(run, text, rec, kinds, spans, out, mem, s, cfg);
         let Status::Done(s3) = told(r3) else {
             return r3;
         };
@@ -1480,34 +1344,33 @@ fn fc<'a>(
     run: &'a [u8; 351],
     text: &'a [u8],
     rec: &[u8],
-    kinds: &[u8],
-    starts: &[u16],
-    lens: &[u16],
+    kinds: &&[u8],
+    spans: &&[u32],
     out: &mut [u8],
     mem: &mut [u64; 68],
     at: usize,
     cfg: Cfg,
 ) -> usize
     requires { ⌜ cfg .depth + 2 * cfg .nesting + 2 ≤ 402 ⌝ }
-    ensures { λ r. ⌜ does fun-bind-case run text rec kinds starts lens out mem at cfg r ⌝ }
+    ensures { λ r. ⌜ does fun-bind-case run text rec kinds spans out mem at cfg r ⌝ }
 {
     let r1 = group(rec, at);
     let Status::Done(s1) = told(r1) else {
         return r1;
     };
-    let r2 = case_head(run, text, rec, starts, lens, out, mem, s1, cfg);
+    let r2 = case_head(run, text, rec, spans, out, mem, s1, cfg);
     let Status::Done(s2) = told(r2) else {
         return r2;
     };
-    let r3 = case_pats(run, text, rec, starts, lens, out, mem, s2, cfg);
+    let r3 = case_pats(run, text, rec, spans, out, mem, s2, cfg);
     let Status::Done(s3) = told(r3) else {
         return r3;
     };
-    let r4 = ty_annotation(run, text, rec, starts, lens, out, mem, s3, cfg);
+    let r4 = ty_annotation(run, text, rec, spans, out, mem, s3, cfg);
     let Status::Done(s4) = told(r4) else {
         return r4;
     };
-    qb(run, text, rec, kinds, starts, lens, out, mem, s4, cfg)
+    qb(run, text, rec, kinds, spans, out, mem, s4, cfg)
 }
 
 // `AbstypeDec`.
@@ -1515,28 +1378,27 @@ fn ab<'a>(
     run: &'a [u8; 351],
     text: &'a [u8],
     rec: &[u8],
-    kinds: &[u8],
-    starts: &[u16],
-    lens: &[u16],
+    kinds: &&[u8],
+    spans: &&[u32],
     out: &mut [u8],
     mem: &mut [u64; 68],
     at: usize,
     cfg: Cfg,
 ) -> usize
     requires { ⌜ cfg .depth + 2 * cfg .nesting + 2 ≤ 402 ⌝ }
-    ensures { λ r. ⌜ does (λ ws c. dec-one· ws c AbstypeDec) run text rec kinds starts lens out mem at cfg r ⌝ }
+    ensures { λ r. ⌜ does (λ ws c. dec-one· ws c AbstypeDec) run text rec kinds spans out mem at cfg r ⌝ }
 {
     word(run, text, out, mem, words::ABSTYPE);
-    let r1 = dat_binds(run, text, rec, starts, lens, out, mem, at, cfg);
+    let r1 = dat_binds(run, text, rec, spans, out, mem, at, cfg);
     let Status::Done(s1) = told(r1) else {
         return r1;
     };
-    let r2 = with_type(run, text, rec, starts, lens, out, mem, s1, cfg);
+    let r2 = with_type(run, text, rec, spans, out, mem, s1, cfg);
     let Status::Done(s2) = told(r2) else {
         return r2;
     };
     word(run, text, out, mem, words::WITH);
-    let r3 = ds(run, text, rec, kinds, starts, lens, out, mem, s2, cfg);
+    let r3 = ds(run, text, rec, kinds, spans, out, mem, s2, cfg);
     let Status::Done(s3) = told(r3) else {
         return r3;
     };
@@ -1549,16 +1411,15 @@ fn xd<'a>(
     run: &'a [u8; 351],
     text: &'a [u8],
     rec: &[u8],
-    kinds: &[u8],
-    starts: &[u16],
-    lens: &[u16],
+    kinds: &&[u8],
+    spans: &&[u32],
     out: &mut [u8],
     mem: &mut [u64; 68],
     at: usize,
     cfg: Cfg,
 ) -> usize
     requires { ⌜ cfg .depth + 2 * cfg .nesting + 2 ≤ 402 ⌝ }
-    ensures { λ r. ⌜ does (λ ws c. dec-one· ws c ExDec) run text rec kinds starts lens out mem at cfg r ⌝ }
+    ensures { λ r. ⌜ does (λ ws c. dec-one· ws c ExDec) run text rec kinds spans out mem at cfg r ⌝ }
 {
     word(run, text, out, mem, words::EXCEPTION);
     let Read::Is(n, s1) = list(rec, at) else {
@@ -1568,7 +1429,7 @@ fn xd<'a>(
     let mut i = 0;
     while i < n {
         new_line(run, text, out, mem, cfg, words::AND, i);
-        let r2 = xb(run, text, rec, kinds, starts, lens, out, mem, s, cfg);
+        let r2 = xb(run, text, rec, kinds, spans, out, mem, s, cfg);
         let Status::Done(s2) = told(r2) else {
             return r2;
         };
@@ -1583,22 +1444,21 @@ fn xb<'a>(
     run: &'a [u8; 351],
     text: &'a [u8],
     rec: &[u8],
-    kinds: &[u8],
-    starts: &[u16],
-    lens: &[u16],
+    kinds: &&[u8],
+    spans: &&[u32],
     out: &mut [u8],
     mem: &mut [u64; 68],
     at: usize,
     cfg: Cfg,
 ) -> usize
     requires { ⌜ cfg .depth + 2 * cfg .nesting + 2 ≤ 402 ⌝ }
-    ensures { λ r. ⌜ does ex-bind run text rec kinds starts lens out mem at cfg r ⌝ }
+    ensures { λ r. ⌜ does ex-bind run text rec kinds spans out mem at cfg r ⌝ }
 {
     let r1 = group(rec, at);
     let Status::Done(s1) = told(r1) else {
         return r1;
     };
-    let r2 = text_of(run, text, rec, starts, lens, out, mem, s1);
+    let r2 = text_of(run, text, rec, spans, out, mem, s1);
     let Status::Done(s2) = told(r2) else {
         return r2;
     };
@@ -1608,7 +1468,7 @@ fn xb<'a>(
     let Read::Is(k, s4) = choice(rec, s2) else {
         return stop(s2);
     };
-    xi(run, text, rec, kinds, starts, lens, out, mem, s4, cfg, k)
+    xi(run, text, rec, kinds, spans, out, mem, s4, cfg, k)
 }
 
 // What an exception is bound to, by its number.
@@ -1616,9 +1476,8 @@ fn xi<'a>(
     run: &'a [u8; 351],
     text: &'a [u8],
     rec: &[u8],
-    kinds: &[u8],
-    starts: &[u16],
-    lens: &[u16],
+    kinds: &&[u8],
+    spans: &&[u32],
     out: &mut [u8],
     mem: &mut [u64; 68],
     at: usize,
@@ -1626,17 +1485,16 @@ fn xi<'a>(
     which: usize,
 ) -> usize
     requires { ⌜ cfg .depth + 2 * cfg .nesting + 2 ≤ 402 ⌝ }
-    ensures { λ r. ⌜ does (λ ws c. ex-bind-inner ws c which) run text rec kinds starts lens out mem at cfg r ⌝ }
+    ensures { λ r. ⌜ does (λ ws c. ex-bind-inner ws c which) run text rec kinds spans out mem at cfg r ⌝ }
 {
     match which {
-        0 => ex_bind_of(run, text, rec, starts, lens, out, mem, at, cfg),
+        0 => ex_bind_of(run, text, rec, spans, out, mem, at, cfg),
         1 => pr(
             run,
             text,
             rec,
             kinds,
-            starts,
-            lens,
+            spans,
             out,
             mem,
             at,
@@ -1652,29 +1510,28 @@ fn lo<'a>(
     run: &'a [u8; 351],
     text: &'a [u8],
     rec: &[u8],
-    kinds: &[u8],
-    starts: &[u16],
-    lens: &[u16],
+    kinds: &&[u8],
+    spans: &&[u32],
     out: &mut [u8],
     mem: &mut [u64; 68],
     at: usize,
     cfg: Cfg,
 ) -> usize
     requires { ⌜ cfg .depth + 2 * cfg .nesting + 2 ≤ 402 ⌝ }
-    ensures { λ r. ⌜ does (λ ws c. dec-one· ws c LocalDec) run text rec kinds starts lens out mem at cfg r ⌝ }
+    ensures { λ r. ⌜ does (λ ws c. dec-one· ws c LocalDec) run text rec kinds spans out mem at cfg r ⌝ }
 {
     word(run, text, out, mem, words::LOCAL);
     word(run, text, out, mem, words::LINE_FEED);
     indent_deeper(out, mem, cfg);
     let new = cfg.indented();
-    let r1 = ld(run, text, rec, kinds, starts, lens, out, mem, at, new);
+    let r1 = ld(run, text, rec, kinds, spans, out, mem, at, new);
     let Status::Done(s1) = told(r1) else {
         return r1;
     };
     line(run, text, out, mem, cfg);
     word(run, text, out, mem, words::IN);
     indent_in(out, mem, cfg);
-    let r2 = ld(run, text, rec, kinds, starts, lens, out, mem, s1, new);
+    let r2 = ld(run, text, rec, kinds, spans, out, mem, s1, new);
     let Status::Done(s2) = told(r2) else {
         return r2;
     };
@@ -1688,16 +1545,15 @@ fn ld<'a>(
     run: &'a [u8; 351],
     text: &'a [u8],
     rec: &[u8],
-    kinds: &[u8],
-    starts: &[u16],
-    lens: &[u16],
+    kinds: &&[u8],
+    spans: &&[u32],
     out: &mut [u8],
     mem: &mut [u64; 68],
     at: usize,
     cfg: Cfg,
 ) -> usize
     requires { ⌜ cfg .depth + 2 * cfg .nesting + 0 ≤ 402 ⌝ }
-    ensures { λ r. ⌜ does local-decs run text rec kinds starts lens out mem at cfg r ⌝ }
+    ensures { λ r. ⌜ does local-decs run text rec kinds spans out mem at cfg r ⌝ }
 {
     if let Gone::Past(s0) = absent(rec, at) {
         return s0;
@@ -1706,7 +1562,7 @@ fn ld<'a>(
     let Status::Done(s1) = told(r1) else {
         return r1;
     };
-    ds(run, text, rec, kinds, starts, lens, out, mem, s1, cfg)
+    ds(run, text, rec, kinds, spans, out, mem, s1, cfg)
 }
 
 // `StructureDec`.
@@ -1714,16 +1570,15 @@ fn sd<'a>(
     run: &'a [u8; 351],
     text: &'a [u8],
     rec: &[u8],
-    kinds: &[u8],
-    starts: &[u16],
-    lens: &[u16],
+    kinds: &&[u8],
+    spans: &&[u32],
     out: &mut [u8],
     mem: &mut [u64; 68],
     at: usize,
     cfg: Cfg,
 ) -> usize
     requires { ⌜ cfg .depth + 2 * cfg .nesting + 2 ≤ 402 ⌝ }
-    ensures { λ r. ⌜ does (λ ws c. dec-one· ws c StructureDec) run text rec kinds starts lens out mem at cfg r ⌝ }
+    ensures { λ r. ⌜ does (λ ws c. dec-one· ws c StructureDec) run text rec kinds spans out mem at cfg r ⌝ }
 {
     word(run, text, out, mem, words::STRUCTURE);
     let Read::Is(n, s1) = list(rec, at) else {
@@ -1733,7 +1588,7 @@ fn sd<'a>(
     let mut i = 0;
     while i < n {
         new_line(run, text, out, mem, cfg, words::AND, i);
-        let r2 = sb(run, text, rec, kinds, starts, lens, out, mem, s, cfg);
+        let r2 = sb(run, text, rec, kinds, spans, out, mem, s, cfg);
         let Status::Done(s2) = told(r2) else {
             return r2;
         };
@@ -1748,26 +1603,25 @@ fn sb<'a>(
     run: &'a [u8; 351],
     text: &'a [u8],
     rec: &[u8],
-    kinds: &[u8],
-    starts: &[u16],
-    lens: &[u16],
+    kinds: &&[u8],
+    spans: &&[u32],
     out: &mut [u8],
     mem: &mut [u64; 68],
     at: usize,
     cfg: Cfg,
 ) -> usize
     requires { ⌜ cfg .depth + 2 * cfg .nesting + 2 ≤ 402 ⌝ }
-    ensures { λ r. ⌜ does str-bind run text rec kinds starts lens out mem at cfg r ⌝ }
+    ensures { λ r. ⌜ does str-bind run text rec kinds spans out mem at cfg r ⌝ }
 {
     let r1 = group(rec, at);
     let Status::Done(s1) = told(r1) else {
         return r1;
     };
-    let r2 = text_of(run, text, rec, starts, lens, out, mem, s1);
+    let r2 = text_of(run, text, rec, spans, out, mem, s1);
     let Status::Done(s2) = told(r2) else {
         return r2;
     };
-    let r3 = ac(run, text, rec, kinds, starts, lens, out, mem, s2, cfg);
+    let r3 = ac(run, text, rec, kinds, spans, out, mem, s2, cfg);
     let Status::Done(s3) = told(r3) else {
         return r3;
     };
@@ -1779,7 +1633,7 @@ fn sb<'a>(
         return r5;
     };
     word(run, text, out, mem, words::EQ_SPACED);
-    str(run, text, rec, kinds, starts, lens, out, mem, s5, cfg)
+    str(run, text, rec, kinds, spans, out, mem, s5, cfg)
 }
 
 // `SignatureDec`.
@@ -1787,16 +1641,15 @@ fn gd<'a>(
     run: &'a [u8; 351],
     text: &'a [u8],
     rec: &[u8],
-    kinds: &[u8],
-    starts: &[u16],
-    lens: &[u16],
+    kinds: &&[u8],
+    spans: &&[u32],
     out: &mut [u8],
     mem: &mut [u64; 68],
     at: usize,
     cfg: Cfg,
 ) -> usize
     requires { ⌜ cfg .depth + 2 * cfg .nesting + 2 ≤ 402 ⌝ }
-    ensures { λ r. ⌜ does (λ ws c. dec-one· ws c SignatureDec) run text rec kinds starts lens out mem at cfg r ⌝ }
+    ensures { λ r. ⌜ does (λ ws c. dec-one· ws c SignatureDec) run text rec kinds spans out mem at cfg r ⌝ }
 {
     word(run, text, out, mem, words::SIGNATURE);
     let Read::Is(n, s1) = list(rec, at) else {
@@ -1815,8 +1668,7 @@ fn gd<'a>(
             text,
             rec,
             kinds,
-            starts,
-            lens,
+            spans,
             out,
             mem,
             s2,
@@ -1837,9 +1689,8 @@ fn nm<'a>(
     run: &'a [u8; 351],
     text: &'a [u8],
     rec: &[u8],
-    kinds: &[u8],
-    starts: &[u16],
-    lens: &[u16],
+    kinds: &&[u8],
+    spans: &&[u32],
     out: &mut [u8],
     mem: &mut [u64; 68],
     at: usize,
@@ -1847,14 +1698,14 @@ fn nm<'a>(
     w: usize,
 ) -> usize
     requires { ⌜ cfg .depth + 2 * cfg .nesting + 2 ≤ 402 ⌝ }
-    ensures { λ r. ⌜ does (λ ws c. text· ⨾ word· (wordOf w) ⨾ ws .get-sig-exp c) run text rec kinds starts lens out mem at cfg r ⌝ }
+    ensures { λ r. ⌜ does (λ ws c. text· ⨾ word· (wordOf w) ⨾ ws .get-sig-exp c) run text rec kinds spans out mem at cfg r ⌝ }
 {
-    let r1 = text_of(run, text, rec, starts, lens, out, mem, at);
+    let r1 = text_of(run, text, rec, spans, out, mem, at);
     let Status::Done(s1) = told(r1) else {
         return r1;
     };
     word(run, text, out, mem, w);
-    sig(run, text, rec, kinds, starts, lens, out, mem, s1, cfg)
+    sig(run, text, rec, kinds, spans, out, mem, s1, cfg)
 }
 
 // `FunctorDec`.
@@ -1862,16 +1713,15 @@ fn cd<'a>(
     run: &'a [u8; 351],
     text: &'a [u8],
     rec: &[u8],
-    kinds: &[u8],
-    starts: &[u16],
-    lens: &[u16],
+    kinds: &&[u8],
+    spans: &&[u32],
     out: &mut [u8],
     mem: &mut [u64; 68],
     at: usize,
     cfg: Cfg,
 ) -> usize
     requires { ⌜ cfg .depth + 2 * cfg .nesting + 2 ≤ 402 ⌝ }
-    ensures { λ r. ⌜ does (λ ws c. dec-one· ws c FunctorDec) run text rec kinds starts lens out mem at cfg r ⌝ }
+    ensures { λ r. ⌜ does (λ ws c. dec-one· ws c FunctorDec) run text rec kinds spans out mem at cfg r ⌝ }
 {
     word(run, text, out, mem, words::FUNCTOR);
     let Read::Is(n, s1) = list(rec, at) else {
@@ -1881,7 +1731,7 @@ fn cd<'a>(
     let mut i = 0;
     while i < n {
         new_line(run, text, out, mem, cfg, words::AND, i);
-        let r2 = cb(run, text, rec, kinds, starts, lens, out, mem, s, cfg);
+        let r2 = cb(run, text, rec, kinds, spans, out, mem, s, cfg);
         let Status::Done(s2) = told(r2) else {
             return r2;
         };
@@ -1896,37 +1746,36 @@ fn cb<'a>(
     run: &'a [u8; 351],
     text: &'a [u8],
     rec: &[u8],
-    kinds: &[u8],
-    starts: &[u16],
-    lens: &[u16],
+    kinds: &&[u8],
+    spans: &&[u32],
     out: &mut [u8],
     mem: &mut [u64; 68],
     at: usize,
     cfg: Cfg,
 ) -> usize
     requires { ⌜ cfg .depth + 2 * cfg .nesting + 2 ≤ 402 ⌝ }
-    ensures { λ r. ⌜ does functor-bind run text rec kinds starts lens out mem at cfg r ⌝ }
+    ensures { λ r. ⌜ does functor-bind run text rec kinds spans out mem at cfg r ⌝ }
 {
     let r1 = group(rec, at);
     let Status::Done(s1) = told(r1) else {
         return r1;
     };
-    let r2 = text_of(run, text, rec, starts, lens, out, mem, s1);
+    let r2 = text_of(run, text, rec, spans, out, mem, s1);
     let Status::Done(s2) = told(r2) else {
         return r2;
     };
     word(run, text, out, mem, words::ARGS);
-    let r3 = fs(run, text, rec, kinds, starts, lens, out, mem, s2, cfg);
+    let r3 = fs(run, text, rec, kinds, spans, out, mem, s2, cfg);
     let Status::Done(s3) = told(r3) else {
         return r3;
     };
     word(run, text, out, mem, words::R_ROUND);
-    let r4 = ac(run, text, rec, kinds, starts, lens, out, mem, s3, cfg);
+    let r4 = ac(run, text, rec, kinds, spans, out, mem, s3, cfg);
     let Status::Done(s4) = told(r4) else {
         return r4;
     };
     word(run, text, out, mem, words::EQ_SPACED);
-    str(run, text, rec, kinds, starts, lens, out, mem, s4, cfg)
+    str(run, text, rec, kinds, spans, out, mem, s4, cfg)
 }
 
 // The arguments of a functor.
@@ -1934,16 +1783,15 @@ fn fs<'a>(
     run: &'a [u8; 351],
     text: &'a [u8],
     rec: &[u8],
-    kinds: &[u8],
-    starts: &[u16],
-    lens: &[u16],
+    kinds: &&[u8],
+    spans: &&[u32],
     out: &mut [u8],
     mem: &mut [u64; 68],
     at: usize,
     cfg: Cfg,
 ) -> usize
     requires { ⌜ cfg .depth + 2 * cfg .nesting + 2 ≤ 402 ⌝ }
-    ensures { λ r. ⌜ does functor-args run text rec kinds starts lens out mem at cfg r ⌝ }
+    ensures { λ r. ⌜ does functor-args run text rec kinds spans out mem at cfg r ⌝ }
 {
     let Read::Is(n, s0) = list(rec, at) else {
         return stop(at);
@@ -1954,7 +1802,7 @@ fn fs<'a>(
         let Read::Is(k, s1) = choice(rec, s) else {
             return stop(s);
         };
-        let r2 = fa(run, text, rec, kinds, starts, lens, out, mem, s1, cfg, k);
+        let r2 = fa(run, text, rec, kinds, spans, out, mem, s1, cfg, k);
         let Status::Done(s2) = told(r2) else {
             return r2;
         };
@@ -1969,9 +1817,8 @@ fn fa<'a>(
     run: &'a [u8; 351],
     text: &'a [u8],
     rec: &[u8],
-    kinds: &[u8],
-    starts: &[u16],
-    lens: &[u16],
+    kinds: &&[u8],
+    spans: &&[u32],
     out: &mut [u8],
     mem: &mut [u64; 68],
     at: usize,
@@ -1979,7 +1826,7 @@ fn fa<'a>(
     which: usize,
 ) -> usize
     requires { ⌜ cfg .depth + 2 * cfg .nesting + 2 ≤ 402 ⌝ }
-    ensures { λ r. ⌜ does (λ ws c. functor-arg ws c which) run text rec kinds starts lens out mem at cfg r ⌝ }
+    ensures { λ r. ⌜ does (λ ws c. functor-arg ws c which) run text rec kinds spans out mem at cfg r ⌝ }
 {
     match which {
         0 => nm(
@@ -1987,15 +1834,14 @@ fn fa<'a>(
             text,
             rec,
             kinds,
-            starts,
-            lens,
+            spans,
             out,
             mem,
             at,
             cfg,
             words::COLON,
         ),
-        1 => da(run, text, rec, kinds, starts, lens, out, mem, at, cfg),
+        1 => da(run, text, rec, kinds, spans, out, mem, at, cfg),
         _ => stop(at),
     }
 }
@@ -2005,16 +1851,15 @@ fn ic<'a>(
     run: &'a [u8; 351],
     text: &'a [u8],
     rec: &[u8],
-    kinds: &[u8],
-    starts: &[u16],
-    lens: &[u16],
+    kinds: &&[u8],
+    spans: &&[u32],
     out: &mut [u8],
     mem: &mut [u64; 68],
     at: usize,
     cfg: Cfg,
 ) -> usize
     requires { ⌜ cfg .depth + 2 * cfg .nesting + 2 ≤ 402 ⌝ }
-    ensures { λ r. ⌜ does (λ ws c. dec-one· ws c IncludeDec) run text rec kinds starts lens out mem at cfg r ⌝ }
+    ensures { λ r. ⌜ does (λ ws c. dec-one· ws c IncludeDec) run text rec kinds spans out mem at cfg r ⌝ }
 {
     word(run, text, out, mem, words::INCLUDE);
     let Read::Is(n, s1) = list(rec, at) else {
@@ -2024,7 +1869,7 @@ fn ic<'a>(
     let mut i = 0;
     while i < n {
         between(run, text, out, mem, words::SPACE, i);
-        let r2 = sig(run, text, rec, kinds, starts, lens, out, mem, s, cfg);
+        let r2 = sig(run, text, rec, kinds, spans, out, mem, s, cfg);
         let Status::Done(s2) = told(r2) else {
             return r2;
         };
@@ -2039,21 +1884,20 @@ fn da<'a>(
     run: &'a [u8; 351],
     text: &'a [u8],
     rec: &[u8],
-    kinds: &[u8],
-    starts: &[u16],
-    lens: &[u16],
+    kinds: &&[u8],
+    spans: &&[u32],
     out: &mut [u8],
     mem: &mut [u64; 68],
     at: usize,
     cfg: Cfg,
 ) -> usize
     requires { ⌜ cfg .depth + 2 * cfg .nesting + 2 ≤ 402 ⌝ }
-    ensures { λ r. ⌜ does dec-arg run text rec kinds starts lens out mem at cfg r ⌝ }
+    ensures { λ r. ⌜ does dec-arg run text rec kinds spans out mem at cfg r ⌝ }
 {
     word(run, text, out, mem, words::LINE_FEED);
     indent_deeper(out, mem, cfg);
     let new = cfg.indented();
-    let r1 = dec(run, text, rec, kinds, starts, lens, out, mem, at, new);
+    let r1 = dec(run, text, rec, kinds, spans, out, mem, at, new);
     let Status::Done(s1) = told(r1) else {
         return r1;
     };
@@ -2067,16 +1911,15 @@ fn str<'a>(
     run: &'a [u8; 351],
     text: &'a [u8],
     rec: &[u8],
-    kinds: &[u8],
-    starts: &[u16],
-    lens: &[u16],
+    kinds: &&[u8],
+    spans: &&[u32],
     out: &mut [u8],
     mem: &mut [u64; 68],
     at: usize,
     cfg: Cfg,
 ) -> usize
     requires { ⌜ cfg .depth + 2 * cfg .nesting + 0 ≤ 402 ⌝ }
-    ensures { λ r. ⌜ does (λ ws c. ws .get-str-exp c) run text rec kinds starts lens out mem at cfg r ⌝ }
+    ensures { λ r. ⌜ does (λ ws c. ws .get-str-exp c) run text rec kinds spans out mem at cfg r ⌝ }
 {
     let forms_left = cfg.nesting;
     if forms_left == 0 {
@@ -2091,11 +1934,11 @@ fn str<'a>(
         nesting: forms_left - 1,
     };
     match k {
-        0 => ss(run, text, rec, kinds, starts, lens, out, mem, s, sub),
-        1 => path(run, text, rec, starts, lens, out, mem, s),
-        2 => an(run, text, rec, kinds, starts, lens, out, mem, s, sub),
-        3 => sp(run, text, rec, kinds, starts, lens, out, mem, s, sub),
-        4 => sl(run, text, rec, kinds, starts, lens, out, mem, s, sub),
+        0 => ss(run, text, rec, kinds, spans, out, mem, s, sub),
+        1 => path(run, text, rec, spans, out, mem, s),
+        2 => an(run, text, rec, kinds, spans, out, mem, s, sub),
+        3 => sp(run, text, rec, kinds, spans, out, mem, s, sub),
+        4 => sl(run, text, rec, kinds, spans, out, mem, s, sub),
         _ => stop(s),
     }
 }
@@ -2105,16 +1948,15 @@ fn ss<'a>(
     run: &'a [u8; 351],
     text: &'a [u8],
     rec: &[u8],
-    kinds: &[u8],
-    starts: &[u16],
-    lens: &[u16],
+    kinds: &&[u8],
+    spans: &&[u32],
     out: &mut [u8],
     mem: &mut [u64; 68],
     at: usize,
     cfg: Cfg,
 ) -> usize
     requires { ⌜ cfg .depth + 2 * cfg .nesting + 2 ≤ 402 ⌝ }
-    ensures { λ r. ⌜ does (λ ws c. str-exp· ws c StructStrExp) run text rec kinds starts lens out mem at cfg r ⌝ }
+    ensures { λ r. ⌜ does (λ ws c. str-exp· ws c StructStrExp) run text rec kinds spans out mem at cfg r ⌝ }
 {
     word(run, text, out, mem, words::STRUCT);
     indent_deeper(out, mem, cfg);
@@ -2124,7 +1966,7 @@ fn ss<'a>(
         nesting: cfg.nesting,
     };
     let new = wide.indented();
-    let r1 = ds(run, text, rec, kinds, starts, lens, out, mem, at, new);
+    let r1 = ds(run, text, rec, kinds, spans, out, mem, at, new);
     let Status::Done(s1) = told(r1) else {
         return r1;
     };
@@ -2138,22 +1980,21 @@ fn an<'a>(
     run: &'a [u8; 351],
     text: &'a [u8],
     rec: &[u8],
-    kinds: &[u8],
-    starts: &[u16],
-    lens: &[u16],
+    kinds: &&[u8],
+    spans: &&[u32],
     out: &mut [u8],
     mem: &mut [u64; 68],
     at: usize,
     cfg: Cfg,
 ) -> usize
     requires { ⌜ cfg .depth + 2 * cfg .nesting + 2 ≤ 402 ⌝ }
-    ensures { λ r. ⌜ does (λ ws c. str-exp· ws c AscriptionStrExp) run text rec kinds starts lens out mem at cfg r ⌝ }
+    ensures { λ r. ⌜ does (λ ws c. str-exp· ws c AscriptionStrExp) run text rec kinds spans out mem at cfg r ⌝ }
 {
-    let r1 = str(run, text, rec, kinds, starts, lens, out, mem, at, cfg);
+    let r1 = str(run, text, rec, kinds, spans, out, mem, at, cfg);
     let Status::Done(s1) = told(r1) else {
         return r1;
     };
-    ta(run, text, rec, kinds, starts, lens, out, mem, s1, cfg)
+    ta(run, text, rec, kinds, spans, out, mem, s1, cfg)
 }
 
 // An ascription.
@@ -2161,28 +2002,27 @@ fn ta<'a>(
     run: &'a [u8; 351],
     text: &'a [u8],
     rec: &[u8],
-    kinds: &[u8],
-    starts: &[u16],
-    lens: &[u16],
+    kinds: &&[u8],
+    spans: &&[u32],
     out: &mut [u8],
     mem: &mut [u64; 68],
     at: usize,
     cfg: Cfg,
 ) -> usize
     requires { ⌜ cfg .depth + 2 * cfg .nesting + 2 ≤ 402 ⌝ }
-    ensures { λ r. ⌜ does ascription-tail run text rec kinds starts lens out mem at cfg r ⌝ }
+    ensures { λ r. ⌜ does ascription-tail run text rec kinds spans out mem at cfg r ⌝ }
 {
     let r1 = group(rec, at);
     let Status::Done(s1) = told(r1) else {
         return r1;
     };
     word(run, text, out, mem, words::SPACE);
-    let r2 = text_of(run, text, rec, starts, lens, out, mem, s1);
+    let r2 = text_of(run, text, rec, spans, out, mem, s1);
     let Status::Done(s2) = told(r2) else {
         return r2;
     };
     word(run, text, out, mem, words::SPACE);
-    sig(run, text, rec, kinds, starts, lens, out, mem, s2, cfg)
+    sig(run, text, rec, kinds, spans, out, mem, s2, cfg)
 }
 
 // An ascription, where there is one.
@@ -2190,21 +2030,20 @@ fn ac<'a>(
     run: &'a [u8; 351],
     text: &'a [u8],
     rec: &[u8],
-    kinds: &[u8],
-    starts: &[u16],
-    lens: &[u16],
+    kinds: &&[u8],
+    spans: &&[u32],
     out: &mut [u8],
     mem: &mut [u64; 68],
     at: usize,
     cfg: Cfg,
 ) -> usize
     requires { ⌜ cfg .depth + 2 * cfg .nesting + 2 ≤ 402 ⌝ }
-    ensures { λ r. ⌜ does (λ ws c. maybe (ascription-tail ws c)) run text rec kinds starts lens out mem at cfg r ⌝ }
+    ensures { λ r. ⌜ does (λ ws c. maybe (ascription-tail ws c)) run text rec kinds spans out mem at cfg r ⌝ }
 {
     if let Gone::Past(s0) = absent(rec, at) {
         return s0;
     }
-    ta(run, text, rec, kinds, starts, lens, out, mem, at, cfg)
+    ta(run, text, rec, kinds, spans, out, mem, at, cfg)
 }
 
 // `AppStrExp`: the closing parenthesis is indented where an argument was a Dec.
@@ -2212,18 +2051,17 @@ fn sp<'a>(
     run: &'a [u8; 351],
     text: &'a [u8],
     rec: &[u8],
-    kinds: &[u8],
-    starts: &[u16],
-    lens: &[u16],
+    kinds: &&[u8],
+    spans: &&[u32],
     out: &mut [u8],
     mem: &mut [u64; 68],
     at: usize,
     cfg: Cfg,
 ) -> usize
     requires { ⌜ cfg .depth + 2 * cfg .nesting + 2 ≤ 402 ⌝ }
-    ensures { λ r. ⌜ does (λ ws c. str-exp· ws c AppStrExp) run text rec kinds starts lens out mem at cfg r ⌝ }
+    ensures { λ r. ⌜ does (λ ws c. str-exp· ws c AppStrExp) run text rec kinds spans out mem at cfg r ⌝ }
 {
-    let r1 = text_of(run, text, rec, starts, lens, out, mem, at);
+    let r1 = text_of(run, text, rec, spans, out, mem, at);
     let Status::Done(s1) = told(r1) else {
         return r1;
     };
@@ -2238,7 +2076,7 @@ fn sp<'a>(
         let Read::Is(k, s3) = choice(rec, s) else {
             return stop(s);
         };
-        let r4 = sa(run, text, rec, kinds, starts, lens, out, mem, s3, cfg, k);
+        let r4 = sa(run, text, rec, kinds, spans, out, mem, s3, cfg, k);
         let Status::Done(s4) = told(r4) else {
             return r4;
         };
@@ -2255,9 +2093,8 @@ fn sa<'a>(
     run: &'a [u8; 351],
     text: &'a [u8],
     rec: &[u8],
-    kinds: &[u8],
-    starts: &[u16],
-    lens: &[u16],
+    kinds: &&[u8],
+    spans: &&[u32],
     out: &mut [u8],
     mem: &mut [u64; 68],
     at: usize,
@@ -2265,11 +2102,11 @@ fn sa<'a>(
     which: usize,
 ) -> usize
     requires { ⌜ cfg .depth + 2 * cfg .nesting + 2 ≤ 402 ⌝ }
-    ensures { λ r. ⌜ does (λ ws c. app-arg ws c which) run text rec kinds starts lens out mem at cfg r ⌝ }
+    ensures { λ r. ⌜ does (λ ws c. app-arg ws c which) run text rec kinds spans out mem at cfg r ⌝ }
 {
     match which {
-        0 => str(run, text, rec, kinds, starts, lens, out, mem, at, cfg),
-        1 => da(run, text, rec, kinds, starts, lens, out, mem, at, cfg),
+        0 => str(run, text, rec, kinds, spans, out, mem, at, cfg),
+        1 => da(run, text, rec, kinds, spans, out, mem, at, cfg),
         _ => stop(at),
     }
 }
@@ -2279,29 +2116,28 @@ fn sl<'a>(
     run: &'a [u8; 351],
     text: &'a [u8],
     rec: &[u8],
-    kinds: &[u8],
-    starts: &[u16],
-    lens: &[u16],
+    kinds: &&[u8],
+    spans: &&[u32],
     out: &mut [u8],
     mem: &mut [u64; 68],
     at: usize,
     cfg: Cfg,
 ) -> usize
     requires { ⌜ cfg .depth + 2 * cfg .nesting + 2 ≤ 402 ⌝ }
-    ensures { λ r. ⌜ does (λ ws c. str-exp· ws c LetStrExp) run text rec kinds starts lens out mem at cfg r ⌝ }
+    ensures { λ r. ⌜ does (λ ws c. str-exp· ws c LetStrExp) run text rec kinds spans out mem at cfg r ⌝ }
 {
     word(run, text, out, mem, words::LET);
     word(run, text, out, mem, words::LINE_FEED);
     indent_deeper(out, mem, cfg);
     let new = cfg.indented();
-    let r1 = ds(run, text, rec, kinds, starts, lens, out, mem, at, new);
+    let r1 = ds(run, text, rec, kinds, spans, out, mem, at, new);
     let Status::Done(s1) = told(r1) else {
         return r1;
     };
     line(run, text, out, mem, cfg);
     word(run, text, out, mem, words::IN);
     indent_in(out, mem, cfg);
-    let r2 = str(run, text, rec, kinds, starts, lens, out, mem, s1, new);
+    let r2 = str(run, text, rec, kinds, spans, out, mem, s1, new);
     let Status::Done(s2) = told(r2) else {
         return r2;
     };
@@ -2316,16 +2152,15 @@ fn sig<'a>(
     run: &'a [u8; 351],
     text: &'a [u8],
     rec: &[u8],
-    kinds: &[u8],
-    starts: &[u16],
-    lens: &[u16],
+    kinds: &&[u8],
+    spans: &&[u32],
     out: &mut [u8],
     mem: &mut [u64; 68],
     at: usize,
     cfg: Cfg,
 ) -> usize
     requires { ⌜ cfg .depth + 2 * cfg .nesting + 0 ≤ 402 ⌝ }
-    ensures { λ r. ⌜ does (λ ws c. ws .get-sig-exp c) run text rec kinds starts lens out mem at cfg r ⌝ }
+    ensures { λ r. ⌜ does (λ ws c. ws .get-sig-exp c) run text rec kinds spans out mem at cfg r ⌝ }
 {
     let forms_left = cfg.nesting;
     if forms_left == 0 {
@@ -2340,10 +2175,10 @@ fn sig<'a>(
         nesting: forms_left - 1,
     };
     match k {
-        0 => sg(run, text, rec, kinds, starts, lens, out, mem, s, sub),
-        1 => text_of(run, text, rec, starts, lens, out, mem, s),
-        2 => wt(run, text, rec, kinds, starts, lens, out, mem, s, sub),
-        3 => wr(run, text, rec, kinds, starts, lens, out, mem, s, sub),
+        0 => sg(run, text, rec, kinds, spans, out, mem, s, sub),
+        1 => text_of(run, text, rec, spans, out, mem, s),
+        2 => wt(run, text, rec, kinds, spans, out, mem, s, sub),
+        3 => wr(run, text, rec, kinds, spans, out, mem, s, sub),
         _ => stop(s),
     }
 }
@@ -2353,21 +2188,20 @@ fn sg<'a>(
     run: &'a [u8; 351],
     text: &'a [u8],
     rec: &[u8],
-    kinds: &[u8],
-    starts: &[u16],
-    lens: &[u16],
+    kinds: &&[u8],
+    spans: &&[u32],
     out: &mut [u8],
     mem: &mut [u64; 68],
     at: usize,
     cfg: Cfg,
 ) -> usize
     requires { ⌜ cfg .depth + 2 * cfg .nesting + 2 ≤ 402 ⌝ }
-    ensures { λ r. ⌜ does (λ ws c. sig-exp· ws c SigSigExp) run text rec kinds starts lens out mem at cfg r ⌝ }
+    ensures { λ r. ⌜ does (λ ws c. sig-exp· ws c SigSigExp) run text rec kinds spans out mem at cfg r ⌝ }
 {
     word(run, text, out, mem, words::SIG);
     indent_deeper(out, mem, cfg);
     let new = cfg.indented();
-    let r1 = ds(run, text, rec, kinds, starts, lens, out, mem, at, new);
+    let r1 = ds(run, text, rec, kinds, spans, out, mem, at, new);
     let Status::Done(s1) = told(r1) else {
         return r1;
     };
@@ -2381,32 +2215,31 @@ fn wt<'a>(
     run: &'a [u8; 351],
     text: &'a [u8],
     rec: &[u8],
-    kinds: &[u8],
-    starts: &[u16],
-    lens: &[u16],
+    kinds: &&[u8],
+    spans: &&[u32],
     out: &mut [u8],
     mem: &mut [u64; 68],
     at: usize,
     cfg: Cfg,
 ) -> usize
     requires { ⌜ cfg .depth + 2 * cfg .nesting + 2 ≤ 402 ⌝ }
-    ensures { λ r. ⌜ does (λ ws c. sig-exp· ws c WhereTypeSigExp) run text rec kinds starts lens out mem at cfg r ⌝ }
+    ensures { λ r. ⌜ does (λ ws c. sig-exp· ws c WhereTypeSigExp) run text rec kinds spans out mem at cfg r ⌝ }
 {
-    let r1 = sig(run, text, rec, kinds, starts, lens, out, mem, at, cfg);
+    let r1 = sig(run, text, rec, kinds, spans, out, mem, at, cfg);
     let Status::Done(s1) = told(r1) else {
         return r1;
     };
     word(run, text, out, mem, words::WHERE_TYPE);
-    let r2 = ty_var_seq(run, text, rec, starts, lens, out, mem, s1);
+    let r2 = ty_var_seq(run, text, rec, spans, out, mem, s1);
     let Status::Done(s2) = told(r2) else {
         return r2;
     };
-    let r3 = path(run, text, rec, starts, lens, out, mem, s2);
+    let r3 = path(run, text, rec, spans, out, mem, s2);
     let Status::Done(s3) = told(r3) else {
         return r3;
     };
     word(run, text, out, mem, words::EQ_SPACED);
-    get_ty(run, text, rec, starts, lens, out, mem, s3, cfg)
+    get_ty(run, text, rec, spans, out, mem, s3, cfg)
 }
 
 // `WhereSigExp`.
@@ -2414,28 +2247,27 @@ fn wr<'a>(
     run: &'a [u8; 351],
     text: &'a [u8],
     rec: &[u8],
-    kinds: &[u8],
-    starts: &[u16],
-    lens: &[u16],
+    kinds: &&[u8],
+    spans: &&[u32],
     out: &mut [u8],
     mem: &mut [u64; 68],
     at: usize,
     cfg: Cfg,
 ) -> usize
     requires { ⌜ cfg .depth + 2 * cfg .nesting + 2 ≤ 402 ⌝ }
-    ensures { λ r. ⌜ does (λ ws c. sig-exp· ws c WhereSigExp) run text rec kinds starts lens out mem at cfg r ⌝ }
+    ensures { λ r. ⌜ does (λ ws c. sig-exp· ws c WhereSigExp) run text rec kinds spans out mem at cfg r ⌝ }
 {
-    let r1 = sig(run, text, rec, kinds, starts, lens, out, mem, at, cfg);
+    let r1 = sig(run, text, rec, kinds, spans, out, mem, at, cfg);
     let Status::Done(s1) = told(r1) else {
         return r1;
     };
     word(run, text, out, mem, words::WHERE);
-    let r2 = path(run, text, rec, starts, lens, out, mem, s1);
+    let r2 = path(run, text, rec, spans, out, mem, s1);
     let Status::Done(s2) = told(r2) else {
         return r2;
     };
     word(run, text, out, mem, words::EQ_SPACED);
-    path(run, text, rec, starts, lens, out, mem, s2)
+    path(run, text, rec, spans, out, mem, s2)
 }
 
 // ---- the walk over a sheet
@@ -2445,18 +2277,17 @@ pub fn walk<'a>(
     text: &'a [u8],
     rec: &[u8],
     kinds: &[u8],
-    starts: &[u16],
-    lens: &[u16],
+    spans: &[u32],
     out: &mut [u8],
     mem: &mut [u64; 68],
     tree: usize,
 ) -> usize
-    ensures { λ r. ⌜ walked (get-dec (walks maxForms) top) run text rec kinds starts lens out mem tree r ⌝ }
+    ensures { λ r. ⌜ walked (get-dec (walks maxForms) top) run text rec kinds spans out mem tree r ⌝ }
 {
     let cfg = Cfg {
         depth: 0,
         blank: true,
         nesting: 200,
     };
-    ds(run, text, rec, kinds, starts, lens, out, mem, tree, cfg)
+    ds(run, text, rec, &kinds, &spans, out, mem, tree, cfg)
 }

@@ -3,7 +3,7 @@ use Prim.Native.Nat.{_<_}
 use native.Mathlib.Omega.{arith}
 use mathlib.Core.Path.{sym, _∙_}
 use Rattle.formatter.proofs.LookupLaws.{asked-counts, asked-within}
-use Rattle.doc_comment.proofs.Lookup.{doc-declined, doc-nothing, doc-found, found-below}
+use Rattle.doc_comment.proofs.Lookup.{doc-declined, doc-nothing, doc-spanned, found-below}
 use borrow.Author.Needs.{needs}
 use Rattle.doc_comment.proofs.doc_comment_above.Statement.{statement}
 use Rattle.doc_comment.proofs.doc_comment_above.Tie as tie
@@ -46,12 +46,6 @@ mul-doc-of c = omega (arith, below c)
 array-read-doc-of : tie.Need-array-read-doc-of
 array-read-doc-of c = below c
 
-mul-doc-of-2 : tie.Need-mul-doc-of-2
-mul-doc-of-2 c = omega (arith, below c)
-
-array-read-doc-of-2 : tie.Need-array-read-doc-of-2
-array-read-doc-of-2 c = below c
-
 doc-of-requires : tie.Need-doc-of-requires
 doc-of-requires c κs = search needs
 
@@ -62,7 +56,7 @@ same-length : tie.Need-same-length
 same-length c = search needs
 
 returns-2 : tie.Need-returns-2
-returns-2 c = let told = c .before .before .before .before in c .before .before .doc-of .ensures ∙ doc-found (at told .before .before .ask .ensures) (at told .asked .given .1) _ (told .before .before .before .comment-above .ensures) (told .before .comment .given .1) _
+returns-2 c = let told = c .before .before .before .before in c .before .before .doc-of .ensures ∙ doc-spanned (at told .before .before .ask .last .1 .1 .1 .1 .0) (at told .before .before .ask .ensures) (at told .asked .given .1) _ (told .before .before .before .comment-above .ensures) (told .before .comment .given .1) _
 
 returns-3 : tie.Need-returns-3
 returns-3 c = let at = c .before in doc-declined (at .before .before .ask .ensures) _ (at .asked2 .given .1)
@@ -81,8 +75,6 @@ doc-comment-above-spec =
     returns
     mul-doc-of
     array-read-doc-of
-    mul-doc-of-2
-    array-read-doc-of-2
     doc-of-requires
     enum-known-asked-2
     same-length

@@ -16,20 +16,14 @@ array-share-prefix-kinds c = within (c .before .before .before .before .before .
 slice-aggregate-put : tie.Need-slice-aggregate-put
 slice-aggregate-put c = taken _ _ (within (c .before .before .before .before .before .before .judge .ensures) (c .before .before .judged .given .1) .0)
 
-array-share-prefix-starts : tie.Need-array-share-prefix-starts
-array-share-prefix-starts c = within (c .before .before .before .before .before .before .judge .ensures) (c .before .before .judged .given .1) .1
+array-share-prefix-spans : tie.Need-array-share-prefix-spans
+array-share-prefix-spans c = within (c .before .before .before .before .before .before .judge .ensures) (c .before .before .judged .given .1) .1
 
 slice-aggregate-put-2 : tie.Need-slice-aggregate-put-2
 slice-aggregate-put-2 c = taken _ _ (within (c .before .before .before .before .before .before .before .judge .ensures) (c .before .before .before .judged .given .1) .1)
 
-array-share-prefix-lens : tie.Need-array-share-prefix-lens
-array-share-prefix-lens c = within (c .before .before .before .before .before .before .before .judge .ensures) (c .before .before .before .judged .given .1) .2
-
-slice-aggregate-put-3 : tie.Need-slice-aggregate-put-3
-slice-aggregate-put-3 c = taken _ _ (within (c .before .before .before .before .before .before .before .before .judge .ensures) (c .before .before .before .before .judged .given .1) .2)
-
 put-requires : tie.Need-put-requires
-put-requires c κs = (weight-is (c .before .before .before .before .before .before .before .before .before .before .judge .ensures) (c .before .before .before .before .before .before .judged .given .1), draft-is (c .before .before .before .before .before .before .before .before .before .before .judge .ensures) (c .before .before .before .before .before .before .judged .given .1))
+put-requires c κs = (weight-is (c .before .before .before .before .before .before .before .before .before .judge .ensures) (c .before .before .before .before .before .judged .given .1), draft-is (c .before .before .before .before .before .before .before .before .before .judge .ensures) (c .before .before .before .before .before .judged .given .1))
 
 enum-known-judged-2 : tie.Need-enum-known-judged-2
 enum-known-judged-2 c = search needs
@@ -41,7 +35,7 @@ same-length-2 : tie.Need-same-length-2
 same-length-2 c = search needs
 
 returns : tie.Need-returns
-returns c = get-puts (c .before .before .before .before .before .before .before .before .before .before .before .before .before .judge .ensures) (c .before .before .before .before .before .before .before .before .before .judged .given .1) (c .before .before .put .ensures)
+returns c = get-puts (c .before .before .before .before .before .before .before .before .before .before .before .before .judge .ensures) (c .before .before .before .before .before .before .before .before .judged .given .1) (c .before .before .put .ensures)
 
 same-length-3 : tie.Need-same-length-3
 same-length-3 c = search needs
@@ -57,10 +51,8 @@ drafted-spec =
     enum-known-judged
     array-share-prefix-kinds
     slice-aggregate-put
-    array-share-prefix-starts
+    array-share-prefix-spans
     slice-aggregate-put-2
-    array-share-prefix-lens
-    slice-aggregate-put-3
     put-requires
     enum-known-judged-2
     same-length

@@ -41,7 +41,7 @@ enum-known-tokens : tie.Need-enum-known-tokens
 enum-known-tokens c = search needs
 
 weigh-requires : tie.Need-weigh-requires
-weigh-requires c κs = sheet-limits _ _ (c .before .before .before .before .before .before .before .before .before .before .before .before .before .before .before .before .before .before .before .if1 .left) (c .before .before .before .before .before .before .before .before .before .before .before .before .before .before .before .before .before .before .if2 .left) (c .before .before .before .before .before .before .before .before .before .before .before .before .before .before .before .before .before .first-broken .ensures) (c .before .before .before .before .before .before .before .before .before .before .before .before .before .before .before .enum-told .given .1) (c .before .before .before .before .before .before .before .before .before .before .before .read-tokens .ensures) (c .before .before .before .before .before .before .before .before .before .tokens .given .1)
+weigh-requires c κs = sheet-limits _ _ (c .before .before .before .before .before .before .before .before .before .before .before .before .before .before .before .before .if1 .left) (c .before .before .before .before .before .before .before .before .before .before .before .before .before .before .before .if2 .left) (c .before .before .before .before .before .before .before .before .before .before .before .before .before .before .first-broken .ensures) (c .before .before .before .before .before .before .before .before .before .before .before .before .enum-told .given .1) _ (c .before .before .before .before .before .before .before .before .before .read-tokens .ensures) (c .before .before .before .before .before .before .before .tokens .given .1)
 
 enum-known-tokens-2 : tie.Need-enum-known-tokens-2
 enum-known-tokens-2 c = search needs
@@ -53,10 +53,10 @@ same-length : tie.Need-same-length
 same-length c = search needs
 
 returns-4 : tie.Need-returns-4
-returns-4 c = judges-sheet _ _ (c .before .before .before .before .before .before .before .before .before .before .before .before .before .before .before .before .before .before .before .before .before .before .if1 .left) (c .before .before .before .before .before .before .before .before .before .before .before .before .before .before .before .before .before .before .before .before .before .if2 .left) (c .before .before .before .before .before .before .before .before .before .before .before .before .before .before .before .before .before .before .before .before .first-broken .ensures) (c .before .before .before .before .before .before .before .before .before .before .before .before .before .before .before .before .before .before .enum-told .given .1) (c .before .before .before .before .before .before .before .before .before .before .before .before .before .before .read-tokens .ensures) (c .before .before .before .before .before .before .before .before .before .before .before .before .tokens .given .1) (c .before .before .weigh .ensures)
+returns-4 c = judges-sheet _ _ (c .before .before .before .before .before .before .before .before .before .before .before .before .before .before .before .before .before .before .before .if1 .left) (c .before .before .before .before .before .before .before .before .before .before .before .before .before .before .before .before .before .before .if2 .left) (c .before .before .before .before .before .before .before .before .before .before .before .before .before .before .before .before .before .first-broken .ensures) (c .before .before .before .before .before .before .before .before .before .before .before .before .before .before .before .enum-told .given .1) _ (c .before .before .before .before .before .before .before .before .before .before .before .before .read-tokens .ensures) (c .before .before .before .before .before .before .before .before .before .before .tokens .given .1) (c .before .before .weigh .ensures)
 
 returns-5 : tie.Need-returns-5
-returns-5 c = judges-declined (not-tiled _ _ (c .before .before .before .before .before .before .before .before .before .before .before .before .before .if1 .left) (c .before .before .before .before .before .before .before .before .before .before .before .before .if2 .left) (c .before .before .before .before .before .before .before .before .before .before .before .first-broken .ensures) (c .before .before .before .before .before .before .before .before .before .enum-told .given .1) (c .before .before .before .before .before .read-tokens .ensures) (c .before .before .before .tokens2 .given .1)) (c .refused4 .ensures)
+returns-5 c = judges-declined (not-tiled _ _ (c .before .before .before .before .before .before .before .before .before .before .before .before .if1 .left) (c .before .before .before .before .before .before .before .before .before .before .before .if2 .left) (c .before .before .before .before .before .before .before .before .before .before .first-broken .ensures) (c .before .before .before .before .before .before .before .before .enum-told .given .1) (c .before .before .before .before .before .read-tokens .ensures) (c .before .before .before .tokens2 .given .1)) (c .refused4 .ensures)
 
 pub judge-spec : {M : Type 1} → statement M
 judge-spec =

@@ -13,7 +13,8 @@ use Rattle.reader.specs.Reading.{maxText, maxRecord}
 use Rattle.layout.specs.Meaning.{Page, Event, done}
 use Rattle.layout.specs.Walk.{walk}
 use Rattle.layout.specs.Events.{deepest, letters, units, formatted}
-use Rattle.layout.specs.Contracts.State.{page, stopNo, stopOf}
+use Rattle.layout.specs.Contracts.State.{stopNo, stopOf}
+use Rattle.layout.specs.Contracts.Lent.{pageBy}
 use Rattle.formatter.specs.declared.Measures.{Measures}
 use Rattle.formatter.specs.declared.Answer.{Answer}
 use Rattle.formatter.specs.declared.Judged as Code
@@ -61,21 +62,21 @@ pub record Accepts (j : Judged) (p : Page) (tree tab : ℕ) (m : Measures) (draf
   pub drafts : Drafts p tree tab draft
   pub empty : left ≡ emptySet
 
--- Each table has this many entries.
-abbrev pub Within : ℕ → List ℕ → List ℕ → List ℕ → Type 0
-Within count kinds starts lens = (count ≤ length kinds) × (count ≤ length starts) × (count ≤ length lens)
+-- Both tables have this many entries.
+abbrev pub Within : ℕ → List ℕ → List ℕ → Type 0
+Within count kinds spans = (count ≤ length kinds) × (count ≤ length spans)
 
 -- The page of a text and a record, with the first entries of the tables as its tokens.
-abbrev pub pageIn : List ℕ → List ℕ → ℕ → List ℕ → List ℕ → List ℕ → Page
-pageIn text rec count kinds starts lens = page text rec (take count kinds) (take count starts) (take count lens)
+abbrev pub pageIn : List ℕ → List ℕ → ℕ → List ℕ → List ℕ → Page
+pageIn text rec count kinds spans = pageBy text rec (take count kinds) (take count spans)
 
 -- 01's limits, with the tokens in the tables.
-pub record Limits (text rec kinds starts lens : List ℕ) (count tree : ℕ) : Type 0 where
+pub record Limits (text rec kinds spans : List ℕ) (count tree : ℕ) : Type 0 where
   pub text-fits : length text ≤ maxText
   pub rec-fits : length rec ≤ maxRecord
   pub few : count ≤ maxTokens
   pub near : tree < stopNo
-  pub within : Within count kinds starts lens
+  pub within : Within count kinds spans
 
 -- What an answer says of a page: 3, 4, 13, 14 and 6.
 abbrev weighed : Page → ℕ → ℕ → ℕ → List ℕ → List ℕ → Code.Judged → Type 0
@@ -86,14 +87,14 @@ pub record Weighs (p : Page) (count tree tab : ℕ) (draft left : List ℕ) (r :
   pub is : weighed p count tree tab draft left r
 
 -- What an answer says of a text and a record with the tables: 1 to 4, 13, 14 and 6.
-abbrev judged : List ℕ → List ℕ → ℕ → List ℕ → List ℕ → List ℕ → List ℕ → List ℕ → Code.Judged → Type 0
-judged text rec tab kinds starts lens draft left (Case.Accepted count tree m) =
-    Within count kinds starts lens
-    × Accepts (judge text rec) (pageIn text rec count kinds starts lens) tree tab m draft left
-judged text rec tab kinds starts lens draft left (Case.Declined a) = judge text rec ≡ declined (verdictOf a left)
+abbrev judged : List ℕ → List ℕ → ℕ → List ℕ → List ℕ → List ℕ → List ℕ → Code.Judged → Type 0
+judged text rec tab kinds spans draft left (Case.Accepted count tree m) =
+    Within count kinds spans
+    × Accepts (judge text rec) (pageIn text rec count kinds spans) tree tab m draft left
+judged text rec tab kinds spans draft left (Case.Declined a) = judge text rec ≡ declined (verdictOf a left)
 
-pub record Judges (text rec : List ℕ) (tab : ℕ) (kinds starts lens draft left : List ℕ) (r : Code.Judged) : Type 0 where
-  pub is : judged text rec tab kinds starts lens draft left r
+pub record Judges (text rec : List ℕ) (tab : ℕ) (kinds spans draft left : List ℕ) (r : Code.Judged) : Type 0 where
+  pub is : judged text rec tab kinds spans draft left r
 
 -- 7, then 8, or the text, of the walk over the sheet.
 pub record Puts (p : Page) (tree tab : ℕ) (out : List ℕ) (a : Answer) (out′ : List ℕ) : Type 0 where

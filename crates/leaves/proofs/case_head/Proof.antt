@@ -38,7 +38,7 @@ case-head-of-requires : tie.Need-case-head-of-requires
 case-head-of-requires c κs = search needs
 
 same-length : tie.Need-same-length
-same-length c = c .before .before .case-head-of .kept .1 .1 .1 .1 .1 .0
+same-length c = c .before .before .case-head-of .kept .1 .1 .1 .1 .0
 
 returns-2 : tie.Need-returns-2
 returns-2 c = record { is = λ kinds. by-same (choice-is (c .before .before .before .before .before .before .before .before .choice .ensures) (c .before .before .before .before .before .before .k .given .1)) (plain (c .before .before .case-head-of .ensures)) }

@@ -29,22 +29,22 @@ stop-requires : tie.Need-stop-requires
 stop-requires c κs = search needs
 
 same-length : tie.Need-same-length
-same-length c = c .before .before .prefix-head .kept .1 .1 .1 .1 .1 .0
+same-length c = c .before .before .prefix-head .kept .1 .1 .1 .1 .0
 
 returns : tie.Need-returns
 unfolding DecOne.case-head
-returns c = record { is = λ kinds. at-key (DecOne.case-head (walks (c .before .before .before .before .before .before .before .before .before .before .before .args .cfg .nesting))) (c .before .before .before .before .before .match .keys1) (plain (c .before .before .prefix-head .ensures)) }
+returns c = record { is = λ kinds. at-key (DecOne.case-head (walks (c .before .before .before .before .before .before .before .before .before .args .cfg .nesting))) (c .before .before .before .before .before .match .keys1) (plain (c .before .before .prefix-head .ensures)) }
 
 same-length-2 : tie.Need-same-length-2
-same-length-2 c = c .before .before .infix-head .kept .1 .1 .1 .1 .1 .0
+same-length-2 c = c .before .before .infix-head .kept .1 .1 .1 .1 .0
 
 returns-2 : tie.Need-returns-2
 unfolding DecOne.case-head
-returns-2 c = record { is = λ kinds. at-key (DecOne.case-head (walks (c .before .before .before .before .before .before .before .before .before .before .before .args .cfg .nesting))) (c .before .before .before .before .before .match .keys2) (plain (c .before .before .infix-head .ensures)) }
+returns-2 c = record { is = λ kinds. at-key (DecOne.case-head (walks (c .before .before .before .before .before .before .before .before .before .args .cfg .nesting))) (c .before .before .before .before .before .match .keys2) (plain (c .before .before .infix-head .ensures)) }
 
 returns-3 : tie.Need-returns-3
 unfolding DecOne.case-head
-returns-3 c = record { is = λ kinds. beyond (DecOne.PrefixFunBindCaseHead (walks (c .before .before .before .before .before .before .before .args .cfg .nesting)) ∷ DecOne.InfixFunBindCaseHead (walks (c .before .before .before .before .before .before .before .args .cfg .nesting)) ∷ []) (c .before .before .before .before .before .before .before .args .which) 2 refl (past (past zero-le (c .before .match .rest .0 .1)) (c .before .match .rest .1)) (c .stop .ensures) }
+returns-3 c = record { is = λ kinds. beyond (DecOne.PrefixFunBindCaseHead (walks (c .before .before .before .before .before .args .cfg .nesting)) ∷ DecOne.InfixFunBindCaseHead (walks (c .before .before .before .before .before .args .cfg .nesting)) ∷ []) (c .before .before .before .before .before .args .which) 2 refl (past (past zero-le (c .before .match .rest .0 .1)) (c .before .match .rest .1)) (c .stop .ensures) }
 
 pub case-head-of-spec : {M : Type 1} → statement M
 case-head-of-spec =

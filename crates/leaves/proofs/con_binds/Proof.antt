@@ -20,24 +20,24 @@ use Rattle.leaves.proofs.con_binds.Statement.{statement}
 use Rattle.leaves.proofs.con_binds.Tie as tie
 
 con-lines-requires : tie.Need-con-lines-requires
-con-lines-requires c κs = omega (arith, c .before .before .before .before .before .before .before .before .pre)
+con-lines-requires c κs = omega (arith, c .before .before .before .before .before .before .pre)
 
 same-length : tie.Need-same-length
-same-length c = c .before .before .con-lines .kept .1 .1 .1 .1 .1 .0
+same-length c = c .before .before .con-lines .kept .1 .1 .1 .1 .0
 
 returns : tie.Need-returns
 unfolding DecOne.con-binds
-returns c = record { is = λ kinds. con-over (walks (c .before .before .before .before .before .before .before .before .before .before .before .args .cfg .nesting)) (cfgOf (c .before .before .before .before .before .before .before .before .before .before .before .args .cfg)) (c .before .before .before .before .before .if1 .taken) (plain (c .before .before .con-lines .ensures)) }
+returns c = record { is = λ kinds. con-over (walks (c .before .before .before .before .before .before .before .before .before .args .cfg .nesting)) (cfgOf (c .before .before .before .before .before .before .before .before .before .args .cfg)) (c .before .before .before .before .before .if1 .taken) (plain (c .before .before .con-lines .ensures)) }
 
 con-row-requires : tie.Need-con-row-requires
 con-row-requires c κs = search needs
 
 same-length-2 : tie.Need-same-length-2
-same-length-2 c = c .before .before .con-row .kept .1 .1 .1 .1 .1 .0
+same-length-2 c = c .before .before .con-row .kept .1 .1 .1 .1 .0
 
 returns-2 : tie.Need-returns-2
 unfolding DecOne.con-binds
-returns-2 c = record { is = λ kinds. con-under (walks (c .before .before .before .before .before .before .before .before .before .before .before .args .cfg .nesting)) (cfgOf (c .before .before .before .before .before .before .before .before .before .before .before .args .cfg)) (c .before .before .before .before .before .if1 .left) (plain (c .before .before .con-row .ensures)) }
+returns-2 c = record { is = λ kinds. con-under (walks (c .before .before .before .before .before .before .before .before .before .args .cfg .nesting)) (cfgOf (c .before .before .before .before .before .before .before .before .before .args .cfg)) (c .before .before .before .before .before .if1 .left) (plain (c .before .before .con-row .ensures)) }
 
 pub con-binds-spec : {M : Type 1} → statement M
 con-binds-spec =

@@ -20,11 +20,11 @@ use Rattle.leaves.proofs.con_row.Statement.{statement}
 use Rattle.leaves.proofs.con_row.Tie as tie
 
 abbrev Inv-loop : tie.InvT-loop
-Inv-loop run text rec starts lens out₀ mem₀ at cfg n s₀ i₀ out mem s i =
-    PlainTurn run text rec starts lens (from (Layout.word " | ") (DecOne.con-bind (walks (cfg .nesting)))) n s₀ mem₀ out₀ i s mem out
+Inv-loop run text rec spans out₀ mem₀ at cfg n s₀ i₀ out mem s i =
+    PlainTurn run text rec spans (from (Layout.word " | ") (DecOne.con-bind (walks (cfg .nesting)))) n s₀ mem₀ out₀ i s mem out
 
 abbrev μ-loop : tie.MeasureT-loop
-μ-loop run text rec starts lens out₀ mem₀ at cfg n s₀ i₀ out mem s i = n - i
+μ-loop run text rec spans out₀ mem₀ at cfg n s₀ i₀ out mem s i = n - i
 
 word-requires : tie.Need-word-requires Inv-loop μ-loop
 word-requires c κs = search needs
@@ -48,19 +48,19 @@ enum-told : tie.Need-enum-told Inv-loop μ-loop
 enum-told c = search needs
 
 same-length : tie.Need-same-length Inv-loop μ-loop
-same-length c = c .before .before .before .before .before .con-bind .kept .1 .1 .1 .1 .1 .0 ∙ c .before .before .before .before .before .before .before .before .before .before .between .kept .1 .1 .0 ∙ c .before .before .before .before .before .before .before .before .before .before .before .before .before .before .loop .inv .2 ∙ c .before .before .before .before .before .before .before .before .before .before .before .before .before .before .before .before .before .word .kept .1 .1 .0
+same-length c = c .before .before .before .before .before .con-bind .kept .1 .1 .1 .1 .0 ∙ c .before .before .before .before .before .before .before .before .before .before .between .kept .1 .1 .0 ∙ c .before .before .before .before .before .before .before .before .before .before .before .before .before .before .loop .inv .2 ∙ c .before .before .before .before .before .before .before .before .before .before .before .before .before .before .before .before .before .word .kept .1 .1 .0
 
 returns : tie.Need-returns Inv-loop μ-loop
 returns c = record { is = λ kinds. then-sure (c .before .before .before .before .before .before .before .before .before .before .before .before .before .before .before .before .before .word .ensures) (by-same (items-all _ _ _) (c .before .before .before .before .before .before .before .before .before .before .before .before .before .before .loop .inv .1 kinds _ _ _ (from-more _ _ (c .before .before .before .before .before .before .before .before .before .before .before .before .before .loop-test .taken) (then-sure (c .before .before .before .before .before .before .before .before .before .before .between .ensures) (then-stop (plain (c .before .before .before .before .before .con-bind .ensures)) (c .before .before .told .ensures) (c .enum-told .given .1)))))) }
 
 add-i : tie.Need-add-i Inv-loop μ-loop
-add-i c = omega (arith, c .before .before .before .before .before .before .before .before .before .before .before .before .before .before .loop-test .taken, c .before .before .before .before .before .before .before .before .before .before .before .before .before .before .before .before .before .before .before .before .before .before .before .before .before .before .fits)
+add-i c = omega (arith, c .before .before .before .before .before .before .before .before .before .before .before .before .before .before .loop-test .taken, c .before .before .before .before .before .before .before .before .before .before .before .before .before .before .before .before .before .before .before .before .before .before .before .before .fits)
 
 loop-less : tie.Need-loop-less Inv-loop μ-loop
 loop-less c = omega arith
 
 loop-again : tie.Need-loop-again Inv-loop μ-loop
-loop-again c = (omega (arith, c .before .before .before .before .before .before .before .before .before .before .before .before .before .before .before .loop .inv .0), λ kinds r m o h. c .before .before .before .before .before .before .before .before .before .before .before .before .before .before .before .loop .inv .1 kinds r m o (from-more _ _ (c .before .before .before .before .before .before .before .before .before .before .before .before .before .before .loop-test .taken) (then-sure (c .before .before .before .before .before .before .before .before .before .before .before .between .ensures) (then-done (plain (c .before .before .before .before .before .before .con-bind .ensures)) (c .before .before .before .told .ensures) (c .before .s1 .given .1) h))), c .before .before .before .before .before .before .con-bind .kept .1 .1 .1 .1 .1 .0 ∙ c .before .before .before .before .before .before .before .before .before .before .before .between .kept .1 .1 .0 ∙ c .before .before .before .before .before .before .before .before .before .before .before .before .before .before .before .loop .inv .2)
+loop-again c = (omega (arith, c .before .before .before .before .before .before .before .before .before .before .before .before .before .before .before .loop .inv .0), λ kinds r m o h. c .before .before .before .before .before .before .before .before .before .before .before .before .before .before .before .loop .inv .1 kinds r m o (from-more _ _ (c .before .before .before .before .before .before .before .before .before .before .before .before .before .before .loop-test .taken) (then-sure (c .before .before .before .before .before .before .before .before .before .before .before .between .ensures) (then-done (plain (c .before .before .before .before .before .before .con-bind .ensures)) (c .before .before .before .told .ensures) (c .before .s1 .given .1) h))), c .before .before .before .before .before .before .con-bind .kept .1 .1 .1 .1 .0 ∙ c .before .before .before .before .before .before .before .before .before .before .before .between .kept .1 .1 .0 ∙ c .before .before .before .before .before .before .before .before .before .before .before .before .before .before .before .loop .inv .2)
 
 same-length-2 : tie.Need-same-length-2 Inv-loop μ-loop
 same-length-2 c = c .before .loop .inv .2 ∙ c .before .before .before .before .word .kept .1 .1 .0

@@ -20,11 +20,11 @@ use Rattle.leaves.proofs.dat_binds.Statement.{statement}
 use Rattle.leaves.proofs.dat_binds.Tie as tie
 
 abbrev Inv-loop : tie.InvT-loop
-Inv-loop run text rec starts lens out₀ mem₀ at cfg n s0 s₀ i₀ out mem s i =
-    PlainTurn run text rec starts lens (from (Helpers.new-line (cfgOf cfg) "and ") (DecOne.dat-bind (walks (cfg .nesting)) (cfgOf cfg))) n s₀ mem₀ out₀ i s mem out
+Inv-loop run text rec spans out₀ mem₀ at cfg n s0 s₀ i₀ out mem s i =
+    PlainTurn run text rec spans (from (Helpers.new-line (cfgOf cfg) "and ") (DecOne.dat-bind (walks (cfg .nesting)) (cfgOf cfg))) n s₀ mem₀ out₀ i s mem out
 
 abbrev μ-loop : tie.MeasureT-loop
-μ-loop run text rec starts lens out₀ mem₀ at cfg n s0 s₀ i₀ out mem s i = n - i
+μ-loop run text rec spans out₀ mem₀ at cfg n s0 s₀ i₀ out mem s i = n - i
 
 list-requires : tie.Need-list-requires Inv-loop μ-loop
 list-requires c κs = search needs
@@ -49,7 +49,7 @@ new-line-requires : tie.Need-new-line-requires Inv-loop μ-loop
 new-line-requires c κs = search needs
 
 dat-bind-requires : tie.Need-dat-bind-requires Inv-loop μ-loop
-dat-bind-requires c κs = omega (arith, c .before .before .before .before .before .before .before .before .before .before .before .before .before .before .before .before .before .before .pre)
+dat-bind-requires c κs = omega (arith, c .before .before .before .before .before .before .before .before .before .before .before .before .before .before .before .before .pre)
 
 told-requires : tie.Need-told-requires Inv-loop μ-loop
 told-requires c κs = search needs
@@ -61,7 +61,7 @@ enum-told-2 : tie.Need-enum-told-2 Inv-loop μ-loop
 enum-told-2 c = search needs
 
 same-length : tie.Need-same-length Inv-loop μ-loop
-same-length c = c .before .before .before .before .before .dat-bind .kept .1 .1 .1 .1 .1 .0 ∙ c .before .before .before .before .before .before .before .before .before .before .new-line .kept .1 .1 .0 ∙ c .before .before .before .before .before .before .before .before .before .before .before .before .before .before .loop .inv .2
+same-length c = c .before .before .before .before .before .dat-bind .kept .1 .1 .1 .1 .0 ∙ c .before .before .before .before .before .before .before .before .before .before .new-line .kept .1 .1 .0 ∙ c .before .before .before .before .before .before .before .before .before .before .before .before .before .before .loop .inv .2
 
 returns-2 : tie.Need-returns-2 Inv-loop μ-loop
 unfolding DecOne.dat-binds Helpers.sep-with-lines
@@ -75,7 +75,7 @@ loop-less c = omega arith
 
 loop-again : tie.Need-loop-again Inv-loop μ-loop
 unfolding DecOne.dat-binds Helpers.sep-with-lines
-loop-again c = (omega (arith, c .before .before .before .before .before .before .before .before .before .before .before .before .before .before .before .loop .inv .0), λ kinds r m o h. c .before .before .before .before .before .before .before .before .before .before .before .before .before .before .before .loop .inv .1 kinds r m o (from-more _ _ (c .before .before .before .before .before .before .before .before .before .before .before .before .before .before .loop-test .taken) (then-sure (c .before .before .before .before .before .before .before .before .before .before .before .new-line .ensures) (then-done (plain (c .before .before .before .before .before .before .dat-bind .ensures)) (c .before .before .before .told .ensures) (c .before .s1 .given .1) h))), c .before .before .before .before .before .before .dat-bind .kept .1 .1 .1 .1 .1 .0 ∙ c .before .before .before .before .before .before .before .before .before .before .before .new-line .kept .1 .1 .0 ∙ c .before .before .before .before .before .before .before .before .before .before .before .before .before .before .before .loop .inv .2)
+loop-again c = (omega (arith, c .before .before .before .before .before .before .before .before .before .before .before .before .before .before .before .loop .inv .0), λ kinds r m o h. c .before .before .before .before .before .before .before .before .before .before .before .before .before .before .before .loop .inv .1 kinds r m o (from-more _ _ (c .before .before .before .before .before .before .before .before .before .before .before .before .before .before .loop-test .taken) (then-sure (c .before .before .before .before .before .before .before .before .before .before .before .new-line .ensures) (then-done (plain (c .before .before .before .before .before .before .dat-bind .ensures)) (c .before .before .before .told .ensures) (c .before .s1 .given .1) h))), c .before .before .before .before .before .before .dat-bind .kept .1 .1 .1 .1 .0 ∙ c .before .before .before .before .before .before .before .before .before .before .before .new-line .kept .1 .1 .0 ∙ c .before .before .before .before .before .before .before .before .before .before .before .before .before .before .before .loop .inv .2)
 
 same-length-2 : tie.Need-same-length-2 Inv-loop μ-loop
 same-length-2 c = c .before .loop .inv .2

@@ -23,7 +23,7 @@ word-requires : tie.Need-word-requires
 word-requires c κs = search needs
 
 dat-binds-requires : tie.Need-dat-binds-requires
-dat-binds-requires c κs = omega (arith, c .before .before .before .before .before .before .before .before .before .before .before .before .pre)
+dat-binds-requires c κs = omega (arith, c .before .before .before .before .before .before .before .before .before .before .pre)
 
 told-requires : tie.Need-told-requires
 told-requires c κs = search needs
@@ -35,7 +35,7 @@ enum-told : tie.Need-enum-told
 enum-told c = search needs
 
 same-length : tie.Need-same-length
-same-length c = c .before .before .before .before .before .dat-binds .kept .1 .1 .1 .1 .1 .0 ∙ c .before .before .before .before .before .before .before .before .before .before .word .kept .1 .1 .0
+same-length c = c .before .before .before .before .before .dat-binds .kept .1 .1 .1 .1 .0 ∙ c .before .before .before .before .before .before .before .before .before .before .word .kept .1 .1 .0
 
 returns : tie.Need-returns
 unfolding DecOne.dec-one
@@ -45,7 +45,7 @@ with-type-requires : tie.Need-with-type-requires
 with-type-requires c κs = search needs
 
 same-length-2 : tie.Need-same-length-2
-same-length-2 c = c .before .before .with-type .kept .1 .1 .1 .1 .1 .0 ∙ c .before .before .before .before .before .before .before .before .before .before .before .dat-binds .kept .1 .1 .1 .1 .1 .0 ∙ c .before .before .before .before .before .before .before .before .before .before .before .before .before .before .before .before .word .kept .1 .1 .0
+same-length-2 c = c .before .before .with-type .kept .1 .1 .1 .1 .0 ∙ c .before .before .before .before .before .before .before .before .before .before .before .dat-binds .kept .1 .1 .1 .1 .0 ∙ c .before .before .before .before .before .before .before .before .before .before .before .before .before .before .before .before .word .kept .1 .1 .0
 
 returns-2 : tie.Need-returns-2
 unfolding DecOne.dec-one

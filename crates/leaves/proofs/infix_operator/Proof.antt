@@ -26,7 +26,7 @@ word-requires : tie.Need-word-requires
 word-requires c κs = search needs
 
 indent-deeper-requires : tie.Need-indent-deeper-requires
-indent-deeper-requires c κs = omega (arith, c .before .before .before .before .before .before .before .before .before .before .before .before .before .before .pre)
+indent-deeper-requires c κs = omega (arith, c .before .before .before .before .before .before .before .before .before .before .before .before .pre)
 
 word-requires-2 : tie.Need-word-requires-2
 word-requires-2 c κs = search needs
@@ -48,7 +48,7 @@ word-requires-4 : tie.Need-word-requires-4
 word-requires-4 c κs = search needs
 
 same-length-2 : tie.Need-same-length-2
-same-length-2 c = c .before .before .word4 .kept .1 .1 .0 ∙ c .before .before .before .before .before .before .before .token .kept .1 .1 .1 .1 .0 ∙ c .before .before .before .before .before .before .before .before .before .before .before .before .word3 .kept .1 .1 .0
+same-length-2 c = c .before .before .word4 .kept .1 .1 .0 ∙ c .before .before .before .before .before .before .before .token .kept .1 .1 .1 .0 ∙ c .before .before .before .before .before .before .before .before .before .before .before .before .word3 .kept .1 .1 .0
 
 returns-2 : tie.Need-returns-2
 unfolding Exp.pipe

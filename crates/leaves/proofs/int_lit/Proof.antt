@@ -45,7 +45,7 @@ enum-told-2 : tie.Need-enum-told-2
 enum-told-2 c = search needs
 
 same-length : tie.Need-same-length
-same-length c = c .before .before .before .before .before .text-of .kept .1 .1 .1 .1 .1 .0
+same-length c = c .before .before .before .before .before .text-of .kept .1 .1 .1 .1 .0
 
 returns-2 : tie.Need-returns-2
 unfolding DecOne.int-lit
@@ -55,7 +55,7 @@ word-requires : tie.Need-word-requires
 word-requires c κs = search needs
 
 same-length-2 : tie.Need-same-length-2
-same-length-2 c = c .before .before .word .kept .1 .1 .0 ∙ c .before .before .before .before .before .before .before .before .before .before .before .text-of .kept .1 .1 .1 .1 .1 .0
+same-length-2 c = c .before .before .word .kept .1 .1 .0 ∙ c .before .before .before .before .before .before .before .before .before .before .before .text-of .kept .1 .1 .1 .1 .0
 
 returns-3 : tie.Need-returns-3
 unfolding DecOne.int-lit

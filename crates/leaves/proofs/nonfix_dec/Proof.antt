@@ -26,7 +26,7 @@ names-space-requires : tie.Need-names-space-requires
 names-space-requires c κs = search needs
 
 same-length : tie.Need-same-length
-same-length c = c .before .before .names-space .kept .1 .1 .1 .1 .1 .0 ∙ c .before .before .before .before .before .before .before .word .kept .1 .1 .0
+same-length c = c .before .before .names-space .kept .1 .1 .1 .1 .0 ∙ c .before .before .before .before .before .before .before .word .kept .1 .1 .0
 
 returns : tie.Need-returns
 unfolding DecOne.dec-one

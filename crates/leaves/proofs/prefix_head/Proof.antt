@@ -32,7 +32,7 @@ enum-told : tie.Need-enum-told
 enum-told c = search needs
 
 same-length : tie.Need-same-length
-same-length c = c .before .before .before .before .before .word-if .kept .1 .1 .1 .1 .1 .0
+same-length c = c .before .before .before .before .before .word-if .kept .1 .1 .1 .1 .0
 
 returns : tie.Need-returns
 unfolding DecOne.PrefixFunBindCaseHead
@@ -42,7 +42,7 @@ text-of-requires : tie.Need-text-of-requires
 text-of-requires c κs = search needs
 
 same-length-2 : tie.Need-same-length-2
-same-length-2 c = c .before .before .text-of .kept .1 .1 .1 .1 .1 .0 ∙ c .before .before .before .before .before .before .before .before .before .before .before .word-if .kept .1 .1 .1 .1 .1 .0
+same-length-2 c = c .before .before .text-of .kept .1 .1 .1 .1 .0 ∙ c .before .before .before .before .before .before .before .before .before .before .before .word-if .kept .1 .1 .1 .1 .0
 
 returns-2 : tie.Need-returns-2
 unfolding DecOne.PrefixFunBindCaseHead

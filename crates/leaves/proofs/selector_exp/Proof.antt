@@ -26,7 +26,7 @@ text-of-requires : tie.Need-text-of-requires
 text-of-requires c κs = search needs
 
 same-length : tie.Need-same-length
-same-length c = c .before .before .text-of .kept .1 .1 .1 .1 .1 .0 ∙ c .before .before .before .before .before .before .before .word .kept .1 .1 .0
+same-length c = c .before .before .text-of .kept .1 .1 .1 .1 .0 ∙ c .before .before .before .before .before .before .before .word .kept .1 .1 .0
 
 returns : tie.Need-returns
 unfolding Exp.exp

@@ -32,7 +32,7 @@ enum-told : tie.Need-enum-told
 enum-told c = search needs
 
 same-length : tie.Need-same-length
-same-length c = c .before .before .before .before .before .text-of .kept .1 .1 .1 .1 .1 .0
+same-length c = c .before .before .before .before .before .text-of .kept .1 .1 .1 .1 .0
 
 returns : tie.Need-returns
 unfolding DecOne.dec-one
@@ -45,7 +45,7 @@ ty-binds-requires : tie.Need-ty-binds-requires
 ty-binds-requires c κs = search needs
 
 same-length-2 : tie.Need-same-length-2
-same-length-2 c = c .before .before .ty-binds .kept .1 .1 .1 .1 .1 .0 ∙ c .before .before .before .before .before .before .before .word .kept .1 .1 .0 ∙ c .before .before .before .before .before .before .before .before .before .before .before .before .before .before .before .before .text-of .kept .1 .1 .1 .1 .1 .0
+same-length-2 c = c .before .before .ty-binds .kept .1 .1 .1 .1 .0 ∙ c .before .before .before .before .before .before .before .word .kept .1 .1 .0 ∙ c .before .before .before .before .before .before .before .before .before .before .before .before .before .before .before .before .text-of .kept .1 .1 .1 .1 .0
 
 returns-2 : tie.Need-returns-2
 unfolding DecOne.dec-one

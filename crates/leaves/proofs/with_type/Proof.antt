@@ -58,7 +58,7 @@ ty-binds-requires : tie.Need-ty-binds-requires
 ty-binds-requires c κs = search needs
 
 same-length : tie.Need-same-length
-same-length c = c .before .before .ty-binds .kept .1 .1 .1 .1 .1 .0 ∙ c .before .before .before .before .before .before .before .word .kept .1 .1 .0 ∙ c .before .before .before .before .before .before .before .before .before .before .before .before .line .kept .1 .1 .0
+same-length c = c .before .before .ty-binds .kept .1 .1 .1 .1 .0 ∙ c .before .before .before .before .before .before .before .word .kept .1 .1 .0 ∙ c .before .before .before .before .before .before .before .before .before .before .before .before .line .kept .1 .1 .0
 
 returns-3 : tie.Need-returns-3
 unfolding DecOne.with-type

@@ -29,7 +29,7 @@ read-record-requires : tie.Need-read-record-requires
 read-record-requires c κs = search needs
 
 returns-4 : tie.Need-returns-4
-returns-4 c = utf8 _ _ _ _ _ (c .before .before .before .before .before .before .before .before .if1 .left) (c .before .before .before .before .before .before .before .if2 .left) (c .before .before .before .before .before .before .first-broken .ensures) (c .before .before .before .before .enum-told .given .1) (c .read-record .ensures)
+returns-4 c = utf8 _ _ _ _ _ (c .before .before .before .before .before .before .before .if1 .left) (c .before .before .before .before .before .before .if2 .left) (c .before .before .before .before .before .first-broken .ensures) (c .before .before .before .enum-told .given .1) (c .read-record .ensures)
 
 pub check-spec : {M : Type 1} → statement M
 check-spec =

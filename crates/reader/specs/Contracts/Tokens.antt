@@ -1,6 +1,6 @@
 -- What the code's answers and tables stand for when it reads the tokens.
-use Prim.Native.Nat.{ℕ, zero, suc, _+_, _*_, _%_, _≤_, _<_}
-use mathlib.Core.List.{List}
+use Prim.Native.Nat.{ℕ, zero, suc, _+_, _*_, _/_, _%_, _≤_, _<_}
+use mathlib.Core.List.{List, map}
 use mathlib.Core.Bool.{Bool, true, false}
 use mathlib.Core.Path.{_≡_}
 use lib.ListN.{length, getD, take}
@@ -21,6 +21,20 @@ module _ (boundary : ℕ → Bool) (size : ℕ) (rec : List ℕ) where
             [ true ↦ Following.Is (getD rec (at + 1) 0) (u16 rec (at + 2)) | false ↦ Following.Malformed ]
         | false ↦ Following.End
       ]
+
+-- The span of a token, its start and its length in one number: 65,536 × start + length.
+abbrev pub startOf : ℕ → ℕ
+startOf span = span / 65536
+
+abbrev pub lengthOf : ℕ → ℕ
+lengthOf span = span % 65536
+
+-- The starts and the lengths of a table of spans.
+abbrev pub startsOf : List ℕ → List ℕ
+startsOf spans = map startOf spans
+
+abbrev pub lengthsOf : List ℕ → List ℕ
+lengthsOf spans = map lengthOf spans
 
 -- The first entries of the tables.
 abbrev pub tokensIn : ℕ → List ℕ → List ℕ → List ℕ → Tokens
@@ -55,13 +69,14 @@ unfoldable pub lengthsTo : List ℕ → ℕ → ℕ
 lengthsTo rec zero = 0
 lengthsTo rec (suc n) = lengthsTo rec n + u16 rec (4 * n + 2)
 
--- Contract: the record starts with so many commands of tokens; their kinds stand in the tables, and their starts modulo 2^16.
-pub record Laid (rec kinds starts : List ℕ) (count sum : ℕ) : Type 0 where
+-- Contract: the record starts with so many commands of tokens; their kinds and lengths stand in the tables, and their starts modulo 2^16.
+pub record Laid (rec kinds starts lens : List ℕ) (count sum : ℕ) : Type 0 where
   pub few : count ≤ maxTokens
   pub whole : 4 * count ≤ length rec
   pub commands : (i : ℕ) → i < count → getD rec (4 * i) 0 ≡ 0x05
   pub kinds-are : (i : ℕ) → i < count → getD kinds i 0 ≡ getD rec (4 * i + 1) 0
   pub starts-are : (i : ℕ) → i < count → getD starts i 0 ≡ lengthsTo rec i % 65536
+  pub lengths-are : (i : ℕ) → i < count → getD lens i 0 ≡ u16 rec (4 * i + 2)
   pub sums : sum ≡ lengthsTo rec count
 
 -- Contract: the first entries of the tables have known kinds and no length of 0, and start and end between characters.

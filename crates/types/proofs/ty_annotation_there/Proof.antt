@@ -38,7 +38,7 @@ get-ty-requires : tie.Need-get-ty-requires
 get-ty-requires c κs = search needs
 
 same-length : tie.Need-same-length
-same-length c = c .before .before .get-ty .kept .1 .1 .1 .1 .1 .0 ∙ c .before .before .before .before .before .before .before .word .kept .1 .1 .0
+same-length c = c .before .before .get-ty .kept .1 .1 .1 .1 .0 ∙ c .before .before .before .before .before .before .before .word .kept .1 .1 .0
 
 returns-2 : tie.Need-returns-2
 unfolding Ty.ty-annotation-there

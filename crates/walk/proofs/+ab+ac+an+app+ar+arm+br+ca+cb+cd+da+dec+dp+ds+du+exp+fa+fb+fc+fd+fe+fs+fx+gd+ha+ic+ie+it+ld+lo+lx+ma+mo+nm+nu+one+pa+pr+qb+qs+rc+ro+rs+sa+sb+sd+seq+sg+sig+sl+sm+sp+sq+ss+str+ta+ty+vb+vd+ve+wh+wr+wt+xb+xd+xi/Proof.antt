@@ -11,7 +11,8 @@ use Rattle.layout.specs.Layout as Layout
 use Rattle.layout.specs.Helpers as Helpers
 use Rattle.layout.specs.Helpers.{times}
 use Rattle.layout.specs.Walk.{walks}
-use Rattle.layout.specs.Contracts.State.{cfgOf, page, runOf, Walked}
+use Rattle.layout.specs.Contracts.State.{cfgOf, runOf, Walked}
+use Rattle.layout.specs.Contracts.Lent.{pageAt}
 use Rattle.layout.specs.Exp as Exp
 use Rattle.layout.specs.GetDec as GetDec
 use Rattle.layout.specs.DecOne as DecOne
@@ -285,599 +286,599 @@ use Rattle.walk.proofs.later_needs.Reads as later-needs-reads
 use Rattle.walk.proofs.+ab+ac+an+app+ar+arm+br+ca+cb+cd+da+dec+dp+ds+du+exp+fa+fb+fc+fd+fe+fs+fx+gd+ha+ic+ie+it+ld+lo+lx+ma+mo+nm+nu+one+pa+pr+qb+qs+rc+ro+rs+sa+sb+sd+seq+sg+sig+sl+sm+sp+sq+ss+str+ta+ty+vb+vd+ve+wh+wr+wt+xb+xd+xi.{statement}
 use Rattle.walk.proofs.+ab+ac+an+app+ar+arm+br+ca+cb+cd+da+dec+dp+ds+du+exp+fa+fb+fc+fd+fe+fs+fx+gd+ha+ic+ie+it+ld+lo+lx+ma+mo+nm+nu+one+pa+pr+qb+qs+rc+ro+rs+sa+sb+sd+seq+sg+sig+sl+sm+sp+sq+ss+str+ta+ty+vb+vd+ve+wh+wr+wt+xb+xd+xi.Tie.{close}
 
-abbrev μ-ab : Measures 7 ab-kinds.ps ℕ
-μ-ab κs a = 16 * a .1 .1 .1 .1 .1 .1 .1 .1 .1 .0 .nesting + 5
+abbrev μ-ab : Measures 8 ab-kinds.ps ℕ
+μ-ab κs a = 16 * a .1 .1 .1 .1 .1 .1 .1 .1 .0 .nesting + 5
 
-abbrev μ-ac : Measures 7 ac-kinds.ps ℕ
-μ-ac κs a = 16 * a .1 .1 .1 .1 .1 .1 .1 .1 .1 .0 .nesting + 2
+abbrev μ-ac : Measures 8 ac-kinds.ps ℕ
+μ-ac κs a = 16 * a .1 .1 .1 .1 .1 .1 .1 .1 .0 .nesting + 2
 
-abbrev μ-an : Measures 7 an-kinds.ps ℕ
-μ-an κs a = 16 * a .1 .1 .1 .1 .1 .1 .1 .1 .1 .0 .nesting + 2
+abbrev μ-an : Measures 8 an-kinds.ps ℕ
+μ-an κs a = 16 * a .1 .1 .1 .1 .1 .1 .1 .1 .0 .nesting + 2
 
-abbrev μ-app : Measures 7 app-kinds.ps ℕ
-μ-app κs a = 16 * a .1 .1 .1 .1 .1 .1 .1 .1 .1 .0 .nesting + 1
+abbrev μ-app : Measures 8 app-kinds.ps ℕ
+μ-app κs a = 16 * a .1 .1 .1 .1 .1 .1 .1 .1 .0 .nesting + 1
 
-abbrev μ-ar : Measures 7 ar-kinds.ps ℕ
-μ-ar κs a = 16 * a .1 .1 .1 .1 .1 .1 .1 .1 .1 .0 .nesting + 1
+abbrev μ-ar : Measures 8 ar-kinds.ps ℕ
+μ-ar κs a = 16 * a .1 .1 .1 .1 .1 .1 .1 .1 .0 .nesting + 1
 
-abbrev μ-arm : Measures 7 arm-kinds.ps ℕ
-μ-arm κs a = 16 * a .1 .1 .1 .1 .1 .1 .1 .1 .1 .0 .nesting + 2
+abbrev μ-arm : Measures 8 arm-kinds.ps ℕ
+μ-arm κs a = 16 * a .1 .1 .1 .1 .1 .1 .1 .1 .0 .nesting + 2
 
-abbrev μ-br : Measures 7 br-kinds.ps ℕ
-μ-br κs a = 16 * a .1 .1 .1 .1 .1 .1 .1 .1 .1 .0 .nesting + 2
+abbrev μ-br : Measures 8 br-kinds.ps ℕ
+μ-br κs a = 16 * a .1 .1 .1 .1 .1 .1 .1 .1 .0 .nesting + 2
 
-abbrev μ-ca : Measures 7 ca-kinds.ps ℕ
-μ-ca κs a = 16 * a .1 .1 .1 .1 .1 .1 .1 .1 .1 .0 .nesting + 5
+abbrev μ-ca : Measures 8 ca-kinds.ps ℕ
+μ-ca κs a = 16 * a .1 .1 .1 .1 .1 .1 .1 .1 .0 .nesting + 5
 
-abbrev μ-cb : Measures 7 cb-kinds.ps ℕ
-μ-cb κs a = 16 * a .1 .1 .1 .1 .1 .1 .1 .1 .1 .0 .nesting + 7
+abbrev μ-cb : Measures 8 cb-kinds.ps ℕ
+μ-cb κs a = 16 * a .1 .1 .1 .1 .1 .1 .1 .1 .0 .nesting + 7
 
-abbrev μ-cd : Measures 7 cd-kinds.ps ℕ
-μ-cd κs a = 16 * a .1 .1 .1 .1 .1 .1 .1 .1 .1 .0 .nesting + 8
+abbrev μ-cd : Measures 8 cd-kinds.ps ℕ
+μ-cd κs a = 16 * a .1 .1 .1 .1 .1 .1 .1 .1 .0 .nesting + 8
 
-abbrev μ-da : Measures 7 da-kinds.ps ℕ
-μ-da κs a = 16 * a .1 .1 .1 .1 .1 .1 .1 .1 .1 .0 .nesting + 4
+abbrev μ-da : Measures 8 da-kinds.ps ℕ
+μ-da κs a = 16 * a .1 .1 .1 .1 .1 .1 .1 .1 .0 .nesting + 4
 
-abbrev μ-dec : Measures 7 dec-kinds.ps ℕ
-μ-dec κs a = 16 * a .1 .1 .1 .1 .1 .1 .1 .1 .1 .0 .nesting + 3
+abbrev μ-dec : Measures 8 dec-kinds.ps ℕ
+μ-dec κs a = 16 * a .1 .1 .1 .1 .1 .1 .1 .1 .0 .nesting + 3
 
-abbrev μ-dp : Measures 7 dp-kinds.ps ℕ
-μ-dp κs a = 16 * a .1 .1 .1 .1 .1 .1 .1 .1 .1 .0 .nesting + 1
+abbrev μ-dp : Measures 8 dp-kinds.ps ℕ
+μ-dp κs a = 16 * a .1 .1 .1 .1 .1 .1 .1 .1 .0 .nesting + 1
 
-abbrev μ-ds : Measures 7 ds-kinds.ps ℕ
-μ-ds κs a = 16 * a .1 .1 .1 .1 .1 .1 .1 .1 .1 .0 .nesting + 4
+abbrev μ-ds : Measures 8 ds-kinds.ps ℕ
+μ-ds κs a = 16 * a .1 .1 .1 .1 .1 .1 .1 .1 .0 .nesting + 4
 
-abbrev μ-du : Measures 7 du-kinds.ps ℕ
-μ-du κs a = 16 * a .1 .1 .1 .1 .1 .1 .1 .1 .1 .0 .nesting + 1
+abbrev μ-du : Measures 8 du-kinds.ps ℕ
+μ-du κs a = 16 * a .1 .1 .1 .1 .1 .1 .1 .1 .0 .nesting + 1
 
-abbrev μ-exp : Measures 7 exp-kinds.ps ℕ
-μ-exp κs a = 16 * a .1 .1 .1 .1 .1 .1 .1 .1 .1 .0 .nesting + 0
+abbrev μ-exp : Measures 8 exp-kinds.ps ℕ
+μ-exp κs a = 16 * a .1 .1 .1 .1 .1 .1 .1 .1 .0 .nesting + 0
 
-abbrev μ-fa : Measures 7 fa-kinds.ps ℕ
-μ-fa κs a = 16 * a .1 .1 .1 .1 .1 .1 .1 .1 .1 .0 .nesting + 5
+abbrev μ-fa : Measures 8 fa-kinds.ps ℕ
+μ-fa κs a = 16 * a .1 .1 .1 .1 .1 .1 .1 .1 .0 .nesting + 5
 
-abbrev μ-fb : Measures 7 fb-kinds.ps ℕ
-μ-fb κs a = 16 * a .1 .1 .1 .1 .1 .1 .1 .1 .1 .0 .nesting + 4
+abbrev μ-fb : Measures 8 fb-kinds.ps ℕ
+μ-fb κs a = 16 * a .1 .1 .1 .1 .1 .1 .1 .1 .0 .nesting + 4
 
-abbrev μ-fc : Measures 7 fc-kinds.ps ℕ
-μ-fc κs a = 16 * a .1 .1 .1 .1 .1 .1 .1 .1 .1 .0 .nesting + 3
+abbrev μ-fc : Measures 8 fc-kinds.ps ℕ
+μ-fc κs a = 16 * a .1 .1 .1 .1 .1 .1 .1 .1 .0 .nesting + 3
 
-abbrev μ-fd : Measures 7 fd-kinds.ps ℕ
-μ-fd κs a = 16 * a .1 .1 .1 .1 .1 .1 .1 .1 .1 .0 .nesting + 5
+abbrev μ-fd : Measures 8 fd-kinds.ps ℕ
+μ-fd κs a = 16 * a .1 .1 .1 .1 .1 .1 .1 .1 .0 .nesting + 5
 
-abbrev μ-fe : Measures 7 fe-kinds.ps ℕ
-μ-fe κs a = 16 * a .1 .1 .1 .1 .1 .1 .1 .1 .1 .0 .nesting + 3
+abbrev μ-fe : Measures 8 fe-kinds.ps ℕ
+μ-fe κs a = 16 * a .1 .1 .1 .1 .1 .1 .1 .1 .0 .nesting + 3
 
-abbrev μ-fs : Measures 7 fs-kinds.ps ℕ
-μ-fs κs a = 16 * a .1 .1 .1 .1 .1 .1 .1 .1 .1 .0 .nesting + 6
+abbrev μ-fs : Measures 8 fs-kinds.ps ℕ
+μ-fs κs a = 16 * a .1 .1 .1 .1 .1 .1 .1 .1 .0 .nesting + 6
 
-abbrev μ-fx : Measures 7 fx-kinds.ps ℕ
-μ-fx κs a = 16 * a .1 .1 .1 .1 .1 .1 .1 .1 .1 .0 .nesting + 1
+abbrev μ-fx : Measures 8 fx-kinds.ps ℕ
+μ-fx κs a = 16 * a .1 .1 .1 .1 .1 .1 .1 .1 .0 .nesting + 1
 
-abbrev μ-gd : Measures 7 gd-kinds.ps ℕ
-μ-gd κs a = 16 * a .1 .1 .1 .1 .1 .1 .1 .1 .1 .0 .nesting + 2
+abbrev μ-gd : Measures 8 gd-kinds.ps ℕ
+μ-gd κs a = 16 * a .1 .1 .1 .1 .1 .1 .1 .1 .0 .nesting + 2
 
-abbrev μ-ha : Measures 7 ha-kinds.ps ℕ
-μ-ha κs a = 16 * a .1 .1 .1 .1 .1 .1 .1 .1 .1 .0 .nesting + 4
+abbrev μ-ha : Measures 8 ha-kinds.ps ℕ
+μ-ha κs a = 16 * a .1 .1 .1 .1 .1 .1 .1 .1 .0 .nesting + 4
 
-abbrev μ-ic : Measures 7 ic-kinds.ps ℕ
-μ-ic κs a = 16 * a .1 .1 .1 .1 .1 .1 .1 .1 .1 .0 .nesting + 1
+abbrev μ-ic : Measures 8 ic-kinds.ps ℕ
+μ-ic κs a = 16 * a .1 .1 .1 .1 .1 .1 .1 .1 .0 .nesting + 1
 
-abbrev μ-ie : Measures 7 ie-kinds.ps ℕ
-μ-ie κs a = 16 * a .1 .1 .1 .1 .1 .1 .1 .1 .1 .0 .nesting + 1
+abbrev μ-ie : Measures 8 ie-kinds.ps ℕ
+μ-ie κs a = 16 * a .1 .1 .1 .1 .1 .1 .1 .1 .0 .nesting + 1
 
-abbrev μ-it : Measures 7 it-kinds.ps ℕ
-μ-it κs a = 16 * a .1 .1 .1 .1 .1 .1 .1 .1 .1 .0 .nesting + 1
+abbrev μ-it : Measures 8 it-kinds.ps ℕ
+μ-it κs a = 16 * a .1 .1 .1 .1 .1 .1 .1 .1 .0 .nesting + 1
 
-abbrev μ-ld : Measures 7 ld-kinds.ps ℕ
-μ-ld κs a = 16 * a .1 .1 .1 .1 .1 .1 .1 .1 .1 .0 .nesting + 5
+abbrev μ-ld : Measures 8 ld-kinds.ps ℕ
+μ-ld κs a = 16 * a .1 .1 .1 .1 .1 .1 .1 .1 .0 .nesting + 5
 
-abbrev μ-lo : Measures 7 lo-kinds.ps ℕ
-μ-lo κs a = 16 * a .1 .1 .1 .1 .1 .1 .1 .1 .1 .0 .nesting + 6
+abbrev μ-lo : Measures 8 lo-kinds.ps ℕ
+μ-lo κs a = 16 * a .1 .1 .1 .1 .1 .1 .1 .1 .0 .nesting + 6
 
-abbrev μ-lx : Measures 7 lx-kinds.ps ℕ
-μ-lx κs a = 16 * a .1 .1 .1 .1 .1 .1 .1 .1 .1 .0 .nesting + 5
+abbrev μ-lx : Measures 8 lx-kinds.ps ℕ
+μ-lx κs a = 16 * a .1 .1 .1 .1 .1 .1 .1 .1 .0 .nesting + 5
 
-abbrev μ-ma : Measures 7 ma-kinds.ps ℕ
-μ-ma κs a = 16 * a .1 .1 .1 .1 .1 .1 .1 .1 .1 .0 .nesting + 3
+abbrev μ-ma : Measures 8 ma-kinds.ps ℕ
+μ-ma κs a = 16 * a .1 .1 .1 .1 .1 .1 .1 .1 .0 .nesting + 3
 
-abbrev μ-mo : Measures 7 mo-kinds.ps ℕ
-μ-mo κs a = 16 * a .1 .1 .1 .1 .1 .1 .1 .1 .1 .0 .nesting + 2
+abbrev μ-mo : Measures 8 mo-kinds.ps ℕ
+μ-mo κs a = 16 * a .1 .1 .1 .1 .1 .1 .1 .1 .0 .nesting + 2
 
-abbrev μ-nm : Measures 7 nm-kinds.ps ℕ
-μ-nm κs a = 16 * a .1 .1 .1 .1 .1 .1 .1 .1 .1 .0 .nesting + 1
+abbrev μ-nm : Measures 8 nm-kinds.ps ℕ
+μ-nm κs a = 16 * a .1 .1 .1 .1 .1 .1 .1 .1 .0 .nesting + 1
 
-abbrev μ-nu : Measures 7 nu-kinds.ps ℕ
-μ-nu κs a = 16 * a .1 .1 .1 .1 .1 .1 .1 .1 .1 .0 .nesting + 9
+abbrev μ-nu : Measures 8 nu-kinds.ps ℕ
+μ-nu κs a = 16 * a .1 .1 .1 .1 .1 .1 .1 .1 .0 .nesting + 9
 
-abbrev μ-one : Measures 7 one-kinds.ps ℕ
-μ-one κs a = 16 * a .1 .1 .1 .1 .1 .1 .1 .1 .1 .0 .nesting + 0
+abbrev μ-one : Measures 8 one-kinds.ps ℕ
+μ-one κs a = 16 * a .1 .1 .1 .1 .1 .1 .1 .1 .0 .nesting + 0
 
-abbrev μ-pa : Measures 7 pa-kinds.ps ℕ
-μ-pa κs a = 16 * a .1 .1 .1 .1 .1 .1 .1 .1 .1 .0 .nesting + 1
+abbrev μ-pa : Measures 8 pa-kinds.ps ℕ
+μ-pa κs a = 16 * a .1 .1 .1 .1 .1 .1 .1 .1 .0 .nesting + 1
 
-abbrev μ-pr : Measures 7 pr-kinds.ps ℕ
-μ-pr κs a = 16 * a .1 .1 .1 .1 .1 .1 .1 .1 .1 .0 .nesting + 1
+abbrev μ-pr : Measures 8 pr-kinds.ps ℕ
+μ-pr κs a = 16 * a .1 .1 .1 .1 .1 .1 .1 .1 .0 .nesting + 1
 
-abbrev μ-qb : Measures 7 qb-kinds.ps ℕ
-μ-qb κs a = 16 * a .1 .1 .1 .1 .1 .1 .1 .1 .1 .0 .nesting + 2
+abbrev μ-qb : Measures 8 qb-kinds.ps ℕ
+μ-qb κs a = 16 * a .1 .1 .1 .1 .1 .1 .1 .1 .0 .nesting + 2
 
-abbrev μ-qs : Measures 7 qs-kinds.ps ℕ
-μ-qs κs a = 16 * a .1 .1 .1 .1 .1 .1 .1 .1 .1 .0 .nesting + 2
+abbrev μ-qs : Measures 8 qs-kinds.ps ℕ
+μ-qs κs a = 16 * a .1 .1 .1 .1 .1 .1 .1 .1 .0 .nesting + 2
 
-abbrev μ-rc : Measures 7 rc-kinds.ps ℕ
-μ-rc κs a = 16 * a .1 .1 .1 .1 .1 .1 .1 .1 .1 .0 .nesting + 3
+abbrev μ-rc : Measures 8 rc-kinds.ps ℕ
+μ-rc κs a = 16 * a .1 .1 .1 .1 .1 .1 .1 .1 .0 .nesting + 3
 
-abbrev μ-ro : Measures 7 ro-kinds.ps ℕ
-μ-ro κs a = 16 * a .1 .1 .1 .1 .1 .1 .1 .1 .1 .0 .nesting + 1
+abbrev μ-ro : Measures 8 ro-kinds.ps ℕ
+μ-ro κs a = 16 * a .1 .1 .1 .1 .1 .1 .1 .1 .0 .nesting + 1
 
-abbrev μ-rs : Measures 7 rs-kinds.ps ℕ
-μ-rs κs a = 16 * a .1 .1 .1 .1 .1 .1 .1 .1 .1 .0 .nesting + 2
+abbrev μ-rs : Measures 8 rs-kinds.ps ℕ
+μ-rs κs a = 16 * a .1 .1 .1 .1 .1 .1 .1 .1 .0 .nesting + 2
 
-abbrev μ-sa : Measures 7 sa-kinds.ps ℕ
-μ-sa κs a = 16 * a .1 .1 .1 .1 .1 .1 .1 .1 .1 .0 .nesting + 5
+abbrev μ-sa : Measures 8 sa-kinds.ps ℕ
+μ-sa κs a = 16 * a .1 .1 .1 .1 .1 .1 .1 .1 .0 .nesting + 5
 
-abbrev μ-sb : Measures 7 sb-kinds.ps ℕ
-μ-sb κs a = 16 * a .1 .1 .1 .1 .1 .1 .1 .1 .1 .0 .nesting + 3
+abbrev μ-sb : Measures 8 sb-kinds.ps ℕ
+μ-sb κs a = 16 * a .1 .1 .1 .1 .1 .1 .1 .1 .0 .nesting + 3
 
-abbrev μ-sd : Measures 7 sd-kinds.ps ℕ
-μ-sd κs a = 16 * a .1 .1 .1 .1 .1 .1 .1 .1 .1 .0 .nesting + 4
+abbrev μ-sd : Measures 8 sd-kinds.ps ℕ
+μ-sd κs a = 16 * a .1 .1 .1 .1 .1 .1 .1 .1 .0 .nesting + 4
 
-abbrev μ-seq : Measures 7 seq-kinds.ps ℕ
-μ-seq κs a = 16 * a .1 .1 .1 .1 .1 .1 .1 .1 .1 .0 .nesting + 4
+abbrev μ-seq : Measures 8 seq-kinds.ps ℕ
+μ-seq κs a = 16 * a .1 .1 .1 .1 .1 .1 .1 .1 .0 .nesting + 4
 
-abbrev μ-sg : Measures 7 sg-kinds.ps ℕ
-μ-sg κs a = 16 * a .1 .1 .1 .1 .1 .1 .1 .1 .1 .0 .nesting + 5
+abbrev μ-sg : Measures 8 sg-kinds.ps ℕ
+μ-sg κs a = 16 * a .1 .1 .1 .1 .1 .1 .1 .1 .0 .nesting + 5
 
-abbrev μ-sig : Measures 7 sig-kinds.ps ℕ
-μ-sig κs a = 16 * a .1 .1 .1 .1 .1 .1 .1 .1 .1 .0 .nesting + 0
+abbrev μ-sig : Measures 8 sig-kinds.ps ℕ
+μ-sig κs a = 16 * a .1 .1 .1 .1 .1 .1 .1 .1 .0 .nesting + 0
 
-abbrev μ-sl : Measures 7 sl-kinds.ps ℕ
-μ-sl κs a = 16 * a .1 .1 .1 .1 .1 .1 .1 .1 .1 .0 .nesting + 5
+abbrev μ-sl : Measures 8 sl-kinds.ps ℕ
+μ-sl κs a = 16 * a .1 .1 .1 .1 .1 .1 .1 .1 .0 .nesting + 5
 
-abbrev μ-sm : Measures 7 sm-kinds.ps ℕ
-μ-sm κs a = 16 * a .1 .1 .1 .1 .1 .1 .1 .1 .1 .0 .nesting + 3
+abbrev μ-sm : Measures 8 sm-kinds.ps ℕ
+μ-sm κs a = 16 * a .1 .1 .1 .1 .1 .1 .1 .1 .0 .nesting + 3
 
-abbrev μ-sp : Measures 7 sp-kinds.ps ℕ
-μ-sp κs a = 16 * a .1 .1 .1 .1 .1 .1 .1 .1 .1 .0 .nesting + 6
+abbrev μ-sp : Measures 8 sp-kinds.ps ℕ
+μ-sp κs a = 16 * a .1 .1 .1 .1 .1 .1 .1 .1 .0 .nesting + 6
 
-abbrev μ-sq : Measures 7 sq-kinds.ps ℕ
-μ-sq κs a = 16 * a .1 .1 .1 .1 .1 .1 .1 .1 .1 .0 .nesting + 1
+abbrev μ-sq : Measures 8 sq-kinds.ps ℕ
+μ-sq κs a = 16 * a .1 .1 .1 .1 .1 .1 .1 .1 .0 .nesting + 1
 
-abbrev μ-ss : Measures 7 ss-kinds.ps ℕ
-μ-ss κs a = 16 * a .1 .1 .1 .1 .1 .1 .1 .1 .1 .0 .nesting + 5
+abbrev μ-ss : Measures 8 ss-kinds.ps ℕ
+μ-ss κs a = 16 * a .1 .1 .1 .1 .1 .1 .1 .1 .0 .nesting + 5
 
-abbrev μ-str : Measures 7 str-kinds.ps ℕ
-μ-str κs a = 16 * a .1 .1 .1 .1 .1 .1 .1 .1 .1 .0 .nesting + 0
+abbrev μ-str : Measures 8 str-kinds.ps ℕ
+μ-str κs a = 16 * a .1 .1 .1 .1 .1 .1 .1 .1 .0 .nesting + 0
 
-abbrev μ-ta : Measures 7 ta-kinds.ps ℕ
-μ-ta κs a = 16 * a .1 .1 .1 .1 .1 .1 .1 .1 .1 .0 .nesting + 1
+abbrev μ-ta : Measures 8 ta-kinds.ps ℕ
+μ-ta κs a = 16 * a .1 .1 .1 .1 .1 .1 .1 .1 .0 .nesting + 1
 
-abbrev μ-ty : Measures 7 ty-kinds.ps ℕ
-μ-ty κs a = 16 * a .1 .1 .1 .1 .1 .1 .1 .1 .1 .0 .nesting + 1
+abbrev μ-ty : Measures 8 ty-kinds.ps ℕ
+μ-ty κs a = 16 * a .1 .1 .1 .1 .1 .1 .1 .1 .0 .nesting + 1
 
-abbrev μ-vb : Measures 7 vb-kinds.ps ℕ
-μ-vb κs a = 16 * a .1 .1 .1 .1 .1 .1 .1 .1 .1 .0 .nesting + 3
+abbrev μ-vb : Measures 8 vb-kinds.ps ℕ
+μ-vb κs a = 16 * a .1 .1 .1 .1 .1 .1 .1 .1 .0 .nesting + 3
 
-abbrev μ-vd : Measures 7 vd-kinds.ps ℕ
-μ-vd κs a = 16 * a .1 .1 .1 .1 .1 .1 .1 .1 .1 .0 .nesting + 4
+abbrev μ-vd : Measures 8 vd-kinds.ps ℕ
+μ-vd κs a = 16 * a .1 .1 .1 .1 .1 .1 .1 .1 .0 .nesting + 4
 
-abbrev μ-ve : Measures 7 ve-kinds.ps ℕ
-μ-ve κs a = 16 * a .1 .1 .1 .1 .1 .1 .1 .1 .1 .0 .nesting + 2
+abbrev μ-ve : Measures 8 ve-kinds.ps ℕ
+μ-ve κs a = 16 * a .1 .1 .1 .1 .1 .1 .1 .1 .0 .nesting + 2
 
-abbrev μ-wh : Measures 7 wh-kinds.ps ℕ
-μ-wh κs a = 16 * a .1 .1 .1 .1 .1 .1 .1 .1 .1 .0 .nesting + 2
+abbrev μ-wh : Measures 8 wh-kinds.ps ℕ
+μ-wh κs a = 16 * a .1 .1 .1 .1 .1 .1 .1 .1 .0 .nesting + 2
 
-abbrev μ-wr : Measures 7 wr-kinds.ps ℕ
-μ-wr κs a = 16 * a .1 .1 .1 .1 .1 .1 .1 .1 .1 .0 .nesting + 1
+abbrev μ-wr : Measures 8 wr-kinds.ps ℕ
+μ-wr κs a = 16 * a .1 .1 .1 .1 .1 .1 .1 .1 .0 .nesting + 1
 
-abbrev μ-wt : Measures 7 wt-kinds.ps ℕ
-μ-wt κs a = 16 * a .1 .1 .1 .1 .1 .1 .1 .1 .1 .0 .nesting + 1
+abbrev μ-wt : Measures 8 wt-kinds.ps ℕ
+μ-wt κs a = 16 * a .1 .1 .1 .1 .1 .1 .1 .1 .0 .nesting + 1
 
-abbrev μ-xb : Measures 7 xb-kinds.ps ℕ
-μ-xb κs a = 16 * a .1 .1 .1 .1 .1 .1 .1 .1 .1 .0 .nesting + 3
+abbrev μ-xb : Measures 8 xb-kinds.ps ℕ
+μ-xb κs a = 16 * a .1 .1 .1 .1 .1 .1 .1 .1 .0 .nesting + 3
 
-abbrev μ-xd : Measures 7 xd-kinds.ps ℕ
-μ-xd κs a = 16 * a .1 .1 .1 .1 .1 .1 .1 .1 .1 .0 .nesting + 4
+abbrev μ-xd : Measures 8 xd-kinds.ps ℕ
+μ-xd κs a = 16 * a .1 .1 .1 .1 .1 .1 .1 .1 .0 .nesting + 4
 
-abbrev μ-xi : Measures 7 xi-kinds.ps ℕ
-μ-xi κs a = 16 * a .1 .1 .1 .1 .1 .1 .1 .1 .1 .0 .nesting + 2
+abbrev μ-xi : Measures 8 xi-kinds.ps ℕ
+μ-xi κs a = 16 * a .1 .1 .1 .1 .1 .1 .1 .1 .0 .nesting + 2
 
-abbrev ab-at : ℕ → In 7 ab-kinds.ps
-ab-at t = and 7 ab-kinds.ps (is 7 ab-kinds.ps μ-ab t) ab.Pre
+abbrev ab-at : ℕ → In 8 ab-kinds.ps
+ab-at t = and 8 ab-kinds.ps (is 8 ab-kinds.ps μ-ab t) ab.Pre
 
-abbrev ab-below : ℕ → In 7 ab-kinds.ps
-ab-below t = and 7 ab-kinds.ps (falls 7 ab-kinds.ps _<_ μ-ab t) ab.Pre
+abbrev ab-below : ℕ → In 8 ab-kinds.ps
+ab-below t = and 8 ab-kinds.ps (falls 8 ab-kinds.ps _<_ μ-ab t) ab.Pre
 
-abbrev ac-at : ℕ → In 7 ac-kinds.ps
-ac-at t = and 7 ac-kinds.ps (is 7 ac-kinds.ps μ-ac t) ac.Pre
+abbrev ac-at : ℕ → In 8 ac-kinds.ps
+ac-at t = and 8 ac-kinds.ps (is 8 ac-kinds.ps μ-ac t) ac.Pre
 
-abbrev ac-below : ℕ → In 7 ac-kinds.ps
-ac-below t = and 7 ac-kinds.ps (falls 7 ac-kinds.ps _<_ μ-ac t) ac.Pre
+abbrev ac-below : ℕ → In 8 ac-kinds.ps
+ac-below t = and 8 ac-kinds.ps (falls 8 ac-kinds.ps _<_ μ-ac t) ac.Pre
 
-abbrev an-at : ℕ → In 7 an-kinds.ps
-an-at t = and 7 an-kinds.ps (is 7 an-kinds.ps μ-an t) an.Pre
+abbrev an-at : ℕ → In 8 an-kinds.ps
+an-at t = and 8 an-kinds.ps (is 8 an-kinds.ps μ-an t) an.Pre
 
-abbrev an-below : ℕ → In 7 an-kinds.ps
-an-below t = and 7 an-kinds.ps (falls 7 an-kinds.ps _<_ μ-an t) an.Pre
+abbrev an-below : ℕ → In 8 an-kinds.ps
+an-below t = and 8 an-kinds.ps (falls 8 an-kinds.ps _<_ μ-an t) an.Pre
 
-abbrev app-at : ℕ → In 7 app-kinds.ps
-app-at t = and 7 app-kinds.ps (is 7 app-kinds.ps μ-app t) app.Pre
+abbrev app-at : ℕ → In 8 app-kinds.ps
+app-at t = and 8 app-kinds.ps (is 8 app-kinds.ps μ-app t) app.Pre
 
-abbrev app-below : ℕ → In 7 app-kinds.ps
-app-below t = and 7 app-kinds.ps (falls 7 app-kinds.ps _<_ μ-app t) app.Pre
+abbrev app-below : ℕ → In 8 app-kinds.ps
+app-below t = and 8 app-kinds.ps (falls 8 app-kinds.ps _<_ μ-app t) app.Pre
 
-abbrev ar-at : ℕ → In 7 ar-kinds.ps
-ar-at t = and 7 ar-kinds.ps (is 7 ar-kinds.ps μ-ar t) ar.Pre
+abbrev ar-at : ℕ → In 8 ar-kinds.ps
+ar-at t = and 8 ar-kinds.ps (is 8 ar-kinds.ps μ-ar t) ar.Pre
 
-abbrev ar-below : ℕ → In 7 ar-kinds.ps
-ar-below t = and 7 ar-kinds.ps (falls 7 ar-kinds.ps _<_ μ-ar t) ar.Pre
+abbrev ar-below : ℕ → In 8 ar-kinds.ps
+ar-below t = and 8 ar-kinds.ps (falls 8 ar-kinds.ps _<_ μ-ar t) ar.Pre
 
-abbrev arm-at : ℕ → In 7 arm-kinds.ps
-arm-at t = and 7 arm-kinds.ps (is 7 arm-kinds.ps μ-arm t) arm.Pre
+abbrev arm-at : ℕ → In 8 arm-kinds.ps
+arm-at t = and 8 arm-kinds.ps (is 8 arm-kinds.ps μ-arm t) arm.Pre
 
-abbrev arm-below : ℕ → In 7 arm-kinds.ps
-arm-below t = and 7 arm-kinds.ps (falls 7 arm-kinds.ps _<_ μ-arm t) arm.Pre
+abbrev arm-below : ℕ → In 8 arm-kinds.ps
+arm-below t = and 8 arm-kinds.ps (falls 8 arm-kinds.ps _<_ μ-arm t) arm.Pre
 
-abbrev br-at : ℕ → In 7 br-kinds.ps
-br-at t = and 7 br-kinds.ps (is 7 br-kinds.ps μ-br t) br.Pre
+abbrev br-at : ℕ → In 8 br-kinds.ps
+br-at t = and 8 br-kinds.ps (is 8 br-kinds.ps μ-br t) br.Pre
 
-abbrev br-below : ℕ → In 7 br-kinds.ps
-br-below t = and 7 br-kinds.ps (falls 7 br-kinds.ps _<_ μ-br t) br.Pre
+abbrev br-below : ℕ → In 8 br-kinds.ps
+br-below t = and 8 br-kinds.ps (falls 8 br-kinds.ps _<_ μ-br t) br.Pre
 
-abbrev ca-at : ℕ → In 7 ca-kinds.ps
-ca-at t = and 7 ca-kinds.ps (is 7 ca-kinds.ps μ-ca t) ca.Pre
+abbrev ca-at : ℕ → In 8 ca-kinds.ps
+ca-at t = and 8 ca-kinds.ps (is 8 ca-kinds.ps μ-ca t) ca.Pre
 
-abbrev ca-below : ℕ → In 7 ca-kinds.ps
-ca-below t = and 7 ca-kinds.ps (falls 7 ca-kinds.ps _<_ μ-ca t) ca.Pre
+abbrev ca-below : ℕ → In 8 ca-kinds.ps
+ca-below t = and 8 ca-kinds.ps (falls 8 ca-kinds.ps _<_ μ-ca t) ca.Pre
 
-abbrev cb-at : ℕ → In 7 cb-kinds.ps
-cb-at t = and 7 cb-kinds.ps (is 7 cb-kinds.ps μ-cb t) cb.Pre
+abbrev cb-at : ℕ → In 8 cb-kinds.ps
+cb-at t = and 8 cb-kinds.ps (is 8 cb-kinds.ps μ-cb t) cb.Pre
 
-abbrev cb-below : ℕ → In 7 cb-kinds.ps
-cb-below t = and 7 cb-kinds.ps (falls 7 cb-kinds.ps _<_ μ-cb t) cb.Pre
+abbrev cb-below : ℕ → In 8 cb-kinds.ps
+cb-below t = and 8 cb-kinds.ps (falls 8 cb-kinds.ps _<_ μ-cb t) cb.Pre
 
-abbrev cd-at : ℕ → In 7 cd-kinds.ps
-cd-at t = and 7 cd-kinds.ps (is 7 cd-kinds.ps μ-cd t) cd.Pre
+abbrev cd-at : ℕ → In 8 cd-kinds.ps
+cd-at t = and 8 cd-kinds.ps (is 8 cd-kinds.ps μ-cd t) cd.Pre
 
-abbrev cd-below : ℕ → In 7 cd-kinds.ps
-cd-below t = and 7 cd-kinds.ps (falls 7 cd-kinds.ps _<_ μ-cd t) cd.Pre
+abbrev cd-below : ℕ → In 8 cd-kinds.ps
+cd-below t = and 8 cd-kinds.ps (falls 8 cd-kinds.ps _<_ μ-cd t) cd.Pre
 
-abbrev da-at : ℕ → In 7 da-kinds.ps
-da-at t = and 7 da-kinds.ps (is 7 da-kinds.ps μ-da t) da.Pre
+abbrev da-at : ℕ → In 8 da-kinds.ps
+da-at t = and 8 da-kinds.ps (is 8 da-kinds.ps μ-da t) da.Pre
 
-abbrev da-below : ℕ → In 7 da-kinds.ps
-da-below t = and 7 da-kinds.ps (falls 7 da-kinds.ps _<_ μ-da t) da.Pre
+abbrev da-below : ℕ → In 8 da-kinds.ps
+da-below t = and 8 da-kinds.ps (falls 8 da-kinds.ps _<_ μ-da t) da.Pre
 
-abbrev dec-at : ℕ → In 7 dec-kinds.ps
-dec-at t = and 7 dec-kinds.ps (is 7 dec-kinds.ps μ-dec t) dec.Pre
+abbrev dec-at : ℕ → In 8 dec-kinds.ps
+dec-at t = and 8 dec-kinds.ps (is 8 dec-kinds.ps μ-dec t) dec.Pre
 
-abbrev dec-below : ℕ → In 7 dec-kinds.ps
-dec-below t = and 7 dec-kinds.ps (falls 7 dec-kinds.ps _<_ μ-dec t) dec.Pre
+abbrev dec-below : ℕ → In 8 dec-kinds.ps
+dec-below t = and 8 dec-kinds.ps (falls 8 dec-kinds.ps _<_ μ-dec t) dec.Pre
 
-abbrev dp-at : ℕ → In 7 dp-kinds.ps
-dp-at t = and 7 dp-kinds.ps (is 7 dp-kinds.ps μ-dp t) dp.Pre
+abbrev dp-at : ℕ → In 8 dp-kinds.ps
+dp-at t = and 8 dp-kinds.ps (is 8 dp-kinds.ps μ-dp t) dp.Pre
 
-abbrev dp-below : ℕ → In 7 dp-kinds.ps
-dp-below t = and 7 dp-kinds.ps (falls 7 dp-kinds.ps _<_ μ-dp t) dp.Pre
+abbrev dp-below : ℕ → In 8 dp-kinds.ps
+dp-below t = and 8 dp-kinds.ps (falls 8 dp-kinds.ps _<_ μ-dp t) dp.Pre
 
-abbrev ds-at : ℕ → In 7 ds-kinds.ps
-ds-at t = and 7 ds-kinds.ps (is 7 ds-kinds.ps μ-ds t) ds.Pre
+abbrev ds-at : ℕ → In 8 ds-kinds.ps
+ds-at t = and 8 ds-kinds.ps (is 8 ds-kinds.ps μ-ds t) ds.Pre
 
-abbrev ds-below : ℕ → In 7 ds-kinds.ps
-ds-below t = and 7 ds-kinds.ps (falls 7 ds-kinds.ps _<_ μ-ds t) ds.Pre
+abbrev ds-below : ℕ → In 8 ds-kinds.ps
+ds-below t = and 8 ds-kinds.ps (falls 8 ds-kinds.ps _<_ μ-ds t) ds.Pre
 
-abbrev du-at : ℕ → In 7 du-kinds.ps
-du-at t = and 7 du-kinds.ps (is 7 du-kinds.ps μ-du t) du.Pre
+abbrev du-at : ℕ → In 8 du-kinds.ps
+du-at t = and 8 du-kinds.ps (is 8 du-kinds.ps μ-du t) du.Pre
 
-abbrev du-below : ℕ → In 7 du-kinds.ps
-du-below t = and 7 du-kinds.ps (falls 7 du-kinds.ps _<_ μ-du t) du.Pre
+abbrev du-below : ℕ → In 8 du-kinds.ps
+du-below t = and 8 du-kinds.ps (falls 8 du-kinds.ps _<_ μ-du t) du.Pre
 
-abbrev exp-at : ℕ → In 7 exp-kinds.ps
-exp-at t = and 7 exp-kinds.ps (is 7 exp-kinds.ps μ-exp t) exp.Pre
+abbrev exp-at : ℕ → In 8 exp-kinds.ps
+exp-at t = and 8 exp-kinds.ps (is 8 exp-kinds.ps μ-exp t) exp.Pre
 
-abbrev exp-below : ℕ → In 7 exp-kinds.ps
-exp-below t = and 7 exp-kinds.ps (falls 7 exp-kinds.ps _<_ μ-exp t) exp.Pre
+abbrev exp-below : ℕ → In 8 exp-kinds.ps
+exp-below t = and 8 exp-kinds.ps (falls 8 exp-kinds.ps _<_ μ-exp t) exp.Pre
 
-abbrev fa-at : ℕ → In 7 fa-kinds.ps
-fa-at t = and 7 fa-kinds.ps (is 7 fa-kinds.ps μ-fa t) fa.Pre
+abbrev fa-at : ℕ → In 8 fa-kinds.ps
+fa-at t = and 8 fa-kinds.ps (is 8 fa-kinds.ps μ-fa t) fa.Pre
 
-abbrev fa-below : ℕ → In 7 fa-kinds.ps
-fa-below t = and 7 fa-kinds.ps (falls 7 fa-kinds.ps _<_ μ-fa t) fa.Pre
+abbrev fa-below : ℕ → In 8 fa-kinds.ps
+fa-below t = and 8 fa-kinds.ps (falls 8 fa-kinds.ps _<_ μ-fa t) fa.Pre
 
-abbrev fb-at : ℕ → In 7 fb-kinds.ps
-fb-at t = and 7 fb-kinds.ps (is 7 fb-kinds.ps μ-fb t) fb.Pre
+abbrev fb-at : ℕ → In 8 fb-kinds.ps
+fb-at t = and 8 fb-kinds.ps (is 8 fb-kinds.ps μ-fb t) fb.Pre
 
-abbrev fb-below : ℕ → In 7 fb-kinds.ps
-fb-below t = and 7 fb-kinds.ps (falls 7 fb-kinds.ps _<_ μ-fb t) fb.Pre
+abbrev fb-below : ℕ → In 8 fb-kinds.ps
+fb-below t = and 8 fb-kinds.ps (falls 8 fb-kinds.ps _<_ μ-fb t) fb.Pre
 
-abbrev fc-at : ℕ → In 7 fc-kinds.ps
-fc-at t = and 7 fc-kinds.ps (is 7 fc-kinds.ps μ-fc t) fc.Pre
+abbrev fc-at : ℕ → In 8 fc-kinds.ps
+fc-at t = and 8 fc-kinds.ps (is 8 fc-kinds.ps μ-fc t) fc.Pre
 
-abbrev fc-below : ℕ → In 7 fc-kinds.ps
-fc-below t = and 7 fc-kinds.ps (falls 7 fc-kinds.ps _<_ μ-fc t) fc.Pre
+abbrev fc-below : ℕ → In 8 fc-kinds.ps
+fc-below t = and 8 fc-kinds.ps (falls 8 fc-kinds.ps _<_ μ-fc t) fc.Pre
 
-abbrev fd-at : ℕ → In 7 fd-kinds.ps
-fd-at t = and 7 fd-kinds.ps (is 7 fd-kinds.ps μ-fd t) fd.Pre
+abbrev fd-at : ℕ → In 8 fd-kinds.ps
+fd-at t = and 8 fd-kinds.ps (is 8 fd-kinds.ps μ-fd t) fd.Pre
 
-abbrev fd-below : ℕ → In 7 fd-kinds.ps
-fd-below t = and 7 fd-kinds.ps (falls 7 fd-kinds.ps _<_ μ-fd t) fd.Pre
+abbrev fd-below : ℕ → In 8 fd-kinds.ps
+fd-below t = and 8 fd-kinds.ps (falls 8 fd-kinds.ps _<_ μ-fd t) fd.Pre
 
-abbrev fe-at : ℕ → In 7 fe-kinds.ps
-fe-at t = and 7 fe-kinds.ps (is 7 fe-kinds.ps μ-fe t) fe.Pre
+abbrev fe-at : ℕ → In 8 fe-kinds.ps
+fe-at t = and 8 fe-kinds.ps (is 8 fe-kinds.ps μ-fe t) fe.Pre
 
-abbrev fe-below : ℕ → In 7 fe-kinds.ps
-fe-below t = and 7 fe-kinds.ps (falls 7 fe-kinds.ps _<_ μ-fe t) fe.Pre
+abbrev fe-below : ℕ → In 8 fe-kinds.ps
+fe-below t = and 8 fe-kinds.ps (falls 8 fe-kinds.ps _<_ μ-fe t) fe.Pre
 
-abbrev fs-at : ℕ → In 7 fs-kinds.ps
-fs-at t = and 7 fs-kinds.ps (is 7 fs-kinds.ps μ-fs t) fs.Pre
+abbrev fs-at : ℕ → In 8 fs-kinds.ps
+fs-at t = and 8 fs-kinds.ps (is 8 fs-kinds.ps μ-fs t) fs.Pre
 
-abbrev fs-below : ℕ → In 7 fs-kinds.ps
-fs-below t = and 7 fs-kinds.ps (falls 7 fs-kinds.ps _<_ μ-fs t) fs.Pre
+abbrev fs-below : ℕ → In 8 fs-kinds.ps
+fs-below t = and 8 fs-kinds.ps (falls 8 fs-kinds.ps _<_ μ-fs t) fs.Pre
 
-abbrev fx-at : ℕ → In 7 fx-kinds.ps
-fx-at t = and 7 fx-kinds.ps (is 7 fx-kinds.ps μ-fx t) fx.Pre
+abbrev fx-at : ℕ → In 8 fx-kinds.ps
+fx-at t = and 8 fx-kinds.ps (is 8 fx-kinds.ps μ-fx t) fx.Pre
 
-abbrev fx-below : ℕ → In 7 fx-kinds.ps
-fx-below t = and 7 fx-kinds.ps (falls 7 fx-kinds.ps _<_ μ-fx t) fx.Pre
+abbrev fx-below : ℕ → In 8 fx-kinds.ps
+fx-below t = and 8 fx-kinds.ps (falls 8 fx-kinds.ps _<_ μ-fx t) fx.Pre
 
-abbrev gd-at : ℕ → In 7 gd-kinds.ps
-gd-at t = and 7 gd-kinds.ps (is 7 gd-kinds.ps μ-gd t) gd.Pre
+abbrev gd-at : ℕ → In 8 gd-kinds.ps
+gd-at t = and 8 gd-kinds.ps (is 8 gd-kinds.ps μ-gd t) gd.Pre
 
-abbrev gd-below : ℕ → In 7 gd-kinds.ps
-gd-below t = and 7 gd-kinds.ps (falls 7 gd-kinds.ps _<_ μ-gd t) gd.Pre
+abbrev gd-below : ℕ → In 8 gd-kinds.ps
+gd-below t = and 8 gd-kinds.ps (falls 8 gd-kinds.ps _<_ μ-gd t) gd.Pre
 
-abbrev ha-at : ℕ → In 7 ha-kinds.ps
-ha-at t = and 7 ha-kinds.ps (is 7 ha-kinds.ps μ-ha t) ha.Pre
+abbrev ha-at : ℕ → In 8 ha-kinds.ps
+ha-at t = and 8 ha-kinds.ps (is 8 ha-kinds.ps μ-ha t) ha.Pre
 
-abbrev ha-below : ℕ → In 7 ha-kinds.ps
-ha-below t = and 7 ha-kinds.ps (falls 7 ha-kinds.ps _<_ μ-ha t) ha.Pre
+abbrev ha-below : ℕ → In 8 ha-kinds.ps
+ha-below t = and 8 ha-kinds.ps (falls 8 ha-kinds.ps _<_ μ-ha t) ha.Pre
 
-abbrev ic-at : ℕ → In 7 ic-kinds.ps
-ic-at t = and 7 ic-kinds.ps (is 7 ic-kinds.ps μ-ic t) ic.Pre
+abbrev ic-at : ℕ → In 8 ic-kinds.ps
+ic-at t = and 8 ic-kinds.ps (is 8 ic-kinds.ps μ-ic t) ic.Pre
 
-abbrev ic-below : ℕ → In 7 ic-kinds.ps
-ic-below t = and 7 ic-kinds.ps (falls 7 ic-kinds.ps _<_ μ-ic t) ic.Pre
+abbrev ic-below : ℕ → In 8 ic-kinds.ps
+ic-below t = and 8 ic-kinds.ps (falls 8 ic-kinds.ps _<_ μ-ic t) ic.Pre
 
-abbrev ie-at : ℕ → In 7 ie-kinds.ps
-ie-at t = and 7 ie-kinds.ps (is 7 ie-kinds.ps μ-ie t) ie.Pre
+abbrev ie-at : ℕ → In 8 ie-kinds.ps
+ie-at t = and 8 ie-kinds.ps (is 8 ie-kinds.ps μ-ie t) ie.Pre
 
-abbrev ie-below : ℕ → In 7 ie-kinds.ps
-ie-below t = and 7 ie-kinds.ps (falls 7 ie-kinds.ps _<_ μ-ie t) ie.Pre
+abbrev ie-below : ℕ → In 8 ie-kinds.ps
+ie-below t = and 8 ie-kinds.ps (falls 8 ie-kinds.ps _<_ μ-ie t) ie.Pre
 
-abbrev it-at : ℕ → In 7 it-kinds.ps
-it-at t = and 7 it-kinds.ps (is 7 it-kinds.ps μ-it t) it.Pre
+abbrev it-at : ℕ → In 8 it-kinds.ps
+it-at t = and 8 it-kinds.ps (is 8 it-kinds.ps μ-it t) it.Pre
 
-abbrev it-below : ℕ → In 7 it-kinds.ps
-it-below t = and 7 it-kinds.ps (falls 7 it-kinds.ps _<_ μ-it t) it.Pre
+abbrev it-below : ℕ → In 8 it-kinds.ps
+it-below t = and 8 it-kinds.ps (falls 8 it-kinds.ps _<_ μ-it t) it.Pre
 
-abbrev ld-at : ℕ → In 7 ld-kinds.ps
-ld-at t = and 7 ld-kinds.ps (is 7 ld-kinds.ps μ-ld t) ld.Pre
+abbrev ld-at : ℕ → In 8 ld-kinds.ps
+ld-at t = and 8 ld-kinds.ps (is 8 ld-kinds.ps μ-ld t) ld.Pre
 
-abbrev ld-below : ℕ → In 7 ld-kinds.ps
-ld-below t = and 7 ld-kinds.ps (falls 7 ld-kinds.ps _<_ μ-ld t) ld.Pre
+abbrev ld-below : ℕ → In 8 ld-kinds.ps
+ld-below t = and 8 ld-kinds.ps (falls 8 ld-kinds.ps _<_ μ-ld t) ld.Pre
 
-abbrev lo-at : ℕ → In 7 lo-kinds.ps
-lo-at t = and 7 lo-kinds.ps (is 7 lo-kinds.ps μ-lo t) lo.Pre
+abbrev lo-at : ℕ → In 8 lo-kinds.ps
+lo-at t = and 8 lo-kinds.ps (is 8 lo-kinds.ps μ-lo t) lo.Pre
 
-abbrev lo-below : ℕ → In 7 lo-kinds.ps
-lo-below t = and 7 lo-kinds.ps (falls 7 lo-kinds.ps _<_ μ-lo t) lo.Pre
+abbrev lo-below : ℕ → In 8 lo-kinds.ps
+lo-below t = and 8 lo-kinds.ps (falls 8 lo-kinds.ps _<_ μ-lo t) lo.Pre
 
-abbrev lx-at : ℕ → In 7 lx-kinds.ps
-lx-at t = and 7 lx-kinds.ps (is 7 lx-kinds.ps μ-lx t) lx.Pre
+abbrev lx-at : ℕ → In 8 lx-kinds.ps
+lx-at t = and 8 lx-kinds.ps (is 8 lx-kinds.ps μ-lx t) lx.Pre
 
-abbrev lx-below : ℕ → In 7 lx-kinds.ps
-lx-below t = and 7 lx-kinds.ps (falls 7 lx-kinds.ps _<_ μ-lx t) lx.Pre
+abbrev lx-below : ℕ → In 8 lx-kinds.ps
+lx-below t = and 8 lx-kinds.ps (falls 8 lx-kinds.ps _<_ μ-lx t) lx.Pre
 
-abbrev ma-at : ℕ → In 7 ma-kinds.ps
-ma-at t = and 7 ma-kinds.ps (is 7 ma-kinds.ps μ-ma t) ma.Pre
+abbrev ma-at : ℕ → In 8 ma-kinds.ps
+ma-at t = and 8 ma-kinds.ps (is 8 ma-kinds.ps μ-ma t) ma.Pre
 
-abbrev ma-below : ℕ → In 7 ma-kinds.ps
-ma-below t = and 7 ma-kinds.ps (falls 7 ma-kinds.ps _<_ μ-ma t) ma.Pre
+abbrev ma-below : ℕ → In 8 ma-kinds.ps
+ma-below t = and 8 ma-kinds.ps (falls 8 ma-kinds.ps _<_ μ-ma t) ma.Pre
 
-abbrev mo-at : ℕ → In 7 mo-kinds.ps
-mo-at t = and 7 mo-kinds.ps (is 7 mo-kinds.ps μ-mo t) mo.Pre
+abbrev mo-at : ℕ → In 8 mo-kinds.ps
+mo-at t = and 8 mo-kinds.ps (is 8 mo-kinds.ps μ-mo t) mo.Pre
 
-abbrev mo-below : ℕ → In 7 mo-kinds.ps
-mo-below t = and 7 mo-kinds.ps (falls 7 mo-kinds.ps _<_ μ-mo t) mo.Pre
+abbrev mo-below : ℕ → In 8 mo-kinds.ps
+mo-below t = and 8 mo-kinds.ps (falls 8 mo-kinds.ps _<_ μ-mo t) mo.Pre
 
-abbrev nm-at : ℕ → In 7 nm-kinds.ps
-nm-at t = and 7 nm-kinds.ps (is 7 nm-kinds.ps μ-nm t) nm.Pre
+abbrev nm-at : ℕ → In 8 nm-kinds.ps
+nm-at t = and 8 nm-kinds.ps (is 8 nm-kinds.ps μ-nm t) nm.Pre
 
-abbrev nm-below : ℕ → In 7 nm-kinds.ps
-nm-below t = and 7 nm-kinds.ps (falls 7 nm-kinds.ps _<_ μ-nm t) nm.Pre
+abbrev nm-below : ℕ → In 8 nm-kinds.ps
+nm-below t = and 8 nm-kinds.ps (falls 8 nm-kinds.ps _<_ μ-nm t) nm.Pre
 
-abbrev nu-at : ℕ → In 7 nu-kinds.ps
-nu-at t = and 7 nu-kinds.ps (is 7 nu-kinds.ps μ-nu t) nu.Pre
+abbrev nu-at : ℕ → In 8 nu-kinds.ps
+nu-at t = and 8 nu-kinds.ps (is 8 nu-kinds.ps μ-nu t) nu.Pre
 
-abbrev nu-below : ℕ → In 7 nu-kinds.ps
-nu-below t = and 7 nu-kinds.ps (falls 7 nu-kinds.ps _<_ μ-nu t) nu.Pre
+abbrev nu-below : ℕ → In 8 nu-kinds.ps
+nu-below t = and 8 nu-kinds.ps (falls 8 nu-kinds.ps _<_ μ-nu t) nu.Pre
 
-abbrev one-at : ℕ → In 7 one-kinds.ps
-one-at t = and 7 one-kinds.ps (is 7 one-kinds.ps μ-one t) one.Pre
+abbrev one-at : ℕ → In 8 one-kinds.ps
+one-at t = and 8 one-kinds.ps (is 8 one-kinds.ps μ-one t) one.Pre
 
-abbrev one-below : ℕ → In 7 one-kinds.ps
-one-below t = and 7 one-kinds.ps (falls 7 one-kinds.ps _<_ μ-one t) one.Pre
+abbrev one-below : ℕ → In 8 one-kinds.ps
+one-below t = and 8 one-kinds.ps (falls 8 one-kinds.ps _<_ μ-one t) one.Pre
 
-abbrev pa-at : ℕ → In 7 pa-kinds.ps
-pa-at t = and 7 pa-kinds.ps (is 7 pa-kinds.ps μ-pa t) pa.Pre
+abbrev pa-at : ℕ → In 8 pa-kinds.ps
+pa-at t = and 8 pa-kinds.ps (is 8 pa-kinds.ps μ-pa t) pa.Pre
 
-abbrev pa-below : ℕ → In 7 pa-kinds.ps
-pa-below t = and 7 pa-kinds.ps (falls 7 pa-kinds.ps _<_ μ-pa t) pa.Pre
+abbrev pa-below : ℕ → In 8 pa-kinds.ps
+pa-below t = and 8 pa-kinds.ps (falls 8 pa-kinds.ps _<_ μ-pa t) pa.Pre
 
-abbrev pr-at : ℕ → In 7 pr-kinds.ps
-pr-at t = and 7 pr-kinds.ps (is 7 pr-kinds.ps μ-pr t) pr.Pre
+abbrev pr-at : ℕ → In 8 pr-kinds.ps
+pr-at t = and 8 pr-kinds.ps (is 8 pr-kinds.ps μ-pr t) pr.Pre
 
-abbrev pr-below : ℕ → In 7 pr-kinds.ps
-pr-below t = and 7 pr-kinds.ps (falls 7 pr-kinds.ps _<_ μ-pr t) pr.Pre
+abbrev pr-below : ℕ → In 8 pr-kinds.ps
+pr-below t = and 8 pr-kinds.ps (falls 8 pr-kinds.ps _<_ μ-pr t) pr.Pre
 
-abbrev qb-at : ℕ → In 7 qb-kinds.ps
-qb-at t = and 7 qb-kinds.ps (is 7 qb-kinds.ps μ-qb t) qb.Pre
+abbrev qb-at : ℕ → In 8 qb-kinds.ps
+qb-at t = and 8 qb-kinds.ps (is 8 qb-kinds.ps μ-qb t) qb.Pre
 
-abbrev qb-below : ℕ → In 7 qb-kinds.ps
-qb-below t = and 7 qb-kinds.ps (falls 7 qb-kinds.ps _<_ μ-qb t) qb.Pre
+abbrev qb-below : ℕ → In 8 qb-kinds.ps
+qb-below t = and 8 qb-kinds.ps (falls 8 qb-kinds.ps _<_ μ-qb t) qb.Pre
 
-abbrev qs-at : ℕ → In 7 qs-kinds.ps
-qs-at t = and 7 qs-kinds.ps (is 7 qs-kinds.ps μ-qs t) qs.Pre
+abbrev qs-at : ℕ → In 8 qs-kinds.ps
+qs-at t = and 8 qs-kinds.ps (is 8 qs-kinds.ps μ-qs t) qs.Pre
 
-abbrev qs-below : ℕ → In 7 qs-kinds.ps
-qs-below t = and 7 qs-kinds.ps (falls 7 qs-kinds.ps _<_ μ-qs t) qs.Pre
+abbrev qs-below : ℕ → In 8 qs-kinds.ps
+qs-below t = and 8 qs-kinds.ps (falls 8 qs-kinds.ps _<_ μ-qs t) qs.Pre
 
-abbrev rc-at : ℕ → In 7 rc-kinds.ps
-rc-at t = and 7 rc-kinds.ps (is 7 rc-kinds.ps μ-rc t) rc.Pre
+abbrev rc-at : ℕ → In 8 rc-kinds.ps
+rc-at t = and 8 rc-kinds.ps (is 8 rc-kinds.ps μ-rc t) rc.Pre
 
-abbrev rc-below : ℕ → In 7 rc-kinds.ps
-rc-below t = and 7 rc-kinds.ps (falls 7 rc-kinds.ps _<_ μ-rc t) rc.Pre
+abbrev rc-below : ℕ → In 8 rc-kinds.ps
+rc-below t = and 8 rc-kinds.ps (falls 8 rc-kinds.ps _<_ μ-rc t) rc.Pre
 
-abbrev ro-at : ℕ → In 7 ro-kinds.ps
-ro-at t = and 7 ro-kinds.ps (is 7 ro-kinds.ps μ-ro t) ro.Pre
+abbrev ro-at : ℕ → In 8 ro-kinds.ps
+ro-at t = and 8 ro-kinds.ps (is 8 ro-kinds.ps μ-ro t) ro.Pre
 
-abbrev ro-below : ℕ → In 7 ro-kinds.ps
-ro-below t = and 7 ro-kinds.ps (falls 7 ro-kinds.ps _<_ μ-ro t) ro.Pre
+abbrev ro-below : ℕ → In 8 ro-kinds.ps
+ro-below t = and 8 ro-kinds.ps (falls 8 ro-kinds.ps _<_ μ-ro t) ro.Pre
 
-abbrev rs-at : ℕ → In 7 rs-kinds.ps
-rs-at t = and 7 rs-kinds.ps (is 7 rs-kinds.ps μ-rs t) rs.Pre
+abbrev rs-at : ℕ → In 8 rs-kinds.ps
+rs-at t = and 8 rs-kinds.ps (is 8 rs-kinds.ps μ-rs t) rs.Pre
 
-abbrev rs-below : ℕ → In 7 rs-kinds.ps
-rs-below t = and 7 rs-kinds.ps (falls 7 rs-kinds.ps _<_ μ-rs t) rs.Pre
+abbrev rs-below : ℕ → In 8 rs-kinds.ps
+rs-below t = and 8 rs-kinds.ps (falls 8 rs-kinds.ps _<_ μ-rs t) rs.Pre
 
-abbrev sa-at : ℕ → In 7 sa-kinds.ps
-sa-at t = and 7 sa-kinds.ps (is 7 sa-kinds.ps μ-sa t) sa.Pre
+abbrev sa-at : ℕ → In 8 sa-kinds.ps
+sa-at t = and 8 sa-kinds.ps (is 8 sa-kinds.ps μ-sa t) sa.Pre
 
-abbrev sa-below : ℕ → In 7 sa-kinds.ps
-sa-below t = and 7 sa-kinds.ps (falls 7 sa-kinds.ps _<_ μ-sa t) sa.Pre
+abbrev sa-below : ℕ → In 8 sa-kinds.ps
+sa-below t = and 8 sa-kinds.ps (falls 8 sa-kinds.ps _<_ μ-sa t) sa.Pre
 
-abbrev sb-at : ℕ → In 7 sb-kinds.ps
-sb-at t = and 7 sb-kinds.ps (is 7 sb-kinds.ps μ-sb t) sb.Pre
+abbrev sb-at : ℕ → In 8 sb-kinds.ps
+sb-at t = and 8 sb-kinds.ps (is 8 sb-kinds.ps μ-sb t) sb.Pre
 
-abbrev sb-below : ℕ → In 7 sb-kinds.ps
-sb-below t = and 7 sb-kinds.ps (falls 7 sb-kinds.ps _<_ μ-sb t) sb.Pre
+abbrev sb-below : ℕ → In 8 sb-kinds.ps
+sb-below t = and 8 sb-kinds.ps (falls 8 sb-kinds.ps _<_ μ-sb t) sb.Pre
 
-abbrev sd-at : ℕ → In 7 sd-kinds.ps
-sd-at t = and 7 sd-kinds.ps (is 7 sd-kinds.ps μ-sd t) sd.Pre
+abbrev sd-at : ℕ → In 8 sd-kinds.ps
+sd-at t = and 8 sd-kinds.ps (is 8 sd-kinds.ps μ-sd t) sd.Pre
 
-abbrev sd-below : ℕ → In 7 sd-kinds.ps
-sd-below t = and 7 sd-kinds.ps (falls 7 sd-kinds.ps _<_ μ-sd t) sd.Pre
+abbrev sd-below : ℕ → In 8 sd-kinds.ps
+sd-below t = and 8 sd-kinds.ps (falls 8 sd-kinds.ps _<_ μ-sd t) sd.Pre
 
-abbrev seq-at : ℕ → In 7 seq-kinds.ps
-seq-at t = and 7 seq-kinds.ps (is 7 seq-kinds.ps μ-seq t) seq.Pre
+abbrev seq-at : ℕ → In 8 seq-kinds.ps
+seq-at t = and 8 seq-kinds.ps (is 8 seq-kinds.ps μ-seq t) seq.Pre
 
-abbrev seq-below : ℕ → In 7 seq-kinds.ps
-seq-below t = and 7 seq-kinds.ps (falls 7 seq-kinds.ps _<_ μ-seq t) seq.Pre
+abbrev seq-below : ℕ → In 8 seq-kinds.ps
+seq-below t = and 8 seq-kinds.ps (falls 8 seq-kinds.ps _<_ μ-seq t) seq.Pre
 
-abbrev sg-at : ℕ → In 7 sg-kinds.ps
-sg-at t = and 7 sg-kinds.ps (is 7 sg-kinds.ps μ-sg t) sg.Pre
+abbrev sg-at : ℕ → In 8 sg-kinds.ps
+sg-at t = and 8 sg-kinds.ps (is 8 sg-kinds.ps μ-sg t) sg.Pre
 
-abbrev sg-below : ℕ → In 7 sg-kinds.ps
-sg-below t = and 7 sg-kinds.ps (falls 7 sg-kinds.ps _<_ μ-sg t) sg.Pre
+abbrev sg-below : ℕ → In 8 sg-kinds.ps
+sg-below t = and 8 sg-kinds.ps (falls 8 sg-kinds.ps _<_ μ-sg t) sg.Pre
 
-abbrev sig-at : ℕ → In 7 sig-kinds.ps
-sig-at t = and 7 sig-kinds.ps (is 7 sig-kinds.ps μ-sig t) sig.Pre
+abbrev sig-at : ℕ → In 8 sig-kinds.ps
+sig-at t = and 8 sig-kinds.ps (is 8 sig-kinds.ps μ-sig t) sig.Pre
 
-abbrev sig-below : ℕ → In 7 sig-kinds.ps
-sig-below t = and 7 sig-kinds.ps (falls 7 sig-kinds.ps _<_ μ-sig t) sig.Pre
+abbrev sig-below : ℕ → In 8 sig-kinds.ps
+sig-below t = and 8 sig-kinds.ps (falls 8 sig-kinds.ps _<_ μ-sig t) sig.Pre
 
-abbrev sl-at : ℕ → In 7 sl-kinds.ps
-sl-at t = and 7 sl-kinds.ps (is 7 sl-kinds.ps μ-sl t) sl.Pre
+abbrev sl-at : ℕ → In 8 sl-kinds.ps
+sl-at t = and 8 sl-kinds.ps (is 8 sl-kinds.ps μ-sl t) sl.Pre
 
-abbrev sl-below : ℕ → In 7 sl-kinds.ps
-sl-below t = and 7 sl-kinds.ps (falls 7 sl-kinds.ps _<_ μ-sl t) sl.Pre
+abbrev sl-below : ℕ → In 8 sl-kinds.ps
+sl-below t = and 8 sl-kinds.ps (falls 8 sl-kinds.ps _<_ μ-sl t) sl.Pre
 
-abbrev sm-at : ℕ → In 7 sm-kinds.ps
-sm-at t = and 7 sm-kinds.ps (is 7 sm-kinds.ps μ-sm t) sm.Pre
+abbrev sm-at : ℕ → In 8 sm-kinds.ps
+sm-at t = and 8 sm-kinds.ps (is 8 sm-kinds.ps μ-sm t) sm.Pre
 
-abbrev sm-below : ℕ → In 7 sm-kinds.ps
-sm-below t = and 7 sm-kinds.ps (falls 7 sm-kinds.ps _<_ μ-sm t) sm.Pre
+abbrev sm-below : ℕ → In 8 sm-kinds.ps
+sm-below t = and 8 sm-kinds.ps (falls 8 sm-kinds.ps _<_ μ-sm t) sm.Pre
 
-abbrev sp-at : ℕ → In 7 sp-kinds.ps
-sp-at t = and 7 sp-kinds.ps (is 7 sp-kinds.ps μ-sp t) sp.Pre
+abbrev sp-at : ℕ → In 8 sp-kinds.ps
+sp-at t = and 8 sp-kinds.ps (is 8 sp-kinds.ps μ-sp t) sp.Pre
 
-abbrev sp-below : ℕ → In 7 sp-kinds.ps
-sp-below t = and 7 sp-kinds.ps (falls 7 sp-kinds.ps _<_ μ-sp t) sp.Pre
+abbrev sp-below : ℕ → In 8 sp-kinds.ps
+sp-below t = and 8 sp-kinds.ps (falls 8 sp-kinds.ps _<_ μ-sp t) sp.Pre
 
-abbrev sq-at : ℕ → In 7 sq-kinds.ps
-sq-at t = and 7 sq-kinds.ps (is 7 sq-kinds.ps μ-sq t) sq.Pre
+abbrev sq-at : ℕ → In 8 sq-kinds.ps
+sq-at t = and 8 sq-kinds.ps (is 8 sq-kinds.ps μ-sq t) sq.Pre
 
-abbrev sq-below : ℕ → In 7 sq-kinds.ps
-sq-below t = and 7 sq-kinds.ps (falls 7 sq-kinds.ps _<_ μ-sq t) sq.Pre
+abbrev sq-below : ℕ → In 8 sq-kinds.ps
+sq-below t = and 8 sq-kinds.ps (falls 8 sq-kinds.ps _<_ μ-sq t) sq.Pre
 
-abbrev ss-at : ℕ → In 7 ss-kinds.ps
-ss-at t = and 7 ss-kinds.ps (is 7 ss-kinds.ps μ-ss t) ss.Pre
+abbrev ss-at : ℕ → In 8 ss-kinds.ps
+ss-at t = and 8 ss-kinds.ps (is 8 ss-kinds.ps μ-ss t) ss.Pre
 
-abbrev ss-below : ℕ → In 7 ss-kinds.ps
-ss-below t = and 7 ss-kinds.ps (falls 7 ss-kinds.ps _<_ μ-ss t) ss.Pre
+abbrev ss-below : ℕ → In 8 ss-kinds.ps
+ss-below t = and 8 ss-kinds.ps (falls 8 ss-kinds.ps _<_ μ-ss t) ss.Pre
 
-abbrev str-at : ℕ → In 7 str-kinds.ps
-str-at t = and 7 str-kinds.ps (is 7 str-kinds.ps μ-str t) str.Pre
+abbrev str-at : ℕ → In 8 str-kinds.ps
+str-at t = and 8 str-kinds.ps (is 8 str-kinds.ps μ-str t) str.Pre
 
-abbrev str-below : ℕ → In 7 str-kinds.ps
-str-below t = and 7 str-kinds.ps (falls 7 str-kinds.ps _<_ μ-str t) str.Pre
+abbrev str-below : ℕ → In 8 str-kinds.ps
+str-below t = and 8 str-kinds.ps (falls 8 str-kinds.ps _<_ μ-str t) str.Pre
 
-abbrev ta-at : ℕ → In 7 ta-kinds.ps
-ta-at t = and 7 ta-kinds.ps (is 7 ta-kinds.ps μ-ta t) ta.Pre
+abbrev ta-at : ℕ → In 8 ta-kinds.ps
+ta-at t = and 8 ta-kinds.ps (is 8 ta-kinds.ps μ-ta t) ta.Pre
 
-abbrev ta-below : ℕ → In 7 ta-kinds.ps
-ta-below t = and 7 ta-kinds.ps (falls 7 ta-kinds.ps _<_ μ-ta t) ta.Pre
+abbrev ta-below : ℕ → In 8 ta-kinds.ps
+ta-below t = and 8 ta-kinds.ps (falls 8 ta-kinds.ps _<_ μ-ta t) ta.Pre
 
-abbrev ty-at : ℕ → In 7 ty-kinds.ps
-ty-at t = and 7 ty-kinds.ps (is 7 ty-kinds.ps μ-ty t) ty.Pre
+abbrev ty-at : ℕ → In 8 ty-kinds.ps
+ty-at t = and 8 ty-kinds.ps (is 8 ty-kinds.ps μ-ty t) ty.Pre
 
-abbrev ty-below : ℕ → In 7 ty-kinds.ps
-ty-below t = and 7 ty-kinds.ps (falls 7 ty-kinds.ps _<_ μ-ty t) ty.Pre
+abbrev ty-below : ℕ → In 8 ty-kinds.ps
+ty-below t = and 8 ty-kinds.ps (falls 8 ty-kinds.ps _<_ μ-ty t) ty.Pre
 
-abbrev vb-at : ℕ → In 7 vb-kinds.ps
-vb-at t = and 7 vb-kinds.ps (is 7 vb-kinds.ps μ-vb t) vb.Pre
+abbrev vb-at : ℕ → In 8 vb-kinds.ps
+vb-at t = and 8 vb-kinds.ps (is 8 vb-kinds.ps μ-vb t) vb.Pre
 
-abbrev vb-below : ℕ → In 7 vb-kinds.ps
-vb-below t = and 7 vb-kinds.ps (falls 7 vb-kinds.ps _<_ μ-vb t) vb.Pre
+abbrev vb-below : ℕ → In 8 vb-kinds.ps
+vb-below t = and 8 vb-kinds.ps (falls 8 vb-kinds.ps _<_ μ-vb t) vb.Pre
 
-abbrev vd-at : ℕ → In 7 vd-kinds.ps
-vd-at t = and 7 vd-kinds.ps (is 7 vd-kinds.ps μ-vd t) vd.Pre
+abbrev vd-at : ℕ → In 8 vd-kinds.ps
+vd-at t = and 8 vd-kinds.ps (is 8 vd-kinds.ps μ-vd t) vd.Pre
 
-abbrev vd-below : ℕ → In 7 vd-kinds.ps
-vd-below t = and 7 vd-kinds.ps (falls 7 vd-kinds.ps _<_ μ-vd t) vd.Pre
+abbrev vd-below : ℕ → In 8 vd-kinds.ps
+vd-below t = and 8 vd-kinds.ps (falls 8 vd-kinds.ps _<_ μ-vd t) vd.Pre
 
-abbrev ve-at : ℕ → In 7 ve-kinds.ps
-ve-at t = and 7 ve-kinds.ps (is 7 ve-kinds.ps μ-ve t) ve.Pre
+abbrev ve-at : ℕ → In 8 ve-kinds.ps
+ve-at t = and 8 ve-kinds.ps (is 8 ve-kinds.ps μ-ve t) ve.Pre
 
-abbrev ve-below : ℕ → In 7 ve-kinds.ps
-ve-below t = and 7 ve-kinds.ps (falls 7 ve-kinds.ps _<_ μ-ve t) ve.Pre
+abbrev ve-below : ℕ → In 8 ve-kinds.ps
+ve-below t = and 8 ve-kinds.ps (falls 8 ve-kinds.ps _<_ μ-ve t) ve.Pre
 
-abbrev wh-at : ℕ → In 7 wh-kinds.ps
-wh-at t = and 7 wh-kinds.ps (is 7 wh-kinds.ps μ-wh t) wh.Pre
+abbrev wh-at : ℕ → In 8 wh-kinds.ps
+wh-at t = and 8 wh-kinds.ps (is 8 wh-kinds.ps μ-wh t) wh.Pre
 
-abbrev wh-below : ℕ → In 7 wh-kinds.ps
-wh-below t = and 7 wh-kinds.ps (falls 7 wh-kinds.ps _<_ μ-wh t) wh.Pre
+abbrev wh-below : ℕ → In 8 wh-kinds.ps
+wh-below t = and 8 wh-kinds.ps (falls 8 wh-kinds.ps _<_ μ-wh t) wh.Pre
 
-abbrev wr-at : ℕ → In 7 wr-kinds.ps
-wr-at t = and 7 wr-kinds.ps (is 7 wr-kinds.ps μ-wr t) wr.Pre
+abbrev wr-at : ℕ → In 8 wr-kinds.ps
+wr-at t = and 8 wr-kinds.ps (is 8 wr-kinds.ps μ-wr t) wr.Pre
 
-abbrev wr-below : ℕ → In 7 wr-kinds.ps
-wr-below t = and 7 wr-kinds.ps (falls 7 wr-kinds.ps _<_ μ-wr t) wr.Pre
+abbrev wr-below : ℕ → In 8 wr-kinds.ps
+wr-below t = and 8 wr-kinds.ps (falls 8 wr-kinds.ps _<_ μ-wr t) wr.Pre
 
-abbrev wt-at : ℕ → In 7 wt-kinds.ps
-wt-at t = and 7 wt-kinds.ps (is 7 wt-kinds.ps μ-wt t) wt.Pre
+abbrev wt-at : ℕ → In 8 wt-kinds.ps
+wt-at t = and 8 wt-kinds.ps (is 8 wt-kinds.ps μ-wt t) wt.Pre
 
-abbrev wt-below : ℕ → In 7 wt-kinds.ps
-wt-below t = and 7 wt-kinds.ps (falls 7 wt-kinds.ps _<_ μ-wt t) wt.Pre
+abbrev wt-below : ℕ → In 8 wt-kinds.ps
+wt-below t = and 8 wt-kinds.ps (falls 8 wt-kinds.ps _<_ μ-wt t) wt.Pre
 
-abbrev xb-at : ℕ → In 7 xb-kinds.ps
-xb-at t = and 7 xb-kinds.ps (is 7 xb-kinds.ps μ-xb t) xb.Pre
+abbrev xb-at : ℕ → In 8 xb-kinds.ps
+xb-at t = and 8 xb-kinds.ps (is 8 xb-kinds.ps μ-xb t) xb.Pre
 
-abbrev xb-below : ℕ → In 7 xb-kinds.ps
-xb-below t = and 7 xb-kinds.ps (falls 7 xb-kinds.ps _<_ μ-xb t) xb.Pre
+abbrev xb-below : ℕ → In 8 xb-kinds.ps
+xb-below t = and 8 xb-kinds.ps (falls 8 xb-kinds.ps _<_ μ-xb t) xb.Pre
 
-abbrev xd-at : ℕ → In 7 xd-kinds.ps
-xd-at t = and 7 xd-kinds.ps (is 7 xd-kinds.ps μ-xd t) xd.Pre
+abbrev xd-at : ℕ → In 8 xd-kinds.ps
+xd-at t = and 8 xd-kinds.ps (is 8 xd-kinds.ps μ-xd t) xd.Pre
 
-abbrev xd-below : ℕ → In 7 xd-kinds.ps
-xd-below t = and 7 xd-kinds.ps (falls 7 xd-kinds.ps _<_ μ-xd t) xd.Pre
+abbrev xd-below : ℕ → In 8 xd-kinds.ps
+xd-below t = and 8 xd-kinds.ps (falls 8 xd-kinds.ps _<_ μ-xd t) xd.Pre
 
-abbrev xi-at : ℕ → In 7 xi-kinds.ps
-xi-at t = and 7 xi-kinds.ps (is 7 xi-kinds.ps μ-xi t) xi.Pre
+abbrev xi-at : ℕ → In 8 xi-kinds.ps
+xi-at t = and 8 xi-kinds.ps (is 8 xi-kinds.ps μ-xi t) xi.Pre
 
-abbrev xi-below : ℕ → In 7 xi-kinds.ps
-xi-below t = and 7 xi-kinds.ps (falls 7 xi-kinds.ps _<_ μ-xi t) xi.Pre
+abbrev xi-below : ℕ → In 8 xi-kinds.ps
+xi-below t = and 8 xi-kinds.ps (falls 8 xi-kinds.ps _<_ μ-xi t) xi.Pre
 
 abbrev ab-claims : ℕ → ab-lts.Claims
 ab-claims t = (word-reads.Asked, word-reads.Learnt, dat-binds-reads.Asked, dat-binds-reads.Learnt, told-reads.Asked, told-reads.Learnt, with-type-reads.Asked, with-type-reads.Learnt, ds-below t, ds.Post)
@@ -1081,7 +1082,7 @@ ab-word-requires : (t : ℕ) → ab-lts.Need-word-requires (ab-claims t) (ab-at 
 ab-word-requires t c κs = search needs
 
 ab-dat-binds-requires : (t : ℕ) → ab-lts.Need-dat-binds-requires (ab-claims t) (ab-at t) ab.Post
-ab-dat-binds-requires t c κs = omega (arith, c .before .before .before .before .before .before .before .before .before .before .before .before .before .pre .1)
+ab-dat-binds-requires t c κs = omega (arith, c .before .before .before .before .before .before .before .before .before .before .pre .1)
 
 ab-told-requires : (t : ℕ) → ab-lts.Need-told-requires (ab-claims t) (ab-at t) ab.Post
 ab-told-requires t c κs = search needs
@@ -1093,7 +1094,7 @@ ab-enum-told : (t : ℕ) → ab-lts.Need-enum-told (ab-claims t) (ab-at t) ab.Po
 ab-enum-told t c = search needs
 
 ab-same-length : (t : ℕ) → ab-lts.Need-same-length (ab-claims t) (ab-at t) ab.Post
-ab-same-length t c = c .before .before .before .before .before .dat-binds .kept .1 .1 .1 .1 .1 .0 ∙ c .before .before .before .before .before .before .before .before .before .before .word .kept .1 .1 .0
+ab-same-length t c = c .before .before .before .before .before .dat-binds .kept .1 .1 .1 .1 .0 ∙ c .before .before .before .before .before .before .before .before .before .before .word .kept .1 .1 .0
 
 ab-returns : (t : ℕ) → ab-lts.Need-returns (ab-claims t) (ab-at t) ab.Post
 unfolding DecOne.dec-one
@@ -1112,7 +1113,7 @@ ab-enum-told-2 : (t : ℕ) → ab-lts.Need-enum-told-2 (ab-claims t) (ab-at t) a
 ab-enum-told-2 t c = search needs
 
 ab-same-length-2 : (t : ℕ) → ab-lts.Need-same-length-2 (ab-claims t) (ab-at t) ab.Post
-ab-same-length-2 t c = c .before .before .before .before .before .with-type .kept .1 .1 .1 .1 .1 .0 ∙ c .before .before .before .before .before .before .before .before .before .before .before .before .before .before .dat-binds .kept .1 .1 .1 .1 .1 .0 ∙ c .before .before .before .before .before .before .before .before .before .before .before .before .before .before .before .before .before .before .before .word .kept .1 .1 .0
+ab-same-length-2 t c = c .before .before .before .before .before .with-type .kept .1 .1 .1 .1 .0 ∙ c .before .before .before .before .before .before .before .before .before .before .before .before .before .before .dat-binds .kept .1 .1 .1 .1 .0 ∙ c .before .before .before .before .before .before .before .before .before .before .before .before .before .before .before .before .before .before .before .word .kept .1 .1 .0
 
 ab-returns-2 : (t : ℕ) → ab-lts.Need-returns-2 (ab-claims t) (ab-at t) ab.Post
 unfolding DecOne.dec-one
@@ -1122,7 +1123,7 @@ ab-word-requires-2 : (t : ℕ) → ab-lts.Need-word-requires-2 (ab-claims t) (ab
 ab-word-requires-2 t c κs = search needs
 
 ab-ds-requires : (t : ℕ) → ab-lts.Need-ds-requires (ab-claims t) (ab-at t) ab.Post
-ab-ds-requires t c κs = omega (arith, c .before .before .before .before .before .before .before .before .before .before .before .before .before .before .before .before .before .before .before .before .before .before .before .before .before .before .before .before .before .before .before .before .before .before .before .before .pre .0, c .before .before .before .before .before .before .before .before .before .before .before .before .before .before .before .before .before .before .before .before .before .before .before .before .before .before .before .before .before .before .before .before .before .before .before .before .pre .1)
+ab-ds-requires t c κs = omega (arith, c .before .before .before .before .before .before .before .before .before .before .before .before .before .before .before .before .before .before .before .before .before .before .before .before .before .before .before .before .before .before .before .before .before .pre .0, c .before .before .before .before .before .before .before .before .before .before .before .before .before .before .before .before .before .before .before .before .before .before .before .before .before .before .before .before .before .before .before .before .before .pre .1)
 
 ab-told-requires-3 : (t : ℕ) → ab-lts.Need-told-requires-3 (ab-claims t) (ab-at t) ab.Post
 ab-told-requires-3 t c κs = search needs
@@ -1134,7 +1135,7 @@ ab-enum-told-3 : (t : ℕ) → ab-lts.Need-enum-told-3 (ab-claims t) (ab-at t) a
 ab-enum-told-3 t c = search needs
 
 ab-same-length-3 : (t : ℕ) → ab-lts.Need-same-length-3 (ab-claims t) (ab-at t) ab.Post
-ab-same-length-3 t c = c .before .before .before .before .before .ds .kept .1 .1 .1 .1 .1 .1 .0 ∙ c .before .before .before .before .before .before .before .before .before .before .word2 .kept .1 .1 .0 ∙ c .before .before .before .before .before .before .before .before .before .before .before .before .before .before .before .before .before .before .before .with-type .kept .1 .1 .1 .1 .1 .0 ∙ c .before .before .before .before .before .before .before .before .before .before .before .before .before .before .before .before .before .before .before .before .before .before .before .before .before .before .before .before .dat-binds .kept .1 .1 .1 .1 .1 .0 ∙ c .before .before .before .before .before .before .before .before .before .before .before .before .before .before .before .before .before .before .before .before .before .before .before .before .before .before .before .before .before .before .before .before .before .word .kept .1 .1 .0
+ab-same-length-3 t c = c .before .before .before .before .before .ds .kept .1 .1 .1 .1 .1 .0 ∙ c .before .before .before .before .before .before .before .before .before .before .word2 .kept .1 .1 .0 ∙ c .before .before .before .before .before .before .before .before .before .before .before .before .before .before .before .before .before .before .before .with-type .kept .1 .1 .1 .1 .0 ∙ c .before .before .before .before .before .before .before .before .before .before .before .before .before .before .before .before .before .before .before .before .before .before .before .before .before .before .before .before .dat-binds .kept .1 .1 .1 .1 .0 ∙ c .before .before .before .before .before .before .before .before .before .before .before .before .before .before .before .before .before .before .before .before .before .before .before .before .before .before .before .before .before .before .before .before .before .word .kept .1 .1 .0
 
 ab-returns-3 : (t : ℕ) → ab-lts.Need-returns-3 (ab-claims t) (ab-at t) ab.Post
 unfolding DecOne.dec-one
@@ -1144,7 +1145,7 @@ ab-word-requires-3 : (t : ℕ) → ab-lts.Need-word-requires-3 (ab-claims t) (ab
 ab-word-requires-3 t c κs = search needs
 
 ab-same-length-4 : (t : ℕ) → ab-lts.Need-same-length-4 (ab-claims t) (ab-at t) ab.Post
-ab-same-length-4 t c = c .before .before .word3 .kept .1 .1 .0 ∙ c .before .before .before .before .before .before .before .before .before .before .before .ds .kept .1 .1 .1 .1 .1 .1 .0 ∙ c .before .before .before .before .before .before .before .before .before .before .before .before .before .before .before .before .word2 .kept .1 .1 .0 ∙ c .before .before .before .before .before .before .before .before .before .before .before .before .before .before .before .before .before .before .before .before .before .before .before .before .before .with-type .kept .1 .1 .1 .1 .1 .0 ∙ c .before .before .before .before .before .before .before .before .before .before .before .before .before .before .before .before .before .before .before .before .before .before .before .before .before .before .before .before .before .before .before .before .before .before .dat-binds .kept .1 .1 .1 .1 .1 .0 ∙ c .before .before .before .before .before .before .before .before .before .before .before .before .before .before .before .before .before .before .before .before .before .before .before .before .before .before .before .before .before .before .before .before .before .before .before .before .before .before .before .word .kept .1 .1 .0
+ab-same-length-4 t c = c .before .before .word3 .kept .1 .1 .0 ∙ c .before .before .before .before .before .before .before .before .before .before .before .ds .kept .1 .1 .1 .1 .1 .0 ∙ c .before .before .before .before .before .before .before .before .before .before .before .before .before .before .before .before .word2 .kept .1 .1 .0 ∙ c .before .before .before .before .before .before .before .before .before .before .before .before .before .before .before .before .before .before .before .before .before .before .before .before .before .with-type .kept .1 .1 .1 .1 .0 ∙ c .before .before .before .before .before .before .before .before .before .before .before .before .before .before .before .before .before .before .before .before .before .before .before .before .before .before .before .before .before .before .before .before .before .before .dat-binds .kept .1 .1 .1 .1 .0 ∙ c .before .before .before .before .before .before .before .before .before .before .before .before .before .before .before .before .before .before .before .before .before .before .before .before .before .before .before .before .before .before .before .before .before .before .before .before .before .before .before .word .kept .1 .1 .0
 
 ab-returns-4 : (t : ℕ) → ab-lts.Need-returns-4 (ab-claims t) (ab-at t) ab.Post
 unfolding DecOne.dec-one
@@ -1163,16 +1164,16 @@ ac-enum-told : (t : ℕ) → ac-lts.Need-enum-told (ac-claims t) (ac-at t) ac.Po
 ac-enum-told t c = search needs
 
 ac-ta-requires : (t : ℕ) → ac-lts.Need-ta-requires (ac-claims t) (ac-at t) ac.Post
-ac-ta-requires t c κs = omega (arith, c .before .before .before .before .before .before .before .before .before .before .before .pre .0, c .before .before .before .before .before .before .before .before .before .before .before .pre .1)
+ac-ta-requires t c κs = omega (arith, c .before .before .before .before .before .before .before .before .pre .0, c .before .before .before .before .before .before .before .before .pre .1)
 
 ac-same-length : (t : ℕ) → ac-lts.Need-same-length (ac-claims t) (ac-at t) ac.Post
-ac-same-length t c = c .before .before .ta .kept .1 .1 .1 .1 .1 .1 .0
+ac-same-length t c = c .before .before .ta .kept .1 .1 .1 .1 .1 .0
 
 ac-returns-2 : (t : ℕ) → ac-lts.Need-returns-2 (ac-claims t) (ac-at t) ac.Post
 ac-returns-2 t c = record { is = by-same (maybe-there (c .before .before .before .before .before .before .before .absent .ensures) (c .before .before .before .before .before .enum-told .given .1)) (c .before .before .ta .ensures .is) }
 
 an-str-requires : (t : ℕ) → an-lts.Need-str-requires (an-claims t) (an-at t) an.Post
-an-str-requires t c κs = omega (arith, c .before .before .before .before .before .before .before .before .pre .0, c .before .before .before .before .before .before .before .before .pre .1)
+an-str-requires t c κs = omega (arith, c .before .before .before .before .before .pre .0, c .before .before .before .before .before .pre .1)
 
 an-told-requires : (t : ℕ) → an-lts.Need-told-requires (an-claims t) (an-at t) an.Post
 an-told-requires t c κs = search needs
@@ -1184,24 +1185,24 @@ an-enum-told : (t : ℕ) → an-lts.Need-enum-told (an-claims t) (an-at t) an.Po
 an-enum-told t c = search needs
 
 an-same-length : (t : ℕ) → an-lts.Need-same-length (an-claims t) (an-at t) an.Post
-an-same-length t c = c .before .before .before .before .before .str .kept .1 .1 .1 .1 .1 .1 .0
+an-same-length t c = c .before .before .before .before .before .str .kept .1 .1 .1 .1 .1 .0
 
 an-returns : (t : ℕ) → an-lts.Need-returns (an-claims t) (an-at t) an.Post
 unfolding StrExp.str-exp
 an-returns t c = record { is = then-stop (c .before .before .before .before .before .str .ensures .is) (c .before .before .told .ensures) (c .enum-told .given .1) }
 
 an-ta-requires : (t : ℕ) → an-lts.Need-ta-requires (an-claims t) (an-at t) an.Post
-an-ta-requires t c κs = omega (arith, c .before .before .before .before .before .before .before .before .before .before .before .before .before .before .before .before .before .pre .0, c .before .before .before .before .before .before .before .before .before .before .before .before .before .before .before .before .before .pre .1)
+an-ta-requires t c κs = omega (arith, c .before .before .before .before .before .before .before .before .before .before .before .before .before .before .pre .0, c .before .before .before .before .before .before .before .before .before .before .before .before .before .before .pre .1)
 
 an-same-length-2 : (t : ℕ) → an-lts.Need-same-length-2 (an-claims t) (an-at t) an.Post
-an-same-length-2 t c = c .before .before .ta .kept .1 .1 .1 .1 .1 .1 .0 ∙ c .before .before .before .before .before .before .before .before .before .before .before .str .kept .1 .1 .1 .1 .1 .1 .0
+an-same-length-2 t c = c .before .before .ta .kept .1 .1 .1 .1 .1 .0 ∙ c .before .before .before .before .before .before .before .before .before .before .before .str .kept .1 .1 .1 .1 .1 .0
 
 an-returns-2 : (t : ℕ) → an-lts.Need-returns-2 (an-claims t) (an-at t) an.Post
 unfolding StrExp.str-exp
 an-returns-2 t c = record { is = then-done (c .before .before .before .before .before .before .before .before .before .before .before .str .ensures .is) (c .before .before .before .before .before .before .before .before .told .ensures) (c .before .before .before .before .before .before .s1 .given .1) (c .before .before .ta .ensures .is) }
 
 app-exp-requires : (t : ℕ) → app-lts.Need-exp-requires (app-claims t) (app-at t) app.Post
-app-exp-requires t c κs = omega (arith, c .before .before .before .before .before .before .before .before .pre .0, c .before .before .before .before .before .before .before .before .pre .1)
+app-exp-requires t c κs = omega (arith, c .before .before .before .before .before .pre .0, c .before .before .before .before .before .pre .1)
 
 app-told-requires : (t : ℕ) → app-lts.Need-told-requires (app-claims t) (app-at t) app.Post
 app-told-requires t c κs = search needs
@@ -1216,7 +1217,7 @@ app-asked-first-requires : (t : ℕ) → app-lts.Need-asked-first-requires (app-
 app-asked-first-requires t c κs = search needs
 
 app-same-length : (t : ℕ) → app-lts.Need-same-length (app-claims t) (app-at t) app.Post
-app-same-length t c = c .before .before .before .before .before .before .exp .kept .1 .1 .1 .1 .1 .1 .0
+app-same-length t c = c .before .before .before .before .before .before .exp .kept .1 .1 .1 .1 .1 .0
 
 app-returns : (t : ℕ) → app-lts.Need-returns (app-claims t) (app-at t) app.Post
 unfolding Exp.exp
@@ -1235,11 +1236,11 @@ app-missing-requires : (t : ℕ) → app-lts.Need-missing-requires (app-claims t
 app-missing-requires t c κs = search needs
 
 app-same-length-2 : (t : ℕ) → app-lts.Need-same-length-2 (app-claims t) (app-at t) app.Post
-app-same-length-2 t c = c .before .before .before .before .before .before .before .before .before .before .exp .kept .1 .1 .1 .1 .1 .1 .0
+app-same-length-2 t c = c .before .before .before .before .before .before .before .before .before .before .exp .kept .1 .1 .1 .1 .1 .0
 
 app-returns-2 : (t : ℕ) → app-lts.Need-returns-2 (app-claims t) (app-at t) app.Post
 unfolding Exp.exp
-app-returns-2 t c = record { is = application-missing (seen-behind (c .before .before .before .before .before .before .before .before .before .before .before .before .before .before .before .before .before .before .before .args .cfg .nesting) (cfgOf (c .before .before .before .before .before .before .before .before .before .before .before .before .before .before .before .before .before .before .before .args .cfg)) (omega (arith, c .before .before .before .before .before .before .before .before .before .before .before .before .before .before .before .before .before .before .before .pre)) (c .before .before .before .before .before .before .before .before .before .before .exp .ensures .is) (c .before .before .before .before .before .before .before .told .ensures) (c .before .before .before .before .before .s1 .given .1) (c .before .before .before .heads-behind .ensures)) (c .before .enum-told2 .given .1) (missed (c .missing .ensures) (c .before .enum-told2 .given .1)) }
+app-returns-2 t c = record { is = application-missing (seen-behind (c .before .before .before .before .before .before .before .before .before .before .before .before .before .before .before .before .args .cfg .nesting) (cfgOf (c .before .before .before .before .before .before .before .before .before .before .before .before .before .before .before .before .args .cfg)) (omega (arith, c .before .before .before .before .before .before .before .before .before .before .before .before .before .before .before .before .pre)) (c .before .before .before .before .before .before .before .before .before .before .exp .ensures .is) (c .before .before .before .before .before .before .before .told .ensures) (c .before .before .before .before .before .s1 .given .1) (c .before .before .before .heads-behind .ensures)) (c .before .enum-told2 .given .1) (missed (c .missing .ensures) (c .before .enum-told2 .given .1)) }
 
 app-func-is-bang-requires : (t : ℕ) → app-lts.Need-func-is-bang-requires (app-claims t) (app-at t) app.Post
 app-func-is-bang-requires t c κs = search needs
@@ -1251,21 +1252,21 @@ app-app-space-requires : (t : ℕ) → app-lts.Need-app-space-requires (app-clai
 app-app-space-requires t c κs = search needs
 
 app-exp-requires-2 : (t : ℕ) → app-lts.Need-exp-requires-2 (app-claims t) (app-at t) app.Post
-app-exp-requires-2 t c κs = omega (arith, c .before .before .before .before .before .before .before .before .before .before .before .before .before .before .before .before .before .before .before .before .before .before .before .before .before .before .before .before .pre .0, c .before .before .before .before .before .before .before .before .before .before .before .before .before .before .before .before .before .before .before .before .before .before .before .before .before .before .before .before .pre .1)
+app-exp-requires-2 t c κs = omega (arith, c .before .before .before .before .before .before .before .before .before .before .before .before .before .before .before .before .before .before .before .before .before .before .before .before .before .pre .0, c .before .before .before .before .before .before .before .before .before .before .before .before .before .before .before .before .before .before .before .before .before .before .before .before .before .pre .1)
 
 app-same-length-3 : (t : ℕ) → app-lts.Need-same-length-3 (app-claims t) (app-at t) app.Post
-app-same-length-3 t c = c .before .before .exp2 .kept .1 .1 .1 .1 .1 .1 .0 ∙ c .before .before .before .before .before .before .before .app-space .kept .1 .1 .0 ∙ c .before .before .before .before .before .before .before .before .before .before .before .before .before .before .before .before .before .before .before .before .before .before .exp .kept .1 .1 .1 .1 .1 .1 .0
+app-same-length-3 t c = c .before .before .exp2 .kept .1 .1 .1 .1 .1 .0 ∙ c .before .before .before .before .before .before .before .app-space .kept .1 .1 .0 ∙ c .before .before .before .before .before .before .before .before .before .before .before .before .before .before .before .before .before .before .before .before .before .before .exp .kept .1 .1 .1 .1 .1 .0
 
 app-returns-3 : (t : ℕ) → app-lts.Need-returns-3 (app-claims t) (app-at t) app.Post
 unfolding Exp.exp
-app-returns-3 t c = record { is = by-same (application-is (seen-behind (c .before .before .before .before .before .before .before .before .before .before .before .before .before .before .before .before .before .before .before .before .before .before .before .before .before .before .before .before .before .before .before .args .cfg .nesting) (cfgOf (c .before .before .before .before .before .before .before .before .before .before .before .before .before .before .before .before .before .before .before .before .before .before .before .before .before .before .before .before .before .before .before .args .cfg)) (omega (arith, c .before .before .before .before .before .before .before .before .before .before .before .before .before .before .before .before .before .before .before .before .before .before .before .before .before .before .before .before .before .before .before .pre)) (c .before .before .before .before .before .before .before .before .before .before .before .before .before .before .before .before .before .before .before .before .before .before .exp .ensures .is) (c .before .before .before .before .before .before .before .before .before .before .before .before .before .before .before .before .before .before .before .told .ensures) (c .before .before .before .before .before .before .before .before .before .before .before .before .before .before .before .before .before .s1 .given .1) (c .before .before .before .before .before .before .before .before .before .before .before .before .before .before .before .heads-behind .ensures)) (c .before .before .before .before .before .before .before .before .before .before .before .before .before .seen .given .1) (c .before .before .before .before .before .before .before .before .before .before .before .func-is-bang .ensures) (c .before .before .before .before .before .before .before .before .before .before .arg-is-symbolic .ensures)) (then-done (c .before .before .before .before .before .before .before .before .before .before .before .before .before .before .before .before .before .before .before .before .before .before .exp .ensures .is) (c .before .before .before .before .before .before .before .before .before .before .before .before .before .before .before .before .before .before .before .told .ensures) (c .before .before .before .before .before .before .before .before .before .before .before .before .before .before .before .before .before .s1 .given .1) (then-sure (c .before .before .before .before .before .before .before .app-space .ensures) (c .before .before .exp2 .ensures .is))) }
+app-returns-3 t c = record { is = by-same (application-is (seen-behind (c .before .before .before .before .before .before .before .before .before .before .before .before .before .before .before .before .before .before .before .before .before .before .before .before .before .before .before .before .args .cfg .nesting) (cfgOf (c .before .before .before .before .before .before .before .before .before .before .before .before .before .before .before .before .before .before .before .before .before .before .before .before .before .before .before .before .args .cfg)) (omega (arith, c .before .before .before .before .before .before .before .before .before .before .before .before .before .before .before .before .before .before .before .before .before .before .before .before .before .before .before .before .pre)) (c .before .before .before .before .before .before .before .before .before .before .before .before .before .before .before .before .before .before .before .before .before .before .exp .ensures .is) (c .before .before .before .before .before .before .before .before .before .before .before .before .before .before .before .before .before .before .before .told .ensures) (c .before .before .before .before .before .before .before .before .before .before .before .before .before .before .before .before .before .s1 .given .1) (c .before .before .before .before .before .before .before .before .before .before .before .before .before .before .before .heads-behind .ensures)) (c .before .before .before .before .before .before .before .before .before .before .before .before .before .seen .given .1) (c .before .before .before .before .before .before .before .before .before .before .before .func-is-bang .ensures) (c .before .before .before .before .before .before .before .before .before .before .arg-is-symbolic .ensures)) (then-done (c .before .before .before .before .before .before .before .before .before .before .before .before .before .before .before .before .before .before .before .before .before .before .exp .ensures .is) (c .before .before .before .before .before .before .before .before .before .before .before .before .before .before .before .before .before .before .before .told .ensures) (c .before .before .before .before .before .before .before .before .before .before .before .before .before .before .before .before .before .s1 .given .1) (then-sure (c .before .before .before .before .before .before .before .app-space .ensures) (c .before .before .exp2 .ensures .is))) }
 
 abbrev ar-Inv-loop : ar-lts.InvT-loop
-ar-Inv-loop run text rec kinds starts lens out₀ mem₀ at cfg n s0 s₀ i₀ out mem s i =
-    Turn run (page text rec kinds starts lens) (from (Layout.word ", ") (Layout.group (walks (cfg .nesting) .get-exp (cfgOf cfg)))) n s₀ mem₀ out₀ i s mem out
+ar-Inv-loop run text rec kinds spans out₀ mem₀ at cfg n s0 s₀ i₀ out mem s i =
+    Turn run (pageAt text rec kinds spans) (from (Layout.word ", ") (Layout.group (walks (cfg .nesting) .get-exp (cfgOf cfg)))) n s₀ mem₀ out₀ i s mem out
 
 abbrev ar-μ-loop : ar-lts.MeasureT-loop
-ar-μ-loop run text rec kinds starts lens out₀ mem₀ at cfg n s0 s₀ i₀ out mem s i = n - i
+ar-μ-loop run text rec kinds spans out₀ mem₀ at cfg n s0 s₀ i₀ out mem s i = n - i
 
 ar-list-requires : (t : ℕ) → ar-lts.Need-list-requires (ar-claims t) (ar-at t) ar.Post ar-Inv-loop ar-μ-loop
 ar-list-requires t c κs = search needs
@@ -1309,7 +1310,7 @@ unfolding Exp.exp-args Helpers.sep
 ar-returns-2 t c = record { is = by-same (list-is (c .before .before .before .before .before .before .before .before .before .before .before .before .before .before .list .ensures) (c .before .before .before .before .before .before .before .before .before .before .before .before .n .given .1)) (by-same (items-all _ _ _) (c .before .before .before .before .before .before .before .before .before .before .loop .inv .1 _ _ _ (from-more _ _ (c .before .before .before .before .before .before .before .before .before .loop-test .taken) (then-sure (c .before .before .before .before .before .before .between .ensures) (then-stop (group-not (c .before .before .before .group .ensures) (c .before .before .told .ensures) (c .enum-told2 .given .1)) (c .before .before .told .ensures) (c .enum-told2 .given .1)))))) }
 
 ar-exp-requires : (t : ℕ) → ar-lts.Need-exp-requires (ar-claims t) (ar-at t) ar.Post ar-Inv-loop ar-μ-loop
-ar-exp-requires t c κs = omega (arith, c .before .before .before .before .before .before .before .before .before .before .before .before .before .before .before .before .before .before .before .before .before .before .before .before .pre .0, c .before .before .before .before .before .before .before .before .before .before .before .before .before .before .before .before .before .before .before .before .before .before .before .before .pre .1)
+ar-exp-requires t c κs = omega (arith, c .before .before .before .before .before .before .before .before .before .before .before .before .before .before .before .before .before .before .before .before .before .pre .0, c .before .before .before .before .before .before .before .before .before .before .before .before .before .before .before .before .before .before .before .before .before .pre .1)
 
 ar-told-requires-2 : (t : ℕ) → ar-lts.Need-told-requires-2 (ar-claims t) (ar-at t) ar.Post ar-Inv-loop ar-μ-loop
 ar-told-requires-2 t c κs = search needs
@@ -1321,7 +1322,7 @@ ar-enum-told-3 : (t : ℕ) → ar-lts.Need-enum-told-3 (ar-claims t) (ar-at t) a
 ar-enum-told-3 t c = search needs
 
 ar-same-length-2 : (t : ℕ) → ar-lts.Need-same-length-2 (ar-claims t) (ar-at t) ar.Post ar-Inv-loop ar-μ-loop
-ar-same-length-2 t c = c .before .before .before .before .before .exp .kept .1 .1 .1 .1 .1 .1 .0 ∙ c .before .before .before .before .before .before .before .before .before .before .before .before .before .before .before .between .kept .1 .1 .0 ∙ c .before .before .before .before .before .before .before .before .before .before .before .before .before .before .before .before .before .before .before .loop .inv .2
+ar-same-length-2 t c = c .before .before .before .before .before .exp .kept .1 .1 .1 .1 .1 .0 ∙ c .before .before .before .before .before .before .before .before .before .before .before .before .before .before .before .between .kept .1 .1 .0 ∙ c .before .before .before .before .before .before .before .before .before .before .before .before .before .before .before .before .before .before .before .loop .inv .2
 
 ar-returns-3 : (t : ℕ) → ar-lts.Need-returns-3 (ar-claims t) (ar-at t) ar.Post ar-Inv-loop ar-μ-loop
 unfolding Exp.exp-args Helpers.sep
@@ -1335,7 +1336,7 @@ ar-loop-less t c = omega arith
 
 ar-loop-again : (t : ℕ) → ar-lts.Need-loop-again (ar-claims t) (ar-at t) ar.Post ar-Inv-loop ar-μ-loop
 unfolding Exp.exp-args Helpers.sep
-ar-loop-again t c = (omega (arith, c .before .before .before .before .before .before .before .before .before .before .before .before .before .before .before .before .before .before .before .before .loop .inv .0), λ r m o h. c .before .before .before .before .before .before .before .before .before .before .before .before .before .before .before .before .before .before .before .before .loop .inv .1 r m o (from-more _ _ (c .before .before .before .before .before .before .before .before .before .before .before .before .before .before .before .before .before .before .before .loop-test .taken) (then-sure (c .before .before .before .before .before .before .before .before .before .before .before .before .before .before .before .before .between .ensures) (by-same (first-same (group-is (c .before .before .before .before .before .before .before .before .before .before .before .before .before .group .ensures) (c .before .before .before .before .before .before .before .before .before .before .before .before .told .ensures) (c .before .before .before .before .before .before .before .before .before .before .s1 .given .1))) (then-done (c .before .before .before .before .before .before .exp .ensures .is) (c .before .before .before .told2 .ensures) (c .before .s2 .given .1) h)))), c .before .before .before .before .before .before .exp .kept .1 .1 .1 .1 .1 .1 .0 ∙ c .before .before .before .before .before .before .before .before .before .before .before .before .before .before .before .before .between .kept .1 .1 .0 ∙ c .before .before .before .before .before .before .before .before .before .before .before .before .before .before .before .before .before .before .before .before .loop .inv .2)
+ar-loop-again t c = (omega (arith, c .before .before .before .before .before .before .before .before .before .before .before .before .before .before .before .before .before .before .before .before .loop .inv .0), λ r m o h. c .before .before .before .before .before .before .before .before .before .before .before .before .before .before .before .before .before .before .before .before .loop .inv .1 r m o (from-more _ _ (c .before .before .before .before .before .before .before .before .before .before .before .before .before .before .before .before .before .before .before .loop-test .taken) (then-sure (c .before .before .before .before .before .before .before .before .before .before .before .before .before .before .before .before .between .ensures) (by-same (first-same (group-is (c .before .before .before .before .before .before .before .before .before .before .before .before .before .group .ensures) (c .before .before .before .before .before .before .before .before .before .before .before .before .told .ensures) (c .before .before .before .before .before .before .before .before .before .before .s1 .given .1))) (then-done (c .before .before .before .before .before .before .exp .ensures .is) (c .before .before .before .told2 .ensures) (c .before .s2 .given .1) h)))), c .before .before .before .before .before .before .exp .kept .1 .1 .1 .1 .1 .0 ∙ c .before .before .before .before .before .before .before .before .before .before .before .before .before .before .before .before .between .kept .1 .1 .0 ∙ c .before .before .before .before .before .before .before .before .before .before .before .before .before .before .before .before .before .before .before .before .loop .inv .2)
 
 ar-same-length-3 : (t : ℕ) → ar-lts.Need-same-length-3 (ar-claims t) (ar-at t) ar.Post ar-Inv-loop ar-μ-loop
 ar-same-length-3 t c = c .before .loop .inv .2
@@ -1373,7 +1374,7 @@ arm-enum-told-2 : (t : ℕ) → arm-lts.Need-enum-told-2 (arm-claims t) (arm-at 
 arm-enum-told-2 t c = search needs
 
 arm-same-length : (t : ℕ) → arm-lts.Need-same-length (arm-claims t) (arm-at t) arm.Post
-arm-same-length t c = c .before .before .before .before .before .get-pat .kept .1 .1 .1 .1 .1 .0
+arm-same-length t c = c .before .before .before .before .before .get-pat .kept .1 .1 .1 .1 .0
 
 arm-returns-2 : (t : ℕ) → arm-lts.Need-returns-2 (arm-claims t) (arm-at t) arm.Post
 unfolding Exp.get-matcher-arm Exp.get-body-exp-level Exp.indented-levels Helpers.indent-deeper Helpers.deepen
@@ -1395,7 +1396,7 @@ arm-stop-requires : (t : ℕ) → arm-lts.Need-stop-requires (arm-claims t) (arm
 arm-stop-requires t c κs = search needs
 
 arm-same-length-2 : (t : ℕ) → arm-lts.Need-same-length-2 (arm-claims t) (arm-at t) arm.Post
-arm-same-length-2 t c = c .before .before .before .before .before .before .word .kept .1 .1 .0 ∙ c .before .before .before .before .before .before .before .before .before .before .before .before .before .before .before .get-pat .kept .1 .1 .1 .1 .1 .0
+arm-same-length-2 t c = c .before .before .before .before .before .before .word .kept .1 .1 .0 ∙ c .before .before .before .before .before .before .before .before .before .before .before .before .before .before .before .get-pat .kept .1 .1 .1 .1 .0
 
 arm-returns-3 : (t : ℕ) → arm-lts.Need-returns-3 (arm-claims t) (arm-at t) arm.Post
 unfolding Exp.get-matcher-arm Exp.get-body-exp-level Exp.indented-levels Helpers.indent-deeper Helpers.deepen
@@ -1408,16 +1409,16 @@ arm-word-requires-2 : (t : ℕ) → arm-lts.Need-word-requires-2 (arm-claims t) 
 arm-word-requires-2 t c κs = search needs
 
 arm-deepen-requires : (t : ℕ) → arm-lts.Need-deepen-requires (arm-claims t) (arm-at t) arm.Post
-arm-deepen-requires t c κs = omega (arith, c .before .before .before .before .before .before .before .before .before .before .before .before .before .before .before .before .before .before .before .before .before .before .before .before .before .before .before .before .before .before .before .before .before .before .before .before .before .pre .1)
+arm-deepen-requires t c κs = omega (arith, c .before .before .before .before .before .before .before .before .before .before .before .before .before .before .before .before .before .before .before .before .before .before .before .before .before .before .before .before .before .before .before .before .before .before .pre .1)
 
 arm-indented-requires : (t : ℕ) → arm-lts.Need-indented-requires (arm-claims t) (arm-at t) arm.Post
-arm-indented-requires t c κs = omega (arith, c .before .before .before .before .before .before .before .before .before .before .before .before .before .before .before .before .before .before .before .before .before .before .before .before .before .before .before .before .before .before .before .before .before .before .before .before .before .before .pre .1)
+arm-indented-requires t c κs = omega (arith, c .before .before .before .before .before .before .before .before .before .before .before .before .before .before .before .before .before .before .before .before .before .before .before .before .before .before .before .before .before .before .before .before .before .before .before .pre .1)
 
 arm-dp-requires : (t : ℕ) → arm-lts.Need-dp-requires (arm-claims t) (arm-at t) arm.Post
-arm-dp-requires t c κs = omega (arith, c .before .before .before .before .before .before .before .before .before .before .before .before .before .before .before .before .before .before .before .before .before .before .before .before .before .before .before .before .before .before .before .before .before .before .before .before .before .before .before .before .before .pre .0, c .before .before .before .before .before .before .before .before .before .before .before .before .before .before .before .before .before .before .before .before .before .before .before .before .before .before .before .before .before .before .before .before .before .before .before .before .before .before .before .before .before .pre .1, deep-depth (c .before .before .indented .ensures), deep-left (c .before .before .indented .ensures))
+arm-dp-requires t c κs = omega (arith, c .before .before .before .before .before .before .before .before .before .before .before .before .before .before .before .before .before .before .before .before .before .before .before .before .before .before .before .before .before .before .before .before .before .before .before .before .before .before .pre .0, c .before .before .before .before .before .before .before .before .before .before .before .before .before .before .before .before .before .before .before .before .before .before .before .before .before .before .before .before .before .before .before .before .before .before .before .before .before .before .pre .1, deep-depth (c .before .before .indented .ensures), deep-left (c .before .before .indented .ensures))
 
 arm-same-length-3 : (t : ℕ) → arm-lts.Need-same-length-3 (arm-claims t) (arm-at t) arm.Post
-arm-same-length-3 t c = c .before .before .dp .kept .1 .1 .1 .1 .1 .1 .0 ∙ c .before .before .before .before .before .before .before .before .before .before .word2 .kept .1 .1 .0 ∙ c .before .before .before .before .before .before .before .before .before .before .before .before .before .before .before .before .before .before .before .before .before .word .kept .1 .1 .0 ∙ c .before .before .before .before .before .before .before .before .before .before .before .before .before .before .before .before .before .before .before .before .before .before .before .before .before .before .before .before .before .before .get-pat .kept .1 .1 .1 .1 .1 .0
+arm-same-length-3 t c = c .before .before .dp .kept .1 .1 .1 .1 .1 .0 ∙ c .before .before .before .before .before .before .before .before .before .before .word2 .kept .1 .1 .0 ∙ c .before .before .before .before .before .before .before .before .before .before .before .before .before .before .before .before .before .before .before .before .before .word .kept .1 .1 .0 ∙ c .before .before .before .before .before .before .before .before .before .before .before .before .before .before .before .before .before .before .before .before .before .before .before .before .before .before .before .before .before .before .get-pat .kept .1 .1 .1 .1 .0
 
 arm-returns-4 : (t : ℕ) → arm-lts.Need-returns-4 (arm-claims t) (arm-at t) arm.Post
 unfolding Exp.get-matcher-arm Exp.get-body-exp-level Exp.indented-levels Helpers.indent-deeper Helpers.deepen
@@ -1427,10 +1428,10 @@ arm-word-requires-3 : (t : ℕ) → arm-lts.Need-word-requires-3 (arm-claims t) 
 arm-word-requires-3 t c κs = search needs
 
 arm-exp-requires : (t : ℕ) → arm-lts.Need-exp-requires (arm-claims t) (arm-at t) arm.Post
-arm-exp-requires t c κs = omega (arith, c .before .before .before .before .before .before .before .before .before .before .before .before .before .before .before .before .before .before .before .before .before .before .before .before .before .before .before .before .before .before .before .before .before .before .before .before .before .before .pre .0, c .before .before .before .before .before .before .before .before .before .before .before .before .before .before .before .before .before .before .before .before .before .before .before .before .before .before .before .before .before .before .before .before .before .before .before .before .before .before .pre .1)
+arm-exp-requires t c κs = omega (arith, c .before .before .before .before .before .before .before .before .before .before .before .before .before .before .before .before .before .before .before .before .before .before .before .before .before .before .before .before .before .before .before .before .before .before .before .pre .0, c .before .before .before .before .before .before .before .before .before .before .before .before .before .before .before .before .before .before .before .before .before .before .before .before .before .before .before .before .before .before .before .before .before .before .before .pre .1)
 
 arm-same-length-4 : (t : ℕ) → arm-lts.Need-same-length-4 (arm-claims t) (arm-at t) arm.Post
-arm-same-length-4 t c = c .before .before .exp .kept .1 .1 .1 .1 .1 .1 .0 ∙ c .before .before .before .before .before .before .before .word3 .kept .1 .1 .0 ∙ c .before .before .before .before .before .before .before .before .before .before .before .before .before .before .before .before .before .before .word .kept .1 .1 .0 ∙ c .before .before .before .before .before .before .before .before .before .before .before .before .before .before .before .before .before .before .before .before .before .before .before .before .before .before .before .get-pat .kept .1 .1 .1 .1 .1 .0
+arm-same-length-4 t c = c .before .before .exp .kept .1 .1 .1 .1 .1 .0 ∙ c .before .before .before .before .before .before .before .word3 .kept .1 .1 .0 ∙ c .before .before .before .before .before .before .before .before .before .before .before .before .before .before .before .before .before .before .word .kept .1 .1 .0 ∙ c .before .before .before .before .before .before .before .before .before .before .before .before .before .before .before .before .before .before .before .before .before .before .before .before .before .before .before .get-pat .kept .1 .1 .1 .1 .0
 
 arm-returns-5 : (t : ℕ) → arm-lts.Need-returns-5 (arm-claims t) (arm-at t) arm.Post
 unfolding Exp.get-matcher-arm Exp.get-body-exp-level Exp.indented-levels Helpers.indent-deeper Helpers.deepen
@@ -1440,7 +1441,7 @@ br-word-requires : (t : ℕ) → br-lts.Need-word-requires (br-claims t) (br-at 
 br-word-requires t c κs = search needs
 
 br-ar-requires : (t : ℕ) → br-lts.Need-ar-requires (br-claims t) (br-at t) br.Post
-br-ar-requires t c κs = omega (arith, c .before .before .before .before .before .before .before .before .before .before .before .before .before .pre .0, c .before .before .before .before .before .before .before .before .before .before .before .before .before .pre .1)
+br-ar-requires t c κs = omega (arith, c .before .before .before .before .before .before .before .before .before .before .pre .0, c .before .before .before .before .before .before .before .before .before .before .pre .1)
 
 br-told-requires : (t : ℕ) → br-lts.Need-told-requires (br-claims t) (br-at t) br.Post
 br-told-requires t c κs = search needs
@@ -1452,7 +1453,7 @@ br-enum-told : (t : ℕ) → br-lts.Need-enum-told (br-claims t) (br-at t) br.Po
 br-enum-told t c = search needs
 
 br-same-length : (t : ℕ) → br-lts.Need-same-length (br-claims t) (br-at t) br.Post
-br-same-length t c = c .before .before .before .before .before .ar .kept .1 .1 .1 .1 .1 .1 .0 ∙ c .before .before .before .before .before .before .before .before .before .before .word .kept .1 .1 .0
+br-same-length t c = c .before .before .before .before .before .ar .kept .1 .1 .1 .1 .1 .0 ∙ c .before .before .before .before .before .before .before .before .before .before .word .kept .1 .1 .0
 
 br-returns : (t : ℕ) → br-lts.Need-returns (br-claims t) (br-at t) br.Post
 br-returns t c = record { is = then-sure (c .before .before .before .before .before .before .before .before .before .before .word .ensures) (then-stop (c .before .before .before .before .before .ar .ensures .is) (c .before .before .told .ensures) (c .enum-told .given .1)) }
@@ -1461,7 +1462,7 @@ br-word-requires-2 : (t : ℕ) → br-lts.Need-word-requires-2 (br-claims t) (br
 br-word-requires-2 t c κs = search needs
 
 br-same-length-2 : (t : ℕ) → br-lts.Need-same-length-2 (br-claims t) (br-at t) br.Post
-br-same-length-2 t c = c .before .before .word2 .kept .1 .1 .0 ∙ c .before .before .before .before .before .before .before .before .before .before .before .ar .kept .1 .1 .1 .1 .1 .1 .0 ∙ c .before .before .before .before .before .before .before .before .before .before .before .before .before .before .before .before .word .kept .1 .1 .0
+br-same-length-2 t c = c .before .before .word2 .kept .1 .1 .0 ∙ c .before .before .before .before .before .before .before .before .before .before .before .ar .kept .1 .1 .1 .1 .1 .0 ∙ c .before .before .before .before .before .before .before .before .before .before .before .before .before .before .before .before .word .kept .1 .1 .0
 
 br-returns-2 : (t : ℕ) → br-lts.Need-returns-2 (br-claims t) (br-at t) br.Post
 br-returns-2 t c = record { is = then-sure (c .before .before .before .before .before .before .before .before .before .before .before .before .before .before .before .before .word .ensures) (then-done (c .before .before .before .before .before .before .before .before .before .before .before .ar .ensures .is) (c .before .before .before .before .before .before .before .before .told .ensures) (c .before .before .before .before .before .before .s1 .given .1) (last-sure (c .before .before .word2 .ensures))) }
@@ -1470,10 +1471,10 @@ ca-word-requires : (t : ℕ) → ca-lts.Need-word-requires (ca-claims t) (ca-at 
 ca-word-requires t c κs = search needs
 
 ca-ha-requires : (t : ℕ) → ca-lts.Need-ha-requires (ca-claims t) (ca-at t) ca.Post
-ca-ha-requires t c κs = omega (arith, c .before .before .before .before .before .before .before .before .before .before .before .before .before .pre .0, c .before .before .before .before .before .before .before .before .before .before .before .before .before .pre .1)
+ca-ha-requires t c κs = omega (arith, c .before .before .before .before .before .before .before .before .before .before .pre .0, c .before .before .before .before .before .before .before .before .before .before .pre .1)
 
 ca-same-length : (t : ℕ) → ca-lts.Need-same-length (ca-claims t) (ca-at t) ca.Post
-ca-same-length t c = c .before .before .ha .kept .1 .1 .1 .1 .1 .1 .0 ∙ c .before .before .before .before .before .before .before .word .kept .1 .1 .0
+ca-same-length t c = c .before .before .ha .kept .1 .1 .1 .1 .1 .0 ∙ c .before .before .before .before .before .before .before .word .kept .1 .1 .0
 
 ca-returns : (t : ℕ) → ca-lts.Need-returns (ca-claims t) (ca-at t) ca.Post
 unfolding Exp.exp
@@ -1508,7 +1509,7 @@ cb-enum-told-2 : (t : ℕ) → cb-lts.Need-enum-told-2 (cb-claims t) (cb-at t) c
 cb-enum-told-2 t c = search needs
 
 cb-same-length : (t : ℕ) → cb-lts.Need-same-length (cb-claims t) (cb-at t) cb.Post
-cb-same-length t c = c .before .before .before .before .before .text-of .kept .1 .1 .1 .1 .1 .0
+cb-same-length t c = c .before .before .before .before .before .text-of .kept .1 .1 .1 .1 .0
 
 cb-returns-2 : (t : ℕ) → cb-lts.Need-returns-2 (cb-claims t) (cb-at t) cb.Post
 unfolding DecOne.functor-bind
@@ -1518,7 +1519,7 @@ cb-word-requires : (t : ℕ) → cb-lts.Need-word-requires (cb-claims t) (cb-at 
 cb-word-requires t c κs = search needs
 
 cb-fs-requires : (t : ℕ) → cb-lts.Need-fs-requires (cb-claims t) (cb-at t) cb.Post
-cb-fs-requires t c κs = omega (arith, c .before .before .before .before .before .before .before .before .before .before .before .before .before .before .before .before .before .before .before .before .before .before .before .before .before .before .before .pre .0, c .before .before .before .before .before .before .before .before .before .before .before .before .before .before .before .before .before .before .before .before .before .before .before .before .before .before .before .pre .1)
+cb-fs-requires t c κs = omega (arith, c .before .before .before .before .before .before .before .before .before .before .before .before .before .before .before .before .before .before .before .before .before .before .before .before .pre .0, c .before .before .before .before .before .before .before .before .before .before .before .before .before .before .before .before .before .before .before .before .before .before .before .before .pre .1)
 
 cb-told-requires-3 : (t : ℕ) → cb-lts.Need-told-requires-3 (cb-claims t) (cb-at t) cb.Post
 cb-told-requires-3 t c κs = search needs
@@ -1530,7 +1531,7 @@ cb-enum-told-3 : (t : ℕ) → cb-lts.Need-enum-told-3 (cb-claims t) (cb-at t) c
 cb-enum-told-3 t c = search needs
 
 cb-same-length-2 : (t : ℕ) → cb-lts.Need-same-length-2 (cb-claims t) (cb-at t) cb.Post
-cb-same-length-2 t c = c .before .before .before .before .before .fs .kept .1 .1 .1 .1 .1 .1 .0 ∙ c .before .before .before .before .before .before .before .before .before .before .word .kept .1 .1 .0 ∙ c .before .before .before .before .before .before .before .before .before .before .before .before .before .before .before .before .before .before .before .text-of .kept .1 .1 .1 .1 .1 .0
+cb-same-length-2 t c = c .before .before .before .before .before .fs .kept .1 .1 .1 .1 .1 .0 ∙ c .before .before .before .before .before .before .before .before .before .before .word .kept .1 .1 .0 ∙ c .before .before .before .before .before .before .before .before .before .before .before .before .before .before .before .before .before .before .before .text-of .kept .1 .1 .1 .1 .0
 
 cb-returns-3 : (t : ℕ) → cb-lts.Need-returns-3 (cb-claims t) (cb-at t) cb.Post
 unfolding DecOne.functor-bind
@@ -1540,7 +1541,7 @@ cb-word-requires-2 : (t : ℕ) → cb-lts.Need-word-requires-2 (cb-claims t) (cb
 cb-word-requires-2 t c κs = search needs
 
 cb-ac-requires : (t : ℕ) → cb-lts.Need-ac-requires (cb-claims t) (cb-at t) cb.Post
-cb-ac-requires t c κs = omega (arith, c .before .before .before .before .before .before .before .before .before .before .before .before .before .before .before .before .before .before .before .before .before .before .before .before .before .before .before .before .before .before .before .before .before .before .before .before .before .before .before .before .before .pre .0, c .before .before .before .before .before .before .before .before .before .before .before .before .before .before .before .before .before .before .before .before .before .before .before .before .before .before .before .before .before .before .before .before .before .before .before .before .before .before .before .before .before .pre .1)
+cb-ac-requires t c κs = omega (arith, c .before .before .before .before .before .before .before .before .before .before .before .before .before .before .before .before .before .before .before .before .before .before .before .before .before .before .before .before .before .before .before .before .before .before .before .before .before .before .pre .0, c .before .before .before .before .before .before .before .before .before .before .before .before .before .before .before .before .before .before .before .before .before .before .before .before .before .before .before .before .before .before .before .before .before .before .before .before .before .before .pre .1)
 
 cb-told-requires-4 : (t : ℕ) → cb-lts.Need-told-requires-4 (cb-claims t) (cb-at t) cb.Post
 cb-told-requires-4 t c κs = search needs
@@ -1552,7 +1553,7 @@ cb-enum-told-4 : (t : ℕ) → cb-lts.Need-enum-told-4 (cb-claims t) (cb-at t) c
 cb-enum-told-4 t c = search needs
 
 cb-same-length-3 : (t : ℕ) → cb-lts.Need-same-length-3 (cb-claims t) (cb-at t) cb.Post
-cb-same-length-3 t c = c .before .before .before .before .before .ac .kept .1 .1 .1 .1 .1 .1 .0 ∙ c .before .before .before .before .before .before .before .before .before .before .word2 .kept .1 .1 .0 ∙ c .before .before .before .before .before .before .before .before .before .before .before .before .before .before .before .before .before .before .before .fs .kept .1 .1 .1 .1 .1 .1 .0 ∙ c .before .before .before .before .before .before .before .before .before .before .before .before .before .before .before .before .before .before .before .before .before .before .before .before .word .kept .1 .1 .0 ∙ c .before .before .before .before .before .before .before .before .before .before .before .before .before .before .before .before .before .before .before .before .before .before .before .before .before .before .before .before .before .before .before .before .before .text-of .kept .1 .1 .1 .1 .1 .0
+cb-same-length-3 t c = c .before .before .before .before .before .ac .kept .1 .1 .1 .1 .1 .0 ∙ c .before .before .before .before .before .before .before .before .before .before .word2 .kept .1 .1 .0 ∙ c .before .before .before .before .before .before .before .before .before .before .before .before .before .before .before .before .before .before .before .fs .kept .1 .1 .1 .1 .1 .0 ∙ c .before .before .before .before .before .before .before .before .before .before .before .before .before .before .before .before .before .before .before .before .before .before .before .before .word .kept .1 .1 .0 ∙ c .before .before .before .before .before .before .before .before .before .before .before .before .before .before .before .before .before .before .before .before .before .before .before .before .before .before .before .before .before .before .before .before .before .text-of .kept .1 .1 .1 .1 .0
 
 cb-returns-4 : (t : ℕ) → cb-lts.Need-returns-4 (cb-claims t) (cb-at t) cb.Post
 unfolding DecOne.functor-bind
@@ -1562,21 +1563,21 @@ cb-word-requires-3 : (t : ℕ) → cb-lts.Need-word-requires-3 (cb-claims t) (cb
 cb-word-requires-3 t c κs = search needs
 
 cb-str-requires : (t : ℕ) → cb-lts.Need-str-requires (cb-claims t) (cb-at t) cb.Post
-cb-str-requires t c κs = omega (arith, c .before .before .before .before .before .before .before .before .before .before .before .before .before .before .before .before .before .before .before .before .before .before .before .before .before .before .before .before .before .before .before .before .before .before .before .before .before .before .before .before .before .before .before .before .before .before .before .before .before .before .before .before .before .before .before .pre .0, c .before .before .before .before .before .before .before .before .before .before .before .before .before .before .before .before .before .before .before .before .before .before .before .before .before .before .before .before .before .before .before .before .before .before .before .before .before .before .before .before .before .before .before .before .before .before .before .before .before .before .before .before .before .before .before .pre .1)
+cb-str-requires t c κs = omega (arith, c .before .before .before .before .before .before .before .before .before .before .before .before .before .before .before .before .before .before .before .before .before .before .before .before .before .before .before .before .before .before .before .before .before .before .before .before .before .before .before .before .before .before .before .before .before .before .before .before .before .before .before .before .pre .0, c .before .before .before .before .before .before .before .before .before .before .before .before .before .before .before .before .before .before .before .before .before .before .before .before .before .before .before .before .before .before .before .before .before .before .before .before .before .before .before .before .before .before .before .before .before .before .before .before .before .before .before .before .pre .1)
 
 cb-same-length-4 : (t : ℕ) → cb-lts.Need-same-length-4 (cb-claims t) (cb-at t) cb.Post
-cb-same-length-4 t c = c .before .before .str .kept .1 .1 .1 .1 .1 .1 .0 ∙ c .before .before .before .before .before .before .before .word3 .kept .1 .1 .0 ∙ c .before .before .before .before .before .before .before .before .before .before .before .before .before .before .before .before .ac .kept .1 .1 .1 .1 .1 .1 .0 ∙ c .before .before .before .before .before .before .before .before .before .before .before .before .before .before .before .before .before .before .before .before .before .word2 .kept .1 .1 .0 ∙ c .before .before .before .before .before .before .before .before .before .before .before .before .before .before .before .before .before .before .before .before .before .before .before .before .before .before .before .before .before .before .fs .kept .1 .1 .1 .1 .1 .1 .0 ∙ c .before .before .before .before .before .before .before .before .before .before .before .before .before .before .before .before .before .before .before .before .before .before .before .before .before .before .before .before .before .before .before .before .before .before .before .word .kept .1 .1 .0 ∙ c .before .before .before .before .before .before .before .before .before .before .before .before .before .before .before .before .before .before .before .before .before .before .before .before .before .before .before .before .before .before .before .before .before .before .before .before .before .before .before .before .before .before .before .before .text-of .kept .1 .1 .1 .1 .1 .0
+cb-same-length-4 t c = c .before .before .str .kept .1 .1 .1 .1 .1 .0 ∙ c .before .before .before .before .before .before .before .word3 .kept .1 .1 .0 ∙ c .before .before .before .before .before .before .before .before .before .before .before .before .before .before .before .before .ac .kept .1 .1 .1 .1 .1 .0 ∙ c .before .before .before .before .before .before .before .before .before .before .before .before .before .before .before .before .before .before .before .before .before .word2 .kept .1 .1 .0 ∙ c .before .before .before .before .before .before .before .before .before .before .before .before .before .before .before .before .before .before .before .before .before .before .before .before .before .before .before .before .before .before .fs .kept .1 .1 .1 .1 .1 .0 ∙ c .before .before .before .before .before .before .before .before .before .before .before .before .before .before .before .before .before .before .before .before .before .before .before .before .before .before .before .before .before .before .before .before .before .before .before .word .kept .1 .1 .0 ∙ c .before .before .before .before .before .before .before .before .before .before .before .before .before .before .before .before .before .before .before .before .before .before .before .before .before .before .before .before .before .before .before .before .before .before .before .before .before .before .before .before .before .before .before .before .text-of .kept .1 .1 .1 .1 .0
 
 cb-returns-5 : (t : ℕ) → cb-lts.Need-returns-5 (cb-claims t) (cb-at t) cb.Post
 unfolding DecOne.functor-bind
 cb-returns-5 t c = record { is = by-same (group-is (c .before .before .before .before .before .before .before .before .before .before .before .before .before .before .before .before .before .before .before .before .before .before .before .before .before .before .before .before .before .before .before .before .before .before .before .before .before .before .before .before .before .before .before .before .before .before .before .before .before .before .before .group .ensures) (c .before .before .before .before .before .before .before .before .before .before .before .before .before .before .before .before .before .before .before .before .before .before .before .before .before .before .before .before .before .before .before .before .before .before .before .before .before .before .before .before .before .before .before .before .before .before .before .before .before .before .told .ensures) (c .before .before .before .before .before .before .before .before .before .before .before .before .before .before .before .before .before .before .before .before .before .before .before .before .before .before .before .before .before .before .before .before .before .before .before .before .before .before .before .before .before .before .before .before .before .before .before .before .s1 .given .1)) (then-done (plain (c .before .before .before .before .before .before .before .before .before .before .before .before .before .before .before .before .before .before .before .before .before .before .before .before .before .before .before .before .before .before .before .before .before .before .before .before .before .before .before .before .before .before .before .before .text-of .ensures)) (c .before .before .before .before .before .before .before .before .before .before .before .before .before .before .before .before .before .before .before .before .before .before .before .before .before .before .before .before .before .before .before .before .before .before .before .before .before .before .before .before .before .told2 .ensures) (c .before .before .before .before .before .before .before .before .before .before .before .before .before .before .before .before .before .before .before .before .before .before .before .before .before .before .before .before .before .before .before .before .before .before .before .before .before .before .before .s2 .given .1) (then-sure (c .before .before .before .before .before .before .before .before .before .before .before .before .before .before .before .before .before .before .before .before .before .before .before .before .before .before .before .before .before .before .before .before .before .before .before .word .ensures) (then-done (c .before .before .before .before .before .before .before .before .before .before .before .before .before .before .before .before .before .before .before .before .before .before .before .before .before .before .before .before .before .before .fs .ensures .is) (c .before .before .before .before .before .before .before .before .before .before .before .before .before .before .before .before .before .before .before .before .before .before .before .before .before .before .before .told3 .ensures) (c .before .before .before .before .before .before .before .before .before .before .before .before .before .before .before .before .before .before .before .before .before .before .before .before .before .s3 .given .1) (then-sure (c .before .before .before .before .before .before .before .before .before .before .before .before .before .before .before .before .before .before .before .before .before .word2 .ensures) (then-done (c .before .before .before .before .before .before .before .before .before .before .before .before .before .before .before .before .ac .ensures .is) (c .before .before .before .before .before .before .before .before .before .before .before .before .before .told4 .ensures) (c .before .before .before .before .before .before .before .before .before .before .before .s4 .given .1) (then-sure (c .before .before .before .before .before .before .before .word3 .ensures) (c .before .before .str .ensures .is))))))) }
 
 abbrev cd-Inv-loop : cd-lts.InvT-loop
-cd-Inv-loop run text rec kinds starts lens out₀ mem₀ at cfg n s1 s₀ i₀ out mem s i =
-    Turn run (page text rec kinds starts lens) (from (Helpers.new-line (cfgOf cfg) "and ") (DecOne.functor-bind (walks (cfg .nesting)) (cfgOf cfg))) n s₀ mem₀ out₀ i s mem out
+cd-Inv-loop run text rec kinds spans out₀ mem₀ at cfg n s1 s₀ i₀ out mem s i =
+    Turn run (pageAt text rec kinds spans) (from (Helpers.new-line (cfgOf cfg) "and ") (DecOne.functor-bind (walks (cfg .nesting)) (cfgOf cfg))) n s₀ mem₀ out₀ i s mem out
 
 abbrev cd-μ-loop : cd-lts.MeasureT-loop
-cd-μ-loop run text rec kinds starts lens out₀ mem₀ at cfg n s1 s₀ i₀ out mem s i = n - i
+cd-μ-loop run text rec kinds spans out₀ mem₀ at cfg n s1 s₀ i₀ out mem s i = n - i
 
 cd-word-requires : (t : ℕ) → cd-lts.Need-word-requires (cd-claims t) (cd-at t) cd.Post cd-Inv-loop cd-μ-loop
 cd-word-requires t c κs = search needs
@@ -1607,7 +1608,7 @@ cd-new-line-requires : (t : ℕ) → cd-lts.Need-new-line-requires (cd-claims t)
 cd-new-line-requires t c κs = search needs
 
 cd-cb-requires : (t : ℕ) → cd-lts.Need-cb-requires (cd-claims t) (cd-at t) cd.Post cd-Inv-loop cd-μ-loop
-cd-cb-requires t c κs = omega (arith, c .before .before .before .before .before .before .before .before .before .before .before .before .before .before .before .before .before .before .before .before .before .before .before .before .pre .0, c .before .before .before .before .before .before .before .before .before .before .before .before .before .before .before .before .before .before .before .before .before .before .before .before .pre .1)
+cd-cb-requires t c κs = omega (arith, c .before .before .before .before .before .before .before .before .before .before .before .before .before .before .before .before .before .before .before .before .before .pre .0, c .before .before .before .before .before .before .before .before .before .before .before .before .before .before .before .before .before .before .before .before .before .pre .1)
 
 cd-told-requires : (t : ℕ) → cd-lts.Need-told-requires (cd-claims t) (cd-at t) cd.Post cd-Inv-loop cd-μ-loop
 cd-told-requires t c κs = search needs
@@ -1619,7 +1620,7 @@ cd-enum-told-2 : (t : ℕ) → cd-lts.Need-enum-told-2 (cd-claims t) (cd-at t) c
 cd-enum-told-2 t c = search needs
 
 cd-same-length-2 : (t : ℕ) → cd-lts.Need-same-length-2 (cd-claims t) (cd-at t) cd.Post cd-Inv-loop cd-μ-loop
-cd-same-length-2 t c = c .before .before .before .before .before .cb .kept .1 .1 .1 .1 .1 .1 .0 ∙ c .before .before .before .before .before .before .before .before .before .before .new-line .kept .1 .1 .0 ∙ c .before .before .before .before .before .before .before .before .before .before .before .before .before .before .loop .inv .2 ∙ c .before .before .before .before .before .before .before .before .before .before .before .before .before .before .before .before .before .before .before .before .before .word .kept .1 .1 .0
+cd-same-length-2 t c = c .before .before .before .before .before .cb .kept .1 .1 .1 .1 .1 .0 ∙ c .before .before .before .before .before .before .before .before .before .before .new-line .kept .1 .1 .0 ∙ c .before .before .before .before .before .before .before .before .before .before .before .before .before .before .loop .inv .2 ∙ c .before .before .before .before .before .before .before .before .before .before .before .before .before .before .before .before .before .before .before .before .before .word .kept .1 .1 .0
 
 cd-returns-2 : (t : ℕ) → cd-lts.Need-returns-2 (cd-claims t) (cd-at t) cd.Post cd-Inv-loop cd-μ-loop
 unfolding DecOne.dec-one Helpers.sep-with-lines
@@ -1633,7 +1634,7 @@ cd-loop-less t c = omega arith
 
 cd-loop-again : (t : ℕ) → cd-lts.Need-loop-again (cd-claims t) (cd-at t) cd.Post cd-Inv-loop cd-μ-loop
 unfolding DecOne.dec-one Helpers.sep-with-lines
-cd-loop-again t c = (omega (arith, c .before .before .before .before .before .before .before .before .before .before .before .before .before .before .before .loop .inv .0), λ r m o h. c .before .before .before .before .before .before .before .before .before .before .before .before .before .before .before .loop .inv .1 r m o (from-more _ _ (c .before .before .before .before .before .before .before .before .before .before .before .before .before .before .loop-test .taken) (then-sure (c .before .before .before .before .before .before .before .before .before .before .before .new-line .ensures) (then-done (c .before .before .before .before .before .before .cb .ensures .is) (c .before .before .before .told .ensures) (c .before .s2 .given .1) h))), c .before .before .before .before .before .before .cb .kept .1 .1 .1 .1 .1 .1 .0 ∙ c .before .before .before .before .before .before .before .before .before .before .before .new-line .kept .1 .1 .0 ∙ c .before .before .before .before .before .before .before .before .before .before .before .before .before .before .before .loop .inv .2)
+cd-loop-again t c = (omega (arith, c .before .before .before .before .before .before .before .before .before .before .before .before .before .before .before .loop .inv .0), λ r m o h. c .before .before .before .before .before .before .before .before .before .before .before .before .before .before .before .loop .inv .1 r m o (from-more _ _ (c .before .before .before .before .before .before .before .before .before .before .before .before .before .before .loop-test .taken) (then-sure (c .before .before .before .before .before .before .before .before .before .before .before .new-line .ensures) (then-done (c .before .before .before .before .before .before .cb .ensures .is) (c .before .before .before .told .ensures) (c .before .s2 .given .1) h))), c .before .before .before .before .before .before .cb .kept .1 .1 .1 .1 .1 .0 ∙ c .before .before .before .before .before .before .before .before .before .before .before .new-line .kept .1 .1 .0 ∙ c .before .before .before .before .before .before .before .before .before .before .before .before .before .before .before .loop .inv .2)
 
 cd-same-length-3 : (t : ℕ) → cd-lts.Need-same-length-3 (cd-claims t) (cd-at t) cd.Post cd-Inv-loop cd-μ-loop
 cd-same-length-3 t c = c .before .loop .inv .2 ∙ c .before .before .before .before .before .before .before .before .word .kept .1 .1 .0
@@ -1646,13 +1647,13 @@ da-word-requires : (t : ℕ) → da-lts.Need-word-requires (da-claims t) (da-at 
 da-word-requires t c κs = search needs
 
 da-indent-deeper-requires : (t : ℕ) → da-lts.Need-indent-deeper-requires (da-claims t) (da-at t) da.Post
-da-indent-deeper-requires t c κs = omega (arith, c .before .before .before .before .before .before .before .before .before .before .before .before .before .pre .1)
+da-indent-deeper-requires t c κs = omega (arith, c .before .before .before .before .before .before .before .before .before .before .pre .1)
 
 da-indented-requires : (t : ℕ) → da-lts.Need-indented-requires (da-claims t) (da-at t) da.Post
-da-indented-requires t c κs = omega (arith, c .before .before .before .before .before .before .before .before .before .before .before .before .before .before .before .before .pre .1)
+da-indented-requires t c κs = omega (arith, c .before .before .before .before .before .before .before .before .before .before .before .before .before .pre .1)
 
 da-dec-requires : (t : ℕ) → da-lts.Need-dec-requires (da-claims t) (da-at t) da.Post
-da-dec-requires t c κs = omega (arith, c .before .before .before .before .before .before .before .before .before .before .before .before .before .before .before .before .before .before .before .pre .0, c .before .before .before .before .before .before .before .before .before .before .before .before .before .before .before .before .before .before .before .pre .1, deep-depth (c .before .before .indented .ensures), deep-left (c .before .before .indented .ensures))
+da-dec-requires t c κs = omega (arith, c .before .before .before .before .before .before .before .before .before .before .before .before .before .before .before .before .pre .0, c .before .before .before .before .before .before .before .before .before .before .before .before .before .before .before .before .pre .1, deep-depth (c .before .before .indented .ensures), deep-left (c .before .before .indented .ensures))
 
 da-told-requires : (t : ℕ) → da-lts.Need-told-requires (da-claims t) (da-at t) da.Post
 da-told-requires t c κs = search needs
@@ -1664,7 +1665,7 @@ da-enum-told : (t : ℕ) → da-lts.Need-enum-told (da-claims t) (da-at t) da.Po
 da-enum-told t c = search needs
 
 da-same-length : (t : ℕ) → da-lts.Need-same-length (da-claims t) (da-at t) da.Post
-da-same-length t c = c .before .before .before .before .before .dec .kept .1 .1 .1 .1 .1 .1 .0 ∙ c .before .before .before .before .before .before .before .before .before .before .before .indent-deeper .kept .0 ∙ c .before .before .before .before .before .before .before .before .before .before .before .before .before .before .before .before .word .kept .1 .1 .0
+da-same-length t c = c .before .before .before .before .before .dec .kept .1 .1 .1 .1 .1 .0 ∙ c .before .before .before .before .before .before .before .before .before .before .before .indent-deeper .kept .0 ∙ c .before .before .before .before .before .before .before .before .before .before .before .before .before .before .before .before .word .kept .1 .1 .0
 
 da-returns : (t : ℕ) → da-lts.Need-returns (da-claims t) (da-at t) da.Post
 unfolding GetDec.dec-arg Helpers.indent-deeper Helpers.deepen
@@ -1674,7 +1675,7 @@ da-word-requires-2 : (t : ℕ) → da-lts.Need-word-requires-2 (da-claims t) (da
 da-word-requires-2 t c κs = search needs
 
 da-same-length-2 : (t : ℕ) → da-lts.Need-same-length-2 (da-claims t) (da-at t) da.Post
-da-same-length-2 t c = c .before .before .word2 .kept .1 .1 .0 ∙ c .before .before .before .before .before .before .before .before .before .before .before .dec .kept .1 .1 .1 .1 .1 .1 .0 ∙ c .before .before .before .before .before .before .before .before .before .before .before .before .before .before .before .before .before .indent-deeper .kept .0 ∙ c .before .before .before .before .before .before .before .before .before .before .before .before .before .before .before .before .before .before .before .before .before .before .word .kept .1 .1 .0
+da-same-length-2 t c = c .before .before .word2 .kept .1 .1 .0 ∙ c .before .before .before .before .before .before .before .before .before .before .before .dec .kept .1 .1 .1 .1 .1 .0 ∙ c .before .before .before .before .before .before .before .before .before .before .before .before .before .before .before .before .before .indent-deeper .kept .0 ∙ c .before .before .before .before .before .before .before .before .before .before .before .before .before .before .before .before .before .before .before .before .before .before .word .kept .1 .1 .0
 
 da-returns-2 : (t : ℕ) → da-lts.Need-returns-2 (da-claims t) (da-at t) da.Post
 unfolding GetDec.dec-arg Helpers.indent-deeper Helpers.deepen
@@ -1697,7 +1698,7 @@ unfolding GetDec.dec Helpers.semicolon
 dec-returns t c = record { is = then-stop (group-not (c .before .before .before .group .ensures) (c .before .before .told .ensures) (c .enum-told .given .1)) (c .before .before .told .ensures) (c .enum-told .given .1) }
 
 dec-qs-requires : (t : ℕ) → dec-lts.Need-qs-requires (dec-claims t) (dec-at t) dec.Post
-dec-qs-requires t c κs = omega (arith, c .before .before .before .before .before .before .before .before .before .before .before .before .before .pre .0, c .before .before .before .before .before .before .before .before .before .before .before .before .before .pre .1)
+dec-qs-requires t c κs = omega (arith, c .before .before .before .before .before .before .before .before .before .before .pre .0, c .before .before .before .before .before .before .before .before .before .before .pre .1)
 
 dec-told-requires-2 : (t : ℕ) → dec-lts.Need-told-requires-2 (dec-claims t) (dec-at t) dec.Post
 dec-told-requires-2 t c κs = search needs
@@ -1709,7 +1710,7 @@ dec-enum-told-2 : (t : ℕ) → dec-lts.Need-enum-told-2 (dec-claims t) (dec-at 
 dec-enum-told-2 t c = search needs
 
 dec-same-length : (t : ℕ) → dec-lts.Need-same-length (dec-claims t) (dec-at t) dec.Post
-dec-same-length t c = c .before .before .before .before .before .qs .kept .1 .1 .1 .1 .1 .1 .0
+dec-same-length t c = c .before .before .before .before .before .qs .kept .1 .1 .1 .1 .1 .0
 
 dec-returns-2 : (t : ℕ) → dec-lts.Need-returns-2 (dec-claims t) (dec-at t) dec.Post
 unfolding GetDec.dec Helpers.semicolon
@@ -1728,7 +1729,7 @@ dec-enum-told-3 : (t : ℕ) → dec-lts.Need-enum-told-3 (dec-claims t) (dec-at 
 dec-enum-told-3 t c = search needs
 
 dec-same-length-2 : (t : ℕ) → dec-lts.Need-same-length-2 (dec-claims t) (dec-at t) dec.Post
-dec-same-length-2 t c = c .before .before .before .before .before .sharing-tails .kept .1 .1 .1 .1 .1 .0 ∙ c .before .before .before .before .before .before .before .before .before .before .before .before .before .before .qs .kept .1 .1 .1 .1 .1 .1 .0
+dec-same-length-2 t c = c .before .before .before .before .before .sharing-tails .kept .1 .1 .1 .1 .0 ∙ c .before .before .before .before .before .before .before .before .before .before .before .before .before .before .qs .kept .1 .1 .1 .1 .1 .0
 
 dec-returns-3 : (t : ℕ) → dec-lts.Need-returns-3 (dec-claims t) (dec-at t) dec.Post
 unfolding GetDec.dec Helpers.semicolon
@@ -1738,34 +1739,34 @@ dec-word-if-requires : (t : ℕ) → dec-lts.Need-word-if-requires (dec-claims t
 dec-word-if-requires t c κs = search needs
 
 dec-same-length-3 : (t : ℕ) → dec-lts.Need-same-length-3 (dec-claims t) (dec-at t) dec.Post
-dec-same-length-3 t c = c .before .before .word-if .kept .1 .1 .1 .1 .1 .0 ∙ c .before .before .before .before .before .before .before .before .before .before .before .sharing-tails .kept .1 .1 .1 .1 .1 .0 ∙ c .before .before .before .before .before .before .before .before .before .before .before .before .before .before .before .before .before .before .before .before .qs .kept .1 .1 .1 .1 .1 .1 .0
+dec-same-length-3 t c = c .before .before .word-if .kept .1 .1 .1 .1 .0 ∙ c .before .before .before .before .before .before .before .before .before .before .before .sharing-tails .kept .1 .1 .1 .1 .0 ∙ c .before .before .before .before .before .before .before .before .before .before .before .before .before .before .before .before .before .before .before .before .qs .kept .1 .1 .1 .1 .1 .0
 
 dec-returns-4 : (t : ℕ) → dec-lts.Need-returns-4 (dec-claims t) (dec-at t) dec.Post
 unfolding GetDec.dec Helpers.semicolon
 dec-returns-4 t c = record { is = by-same (first-same (group-is (c .before .before .before .before .before .before .before .before .before .before .before .before .before .before .before .before .before .before .before .before .before .before .before .before .before .before .before .group .ensures) (c .before .before .before .before .before .before .before .before .before .before .before .before .before .before .before .before .before .before .before .before .before .before .before .before .before .before .told .ensures) (c .before .before .before .before .before .before .before .before .before .before .before .before .before .before .before .before .before .before .before .before .before .before .before .before .s1 .given .1))) (regroup (then-done (c .before .before .before .before .before .before .before .before .before .before .before .before .before .before .before .before .before .before .before .before .qs .ensures .is) (c .before .before .before .before .before .before .before .before .before .before .before .before .before .before .before .before .before .told2 .ensures) (c .before .before .before .before .before .before .before .before .before .before .before .before .before .before .before .s2 .given .1) (then-done (plain (c .before .before .before .before .before .before .before .before .before .before .before .sharing-tails .ensures)) (c .before .before .before .before .before .before .before .before .told3 .ensures) (c .before .before .before .before .before .before .s3 .given .1) (plain (c .before .before .word-if .ensures))))) }
 
 dp-indent-deeper-requires : (t : ℕ) → dp-lts.Need-indent-deeper-requires (dp-claims t) (dp-at t) dp.Post
-dp-indent-deeper-requires t c κs = omega (arith, c .before .before .before .before .before .before .before .before .pre .1)
+dp-indent-deeper-requires t c κs = omega (arith, c .before .before .before .before .before .pre .1)
 
 dp-indented-requires : (t : ℕ) → dp-lts.Need-indented-requires (dp-claims t) (dp-at t) dp.Post
-dp-indented-requires t c κs = omega (arith, c .before .before .before .before .before .before .before .before .before .before .before .pre .1)
+dp-indented-requires t c κs = omega (arith, c .before .before .before .before .before .before .before .before .pre .1)
 
 dp-exp-requires : (t : ℕ) → dp-lts.Need-exp-requires (dp-claims t) (dp-at t) dp.Post
-dp-exp-requires t c κs = omega (arith, c .before .before .before .before .before .before .before .before .before .before .before .before .before .before .pre .0, c .before .before .before .before .before .before .before .before .before .before .before .before .before .before .pre .1, deep-depth (c .before .before .indented .ensures), deep-left (c .before .before .indented .ensures))
+dp-exp-requires t c κs = omega (arith, c .before .before .before .before .before .before .before .before .before .before .before .pre .0, c .before .before .before .before .before .before .before .before .before .before .before .pre .1, deep-depth (c .before .before .indented .ensures), deep-left (c .before .before .indented .ensures))
 
 dp-same-length : (t : ℕ) → dp-lts.Need-same-length (dp-claims t) (dp-at t) dp.Post
-dp-same-length t c = c .before .before .exp .kept .1 .1 .1 .1 .1 .1 .0 ∙ c .before .before .before .before .before .before .before .before .indent-deeper .kept .0
+dp-same-length t c = c .before .before .exp .kept .1 .1 .1 .1 .1 .0 ∙ c .before .before .before .before .before .before .before .before .indent-deeper .kept .0
 
 dp-returns : (t : ℕ) → dp-lts.Need-returns (dp-claims t) (dp-at t) dp.Post
 unfolding Exp.indented-levels Helpers.indent-deeper Helpers.deepen
 dp-returns t c = record { is = then-both (c .before .before .before .before .before .before .before .before .indent-deeper .ensures _) (along (c .before .before .before .before .before .indented .ensures) (c .before .before .exp .ensures)) }
 
 abbrev ds-Inv-loop : ds-lts.InvT-loop
-ds-Inv-loop run text rec kinds starts lens out₀ mem₀ at cfg n s0 s₀ i₀ out mem s i =
-    Turn run (page text rec kinds starts lens) (from (Helpers.new-line (cfgOf cfg) "") (Layout.group (GetDec.dec (walks (cfg .nesting)) (cfgOf cfg)))) n s₀ mem₀ out₀ i s mem out
+ds-Inv-loop run text rec kinds spans out₀ mem₀ at cfg n s0 s₀ i₀ out mem s i =
+    Turn run (pageAt text rec kinds spans) (from (Helpers.new-line (cfgOf cfg) "") (Layout.group (GetDec.dec (walks (cfg .nesting)) (cfgOf cfg)))) n s₀ mem₀ out₀ i s mem out
 
 abbrev ds-μ-loop : ds-lts.MeasureT-loop
-ds-μ-loop run text rec kinds starts lens out₀ mem₀ at cfg n s0 s₀ i₀ out mem s i = n - i
+ds-μ-loop run text rec kinds spans out₀ mem₀ at cfg n s0 s₀ i₀ out mem s i = n - i
 
 ds-list-requires : (t : ℕ) → ds-lts.Need-list-requires (ds-claims t) (ds-at t) ds.Post ds-Inv-loop ds-μ-loop
 ds-list-requires t c κs = search needs
@@ -1809,7 +1810,7 @@ unfolding GetDec.get-dec Helpers.sep-with-lines
 ds-returns-2 t c = record { is = by-same (list-is (c .before .before .before .before .before .before .before .before .before .before .before .before .before .before .list .ensures) (c .before .before .before .before .before .before .before .before .before .before .before .before .n .given .1)) (by-same (items-all _ _ _) (c .before .before .before .before .before .before .before .before .before .before .loop .inv .1 _ _ _ (from-more _ _ (c .before .before .before .before .before .before .before .before .before .loop-test .taken) (then-sure (c .before .before .before .before .before .before .new-line .ensures) (then-stop (group-not (c .before .before .before .group .ensures) (c .before .before .told .ensures) (c .enum-told2 .given .1)) (c .before .before .told .ensures) (c .enum-told2 .given .1)))))) }
 
 ds-dec-requires : (t : ℕ) → ds-lts.Need-dec-requires (ds-claims t) (ds-at t) ds.Post ds-Inv-loop ds-μ-loop
-ds-dec-requires t c κs = omega (arith, c .before .before .before .before .before .before .before .before .before .before .before .before .before .before .before .before .before .before .before .before .before .before .before .before .pre .0, c .before .before .before .before .before .before .before .before .before .before .before .before .before .before .before .before .before .before .before .before .before .before .before .before .pre .1)
+ds-dec-requires t c κs = omega (arith, c .before .before .before .before .before .before .before .before .before .before .before .before .before .before .before .before .before .before .before .before .before .pre .0, c .before .before .before .before .before .before .before .before .before .before .before .before .before .before .before .before .before .before .before .before .before .pre .1)
 
 ds-told-requires-2 : (t : ℕ) → ds-lts.Need-told-requires-2 (ds-claims t) (ds-at t) ds.Post ds-Inv-loop ds-μ-loop
 ds-told-requires-2 t c κs = search needs
@@ -1821,7 +1822,7 @@ ds-enum-told-3 : (t : ℕ) → ds-lts.Need-enum-told-3 (ds-claims t) (ds-at t) d
 ds-enum-told-3 t c = search needs
 
 ds-same-length-2 : (t : ℕ) → ds-lts.Need-same-length-2 (ds-claims t) (ds-at t) ds.Post ds-Inv-loop ds-μ-loop
-ds-same-length-2 t c = c .before .before .before .before .before .dec .kept .1 .1 .1 .1 .1 .1 .0 ∙ c .before .before .before .before .before .before .before .before .before .before .before .before .before .before .before .new-line .kept .1 .1 .0 ∙ c .before .before .before .before .before .before .before .before .before .before .before .before .before .before .before .before .before .before .before .loop .inv .2
+ds-same-length-2 t c = c .before .before .before .before .before .dec .kept .1 .1 .1 .1 .1 .0 ∙ c .before .before .before .before .before .before .before .before .before .before .before .before .before .before .before .new-line .kept .1 .1 .0 ∙ c .before .before .before .before .before .before .before .before .before .before .before .before .before .before .before .before .before .before .before .loop .inv .2
 
 ds-returns-3 : (t : ℕ) → ds-lts.Need-returns-3 (ds-claims t) (ds-at t) ds.Post ds-Inv-loop ds-μ-loop
 unfolding GetDec.get-dec Helpers.sep-with-lines
@@ -1835,7 +1836,7 @@ ds-loop-less t c = omega arith
 
 ds-loop-again : (t : ℕ) → ds-lts.Need-loop-again (ds-claims t) (ds-at t) ds.Post ds-Inv-loop ds-μ-loop
 unfolding GetDec.get-dec Helpers.sep-with-lines
-ds-loop-again t c = (omega (arith, c .before .before .before .before .before .before .before .before .before .before .before .before .before .before .before .before .before .before .before .before .loop .inv .0), λ r m o h. c .before .before .before .before .before .before .before .before .before .before .before .before .before .before .before .before .before .before .before .before .loop .inv .1 r m o (from-more _ _ (c .before .before .before .before .before .before .before .before .before .before .before .before .before .before .before .before .before .before .before .loop-test .taken) (then-sure (c .before .before .before .before .before .before .before .before .before .before .before .before .before .before .before .before .new-line .ensures) (by-same (first-same (group-is (c .before .before .before .before .before .before .before .before .before .before .before .before .before .group .ensures) (c .before .before .before .before .before .before .before .before .before .before .before .before .told .ensures) (c .before .before .before .before .before .before .before .before .before .before .s1 .given .1))) (then-done (c .before .before .before .before .before .before .dec .ensures .is) (c .before .before .before .told2 .ensures) (c .before .s2 .given .1) h)))), c .before .before .before .before .before .before .dec .kept .1 .1 .1 .1 .1 .1 .0 ∙ c .before .before .before .before .before .before .before .before .before .before .before .before .before .before .before .before .new-line .kept .1 .1 .0 ∙ c .before .before .before .before .before .before .before .before .before .before .before .before .before .before .before .before .before .before .before .before .loop .inv .2)
+ds-loop-again t c = (omega (arith, c .before .before .before .before .before .before .before .before .before .before .before .before .before .before .before .before .before .before .before .before .loop .inv .0), λ r m o h. c .before .before .before .before .before .before .before .before .before .before .before .before .before .before .before .before .before .before .before .before .loop .inv .1 r m o (from-more _ _ (c .before .before .before .before .before .before .before .before .before .before .before .before .before .before .before .before .before .before .before .loop-test .taken) (then-sure (c .before .before .before .before .before .before .before .before .before .before .before .before .before .before .before .before .new-line .ensures) (by-same (first-same (group-is (c .before .before .before .before .before .before .before .before .before .before .before .before .before .group .ensures) (c .before .before .before .before .before .before .before .before .before .before .before .before .told .ensures) (c .before .before .before .before .before .before .before .before .before .before .s1 .given .1))) (then-done (c .before .before .before .before .before .before .dec .ensures .is) (c .before .before .before .told2 .ensures) (c .before .s2 .given .1) h)))), c .before .before .before .before .before .before .dec .kept .1 .1 .1 .1 .1 .0 ∙ c .before .before .before .before .before .before .before .before .before .before .before .before .before .before .before .before .new-line .kept .1 .1 .0 ∙ c .before .before .before .before .before .before .before .before .before .before .before .before .before .before .before .before .before .before .before .before .loop .inv .2)
 
 ds-same-length-3 : (t : ℕ) → ds-lts.Need-same-length-3 (ds-claims t) (ds-at t) ds.Post ds-Inv-loop ds-μ-loop
 ds-same-length-3 t c = c .before .loop .inv .2
@@ -1845,7 +1846,7 @@ unfolding GetDec.get-dec Helpers.sep-with-lines
 ds-returns-4 t c = record { is = by-same (list-is (c .before .before .before .before .before .list .ensures) (c .before .before .before .n .given .1)) (by-same (items-all _ _ _) (c .before .loop .inv .1 _ _ _ (from-none _ _ (c .loop-test .left)))) }
 
 du-exp-requires : (t : ℕ) → du-lts.Need-exp-requires (du-claims t) (du-at t) du.Post
-du-exp-requires t c κs = omega (arith, c .before .before .before .before .before .before .before .before .pre .0, c .before .before .before .before .before .before .before .before .pre .1)
+du-exp-requires t c κs = omega (arith, c .before .before .before .before .before .pre .0, c .before .before .before .before .before .pre .1)
 
 du-told-requires : (t : ℕ) → du-lts.Need-told-requires (du-claims t) (du-at t) du.Post
 du-told-requires t c κs = search needs
@@ -1857,7 +1858,7 @@ du-enum-told : (t : ℕ) → du-lts.Need-enum-told (du-claims t) (du-at t) du.Po
 du-enum-told t c = search needs
 
 du-same-length : (t : ℕ) → du-lts.Need-same-length (du-claims t) (du-at t) du.Post
-du-same-length t c = c .before .before .before .before .before .exp .kept .1 .1 .1 .1 .1 .1 .0
+du-same-length t c = c .before .before .before .before .before .exp .kept .1 .1 .1 .1 .1 .0
 
 du-returns : (t : ℕ) → du-lts.Need-returns (du-claims t) (du-at t) du.Post
 du-returns t c = record { is = then-stop (c .before .before .before .before .before .exp .ensures .is) (c .before .before .told .ensures) (c .enum-told .given .1) }
@@ -1866,10 +1867,10 @@ du-word-requires : (t : ℕ) → du-lts.Need-word-requires (du-claims t) (du-at 
 du-word-requires t c κs = search needs
 
 du-exp-requires-2 : (t : ℕ) → du-lts.Need-exp-requires-2 (du-claims t) (du-at t) du.Post
-du-exp-requires-2 t c κs = omega (arith, c .before .before .before .before .before .before .before .before .before .before .before .before .before .before .before .before .before .before .before .before .before .before .pre .0, c .before .before .before .before .before .before .before .before .before .before .before .before .before .before .before .before .before .before .before .before .before .before .pre .1)
+du-exp-requires-2 t c κs = omega (arith, c .before .before .before .before .before .before .before .before .before .before .before .before .before .before .before .before .before .before .before .pre .0, c .before .before .before .before .before .before .before .before .before .before .before .before .before .before .before .before .before .before .before .pre .1)
 
 du-same-length-2 : (t : ℕ) → du-lts.Need-same-length-2 (du-claims t) (du-at t) du.Post
-du-same-length-2 t c = c .before .before .exp2 .kept .1 .1 .1 .1 .1 .1 .0 ∙ c .before .before .before .before .before .before .before .word .kept .1 .1 .0 ∙ c .before .before .before .before .before .before .before .before .before .before .before .before .before .before .before .before .exp .kept .1 .1 .1 .1 .1 .1 .0
+du-same-length-2 t c = c .before .before .exp2 .kept .1 .1 .1 .1 .1 .0 ∙ c .before .before .before .before .before .before .before .word .kept .1 .1 .0 ∙ c .before .before .before .before .before .before .before .before .before .before .before .before .before .before .before .before .exp .kept .1 .1 .1 .1 .1 .0
 
 du-returns-2 : (t : ℕ) → du-lts.Need-returns-2 (du-claims t) (du-at t) du.Post
 du-returns-2 t c = record { is = then-done (c .before .before .before .before .before .before .before .before .before .before .before .before .before .before .before .before .exp .ensures .is) (c .before .before .before .before .before .before .before .before .before .before .before .before .before .told .ensures) (c .before .before .before .before .before .before .before .before .before .before .before .s1 .given .1) (then-sure (c .before .before .before .before .before .before .before .word .ensures) (c .before .before .exp2 .ensures .is)) }
@@ -1897,8 +1898,8 @@ exp-returns-2 : (t : ℕ) → exp-lts.Need-returns-2 (exp-claims t) (exp-at t) e
 unfolding Exp.exps Exp.exp
 exp-returns-2 t c = record { is = exp-form _ _ (c .before .before .before .before .if1 .left) (form-not (c .stop2 .ensures) (c .before .before .before .form .ensures) (c .before .enum-told .given .1)) }
 
-exp-sub-t18 : (t : ℕ) → exp-lts.Need-sub-t18 (exp-claims t) (exp-at t) exp.Post
-exp-sub-t18 t c = search needs
+exp-sub-t17 : (t : ℕ) → exp-lts.Need-sub-t17 (exp-claims t) (exp-at t) exp.Post
+exp-sub-t17 t c = search needs
 
 exp-word-requires : (t : ℕ) → exp-lts.Need-word-requires (exp-claims t) (exp-at t) exp.Post
 exp-word-requires t c κs = search needs
@@ -1919,61 +1920,61 @@ exp-op-path-requires : (t : ℕ) → exp-lts.Need-op-path-requires (exp-claims t
 exp-op-path-requires t c κs = search needs
 
 exp-rc-requires : (t : ℕ) → exp-lts.Need-rc-requires (exp-claims t) (exp-at t) exp.Post
-exp-rc-requires t c κs = omega (arith, c .before .before .before .before .before .before .before .before .before .before .before .before .before .before .pre .0, c .before .before .before .before .before .before .before .before .before .before .before .before .before .before .pre .1, c .before .before .before .before .before .before .before .if1 .left)
+exp-rc-requires t c κs = omega (arith, c .before .before .before .before .before .before .before .before .before .before .before .pre .0, c .before .before .before .before .before .before .before .before .before .before .before .pre .1, c .before .before .before .before .before .before .before .if1 .left)
 
 exp-selector-exp-requires : (t : ℕ) → exp-lts.Need-selector-exp-requires (exp-claims t) (exp-at t) exp.Post
 exp-selector-exp-requires t c κs = search needs
 
 exp-pa-requires : (t : ℕ) → exp-lts.Need-pa-requires (exp-claims t) (exp-at t) exp.Post
-exp-pa-requires t c κs = omega (arith, c .before .before .before .before .before .before .before .before .before .before .before .before .before .before .pre .0, c .before .before .before .before .before .before .before .before .before .before .before .before .before .before .pre .1, c .before .before .before .before .before .before .before .if1 .left)
+exp-pa-requires t c κs = omega (arith, c .before .before .before .before .before .before .before .before .before .before .before .pre .0, c .before .before .before .before .before .before .before .before .before .before .before .pre .1, c .before .before .before .before .before .before .before .if1 .left)
 
 exp-br-requires : (t : ℕ) → exp-lts.Need-br-requires (exp-claims t) (exp-at t) exp.Post
-exp-br-requires t c κs = omega (arith, c .before .before .before .before .before .before .before .before .before .before .before .before .before .before .pre .0, c .before .before .before .before .before .before .before .before .before .before .before .before .before .before .pre .1, c .before .before .before .before .before .before .before .if1 .left)
+exp-br-requires t c κs = omega (arith, c .before .before .before .before .before .before .before .before .before .before .before .pre .0, c .before .before .before .before .before .before .before .before .before .before .before .pre .1, c .before .before .before .before .before .before .before .if1 .left)
 
 exp-br-requires-2 : (t : ℕ) → exp-lts.Need-br-requires-2 (exp-claims t) (exp-at t) exp.Post
-exp-br-requires-2 t c κs = omega (arith, c .before .before .before .before .before .before .before .before .before .before .before .before .before .before .pre .0, c .before .before .before .before .before .before .before .before .before .before .before .before .before .before .pre .1, c .before .before .before .before .before .before .before .if1 .left)
+exp-br-requires-2 t c κs = omega (arith, c .before .before .before .before .before .before .before .before .before .before .before .pre .0, c .before .before .before .before .before .before .before .before .before .before .before .pre .1, c .before .before .before .before .before .before .before .if1 .left)
 
 exp-ve-requires : (t : ℕ) → exp-lts.Need-ve-requires (exp-claims t) (exp-at t) exp.Post
-exp-ve-requires t c κs = omega (arith, c .before .before .before .before .before .before .before .before .before .before .before .before .before .before .pre .0, c .before .before .before .before .before .before .before .before .before .before .before .before .before .before .pre .1, c .before .before .before .before .before .before .before .if1 .left)
+exp-ve-requires t c κs = omega (arith, c .before .before .before .before .before .before .before .before .before .before .before .pre .0, c .before .before .before .before .before .before .before .before .before .before .before .pre .1, c .before .before .before .before .before .before .before .if1 .left)
 
 exp-seq-requires : (t : ℕ) → exp-lts.Need-seq-requires (exp-claims t) (exp-at t) exp.Post
-exp-seq-requires t c κs = omega (arith, c .before .before .before .before .before .before .before .before .before .before .before .before .before .before .pre .0, c .before .before .before .before .before .before .before .before .before .before .before .before .before .before .pre .1, c .before .before .before .before .before .before .before .if1 .left)
+exp-seq-requires t c κs = omega (arith, c .before .before .before .before .before .before .before .before .before .before .before .pre .0, c .before .before .before .before .before .before .before .before .before .before .before .pre .1, c .before .before .before .before .before .before .before .if1 .left)
 
 exp-lx-requires : (t : ℕ) → exp-lts.Need-lx-requires (exp-claims t) (exp-at t) exp.Post
-exp-lx-requires t c κs = omega (arith, c .before .before .before .before .before .before .before .before .before .before .before .before .before .before .pre .0, c .before .before .before .before .before .before .before .before .before .before .before .before .before .before .pre .1, c .before .before .before .before .before .before .before .if1 .left)
+exp-lx-requires t c κs = omega (arith, c .before .before .before .before .before .before .before .before .before .before .before .pre .0, c .before .before .before .before .before .before .before .before .before .before .before .pre .1, c .before .before .before .before .before .before .before .if1 .left)
 
 exp-app-requires : (t : ℕ) → exp-lts.Need-app-requires (exp-claims t) (exp-at t) exp.Post
-exp-app-requires t c κs = omega (arith, c .before .before .before .before .before .before .before .before .before .before .before .before .before .before .pre .0, c .before .before .before .before .before .before .before .before .before .before .before .before .before .before .pre .1, c .before .before .before .before .before .before .before .if1 .left)
+exp-app-requires t c κs = omega (arith, c .before .before .before .before .before .before .before .before .before .before .before .pre .0, c .before .before .before .before .before .before .before .before .before .before .before .pre .1, c .before .before .before .before .before .before .before .if1 .left)
 
 exp-fx-requires : (t : ℕ) → exp-lts.Need-fx-requires (exp-claims t) (exp-at t) exp.Post
-exp-fx-requires t c κs = omega (arith, c .before .before .before .before .before .before .before .before .before .before .before .before .before .before .pre .0, c .before .before .before .before .before .before .before .before .before .before .before .before .before .before .pre .1, c .before .before .before .before .before .before .before .if1 .left)
+exp-fx-requires t c κs = omega (arith, c .before .before .before .before .before .before .before .before .before .before .before .pre .0, c .before .before .before .before .before .before .before .before .before .before .before .pre .1, c .before .before .before .before .before .before .before .if1 .left)
 
 exp-ty-requires : (t : ℕ) → exp-lts.Need-ty-requires (exp-claims t) (exp-at t) exp.Post
-exp-ty-requires t c κs = omega (arith, c .before .before .before .before .before .before .before .before .before .before .before .before .before .before .pre .0, c .before .before .before .before .before .before .before .before .before .before .before .before .before .before .pre .1, c .before .before .before .before .before .before .before .if1 .left)
+exp-ty-requires t c κs = omega (arith, c .before .before .before .before .before .before .before .before .before .before .before .pre .0, c .before .before .before .before .before .before .before .before .before .before .before .pre .1, c .before .before .before .before .before .before .before .if1 .left)
 
 exp-du-requires : (t : ℕ) → exp-lts.Need-du-requires (exp-claims t) (exp-at t) exp.Post
-exp-du-requires t c κs = omega (arith, c .before .before .before .before .before .before .before .before .before .before .before .before .before .before .pre .0, c .before .before .before .before .before .before .before .before .before .before .before .before .before .before .pre .1, c .before .before .before .before .before .before .before .if1 .left)
+exp-du-requires t c κs = omega (arith, c .before .before .before .before .before .before .before .before .before .before .before .pre .0, c .before .before .before .before .before .before .before .before .before .before .before .pre .1, c .before .before .before .before .before .before .before .if1 .left)
 
 exp-du-requires-2 : (t : ℕ) → exp-lts.Need-du-requires-2 (exp-claims t) (exp-at t) exp.Post
-exp-du-requires-2 t c κs = omega (arith, c .before .before .before .before .before .before .before .before .before .before .before .before .before .before .pre .0, c .before .before .before .before .before .before .before .before .before .before .before .before .before .before .pre .1, c .before .before .before .before .before .before .before .if1 .left)
+exp-du-requires-2 t c κs = omega (arith, c .before .before .before .before .before .before .before .before .before .before .before .pre .0, c .before .before .before .before .before .before .before .before .before .before .before .pre .1, c .before .before .before .before .before .before .before .if1 .left)
 
 exp-ha-requires : (t : ℕ) → exp-lts.Need-ha-requires (exp-claims t) (exp-at t) exp.Post
-exp-ha-requires t c κs = omega (arith, c .before .before .before .before .before .before .before .before .before .before .before .before .before .before .pre .0, c .before .before .before .before .before .before .before .before .before .before .before .before .before .before .pre .1, c .before .before .before .before .before .before .before .if1 .left)
+exp-ha-requires t c κs = omega (arith, c .before .before .before .before .before .before .before .before .before .before .before .pre .0, c .before .before .before .before .before .before .before .before .before .before .before .pre .1, c .before .before .before .before .before .before .before .if1 .left)
 
 exp-pr-requires : (t : ℕ) → exp-lts.Need-pr-requires (exp-claims t) (exp-at t) exp.Post
-exp-pr-requires t c κs = omega (arith, c .before .before .before .before .before .before .before .before .before .before .before .before .before .before .pre .0, c .before .before .before .before .before .before .before .before .before .before .before .before .before .before .pre .1, c .before .before .before .before .before .before .before .if1 .left)
+exp-pr-requires t c κs = omega (arith, c .before .before .before .before .before .before .before .before .before .before .before .pre .0, c .before .before .before .before .before .before .before .before .before .before .before .pre .1, c .before .before .before .before .before .before .before .if1 .left)
 
 exp-ie-requires : (t : ℕ) → exp-lts.Need-ie-requires (exp-claims t) (exp-at t) exp.Post
-exp-ie-requires t c κs = omega (arith, c .before .before .before .before .before .before .before .before .before .before .before .before .before .before .pre .0, c .before .before .before .before .before .before .before .before .before .before .before .before .before .before .pre .1, c .before .before .before .before .before .before .before .if1 .left)
+exp-ie-requires t c κs = omega (arith, c .before .before .before .before .before .before .before .before .before .before .before .pre .0, c .before .before .before .before .before .before .before .before .before .before .before .pre .1, c .before .before .before .before .before .before .before .if1 .left)
 
 exp-wh-requires : (t : ℕ) → exp-lts.Need-wh-requires (exp-claims t) (exp-at t) exp.Post
-exp-wh-requires t c κs = omega (arith, c .before .before .before .before .before .before .before .before .before .before .before .before .before .before .pre .0, c .before .before .before .before .before .before .before .before .before .before .before .before .before .before .pre .1, c .before .before .before .before .before .before .before .if1 .left)
+exp-wh-requires t c κs = omega (arith, c .before .before .before .before .before .before .before .before .before .before .before .pre .0, c .before .before .before .before .before .before .before .before .before .before .before .pre .1, c .before .before .before .before .before .before .before .if1 .left)
 
 exp-ca-requires : (t : ℕ) → exp-lts.Need-ca-requires (exp-claims t) (exp-at t) exp.Post
-exp-ca-requires t c κs = omega (arith, c .before .before .before .before .before .before .before .before .before .before .before .before .before .before .pre .0, c .before .before .before .before .before .before .before .before .before .before .before .before .before .before .pre .1, c .before .before .before .before .before .before .before .if1 .left)
+exp-ca-requires t c κs = omega (arith, c .before .before .before .before .before .before .before .before .before .before .before .pre .0, c .before .before .before .before .before .before .before .before .before .before .before .pre .1, c .before .before .before .before .before .before .before .if1 .left)
 
 exp-fe-requires : (t : ℕ) → exp-lts.Need-fe-requires (exp-claims t) (exp-at t) exp.Post
-exp-fe-requires t c κs = omega (arith, c .before .before .before .before .before .before .before .before .before .before .before .before .before .before .pre .0, c .before .before .before .before .before .before .before .before .before .before .before .before .before .before .pre .1, c .before .before .before .before .before .before .before .if1 .left)
+exp-fe-requires t c κs = omega (arith, c .before .before .before .before .before .before .before .before .before .before .before .pre .0, c .before .before .before .before .before .before .before .before .before .before .before .pre .1, c .before .before .before .before .before .before .before .if1 .left)
 
 exp-stop-requires-3 : (t : ℕ) → exp-lts.Need-stop-requires-3 (exp-claims t) (exp-at t) exp.Post
 exp-stop-requires-3 t c κs = search needs
@@ -2007,147 +2008,147 @@ unfolding Exp.exps Exp.exp
 exp-returns-6 t c = record { is = exp-form _ _ (c .before .before .before .before .before .before .before .before .before .before .if1 .left) (form-key (c .before .before .before .before .before .before .before .before .before .form .ensures) (c .before .before .before .before .before .before .before .k .given .1) (c .before .before .before .before .before .match2 .keys4) (last-sure (c .before .before .word4 .ensures))) }
 
 exp-same-length-5 : (t : ℕ) → exp-lts.Need-same-length-5 (exp-claims t) (exp-at t) exp.Post
-exp-same-length-5 t c = c .before .before .text-of .kept .1 .1 .1 .1 .1 .0
+exp-same-length-5 t c = c .before .before .text-of .kept .1 .1 .1 .1 .0
 
 exp-returns-7 : (t : ℕ) → exp-lts.Need-returns-7 (exp-claims t) (exp-at t) exp.Post
 unfolding Exp.exps Exp.exp
 exp-returns-7 t c = record { is = exp-form _ _ (c .before .before .before .before .before .before .before .before .before .before .if1 .left) (form-key (c .before .before .before .before .before .before .before .before .before .form .ensures) (c .before .before .before .before .before .before .before .k .given .1) (c .before .before .before .before .before .match2 .keys5) (plain (c .before .before .text-of .ensures))) }
 
 exp-same-length-6 : (t : ℕ) → exp-lts.Need-same-length-6 (exp-claims t) (exp-at t) exp.Post
-exp-same-length-6 t c = c .before .before .op-path .kept .1 .1 .1 .1 .1 .0
+exp-same-length-6 t c = c .before .before .op-path .kept .1 .1 .1 .1 .0
 
 exp-returns-8 : (t : ℕ) → exp-lts.Need-returns-8 (exp-claims t) (exp-at t) exp.Post
 unfolding Exp.exps Exp.exp
 exp-returns-8 t c = record { is = exp-form _ _ (c .before .before .before .before .before .before .before .before .before .before .if1 .left) (form-key (c .before .before .before .before .before .before .before .before .before .form .ensures) (c .before .before .before .before .before .before .before .k .given .1) (c .before .before .before .before .before .match2 .keys6) (plain (c .before .before .op-path .ensures))) }
 
 exp-same-length-7 : (t : ℕ) → exp-lts.Need-same-length-7 (exp-claims t) (exp-at t) exp.Post
-exp-same-length-7 t c = c .before .before .rc .kept .1 .1 .1 .1 .1 .1 .0
+exp-same-length-7 t c = c .before .before .rc .kept .1 .1 .1 .1 .1 .0
 
 exp-returns-9 : (t : ℕ) → exp-lts.Need-returns-9 (exp-claims t) (exp-at t) exp.Post
 unfolding Exp.exps Exp.exp
 exp-returns-9 t c = record { is = exp-form _ _ (c .before .before .before .before .before .before .before .before .before .before .if1 .left) (form-key (c .before .before .before .before .before .before .before .before .before .form .ensures) (c .before .before .before .before .before .before .before .k .given .1) (c .before .before .before .before .before .match2 .keys7) (c .before .before .rc .ensures .is)) }
 
 exp-same-length-8 : (t : ℕ) → exp-lts.Need-same-length-8 (exp-claims t) (exp-at t) exp.Post
-exp-same-length-8 t c = c .before .before .selector-exp .kept .1 .1 .1 .1 .1 .0
+exp-same-length-8 t c = c .before .before .selector-exp .kept .1 .1 .1 .1 .0
 
 exp-returns-10 : (t : ℕ) → exp-lts.Need-returns-10 (exp-claims t) (exp-at t) exp.Post
 unfolding Exp.exps Exp.exp
 exp-returns-10 t c = record { is = exp-form _ _ (c .before .before .before .before .before .before .before .before .before .before .if1 .left) (form-key (c .before .before .before .before .before .before .before .before .before .form .ensures) (c .before .before .before .before .before .before .before .k .given .1) (c .before .before .before .before .before .match2 .keys8) (plain (c .before .before .selector-exp .ensures))) }
 
 exp-same-length-9 : (t : ℕ) → exp-lts.Need-same-length-9 (exp-claims t) (exp-at t) exp.Post
-exp-same-length-9 t c = c .before .before .pa .kept .1 .1 .1 .1 .1 .1 .0
+exp-same-length-9 t c = c .before .before .pa .kept .1 .1 .1 .1 .1 .0
 
 exp-returns-11 : (t : ℕ) → exp-lts.Need-returns-11 (exp-claims t) (exp-at t) exp.Post
 unfolding Exp.exps Exp.exp
 exp-returns-11 t c = record { is = exp-form _ _ (c .before .before .before .before .before .before .before .before .before .before .if1 .left) (form-key (c .before .before .before .before .before .before .before .before .before .form .ensures) (c .before .before .before .before .before .before .before .k .given .1) (c .before .before .before .before .before .match2 .keys9) (c .before .before .pa .ensures .is)) }
 
 exp-same-length-10 : (t : ℕ) → exp-lts.Need-same-length-10 (exp-claims t) (exp-at t) exp.Post
-exp-same-length-10 t c = c .before .before .br .kept .1 .1 .1 .1 .1 .1 .0
+exp-same-length-10 t c = c .before .before .br .kept .1 .1 .1 .1 .1 .0
 
 exp-returns-12 : (t : ℕ) → exp-lts.Need-returns-12 (exp-claims t) (exp-at t) exp.Post
 unfolding Exp.exps Exp.exp
 exp-returns-12 t c = record { is = exp-form _ _ (c .before .before .before .before .before .before .before .before .before .before .if1 .left) (form-key (c .before .before .before .before .before .before .before .before .before .form .ensures) (c .before .before .before .before .before .before .before .k .given .1) (c .before .before .before .before .before .match2 .keys10) (c .before .before .br .ensures .is)) }
 
 exp-same-length-11 : (t : ℕ) → exp-lts.Need-same-length-11 (exp-claims t) (exp-at t) exp.Post
-exp-same-length-11 t c = c .before .before .br2 .kept .1 .1 .1 .1 .1 .1 .0
+exp-same-length-11 t c = c .before .before .br2 .kept .1 .1 .1 .1 .1 .0
 
 exp-returns-13 : (t : ℕ) → exp-lts.Need-returns-13 (exp-claims t) (exp-at t) exp.Post
 unfolding Exp.exps Exp.exp
 exp-returns-13 t c = record { is = exp-form _ _ (c .before .before .before .before .before .before .before .before .before .before .if1 .left) (form-key (c .before .before .before .before .before .before .before .before .before .form .ensures) (c .before .before .before .before .before .before .before .k .given .1) (c .before .before .before .before .before .match2 .keys11) (c .before .before .br2 .ensures .is)) }
 
 exp-same-length-12 : (t : ℕ) → exp-lts.Need-same-length-12 (exp-claims t) (exp-at t) exp.Post
-exp-same-length-12 t c = c .before .before .ve .kept .1 .1 .1 .1 .1 .1 .0
+exp-same-length-12 t c = c .before .before .ve .kept .1 .1 .1 .1 .1 .0
 
 exp-returns-14 : (t : ℕ) → exp-lts.Need-returns-14 (exp-claims t) (exp-at t) exp.Post
 unfolding Exp.exps Exp.exp
 exp-returns-14 t c = record { is = exp-form _ _ (c .before .before .before .before .before .before .before .before .before .before .if1 .left) (form-key (c .before .before .before .before .before .before .before .before .before .form .ensures) (c .before .before .before .before .before .before .before .k .given .1) (c .before .before .before .before .before .match2 .keys12) (c .before .before .ve .ensures .is)) }
 
 exp-same-length-13 : (t : ℕ) → exp-lts.Need-same-length-13 (exp-claims t) (exp-at t) exp.Post
-exp-same-length-13 t c = c .before .before .seq .kept .1 .1 .1 .1 .1 .1 .0
+exp-same-length-13 t c = c .before .before .seq .kept .1 .1 .1 .1 .1 .0
 
 exp-returns-15 : (t : ℕ) → exp-lts.Need-returns-15 (exp-claims t) (exp-at t) exp.Post
 unfolding Exp.exps Exp.exp
 exp-returns-15 t c = record { is = exp-form _ _ (c .before .before .before .before .before .before .before .before .before .before .if1 .left) (form-key (c .before .before .before .before .before .before .before .before .before .form .ensures) (c .before .before .before .before .before .before .before .k .given .1) (c .before .before .before .before .before .match2 .keys13) (c .before .before .seq .ensures .is)) }
 
 exp-same-length-14 : (t : ℕ) → exp-lts.Need-same-length-14 (exp-claims t) (exp-at t) exp.Post
-exp-same-length-14 t c = c .before .before .lx .kept .1 .1 .1 .1 .1 .1 .0
+exp-same-length-14 t c = c .before .before .lx .kept .1 .1 .1 .1 .1 .0
 
 exp-returns-16 : (t : ℕ) → exp-lts.Need-returns-16 (exp-claims t) (exp-at t) exp.Post
 unfolding Exp.exps Exp.exp
 exp-returns-16 t c = record { is = exp-form _ _ (c .before .before .before .before .before .before .before .before .before .before .if1 .left) (form-key (c .before .before .before .before .before .before .before .before .before .form .ensures) (c .before .before .before .before .before .before .before .k .given .1) (c .before .before .before .before .before .match2 .keys14) (c .before .before .lx .ensures .is)) }
 
 exp-same-length-15 : (t : ℕ) → exp-lts.Need-same-length-15 (exp-claims t) (exp-at t) exp.Post
-exp-same-length-15 t c = c .before .before .app .kept .1 .1 .1 .1 .1 .1 .0
+exp-same-length-15 t c = c .before .before .app .kept .1 .1 .1 .1 .1 .0
 
 exp-returns-17 : (t : ℕ) → exp-lts.Need-returns-17 (exp-claims t) (exp-at t) exp.Post
 unfolding Exp.exps Exp.exp
 exp-returns-17 t c = record { is = exp-form _ _ (c .before .before .before .before .before .before .before .before .before .before .if1 .left) (form-key (c .before .before .before .before .before .before .before .before .before .form .ensures) (c .before .before .before .before .before .before .before .k .given .1) (c .before .before .before .before .before .match2 .keys15) (c .before .before .app .ensures .is)) }
 
 exp-same-length-16 : (t : ℕ) → exp-lts.Need-same-length-16 (exp-claims t) (exp-at t) exp.Post
-exp-same-length-16 t c = c .before .before .fx .kept .1 .1 .1 .1 .1 .1 .0
+exp-same-length-16 t c = c .before .before .fx .kept .1 .1 .1 .1 .1 .0
 
 exp-returns-18 : (t : ℕ) → exp-lts.Need-returns-18 (exp-claims t) (exp-at t) exp.Post
 unfolding Exp.exps Exp.exp
 exp-returns-18 t c = record { is = exp-form _ _ (c .before .before .before .before .before .before .before .before .before .before .if1 .left) (form-key (c .before .before .before .before .before .before .before .before .before .form .ensures) (c .before .before .before .before .before .before .before .k .given .1) (c .before .before .before .before .before .match2 .keys16) (c .before .before .fx .ensures .is)) }
 
 exp-same-length-17 : (t : ℕ) → exp-lts.Need-same-length-17 (exp-claims t) (exp-at t) exp.Post
-exp-same-length-17 t c = c .before .before .ty .kept .1 .1 .1 .1 .1 .1 .0
+exp-same-length-17 t c = c .before .before .ty .kept .1 .1 .1 .1 .1 .0
 
 exp-returns-19 : (t : ℕ) → exp-lts.Need-returns-19 (exp-claims t) (exp-at t) exp.Post
 unfolding Exp.exps Exp.exp
 exp-returns-19 t c = record { is = exp-form _ _ (c .before .before .before .before .before .before .before .before .before .before .if1 .left) (form-key (c .before .before .before .before .before .before .before .before .before .form .ensures) (c .before .before .before .before .before .before .before .k .given .1) (c .before .before .before .before .before .match2 .keys17) (c .before .before .ty .ensures .is)) }
 
 exp-same-length-18 : (t : ℕ) → exp-lts.Need-same-length-18 (exp-claims t) (exp-at t) exp.Post
-exp-same-length-18 t c = c .before .before .du .kept .1 .1 .1 .1 .1 .1 .0
+exp-same-length-18 t c = c .before .before .du .kept .1 .1 .1 .1 .1 .0
 
 exp-returns-20 : (t : ℕ) → exp-lts.Need-returns-20 (exp-claims t) (exp-at t) exp.Post
 unfolding Exp.exps Exp.exp
 exp-returns-20 t c = record { is = exp-form _ _ (c .before .before .before .before .before .before .before .before .before .before .if1 .left) (form-key (c .before .before .before .before .before .before .before .before .before .form .ensures) (c .before .before .before .before .before .before .before .k .given .1) (c .before .before .before .before .before .match2 .keys18) (c .before .before .du .ensures .is)) }
 
 exp-same-length-19 : (t : ℕ) → exp-lts.Need-same-length-19 (exp-claims t) (exp-at t) exp.Post
-exp-same-length-19 t c = c .before .before .du2 .kept .1 .1 .1 .1 .1 .1 .0
+exp-same-length-19 t c = c .before .before .du2 .kept .1 .1 .1 .1 .1 .0
 
 exp-returns-21 : (t : ℕ) → exp-lts.Need-returns-21 (exp-claims t) (exp-at t) exp.Post
 unfolding Exp.exps Exp.exp
 exp-returns-21 t c = record { is = exp-form _ _ (c .before .before .before .before .before .before .before .before .before .before .if1 .left) (form-key (c .before .before .before .before .before .before .before .before .before .form .ensures) (c .before .before .before .before .before .before .before .k .given .1) (c .before .before .before .before .before .match2 .keys19) (c .before .before .du2 .ensures .is)) }
 
 exp-same-length-20 : (t : ℕ) → exp-lts.Need-same-length-20 (exp-claims t) (exp-at t) exp.Post
-exp-same-length-20 t c = c .before .before .ha .kept .1 .1 .1 .1 .1 .1 .0
+exp-same-length-20 t c = c .before .before .ha .kept .1 .1 .1 .1 .1 .0
 
 exp-returns-22 : (t : ℕ) → exp-lts.Need-returns-22 (exp-claims t) (exp-at t) exp.Post
 unfolding Exp.exps Exp.exp
 exp-returns-22 t c = record { is = exp-form _ _ (c .before .before .before .before .before .before .before .before .before .before .if1 .left) (form-key (c .before .before .before .before .before .before .before .before .before .form .ensures) (c .before .before .before .before .before .before .before .k .given .1) (c .before .before .before .before .before .match2 .keys20) (c .before .before .ha .ensures .is)) }
 
 exp-same-length-21 : (t : ℕ) → exp-lts.Need-same-length-21 (exp-claims t) (exp-at t) exp.Post
-exp-same-length-21 t c = c .before .before .pr .kept .1 .1 .1 .1 .1 .1 .0
+exp-same-length-21 t c = c .before .before .pr .kept .1 .1 .1 .1 .1 .0
 
 exp-returns-23 : (t : ℕ) → exp-lts.Need-returns-23 (exp-claims t) (exp-at t) exp.Post
 unfolding Exp.exps Exp.exp
 exp-returns-23 t c = record { is = exp-form _ _ (c .before .before .before .before .before .before .before .before .before .before .if1 .left) (form-key (c .before .before .before .before .before .before .before .before .before .form .ensures) (c .before .before .before .before .before .before .before .k .given .1) (c .before .before .before .before .before .match2 .keys21) (c .before .before .pr .ensures .is)) }
 
 exp-same-length-22 : (t : ℕ) → exp-lts.Need-same-length-22 (exp-claims t) (exp-at t) exp.Post
-exp-same-length-22 t c = c .before .before .ie .kept .1 .1 .1 .1 .1 .1 .0
+exp-same-length-22 t c = c .before .before .ie .kept .1 .1 .1 .1 .1 .0
 
 exp-returns-24 : (t : ℕ) → exp-lts.Need-returns-24 (exp-claims t) (exp-at t) exp.Post
 unfolding Exp.exps Exp.exp
 exp-returns-24 t c = record { is = exp-form _ _ (c .before .before .before .before .before .before .before .before .before .before .if1 .left) (form-key (c .before .before .before .before .before .before .before .before .before .form .ensures) (c .before .before .before .before .before .before .before .k .given .1) (c .before .before .before .before .before .match2 .keys22) (c .before .before .ie .ensures .is)) }
 
 exp-same-length-23 : (t : ℕ) → exp-lts.Need-same-length-23 (exp-claims t) (exp-at t) exp.Post
-exp-same-length-23 t c = c .before .before .wh .kept .1 .1 .1 .1 .1 .1 .0
+exp-same-length-23 t c = c .before .before .wh .kept .1 .1 .1 .1 .1 .0
 
 exp-returns-25 : (t : ℕ) → exp-lts.Need-returns-25 (exp-claims t) (exp-at t) exp.Post
 unfolding Exp.exps Exp.exp
 exp-returns-25 t c = record { is = exp-form _ _ (c .before .before .before .before .before .before .before .before .before .before .if1 .left) (form-key (c .before .before .before .before .before .before .before .before .before .form .ensures) (c .before .before .before .before .before .before .before .k .given .1) (c .before .before .before .before .before .match2 .keys23) (c .before .before .wh .ensures .is)) }
 
 exp-same-length-24 : (t : ℕ) → exp-lts.Need-same-length-24 (exp-claims t) (exp-at t) exp.Post
-exp-same-length-24 t c = c .before .before .ca .kept .1 .1 .1 .1 .1 .1 .0
+exp-same-length-24 t c = c .before .before .ca .kept .1 .1 .1 .1 .1 .0
 
 exp-returns-26 : (t : ℕ) → exp-lts.Need-returns-26 (exp-claims t) (exp-at t) exp.Post
 unfolding Exp.exps Exp.exp
 exp-returns-26 t c = record { is = exp-form _ _ (c .before .before .before .before .before .before .before .before .before .before .if1 .left) (form-key (c .before .before .before .before .before .before .before .before .before .form .ensures) (c .before .before .before .before .before .before .before .k .given .1) (c .before .before .before .before .before .match2 .keys24) (c .before .before .ca .ensures .is)) }
 
 exp-same-length-25 : (t : ℕ) → exp-lts.Need-same-length-25 (exp-claims t) (exp-at t) exp.Post
-exp-same-length-25 t c = c .before .before .fe .kept .1 .1 .1 .1 .1 .1 .0
+exp-same-length-25 t c = c .before .before .fe .kept .1 .1 .1 .1 .1 .0
 
 exp-returns-27 : (t : ℕ) → exp-lts.Need-returns-27 (exp-claims t) (exp-at t) exp.Post
 unfolding Exp.exps Exp.exp
@@ -2155,41 +2156,41 @@ exp-returns-27 t c = record { is = exp-form _ _ (c .before .before .before .befo
 
 exp-returns-28 : (t : ℕ) → exp-lts.Need-returns-28 (exp-claims t) (exp-at t) exp.Post
 unfolding Exp.exps Exp.exp
-exp-returns-28 t c = record { is = exp-form _ _ (c .before .before .before .before .before .before .if1 .left) (by-same (form-is (c .before .before .before .before .before .form .ensures) (c .before .before .before .k .given .1)) (beyond (Exp.exps (walks (c .before .before .before .before .before .before .before .before .before .before .before .before .before .args .cfg .nesting - 1)) (cfgOf (c .before .before .before .before .before .before .before .before .before .before .before .before .before .args .cfg))) (c .before .before .before .k .given .0 .0) 25 refl (past (past (past (past (past (past (past (past (past (past (past (past (past (past (past (past (past (past (past (past (past (past (past (past (past zero-le (c .before .match2 .rest .0 .0 .0 .0 .0 .0 .0 .0 .0 .0 .0 .0 .0 .0 .0 .0 .0 .0 .0 .0 .0 .0 .0 .0 .1)) (c .before .match2 .rest .0 .0 .0 .0 .0 .0 .0 .0 .0 .0 .0 .0 .0 .0 .0 .0 .0 .0 .0 .0 .0 .0 .0 .1)) (c .before .match2 .rest .0 .0 .0 .0 .0 .0 .0 .0 .0 .0 .0 .0 .0 .0 .0 .0 .0 .0 .0 .0 .0 .0 .1)) (c .before .match2 .rest .0 .0 .0 .0 .0 .0 .0 .0 .0 .0 .0 .0 .0 .0 .0 .0 .0 .0 .0 .0 .0 .1)) (c .before .match2 .rest .0 .0 .0 .0 .0 .0 .0 .0 .0 .0 .0 .0 .0 .0 .0 .0 .0 .0 .0 .0 .1)) (c .before .match2 .rest .0 .0 .0 .0 .0 .0 .0 .0 .0 .0 .0 .0 .0 .0 .0 .0 .0 .0 .0 .1)) (c .before .match2 .rest .0 .0 .0 .0 .0 .0 .0 .0 .0 .0 .0 .0 .0 .0 .0 .0 .0 .0 .1)) (c .before .match2 .rest .0 .0 .0 .0 .0 .0 .0 .0 .0 .0 .0 .0 .0 .0 .0 .0 .0 .1)) (c .before .match2 .rest .0 .0 .0 .0 .0 .0 .0 .0 .0 .0 .0 .0 .0 .0 .0 .0 .1)) (c .before .match2 .rest .0 .0 .0 .0 .0 .0 .0 .0 .0 .0 .0 .0 .0 .0 .0 .1)) (c .before .match2 .rest .0 .0 .0 .0 .0 .0 .0 .0 .0 .0 .0 .0 .0 .0 .1)) (c .before .match2 .rest .0 .0 .0 .0 .0 .0 .0 .0 .0 .0 .0 .0 .0 .1)) (c .before .match2 .rest .0 .0 .0 .0 .0 .0 .0 .0 .0 .0 .0 .0 .1)) (c .before .match2 .rest .0 .0 .0 .0 .0 .0 .0 .0 .0 .0 .0 .1)) (c .before .match2 .rest .0 .0 .0 .0 .0 .0 .0 .0 .0 .0 .1)) (c .before .match2 .rest .0 .0 .0 .0 .0 .0 .0 .0 .0 .1)) (c .before .match2 .rest .0 .0 .0 .0 .0 .0 .0 .0 .1)) (c .before .match2 .rest .0 .0 .0 .0 .0 .0 .0 .1)) (c .before .match2 .rest .0 .0 .0 .0 .0 .0 .1)) (c .before .match2 .rest .0 .0 .0 .0 .0 .1)) (c .before .match2 .rest .0 .0 .0 .0 .1)) (c .before .match2 .rest .0 .0 .0 .1)) (c .before .match2 .rest .0 .0 .1)) (c .before .match2 .rest .0 .1)) (c .before .match2 .rest .1)) (c .stop3 .ensures))) }
+exp-returns-28 t c = record { is = exp-form _ _ (c .before .before .before .before .before .before .if1 .left) (by-same (form-is (c .before .before .before .before .before .form .ensures) (c .before .before .before .k .given .1)) (beyond (Exp.exps (walks (c .before .before .before .before .before .before .before .before .before .before .args .cfg .nesting - 1)) (cfgOf (c .before .before .before .before .before .before .before .before .before .before .args .cfg))) (c .before .before .before .k .given .0 .0) 25 refl (past (past (past (past (past (past (past (past (past (past (past (past (past (past (past (past (past (past (past (past (past (past (past (past (past zero-le (c .before .match2 .rest .0 .0 .0 .0 .0 .0 .0 .0 .0 .0 .0 .0 .0 .0 .0 .0 .0 .0 .0 .0 .0 .0 .0 .0 .1)) (c .before .match2 .rest .0 .0 .0 .0 .0 .0 .0 .0 .0 .0 .0 .0 .0 .0 .0 .0 .0 .0 .0 .0 .0 .0 .0 .1)) (c .before .match2 .rest .0 .0 .0 .0 .0 .0 .0 .0 .0 .0 .0 .0 .0 .0 .0 .0 .0 .0 .0 .0 .0 .0 .1)) (c .before .match2 .rest .0 .0 .0 .0 .0 .0 .0 .0 .0 .0 .0 .0 .0 .0 .0 .0 .0 .0 .0 .0 .0 .1)) (c .before .match2 .rest .0 .0 .0 .0 .0 .0 .0 .0 .0 .0 .0 .0 .0 .0 .0 .0 .0 .0 .0 .0 .1)) (c .before .match2 .rest .0 .0 .0 .0 .0 .0 .0 .0 .0 .0 .0 .0 .0 .0 .0 .0 .0 .0 .0 .1)) (c .before .match2 .rest .0 .0 .0 .0 .0 .0 .0 .0 .0 .0 .0 .0 .0 .0 .0 .0 .0 .0 .1)) (c .before .match2 .rest .0 .0 .0 .0 .0 .0 .0 .0 .0 .0 .0 .0 .0 .0 .0 .0 .0 .1)) (c .before .match2 .rest .0 .0 .0 .0 .0 .0 .0 .0 .0 .0 .0 .0 .0 .0 .0 .0 .1)) (c .before .match2 .rest .0 .0 .0 .0 .0 .0 .0 .0 .0 .0 .0 .0 .0 .0 .0 .1)) (c .before .match2 .rest .0 .0 .0 .0 .0 .0 .0 .0 .0 .0 .0 .0 .0 .0 .1)) (c .before .match2 .rest .0 .0 .0 .0 .0 .0 .0 .0 .0 .0 .0 .0 .0 .1)) (c .before .match2 .rest .0 .0 .0 .0 .0 .0 .0 .0 .0 .0 .0 .0 .1)) (c .before .match2 .rest .0 .0 .0 .0 .0 .0 .0 .0 .0 .0 .0 .1)) (c .before .match2 .rest .0 .0 .0 .0 .0 .0 .0 .0 .0 .0 .1)) (c .before .match2 .rest .0 .0 .0 .0 .0 .0 .0 .0 .0 .1)) (c .before .match2 .rest .0 .0 .0 .0 .0 .0 .0 .0 .1)) (c .before .match2 .rest .0 .0 .0 .0 .0 .0 .0 .1)) (c .before .match2 .rest .0 .0 .0 .0 .0 .0 .1)) (c .before .match2 .rest .0 .0 .0 .0 .0 .1)) (c .before .match2 .rest .0 .0 .0 .0 .1)) (c .before .match2 .rest .0 .0 .0 .1)) (c .before .match2 .rest .0 .0 .1)) (c .before .match2 .rest .0 .1)) (c .before .match2 .rest .1)) (c .stop3 .ensures))) }
 
 fa-nm-requires : (t : ℕ) → fa-lts.Need-nm-requires (fa-claims t) (fa-at t) fa.Post
-fa-nm-requires t c κs = omega (arith, c .before .before .before .before .before .before .before .before .before .pre .0, c .before .before .before .before .before .before .before .before .before .pre .1)
+fa-nm-requires t c κs = omega (arith, c .before .before .before .before .before .before .pre .0, c .before .before .before .before .before .before .pre .1)
 
 fa-da-requires : (t : ℕ) → fa-lts.Need-da-requires (fa-claims t) (fa-at t) fa.Post
-fa-da-requires t c κs = omega (arith, c .before .before .before .before .before .before .before .before .before .pre .0, c .before .before .before .before .before .before .before .before .before .pre .1)
+fa-da-requires t c κs = omega (arith, c .before .before .before .before .before .before .pre .0, c .before .before .before .before .before .before .pre .1)
 
 fa-stop-requires : (t : ℕ) → fa-lts.Need-stop-requires (fa-claims t) (fa-at t) fa.Post
 fa-stop-requires t c κs = search needs
 
 fa-same-length : (t : ℕ) → fa-lts.Need-same-length (fa-claims t) (fa-at t) fa.Post
-fa-same-length t c = c .before .before .nm .kept .1 .1 .1 .1 .1 .1 .0
+fa-same-length t c = c .before .before .nm .kept .1 .1 .1 .1 .1 .0
 
 fa-returns : (t : ℕ) → fa-lts.Need-returns (fa-claims t) (fa-at t) fa.Post
 unfolding DecOne.functor-arg
-fa-returns t c = record { is = at-key (λ i. DecOne.functor-arg (walks (c .before .before .before .before .before .before .before .before .before .before .before .before .args .cfg .nesting)) (cfgOf (c .before .before .before .before .before .before .before .before .before .before .before .before .args .cfg)) i) (c .before .before .before .before .before .match .keys1) (c .before .before .nm .ensures .is) }
+fa-returns t c = record { is = at-key (λ i. DecOne.functor-arg (walks (c .before .before .before .before .before .before .before .before .before .args .cfg .nesting)) (cfgOf (c .before .before .before .before .before .before .before .before .before .args .cfg)) i) (c .before .before .before .before .before .match .keys1) (c .before .before .nm .ensures .is) }
 
 fa-same-length-2 : (t : ℕ) → fa-lts.Need-same-length-2 (fa-claims t) (fa-at t) fa.Post
-fa-same-length-2 t c = c .before .before .da .kept .1 .1 .1 .1 .1 .1 .0
+fa-same-length-2 t c = c .before .before .da .kept .1 .1 .1 .1 .1 .0
 
 fa-returns-2 : (t : ℕ) → fa-lts.Need-returns-2 (fa-claims t) (fa-at t) fa.Post
 unfolding DecOne.functor-arg
-fa-returns-2 t c = record { is = at-key (λ i. DecOne.functor-arg (walks (c .before .before .before .before .before .before .before .before .before .before .before .before .args .cfg .nesting)) (cfgOf (c .before .before .before .before .before .before .before .before .before .before .before .before .args .cfg)) i) (c .before .before .before .before .before .match .keys2) (c .before .before .da .ensures .is) }
+fa-returns-2 t c = record { is = at-key (λ i. DecOne.functor-arg (walks (c .before .before .before .before .before .before .before .before .before .args .cfg .nesting)) (cfgOf (c .before .before .before .before .before .before .before .before .before .args .cfg)) i) (c .before .before .before .before .before .match .keys2) (c .before .before .da .ensures .is) }
 
 fa-returns-3 : (t : ℕ) → fa-lts.Need-returns-3 (fa-claims t) (fa-at t) fa.Post
 unfolding DecOne.functor-arg
-fa-returns-3 t c = record { is = beyond ((Layout._⨾_ Layout.text (Layout._⨾_ (Layout.word " : ") (walks (c .before .before .before .before .before .before .before .before .args .cfg .nesting) .get-sig-exp (cfgOf (c .before .before .before .before .before .before .before .before .args .cfg))))) ∷ GetDec.dec-arg (walks (c .before .before .before .before .before .before .before .before .args .cfg .nesting)) (cfgOf (c .before .before .before .before .before .before .before .before .args .cfg)) ∷ []) (c .before .before .before .before .before .before .before .before .args .which) 2 refl (past (past zero-le (c .before .match .rest .0 .1)) (c .before .match .rest .1)) (c .stop .ensures) }
+fa-returns-3 t c = record { is = beyond ((Layout._⨾_ Layout.text (Layout._⨾_ (Layout.word " : ") (walks (c .before .before .before .before .before .args .cfg .nesting) .get-sig-exp (cfgOf (c .before .before .before .before .before .args .cfg))))) ∷ GetDec.dec-arg (walks (c .before .before .before .before .before .args .cfg .nesting)) (cfgOf (c .before .before .before .before .before .args .cfg)) ∷ []) (c .before .before .before .before .before .args .which) 2 refl (past (past zero-le (c .before .match .rest .0 .1)) (c .before .match .rest .1)) (c .stop .ensures) }
 
 abbrev fb-Inv-loop : fb-lts.InvT-loop
-fb-Inv-loop run text rec kinds starts lens out₀ mem₀ at cfg r1 s1 n s2 s₀ i₀ out mem s i =
-    Turn run (page text rec kinds starts lens) (from (Helpers.new-line (Helpers.deeper (cfgOf cfg)) "| ") (DecOne.fun-bind-case (walks (cfg .nesting)) (cfgOf cfg))) n s₀ mem₀ out₀ i s mem out
+fb-Inv-loop run text rec kinds spans out₀ mem₀ at cfg r1 s1 n s2 s₀ i₀ out mem s i =
+    Turn run (pageAt text rec kinds spans) (from (Helpers.new-line (Helpers.deeper (cfgOf cfg)) "| ") (DecOne.fun-bind-case (walks (cfg .nesting)) (cfgOf cfg))) n s₀ mem₀ out₀ i s mem out
 
 abbrev fb-μ-loop : fb-lts.MeasureT-loop
-fb-μ-loop run text rec kinds starts lens out₀ mem₀ at cfg r1 s1 n s2 s₀ i₀ out mem s i = n - i
+fb-μ-loop run text rec kinds spans out₀ mem₀ at cfg r1 s1 n s2 s₀ i₀ out mem s i = n - i
 
 fb-group-requires : (t : ℕ) → fb-lts.Need-group-requires (fb-claims t) (fb-at t) fb.Post fb-Inv-loop fb-μ-loop
 fb-group-requires t c κs = search needs
@@ -2208,7 +2209,7 @@ unfolding DecOne.fun-bind Helpers.indent-deeper Helpers.deepen Helpers.sep-with-
 fb-returns t c = record { is = group-not (c .before .before .before .group .ensures) (c .before .before .told .ensures) (c .enum-told .given .1) }
 
 fb-deepen-requires : (t : ℕ) → fb-lts.Need-deepen-requires (fb-claims t) (fb-at t) fb.Post fb-Inv-loop fb-μ-loop
-fb-deepen-requires t c κs = omega (arith, c .before .before .before .before .before .before .before .before .before .before .before .before .pre .1)
+fb-deepen-requires t c κs = omega (arith, c .before .before .before .before .before .before .before .before .before .pre .1)
 
 fb-list-requires : (t : ℕ) → fb-lts.Need-list-requires (fb-claims t) (fb-at t) fb.Post fb-Inv-loop fb-μ-loop
 fb-list-requires t c κs = search needs
@@ -2230,10 +2231,10 @@ fb-loop-holds : (t : ℕ) → fb-lts.Need-loop-holds (fb-claims t) (fb-at t) fb.
 fb-loop-holds t c = (omega arith, λ r m o h. h, refl)
 
 fb-new-line-in-requires : (t : ℕ) → fb-lts.Need-new-line-in-requires (fb-claims t) (fb-at t) fb.Post fb-Inv-loop fb-μ-loop
-fb-new-line-in-requires t c κs = omega (arith, c .before .before .before .before .before .before .before .before .before .before .before .before .before .before .before .before .before .before .before .before .before .pre .1)
+fb-new-line-in-requires t c κs = omega (arith, c .before .before .before .before .before .before .before .before .before .before .before .before .before .before .before .before .before .before .pre .1)
 
 fb-fc-requires : (t : ℕ) → fb-lts.Need-fc-requires (fb-claims t) (fb-at t) fb.Post fb-Inv-loop fb-μ-loop
-fb-fc-requires t c κs = omega (arith, c .before .before .before .before .before .before .before .before .before .before .before .before .before .before .before .before .before .before .before .before .before .before .before .before .before .before .pre .0, c .before .before .before .before .before .before .before .before .before .before .before .before .before .before .before .before .before .before .before .before .before .before .before .before .before .before .pre .1)
+fb-fc-requires t c κs = omega (arith, c .before .before .before .before .before .before .before .before .before .before .before .before .before .before .before .before .before .before .before .before .before .before .before .pre .0, c .before .before .before .before .before .before .before .before .before .before .before .before .before .before .before .before .before .before .before .before .before .before .before .pre .1)
 
 fb-told-requires-2 : (t : ℕ) → fb-lts.Need-told-requires-2 (fb-claims t) (fb-at t) fb.Post fb-Inv-loop fb-μ-loop
 fb-told-requires-2 t c κs = search needs
@@ -2245,7 +2246,7 @@ fb-enum-told-3 : (t : ℕ) → fb-lts.Need-enum-told-3 (fb-claims t) (fb-at t) f
 fb-enum-told-3 t c = search needs
 
 fb-same-length : (t : ℕ) → fb-lts.Need-same-length (fb-claims t) (fb-at t) fb.Post fb-Inv-loop fb-μ-loop
-fb-same-length t c = c .before .before .before .before .before .fc .kept .1 .1 .1 .1 .1 .1 .0 ∙ c .before .before .before .before .before .before .before .before .before .before .new-line-in .kept .1 .1 .0 ∙ c .before .before .before .before .before .before .before .before .before .before .before .before .before .before .loop .inv .2
+fb-same-length t c = c .before .before .before .before .before .fc .kept .1 .1 .1 .1 .1 .0 ∙ c .before .before .before .before .before .before .before .before .before .before .new-line-in .kept .1 .1 .0 ∙ c .before .before .before .before .before .before .before .before .before .before .before .before .before .before .loop .inv .2
 
 fb-returns-3 : (t : ℕ) → fb-lts.Need-returns-3 (fb-claims t) (fb-at t) fb.Post fb-Inv-loop fb-μ-loop
 unfolding DecOne.fun-bind Helpers.indent-deeper Helpers.deepen Helpers.sep-with-lines
@@ -2259,7 +2260,7 @@ fb-loop-less t c = omega arith
 
 fb-loop-again : (t : ℕ) → fb-lts.Need-loop-again (fb-claims t) (fb-at t) fb.Post fb-Inv-loop fb-μ-loop
 unfolding DecOne.fun-bind Helpers.indent-deeper Helpers.deepen Helpers.sep-with-lines
-fb-loop-again t c = (omega (arith, c .before .before .before .before .before .before .before .before .before .before .before .before .before .before .before .loop .inv .0), λ r m o h. c .before .before .before .before .before .before .before .before .before .before .before .before .before .before .before .loop .inv .1 r m o (from-more _ _ (c .before .before .before .before .before .before .before .before .before .before .before .before .before .before .loop-test .taken) (then-sure (c .before .before .before .before .before .before .before .before .before .before .before .new-line-in .ensures) (then-done (c .before .before .before .before .before .before .fc .ensures .is) (c .before .before .before .told2 .ensures) (c .before .s3 .given .1) h))), c .before .before .before .before .before .before .fc .kept .1 .1 .1 .1 .1 .1 .0 ∙ c .before .before .before .before .before .before .before .before .before .before .before .new-line-in .kept .1 .1 .0 ∙ c .before .before .before .before .before .before .before .before .before .before .before .before .before .before .before .loop .inv .2)
+fb-loop-again t c = (omega (arith, c .before .before .before .before .before .before .before .before .before .before .before .before .before .before .before .loop .inv .0), λ r m o h. c .before .before .before .before .before .before .before .before .before .before .before .before .before .before .before .loop .inv .1 r m o (from-more _ _ (c .before .before .before .before .before .before .before .before .before .before .before .before .before .before .loop-test .taken) (then-sure (c .before .before .before .before .before .before .before .before .before .before .before .new-line-in .ensures) (then-done (c .before .before .before .before .before .before .fc .ensures .is) (c .before .before .before .told2 .ensures) (c .before .s3 .given .1) h))), c .before .before .before .before .before .before .fc .kept .1 .1 .1 .1 .1 .0 ∙ c .before .before .before .before .before .before .before .before .before .before .before .new-line-in .kept .1 .1 .0 ∙ c .before .before .before .before .before .before .before .before .before .before .before .before .before .before .before .loop .inv .2)
 
 fb-same-length-2 : (t : ℕ) → fb-lts.Need-same-length-2 (fb-claims t) (fb-at t) fb.Post fb-Inv-loop fb-μ-loop
 fb-same-length-2 t c = c .before .loop .inv .2
@@ -2297,7 +2298,7 @@ fc-enum-told-2 : (t : ℕ) → fc-lts.Need-enum-told-2 (fc-claims t) (fc-at t) f
 fc-enum-told-2 t c = search needs
 
 fc-same-length : (t : ℕ) → fc-lts.Need-same-length (fc-claims t) (fc-at t) fc.Post
-fc-same-length t c = c .before .before .before .before .before .case-head .kept .1 .1 .1 .1 .1 .0
+fc-same-length t c = c .before .before .before .before .before .case-head .kept .1 .1 .1 .1 .0
 
 fc-returns-2 : (t : ℕ) → fc-lts.Need-returns-2 (fc-claims t) (fc-at t) fc.Post
 unfolding DecOne.fun-bind-case
@@ -2316,7 +2317,7 @@ fc-enum-told-3 : (t : ℕ) → fc-lts.Need-enum-told-3 (fc-claims t) (fc-at t) f
 fc-enum-told-3 t c = search needs
 
 fc-same-length-2 : (t : ℕ) → fc-lts.Need-same-length-2 (fc-claims t) (fc-at t) fc.Post
-fc-same-length-2 t c = c .before .before .before .before .before .case-pats .kept .1 .1 .1 .1 .1 .0 ∙ c .before .before .before .before .before .before .before .before .before .before .before .before .before .before .case-head .kept .1 .1 .1 .1 .1 .0
+fc-same-length-2 t c = c .before .before .before .before .before .case-pats .kept .1 .1 .1 .1 .0 ∙ c .before .before .before .before .before .before .before .before .before .before .before .before .before .before .case-head .kept .1 .1 .1 .1 .0
 
 fc-returns-3 : (t : ℕ) → fc-lts.Need-returns-3 (fc-claims t) (fc-at t) fc.Post
 unfolding DecOne.fun-bind-case
@@ -2335,28 +2336,28 @@ fc-enum-told-4 : (t : ℕ) → fc-lts.Need-enum-told-4 (fc-claims t) (fc-at t) f
 fc-enum-told-4 t c = search needs
 
 fc-same-length-3 : (t : ℕ) → fc-lts.Need-same-length-3 (fc-claims t) (fc-at t) fc.Post
-fc-same-length-3 t c = c .before .before .before .before .before .ty-annotation .kept .1 .1 .1 .1 .1 .0 ∙ c .before .before .before .before .before .before .before .before .before .before .before .before .before .before .case-pats .kept .1 .1 .1 .1 .1 .0 ∙ c .before .before .before .before .before .before .before .before .before .before .before .before .before .before .before .before .before .before .before .before .before .before .before .case-head .kept .1 .1 .1 .1 .1 .0
+fc-same-length-3 t c = c .before .before .before .before .before .ty-annotation .kept .1 .1 .1 .1 .0 ∙ c .before .before .before .before .before .before .before .before .before .before .before .before .before .before .case-pats .kept .1 .1 .1 .1 .0 ∙ c .before .before .before .before .before .before .before .before .before .before .before .before .before .before .before .before .before .before .before .before .before .before .before .case-head .kept .1 .1 .1 .1 .0
 
 fc-returns-4 : (t : ℕ) → fc-lts.Need-returns-4 (fc-claims t) (fc-at t) fc.Post
 unfolding DecOne.fun-bind-case
 fc-returns-4 t c = record { is = by-same (group-is (c .before .before .before .before .before .before .before .before .before .before .before .before .before .before .before .before .before .before .before .before .before .before .before .before .before .before .before .before .before .before .group .ensures) (c .before .before .before .before .before .before .before .before .before .before .before .before .before .before .before .before .before .before .before .before .before .before .before .before .before .before .before .before .before .told .ensures) (c .before .before .before .before .before .before .before .before .before .before .before .before .before .before .before .before .before .before .before .before .before .before .before .before .before .before .before .s1 .given .1)) (then-done (plain (c .before .before .before .before .before .before .before .before .before .before .before .before .before .before .before .before .before .before .before .before .before .before .before .case-head .ensures)) (c .before .before .before .before .before .before .before .before .before .before .before .before .before .before .before .before .before .before .before .before .told2 .ensures) (c .before .before .before .before .before .before .before .before .before .before .before .before .before .before .before .before .before .before .s2 .given .1) (then-done (plain (c .before .before .before .before .before .before .before .before .before .before .before .before .before .before .case-pats .ensures)) (c .before .before .before .before .before .before .before .before .before .before .before .told3 .ensures) (c .before .before .before .before .before .before .before .before .before .s3 .given .1) (then-stop (plain (c .before .before .before .before .before .ty-annotation .ensures)) (c .before .before .told4 .ensures) (c .enum-told4 .given .1)))) }
 
 fc-qb-requires : (t : ℕ) → fc-lts.Need-qb-requires (fc-claims t) (fc-at t) fc.Post
-fc-qb-requires t c κs = omega (arith, c .before .before .before .before .before .before .before .before .before .before .before .before .before .before .before .before .before .before .before .before .before .before .before .before .before .before .before .before .before .before .before .before .before .before .before .before .before .before .before .before .pre .0, c .before .before .before .before .before .before .before .before .before .before .before .before .before .before .before .before .before .before .before .before .before .before .before .before .before .before .before .before .before .before .before .before .before .before .before .before .before .before .before .before .pre .1)
+fc-qb-requires t c κs = omega (arith, c .before .before .before .before .before .before .before .before .before .before .before .before .before .before .before .before .before .before .before .before .before .before .before .before .before .before .before .before .before .before .before .before .before .before .before .before .before .pre .0, c .before .before .before .before .before .before .before .before .before .before .before .before .before .before .before .before .before .before .before .before .before .before .before .before .before .before .before .before .before .before .before .before .before .before .before .before .before .pre .1)
 
 fc-same-length-4 : (t : ℕ) → fc-lts.Need-same-length-4 (fc-claims t) (fc-at t) fc.Post
-fc-same-length-4 t c = c .before .before .qb .kept .1 .1 .1 .1 .1 .1 .0 ∙ c .before .before .before .before .before .before .before .before .before .before .before .ty-annotation .kept .1 .1 .1 .1 .1 .0 ∙ c .before .before .before .before .before .before .before .before .before .before .before .before .before .before .before .before .before .before .before .before .case-pats .kept .1 .1 .1 .1 .1 .0 ∙ c .before .before .before .before .before .before .before .before .before .before .before .before .before .before .before .before .before .before .before .before .before .before .before .before .before .before .before .before .before .case-head .kept .1 .1 .1 .1 .1 .0
+fc-same-length-4 t c = c .before .before .qb .kept .1 .1 .1 .1 .1 .0 ∙ c .before .before .before .before .before .before .before .before .before .before .before .ty-annotation .kept .1 .1 .1 .1 .0 ∙ c .before .before .before .before .before .before .before .before .before .before .before .before .before .before .before .before .before .before .before .before .case-pats .kept .1 .1 .1 .1 .0 ∙ c .before .before .before .before .before .before .before .before .before .before .before .before .before .before .before .before .before .before .before .before .before .before .before .before .before .before .before .before .before .case-head .kept .1 .1 .1 .1 .0
 
 fc-returns-5 : (t : ℕ) → fc-lts.Need-returns-5 (fc-claims t) (fc-at t) fc.Post
 unfolding DecOne.fun-bind-case
 fc-returns-5 t c = record { is = by-same (group-is (c .before .before .before .before .before .before .before .before .before .before .before .before .before .before .before .before .before .before .before .before .before .before .before .before .before .before .before .before .before .before .before .before .before .before .before .before .group .ensures) (c .before .before .before .before .before .before .before .before .before .before .before .before .before .before .before .before .before .before .before .before .before .before .before .before .before .before .before .before .before .before .before .before .before .before .before .told .ensures) (c .before .before .before .before .before .before .before .before .before .before .before .before .before .before .before .before .before .before .before .before .before .before .before .before .before .before .before .before .before .before .before .before .before .s1 .given .1)) (then-done (plain (c .before .before .before .before .before .before .before .before .before .before .before .before .before .before .before .before .before .before .before .before .before .before .before .before .before .before .before .before .before .case-head .ensures)) (c .before .before .before .before .before .before .before .before .before .before .before .before .before .before .before .before .before .before .before .before .before .before .before .before .before .before .told2 .ensures) (c .before .before .before .before .before .before .before .before .before .before .before .before .before .before .before .before .before .before .before .before .before .before .before .before .s2 .given .1) (then-done (plain (c .before .before .before .before .before .before .before .before .before .before .before .before .before .before .before .before .before .before .before .before .case-pats .ensures)) (c .before .before .before .before .before .before .before .before .before .before .before .before .before .before .before .before .before .told3 .ensures) (c .before .before .before .before .before .before .before .before .before .before .before .before .before .before .before .s3 .given .1) (then-done (plain (c .before .before .before .before .before .before .before .before .before .before .before .ty-annotation .ensures)) (c .before .before .before .before .before .before .before .before .told4 .ensures) (c .before .before .before .before .before .before .s4 .given .1) (c .before .before .qb .ensures .is)))) }
 
 abbrev fd-Inv-loop : fd-lts.InvT-loop
-fd-Inv-loop run text rec kinds starts lens out₀ mem₀ at cfg r1 s1 n s2 s₀ i₀ out mem s i =
-    Turn run (page text rec kinds starts lens) (from (Helpers.new-line (cfgOf cfg) "and ") (DecOne.fun-bind (walks (cfg .nesting)) (cfgOf cfg))) n s₀ mem₀ out₀ i s mem out
+fd-Inv-loop run text rec kinds spans out₀ mem₀ at cfg r1 s1 n s2 s₀ i₀ out mem s i =
+    Turn run (pageAt text rec kinds spans) (from (Helpers.new-line (cfgOf cfg) "and ") (DecOne.fun-bind (walks (cfg .nesting)) (cfgOf cfg))) n s₀ mem₀ out₀ i s mem out
 
 abbrev fd-μ-loop : fd-lts.MeasureT-loop
-fd-μ-loop run text rec kinds starts lens out₀ mem₀ at cfg r1 s1 n s2 s₀ i₀ out mem s i = n - i
+fd-μ-loop run text rec kinds spans out₀ mem₀ at cfg r1 s1 n s2 s₀ i₀ out mem s i = n - i
 
 fd-word-requires : (t : ℕ) → fd-lts.Need-word-requires (fd-claims t) (fd-at t) fd.Post fd-Inv-loop fd-μ-loop
 fd-word-requires t c κs = search needs
@@ -2374,7 +2375,7 @@ fd-enum-told : (t : ℕ) → fd-lts.Need-enum-told (fd-claims t) (fd-at t) fd.Po
 fd-enum-told t c = search needs
 
 fd-same-length : (t : ℕ) → fd-lts.Need-same-length (fd-claims t) (fd-at t) fd.Post fd-Inv-loop fd-μ-loop
-fd-same-length t c = c .before .before .before .before .before .ty-var-seq .kept .1 .1 .1 .1 .1 .0 ∙ c .before .before .before .before .before .before .before .before .before .before .word .kept .1 .1 .0
+fd-same-length t c = c .before .before .before .before .before .ty-var-seq .kept .1 .1 .1 .1 .0 ∙ c .before .before .before .before .before .before .before .before .before .before .word .kept .1 .1 .0
 
 fd-returns : (t : ℕ) → fd-lts.Need-returns (fd-claims t) (fd-at t) fd.Post fd-Inv-loop fd-μ-loop
 unfolding DecOne.dec-one Helpers.sep-with-lines
@@ -2393,7 +2394,7 @@ fd-stop-requires : (t : ℕ) → fd-lts.Need-stop-requires (fd-claims t) (fd-at 
 fd-stop-requires t c κs = search needs
 
 fd-same-length-2 : (t : ℕ) → fd-lts.Need-same-length-2 (fd-claims t) (fd-at t) fd.Post fd-Inv-loop fd-μ-loop
-fd-same-length-2 t c = c .before .before .before .before .before .before .before .before .before .before .ty-var-seq .kept .1 .1 .1 .1 .1 .0 ∙ c .before .before .before .before .before .before .before .before .before .before .before .before .before .before .before .word .kept .1 .1 .0
+fd-same-length-2 t c = c .before .before .before .before .before .before .before .before .before .before .ty-var-seq .kept .1 .1 .1 .1 .0 ∙ c .before .before .before .before .before .before .before .before .before .before .before .before .before .before .before .word .kept .1 .1 .0
 
 fd-returns-2 : (t : ℕ) → fd-lts.Need-returns-2 (fd-claims t) (fd-at t) fd.Post fd-Inv-loop fd-μ-loop
 unfolding DecOne.dec-one Helpers.sep-with-lines
@@ -2406,7 +2407,7 @@ fd-new-line-requires : (t : ℕ) → fd-lts.Need-new-line-requires (fd-claims t)
 fd-new-line-requires t c κs = search needs
 
 fd-fb-requires : (t : ℕ) → fd-lts.Need-fb-requires (fd-claims t) (fd-at t) fd.Post fd-Inv-loop fd-μ-loop
-fd-fb-requires t c κs = omega (arith, c .before .before .before .before .before .before .before .before .before .before .before .before .before .before .before .before .before .before .before .before .before .before .before .before .before .before .before .before .before .before .before .before .before .pre .0, c .before .before .before .before .before .before .before .before .before .before .before .before .before .before .before .before .before .before .before .before .before .before .before .before .before .before .before .before .before .before .before .before .before .pre .1)
+fd-fb-requires t c κs = omega (arith, c .before .before .before .before .before .before .before .before .before .before .before .before .before .before .before .before .before .before .before .before .before .before .before .before .before .before .before .before .before .before .pre .0, c .before .before .before .before .before .before .before .before .before .before .before .before .before .before .before .before .before .before .before .before .before .before .before .before .before .before .before .before .before .before .pre .1)
 
 fd-told-requires-2 : (t : ℕ) → fd-lts.Need-told-requires-2 (fd-claims t) (fd-at t) fd.Post fd-Inv-loop fd-μ-loop
 fd-told-requires-2 t c κs = search needs
@@ -2418,7 +2419,7 @@ fd-enum-told-3 : (t : ℕ) → fd-lts.Need-enum-told-3 (fd-claims t) (fd-at t) f
 fd-enum-told-3 t c = search needs
 
 fd-same-length-3 : (t : ℕ) → fd-lts.Need-same-length-3 (fd-claims t) (fd-at t) fd.Post fd-Inv-loop fd-μ-loop
-fd-same-length-3 t c = c .before .before .before .before .before .fb .kept .1 .1 .1 .1 .1 .1 .0 ∙ c .before .before .before .before .before .before .before .before .before .before .new-line .kept .1 .1 .0 ∙ c .before .before .before .before .before .before .before .before .before .before .before .before .before .before .loop .inv .2 ∙ c .before .before .before .before .before .before .before .before .before .before .before .before .before .before .before .before .before .before .before .before .before .before .before .before .before .ty-var-seq .kept .1 .1 .1 .1 .1 .0 ∙ c .before .before .before .before .before .before .before .before .before .before .before .before .before .before .before .before .before .before .before .before .before .before .before .before .before .before .before .before .before .before .word .kept .1 .1 .0
+fd-same-length-3 t c = c .before .before .before .before .before .fb .kept .1 .1 .1 .1 .1 .0 ∙ c .before .before .before .before .before .before .before .before .before .before .new-line .kept .1 .1 .0 ∙ c .before .before .before .before .before .before .before .before .before .before .before .before .before .before .loop .inv .2 ∙ c .before .before .before .before .before .before .before .before .before .before .before .before .before .before .before .before .before .before .before .before .before .before .before .before .before .ty-var-seq .kept .1 .1 .1 .1 .0 ∙ c .before .before .before .before .before .before .before .before .before .before .before .before .before .before .before .before .before .before .before .before .before .before .before .before .before .before .before .before .before .before .word .kept .1 .1 .0
 
 fd-returns-3 : (t : ℕ) → fd-lts.Need-returns-3 (fd-claims t) (fd-at t) fd.Post fd-Inv-loop fd-μ-loop
 unfolding DecOne.dec-one Helpers.sep-with-lines
@@ -2432,21 +2433,21 @@ fd-loop-less t c = omega arith
 
 fd-loop-again : (t : ℕ) → fd-lts.Need-loop-again (fd-claims t) (fd-at t) fd.Post fd-Inv-loop fd-μ-loop
 unfolding DecOne.dec-one Helpers.sep-with-lines
-fd-loop-again t c = (omega (arith, c .before .before .before .before .before .before .before .before .before .before .before .before .before .before .before .loop .inv .0), λ r m o h. c .before .before .before .before .before .before .before .before .before .before .before .before .before .before .before .loop .inv .1 r m o (from-more _ _ (c .before .before .before .before .before .before .before .before .before .before .before .before .before .before .loop-test .taken) (then-sure (c .before .before .before .before .before .before .before .before .before .before .before .new-line .ensures) (then-done (c .before .before .before .before .before .before .fb .ensures .is) (c .before .before .before .told2 .ensures) (c .before .s3 .given .1) h))), c .before .before .before .before .before .before .fb .kept .1 .1 .1 .1 .1 .1 .0 ∙ c .before .before .before .before .before .before .before .before .before .before .before .new-line .kept .1 .1 .0 ∙ c .before .before .before .before .before .before .before .before .before .before .before .before .before .before .before .loop .inv .2)
+fd-loop-again t c = (omega (arith, c .before .before .before .before .before .before .before .before .before .before .before .before .before .before .before .loop .inv .0), λ r m o h. c .before .before .before .before .before .before .before .before .before .before .before .before .before .before .before .loop .inv .1 r m o (from-more _ _ (c .before .before .before .before .before .before .before .before .before .before .before .before .before .before .loop-test .taken) (then-sure (c .before .before .before .before .before .before .before .before .before .before .before .new-line .ensures) (then-done (c .before .before .before .before .before .before .fb .ensures .is) (c .before .before .before .told2 .ensures) (c .before .s3 .given .1) h))), c .before .before .before .before .before .before .fb .kept .1 .1 .1 .1 .1 .0 ∙ c .before .before .before .before .before .before .before .before .before .before .before .new-line .kept .1 .1 .0 ∙ c .before .before .before .before .before .before .before .before .before .before .before .before .before .before .before .loop .inv .2)
 
 fd-same-length-4 : (t : ℕ) → fd-lts.Need-same-length-4 (fd-claims t) (fd-at t) fd.Post fd-Inv-loop fd-μ-loop
-fd-same-length-4 t c = c .before .loop .inv .2 ∙ c .before .before .before .before .before .before .before .before .before .before .before .before .ty-var-seq .kept .1 .1 .1 .1 .1 .0 ∙ c .before .before .before .before .before .before .before .before .before .before .before .before .before .before .before .before .before .word .kept .1 .1 .0
+fd-same-length-4 t c = c .before .loop .inv .2 ∙ c .before .before .before .before .before .before .before .before .before .before .before .before .ty-var-seq .kept .1 .1 .1 .1 .0 ∙ c .before .before .before .before .before .before .before .before .before .before .before .before .before .before .before .before .before .word .kept .1 .1 .0
 
 fd-returns-4 : (t : ℕ) → fd-lts.Need-returns-4 (fd-claims t) (fd-at t) fd.Post fd-Inv-loop fd-μ-loop
 unfolding DecOne.dec-one Helpers.sep-with-lines
 fd-returns-4 t c = record { is = then-sure (c .before .before .before .before .before .before .before .before .before .before .before .before .before .before .before .before .before .word .ensures) (then-done (plain (c .before .before .before .before .before .before .before .before .before .before .before .before .ty-var-seq .ensures)) (c .before .before .before .before .before .before .before .before .before .told .ensures) (c .before .before .before .before .before .before .before .s1 .given .1) (by-same (list-is (c .before .before .before .before .before .list .ensures) (c .before .before .before .n .given .1)) (by-same (items-all _ _ _) (c .before .loop .inv .1 _ _ _ (from-none _ _ (c .loop-test .left)))))) }
 
 abbrev fe-Inv-loop : fe-lts.InvT-loop
-fe-Inv-loop run text rec kinds starts lens out₀ mem₀ at cfg r1 s1 n s2 s₀ i₀ out mem s i =
-    Turn run (page text rec kinds starts lens) (from (Layout.word " | ") (Exp.get-matcher-arm (walks (cfg .nesting)) (cfgOf cfg))) n s₀ mem₀ out₀ i s mem out
+fe-Inv-loop run text rec kinds spans out₀ mem₀ at cfg r1 s1 n s2 s₀ i₀ out mem s i =
+    Turn run (pageAt text rec kinds spans) (from (Layout.word " | ") (Exp.get-matcher-arm (walks (cfg .nesting)) (cfgOf cfg))) n s₀ mem₀ out₀ i s mem out
 
 abbrev fe-μ-loop : fe-lts.MeasureT-loop
-fe-μ-loop run text rec kinds starts lens out₀ mem₀ at cfg r1 s1 n s2 s₀ i₀ out mem s i = n - i
+fe-μ-loop run text rec kinds spans out₀ mem₀ at cfg r1 s1 n s2 s₀ i₀ out mem s i = n - i
 
 fe-word-requires : (t : ℕ) → fe-lts.Need-word-requires (fe-claims t) (fe-at t) fe.Post fe-Inv-loop fe-μ-loop
 fe-word-requires t c κs = search needs
@@ -2496,7 +2497,7 @@ fe-between-requires : (t : ℕ) → fe-lts.Need-between-requires (fe-claims t) (
 fe-between-requires t c κs = search needs
 
 fe-arm-requires : (t : ℕ) → fe-lts.Need-arm-requires (fe-claims t) (fe-at t) fe.Post fe-Inv-loop fe-μ-loop
-fe-arm-requires t c κs = omega (arith, c .before .before .before .before .before .before .before .before .before .before .before .before .before .before .before .before .before .before .before .before .before .before .before .before .before .before .before .before .before .pre .0, c .before .before .before .before .before .before .before .before .before .before .before .before .before .before .before .before .before .before .before .before .before .before .before .before .before .before .before .before .before .pre .1)
+fe-arm-requires t c κs = omega (arith, c .before .before .before .before .before .before .before .before .before .before .before .before .before .before .before .before .before .before .before .before .before .before .before .before .before .before .pre .0, c .before .before .before .before .before .before .before .before .before .before .before .before .before .before .before .before .before .before .before .before .before .before .before .before .before .before .pre .1)
 
 fe-told-requires-2 : (t : ℕ) → fe-lts.Need-told-requires-2 (fe-claims t) (fe-at t) fe.Post fe-Inv-loop fe-μ-loop
 fe-told-requires-2 t c κs = search needs
@@ -2508,7 +2509,7 @@ fe-enum-told-3 : (t : ℕ) → fe-lts.Need-enum-told-3 (fe-claims t) (fe-at t) f
 fe-enum-told-3 t c = search needs
 
 fe-same-length-3 : (t : ℕ) → fe-lts.Need-same-length-3 (fe-claims t) (fe-at t) fe.Post fe-Inv-loop fe-μ-loop
-fe-same-length-3 t c = c .before .before .before .before .before .arm .kept .1 .1 .1 .1 .1 .1 .0 ∙ c .before .before .before .before .before .before .before .before .before .before .between .kept .1 .1 .0 ∙ c .before .before .before .before .before .before .before .before .before .before .before .before .before .before .loop .inv .2 ∙ c .before .before .before .before .before .before .before .before .before .before .before .before .before .before .before .before .before .before .before .before .before .before .before .before .before .before .word .kept .1 .1 .0
+fe-same-length-3 t c = c .before .before .before .before .before .arm .kept .1 .1 .1 .1 .1 .0 ∙ c .before .before .before .before .before .before .before .before .before .before .between .kept .1 .1 .0 ∙ c .before .before .before .before .before .before .before .before .before .before .before .before .before .before .loop .inv .2 ∙ c .before .before .before .before .before .before .before .before .before .before .before .before .before .before .before .before .before .before .before .before .before .before .before .before .before .before .word .kept .1 .1 .0
 
 fe-returns-3 : (t : ℕ) → fe-lts.Need-returns-3 (fe-claims t) (fe-at t) fe.Post fe-Inv-loop fe-μ-loop
 unfolding Exp.exp Exp.fn-arms Helpers.sep
@@ -2522,7 +2523,7 @@ fe-loop-less t c = omega arith
 
 fe-loop-again : (t : ℕ) → fe-lts.Need-loop-again (fe-claims t) (fe-at t) fe.Post fe-Inv-loop fe-μ-loop
 unfolding Exp.exp Exp.fn-arms Helpers.sep
-fe-loop-again t c = (omega (arith, c .before .before .before .before .before .before .before .before .before .before .before .before .before .before .before .loop .inv .0), λ r m o h. c .before .before .before .before .before .before .before .before .before .before .before .before .before .before .before .loop .inv .1 r m o (from-more _ _ (c .before .before .before .before .before .before .before .before .before .before .before .before .before .before .loop-test .taken) (then-sure (c .before .before .before .before .before .before .before .before .before .before .before .between .ensures) (then-done (c .before .before .before .before .before .before .arm .ensures .is) (c .before .before .before .told2 .ensures) (c .before .s3 .given .1) h))), c .before .before .before .before .before .before .arm .kept .1 .1 .1 .1 .1 .1 .0 ∙ c .before .before .before .before .before .before .before .before .before .before .before .between .kept .1 .1 .0 ∙ c .before .before .before .before .before .before .before .before .before .before .before .before .before .before .before .loop .inv .2)
+fe-loop-again t c = (omega (arith, c .before .before .before .before .before .before .before .before .before .before .before .before .before .before .before .loop .inv .0), λ r m o h. c .before .before .before .before .before .before .before .before .before .before .before .before .before .before .before .loop .inv .1 r m o (from-more _ _ (c .before .before .before .before .before .before .before .before .before .before .before .before .before .before .loop-test .taken) (then-sure (c .before .before .before .before .before .before .before .before .before .before .before .between .ensures) (then-done (c .before .before .before .before .before .before .arm .ensures .is) (c .before .before .before .told2 .ensures) (c .before .s3 .given .1) h))), c .before .before .before .before .before .before .arm .kept .1 .1 .1 .1 .1 .0 ∙ c .before .before .before .before .before .before .before .before .before .before .before .between .kept .1 .1 .0 ∙ c .before .before .before .before .before .before .before .before .before .before .before .before .before .before .before .loop .inv .2)
 
 fe-same-length-4 : (t : ℕ) → fe-lts.Need-same-length-4 (fe-claims t) (fe-at t) fe.Post fe-Inv-loop fe-μ-loop
 fe-same-length-4 t c = c .before .loop .inv .2 ∙ c .before .before .before .before .before .before .before .before .before .before .before .before .before .word .kept .1 .1 .0
@@ -2532,11 +2533,11 @@ unfolding Exp.exp Exp.fn-arms Helpers.sep
 fe-returns-4 t c = record { is = then-sure (c .before .before .before .before .before .before .before .before .before .before .before .before .before .word .ensures) (by-same (group-is (c .before .before .before .before .before .before .before .before .before .before .group .ensures) (c .before .before .before .before .before .before .before .before .before .told .ensures) (c .before .before .before .before .before .before .before .s1 .given .1)) (by-same (list-is (c .before .before .before .before .before .list .ensures) (c .before .before .before .n .given .1)) (by-same (items-all _ _ _) (c .before .loop .inv .1 _ _ _ (from-none _ _ (c .loop-test .left)))))) }
 
 abbrev fs-Inv-loop : fs-lts.InvT-loop
-fs-Inv-loop run text rec kinds starts lens out₀ mem₀ at cfg n s0 s₀ i₀ out mem s i =
-    Turn run (page text rec kinds starts lens) (λ i k. times k (Layout.choice (DecOne.functor-arg (walks (cfg .nesting)) (cfgOf cfg)))) n s₀ mem₀ out₀ i s mem out
+fs-Inv-loop run text rec kinds spans out₀ mem₀ at cfg n s0 s₀ i₀ out mem s i =
+    Turn run (pageAt text rec kinds spans) (λ i k. times k (Layout.choice (DecOne.functor-arg (walks (cfg .nesting)) (cfgOf cfg)))) n s₀ mem₀ out₀ i s mem out
 
 abbrev fs-μ-loop : fs-lts.MeasureT-loop
-fs-μ-loop run text rec kinds starts lens out₀ mem₀ at cfg n s0 s₀ i₀ out mem s i = n - i
+fs-μ-loop run text rec kinds spans out₀ mem₀ at cfg n s0 s₀ i₀ out mem s i = n - i
 
 fs-list-requires : (t : ℕ) → fs-lts.Need-list-requires (fs-claims t) (fs-at t) fs.Post fs-Inv-loop fs-μ-loop
 fs-list-requires t c κs = search needs
@@ -2577,7 +2578,7 @@ unfolding DecOne.functor-args Helpers.for-each
 fs-returns-2 t c = record { is = by-same (list-is (c .before .before .before .before .before .before .before .before .before .list .ensures) (c .before .before .before .before .before .before .before .n .given .1)) (by-same (times-all _ _) (c .before .before .before .before .before .loop .inv .1 _ _ _ (times-more _ (c .before .before .before .before .loop-test .taken) (then-halt (choice-not (c .stop2 .ensures) (c .before .before .before .choice .ensures) (c .before .enum-told2 .given .1)) (c .stop2 .ensures))))) }
 
 fs-fa-requires : (t : ℕ) → fs-lts.Need-fa-requires (fs-claims t) (fs-at t) fs.Post fs-Inv-loop fs-μ-loop
-fs-fa-requires t c κs = omega (arith, c .before .before .before .before .before .before .before .before .before .before .before .before .before .before .before .before .before .before .pre .0, c .before .before .before .before .before .before .before .before .before .before .before .before .before .before .before .before .before .before .pre .1)
+fs-fa-requires t c κs = omega (arith, c .before .before .before .before .before .before .before .before .before .before .before .before .before .before .before .pre .0, c .before .before .before .before .before .before .before .before .before .before .before .before .before .before .before .pre .1)
 
 fs-told-requires : (t : ℕ) → fs-lts.Need-told-requires (fs-claims t) (fs-at t) fs.Post fs-Inv-loop fs-μ-loop
 fs-told-requires t c κs = search needs
@@ -2589,7 +2590,7 @@ fs-enum-told-3 : (t : ℕ) → fs-lts.Need-enum-told-3 (fs-claims t) (fs-at t) f
 fs-enum-told-3 t c = search needs
 
 fs-same-length-2 : (t : ℕ) → fs-lts.Need-same-length-2 (fs-claims t) (fs-at t) fs.Post fs-Inv-loop fs-μ-loop
-fs-same-length-2 t c = c .before .before .before .before .before .fa .kept .1 .1 .1 .1 .1 .1 .0 ∙ c .before .before .before .before .before .before .before .before .before .before .before .before .before .loop .inv .2
+fs-same-length-2 t c = c .before .before .before .before .before .fa .kept .1 .1 .1 .1 .1 .0 ∙ c .before .before .before .before .before .before .before .before .before .before .before .before .before .loop .inv .2
 
 fs-returns-3 : (t : ℕ) → fs-lts.Need-returns-3 (fs-claims t) (fs-at t) fs.Post fs-Inv-loop fs-μ-loop
 unfolding DecOne.functor-args Helpers.for-each
@@ -2603,7 +2604,7 @@ fs-loop-less t c = omega arith
 
 fs-loop-again : (t : ℕ) → fs-lts.Need-loop-again (fs-claims t) (fs-at t) fs.Post fs-Inv-loop fs-μ-loop
 unfolding DecOne.functor-args Helpers.for-each
-fs-loop-again t c = (omega (arith, c .before .before .before .before .before .before .before .before .before .before .before .before .before .before .loop .inv .0), λ r m o h. c .before .before .before .before .before .before .before .before .before .before .before .before .before .before .loop .inv .1 r m o (times-more _ (c .before .before .before .before .before .before .before .before .before .before .before .before .before .loop-test .taken) (by-same (first-same (choice-is (c .before .before .before .before .before .before .before .before .before .before .before .before .choice .ensures) (c .before .before .before .before .before .before .before .before .before .before .k .given .1))) (then-done (c .before .before .before .before .before .before .fa .ensures .is) (c .before .before .before .told .ensures) (c .before .s2 .given .1) h))), c .before .before .before .before .before .before .fa .kept .1 .1 .1 .1 .1 .1 .0 ∙ c .before .before .before .before .before .before .before .before .before .before .before .before .before .before .loop .inv .2)
+fs-loop-again t c = (omega (arith, c .before .before .before .before .before .before .before .before .before .before .before .before .before .before .loop .inv .0), λ r m o h. c .before .before .before .before .before .before .before .before .before .before .before .before .before .before .loop .inv .1 r m o (times-more _ (c .before .before .before .before .before .before .before .before .before .before .before .before .before .loop-test .taken) (by-same (first-same (choice-is (c .before .before .before .before .before .before .before .before .before .before .before .before .choice .ensures) (c .before .before .before .before .before .before .before .before .before .before .k .given .1))) (then-done (c .before .before .before .before .before .before .fa .ensures .is) (c .before .before .before .told .ensures) (c .before .s2 .given .1) h))), c .before .before .before .before .before .before .fa .kept .1 .1 .1 .1 .1 .0 ∙ c .before .before .before .before .before .before .before .before .before .before .before .before .before .before .loop .inv .2)
 
 fs-same-length-3 : (t : ℕ) → fs-lts.Need-same-length-3 (fs-claims t) (fs-at t) fs.Post fs-Inv-loop fs-μ-loop
 fs-same-length-3 t c = c .before .loop .inv .2
@@ -2629,7 +2630,7 @@ unfolding Exp.exp
 fx-returns t c = record { is = then-halt (operator-not (c .stop .ensures) (c .before .before .before .token-no .ensures) (c .before .enum-told .given .1)) (c .stop .ensures) }
 
 fx-exp-requires : (t : ℕ) → fx-lts.Need-exp-requires (fx-claims t) (fx-at t) fx.Post
-fx-exp-requires t c κs = omega (arith, c .before .before .before .before .before .before .before .before .before .before .before .before .pre .0, c .before .before .before .before .before .before .before .before .before .before .before .before .pre .1)
+fx-exp-requires t c κs = omega (arith, c .before .before .before .before .before .before .before .before .before .pre .0, c .before .before .before .before .before .before .before .before .before .pre .1)
 
 fx-told-requires : (t : ℕ) → fx-lts.Need-told-requires (fx-claims t) (fx-at t) fx.Post
 fx-told-requires t c κs = search needs
@@ -2641,31 +2642,31 @@ fx-enum-told-2 : (t : ℕ) → fx-lts.Need-enum-told-2 (fx-claims t) (fx-at t) f
 fx-enum-told-2 t c = search needs
 
 fx-same-length : (t : ℕ) → fx-lts.Need-same-length (fx-claims t) (fx-at t) fx.Post
-fx-same-length t c = c .before .before .before .before .before .exp .kept .1 .1 .1 .1 .1 .1 .0
+fx-same-length t c = c .before .before .before .before .before .exp .kept .1 .1 .1 .1 .1 .0
 
 fx-returns-2 : (t : ℕ) → fx-lts.Need-returns-2 (fx-claims t) (fx-at t) fx.Post
 unfolding Exp.exp
 fx-returns-2 t c = record { is = then-stop (operator-stop (c .before .before .before .before .before .before .before .before .before .before .before .token-no .ensures) (c .before .before .before .before .before .before .before .before .before .k .given .1) (c .before .before .before .before .before .exp .ensures .is) (c .before .before .told .ensures) (c .enum-told2 .given .1)) (c .before .before .told .ensures) (c .enum-told2 .given .1) }
 
 fx-infix-operator-requires : (t : ℕ) → fx-lts.Need-infix-operator-requires (fx-claims t) (fx-at t) fx.Post
-fx-infix-operator-requires t c κs = omega (arith, c .before .before .before .before .before .before .before .before .before .before .before .before .before .before .before .before .before .before .before .before .before .pre .1)
+fx-infix-operator-requires t c κs = omega (arith, c .before .before .before .before .before .before .before .before .before .before .before .before .before .before .before .before .before .before .pre .1)
 
 fx-exp-requires-2 : (t : ℕ) → fx-lts.Need-exp-requires-2 (fx-claims t) (fx-at t) fx.Post
-fx-exp-requires-2 t c κs = omega (arith, c .before .before .before .before .before .before .before .before .before .before .before .before .before .before .before .before .before .before .before .before .before .before .before .before .before .before .pre .0, c .before .before .before .before .before .before .before .before .before .before .before .before .before .before .before .before .before .before .before .before .before .before .before .before .before .before .pre .1)
+fx-exp-requires-2 t c κs = omega (arith, c .before .before .before .before .before .before .before .before .before .before .before .before .before .before .before .before .before .before .before .before .before .before .before .pre .0, c .before .before .before .before .before .before .before .before .before .before .before .before .before .before .before .before .before .before .before .before .before .before .before .pre .1)
 
 fx-same-length-2 : (t : ℕ) → fx-lts.Need-same-length-2 (fx-claims t) (fx-at t) fx.Post
-fx-same-length-2 t c = c .before .before .exp2 .kept .1 .1 .1 .1 .1 .1 .0 ∙ c .before .before .before .before .before .before .before .infix-operator .kept .1 .1 .1 .1 .1 .0 ∙ c .before .before .before .before .before .before .before .before .before .before .before .before .before .before .before .before .exp .kept .1 .1 .1 .1 .1 .1 .0
+fx-same-length-2 t c = c .before .before .exp2 .kept .1 .1 .1 .1 .1 .0 ∙ c .before .before .before .before .before .before .before .infix-operator .kept .1 .1 .1 .1 .0 ∙ c .before .before .before .before .before .before .before .before .before .before .before .before .before .before .before .before .exp .kept .1 .1 .1 .1 .1 .0
 
 fx-returns-3 : (t : ℕ) → fx-lts.Need-returns-3 (fx-claims t) (fx-at t) fx.Post
 unfolding Exp.exp
 fx-returns-3 t c = record { is = operator-then (c .before .before .before .before .before .before .before .before .before .before .before .before .before .before .before .before .before .before .before .before .before .before .token-no .ensures) (c .before .before .before .before .before .before .before .before .before .before .before .before .before .before .before .before .before .before .before .before .k .given .1) (c .before .before .before .before .before .before .before .before .before .before .before .before .before .before .before .before .exp .ensures .is) (c .before .before .before .before .before .before .before .before .before .before .before .before .before .told .ensures) (c .before .before .before .before .before .before .before .before .before .before .before .s2 .given .1) (c .before .before .before .before .before .before .before .infix-operator .ensures) (c .before .before .exp2 .ensures .is) }
 
 abbrev gd-Inv-loop : gd-lts.InvT-loop
-gd-Inv-loop run text rec kinds starts lens out₀ mem₀ at cfg n s1 s₀ i₀ out mem s i =
-    Turn run (page text rec kinds starts lens) (from (Helpers.new-line (cfgOf cfg) "and ") (DecOne.sig-bind (walks (cfg .nesting)) (cfgOf cfg))) n s₀ mem₀ out₀ i s mem out
+gd-Inv-loop run text rec kinds spans out₀ mem₀ at cfg n s1 s₀ i₀ out mem s i =
+    Turn run (pageAt text rec kinds spans) (from (Helpers.new-line (cfgOf cfg) "and ") (DecOne.sig-bind (walks (cfg .nesting)) (cfgOf cfg))) n s₀ mem₀ out₀ i s mem out
 
 abbrev gd-μ-loop : gd-lts.MeasureT-loop
-gd-μ-loop run text rec kinds starts lens out₀ mem₀ at cfg n s1 s₀ i₀ out mem s i = n - i
+gd-μ-loop run text rec kinds spans out₀ mem₀ at cfg n s1 s₀ i₀ out mem s i = n - i
 
 gd-word-requires : (t : ℕ) → gd-lts.Need-word-requires (gd-claims t) (gd-at t) gd.Post gd-Inv-loop gd-μ-loop
 gd-word-requires t c κs = search needs
@@ -2715,7 +2716,7 @@ unfolding DecOne.dec-one DecOne.sig-bind Helpers.sep-with-lines
 gd-returns-2 t c = record { is = then-sure (c .before .before .before .before .before .before .before .before .before .before .before .before .before .before .before .before .before .word .ensures) (by-same (list-is (c .before .before .before .before .before .before .before .before .before .before .before .before .before .before .list .ensures) (c .before .before .before .before .before .before .before .before .before .before .before .before .n .given .1)) (by-same (items-all _ _ _) (c .before .before .before .before .before .before .before .before .before .before .loop .inv .1 _ _ _ (from-more _ _ (c .before .before .before .before .before .before .before .before .before .loop-test .taken) (then-sure (c .before .before .before .before .before .before .new-line .ensures) (then-stop (group-not (c .before .before .before .group .ensures) (c .before .before .told .ensures) (c .enum-told2 .given .1)) (c .before .before .told .ensures) (c .enum-told2 .given .1))))))) }
 
 gd-nm-requires : (t : ℕ) → gd-lts.Need-nm-requires (gd-claims t) (gd-at t) gd.Post gd-Inv-loop gd-μ-loop
-gd-nm-requires t c κs = omega (arith, c .before .before .before .before .before .before .before .before .before .before .before .before .before .before .before .before .before .before .before .before .before .before .before .before .before .before .before .before .before .pre .0, c .before .before .before .before .before .before .before .before .before .before .before .before .before .before .before .before .before .before .before .before .before .before .before .before .before .before .before .before .before .pre .1)
+gd-nm-requires t c κs = omega (arith, c .before .before .before .before .before .before .before .before .before .before .before .before .before .before .before .before .before .before .before .before .before .before .before .before .before .before .pre .0, c .before .before .before .before .before .before .before .before .before .before .before .before .before .before .before .before .before .before .before .before .before .before .before .before .before .before .pre .1)
 
 gd-told-requires-2 : (t : ℕ) → gd-lts.Need-told-requires-2 (gd-claims t) (gd-at t) gd.Post gd-Inv-loop gd-μ-loop
 gd-told-requires-2 t c κs = search needs
@@ -2727,7 +2728,7 @@ gd-enum-told-3 : (t : ℕ) → gd-lts.Need-enum-told-3 (gd-claims t) (gd-at t) g
 gd-enum-told-3 t c = search needs
 
 gd-same-length-3 : (t : ℕ) → gd-lts.Need-same-length-3 (gd-claims t) (gd-at t) gd.Post gd-Inv-loop gd-μ-loop
-gd-same-length-3 t c = c .before .before .before .before .before .nm .kept .1 .1 .1 .1 .1 .1 .0 ∙ c .before .before .before .before .before .before .before .before .before .before .before .before .before .before .before .new-line .kept .1 .1 .0 ∙ c .before .before .before .before .before .before .before .before .before .before .before .before .before .before .before .before .before .before .before .loop .inv .2 ∙ c .before .before .before .before .before .before .before .before .before .before .before .before .before .before .before .before .before .before .before .before .before .before .before .before .before .before .word .kept .1 .1 .0
+gd-same-length-3 t c = c .before .before .before .before .before .nm .kept .1 .1 .1 .1 .1 .0 ∙ c .before .before .before .before .before .before .before .before .before .before .before .before .before .before .before .new-line .kept .1 .1 .0 ∙ c .before .before .before .before .before .before .before .before .before .before .before .before .before .before .before .before .before .before .before .loop .inv .2 ∙ c .before .before .before .before .before .before .before .before .before .before .before .before .before .before .before .before .before .before .before .before .before .before .before .before .before .before .word .kept .1 .1 .0
 
 gd-returns-3 : (t : ℕ) → gd-lts.Need-returns-3 (gd-claims t) (gd-at t) gd.Post gd-Inv-loop gd-μ-loop
 unfolding DecOne.dec-one DecOne.sig-bind Helpers.sep-with-lines
@@ -2741,7 +2742,7 @@ gd-loop-less t c = omega arith
 
 gd-loop-again : (t : ℕ) → gd-lts.Need-loop-again (gd-claims t) (gd-at t) gd.Post gd-Inv-loop gd-μ-loop
 unfolding DecOne.dec-one DecOne.sig-bind Helpers.sep-with-lines
-gd-loop-again t c = (omega (arith, c .before .before .before .before .before .before .before .before .before .before .before .before .before .before .before .before .before .before .before .before .loop .inv .0), λ r m o h. c .before .before .before .before .before .before .before .before .before .before .before .before .before .before .before .before .before .before .before .before .loop .inv .1 r m o (from-more _ _ (c .before .before .before .before .before .before .before .before .before .before .before .before .before .before .before .before .before .before .before .loop-test .taken) (then-sure (c .before .before .before .before .before .before .before .before .before .before .before .before .before .before .before .before .new-line .ensures) (by-same (first-same (group-is (c .before .before .before .before .before .before .before .before .before .before .before .before .before .group .ensures) (c .before .before .before .before .before .before .before .before .before .before .before .before .told .ensures) (c .before .before .before .before .before .before .before .before .before .before .s2 .given .1))) (then-done (c .before .before .before .before .before .before .nm .ensures .is) (c .before .before .before .told2 .ensures) (c .before .s3 .given .1) h)))), c .before .before .before .before .before .before .nm .kept .1 .1 .1 .1 .1 .1 .0 ∙ c .before .before .before .before .before .before .before .before .before .before .before .before .before .before .before .before .new-line .kept .1 .1 .0 ∙ c .before .before .before .before .before .before .before .before .before .before .before .before .before .before .before .before .before .before .before .before .loop .inv .2)
+gd-loop-again t c = (omega (arith, c .before .before .before .before .before .before .before .before .before .before .before .before .before .before .before .before .before .before .before .before .loop .inv .0), λ r m o h. c .before .before .before .before .before .before .before .before .before .before .before .before .before .before .before .before .before .before .before .before .loop .inv .1 r m o (from-more _ _ (c .before .before .before .before .before .before .before .before .before .before .before .before .before .before .before .before .before .before .before .loop-test .taken) (then-sure (c .before .before .before .before .before .before .before .before .before .before .before .before .before .before .before .before .new-line .ensures) (by-same (first-same (group-is (c .before .before .before .before .before .before .before .before .before .before .before .before .before .group .ensures) (c .before .before .before .before .before .before .before .before .before .before .before .before .told .ensures) (c .before .before .before .before .before .before .before .before .before .before .s2 .given .1))) (then-done (c .before .before .before .before .before .before .nm .ensures .is) (c .before .before .before .told2 .ensures) (c .before .s3 .given .1) h)))), c .before .before .before .before .before .before .nm .kept .1 .1 .1 .1 .1 .0 ∙ c .before .before .before .before .before .before .before .before .before .before .before .before .before .before .before .before .new-line .kept .1 .1 .0 ∙ c .before .before .before .before .before .before .before .before .before .before .before .before .before .before .before .before .before .before .before .before .loop .inv .2)
 
 gd-same-length-4 : (t : ℕ) → gd-lts.Need-same-length-4 (gd-claims t) (gd-at t) gd.Post gd-Inv-loop gd-μ-loop
 gd-same-length-4 t c = c .before .loop .inv .2 ∙ c .before .before .before .before .before .before .before .before .word .kept .1 .1 .0
@@ -2751,7 +2752,7 @@ unfolding DecOne.dec-one DecOne.sig-bind Helpers.sep-with-lines
 gd-returns-4 t c = record { is = then-sure (c .before .before .before .before .before .before .before .before .word .ensures) (by-same (list-is (c .before .before .before .before .before .list .ensures) (c .before .before .before .n .given .1)) (by-same (items-all _ _ _) (c .before .loop .inv .1 _ _ _ (from-none _ _ (c .loop-test .left))))) }
 
 ha-exp-requires : (t : ℕ) → ha-lts.Need-exp-requires (ha-claims t) (ha-at t) ha.Post
-ha-exp-requires t c κs = omega (arith, c .before .before .before .before .before .before .before .before .pre .0, c .before .before .before .before .before .before .before .before .pre .1)
+ha-exp-requires t c κs = omega (arith, c .before .before .before .before .before .pre .0, c .before .before .before .before .before .pre .1)
 
 ha-told-requires : (t : ℕ) → ha-lts.Need-told-requires (ha-claims t) (ha-at t) ha.Post
 ha-told-requires t c κs = search needs
@@ -2763,7 +2764,7 @@ ha-enum-told : (t : ℕ) → ha-lts.Need-enum-told (ha-claims t) (ha-at t) ha.Po
 ha-enum-told t c = search needs
 
 ha-same-length : (t : ℕ) → ha-lts.Need-same-length (ha-claims t) (ha-at t) ha.Post
-ha-same-length t c = c .before .before .before .before .before .exp .kept .1 .1 .1 .1 .1 .1 .0
+ha-same-length t c = c .before .before .before .before .before .exp .kept .1 .1 .1 .1 .1 .0
 
 ha-returns : (t : ℕ) → ha-lts.Need-returns (ha-claims t) (ha-at t) ha.Post
 ha-returns t c = record { is = then-stop (c .before .before .before .before .before .exp .ensures .is) (c .before .before .told .ensures) (c .enum-told .given .1) }
@@ -2772,20 +2773,20 @@ ha-word-requires : (t : ℕ) → ha-lts.Need-word-requires (ha-claims t) (ha-at 
 ha-word-requires t c κs = search needs
 
 ha-ma-requires : (t : ℕ) → ha-lts.Need-ma-requires (ha-claims t) (ha-at t) ha.Post
-ha-ma-requires t c κs = omega (arith, c .before .before .before .before .before .before .before .before .before .before .before .before .before .before .before .before .before .before .before .before .before .before .pre .0, c .before .before .before .before .before .before .before .before .before .before .before .before .before .before .before .before .before .before .before .before .before .before .pre .1)
+ha-ma-requires t c κs = omega (arith, c .before .before .before .before .before .before .before .before .before .before .before .before .before .before .before .before .before .before .before .pre .0, c .before .before .before .before .before .before .before .before .before .before .before .before .before .before .before .before .before .before .before .pre .1)
 
 ha-same-length-2 : (t : ℕ) → ha-lts.Need-same-length-2 (ha-claims t) (ha-at t) ha.Post
-ha-same-length-2 t c = c .before .before .ma .kept .1 .1 .1 .1 .1 .1 .0 ∙ c .before .before .before .before .before .before .before .word .kept .1 .1 .0 ∙ c .before .before .before .before .before .before .before .before .before .before .before .before .before .before .before .before .exp .kept .1 .1 .1 .1 .1 .1 .0
+ha-same-length-2 t c = c .before .before .ma .kept .1 .1 .1 .1 .1 .0 ∙ c .before .before .before .before .before .before .before .word .kept .1 .1 .0 ∙ c .before .before .before .before .before .before .before .before .before .before .before .before .before .before .before .before .exp .kept .1 .1 .1 .1 .1 .0
 
 ha-returns-2 : (t : ℕ) → ha-lts.Need-returns-2 (ha-claims t) (ha-at t) ha.Post
 ha-returns-2 t c = record { is = then-done (c .before .before .before .before .before .before .before .before .before .before .before .before .before .before .before .before .exp .ensures .is) (c .before .before .before .before .before .before .before .before .before .before .before .before .before .told .ensures) (c .before .before .before .before .before .before .before .before .before .before .before .s1 .given .1) (then-sure (c .before .before .before .before .before .before .before .word .ensures) (c .before .before .ma .ensures .is)) }
 
 abbrev ic-Inv-loop : ic-lts.InvT-loop
-ic-Inv-loop run text rec kinds starts lens out₀ mem₀ at cfg n s1 s₀ i₀ out mem s i =
-    Turn run (page text rec kinds starts lens) (from (Layout.word " ") (walks (cfg .nesting) .get-sig-exp (cfgOf cfg))) n s₀ mem₀ out₀ i s mem out
+ic-Inv-loop run text rec kinds spans out₀ mem₀ at cfg n s1 s₀ i₀ out mem s i =
+    Turn run (pageAt text rec kinds spans) (from (Layout.word " ") (walks (cfg .nesting) .get-sig-exp (cfgOf cfg))) n s₀ mem₀ out₀ i s mem out
 
 abbrev ic-μ-loop : ic-lts.MeasureT-loop
-ic-μ-loop run text rec kinds starts lens out₀ mem₀ at cfg n s1 s₀ i₀ out mem s i = n - i
+ic-μ-loop run text rec kinds spans out₀ mem₀ at cfg n s1 s₀ i₀ out mem s i = n - i
 
 ic-word-requires : (t : ℕ) → ic-lts.Need-word-requires (ic-claims t) (ic-at t) ic.Post ic-Inv-loop ic-μ-loop
 ic-word-requires t c κs = search needs
@@ -2816,7 +2817,7 @@ ic-between-requires : (t : ℕ) → ic-lts.Need-between-requires (ic-claims t) (
 ic-between-requires t c κs = search needs
 
 ic-sig-requires : (t : ℕ) → ic-lts.Need-sig-requires (ic-claims t) (ic-at t) ic.Post ic-Inv-loop ic-μ-loop
-ic-sig-requires t c κs = omega (arith, c .before .before .before .before .before .before .before .before .before .before .before .before .before .before .before .before .before .before .before .before .before .before .before .before .pre .0, c .before .before .before .before .before .before .before .before .before .before .before .before .before .before .before .before .before .before .before .before .before .before .before .before .pre .1)
+ic-sig-requires t c κs = omega (arith, c .before .before .before .before .before .before .before .before .before .before .before .before .before .before .before .before .before .before .before .before .before .pre .0, c .before .before .before .before .before .before .before .before .before .before .before .before .before .before .before .before .before .before .before .before .before .pre .1)
 
 ic-told-requires : (t : ℕ) → ic-lts.Need-told-requires (ic-claims t) (ic-at t) ic.Post ic-Inv-loop ic-μ-loop
 ic-told-requires t c κs = search needs
@@ -2828,7 +2829,7 @@ ic-enum-told-2 : (t : ℕ) → ic-lts.Need-enum-told-2 (ic-claims t) (ic-at t) i
 ic-enum-told-2 t c = search needs
 
 ic-same-length-2 : (t : ℕ) → ic-lts.Need-same-length-2 (ic-claims t) (ic-at t) ic.Post ic-Inv-loop ic-μ-loop
-ic-same-length-2 t c = c .before .before .before .before .before .sig .kept .1 .1 .1 .1 .1 .1 .0 ∙ c .before .before .before .before .before .before .before .before .before .before .between .kept .1 .1 .0 ∙ c .before .before .before .before .before .before .before .before .before .before .before .before .before .before .loop .inv .2 ∙ c .before .before .before .before .before .before .before .before .before .before .before .before .before .before .before .before .before .before .before .before .before .word .kept .1 .1 .0
+ic-same-length-2 t c = c .before .before .before .before .before .sig .kept .1 .1 .1 .1 .1 .0 ∙ c .before .before .before .before .before .before .before .before .before .before .between .kept .1 .1 .0 ∙ c .before .before .before .before .before .before .before .before .before .before .before .before .before .before .loop .inv .2 ∙ c .before .before .before .before .before .before .before .before .before .before .before .before .before .before .before .before .before .before .before .before .before .word .kept .1 .1 .0
 
 ic-returns-2 : (t : ℕ) → ic-lts.Need-returns-2 (ic-claims t) (ic-at t) ic.Post ic-Inv-loop ic-μ-loop
 unfolding DecOne.dec-one Helpers.sep
@@ -2842,7 +2843,7 @@ ic-loop-less t c = omega arith
 
 ic-loop-again : (t : ℕ) → ic-lts.Need-loop-again (ic-claims t) (ic-at t) ic.Post ic-Inv-loop ic-μ-loop
 unfolding DecOne.dec-one Helpers.sep
-ic-loop-again t c = (omega (arith, c .before .before .before .before .before .before .before .before .before .before .before .before .before .before .before .loop .inv .0), λ r m o h. c .before .before .before .before .before .before .before .before .before .before .before .before .before .before .before .loop .inv .1 r m o (from-more _ _ (c .before .before .before .before .before .before .before .before .before .before .before .before .before .before .loop-test .taken) (then-sure (c .before .before .before .before .before .before .before .before .before .before .before .between .ensures) (then-done (c .before .before .before .before .before .before .sig .ensures .is) (c .before .before .before .told .ensures) (c .before .s2 .given .1) h))), c .before .before .before .before .before .before .sig .kept .1 .1 .1 .1 .1 .1 .0 ∙ c .before .before .before .before .before .before .before .before .before .before .before .between .kept .1 .1 .0 ∙ c .before .before .before .before .before .before .before .before .before .before .before .before .before .before .before .loop .inv .2)
+ic-loop-again t c = (omega (arith, c .before .before .before .before .before .before .before .before .before .before .before .before .before .before .before .loop .inv .0), λ r m o h. c .before .before .before .before .before .before .before .before .before .before .before .before .before .before .before .loop .inv .1 r m o (from-more _ _ (c .before .before .before .before .before .before .before .before .before .before .before .before .before .before .loop-test .taken) (then-sure (c .before .before .before .before .before .before .before .before .before .before .before .between .ensures) (then-done (c .before .before .before .before .before .before .sig .ensures .is) (c .before .before .before .told .ensures) (c .before .s2 .given .1) h))), c .before .before .before .before .before .before .sig .kept .1 .1 .1 .1 .1 .0 ∙ c .before .before .before .before .before .before .before .before .before .before .before .between .kept .1 .1 .0 ∙ c .before .before .before .before .before .before .before .before .before .before .before .before .before .before .before .loop .inv .2)
 
 ic-same-length-3 : (t : ℕ) → ic-lts.Need-same-length-3 (ic-claims t) (ic-at t) ic.Post ic-Inv-loop ic-μ-loop
 ic-same-length-3 t c = c .before .loop .inv .2 ∙ c .before .before .before .before .before .before .before .before .word .kept .1 .1 .0
@@ -2855,7 +2856,7 @@ ie-word-requires : (t : ℕ) → ie-lts.Need-word-requires (ie-claims t) (ie-at 
 ie-word-requires t c κs = search needs
 
 ie-exp-requires : (t : ℕ) → ie-lts.Need-exp-requires (ie-claims t) (ie-at t) ie.Post
-ie-exp-requires t c κs = omega (arith, c .before .before .before .before .before .before .before .before .before .before .before .before .before .pre .0, c .before .before .before .before .before .before .before .before .before .before .before .before .before .pre .1)
+ie-exp-requires t c κs = omega (arith, c .before .before .before .before .before .before .before .before .before .before .pre .0, c .before .before .before .before .before .before .before .before .before .before .pre .1)
 
 ie-told-requires : (t : ℕ) → ie-lts.Need-told-requires (ie-claims t) (ie-at t) ie.Post
 ie-told-requires t c κs = search needs
@@ -2867,7 +2868,7 @@ ie-enum-told : (t : ℕ) → ie-lts.Need-enum-told (ie-claims t) (ie-at t) ie.Po
 ie-enum-told t c = search needs
 
 ie-same-length : (t : ℕ) → ie-lts.Need-same-length (ie-claims t) (ie-at t) ie.Post
-ie-same-length t c = c .before .before .before .before .before .exp .kept .1 .1 .1 .1 .1 .1 .0 ∙ c .before .before .before .before .before .before .before .before .before .before .word .kept .1 .1 .0
+ie-same-length t c = c .before .before .before .before .before .exp .kept .1 .1 .1 .1 .1 .0 ∙ c .before .before .before .before .before .before .before .before .before .before .word .kept .1 .1 .0
 
 ie-returns : (t : ℕ) → ie-lts.Need-returns (ie-claims t) (ie-at t) ie.Post
 unfolding Exp.exp Exp.if-no Helpers.indent-deeper Helpers.deepen
@@ -2877,13 +2878,13 @@ ie-word-requires-2 : (t : ℕ) → ie-lts.Need-word-requires-2 (ie-claims t) (ie
 ie-word-requires-2 t c κs = search needs
 
 ie-indent-deeper-requires : (t : ℕ) → ie-lts.Need-indent-deeper-requires (ie-claims t) (ie-at t) ie.Post
-ie-indent-deeper-requires t c κs = omega (arith, c .before .before .before .before .before .before .before .before .before .before .before .before .before .before .before .before .before .before .before .before .before .before .before .before .before .before .before .pre .1)
+ie-indent-deeper-requires t c κs = omega (arith, c .before .before .before .before .before .before .before .before .before .before .before .before .before .before .before .before .before .before .before .before .before .before .before .before .pre .1)
 
 ie-indented-requires : (t : ℕ) → ie-lts.Need-indented-requires (ie-claims t) (ie-at t) ie.Post
-ie-indented-requires t c κs = omega (arith, c .before .before .before .before .before .before .before .before .before .before .before .before .before .before .before .before .before .before .before .before .before .before .before .before .before .before .before .before .before .before .pre .1)
+ie-indented-requires t c κs = omega (arith, c .before .before .before .before .before .before .before .before .before .before .before .before .before .before .before .before .before .before .before .before .before .before .before .before .before .before .before .pre .1)
 
 ie-exp-requires-2 : (t : ℕ) → ie-lts.Need-exp-requires-2 (ie-claims t) (ie-at t) ie.Post
-ie-exp-requires-2 t c κs = omega (arith, c .before .before .before .before .before .before .before .before .before .before .before .before .before .before .before .before .before .before .before .before .before .before .before .before .before .before .before .before .before .before .before .before .before .pre .0, c .before .before .before .before .before .before .before .before .before .before .before .before .before .before .before .before .before .before .before .before .before .before .before .before .before .before .before .before .before .before .before .before .before .pre .1, deep-depth (c .before .before .indented .ensures), deep-left (c .before .before .indented .ensures))
+ie-exp-requires-2 t c κs = omega (arith, c .before .before .before .before .before .before .before .before .before .before .before .before .before .before .before .before .before .before .before .before .before .before .before .before .before .before .before .before .before .before .pre .0, c .before .before .before .before .before .before .before .before .before .before .before .before .before .before .before .before .before .before .before .before .before .before .before .before .before .before .before .before .before .before .pre .1, deep-depth (c .before .before .indented .ensures), deep-left (c .before .before .indented .ensures))
 
 ie-told-requires-2 : (t : ℕ) → ie-lts.Need-told-requires-2 (ie-claims t) (ie-at t) ie.Post
 ie-told-requires-2 t c κs = search needs
@@ -2895,7 +2896,7 @@ ie-enum-told-2 : (t : ℕ) → ie-lts.Need-enum-told-2 (ie-claims t) (ie-at t) i
 ie-enum-told-2 t c = search needs
 
 ie-same-length-2 : (t : ℕ) → ie-lts.Need-same-length-2 (ie-claims t) (ie-at t) ie.Post
-ie-same-length-2 t c = c .before .before .before .before .before .exp2 .kept .1 .1 .1 .1 .1 .1 .0 ∙ c .before .before .before .before .before .before .before .before .before .before .before .indent-deeper .kept .0 ∙ c .before .before .before .before .before .before .before .before .before .before .before .before .before .before .before .before .word2 .kept .1 .1 .0 ∙ c .before .before .before .before .before .before .before .before .before .before .before .before .before .before .before .before .before .before .before .before .before .before .before .before .before .exp .kept .1 .1 .1 .1 .1 .1 .0 ∙ c .before .before .before .before .before .before .before .before .before .before .before .before .before .before .before .before .before .before .before .before .before .before .before .before .before .before .before .before .before .before .word .kept .1 .1 .0
+ie-same-length-2 t c = c .before .before .before .before .before .exp2 .kept .1 .1 .1 .1 .1 .0 ∙ c .before .before .before .before .before .before .before .before .before .before .before .indent-deeper .kept .0 ∙ c .before .before .before .before .before .before .before .before .before .before .before .before .before .before .before .before .word2 .kept .1 .1 .0 ∙ c .before .before .before .before .before .before .before .before .before .before .before .before .before .before .before .before .before .before .before .before .before .before .before .before .before .exp .kept .1 .1 .1 .1 .1 .0 ∙ c .before .before .before .before .before .before .before .before .before .before .before .before .before .before .before .before .before .before .before .before .before .before .before .before .before .before .before .before .before .before .word .kept .1 .1 .0
 
 ie-returns-2 : (t : ℕ) → ie-lts.Need-returns-2 (ie-claims t) (ie-at t) ie.Post
 unfolding Exp.exp Exp.if-no Helpers.indent-deeper Helpers.deepen
@@ -2920,7 +2921,7 @@ ie-stop-requires : (t : ℕ) → ie-lts.Need-stop-requires (ie-claims t) (ie-at 
 ie-stop-requires t c κs = search needs
 
 ie-same-length-3 : (t : ℕ) → ie-lts.Need-same-length-3 (ie-claims t) (ie-at t) ie.Post
-ie-same-length-3 t c = c .before .before .before .before .before .before .word3 .kept .1 .1 .0 ∙ c .before .before .before .before .before .before .before .before .before .before .before .line .kept .1 .1 .0 ∙ c .before .before .before .before .before .before .before .before .before .before .before .before .before .before .before .before .before .before .before .before .exp2 .kept .1 .1 .1 .1 .1 .1 .0 ∙ c .before .before .before .before .before .before .before .before .before .before .before .before .before .before .before .before .before .before .before .before .before .before .before .before .before .before .indent-deeper .kept .0 ∙ c .before .before .before .before .before .before .before .before .before .before .before .before .before .before .before .before .before .before .before .before .before .before .before .before .before .before .before .before .before .before .before .word2 .kept .1 .1 .0 ∙ c .before .before .before .before .before .before .before .before .before .before .before .before .before .before .before .before .before .before .before .before .before .before .before .before .before .before .before .before .before .before .before .before .before .before .before .before .before .before .before .before .exp .kept .1 .1 .1 .1 .1 .1 .0 ∙ c .before .before .before .before .before .before .before .before .before .before .before .before .before .before .before .before .before .before .before .before .before .before .before .before .before .before .before .before .before .before .before .before .before .before .before .before .before .before .before .before .before .before .before .before .before .word .kept .1 .1 .0
+ie-same-length-3 t c = c .before .before .before .before .before .before .word3 .kept .1 .1 .0 ∙ c .before .before .before .before .before .before .before .before .before .before .before .line .kept .1 .1 .0 ∙ c .before .before .before .before .before .before .before .before .before .before .before .before .before .before .before .before .before .before .before .before .exp2 .kept .1 .1 .1 .1 .1 .0 ∙ c .before .before .before .before .before .before .before .before .before .before .before .before .before .before .before .before .before .before .before .before .before .before .before .before .before .before .indent-deeper .kept .0 ∙ c .before .before .before .before .before .before .before .before .before .before .before .before .before .before .before .before .before .before .before .before .before .before .before .before .before .before .before .before .before .before .before .word2 .kept .1 .1 .0 ∙ c .before .before .before .before .before .before .before .before .before .before .before .before .before .before .before .before .before .before .before .before .before .before .before .before .before .before .before .before .before .before .before .before .before .before .before .before .before .before .before .before .exp .kept .1 .1 .1 .1 .1 .0 ∙ c .before .before .before .before .before .before .before .before .before .before .before .before .before .before .before .before .before .before .before .before .before .before .before .before .before .before .before .before .before .before .before .before .before .before .before .before .before .before .before .before .before .before .before .before .before .word .kept .1 .1 .0
 
 ie-returns-3 : (t : ℕ) → ie-lts.Need-returns-3 (ie-claims t) (ie-at t) ie.Post
 unfolding Exp.exp Exp.if-no Helpers.indent-deeper Helpers.deepen
@@ -2933,23 +2934,23 @@ ie-word-requires-4 : (t : ℕ) → ie-lts.Need-word-requires-4 (ie-claims t) (ie
 ie-word-requires-4 t c κs = search needs
 
 ie-exp-requires-3 : (t : ℕ) → ie-lts.Need-exp-requires-3 (ie-claims t) (ie-at t) ie.Post
-ie-exp-requires-3 t c κs = omega (arith, c .before .before .before .before .before .before .before .before .before .before .before .before .before .before .before .before .before .before .before .before .before .before .before .before .before .before .before .before .before .before .before .before .before .before .before .before .before .before .before .before .before .before .before .before .before .before .before .before .before .before .before .before .before .before .before .before .before .before .before .before .before .before .before .pre .0, c .before .before .before .before .before .before .before .before .before .before .before .before .before .before .before .before .before .before .before .before .before .before .before .before .before .before .before .before .before .before .before .before .before .before .before .before .before .before .before .before .before .before .before .before .before .before .before .before .before .before .before .before .before .before .before .before .before .before .before .before .before .before .before .pre .1, deep-depth (c .before .before .before .before .before .before .before .before .before .before .before .before .before .before .before .before .before .before .before .before .before .before .before .before .before .before .before .before .before .before .before .before .indented .ensures), deep-left (c .before .before .before .before .before .before .before .before .before .before .before .before .before .before .before .before .before .before .before .before .before .before .before .before .before .before .before .before .before .before .before .before .indented .ensures))
+ie-exp-requires-3 t c κs = omega (arith, c .before .before .before .before .before .before .before .before .before .before .before .before .before .before .before .before .before .before .before .before .before .before .before .before .before .before .before .before .before .before .before .before .before .before .before .before .before .before .before .before .before .before .before .before .before .before .before .before .before .before .before .before .before .before .before .before .before .before .before .before .pre .0, c .before .before .before .before .before .before .before .before .before .before .before .before .before .before .before .before .before .before .before .before .before .before .before .before .before .before .before .before .before .before .before .before .before .before .before .before .before .before .before .before .before .before .before .before .before .before .before .before .before .before .before .before .before .before .before .before .before .before .before .before .pre .1, deep-depth (c .before .before .before .before .before .before .before .before .before .before .before .before .before .before .before .before .before .before .before .before .before .before .before .before .before .before .before .before .before .before .before .before .indented .ensures), deep-left (c .before .before .before .before .before .before .before .before .before .before .before .before .before .before .before .before .before .before .before .before .before .before .before .before .before .before .before .before .before .before .before .before .indented .ensures))
 
 ie-same-length-4 : (t : ℕ) → ie-lts.Need-same-length-4 (ie-claims t) (ie-at t) ie.Post
-ie-same-length-4 t c = c .before .before .exp3 .kept .1 .1 .1 .1 .1 .1 .0 ∙ c .before .before .before .before .before .before .before .word4 .kept .1 .1 .0 ∙ c .before .before .before .before .before .before .before .before .before .before .before .before .before .before .before .before .before .before .word3 .kept .1 .1 .0 ∙ c .before .before .before .before .before .before .before .before .before .before .before .before .before .before .before .before .before .before .before .before .before .before .before .line .kept .1 .1 .0 ∙ c .before .before .before .before .before .before .before .before .before .before .before .before .before .before .before .before .before .before .before .before .before .before .before .before .before .before .before .before .before .before .before .before .exp2 .kept .1 .1 .1 .1 .1 .1 .0 ∙ c .before .before .before .before .before .before .before .before .before .before .before .before .before .before .before .before .before .before .before .before .before .before .before .before .before .before .before .before .before .before .before .before .before .before .before .before .before .before .indent-deeper .kept .0 ∙ c .before .before .before .before .before .before .before .before .before .before .before .before .before .before .before .before .before .before .before .before .before .before .before .before .before .before .before .before .before .before .before .before .before .before .before .before .before .before .before .before .before .before .before .word2 .kept .1 .1 .0 ∙ c .before .before .before .before .before .before .before .before .before .before .before .before .before .before .before .before .before .before .before .before .before .before .before .before .before .before .before .before .before .before .before .before .before .before .before .before .before .before .before .before .before .before .before .before .before .before .before .before .before .before .before .before .exp .kept .1 .1 .1 .1 .1 .1 .0 ∙ c .before .before .before .before .before .before .before .before .before .before .before .before .before .before .before .before .before .before .before .before .before .before .before .before .before .before .before .before .before .before .before .before .before .before .before .before .before .before .before .before .before .before .before .before .before .before .before .before .before .before .before .before .before .before .before .before .before .word .kept .1 .1 .0
+ie-same-length-4 t c = c .before .before .exp3 .kept .1 .1 .1 .1 .1 .0 ∙ c .before .before .before .before .before .before .before .word4 .kept .1 .1 .0 ∙ c .before .before .before .before .before .before .before .before .before .before .before .before .before .before .before .before .before .before .word3 .kept .1 .1 .0 ∙ c .before .before .before .before .before .before .before .before .before .before .before .before .before .before .before .before .before .before .before .before .before .before .before .line .kept .1 .1 .0 ∙ c .before .before .before .before .before .before .before .before .before .before .before .before .before .before .before .before .before .before .before .before .before .before .before .before .before .before .before .before .before .before .before .before .exp2 .kept .1 .1 .1 .1 .1 .0 ∙ c .before .before .before .before .before .before .before .before .before .before .before .before .before .before .before .before .before .before .before .before .before .before .before .before .before .before .before .before .before .before .before .before .before .before .before .before .before .before .indent-deeper .kept .0 ∙ c .before .before .before .before .before .before .before .before .before .before .before .before .before .before .before .before .before .before .before .before .before .before .before .before .before .before .before .before .before .before .before .before .before .before .before .before .before .before .before .before .before .before .before .word2 .kept .1 .1 .0 ∙ c .before .before .before .before .before .before .before .before .before .before .before .before .before .before .before .before .before .before .before .before .before .before .before .before .before .before .before .before .before .before .before .before .before .before .before .before .before .before .before .before .before .before .before .before .before .before .before .before .before .before .before .before .exp .kept .1 .1 .1 .1 .1 .0 ∙ c .before .before .before .before .before .before .before .before .before .before .before .before .before .before .before .before .before .before .before .before .before .before .before .before .before .before .before .before .before .before .before .before .before .before .before .before .before .before .before .before .before .before .before .before .before .before .before .before .before .before .before .before .before .before .before .before .before .word .kept .1 .1 .0
 
 ie-returns-4 : (t : ℕ) → ie-lts.Need-returns-4 (ie-claims t) (ie-at t) ie.Post
 unfolding Exp.exp Exp.if-no Helpers.indent-deeper Helpers.deepen
 ie-returns-4 t c = record { is = then-sure (c .before .before .before .before .before .before .before .before .before .before .before .before .before .before .before .before .before .before .before .before .before .before .before .before .before .before .before .before .before .before .before .before .before .before .before .before .before .before .before .before .before .before .before .before .before .before .before .before .before .before .before .before .before .before .before .before .before .word .ensures) (then-done (c .before .before .before .before .before .before .before .before .before .before .before .before .before .before .before .before .before .before .before .before .before .before .before .before .before .before .before .before .before .before .before .before .before .before .before .before .before .before .before .before .before .before .before .before .before .before .before .before .before .before .before .before .exp .ensures .is) (c .before .before .before .before .before .before .before .before .before .before .before .before .before .before .before .before .before .before .before .before .before .before .before .before .before .before .before .before .before .before .before .before .before .before .before .before .before .before .before .before .before .before .before .before .before .before .before .before .before .told .ensures) (c .before .before .before .before .before .before .before .before .before .before .before .before .before .before .before .before .before .before .before .before .before .before .before .before .before .before .before .before .before .before .before .before .before .before .before .before .before .before .before .before .before .before .before .before .before .before .before .s1 .given .1) (then-sure (c .before .before .before .before .before .before .before .before .before .before .before .before .before .before .before .before .before .before .before .before .before .before .before .before .before .before .before .before .before .before .before .before .before .before .before .before .before .before .before .before .before .before .before .word2 .ensures) (then-both (c .before .before .before .before .before .before .before .before .before .before .before .before .before .before .before .before .before .before .before .before .before .before .before .before .before .before .before .before .before .before .before .before .before .before .before .before .before .before .indent-deeper .ensures _) (then-done (along (c .before .before .before .before .before .before .before .before .before .before .before .before .before .before .before .before .before .before .before .before .before .before .before .before .before .before .before .before .before .before .before .before .before .before .before .indented .ensures) (c .before .before .before .before .before .before .before .before .before .before .before .before .before .before .before .before .before .before .before .before .before .before .before .before .before .before .before .before .before .before .before .before .exp2 .ensures)) (c .before .before .before .before .before .before .before .before .before .before .before .before .before .before .before .before .before .before .before .before .before .before .before .before .before .before .before .before .before .told2 .ensures) (c .before .before .before .before .before .before .before .before .before .before .before .before .before .before .before .before .before .before .before .before .before .before .before .before .before .before .before .s2 .given .1) (then-both (c .before .before .before .before .before .before .before .before .before .before .before .before .before .before .before .before .before .before .before .before .before .before .before .line .ensures) (then-sure (c .before .before .before .before .before .before .before .before .before .before .before .before .before .before .before .before .before .before .word3 .ensures) (by-same (look-yes (c .before .before .before .before .before .before .before .before .before .before .before .before .before .before .before .expression .ensures) (c .before .before .before .before .before .before .before .before .before .before .before .before .before .-k .given .1) (c .before .before .before .before .before .before .before .before .before .before .before .is-if-exp .ensures) (c .before .before .before .before .before .before .before .before .before .before .if1 .taken)) (then-sure (c .before .before .before .before .before .before .before .word4 .ensures) (c .before .before .exp3 .ensures .is))))))))) }
 
 ie-line-in-requires : (t : ℕ) → ie-lts.Need-line-in-requires (ie-claims t) (ie-at t) ie.Post
-ie-line-in-requires t c κs = omega (arith, c .before .before .before .before .before .before .before .before .before .before .before .before .before .before .before .before .before .before .before .before .before .before .before .before .before .before .before .before .before .before .before .before .before .before .before .before .before .before .before .before .before .before .before .before .before .before .before .before .before .before .before .before .before .before .before .before .before .before .pre .1)
+ie-line-in-requires t c κs = omega (arith, c .before .before .before .before .before .before .before .before .before .before .before .before .before .before .before .before .before .before .before .before .before .before .before .before .before .before .before .before .before .before .before .before .before .before .before .before .before .before .before .before .before .before .before .before .before .before .before .before .before .before .before .before .before .before .before .pre .1)
 
 ie-exp-requires-4 : (t : ℕ) → ie-lts.Need-exp-requires-4 (ie-claims t) (ie-at t) ie.Post
-ie-exp-requires-4 t c κs = omega (arith, c .before .before .before .before .before .before .before .before .before .before .before .before .before .before .before .before .before .before .before .before .before .before .before .before .before .before .before .before .before .before .before .before .before .before .before .before .before .before .before .before .before .before .before .before .before .before .before .before .before .before .before .before .before .before .before .before .before .before .before .before .before .before .before .pre .0, c .before .before .before .before .before .before .before .before .before .before .before .before .before .before .before .before .before .before .before .before .before .before .before .before .before .before .before .before .before .before .before .before .before .before .before .before .before .before .before .before .before .before .before .before .before .before .before .before .before .before .before .before .before .before .before .before .before .before .before .before .before .before .before .pre .1, deep-depth (c .before .before .before .before .before .before .before .before .before .before .before .before .before .before .before .before .before .before .before .before .before .before .before .before .before .before .before .before .before .before .before .before .indented .ensures), deep-left (c .before .before .before .before .before .before .before .before .before .before .before .before .before .before .before .before .before .before .before .before .before .before .before .before .before .before .before .before .before .before .before .before .indented .ensures))
+ie-exp-requires-4 t c κs = omega (arith, c .before .before .before .before .before .before .before .before .before .before .before .before .before .before .before .before .before .before .before .before .before .before .before .before .before .before .before .before .before .before .before .before .before .before .before .before .before .before .before .before .before .before .before .before .before .before .before .before .before .before .before .before .before .before .before .before .before .before .before .before .pre .0, c .before .before .before .before .before .before .before .before .before .before .before .before .before .before .before .before .before .before .before .before .before .before .before .before .before .before .before .before .before .before .before .before .before .before .before .before .before .before .before .before .before .before .before .before .before .before .before .before .before .before .before .before .before .before .before .before .before .before .before .before .pre .1, deep-depth (c .before .before .before .before .before .before .before .before .before .before .before .before .before .before .before .before .before .before .before .before .before .before .before .before .before .before .before .before .before .before .before .before .indented .ensures), deep-left (c .before .before .before .before .before .before .before .before .before .before .before .before .before .before .before .before .before .before .before .before .before .before .before .before .before .before .before .before .before .before .before .before .indented .ensures))
 
 ie-same-length-5 : (t : ℕ) → ie-lts.Need-same-length-5 (ie-claims t) (ie-at t) ie.Post
-ie-same-length-5 t c = c .before .before .exp4 .kept .1 .1 .1 .1 .1 .1 .0 ∙ c .before .before .before .before .before .before .before .line-in .kept .1 .1 .0 ∙ c .before .before .before .before .before .before .before .before .before .before .before .before .before .before .before .before .before .before .word3 .kept .1 .1 .0 ∙ c .before .before .before .before .before .before .before .before .before .before .before .before .before .before .before .before .before .before .before .before .before .before .before .line .kept .1 .1 .0 ∙ c .before .before .before .before .before .before .before .before .before .before .before .before .before .before .before .before .before .before .before .before .before .before .before .before .before .before .before .before .before .before .before .before .exp2 .kept .1 .1 .1 .1 .1 .1 .0 ∙ c .before .before .before .before .before .before .before .before .before .before .before .before .before .before .before .before .before .before .before .before .before .before .before .before .before .before .before .before .before .before .before .before .before .before .before .before .before .before .indent-deeper .kept .0 ∙ c .before .before .before .before .before .before .before .before .before .before .before .before .before .before .before .before .before .before .before .before .before .before .before .before .before .before .before .before .before .before .before .before .before .before .before .before .before .before .before .before .before .before .before .word2 .kept .1 .1 .0 ∙ c .before .before .before .before .before .before .before .before .before .before .before .before .before .before .before .before .before .before .before .before .before .before .before .before .before .before .before .before .before .before .before .before .before .before .before .before .before .before .before .before .before .before .before .before .before .before .before .before .before .before .before .before .exp .kept .1 .1 .1 .1 .1 .1 .0 ∙ c .before .before .before .before .before .before .before .before .before .before .before .before .before .before .before .before .before .before .before .before .before .before .before .before .before .before .before .before .before .before .before .before .before .before .before .before .before .before .before .before .before .before .before .before .before .before .before .before .before .before .before .before .before .before .before .before .before .word .kept .1 .1 .0
+ie-same-length-5 t c = c .before .before .exp4 .kept .1 .1 .1 .1 .1 .0 ∙ c .before .before .before .before .before .before .before .line-in .kept .1 .1 .0 ∙ c .before .before .before .before .before .before .before .before .before .before .before .before .before .before .before .before .before .before .word3 .kept .1 .1 .0 ∙ c .before .before .before .before .before .before .before .before .before .before .before .before .before .before .before .before .before .before .before .before .before .before .before .line .kept .1 .1 .0 ∙ c .before .before .before .before .before .before .before .before .before .before .before .before .before .before .before .before .before .before .before .before .before .before .before .before .before .before .before .before .before .before .before .before .exp2 .kept .1 .1 .1 .1 .1 .0 ∙ c .before .before .before .before .before .before .before .before .before .before .before .before .before .before .before .before .before .before .before .before .before .before .before .before .before .before .before .before .before .before .before .before .before .before .before .before .before .before .indent-deeper .kept .0 ∙ c .before .before .before .before .before .before .before .before .before .before .before .before .before .before .before .before .before .before .before .before .before .before .before .before .before .before .before .before .before .before .before .before .before .before .before .before .before .before .before .before .before .before .before .word2 .kept .1 .1 .0 ∙ c .before .before .before .before .before .before .before .before .before .before .before .before .before .before .before .before .before .before .before .before .before .before .before .before .before .before .before .before .before .before .before .before .before .before .before .before .before .before .before .before .before .before .before .before .before .before .before .before .before .before .before .before .exp .kept .1 .1 .1 .1 .1 .0 ∙ c .before .before .before .before .before .before .before .before .before .before .before .before .before .before .before .before .before .before .before .before .before .before .before .before .before .before .before .before .before .before .before .before .before .before .before .before .before .before .before .before .before .before .before .before .before .before .before .before .before .before .before .before .before .before .before .before .before .word .kept .1 .1 .0
 
 ie-returns-5 : (t : ℕ) → ie-lts.Need-returns-5 (ie-claims t) (ie-at t) ie.Post
 unfolding Exp.exp Exp.if-no Helpers.indent-deeper Helpers.deepen
@@ -2972,7 +2973,7 @@ unfolding Exp.exp-semi-item
 it-returns t c = record { is = group-not (c .before .before .before .group .ensures) (c .before .before .told .ensures) (c .enum-told .given .1) }
 
 it-exp-requires : (t : ℕ) → it-lts.Need-exp-requires (it-claims t) (it-at t) it.Post
-it-exp-requires t c κs = omega (arith, c .before .before .before .before .before .before .before .before .before .before .before .before .before .pre .0, c .before .before .before .before .before .before .before .before .before .before .before .before .before .pre .1)
+it-exp-requires t c κs = omega (arith, c .before .before .before .before .before .before .before .before .before .before .pre .0, c .before .before .before .before .before .before .before .before .before .before .pre .1)
 
 it-told-requires-2 : (t : ℕ) → it-lts.Need-told-requires-2 (it-claims t) (it-at t) it.Post
 it-told-requires-2 t c κs = search needs
@@ -2984,7 +2985,7 @@ it-enum-told-2 : (t : ℕ) → it-lts.Need-enum-told-2 (it-claims t) (it-at t) i
 it-enum-told-2 t c = search needs
 
 it-same-length : (t : ℕ) → it-lts.Need-same-length (it-claims t) (it-at t) it.Post
-it-same-length t c = c .before .before .before .before .before .exp .kept .1 .1 .1 .1 .1 .1 .0
+it-same-length t c = c .before .before .before .before .before .exp .kept .1 .1 .1 .1 .1 .0
 
 it-returns-2 : (t : ℕ) → it-lts.Need-returns-2 (it-claims t) (it-at t) it.Post
 unfolding Exp.exp-semi-item
@@ -2994,7 +2995,7 @@ it-item-semi-requires : (t : ℕ) → it-lts.Need-item-semi-requires (it-claims 
 it-item-semi-requires t c κs = search needs
 
 it-same-length-2 : (t : ℕ) → it-lts.Need-same-length-2 (it-claims t) (it-at t) it.Post
-it-same-length-2 t c = c .before .before .item-semi .kept .1 .1 .1 .1 .1 .0 ∙ c .before .before .before .before .before .before .before .before .before .before .before .exp .kept .1 .1 .1 .1 .1 .1 .0
+it-same-length-2 t c = c .before .before .item-semi .kept .1 .1 .1 .1 .0 ∙ c .before .before .before .before .before .before .before .before .before .before .before .exp .kept .1 .1 .1 .1 .1 .0
 
 it-returns-3 : (t : ℕ) → it-lts.Need-returns-3 (it-claims t) (it-at t) it.Post
 unfolding Exp.exp-semi-item
@@ -3030,10 +3031,10 @@ unfolding DecOne.local-decs
 ld-returns-2 t c = record { is = by-same (maybe-there (c .before .before .before .before .before .before .absent .ensures) (c .before .before .before .before .enum-told .given .1)) (group-not (c .before .before .before .group .ensures) (c .before .before .told .ensures) (c .enum-told2 .given .1)) }
 
 ld-ds-requires : (t : ℕ) → ld-lts.Need-ds-requires (ld-claims t) (ld-at t) ld.Post
-ld-ds-requires t c κs = omega (arith, c .before .before .before .before .before .before .before .before .before .before .before .before .before .before .before .before .pre .0, c .before .before .before .before .before .before .before .before .before .before .before .before .before .before .before .before .pre .1)
+ld-ds-requires t c κs = omega (arith, c .before .before .before .before .before .before .before .before .before .before .before .before .before .pre .0, c .before .before .before .before .before .before .before .before .before .before .before .before .before .pre .1)
 
 ld-same-length : (t : ℕ) → ld-lts.Need-same-length (ld-claims t) (ld-at t) ld.Post
-ld-same-length t c = c .before .before .ds .kept .1 .1 .1 .1 .1 .1 .0
+ld-same-length t c = c .before .before .ds .kept .1 .1 .1 .1 .1 .0
 
 ld-returns-3 : (t : ℕ) → ld-lts.Need-returns-3 (ld-claims t) (ld-at t) ld.Post
 unfolding DecOne.local-decs
@@ -3046,13 +3047,13 @@ lo-word-requires-2 : (t : ℕ) → lo-lts.Need-word-requires-2 (lo-claims t) (lo
 lo-word-requires-2 t c κs = search needs
 
 lo-indent-deeper-requires : (t : ℕ) → lo-lts.Need-indent-deeper-requires (lo-claims t) (lo-at t) lo.Post
-lo-indent-deeper-requires t c κs = omega (arith, c .before .before .before .before .before .before .before .before .before .before .before .before .before .before .before .before .before .before .pre .1)
+lo-indent-deeper-requires t c κs = omega (arith, c .before .before .before .before .before .before .before .before .before .before .before .before .before .before .before .pre .1)
 
 lo-indented-requires : (t : ℕ) → lo-lts.Need-indented-requires (lo-claims t) (lo-at t) lo.Post
-lo-indented-requires t c κs = omega (arith, c .before .before .before .before .before .before .before .before .before .before .before .before .before .before .before .before .before .before .before .before .before .pre .1)
+lo-indented-requires t c κs = omega (arith, c .before .before .before .before .before .before .before .before .before .before .before .before .before .before .before .before .before .before .pre .1)
 
 lo-ld-requires : (t : ℕ) → lo-lts.Need-ld-requires (lo-claims t) (lo-at t) lo.Post
-lo-ld-requires t c κs = omega (arith, c .before .before .before .before .before .before .before .before .before .before .before .before .before .before .before .before .before .before .before .before .before .before .before .before .pre .0, c .before .before .before .before .before .before .before .before .before .before .before .before .before .before .before .before .before .before .before .before .before .before .before .before .pre .1, deep-depth (c .before .before .indented .ensures), deep-left (c .before .before .indented .ensures))
+lo-ld-requires t c κs = omega (arith, c .before .before .before .before .before .before .before .before .before .before .before .before .before .before .before .before .before .before .before .before .before .pre .0, c .before .before .before .before .before .before .before .before .before .before .before .before .before .before .before .before .before .before .before .before .before .pre .1, deep-depth (c .before .before .indented .ensures), deep-left (c .before .before .indented .ensures))
 
 lo-told-requires : (t : ℕ) → lo-lts.Need-told-requires (lo-claims t) (lo-at t) lo.Post
 lo-told-requires t c κs = search needs
@@ -3064,7 +3065,7 @@ lo-enum-told : (t : ℕ) → lo-lts.Need-enum-told (lo-claims t) (lo-at t) lo.Po
 lo-enum-told t c = search needs
 
 lo-same-length : (t : ℕ) → lo-lts.Need-same-length (lo-claims t) (lo-at t) lo.Post
-lo-same-length t c = c .before .before .before .before .before .ld .kept .1 .1 .1 .1 .1 .1 .0 ∙ c .before .before .before .before .before .before .before .before .before .before .before .indent-deeper .kept .0 ∙ c .before .before .before .before .before .before .before .before .before .before .before .before .before .before .before .before .word2 .kept .1 .1 .0 ∙ c .before .before .before .before .before .before .before .before .before .before .before .before .before .before .before .before .before .before .before .before .before .word .kept .1 .1 .0
+lo-same-length t c = c .before .before .before .before .before .ld .kept .1 .1 .1 .1 .1 .0 ∙ c .before .before .before .before .before .before .before .before .before .before .before .indent-deeper .kept .0 ∙ c .before .before .before .before .before .before .before .before .before .before .before .before .before .before .before .before .word2 .kept .1 .1 .0 ∙ c .before .before .before .before .before .before .before .before .before .before .before .before .before .before .before .before .before .before .before .before .before .word .kept .1 .1 .0
 
 lo-returns : (t : ℕ) → lo-lts.Need-returns (lo-claims t) (lo-at t) lo.Post
 unfolding DecOne.dec-one Helpers.in-end Helpers.indent-deeper Helpers.deepen
@@ -3077,10 +3078,10 @@ lo-word-requires-3 : (t : ℕ) → lo-lts.Need-word-requires-3 (lo-claims t) (lo
 lo-word-requires-3 t c κs = search needs
 
 lo-indent-in-requires : (t : ℕ) → lo-lts.Need-indent-in-requires (lo-claims t) (lo-at t) lo.Post
-lo-indent-in-requires t c κs = omega (arith, c .before .before .before .before .before .before .before .before .before .before .before .before .before .before .before .before .before .before .before .before .before .before .before .before .before .before .before .before .before .before .before .before .before .before .before .before .before .before .before .before .before .before .before .pre .1)
+lo-indent-in-requires t c κs = omega (arith, c .before .before .before .before .before .before .before .before .before .before .before .before .before .before .before .before .before .before .before .before .before .before .before .before .before .before .before .before .before .before .before .before .before .before .before .before .before .before .before .before .pre .1)
 
 lo-ld-requires-2 : (t : ℕ) → lo-lts.Need-ld-requires-2 (lo-claims t) (lo-at t) lo.Post
-lo-ld-requires-2 t c κs = omega (arith, c .before .before .before .before .before .before .before .before .before .before .before .before .before .before .before .before .before .before .before .before .before .before .before .before .before .before .before .before .before .before .before .before .before .before .before .before .before .before .before .before .before .before .before .before .before .before .before .before .pre .0, c .before .before .before .before .before .before .before .before .before .before .before .before .before .before .before .before .before .before .before .before .before .before .before .before .before .before .before .before .before .before .before .before .before .before .before .before .before .before .before .before .before .before .before .before .before .before .before .before .pre .1, deep-depth (c .before .before .before .before .before .before .before .before .before .before .before .before .before .before .before .before .before .before .before .before .before .before .before .before .before .before .indented .ensures), deep-left (c .before .before .before .before .before .before .before .before .before .before .before .before .before .before .before .before .before .before .before .before .before .before .before .before .before .before .indented .ensures))
+lo-ld-requires-2 t c κs = omega (arith, c .before .before .before .before .before .before .before .before .before .before .before .before .before .before .before .before .before .before .before .before .before .before .before .before .before .before .before .before .before .before .before .before .before .before .before .before .before .before .before .before .before .before .before .before .before .pre .0, c .before .before .before .before .before .before .before .before .before .before .before .before .before .before .before .before .before .before .before .before .before .before .before .before .before .before .before .before .before .before .before .before .before .before .before .before .before .before .before .before .before .before .before .before .before .pre .1, deep-depth (c .before .before .before .before .before .before .before .before .before .before .before .before .before .before .before .before .before .before .before .before .before .before .before .before .before .before .indented .ensures), deep-left (c .before .before .before .before .before .before .before .before .before .before .before .before .before .before .before .before .before .before .before .before .before .before .before .before .before .before .indented .ensures))
 
 lo-told-requires-2 : (t : ℕ) → lo-lts.Need-told-requires-2 (lo-claims t) (lo-at t) lo.Post
 lo-told-requires-2 t c κs = search needs
@@ -3092,7 +3093,7 @@ lo-enum-told-2 : (t : ℕ) → lo-lts.Need-enum-told-2 (lo-claims t) (lo-at t) l
 lo-enum-told-2 t c = search needs
 
 lo-same-length-2 : (t : ℕ) → lo-lts.Need-same-length-2 (lo-claims t) (lo-at t) lo.Post
-lo-same-length-2 t c = c .before .before .before .before .before .ld2 .kept .1 .1 .1 .1 .1 .1 .0 ∙ c .before .before .before .before .before .before .before .before .before .before .indent-in .kept .0 ∙ c .before .before .before .before .before .before .before .before .before .before .before .before .before .before .before .word3 .kept .1 .1 .0 ∙ c .before .before .before .before .before .before .before .before .before .before .before .before .before .before .before .before .before .before .before .before .line .kept .1 .1 .0 ∙ c .before .before .before .before .before .before .before .before .before .before .before .before .before .before .before .before .before .before .before .before .before .before .before .before .before .before .before .before .before .ld .kept .1 .1 .1 .1 .1 .1 .0 ∙ c .before .before .before .before .before .before .before .before .before .before .before .before .before .before .before .before .before .before .before .before .before .before .before .before .before .before .before .before .before .before .before .before .before .before .before .indent-deeper .kept .0 ∙ c .before .before .before .before .before .before .before .before .before .before .before .before .before .before .before .before .before .before .before .before .before .before .before .before .before .before .before .before .before .before .before .before .before .before .before .before .before .before .before .before .word2 .kept .1 .1 .0 ∙ c .before .before .before .before .before .before .before .before .before .before .before .before .before .before .before .before .before .before .before .before .before .before .before .before .before .before .before .before .before .before .before .before .before .before .before .before .before .before .before .before .before .before .before .before .before .word .kept .1 .1 .0
+lo-same-length-2 t c = c .before .before .before .before .before .ld2 .kept .1 .1 .1 .1 .1 .0 ∙ c .before .before .before .before .before .before .before .before .before .before .indent-in .kept .0 ∙ c .before .before .before .before .before .before .before .before .before .before .before .before .before .before .before .word3 .kept .1 .1 .0 ∙ c .before .before .before .before .before .before .before .before .before .before .before .before .before .before .before .before .before .before .before .before .line .kept .1 .1 .0 ∙ c .before .before .before .before .before .before .before .before .before .before .before .before .before .before .before .before .before .before .before .before .before .before .before .before .before .before .before .before .before .ld .kept .1 .1 .1 .1 .1 .0 ∙ c .before .before .before .before .before .before .before .before .before .before .before .before .before .before .before .before .before .before .before .before .before .before .before .before .before .before .before .before .before .before .before .before .before .before .before .indent-deeper .kept .0 ∙ c .before .before .before .before .before .before .before .before .before .before .before .before .before .before .before .before .before .before .before .before .before .before .before .before .before .before .before .before .before .before .before .before .before .before .before .before .before .before .before .before .word2 .kept .1 .1 .0 ∙ c .before .before .before .before .before .before .before .before .before .before .before .before .before .before .before .before .before .before .before .before .before .before .before .before .before .before .before .before .before .before .before .before .before .before .before .before .before .before .before .before .before .before .before .before .before .word .kept .1 .1 .0
 
 lo-returns-2 : (t : ℕ) → lo-lts.Need-returns-2 (lo-claims t) (lo-at t) lo.Post
 unfolding DecOne.dec-one Helpers.in-end Helpers.indent-deeper Helpers.deepen
@@ -3105,7 +3106,7 @@ lo-word-requires-4 : (t : ℕ) → lo-lts.Need-word-requires-4 (lo-claims t) (lo
 lo-word-requires-4 t c κs = search needs
 
 lo-same-length-3 : (t : ℕ) → lo-lts.Need-same-length-3 (lo-claims t) (lo-at t) lo.Post
-lo-same-length-3 t c = c .before .before .word4 .kept .1 .1 .0 ∙ c .before .before .before .before .before .before .before .line2 .kept .1 .1 .0 ∙ c .before .before .before .before .before .before .before .before .before .before .before .before .before .before .before .before .ld2 .kept .1 .1 .1 .1 .1 .1 .0 ∙ c .before .before .before .before .before .before .before .before .before .before .before .before .before .before .before .before .before .before .before .before .before .indent-in .kept .0 ∙ c .before .before .before .before .before .before .before .before .before .before .before .before .before .before .before .before .before .before .before .before .before .before .before .before .before .before .word3 .kept .1 .1 .0 ∙ c .before .before .before .before .before .before .before .before .before .before .before .before .before .before .before .before .before .before .before .before .before .before .before .before .before .before .before .before .before .before .before .line .kept .1 .1 .0 ∙ c .before .before .before .before .before .before .before .before .before .before .before .before .before .before .before .before .before .before .before .before .before .before .before .before .before .before .before .before .before .before .before .before .before .before .before .before .before .before .before .before .ld .kept .1 .1 .1 .1 .1 .1 .0 ∙ c .before .before .before .before .before .before .before .before .before .before .before .before .before .before .before .before .before .before .before .before .before .before .before .before .before .before .before .before .before .before .before .before .before .before .before .before .before .before .before .before .before .before .before .before .before .before .indent-deeper .kept .0 ∙ c .before .before .before .before .before .before .before .before .before .before .before .before .before .before .before .before .before .before .before .before .before .before .before .before .before .before .before .before .before .before .before .before .before .before .before .before .before .before .before .before .before .before .before .before .before .before .before .before .before .before .before .word2 .kept .1 .1 .0 ∙ c .before .before .before .before .before .before .before .before .before .before .before .before .before .before .before .before .before .before .before .before .before .before .before .before .before .before .before .before .before .before .before .before .before .before .before .before .before .before .before .before .before .before .before .before .before .before .before .before .before .before .before .before .before .before .before .before .word .kept .1 .1 .0
+lo-same-length-3 t c = c .before .before .word4 .kept .1 .1 .0 ∙ c .before .before .before .before .before .before .before .line2 .kept .1 .1 .0 ∙ c .before .before .before .before .before .before .before .before .before .before .before .before .before .before .before .before .ld2 .kept .1 .1 .1 .1 .1 .0 ∙ c .before .before .before .before .before .before .before .before .before .before .before .before .before .before .before .before .before .before .before .before .before .indent-in .kept .0 ∙ c .before .before .before .before .before .before .before .before .before .before .before .before .before .before .before .before .before .before .before .before .before .before .before .before .before .before .word3 .kept .1 .1 .0 ∙ c .before .before .before .before .before .before .before .before .before .before .before .before .before .before .before .before .before .before .before .before .before .before .before .before .before .before .before .before .before .before .before .line .kept .1 .1 .0 ∙ c .before .before .before .before .before .before .before .before .before .before .before .before .before .before .before .before .before .before .before .before .before .before .before .before .before .before .before .before .before .before .before .before .before .before .before .before .before .before .before .before .ld .kept .1 .1 .1 .1 .1 .0 ∙ c .before .before .before .before .before .before .before .before .before .before .before .before .before .before .before .before .before .before .before .before .before .before .before .before .before .before .before .before .before .before .before .before .before .before .before .before .before .before .before .before .before .before .before .before .before .before .indent-deeper .kept .0 ∙ c .before .before .before .before .before .before .before .before .before .before .before .before .before .before .before .before .before .before .before .before .before .before .before .before .before .before .before .before .before .before .before .before .before .before .before .before .before .before .before .before .before .before .before .before .before .before .before .before .before .before .before .word2 .kept .1 .1 .0 ∙ c .before .before .before .before .before .before .before .before .before .before .before .before .before .before .before .before .before .before .before .before .before .before .before .before .before .before .before .before .before .before .before .before .before .before .before .before .before .before .before .before .before .before .before .before .before .before .before .before .before .before .before .before .before .before .before .before .word .kept .1 .1 .0
 
 lo-returns-3 : (t : ℕ) → lo-lts.Need-returns-3 (lo-claims t) (lo-at t) lo.Post
 unfolding DecOne.dec-one Helpers.in-end Helpers.indent-deeper Helpers.deepen
@@ -3118,13 +3119,13 @@ lx-word-requires-2 : (t : ℕ) → lx-lts.Need-word-requires-2 (lx-claims t) (lx
 lx-word-requires-2 t c κs = search needs
 
 lx-indent-deeper-requires : (t : ℕ) → lx-lts.Need-indent-deeper-requires (lx-claims t) (lx-at t) lx.Post
-lx-indent-deeper-requires t c κs = omega (arith, c .before .before .before .before .before .before .before .before .before .before .before .before .before .before .before .before .before .before .pre .1)
+lx-indent-deeper-requires t c κs = omega (arith, c .before .before .before .before .before .before .before .before .before .before .before .before .before .before .before .pre .1)
 
 lx-indented-requires : (t : ℕ) → lx-lts.Need-indented-requires (lx-claims t) (lx-at t) lx.Post
-lx-indented-requires t c κs = omega (arith, c .before .before .before .before .before .before .before .before .before .before .before .before .before .before .before .before .before .before .before .before .before .pre .1)
+lx-indented-requires t c κs = omega (arith, c .before .before .before .before .before .before .before .before .before .before .before .before .before .before .before .before .before .before .pre .1)
 
 lx-ds-requires : (t : ℕ) → lx-lts.Need-ds-requires (lx-claims t) (lx-at t) lx.Post
-lx-ds-requires t c κs = omega (arith, c .before .before .before .before .before .before .before .before .before .before .before .before .before .before .before .before .before .before .before .before .before .before .before .before .pre .0, c .before .before .before .before .before .before .before .before .before .before .before .before .before .before .before .before .before .before .before .before .before .before .before .before .pre .1, deep-depth (c .before .before .indented .ensures), deep-left (c .before .before .indented .ensures))
+lx-ds-requires t c κs = omega (arith, c .before .before .before .before .before .before .before .before .before .before .before .before .before .before .before .before .before .before .before .before .before .pre .0, c .before .before .before .before .before .before .before .before .before .before .before .before .before .before .before .before .before .before .before .before .before .pre .1, deep-depth (c .before .before .indented .ensures), deep-left (c .before .before .indented .ensures))
 
 lx-told-requires : (t : ℕ) → lx-lts.Need-told-requires (lx-claims t) (lx-at t) lx.Post
 lx-told-requires t c κs = search needs
@@ -3136,7 +3137,7 @@ lx-enum-told : (t : ℕ) → lx-lts.Need-enum-told (lx-claims t) (lx-at t) lx.Po
 lx-enum-told t c = search needs
 
 lx-same-length : (t : ℕ) → lx-lts.Need-same-length (lx-claims t) (lx-at t) lx.Post
-lx-same-length t c = c .before .before .before .before .before .ds .kept .1 .1 .1 .1 .1 .1 .0 ∙ c .before .before .before .before .before .before .before .before .before .before .before .indent-deeper .kept .0 ∙ c .before .before .before .before .before .before .before .before .before .before .before .before .before .before .before .before .word2 .kept .1 .1 .0 ∙ c .before .before .before .before .before .before .before .before .before .before .before .before .before .before .before .before .before .before .before .before .before .word .kept .1 .1 .0
+lx-same-length t c = c .before .before .before .before .before .ds .kept .1 .1 .1 .1 .1 .0 ∙ c .before .before .before .before .before .before .before .before .before .before .before .indent-deeper .kept .0 ∙ c .before .before .before .before .before .before .before .before .before .before .before .before .before .before .before .before .word2 .kept .1 .1 .0 ∙ c .before .before .before .before .before .before .before .before .before .before .before .before .before .before .before .before .before .before .before .before .before .word .kept .1 .1 .0
 
 lx-returns : (t : ℕ) → lx-lts.Need-returns (lx-claims t) (lx-at t) lx.Post
 unfolding Exp.exp Helpers.in-end Helpers.indent-deeper Helpers.deepen
@@ -3149,10 +3150,10 @@ lx-word-requires-3 : (t : ℕ) → lx-lts.Need-word-requires-3 (lx-claims t) (lx
 lx-word-requires-3 t c κs = search needs
 
 lx-indent-in-requires : (t : ℕ) → lx-lts.Need-indent-in-requires (lx-claims t) (lx-at t) lx.Post
-lx-indent-in-requires t c κs = omega (arith, c .before .before .before .before .before .before .before .before .before .before .before .before .before .before .before .before .before .before .before .before .before .before .before .before .before .before .before .before .before .before .before .before .before .before .before .before .before .before .before .before .before .before .before .pre .1)
+lx-indent-in-requires t c κs = omega (arith, c .before .before .before .before .before .before .before .before .before .before .before .before .before .before .before .before .before .before .before .before .before .before .before .before .before .before .before .before .before .before .before .before .before .before .before .before .before .before .before .before .pre .1)
 
 lx-sm-requires : (t : ℕ) → lx-lts.Need-sm-requires (lx-claims t) (lx-at t) lx.Post
-lx-sm-requires t c κs = omega (arith, c .before .before .before .before .before .before .before .before .before .before .before .before .before .before .before .before .before .before .before .before .before .before .before .before .before .before .before .before .before .before .before .before .before .before .before .before .before .before .before .before .before .before .before .before .before .before .before .before .pre .0, c .before .before .before .before .before .before .before .before .before .before .before .before .before .before .before .before .before .before .before .before .before .before .before .before .before .before .before .before .before .before .before .before .before .before .before .before .before .before .before .before .before .before .before .before .before .before .before .before .pre .1, deep-depth (c .before .before .before .before .before .before .before .before .before .before .before .before .before .before .before .before .before .before .before .before .before .before .before .before .before .before .indented .ensures), deep-left (c .before .before .before .before .before .before .before .before .before .before .before .before .before .before .before .before .before .before .before .before .before .before .before .before .before .before .indented .ensures))
+lx-sm-requires t c κs = omega (arith, c .before .before .before .before .before .before .before .before .before .before .before .before .before .before .before .before .before .before .before .before .before .before .before .before .before .before .before .before .before .before .before .before .before .before .before .before .before .before .before .before .before .before .before .before .before .pre .0, c .before .before .before .before .before .before .before .before .before .before .before .before .before .before .before .before .before .before .before .before .before .before .before .before .before .before .before .before .before .before .before .before .before .before .before .before .before .before .before .before .before .before .before .before .before .pre .1, deep-depth (c .before .before .before .before .before .before .before .before .before .before .before .before .before .before .before .before .before .before .before .before .before .before .before .before .before .before .indented .ensures), deep-left (c .before .before .before .before .before .before .before .before .before .before .before .before .before .before .before .before .before .before .before .before .before .before .before .before .before .before .indented .ensures))
 
 lx-told-requires-2 : (t : ℕ) → lx-lts.Need-told-requires-2 (lx-claims t) (lx-at t) lx.Post
 lx-told-requires-2 t c κs = search needs
@@ -3164,7 +3165,7 @@ lx-enum-told-2 : (t : ℕ) → lx-lts.Need-enum-told-2 (lx-claims t) (lx-at t) l
 lx-enum-told-2 t c = search needs
 
 lx-same-length-2 : (t : ℕ) → lx-lts.Need-same-length-2 (lx-claims t) (lx-at t) lx.Post
-lx-same-length-2 t c = c .before .before .before .before .before .sm .kept .1 .1 .1 .1 .1 .1 .0 ∙ c .before .before .before .before .before .before .before .before .before .before .indent-in .kept .0 ∙ c .before .before .before .before .before .before .before .before .before .before .before .before .before .before .before .word3 .kept .1 .1 .0 ∙ c .before .before .before .before .before .before .before .before .before .before .before .before .before .before .before .before .before .before .before .before .line .kept .1 .1 .0 ∙ c .before .before .before .before .before .before .before .before .before .before .before .before .before .before .before .before .before .before .before .before .before .before .before .before .before .before .before .before .before .ds .kept .1 .1 .1 .1 .1 .1 .0 ∙ c .before .before .before .before .before .before .before .before .before .before .before .before .before .before .before .before .before .before .before .before .before .before .before .before .before .before .before .before .before .before .before .before .before .before .before .indent-deeper .kept .0 ∙ c .before .before .before .before .before .before .before .before .before .before .before .before .before .before .before .before .before .before .before .before .before .before .before .before .before .before .before .before .before .before .before .before .before .before .before .before .before .before .before .before .word2 .kept .1 .1 .0 ∙ c .before .before .before .before .before .before .before .before .before .before .before .before .before .before .before .before .before .before .before .before .before .before .before .before .before .before .before .before .before .before .before .before .before .before .before .before .before .before .before .before .before .before .before .before .before .word .kept .1 .1 .0
+lx-same-length-2 t c = c .before .before .before .before .before .sm .kept .1 .1 .1 .1 .1 .0 ∙ c .before .before .before .before .before .before .before .before .before .before .indent-in .kept .0 ∙ c .before .before .before .before .before .before .before .before .before .before .before .before .before .before .before .word3 .kept .1 .1 .0 ∙ c .before .before .before .before .before .before .before .before .before .before .before .before .before .before .before .before .before .before .before .before .line .kept .1 .1 .0 ∙ c .before .before .before .before .before .before .before .before .before .before .before .before .before .before .before .before .before .before .before .before .before .before .before .before .before .before .before .before .before .ds .kept .1 .1 .1 .1 .1 .0 ∙ c .before .before .before .before .before .before .before .before .before .before .before .before .before .before .before .before .before .before .before .before .before .before .before .before .before .before .before .before .before .before .before .before .before .before .before .indent-deeper .kept .0 ∙ c .before .before .before .before .before .before .before .before .before .before .before .before .before .before .before .before .before .before .before .before .before .before .before .before .before .before .before .before .before .before .before .before .before .before .before .before .before .before .before .before .word2 .kept .1 .1 .0 ∙ c .before .before .before .before .before .before .before .before .before .before .before .before .before .before .before .before .before .before .before .before .before .before .before .before .before .before .before .before .before .before .before .before .before .before .before .before .before .before .before .before .before .before .before .before .before .word .kept .1 .1 .0
 
 lx-returns-2 : (t : ℕ) → lx-lts.Need-returns-2 (lx-claims t) (lx-at t) lx.Post
 unfolding Exp.exp Helpers.in-end Helpers.indent-deeper Helpers.deepen
@@ -3177,18 +3178,18 @@ lx-word-requires-4 : (t : ℕ) → lx-lts.Need-word-requires-4 (lx-claims t) (lx
 lx-word-requires-4 t c κs = search needs
 
 lx-same-length-3 : (t : ℕ) → lx-lts.Need-same-length-3 (lx-claims t) (lx-at t) lx.Post
-lx-same-length-3 t c = c .before .before .word4 .kept .1 .1 .0 ∙ c .before .before .before .before .before .before .before .line2 .kept .1 .1 .0 ∙ c .before .before .before .before .before .before .before .before .before .before .before .before .before .before .before .before .sm .kept .1 .1 .1 .1 .1 .1 .0 ∙ c .before .before .before .before .before .before .before .before .before .before .before .before .before .before .before .before .before .before .before .before .before .indent-in .kept .0 ∙ c .before .before .before .before .before .before .before .before .before .before .before .before .before .before .before .before .before .before .before .before .before .before .before .before .before .before .word3 .kept .1 .1 .0 ∙ c .before .before .before .before .before .before .before .before .before .before .before .before .before .before .before .before .before .before .before .before .before .before .before .before .before .before .before .before .before .before .before .line .kept .1 .1 .0 ∙ c .before .before .before .before .before .before .before .before .before .before .before .before .before .before .before .before .before .before .before .before .before .before .before .before .before .before .before .before .before .before .before .before .before .before .before .before .before .before .before .before .ds .kept .1 .1 .1 .1 .1 .1 .0 ∙ c .before .before .before .before .before .before .before .before .before .before .before .before .before .before .before .before .before .before .before .before .before .before .before .before .before .before .before .before .before .before .before .before .before .before .before .before .before .before .before .before .before .before .before .before .before .before .indent-deeper .kept .0 ∙ c .before .before .before .before .before .before .before .before .before .before .before .before .before .before .before .before .before .before .before .before .before .before .before .before .before .before .before .before .before .before .before .before .before .before .before .before .before .before .before .before .before .before .before .before .before .before .before .before .before .before .before .word2 .kept .1 .1 .0 ∙ c .before .before .before .before .before .before .before .before .before .before .before .before .before .before .before .before .before .before .before .before .before .before .before .before .before .before .before .before .before .before .before .before .before .before .before .before .before .before .before .before .before .before .before .before .before .before .before .before .before .before .before .before .before .before .before .before .word .kept .1 .1 .0
+lx-same-length-3 t c = c .before .before .word4 .kept .1 .1 .0 ∙ c .before .before .before .before .before .before .before .line2 .kept .1 .1 .0 ∙ c .before .before .before .before .before .before .before .before .before .before .before .before .before .before .before .before .sm .kept .1 .1 .1 .1 .1 .0 ∙ c .before .before .before .before .before .before .before .before .before .before .before .before .before .before .before .before .before .before .before .before .before .indent-in .kept .0 ∙ c .before .before .before .before .before .before .before .before .before .before .before .before .before .before .before .before .before .before .before .before .before .before .before .before .before .before .word3 .kept .1 .1 .0 ∙ c .before .before .before .before .before .before .before .before .before .before .before .before .before .before .before .before .before .before .before .before .before .before .before .before .before .before .before .before .before .before .before .line .kept .1 .1 .0 ∙ c .before .before .before .before .before .before .before .before .before .before .before .before .before .before .before .before .before .before .before .before .before .before .before .before .before .before .before .before .before .before .before .before .before .before .before .before .before .before .before .before .ds .kept .1 .1 .1 .1 .1 .0 ∙ c .before .before .before .before .before .before .before .before .before .before .before .before .before .before .before .before .before .before .before .before .before .before .before .before .before .before .before .before .before .before .before .before .before .before .before .before .before .before .before .before .before .before .before .before .before .before .indent-deeper .kept .0 ∙ c .before .before .before .before .before .before .before .before .before .before .before .before .before .before .before .before .before .before .before .before .before .before .before .before .before .before .before .before .before .before .before .before .before .before .before .before .before .before .before .before .before .before .before .before .before .before .before .before .before .before .before .word2 .kept .1 .1 .0 ∙ c .before .before .before .before .before .before .before .before .before .before .before .before .before .before .before .before .before .before .before .before .before .before .before .before .before .before .before .before .before .before .before .before .before .before .before .before .before .before .before .before .before .before .before .before .before .before .before .before .before .before .before .before .before .before .before .before .word .kept .1 .1 .0
 
 lx-returns-3 : (t : ℕ) → lx-lts.Need-returns-3 (lx-claims t) (lx-at t) lx.Post
 unfolding Exp.exp Helpers.in-end Helpers.indent-deeper Helpers.deepen
 lx-returns-3 t c = record { is = then-sure (c .before .before .before .before .before .before .before .before .before .before .before .before .before .before .before .before .before .before .before .before .before .before .before .before .before .before .before .before .before .before .before .before .before .before .before .before .before .before .before .before .before .before .before .before .before .before .before .before .before .before .before .before .before .before .before .before .word .ensures) (then-sure (c .before .before .before .before .before .before .before .before .before .before .before .before .before .before .before .before .before .before .before .before .before .before .before .before .before .before .before .before .before .before .before .before .before .before .before .before .before .before .before .before .before .before .before .before .before .before .before .before .before .before .before .word2 .ensures) (then-both (c .before .before .before .before .before .before .before .before .before .before .before .before .before .before .before .before .before .before .before .before .before .before .before .before .before .before .before .before .before .before .before .before .before .before .before .before .before .before .before .before .before .before .before .before .before .before .indent-deeper .ensures _) (then-done (along (c .before .before .before .before .before .before .before .before .before .before .before .before .before .before .before .before .before .before .before .before .before .before .before .before .before .before .before .before .before .before .before .before .before .before .before .before .before .before .before .before .before .before .before .indented .ensures) (c .before .before .before .before .before .before .before .before .before .before .before .before .before .before .before .before .before .before .before .before .before .before .before .before .before .before .before .before .before .before .before .before .before .before .before .before .before .before .before .before .ds .ensures)) (c .before .before .before .before .before .before .before .before .before .before .before .before .before .before .before .before .before .before .before .before .before .before .before .before .before .before .before .before .before .before .before .before .before .before .before .before .before .told .ensures) (c .before .before .before .before .before .before .before .before .before .before .before .before .before .before .before .before .before .before .before .before .before .before .before .before .before .before .before .before .before .before .before .before .before .before .before .s1 .given .1) (then-both (c .before .before .before .before .before .before .before .before .before .before .before .before .before .before .before .before .before .before .before .before .before .before .before .before .before .before .before .before .before .before .before .line .ensures) (then-sure (c .before .before .before .before .before .before .before .before .before .before .before .before .before .before .before .before .before .before .before .before .before .before .before .before .before .before .word3 .ensures) (then-sure (c .before .before .before .before .before .before .before .before .before .before .before .before .before .before .before .before .before .before .before .before .before .indent-in .ensures _) (then-done (along (c .before .before .before .before .before .before .before .before .before .before .before .before .before .before .before .before .before .before .before .before .before .before .before .before .before .before .before .before .before .before .before .before .before .before .before .before .before .before .before .before .before .before .before .indented .ensures) (c .before .before .before .before .before .before .before .before .before .before .before .before .before .before .before .before .sm .ensures)) (c .before .before .before .before .before .before .before .before .before .before .before .before .before .told2 .ensures) (c .before .before .before .before .before .before .before .before .before .before .before .s2 .given .1) (then-both (c .before .before .before .before .before .before .before .line2 .ensures) (last-sure (c .before .before .word4 .ensures)))))))))) }
 
 abbrev ma-Inv-loop : ma-lts.InvT-loop
-ma-Inv-loop run text rec kinds starts lens out₀ mem₀ at cfg r1 s1 n s2 s₀ i₀ out mem s i =
-    Turn run (page text rec kinds starts lens) (from (Helpers.new-line (cfgOf cfg) "| ") (Exp.get-matcher-arm (walks (cfg .nesting)) (cfgOf cfg))) n s₀ mem₀ out₀ i s mem out
+ma-Inv-loop run text rec kinds spans out₀ mem₀ at cfg r1 s1 n s2 s₀ i₀ out mem s i =
+    Turn run (pageAt text rec kinds spans) (from (Helpers.new-line (cfgOf cfg) "| ") (Exp.get-matcher-arm (walks (cfg .nesting)) (cfgOf cfg))) n s₀ mem₀ out₀ i s mem out
 
 abbrev ma-μ-loop : ma-lts.MeasureT-loop
-ma-μ-loop run text rec kinds starts lens out₀ mem₀ at cfg r1 s1 n s2 s₀ i₀ out mem s i = n - i
+ma-μ-loop run text rec kinds spans out₀ mem₀ at cfg r1 s1 n s2 s₀ i₀ out mem s i = n - i
 
 ma-absent-requires : (t : ℕ) → ma-lts.Need-absent-requires (ma-claims t) (ma-at t) ma.Post ma-Inv-loop ma-μ-loop
 ma-absent-requires t c κs = search needs
@@ -3220,7 +3221,7 @@ unfolding Exp.get-matcher-across-lines Exp.arms-on-lines Helpers.sep-with-lines
 ma-returns-2 t c = record { is = by-same (maybe-there (c .before .before .before .before .before .before .absent .ensures) (c .before .before .before .before .enum-told .given .1)) (group-not (c .before .before .before .group .ensures) (c .before .before .told .ensures) (c .enum-told2 .given .1)) }
 
 ma-indent-deeper-requires : (t : ℕ) → ma-lts.Need-indent-deeper-requires (ma-claims t) (ma-at t) ma.Post ma-Inv-loop ma-μ-loop
-ma-indent-deeper-requires t c κs = omega (arith, c .before .before .before .before .before .before .before .before .before .before .before .before .before .before .before .before .pre .1)
+ma-indent-deeper-requires t c κs = omega (arith, c .before .before .before .before .before .before .before .before .before .before .before .before .before .pre .1)
 
 ma-list-requires : (t : ℕ) → ma-lts.Need-list-requires (ma-claims t) (ma-at t) ma.Post ma-Inv-loop ma-μ-loop
 ma-list-requires t c κs = search needs
@@ -3248,7 +3249,7 @@ ma-new-line-requires : (t : ℕ) → ma-lts.Need-new-line-requires (ma-claims t)
 ma-new-line-requires t c κs = search needs
 
 ma-arm-requires : (t : ℕ) → ma-lts.Need-arm-requires (ma-claims t) (ma-at t) ma.Post ma-Inv-loop ma-μ-loop
-ma-arm-requires t c κs = omega (arith, c .before .before .before .before .before .before .before .before .before .before .before .before .before .before .before .before .before .before .before .before .before .before .before .before .before .before .before .before .before .before .before .before .pre .0, c .before .before .before .before .before .before .before .before .before .before .before .before .before .before .before .before .before .before .before .before .before .before .before .before .before .before .before .before .before .before .before .before .pre .1)
+ma-arm-requires t c κs = omega (arith, c .before .before .before .before .before .before .before .before .before .before .before .before .before .before .before .before .before .before .before .before .before .before .before .before .before .before .before .before .before .pre .0, c .before .before .before .before .before .before .before .before .before .before .before .before .before .before .before .before .before .before .before .before .before .before .before .before .before .before .before .before .before .pre .1)
 
 ma-told-requires-2 : (t : ℕ) → ma-lts.Need-told-requires-2 (ma-claims t) (ma-at t) ma.Post ma-Inv-loop ma-μ-loop
 ma-told-requires-2 t c κs = search needs
@@ -3260,7 +3261,7 @@ ma-enum-told-4 : (t : ℕ) → ma-lts.Need-enum-told-4 (ma-claims t) (ma-at t) m
 ma-enum-told-4 t c = search needs
 
 ma-same-length-2 : (t : ℕ) → ma-lts.Need-same-length-2 (ma-claims t) (ma-at t) ma.Post ma-Inv-loop ma-μ-loop
-ma-same-length-2 t c = c .before .before .before .before .before .arm .kept .1 .1 .1 .1 .1 .1 .0 ∙ c .before .before .before .before .before .before .before .before .before .before .new-line .kept .1 .1 .0 ∙ c .before .before .before .before .before .before .before .before .before .before .before .before .before .before .loop .inv .2 ∙ c .before .before .before .before .before .before .before .before .before .before .before .before .before .before .before .before .before .before .before .before .before .indent-deeper .kept .0
+ma-same-length-2 t c = c .before .before .before .before .before .arm .kept .1 .1 .1 .1 .1 .0 ∙ c .before .before .before .before .before .before .before .before .before .before .new-line .kept .1 .1 .0 ∙ c .before .before .before .before .before .before .before .before .before .before .before .before .before .before .loop .inv .2 ∙ c .before .before .before .before .before .before .before .before .before .before .before .before .before .before .before .before .before .before .before .before .before .indent-deeper .kept .0
 
 ma-returns-4 : (t : ℕ) → ma-lts.Need-returns-4 (ma-claims t) (ma-at t) ma.Post ma-Inv-loop ma-μ-loop
 unfolding Exp.get-matcher-across-lines Exp.arms-on-lines Helpers.sep-with-lines
@@ -3274,7 +3275,7 @@ ma-loop-less t c = omega arith
 
 ma-loop-again : (t : ℕ) → ma-lts.Need-loop-again (ma-claims t) (ma-at t) ma.Post ma-Inv-loop ma-μ-loop
 unfolding Exp.get-matcher-across-lines Exp.arms-on-lines Helpers.sep-with-lines
-ma-loop-again t c = (omega (arith, c .before .before .before .before .before .before .before .before .before .before .before .before .before .before .before .loop .inv .0), λ r m o h. c .before .before .before .before .before .before .before .before .before .before .before .before .before .before .before .loop .inv .1 r m o (from-more _ _ (c .before .before .before .before .before .before .before .before .before .before .before .before .before .before .loop-test .taken) (then-sure (c .before .before .before .before .before .before .before .before .before .before .before .new-line .ensures) (then-done (c .before .before .before .before .before .before .arm .ensures .is) (c .before .before .before .told2 .ensures) (c .before .s3 .given .1) h))), c .before .before .before .before .before .before .arm .kept .1 .1 .1 .1 .1 .1 .0 ∙ c .before .before .before .before .before .before .before .before .before .before .before .new-line .kept .1 .1 .0 ∙ c .before .before .before .before .before .before .before .before .before .before .before .before .before .before .before .loop .inv .2)
+ma-loop-again t c = (omega (arith, c .before .before .before .before .before .before .before .before .before .before .before .before .before .before .before .loop .inv .0), λ r m o h. c .before .before .before .before .before .before .before .before .before .before .before .before .before .before .before .loop .inv .1 r m o (from-more _ _ (c .before .before .before .before .before .before .before .before .before .before .before .before .before .before .loop-test .taken) (then-sure (c .before .before .before .before .before .before .before .before .before .before .before .new-line .ensures) (then-done (c .before .before .before .before .before .before .arm .ensures .is) (c .before .before .before .told2 .ensures) (c .before .s3 .given .1) h))), c .before .before .before .before .before .before .arm .kept .1 .1 .1 .1 .1 .0 ∙ c .before .before .before .before .before .before .before .before .before .before .before .new-line .kept .1 .1 .0 ∙ c .before .before .before .before .before .before .before .before .before .before .before .before .before .before .before .loop .inv .2)
 
 ma-same-length-3 : (t : ℕ) → ma-lts.Need-same-length-3 (ma-claims t) (ma-at t) ma.Post ma-Inv-loop ma-μ-loop
 ma-same-length-3 t c = c .before .loop .inv .2 ∙ c .before .before .before .before .before .before .before .before .indent-deeper .kept .0
@@ -3284,11 +3285,11 @@ unfolding Exp.get-matcher-across-lines Exp.arms-on-lines Helpers.sep-with-lines
 ma-returns-5 t c = record { is = by-same (maybe-there (c .before .before .before .before .before .before .before .before .before .before .before .before .before .before .before .before .before .before .absent .ensures) (c .before .before .before .before .before .before .before .before .before .before .before .before .before .before .before .before .enum-told .given .1)) (by-same (group-is (c .before .before .before .before .before .before .before .before .before .before .before .before .before .before .before .group .ensures) (c .before .before .before .before .before .before .before .before .before .before .before .before .before .before .told .ensures) (c .before .before .before .before .before .before .before .before .before .before .before .before .s1 .given .1)) (then-sure (c .before .before .before .before .before .before .before .before .indent-deeper .ensures _) (by-same (list-is (c .before .before .before .before .before .list .ensures) (c .before .before .before .n .given .1)) (by-same (items-all _ _ _) (c .before .loop .inv .1 _ _ _ (from-none _ _ (c .loop-test .left))))))) }
 
 abbrev mo-Inv-loop : mo-lts.InvT-loop
-mo-Inv-loop run text rec kinds starts lens out₀ mem₀ at cfg allow n s₀ i₀ out mem s i =
-    Turn run (page text rec kinds starts lens) (λ i k. Exp.exp-semi-more (walks (cfg .nesting)) (cfgOf cfg) allow k) n s₀ mem₀ out₀ i s mem out
+mo-Inv-loop run text rec kinds spans out₀ mem₀ at cfg allow n s₀ i₀ out mem s i =
+    Turn run (pageAt text rec kinds spans) (λ i k. Exp.exp-semi-more (walks (cfg .nesting)) (cfgOf cfg) allow k) n s₀ mem₀ out₀ i s mem out
 
 abbrev mo-μ-loop : mo-lts.MeasureT-loop
-mo-μ-loop run text rec kinds starts lens out₀ mem₀ at cfg allow n s₀ i₀ out mem s i = n - i
+mo-μ-loop run text rec kinds spans out₀ mem₀ at cfg allow n s₀ i₀ out mem s i = n - i
 
 mo-loop-holds : (t : ℕ) → mo-lts.Need-loop-holds (mo-claims t) (mo-at t) mo.Post mo-Inv-loop mo-μ-loop
 mo-loop-holds t c = (omega arith, λ r m o h. h, refl)
@@ -3303,7 +3304,7 @@ mo-indent-requires : (t : ℕ) → mo-lts.Need-indent-requires (mo-claims t) (mo
 mo-indent-requires t c κs = search needs
 
 mo-it-requires : (t : ℕ) → mo-lts.Need-it-requires (mo-claims t) (mo-at t) mo.Post mo-Inv-loop mo-μ-loop
-mo-it-requires t c κs = omega (arith, c .before .before .before .before .before .before .before .before .before .before .before .before .before .before .before .before .before .before .before .before .before .pre .0, c .before .before .before .before .before .before .before .before .before .before .before .before .before .before .before .before .before .before .before .before .before .pre .1)
+mo-it-requires t c κs = omega (arith, c .before .before .before .before .before .before .before .before .before .before .before .before .before .before .before .before .before .before .pre .0, c .before .before .before .before .before .before .before .before .before .before .before .before .before .before .before .before .before .before .pre .1)
 
 mo-told-requires : (t : ℕ) → mo-lts.Need-told-requires (mo-claims t) (mo-at t) mo.Post mo-Inv-loop mo-μ-loop
 mo-told-requires t c κs = search needs
@@ -3315,19 +3316,19 @@ mo-enum-told : (t : ℕ) → mo-lts.Need-enum-told (mo-claims t) (mo-at t) mo.Po
 mo-enum-told t c = search needs
 
 mo-same-length : (t : ℕ) → mo-lts.Need-same-length (mo-claims t) (mo-at t) mo.Post mo-Inv-loop mo-μ-loop
-mo-same-length t c = c .before .before .before .before .before .it .kept .1 .1 .1 .1 .1 .1 .0 ∙ c .before .before .before .before .before .before .before .before .before .before .indent .kept .0 ∙ c .before .before .before .before .before .before .before .before .before .before .before .before .before .before .before .word .kept .1 .1 .0 ∙ c .before .before .before .before .before .before .before .before .before .before .before .before .before .before .before .before .before .before .before .before .loop .inv .2
+mo-same-length t c = c .before .before .before .before .before .it .kept .1 .1 .1 .1 .1 .0 ∙ c .before .before .before .before .before .before .before .before .before .before .indent .kept .0 ∙ c .before .before .before .before .before .before .before .before .before .before .before .before .before .before .before .word .kept .1 .1 .0 ∙ c .before .before .before .before .before .before .before .before .before .before .before .before .before .before .before .before .before .before .before .before .loop .inv .2
 
 mo-returns : (t : ℕ) → mo-lts.Need-returns (mo-claims t) (mo-at t) mo.Post mo-Inv-loop mo-μ-loop
 mo-returns t c = record { is = by-same (semi-all _ _ _ _) (c .before .before .before .before .before .before .before .before .before .before .before .before .before .before .before .before .before .before .before .before .loop .inv .1 _ _ _ (semi-more _ _ _ (c .before .before .before .before .before .before .before .before .before .before .before .before .before .before .before .before .before .before .before .loop-test .taken) (c .before .before .before .before .before .before .before .before .before .before .before .before .before .before .before .before .before .before .last-semi .ensures) (then-sure (c .before .before .before .before .before .before .before .before .before .before .before .before .before .before .before .word .ensures) (then-sure (c .before .before .before .before .before .before .before .before .before .before .indent .ensures _) (then-stop (c .before .before .before .before .before .it .ensures .is) (c .before .before .told .ensures) (c .enum-told .given .1)))))) }
 
 mo-add-i : (t : ℕ) → mo-lts.Need-add-i (mo-claims t) (mo-at t) mo.Post mo-Inv-loop mo-μ-loop
-mo-add-i t c = omega (arith, c .before .before .before .before .before .before .before .before .before .before .before .before .before .before .before .before .before .before .before .before .loop-test .taken, c .before .before .before .before .before .before .before .before .before .before .before .before .before .before .before .before .before .before .before .before .before .before .before .before .before .before .before .before .fits)
+mo-add-i t c = omega (arith, c .before .before .before .before .before .before .before .before .before .before .before .before .before .before .before .before .before .before .before .before .loop-test .taken, c .before .before .before .before .before .before .before .before .before .before .before .before .before .before .before .before .before .before .before .before .before .before .before .before .before .fits)
 
 mo-loop-less : (t : ℕ) → mo-lts.Need-loop-less (mo-claims t) (mo-at t) mo.Post mo-Inv-loop mo-μ-loop
 mo-loop-less t c = omega arith
 
 mo-loop-again : (t : ℕ) → mo-lts.Need-loop-again (mo-claims t) (mo-at t) mo.Post mo-Inv-loop mo-μ-loop
-mo-loop-again t c = (omega (arith, c .before .before .before .before .before .before .before .before .before .before .before .before .before .before .before .before .before .before .before .before .before .loop .inv .0), λ r m o h. c .before .before .before .before .before .before .before .before .before .before .before .before .before .before .before .before .before .before .before .before .before .loop .inv .1 r m o (semi-more _ _ _ (c .before .before .before .before .before .before .before .before .before .before .before .before .before .before .before .before .before .before .before .before .loop-test .taken) (c .before .before .before .before .before .before .before .before .before .before .before .before .before .before .before .before .before .before .before .last-semi .ensures) (then-sure (c .before .before .before .before .before .before .before .before .before .before .before .before .before .before .before .before .word .ensures) (then-sure (c .before .before .before .before .before .before .before .before .before .before .before .indent .ensures _) (then-done (c .before .before .before .before .before .before .it .ensures .is) (c .before .before .before .told .ensures) (c .before .s1 .given .1) h)))), c .before .before .before .before .before .before .it .kept .1 .1 .1 .1 .1 .1 .0 ∙ c .before .before .before .before .before .before .before .before .before .before .before .indent .kept .0 ∙ c .before .before .before .before .before .before .before .before .before .before .before .before .before .before .before .before .word .kept .1 .1 .0 ∙ c .before .before .before .before .before .before .before .before .before .before .before .before .before .before .before .before .before .before .before .before .before .loop .inv .2)
+mo-loop-again t c = (omega (arith, c .before .before .before .before .before .before .before .before .before .before .before .before .before .before .before .before .before .before .before .before .before .loop .inv .0), λ r m o h. c .before .before .before .before .before .before .before .before .before .before .before .before .before .before .before .before .before .before .before .before .before .loop .inv .1 r m o (semi-more _ _ _ (c .before .before .before .before .before .before .before .before .before .before .before .before .before .before .before .before .before .before .before .before .loop-test .taken) (c .before .before .before .before .before .before .before .before .before .before .before .before .before .before .before .before .before .before .before .last-semi .ensures) (then-sure (c .before .before .before .before .before .before .before .before .before .before .before .before .before .before .before .before .word .ensures) (then-sure (c .before .before .before .before .before .before .before .before .before .before .before .indent .ensures _) (then-done (c .before .before .before .before .before .before .it .ensures .is) (c .before .before .before .told .ensures) (c .before .s1 .given .1) h)))), c .before .before .before .before .before .before .it .kept .1 .1 .1 .1 .1 .0 ∙ c .before .before .before .before .before .before .before .before .before .before .before .indent .kept .0 ∙ c .before .before .before .before .before .before .before .before .before .before .before .before .before .before .before .before .word .kept .1 .1 .0 ∙ c .before .before .before .before .before .before .before .before .before .before .before .before .before .before .before .before .before .before .before .before .before .loop .inv .2)
 
 mo-same-length-2 : (t : ℕ) → mo-lts.Need-same-length-2 (mo-claims t) (mo-at t) mo.Post mo-Inv-loop mo-μ-loop
 mo-same-length-2 t c = c .before .loop .inv .2
@@ -3348,7 +3349,7 @@ nm-enum-told : (t : ℕ) → nm-lts.Need-enum-told (nm-claims t) (nm-at t) nm.Po
 nm-enum-told t c = search needs
 
 nm-same-length : (t : ℕ) → nm-lts.Need-same-length (nm-claims t) (nm-at t) nm.Post
-nm-same-length t c = c .before .before .before .before .before .text-of .kept .1 .1 .1 .1 .1 .0
+nm-same-length t c = c .before .before .before .before .before .text-of .kept .1 .1 .1 .1 .0
 
 nm-returns : (t : ℕ) → nm-lts.Need-returns (nm-claims t) (nm-at t) nm.Post
 nm-returns t c = record { is = then-stop (plain (c .before .before .before .before .before .text-of .ensures)) (c .before .before .told .ensures) (c .enum-told .given .1) }
@@ -3357,10 +3358,10 @@ nm-word-requires : (t : ℕ) → nm-lts.Need-word-requires (nm-claims t) (nm-at 
 nm-word-requires t c κs = search needs
 
 nm-sig-requires : (t : ℕ) → nm-lts.Need-sig-requires (nm-claims t) (nm-at t) nm.Post
-nm-sig-requires t c κs = omega (arith, c .before .before .before .before .before .before .before .before .before .before .before .before .before .before .before .before .before .before .before .before .before .before .pre .0, c .before .before .before .before .before .before .before .before .before .before .before .before .before .before .before .before .before .before .before .before .before .before .pre .1)
+nm-sig-requires t c κs = omega (arith, c .before .before .before .before .before .before .before .before .before .before .before .before .before .before .before .before .before .before .before .pre .0, c .before .before .before .before .before .before .before .before .before .before .before .before .before .before .before .before .before .before .before .pre .1)
 
 nm-same-length-2 : (t : ℕ) → nm-lts.Need-same-length-2 (nm-claims t) (nm-at t) nm.Post
-nm-same-length-2 t c = c .before .before .sig .kept .1 .1 .1 .1 .1 .1 .0 ∙ c .before .before .before .before .before .before .before .word .kept .1 .1 .0 ∙ c .before .before .before .before .before .before .before .before .before .before .before .before .before .before .before .before .text-of .kept .1 .1 .1 .1 .1 .0
+nm-same-length-2 t c = c .before .before .sig .kept .1 .1 .1 .1 .1 .0 ∙ c .before .before .before .before .before .before .before .word .kept .1 .1 .0 ∙ c .before .before .before .before .before .before .before .before .before .before .before .before .before .before .before .before .text-of .kept .1 .1 .1 .1 .0
 
 nm-returns-2 : (t : ℕ) → nm-lts.Need-returns-2 (nm-claims t) (nm-at t) nm.Post
 nm-returns-2 t c = record { is = then-done (plain (c .before .before .before .before .before .before .before .before .before .before .before .before .before .before .before .before .text-of .ensures)) (c .before .before .before .before .before .before .before .before .before .before .before .before .before .told .ensures) (c .before .before .before .before .before .before .before .before .before .before .before .s1 .given .1) (then-sure (c .before .before .before .before .before .before .before .word .ensures) (c .before .before .sig .ensures .is)) }
@@ -3369,25 +3370,25 @@ nu-word-requires : (t : ℕ) → nu-lts.Need-word-requires (nu-claims t) (nu-at 
 nu-word-requires t c κs = search needs
 
 nu-vd-requires : (t : ℕ) → nu-lts.Need-vd-requires (nu-claims t) (nu-at t) nu.Post
-nu-vd-requires t c κs = omega (arith, c .before .before .before .before .before .before .before .before .before .pre .0, c .before .before .before .before .before .before .before .before .before .pre .1)
+nu-vd-requires t c κs = omega (arith, c .before .before .before .before .before .before .pre .0, c .before .before .before .before .before .before .pre .1)
 
 nu-fd-requires : (t : ℕ) → nu-lts.Need-fd-requires (nu-claims t) (nu-at t) nu.Post
-nu-fd-requires t c κs = omega (arith, c .before .before .before .before .before .before .before .before .before .pre .0, c .before .before .before .before .before .before .before .before .before .pre .1)
+nu-fd-requires t c κs = omega (arith, c .before .before .before .before .before .before .pre .0, c .before .before .before .before .before .before .pre .1)
 
 nu-ty-dec-requires : (t : ℕ) → nu-lts.Need-ty-dec-requires (nu-claims t) (nu-at t) nu.Post
 nu-ty-dec-requires t c κs = search needs
 
 nu-dat-dec-requires : (t : ℕ) → nu-lts.Need-dat-dec-requires (nu-claims t) (nu-at t) nu.Post
-nu-dat-dec-requires t c κs = omega (arith, c .before .before .before .before .before .before .before .before .before .pre .1)
+nu-dat-dec-requires t c κs = omega (arith, c .before .before .before .before .before .before .pre .1)
 
 nu-dat-copy-dec-requires : (t : ℕ) → nu-lts.Need-dat-copy-dec-requires (nu-claims t) (nu-at t) nu.Post
 nu-dat-copy-dec-requires t c κs = search needs
 
 nu-ab-requires : (t : ℕ) → nu-lts.Need-ab-requires (nu-claims t) (nu-at t) nu.Post
-nu-ab-requires t c κs = omega (arith, c .before .before .before .before .before .before .before .before .before .pre .0, c .before .before .before .before .before .before .before .before .before .pre .1)
+nu-ab-requires t c κs = omega (arith, c .before .before .before .before .before .before .pre .0, c .before .before .before .before .before .before .pre .1)
 
 nu-xd-requires : (t : ℕ) → nu-lts.Need-xd-requires (nu-claims t) (nu-at t) nu.Post
-nu-xd-requires t c κs = omega (arith, c .before .before .before .before .before .before .before .before .before .pre .0, c .before .before .before .before .before .before .before .before .before .pre .1)
+nu-xd-requires t c κs = omega (arith, c .before .before .before .before .before .before .pre .0, c .before .before .before .before .before .before .pre .1)
 
 nu-open-dec-requires : (t : ℕ) → nu-lts.Need-open-dec-requires (nu-claims t) (nu-at t) nu.Post
 nu-open-dec-requires t c κs = search needs
@@ -3402,25 +3403,25 @@ nu-nonfix-dec-requires : (t : ℕ) → nu-lts.Need-nonfix-dec-requires (nu-claim
 nu-nonfix-dec-requires t c κs = search needs
 
 nu-pr-requires : (t : ℕ) → nu-lts.Need-pr-requires (nu-claims t) (nu-at t) nu.Post
-nu-pr-requires t c κs = omega (arith, c .before .before .before .before .before .before .before .before .before .pre .0, c .before .before .before .before .before .before .before .before .before .pre .1)
+nu-pr-requires t c κs = omega (arith, c .before .before .before .before .before .before .pre .0, c .before .before .before .before .before .before .pre .1)
 
 nu-lo-requires : (t : ℕ) → nu-lts.Need-lo-requires (nu-claims t) (nu-at t) nu.Post
-nu-lo-requires t c κs = omega (arith, c .before .before .before .before .before .before .before .before .before .pre .0, c .before .before .before .before .before .before .before .before .before .pre .1)
+nu-lo-requires t c κs = omega (arith, c .before .before .before .before .before .before .pre .0, c .before .before .before .before .before .before .pre .1)
 
 nu-sd-requires : (t : ℕ) → nu-lts.Need-sd-requires (nu-claims t) (nu-at t) nu.Post
-nu-sd-requires t c κs = omega (arith, c .before .before .before .before .before .before .before .before .before .pre .0, c .before .before .before .before .before .before .before .before .before .pre .1)
+nu-sd-requires t c κs = omega (arith, c .before .before .before .before .before .before .pre .0, c .before .before .before .before .before .before .pre .1)
 
 nu-gd-requires : (t : ℕ) → nu-lts.Need-gd-requires (nu-claims t) (nu-at t) nu.Post
-nu-gd-requires t c κs = omega (arith, c .before .before .before .before .before .before .before .before .before .pre .0, c .before .before .before .before .before .before .before .before .before .pre .1)
+nu-gd-requires t c κs = omega (arith, c .before .before .before .before .before .before .pre .0, c .before .before .before .before .before .before .pre .1)
 
 nu-cd-requires : (t : ℕ) → nu-lts.Need-cd-requires (nu-claims t) (nu-at t) nu.Post
-nu-cd-requires t c κs = omega (arith, c .before .before .before .before .before .before .before .before .before .pre .0, c .before .before .before .before .before .before .before .before .before .pre .1)
+nu-cd-requires t c κs = omega (arith, c .before .before .before .before .before .before .pre .0, c .before .before .before .before .before .before .pre .1)
 
 nu-exp-requires : (t : ℕ) → nu-lts.Need-exp-requires (nu-claims t) (nu-at t) nu.Post
-nu-exp-requires t c κs = omega (arith, c .before .before .before .before .before .before .before .before .before .pre .0, c .before .before .before .before .before .before .before .before .before .pre .1)
+nu-exp-requires t c κs = omega (arith, c .before .before .before .before .before .before .pre .0, c .before .before .before .before .before .before .pre .1)
 
 nu-ic-requires : (t : ℕ) → nu-lts.Need-ic-requires (nu-claims t) (nu-at t) nu.Post
-nu-ic-requires t c κs = omega (arith, c .before .before .before .before .before .before .before .before .before .pre .0, c .before .before .before .before .before .before .before .before .before .pre .1)
+nu-ic-requires t c κs = omega (arith, c .before .before .before .before .before .before .pre .0, c .before .before .before .before .before .before .pre .1)
 
 nu-import-requires : (t : ℕ) → nu-lts.Need-import-requires (nu-claims t) (nu-at t) nu.Post
 nu-import-requires t c κs = search needs
@@ -3433,141 +3434,141 @@ nu-same-length t c = c .before .before .word .kept .1 .1 .0
 
 nu-returns : (t : ℕ) → nu-lts.Need-returns (nu-claims t) (nu-at t) nu.Post
 unfolding DecOne.decs DecOne.dec-one
-nu-returns t c = record { is = at-key (λ i. getD (DecOne.decs (walks (c .before .before .before .before .before .before .before .before .before .before .before .before .args .cfg .nesting)) (cfgOf (c .before .before .before .before .before .before .before .before .before .before .before .before .args .cfg))) i Layout.halt) (c .before .before .before .before .before .match .keys1) (last-sure (c .before .before .word .ensures)) }
+nu-returns t c = record { is = at-key (λ i. getD (DecOne.decs (walks (c .before .before .before .before .before .before .before .before .before .args .cfg .nesting)) (cfgOf (c .before .before .before .before .before .before .before .before .before .args .cfg))) i Layout.halt) (c .before .before .before .before .before .match .keys1) (last-sure (c .before .before .word .ensures)) }
 
 nu-same-length-2 : (t : ℕ) → nu-lts.Need-same-length-2 (nu-claims t) (nu-at t) nu.Post
-nu-same-length-2 t c = c .before .before .vd .kept .1 .1 .1 .1 .1 .1 .0
+nu-same-length-2 t c = c .before .before .vd .kept .1 .1 .1 .1 .1 .0
 
 nu-returns-2 : (t : ℕ) → nu-lts.Need-returns-2 (nu-claims t) (nu-at t) nu.Post
 unfolding DecOne.decs DecOne.dec-one
-nu-returns-2 t c = record { is = at-key (λ i. getD (DecOne.decs (walks (c .before .before .before .before .before .before .before .before .before .before .before .before .args .cfg .nesting)) (cfgOf (c .before .before .before .before .before .before .before .before .before .before .before .before .args .cfg))) i Layout.halt) (c .before .before .before .before .before .match .keys2) (c .before .before .vd .ensures .is) }
+nu-returns-2 t c = record { is = at-key (λ i. getD (DecOne.decs (walks (c .before .before .before .before .before .before .before .before .before .args .cfg .nesting)) (cfgOf (c .before .before .before .before .before .before .before .before .before .args .cfg))) i Layout.halt) (c .before .before .before .before .before .match .keys2) (c .before .before .vd .ensures .is) }
 
 nu-same-length-3 : (t : ℕ) → nu-lts.Need-same-length-3 (nu-claims t) (nu-at t) nu.Post
-nu-same-length-3 t c = c .before .before .fd .kept .1 .1 .1 .1 .1 .1 .0
+nu-same-length-3 t c = c .before .before .fd .kept .1 .1 .1 .1 .1 .0
 
 nu-returns-3 : (t : ℕ) → nu-lts.Need-returns-3 (nu-claims t) (nu-at t) nu.Post
 unfolding DecOne.decs DecOne.dec-one
-nu-returns-3 t c = record { is = at-key (λ i. getD (DecOne.decs (walks (c .before .before .before .before .before .before .before .before .before .before .before .before .args .cfg .nesting)) (cfgOf (c .before .before .before .before .before .before .before .before .before .before .before .before .args .cfg))) i Layout.halt) (c .before .before .before .before .before .match .keys3) (c .before .before .fd .ensures .is) }
+nu-returns-3 t c = record { is = at-key (λ i. getD (DecOne.decs (walks (c .before .before .before .before .before .before .before .before .before .args .cfg .nesting)) (cfgOf (c .before .before .before .before .before .before .before .before .before .args .cfg))) i Layout.halt) (c .before .before .before .before .before .match .keys3) (c .before .before .fd .ensures .is) }
 
 nu-same-length-4 : (t : ℕ) → nu-lts.Need-same-length-4 (nu-claims t) (nu-at t) nu.Post
-nu-same-length-4 t c = c .before .before .ty-dec .kept .1 .1 .1 .1 .1 .0
+nu-same-length-4 t c = c .before .before .ty-dec .kept .1 .1 .1 .1 .0
 
 nu-returns-4 : (t : ℕ) → nu-lts.Need-returns-4 (nu-claims t) (nu-at t) nu.Post
 unfolding DecOne.decs DecOne.dec-one
-nu-returns-4 t c = record { is = at-key (λ i. getD (DecOne.decs (walks (c .before .before .before .before .before .before .before .before .before .before .before .before .args .cfg .nesting)) (cfgOf (c .before .before .before .before .before .before .before .before .before .before .before .before .args .cfg))) i Layout.halt) (c .before .before .before .before .before .match .keys4) (plain (c .before .before .ty-dec .ensures)) }
+nu-returns-4 t c = record { is = at-key (λ i. getD (DecOne.decs (walks (c .before .before .before .before .before .before .before .before .before .args .cfg .nesting)) (cfgOf (c .before .before .before .before .before .before .before .before .before .args .cfg))) i Layout.halt) (c .before .before .before .before .before .match .keys4) (plain (c .before .before .ty-dec .ensures)) }
 
 nu-same-length-5 : (t : ℕ) → nu-lts.Need-same-length-5 (nu-claims t) (nu-at t) nu.Post
-nu-same-length-5 t c = c .before .before .dat-dec .kept .1 .1 .1 .1 .1 .0
+nu-same-length-5 t c = c .before .before .dat-dec .kept .1 .1 .1 .1 .0
 
 nu-returns-5 : (t : ℕ) → nu-lts.Need-returns-5 (nu-claims t) (nu-at t) nu.Post
 unfolding DecOne.decs DecOne.dec-one
-nu-returns-5 t c = record { is = at-key (λ i. getD (DecOne.decs (walks (c .before .before .before .before .before .before .before .before .before .before .before .before .args .cfg .nesting)) (cfgOf (c .before .before .before .before .before .before .before .before .before .before .before .before .args .cfg))) i Layout.halt) (c .before .before .before .before .before .match .keys5) (plain (c .before .before .dat-dec .ensures)) }
+nu-returns-5 t c = record { is = at-key (λ i. getD (DecOne.decs (walks (c .before .before .before .before .before .before .before .before .before .args .cfg .nesting)) (cfgOf (c .before .before .before .before .before .before .before .before .before .args .cfg))) i Layout.halt) (c .before .before .before .before .before .match .keys5) (plain (c .before .before .dat-dec .ensures)) }
 
 nu-same-length-6 : (t : ℕ) → nu-lts.Need-same-length-6 (nu-claims t) (nu-at t) nu.Post
-nu-same-length-6 t c = c .before .before .dat-copy-dec .kept .1 .1 .1 .1 .1 .0
+nu-same-length-6 t c = c .before .before .dat-copy-dec .kept .1 .1 .1 .1 .0
 
 nu-returns-6 : (t : ℕ) → nu-lts.Need-returns-6 (nu-claims t) (nu-at t) nu.Post
 unfolding DecOne.decs DecOne.dec-one
-nu-returns-6 t c = record { is = at-key (λ i. getD (DecOne.decs (walks (c .before .before .before .before .before .before .before .before .before .before .before .before .args .cfg .nesting)) (cfgOf (c .before .before .before .before .before .before .before .before .before .before .before .before .args .cfg))) i Layout.halt) (c .before .before .before .before .before .match .keys6) (plain (c .before .before .dat-copy-dec .ensures)) }
+nu-returns-6 t c = record { is = at-key (λ i. getD (DecOne.decs (walks (c .before .before .before .before .before .before .before .before .before .args .cfg .nesting)) (cfgOf (c .before .before .before .before .before .before .before .before .before .args .cfg))) i Layout.halt) (c .before .before .before .before .before .match .keys6) (plain (c .before .before .dat-copy-dec .ensures)) }
 
 nu-same-length-7 : (t : ℕ) → nu-lts.Need-same-length-7 (nu-claims t) (nu-at t) nu.Post
-nu-same-length-7 t c = c .before .before .ab .kept .1 .1 .1 .1 .1 .1 .0
+nu-same-length-7 t c = c .before .before .ab .kept .1 .1 .1 .1 .1 .0
 
 nu-returns-7 : (t : ℕ) → nu-lts.Need-returns-7 (nu-claims t) (nu-at t) nu.Post
 unfolding DecOne.decs DecOne.dec-one
-nu-returns-7 t c = record { is = at-key (λ i. getD (DecOne.decs (walks (c .before .before .before .before .before .before .before .before .before .before .before .before .args .cfg .nesting)) (cfgOf (c .before .before .before .before .before .before .before .before .before .before .before .before .args .cfg))) i Layout.halt) (c .before .before .before .before .before .match .keys7) (c .before .before .ab .ensures .is) }
+nu-returns-7 t c = record { is = at-key (λ i. getD (DecOne.decs (walks (c .before .before .before .before .before .before .before .before .before .args .cfg .nesting)) (cfgOf (c .before .before .before .before .before .before .before .before .before .args .cfg))) i Layout.halt) (c .before .before .before .before .before .match .keys7) (c .before .before .ab .ensures .is) }
 
 nu-same-length-8 : (t : ℕ) → nu-lts.Need-same-length-8 (nu-claims t) (nu-at t) nu.Post
-nu-same-length-8 t c = c .before .before .xd .kept .1 .1 .1 .1 .1 .1 .0
+nu-same-length-8 t c = c .before .before .xd .kept .1 .1 .1 .1 .1 .0
 
 nu-returns-8 : (t : ℕ) → nu-lts.Need-returns-8 (nu-claims t) (nu-at t) nu.Post
 unfolding DecOne.decs DecOne.dec-one
-nu-returns-8 t c = record { is = at-key (λ i. getD (DecOne.decs (walks (c .before .before .before .before .before .before .before .before .before .before .before .before .args .cfg .nesting)) (cfgOf (c .before .before .before .before .before .before .before .before .before .before .before .before .args .cfg))) i Layout.halt) (c .before .before .before .before .before .match .keys8) (c .before .before .xd .ensures .is) }
+nu-returns-8 t c = record { is = at-key (λ i. getD (DecOne.decs (walks (c .before .before .before .before .before .before .before .before .before .args .cfg .nesting)) (cfgOf (c .before .before .before .before .before .before .before .before .before .args .cfg))) i Layout.halt) (c .before .before .before .before .before .match .keys8) (c .before .before .xd .ensures .is) }
 
 nu-same-length-9 : (t : ℕ) → nu-lts.Need-same-length-9 (nu-claims t) (nu-at t) nu.Post
-nu-same-length-9 t c = c .before .before .open-dec .kept .1 .1 .1 .1 .1 .0
+nu-same-length-9 t c = c .before .before .open-dec .kept .1 .1 .1 .1 .0
 
 nu-returns-9 : (t : ℕ) → nu-lts.Need-returns-9 (nu-claims t) (nu-at t) nu.Post
 unfolding DecOne.decs DecOne.dec-one
-nu-returns-9 t c = record { is = at-key (λ i. getD (DecOne.decs (walks (c .before .before .before .before .before .before .before .before .before .before .before .before .args .cfg .nesting)) (cfgOf (c .before .before .before .before .before .before .before .before .before .before .before .before .args .cfg))) i Layout.halt) (c .before .before .before .before .before .match .keys9) (plain (c .before .before .open-dec .ensures)) }
+nu-returns-9 t c = record { is = at-key (λ i. getD (DecOne.decs (walks (c .before .before .before .before .before .before .before .before .before .args .cfg .nesting)) (cfgOf (c .before .before .before .before .before .before .before .before .before .args .cfg))) i Layout.halt) (c .before .before .before .before .before .match .keys9) (plain (c .before .before .open-dec .ensures)) }
 
 nu-same-length-10 : (t : ℕ) → nu-lts.Need-same-length-10 (nu-claims t) (nu-at t) nu.Post
-nu-same-length-10 t c = c .before .before .infix-dec .kept .1 .1 .1 .1 .1 .0
+nu-same-length-10 t c = c .before .before .infix-dec .kept .1 .1 .1 .1 .0
 
 nu-returns-10 : (t : ℕ) → nu-lts.Need-returns-10 (nu-claims t) (nu-at t) nu.Post
 unfolding DecOne.decs DecOne.dec-one
-nu-returns-10 t c = record { is = at-key (λ i. getD (DecOne.decs (walks (c .before .before .before .before .before .before .before .before .before .before .before .before .args .cfg .nesting)) (cfgOf (c .before .before .before .before .before .before .before .before .before .before .before .before .args .cfg))) i Layout.halt) (c .before .before .before .before .before .match .keys10) (plain (c .before .before .infix-dec .ensures)) }
+nu-returns-10 t c = record { is = at-key (λ i. getD (DecOne.decs (walks (c .before .before .before .before .before .before .before .before .before .args .cfg .nesting)) (cfgOf (c .before .before .before .before .before .before .before .before .before .args .cfg))) i Layout.halt) (c .before .before .before .before .before .match .keys10) (plain (c .before .before .infix-dec .ensures)) }
 
 nu-same-length-11 : (t : ℕ) → nu-lts.Need-same-length-11 (nu-claims t) (nu-at t) nu.Post
-nu-same-length-11 t c = c .before .before .infix-dec2 .kept .1 .1 .1 .1 .1 .0
+nu-same-length-11 t c = c .before .before .infix-dec2 .kept .1 .1 .1 .1 .0
 
 nu-returns-11 : (t : ℕ) → nu-lts.Need-returns-11 (nu-claims t) (nu-at t) nu.Post
 unfolding DecOne.decs DecOne.dec-one
-nu-returns-11 t c = record { is = at-key (λ i. getD (DecOne.decs (walks (c .before .before .before .before .before .before .before .before .before .before .before .before .args .cfg .nesting)) (cfgOf (c .before .before .before .before .before .before .before .before .before .before .before .before .args .cfg))) i Layout.halt) (c .before .before .before .before .before .match .keys11) (plain (c .before .before .infix-dec2 .ensures)) }
+nu-returns-11 t c = record { is = at-key (λ i. getD (DecOne.decs (walks (c .before .before .before .before .before .before .before .before .before .args .cfg .nesting)) (cfgOf (c .before .before .before .before .before .before .before .before .before .args .cfg))) i Layout.halt) (c .before .before .before .before .before .match .keys11) (plain (c .before .before .infix-dec2 .ensures)) }
 
 nu-same-length-12 : (t : ℕ) → nu-lts.Need-same-length-12 (nu-claims t) (nu-at t) nu.Post
-nu-same-length-12 t c = c .before .before .nonfix-dec .kept .1 .1 .1 .1 .1 .0
+nu-same-length-12 t c = c .before .before .nonfix-dec .kept .1 .1 .1 .1 .0
 
 nu-returns-12 : (t : ℕ) → nu-lts.Need-returns-12 (nu-claims t) (nu-at t) nu.Post
 unfolding DecOne.decs DecOne.dec-one
-nu-returns-12 t c = record { is = at-key (λ i. getD (DecOne.decs (walks (c .before .before .before .before .before .before .before .before .before .before .before .before .args .cfg .nesting)) (cfgOf (c .before .before .before .before .before .before .before .before .before .before .before .before .args .cfg))) i Layout.halt) (c .before .before .before .before .before .match .keys12) (plain (c .before .before .nonfix-dec .ensures)) }
+nu-returns-12 t c = record { is = at-key (λ i. getD (DecOne.decs (walks (c .before .before .before .before .before .before .before .before .before .args .cfg .nesting)) (cfgOf (c .before .before .before .before .before .before .before .before .before .args .cfg))) i Layout.halt) (c .before .before .before .before .before .match .keys12) (plain (c .before .before .nonfix-dec .ensures)) }
 
 nu-same-length-13 : (t : ℕ) → nu-lts.Need-same-length-13 (nu-claims t) (nu-at t) nu.Post
-nu-same-length-13 t c = c .before .before .pr .kept .1 .1 .1 .1 .1 .1 .0
+nu-same-length-13 t c = c .before .before .pr .kept .1 .1 .1 .1 .1 .0
 
 nu-returns-13 : (t : ℕ) → nu-lts.Need-returns-13 (nu-claims t) (nu-at t) nu.Post
 unfolding DecOne.decs DecOne.dec-one
-nu-returns-13 t c = record { is = at-key (λ i. getD (DecOne.decs (walks (c .before .before .before .before .before .before .before .before .before .before .before .before .args .cfg .nesting)) (cfgOf (c .before .before .before .before .before .before .before .before .before .before .before .before .args .cfg))) i Layout.halt) (c .before .before .before .before .before .match .keys13) (c .before .before .pr .ensures .is) }
+nu-returns-13 t c = record { is = at-key (λ i. getD (DecOne.decs (walks (c .before .before .before .before .before .before .before .before .before .args .cfg .nesting)) (cfgOf (c .before .before .before .before .before .before .before .before .before .args .cfg))) i Layout.halt) (c .before .before .before .before .before .match .keys13) (c .before .before .pr .ensures .is) }
 
 nu-same-length-14 : (t : ℕ) → nu-lts.Need-same-length-14 (nu-claims t) (nu-at t) nu.Post
-nu-same-length-14 t c = c .before .before .lo .kept .1 .1 .1 .1 .1 .1 .0
+nu-same-length-14 t c = c .before .before .lo .kept .1 .1 .1 .1 .1 .0
 
 nu-returns-14 : (t : ℕ) → nu-lts.Need-returns-14 (nu-claims t) (nu-at t) nu.Post
 unfolding DecOne.decs DecOne.dec-one
-nu-returns-14 t c = record { is = at-key (λ i. getD (DecOne.decs (walks (c .before .before .before .before .before .before .before .before .before .before .before .before .args .cfg .nesting)) (cfgOf (c .before .before .before .before .before .before .before .before .before .before .before .before .args .cfg))) i Layout.halt) (c .before .before .before .before .before .match .keys14) (c .before .before .lo .ensures .is) }
+nu-returns-14 t c = record { is = at-key (λ i. getD (DecOne.decs (walks (c .before .before .before .before .before .before .before .before .before .args .cfg .nesting)) (cfgOf (c .before .before .before .before .before .before .before .before .before .args .cfg))) i Layout.halt) (c .before .before .before .before .before .match .keys14) (c .before .before .lo .ensures .is) }
 
 nu-same-length-15 : (t : ℕ) → nu-lts.Need-same-length-15 (nu-claims t) (nu-at t) nu.Post
-nu-same-length-15 t c = c .before .before .sd .kept .1 .1 .1 .1 .1 .1 .0
+nu-same-length-15 t c = c .before .before .sd .kept .1 .1 .1 .1 .1 .0
 
 nu-returns-15 : (t : ℕ) → nu-lts.Need-returns-15 (nu-claims t) (nu-at t) nu.Post
 unfolding DecOne.decs DecOne.dec-one
-nu-returns-15 t c = record { is = at-key (λ i. getD (DecOne.decs (walks (c .before .before .before .before .before .before .before .before .before .before .before .before .args .cfg .nesting)) (cfgOf (c .before .before .before .before .before .before .before .before .before .before .before .before .args .cfg))) i Layout.halt) (c .before .before .before .before .before .match .keys15) (c .before .before .sd .ensures .is) }
+nu-returns-15 t c = record { is = at-key (λ i. getD (DecOne.decs (walks (c .before .before .before .before .before .before .before .before .before .args .cfg .nesting)) (cfgOf (c .before .before .before .before .before .before .before .before .before .args .cfg))) i Layout.halt) (c .before .before .before .before .before .match .keys15) (c .before .before .sd .ensures .is) }
 
 nu-same-length-16 : (t : ℕ) → nu-lts.Need-same-length-16 (nu-claims t) (nu-at t) nu.Post
-nu-same-length-16 t c = c .before .before .gd .kept .1 .1 .1 .1 .1 .1 .0
+nu-same-length-16 t c = c .before .before .gd .kept .1 .1 .1 .1 .1 .0
 
 nu-returns-16 : (t : ℕ) → nu-lts.Need-returns-16 (nu-claims t) (nu-at t) nu.Post
 unfolding DecOne.decs DecOne.dec-one
-nu-returns-16 t c = record { is = at-key (λ i. getD (DecOne.decs (walks (c .before .before .before .before .before .before .before .before .before .before .before .before .args .cfg .nesting)) (cfgOf (c .before .before .before .before .before .before .before .before .before .before .before .before .args .cfg))) i Layout.halt) (c .before .before .before .before .before .match .keys16) (c .before .before .gd .ensures .is) }
+nu-returns-16 t c = record { is = at-key (λ i. getD (DecOne.decs (walks (c .before .before .before .before .before .before .before .before .before .args .cfg .nesting)) (cfgOf (c .before .before .before .before .before .before .before .before .before .args .cfg))) i Layout.halt) (c .before .before .before .before .before .match .keys16) (c .before .before .gd .ensures .is) }
 
 nu-same-length-17 : (t : ℕ) → nu-lts.Need-same-length-17 (nu-claims t) (nu-at t) nu.Post
-nu-same-length-17 t c = c .before .before .cd .kept .1 .1 .1 .1 .1 .1 .0
+nu-same-length-17 t c = c .before .before .cd .kept .1 .1 .1 .1 .1 .0
 
 nu-returns-17 : (t : ℕ) → nu-lts.Need-returns-17 (nu-claims t) (nu-at t) nu.Post
 unfolding DecOne.decs DecOne.dec-one
-nu-returns-17 t c = record { is = at-key (λ i. getD (DecOne.decs (walks (c .before .before .before .before .before .before .before .before .before .before .before .before .args .cfg .nesting)) (cfgOf (c .before .before .before .before .before .before .before .before .before .before .before .before .args .cfg))) i Layout.halt) (c .before .before .before .before .before .match .keys17) (c .before .before .cd .ensures .is) }
+nu-returns-17 t c = record { is = at-key (λ i. getD (DecOne.decs (walks (c .before .before .before .before .before .before .before .before .before .args .cfg .nesting)) (cfgOf (c .before .before .before .before .before .before .before .before .before .args .cfg))) i Layout.halt) (c .before .before .before .before .before .match .keys17) (c .before .before .cd .ensures .is) }
 
 nu-same-length-18 : (t : ℕ) → nu-lts.Need-same-length-18 (nu-claims t) (nu-at t) nu.Post
-nu-same-length-18 t c = c .before .before .exp .kept .1 .1 .1 .1 .1 .1 .0
+nu-same-length-18 t c = c .before .before .exp .kept .1 .1 .1 .1 .1 .0
 
 nu-returns-18 : (t : ℕ) → nu-lts.Need-returns-18 (nu-claims t) (nu-at t) nu.Post
 unfolding DecOne.decs DecOne.dec-one
-nu-returns-18 t c = record { is = at-key (λ i. getD (DecOne.decs (walks (c .before .before .before .before .before .before .before .before .before .before .before .before .args .cfg .nesting)) (cfgOf (c .before .before .before .before .before .before .before .before .before .before .before .before .args .cfg))) i Layout.halt) (c .before .before .before .before .before .match .keys18) (c .before .before .exp .ensures .is) }
+nu-returns-18 t c = record { is = at-key (λ i. getD (DecOne.decs (walks (c .before .before .before .before .before .before .before .before .before .args .cfg .nesting)) (cfgOf (c .before .before .before .before .before .before .before .before .before .args .cfg))) i Layout.halt) (c .before .before .before .before .before .match .keys18) (c .before .before .exp .ensures .is) }
 
 nu-same-length-19 : (t : ℕ) → nu-lts.Need-same-length-19 (nu-claims t) (nu-at t) nu.Post
-nu-same-length-19 t c = c .before .before .ic .kept .1 .1 .1 .1 .1 .1 .0
+nu-same-length-19 t c = c .before .before .ic .kept .1 .1 .1 .1 .1 .0
 
 nu-returns-19 : (t : ℕ) → nu-lts.Need-returns-19 (nu-claims t) (nu-at t) nu.Post
 unfolding DecOne.decs DecOne.dec-one
-nu-returns-19 t c = record { is = at-key (λ i. getD (DecOne.decs (walks (c .before .before .before .before .before .before .before .before .before .before .before .before .args .cfg .nesting)) (cfgOf (c .before .before .before .before .before .before .before .before .before .before .before .before .args .cfg))) i Layout.halt) (c .before .before .before .before .before .match .keys19) (c .before .before .ic .ensures .is) }
+nu-returns-19 t c = record { is = at-key (λ i. getD (DecOne.decs (walks (c .before .before .before .before .before .before .before .before .before .args .cfg .nesting)) (cfgOf (c .before .before .before .before .before .before .before .before .before .args .cfg))) i Layout.halt) (c .before .before .before .before .before .match .keys19) (c .before .before .ic .ensures .is) }
 
 nu-returns-20 : (t : ℕ) → nu-lts.Need-returns-20 (nu-claims t) (nu-at t) nu.Post
 unfolding DecOne.decs DecOne.dec-one
-nu-returns-20 t c = record { is = at-key (λ i. getD (DecOne.decs (walks (c .before .before .before .before .before .before .before .before .args .cfg .nesting)) (cfgOf (c .before .before .before .before .before .before .before .before .args .cfg))) i Layout.halt) (c .before .match .keys20) (last-import (c .import .ensures)) }
+nu-returns-20 t c = record { is = at-key (λ i. getD (DecOne.decs (walks (c .before .before .before .before .before .args .cfg .nesting)) (cfgOf (c .before .before .before .before .before .args .cfg))) i Layout.halt) (c .before .match .keys20) (last-import (c .import .ensures)) }
 
 nu-returns-21 : (t : ℕ) → nu-lts.Need-returns-21 (nu-claims t) (nu-at t) nu.Post
 unfolding DecOne.decs DecOne.dec-one
-nu-returns-21 t c = record { is = beyond (DecOne.decs (walks (c .before .before .before .before .before .before .before .before .args .cfg .nesting)) (cfgOf (c .before .before .before .before .before .before .before .before .args .cfg))) (c .before .before .before .before .before .before .before .before .args .which) 20 refl (past (past (past (past (past (past (past (past (past (past (past (past (past (past (past (past (past (past (past (past zero-le (c .before .match .rest .0 .0 .0 .0 .0 .0 .0 .0 .0 .0 .0 .0 .0 .0 .0 .0 .0 .0 .0 .1)) (c .before .match .rest .0 .0 .0 .0 .0 .0 .0 .0 .0 .0 .0 .0 .0 .0 .0 .0 .0 .0 .1)) (c .before .match .rest .0 .0 .0 .0 .0 .0 .0 .0 .0 .0 .0 .0 .0 .0 .0 .0 .0 .1)) (c .before .match .rest .0 .0 .0 .0 .0 .0 .0 .0 .0 .0 .0 .0 .0 .0 .0 .0 .1)) (c .before .match .rest .0 .0 .0 .0 .0 .0 .0 .0 .0 .0 .0 .0 .0 .0 .0 .1)) (c .before .match .rest .0 .0 .0 .0 .0 .0 .0 .0 .0 .0 .0 .0 .0 .0 .1)) (c .before .match .rest .0 .0 .0 .0 .0 .0 .0 .0 .0 .0 .0 .0 .0 .1)) (c .before .match .rest .0 .0 .0 .0 .0 .0 .0 .0 .0 .0 .0 .0 .1)) (c .before .match .rest .0 .0 .0 .0 .0 .0 .0 .0 .0 .0 .0 .1)) (c .before .match .rest .0 .0 .0 .0 .0 .0 .0 .0 .0 .0 .1)) (c .before .match .rest .0 .0 .0 .0 .0 .0 .0 .0 .0 .1)) (c .before .match .rest .0 .0 .0 .0 .0 .0 .0 .0 .1)) (c .before .match .rest .0 .0 .0 .0 .0 .0 .0 .1)) (c .before .match .rest .0 .0 .0 .0 .0 .0 .1)) (c .before .match .rest .0 .0 .0 .0 .0 .1)) (c .before .match .rest .0 .0 .0 .0 .1)) (c .before .match .rest .0 .0 .0 .1)) (c .before .match .rest .0 .0 .1)) (c .before .match .rest .0 .1)) (c .before .match .rest .1)) (c .stop .ensures) }
+nu-returns-21 t c = record { is = beyond (DecOne.decs (walks (c .before .before .before .before .before .args .cfg .nesting)) (cfgOf (c .before .before .before .before .before .args .cfg))) (c .before .before .before .before .before .args .which) 20 refl (past (past (past (past (past (past (past (past (past (past (past (past (past (past (past (past (past (past (past (past zero-le (c .before .match .rest .0 .0 .0 .0 .0 .0 .0 .0 .0 .0 .0 .0 .0 .0 .0 .0 .0 .0 .0 .1)) (c .before .match .rest .0 .0 .0 .0 .0 .0 .0 .0 .0 .0 .0 .0 .0 .0 .0 .0 .0 .0 .1)) (c .before .match .rest .0 .0 .0 .0 .0 .0 .0 .0 .0 .0 .0 .0 .0 .0 .0 .0 .0 .1)) (c .before .match .rest .0 .0 .0 .0 .0 .0 .0 .0 .0 .0 .0 .0 .0 .0 .0 .0 .1)) (c .before .match .rest .0 .0 .0 .0 .0 .0 .0 .0 .0 .0 .0 .0 .0 .0 .0 .1)) (c .before .match .rest .0 .0 .0 .0 .0 .0 .0 .0 .0 .0 .0 .0 .0 .0 .1)) (c .before .match .rest .0 .0 .0 .0 .0 .0 .0 .0 .0 .0 .0 .0 .0 .1)) (c .before .match .rest .0 .0 .0 .0 .0 .0 .0 .0 .0 .0 .0 .0 .1)) (c .before .match .rest .0 .0 .0 .0 .0 .0 .0 .0 .0 .0 .0 .1)) (c .before .match .rest .0 .0 .0 .0 .0 .0 .0 .0 .0 .0 .1)) (c .before .match .rest .0 .0 .0 .0 .0 .0 .0 .0 .0 .1)) (c .before .match .rest .0 .0 .0 .0 .0 .0 .0 .0 .1)) (c .before .match .rest .0 .0 .0 .0 .0 .0 .0 .1)) (c .before .match .rest .0 .0 .0 .0 .0 .0 .1)) (c .before .match .rest .0 .0 .0 .0 .0 .1)) (c .before .match .rest .0 .0 .0 .0 .1)) (c .before .match .rest .0 .0 .0 .1)) (c .before .match .rest .0 .0 .1)) (c .before .match .rest .0 .1)) (c .before .match .rest .1)) (c .stop .ensures) }
 
 one-stop-requires : (t : ℕ) → one-lts.Need-stop-requires (one-claims t) (one-at t) one.Post
 one-stop-requires t c κs = search needs
@@ -3593,14 +3594,14 @@ one-returns-2 t c = record { is = dec-form _ _ (c .before .before .before .befor
 one-comment-above-requires : (t : ℕ) → one-lts.Need-comment-above-requires (one-claims t) (one-at t) one.Post
 one-comment-above-requires t c κs = search needs
 
-one-sub-t23 : (t : ℕ) → one-lts.Need-sub-t23 (one-claims t) (one-at t) one.Post
-one-sub-t23 t c = search needs
+one-sub-t21 : (t : ℕ) → one-lts.Need-sub-t21 (one-claims t) (one-at t) one.Post
+one-sub-t21 t c = search needs
 
 one-nu-requires : (t : ℕ) → one-lts.Need-nu-requires (one-claims t) (one-at t) one.Post
-one-nu-requires t c κs = omega (arith, c .before .before .before .before .before .before .before .before .before .before .before .before .before .before .before .before .before .before .pre .0, c .before .before .before .before .before .before .before .before .before .before .before .before .before .before .before .before .before .before .pre .1, c .before .before .before .before .before .before .before .before .before .before .before .if1 .left)
+one-nu-requires t c κs = omega (arith, c .before .before .before .before .before .before .before .before .before .before .before .before .before .before .before .pre .0, c .before .before .before .before .before .before .before .before .before .before .before .before .before .before .before .pre .1, c .before .before .before .before .before .before .before .before .before .before .before .if1 .left)
 
 one-same-length : (t : ℕ) → one-lts.Need-same-length (one-claims t) (one-at t) one.Post
-one-same-length t c = c .before .before .nu .kept .1 .1 .1 .1 .1 .1 .0 ∙ c .before .before .before .before .before .before .before .comment-above .kept .1 .1 .1 .1 .1 .0
+one-same-length t c = c .before .before .nu .kept .1 .1 .1 .1 .1 .0 ∙ c .before .before .before .before .before .before .before .comment-above .kept .1 .1 .1 .1 .0
 
 one-returns-3 : (t : ℕ) → one-lts.Need-returns-3 (one-claims t) (one-at t) one.Post
 one-returns-3 t c = record { is = dec-form _ _ (c .before .before .before .before .before .before .before .before .before .before .before .before .before .before .if1 .left) (declaration-is (c .before .before .before .before .before .before .before .before .before .before .before .before .before .declared .ensures) (c .before .before .before .before .before .before .before .before .before .before .before .k .given .1) (c .before .before .before .before .before .before .before .comment-above .ensures) (c .before .before .nu .ensures .is)) }
@@ -3609,7 +3610,7 @@ pa-word-requires : (t : ℕ) → pa-lts.Need-word-requires (pa-claims t) (pa-at 
 pa-word-requires t c κs = search needs
 
 pa-exp-requires : (t : ℕ) → pa-lts.Need-exp-requires (pa-claims t) (pa-at t) pa.Post
-pa-exp-requires t c κs = omega (arith, c .before .before .before .before .before .before .before .before .before .before .before .before .before .pre .0, c .before .before .before .before .before .before .before .before .before .before .before .before .before .pre .1)
+pa-exp-requires t c κs = omega (arith, c .before .before .before .before .before .before .before .before .before .before .pre .0, c .before .before .before .before .before .before .before .before .before .before .pre .1)
 
 pa-told-requires : (t : ℕ) → pa-lts.Need-told-requires (pa-claims t) (pa-at t) pa.Post
 pa-told-requires t c κs = search needs
@@ -3621,7 +3622,7 @@ pa-enum-told : (t : ℕ) → pa-lts.Need-enum-told (pa-claims t) (pa-at t) pa.Po
 pa-enum-told t c = search needs
 
 pa-same-length : (t : ℕ) → pa-lts.Need-same-length (pa-claims t) (pa-at t) pa.Post
-pa-same-length t c = c .before .before .before .before .before .exp .kept .1 .1 .1 .1 .1 .1 .0 ∙ c .before .before .before .before .before .before .before .before .before .before .word .kept .1 .1 .0
+pa-same-length t c = c .before .before .before .before .before .exp .kept .1 .1 .1 .1 .1 .0 ∙ c .before .before .before .before .before .before .before .before .before .before .word .kept .1 .1 .0
 
 pa-returns : (t : ℕ) → pa-lts.Need-returns (pa-claims t) (pa-at t) pa.Post
 unfolding Exp.exp
@@ -3631,7 +3632,7 @@ pa-word-requires-2 : (t : ℕ) → pa-lts.Need-word-requires-2 (pa-claims t) (pa
 pa-word-requires-2 t c κs = search needs
 
 pa-same-length-2 : (t : ℕ) → pa-lts.Need-same-length-2 (pa-claims t) (pa-at t) pa.Post
-pa-same-length-2 t c = c .before .before .word2 .kept .1 .1 .0 ∙ c .before .before .before .before .before .before .before .before .before .before .before .exp .kept .1 .1 .1 .1 .1 .1 .0 ∙ c .before .before .before .before .before .before .before .before .before .before .before .before .before .before .before .before .word .kept .1 .1 .0
+pa-same-length-2 t c = c .before .before .word2 .kept .1 .1 .0 ∙ c .before .before .before .before .before .before .before .before .before .before .before .exp .kept .1 .1 .1 .1 .1 .0 ∙ c .before .before .before .before .before .before .before .before .before .before .before .before .before .before .before .before .word .kept .1 .1 .0
 
 pa-returns-2 : (t : ℕ) → pa-lts.Need-returns-2 (pa-claims t) (pa-at t) pa.Post
 unfolding Exp.exp
@@ -3641,10 +3642,10 @@ pr-word-requires : (t : ℕ) → pr-lts.Need-word-requires (pr-claims t) (pr-at 
 pr-word-requires t c κs = search needs
 
 pr-exp-requires : (t : ℕ) → pr-lts.Need-exp-requires (pr-claims t) (pr-at t) pr.Post
-pr-exp-requires t c κs = omega (arith, c .before .before .before .before .before .before .before .before .before .before .before .before .before .pre .0, c .before .before .before .before .before .before .before .before .before .before .before .before .before .pre .1)
+pr-exp-requires t c κs = omega (arith, c .before .before .before .before .before .before .before .before .before .before .pre .0, c .before .before .before .before .before .before .before .before .before .before .pre .1)
 
 pr-same-length : (t : ℕ) → pr-lts.Need-same-length (pr-claims t) (pr-at t) pr.Post
-pr-same-length t c = c .before .before .exp .kept .1 .1 .1 .1 .1 .1 .0 ∙ c .before .before .before .before .before .before .before .word .kept .1 .1 .0
+pr-same-length t c = c .before .before .exp .kept .1 .1 .1 .1 .1 .0 ∙ c .before .before .before .before .before .before .before .word .kept .1 .1 .0
 
 pr-returns : (t : ℕ) → pr-lts.Need-returns (pr-claims t) (pr-at t) pr.Post
 pr-returns t c = record { is = then-sure (c .before .before .before .before .before .before .before .word .ensures) (c .before .before .exp .ensures .is) }
@@ -3707,10 +3708,10 @@ qb-word-requires-2 : (t : ℕ) → qb-lts.Need-word-requires-2 (qb-claims t) (qb
 qb-word-requires-2 t c κs = search needs
 
 qb-dp-requires : (t : ℕ) → qb-lts.Need-dp-requires (qb-claims t) (qb-at t) qb.Post
-qb-dp-requires t c κs = omega (arith, c .before .before .before .before .before .before .before .before .before .before .before .before .before .before .before .before .before .before .before .before .before .before .before .before .before .before .before .before .before .before .before .before .pre .0, c .before .before .before .before .before .before .before .before .before .before .before .before .before .before .before .before .before .before .before .before .before .before .before .before .before .before .before .before .before .before .before .before .pre .1)
+qb-dp-requires t c κs = omega (arith, c .before .before .before .before .before .before .before .before .before .before .before .before .before .before .before .before .before .before .before .before .before .before .before .before .before .before .before .before .before .pre .0, c .before .before .before .before .before .before .before .before .before .before .before .before .before .before .before .before .before .before .before .before .before .before .before .before .before .before .before .before .before .pre .1)
 
 qb-same-length-2 : (t : ℕ) → qb-lts.Need-same-length-2 (qb-claims t) (qb-at t) qb.Post
-qb-same-length-2 t c = c .before .before .dp .kept .1 .1 .1 .1 .1 .1 .0 ∙ c .before .before .before .before .before .before .before .word2 .kept .1 .1 .0 ∙ c .before .before .before .before .before .before .before .before .before .before .before .before .before .before .before .before .before .before .word .kept .1 .1 .0
+qb-same-length-2 t c = c .before .before .dp .kept .1 .1 .1 .1 .1 .0 ∙ c .before .before .before .before .before .before .before .word2 .kept .1 .1 .0 ∙ c .before .before .before .before .before .before .before .before .before .before .before .before .before .before .before .before .before .before .word .kept .1 .1 .0
 
 qb-returns-4 : (t : ℕ) → qb-lts.Need-returns-4 (qb-claims t) (qb-at t) qb.Post
 unfolding Exp.eq-body Exp.get-body-exp Exp.get-body-exp-level Exp.indented-levels
@@ -3720,21 +3721,21 @@ qb-word-requires-3 : (t : ℕ) → qb-lts.Need-word-requires-3 (qb-claims t) (qb
 qb-word-requires-3 t c κs = search needs
 
 qb-exp-requires : (t : ℕ) → qb-lts.Need-exp-requires (qb-claims t) (qb-at t) qb.Post
-qb-exp-requires t c κs = omega (arith, c .before .before .before .before .before .before .before .before .before .before .before .before .before .before .before .before .before .before .before .before .before .before .before .before .before .before .before .before .before .before .before .before .pre .0, c .before .before .before .before .before .before .before .before .before .before .before .before .before .before .before .before .before .before .before .before .before .before .before .before .before .before .before .before .before .before .before .before .pre .1)
+qb-exp-requires t c κs = omega (arith, c .before .before .before .before .before .before .before .before .before .before .before .before .before .before .before .before .before .before .before .before .before .before .before .before .before .before .before .before .before .pre .0, c .before .before .before .before .before .before .before .before .before .before .before .before .before .before .before .before .before .before .before .before .before .before .before .before .before .before .before .before .before .pre .1)
 
 qb-same-length-3 : (t : ℕ) → qb-lts.Need-same-length-3 (qb-claims t) (qb-at t) qb.Post
-qb-same-length-3 t c = c .before .before .exp .kept .1 .1 .1 .1 .1 .1 .0 ∙ c .before .before .before .before .before .before .before .word3 .kept .1 .1 .0 ∙ c .before .before .before .before .before .before .before .before .before .before .before .before .before .before .before .before .before .before .word .kept .1 .1 .0
+qb-same-length-3 t c = c .before .before .exp .kept .1 .1 .1 .1 .1 .0 ∙ c .before .before .before .before .before .before .before .word3 .kept .1 .1 .0 ∙ c .before .before .before .before .before .before .before .before .before .before .before .before .before .before .before .before .before .before .word .kept .1 .1 .0
 
 qb-returns-5 : (t : ℕ) → qb-lts.Need-returns-5 (qb-claims t) (qb-at t) qb.Post
 unfolding Exp.eq-body Exp.get-body-exp Exp.get-body-exp-level Exp.indented-levels
 qb-returns-5 t c = record { is = by-same (maybe-there (c .before .before .before .before .before .before .before .before .before .before .before .before .before .before .before .before .before .before .before .before .before .before .before .before .before .before .before .before .absent .ensures) (c .before .before .before .before .before .before .before .before .before .before .before .before .before .before .before .before .before .before .before .before .before .before .before .before .before .before .enum-told .given .1)) (by-same (group-is (c .before .before .before .before .before .before .before .before .before .before .before .before .before .before .before .before .before .before .before .before .before .before .before .before .before .group .ensures) (c .before .before .before .before .before .before .before .before .before .before .before .before .before .before .before .before .before .before .before .before .before .before .before .before .told .ensures) (c .before .before .before .before .before .before .before .before .before .before .before .before .before .before .before .before .before .before .before .before .before .before .s1 .given .1)) (then-sure (c .before .before .before .before .before .before .before .before .before .before .before .before .before .before .before .before .before .before .word .ensures) (by-same (look-no (c .before .before .before .before .before .before .before .before .before .before .before .before .before .before .before .expression .ensures) (c .before .before .before .before .before .before .before .before .before .before .before .before .before .-k .given .1) (c .before .before .before .before .before .before .before .before .before .before .before .body-exp-needs-newline .ensures) (c .before .before .before .before .before .before .before .before .before .before .if1 .left)) (then-sure (c .before .before .before .before .before .before .before .word3 .ensures) (c .before .before .exp .ensures .is))))) }
 
 abbrev qs-Inv-loop : qs-lts.InvT-loop
-qs-Inv-loop run text rec kinds starts lens out₀ mem₀ at cfg n s0 s₀ i₀ out mem s i =
-    Turn run (page text rec kinds starts lens) (from (Helpers.new-line (cfgOf cfg) "") (GetDec.dec-in-seq (walks (cfg .nesting)) (cfgOf cfg))) n s₀ mem₀ out₀ i s mem out
+qs-Inv-loop run text rec kinds spans out₀ mem₀ at cfg n s0 s₀ i₀ out mem s i =
+    Turn run (pageAt text rec kinds spans) (from (Helpers.new-line (cfgOf cfg) "") (GetDec.dec-in-seq (walks (cfg .nesting)) (cfgOf cfg))) n s₀ mem₀ out₀ i s mem out
 
 abbrev qs-μ-loop : qs-lts.MeasureT-loop
-qs-μ-loop run text rec kinds starts lens out₀ mem₀ at cfg n s0 s₀ i₀ out mem s i = n - i
+qs-μ-loop run text rec kinds spans out₀ mem₀ at cfg n s0 s₀ i₀ out mem s i = n - i
 
 qs-list-requires : (t : ℕ) → qs-lts.Need-list-requires (qs-claims t) (qs-at t) qs.Post qs-Inv-loop qs-μ-loop
 qs-list-requires t c κs = search needs
@@ -3759,7 +3760,7 @@ qs-new-line-requires : (t : ℕ) → qs-lts.Need-new-line-requires (qs-claims t)
 qs-new-line-requires t c κs = search needs
 
 qs-sq-requires : (t : ℕ) → qs-lts.Need-sq-requires (qs-claims t) (qs-at t) qs.Post qs-Inv-loop qs-μ-loop
-qs-sq-requires t c κs = omega (arith, c .before .before .before .before .before .before .before .before .before .before .before .before .before .before .before .before .before .before .before .pre .0, c .before .before .before .before .before .before .before .before .before .before .before .before .before .before .before .before .before .before .before .pre .1)
+qs-sq-requires t c κs = omega (arith, c .before .before .before .before .before .before .before .before .before .before .before .before .before .before .before .before .pre .0, c .before .before .before .before .before .before .before .before .before .before .before .before .before .before .before .before .pre .1)
 
 qs-told-requires : (t : ℕ) → qs-lts.Need-told-requires (qs-claims t) (qs-at t) qs.Post qs-Inv-loop qs-μ-loop
 qs-told-requires t c κs = search needs
@@ -3771,7 +3772,7 @@ qs-enum-told-2 : (t : ℕ) → qs-lts.Need-enum-told-2 (qs-claims t) (qs-at t) q
 qs-enum-told-2 t c = search needs
 
 qs-same-length : (t : ℕ) → qs-lts.Need-same-length (qs-claims t) (qs-at t) qs.Post qs-Inv-loop qs-μ-loop
-qs-same-length t c = c .before .before .before .before .before .sq .kept .1 .1 .1 .1 .1 .1 .0 ∙ c .before .before .before .before .before .before .before .before .before .before .new-line .kept .1 .1 .0 ∙ c .before .before .before .before .before .before .before .before .before .before .before .before .before .before .loop .inv .2
+qs-same-length t c = c .before .before .before .before .before .sq .kept .1 .1 .1 .1 .1 .0 ∙ c .before .before .before .before .before .before .before .before .before .before .new-line .kept .1 .1 .0 ∙ c .before .before .before .before .before .before .before .before .before .before .before .before .before .before .loop .inv .2
 
 qs-returns-2 : (t : ℕ) → qs-lts.Need-returns-2 (qs-claims t) (qs-at t) qs.Post qs-Inv-loop qs-μ-loop
 unfolding GetDec.dec-in-seqs Helpers.sep-with-lines
@@ -3785,7 +3786,7 @@ qs-loop-less t c = omega arith
 
 qs-loop-again : (t : ℕ) → qs-lts.Need-loop-again (qs-claims t) (qs-at t) qs.Post qs-Inv-loop qs-μ-loop
 unfolding GetDec.dec-in-seqs Helpers.sep-with-lines
-qs-loop-again t c = (omega (arith, c .before .before .before .before .before .before .before .before .before .before .before .before .before .before .before .loop .inv .0), λ r m o h. c .before .before .before .before .before .before .before .before .before .before .before .before .before .before .before .loop .inv .1 r m o (from-more _ _ (c .before .before .before .before .before .before .before .before .before .before .before .before .before .before .loop-test .taken) (then-sure (c .before .before .before .before .before .before .before .before .before .before .before .new-line .ensures) (then-done (c .before .before .before .before .before .before .sq .ensures .is) (c .before .before .before .told .ensures) (c .before .s1 .given .1) h))), c .before .before .before .before .before .before .sq .kept .1 .1 .1 .1 .1 .1 .0 ∙ c .before .before .before .before .before .before .before .before .before .before .before .new-line .kept .1 .1 .0 ∙ c .before .before .before .before .before .before .before .before .before .before .before .before .before .before .before .loop .inv .2)
+qs-loop-again t c = (omega (arith, c .before .before .before .before .before .before .before .before .before .before .before .before .before .before .before .loop .inv .0), λ r m o h. c .before .before .before .before .before .before .before .before .before .before .before .before .before .before .before .loop .inv .1 r m o (from-more _ _ (c .before .before .before .before .before .before .before .before .before .before .before .before .before .before .loop-test .taken) (then-sure (c .before .before .before .before .before .before .before .before .before .before .before .new-line .ensures) (then-done (c .before .before .before .before .before .before .sq .ensures .is) (c .before .before .before .told .ensures) (c .before .s1 .given .1) h))), c .before .before .before .before .before .before .sq .kept .1 .1 .1 .1 .1 .0 ∙ c .before .before .before .before .before .before .before .before .before .before .before .new-line .kept .1 .1 .0 ∙ c .before .before .before .before .before .before .before .before .before .before .before .before .before .before .before .loop .inv .2)
 
 qs-same-length-2 : (t : ℕ) → qs-lts.Need-same-length-2 (qs-claims t) (qs-at t) qs.Post qs-Inv-loop qs-μ-loop
 qs-same-length-2 t c = c .before .loop .inv .2
@@ -3798,7 +3799,7 @@ rc-word-requires : (t : ℕ) → rc-lts.Need-word-requires (rc-claims t) (rc-at 
 rc-word-requires t c κs = search needs
 
 rc-rs-requires : (t : ℕ) → rc-lts.Need-rs-requires (rc-claims t) (rc-at t) rc.Post
-rc-rs-requires t c κs = omega (arith, c .before .before .before .before .before .before .before .before .before .before .before .before .before .pre .0, c .before .before .before .before .before .before .before .before .before .before .before .before .before .pre .1)
+rc-rs-requires t c κs = omega (arith, c .before .before .before .before .before .before .before .before .before .before .pre .0, c .before .before .before .before .before .before .before .before .before .before .pre .1)
 
 rc-told-requires : (t : ℕ) → rc-lts.Need-told-requires (rc-claims t) (rc-at t) rc.Post
 rc-told-requires t c κs = search needs
@@ -3810,7 +3811,7 @@ rc-enum-told : (t : ℕ) → rc-lts.Need-enum-told (rc-claims t) (rc-at t) rc.Po
 rc-enum-told t c = search needs
 
 rc-same-length : (t : ℕ) → rc-lts.Need-same-length (rc-claims t) (rc-at t) rc.Post
-rc-same-length t c = c .before .before .before .before .before .rs .kept .1 .1 .1 .1 .1 .1 .0 ∙ c .before .before .before .before .before .before .before .before .before .before .word .kept .1 .1 .0
+rc-same-length t c = c .before .before .before .before .before .rs .kept .1 .1 .1 .1 .1 .0 ∙ c .before .before .before .before .before .before .before .before .before .before .word .kept .1 .1 .0
 
 rc-returns : (t : ℕ) → rc-lts.Need-returns (rc-claims t) (rc-at t) rc.Post
 unfolding Exp.exp
@@ -3820,7 +3821,7 @@ rc-word-requires-2 : (t : ℕ) → rc-lts.Need-word-requires-2 (rc-claims t) (rc
 rc-word-requires-2 t c κs = search needs
 
 rc-same-length-2 : (t : ℕ) → rc-lts.Need-same-length-2 (rc-claims t) (rc-at t) rc.Post
-rc-same-length-2 t c = c .before .before .word2 .kept .1 .1 .0 ∙ c .before .before .before .before .before .before .before .before .before .before .before .rs .kept .1 .1 .1 .1 .1 .1 .0 ∙ c .before .before .before .before .before .before .before .before .before .before .before .before .before .before .before .before .word .kept .1 .1 .0
+rc-same-length-2 t c = c .before .before .word2 .kept .1 .1 .0 ∙ c .before .before .before .before .before .before .before .before .before .before .before .rs .kept .1 .1 .1 .1 .1 .0 ∙ c .before .before .before .before .before .before .before .before .before .before .before .before .before .before .before .before .word .kept .1 .1 .0
 
 rc-returns-2 : (t : ℕ) → rc-lts.Need-returns-2 (rc-claims t) (rc-at t) rc.Post
 unfolding Exp.exp
@@ -3855,7 +3856,7 @@ ro-enum-told-2 : (t : ℕ) → ro-lts.Need-enum-told-2 (ro-claims t) (ro-at t) r
 ro-enum-told-2 t c = search needs
 
 ro-same-length : (t : ℕ) → ro-lts.Need-same-length (ro-claims t) (ro-at t) ro.Post
-ro-same-length t c = c .before .before .before .before .before .text-of .kept .1 .1 .1 .1 .1 .0
+ro-same-length t c = c .before .before .before .before .before .text-of .kept .1 .1 .1 .1 .0
 
 ro-returns-2 : (t : ℕ) → ro-lts.Need-returns-2 (ro-claims t) (ro-at t) ro.Post
 unfolding Exp.exp-row Exp.eq-exp
@@ -3868,7 +3869,7 @@ ro-enum-known-s3 : (t : ℕ) → ro-lts.Need-enum-known-s3 (ro-claims t) (ro-at 
 ro-enum-known-s3 t c = search needs
 
 ro-same-length-2 : (t : ℕ) → ro-lts.Need-same-length-2 (ro-claims t) (ro-at t) ro.Post
-ro-same-length-2 t c = c .before .before .before .before .before .before .before .before .before .before .text-of .kept .1 .1 .1 .1 .1 .0
+ro-same-length-2 t c = c .before .before .before .before .before .before .before .before .before .before .text-of .kept .1 .1 .1 .1 .0
 
 ro-returns-3 : (t : ℕ) → ro-lts.Need-returns-3 (ro-claims t) (ro-at t) ro.Post
 unfolding Exp.exp-row Exp.eq-exp
@@ -3890,7 +3891,7 @@ ro-enum-told-4 : (t : ℕ) → ro-lts.Need-enum-told-4 (ro-claims t) (ro-at t) r
 ro-enum-told-4 t c = search needs
 
 ro-same-length-3 : (t : ℕ) → ro-lts.Need-same-length-3 (ro-claims t) (ro-at t) ro.Post
-ro-same-length-3 t c = c .before .before .before .before .before .before .before .before .before .before .before .before .before .text-of .kept .1 .1 .1 .1 .1 .0
+ro-same-length-3 t c = c .before .before .before .before .before .before .before .before .before .before .before .before .before .text-of .kept .1 .1 .1 .1 .0
 
 ro-returns-4 : (t : ℕ) → ro-lts.Need-returns-4 (ro-claims t) (ro-at t) ro.Post
 unfolding Exp.exp-row Exp.eq-exp
@@ -3900,21 +3901,21 @@ ro-word-requires : (t : ℕ) → ro-lts.Need-word-requires (ro-claims t) (ro-at 
 ro-word-requires t c κs = search needs
 
 ro-exp-requires : (t : ℕ) → ro-lts.Need-exp-requires (ro-claims t) (ro-at t) ro.Post
-ro-exp-requires t c κs = omega (arith, c .before .before .before .before .before .before .before .before .before .before .before .before .before .before .before .before .before .before .before .before .before .before .before .before .before .before .before .before .before .before .before .before .before .before .before .pre .0, c .before .before .before .before .before .before .before .before .before .before .before .before .before .before .before .before .before .before .before .before .before .before .before .before .before .before .before .before .before .before .before .before .before .before .before .pre .1)
+ro-exp-requires t c κs = omega (arith, c .before .before .before .before .before .before .before .before .before .before .before .before .before .before .before .before .before .before .before .before .before .before .before .before .before .before .before .before .before .before .before .before .pre .0, c .before .before .before .before .before .before .before .before .before .before .before .before .before .before .before .before .before .before .before .before .before .before .before .before .before .before .before .before .before .before .before .before .pre .1)
 
 ro-same-length-4 : (t : ℕ) → ro-lts.Need-same-length-4 (ro-claims t) (ro-at t) ro.Post
-ro-same-length-4 t c = c .before .before .exp .kept .1 .1 .1 .1 .1 .1 .0 ∙ c .before .before .before .before .before .before .before .word .kept .1 .1 .0 ∙ c .before .before .before .before .before .before .before .before .before .before .before .before .before .before .before .before .before .before .before .before .before .before .before .before .text-of .kept .1 .1 .1 .1 .1 .0
+ro-same-length-4 t c = c .before .before .exp .kept .1 .1 .1 .1 .1 .0 ∙ c .before .before .before .before .before .before .before .word .kept .1 .1 .0 ∙ c .before .before .before .before .before .before .before .before .before .before .before .before .before .before .before .before .before .before .before .before .before .before .before .before .text-of .kept .1 .1 .1 .1 .0
 
 ro-returns-5 : (t : ℕ) → ro-lts.Need-returns-5 (ro-claims t) (ro-at t) ro.Post
 unfolding Exp.exp-row Exp.eq-exp
 ro-returns-5 t c = record { is = by-same (group-is (c .before .before .before .before .before .before .before .before .before .before .before .before .before .before .before .before .before .before .before .before .before .before .before .before .before .before .before .before .before .before .before .group .ensures) (c .before .before .before .before .before .before .before .before .before .before .before .before .before .before .before .before .before .before .before .before .before .before .before .before .before .before .before .before .before .before .told .ensures) (c .before .before .before .before .before .before .before .before .before .before .before .before .before .before .before .before .before .before .before .before .before .before .before .before .before .before .before .before .s1 .given .1)) (then-done (plain (c .before .before .before .before .before .before .before .before .before .before .before .before .before .before .before .before .before .before .before .before .before .before .before .before .text-of .ensures)) (c .before .before .before .before .before .before .before .before .before .before .before .before .before .before .before .before .before .before .before .before .before .told2 .ensures) (c .before .before .before .before .before .before .before .before .before .before .before .before .before .before .before .before .before .before .before .s2 .given .1) (by-same (maybe-there (c .before .before .before .before .before .before .before .before .before .before .before .before .before .before .before .before .before .absent .ensures) (c .before .before .before .before .before .before .before .before .before .before .before .before .before .before .before .enum-told3 .given .1)) (by-same (group-is (c .before .before .before .before .before .before .before .before .before .before .before .before .before .before .group2 .ensures) (c .before .before .before .before .before .before .before .before .before .before .before .before .before .told3 .ensures) (c .before .before .before .before .before .before .before .before .before .before .before .s4 .given .1)) (then-sure (c .before .before .before .before .before .before .before .word .ensures) (c .before .before .exp .ensures .is))))) }
 
 abbrev rs-Inv-loop : rs-lts.InvT-loop
-rs-Inv-loop run text rec kinds starts lens out₀ mem₀ at cfg n s0 s₀ i₀ out mem s i =
-    Turn run (page text rec kinds starts lens) (from (Layout.word ", ") (Exp.exp-row (walks (cfg .nesting)) (cfgOf cfg))) n s₀ mem₀ out₀ i s mem out
+rs-Inv-loop run text rec kinds spans out₀ mem₀ at cfg n s0 s₀ i₀ out mem s i =
+    Turn run (pageAt text rec kinds spans) (from (Layout.word ", ") (Exp.exp-row (walks (cfg .nesting)) (cfgOf cfg))) n s₀ mem₀ out₀ i s mem out
 
 abbrev rs-μ-loop : rs-lts.MeasureT-loop
-rs-μ-loop run text rec kinds starts lens out₀ mem₀ at cfg n s0 s₀ i₀ out mem s i = n - i
+rs-μ-loop run text rec kinds spans out₀ mem₀ at cfg n s0 s₀ i₀ out mem s i = n - i
 
 rs-list-requires : (t : ℕ) → rs-lts.Need-list-requires (rs-claims t) (rs-at t) rs.Post rs-Inv-loop rs-μ-loop
 rs-list-requires t c κs = search needs
@@ -3939,7 +3940,7 @@ rs-between-requires : (t : ℕ) → rs-lts.Need-between-requires (rs-claims t) (
 rs-between-requires t c κs = search needs
 
 rs-ro-requires : (t : ℕ) → rs-lts.Need-ro-requires (rs-claims t) (rs-at t) rs.Post rs-Inv-loop rs-μ-loop
-rs-ro-requires t c κs = omega (arith, c .before .before .before .before .before .before .before .before .before .before .before .before .before .before .before .before .before .before .before .pre .0, c .before .before .before .before .before .before .before .before .before .before .before .before .before .before .before .before .before .before .before .pre .1)
+rs-ro-requires t c κs = omega (arith, c .before .before .before .before .before .before .before .before .before .before .before .before .before .before .before .before .pre .0, c .before .before .before .before .before .before .before .before .before .before .before .before .before .before .before .before .pre .1)
 
 rs-told-requires : (t : ℕ) → rs-lts.Need-told-requires (rs-claims t) (rs-at t) rs.Post rs-Inv-loop rs-μ-loop
 rs-told-requires t c κs = search needs
@@ -3951,7 +3952,7 @@ rs-enum-told-2 : (t : ℕ) → rs-lts.Need-enum-told-2 (rs-claims t) (rs-at t) r
 rs-enum-told-2 t c = search needs
 
 rs-same-length : (t : ℕ) → rs-lts.Need-same-length (rs-claims t) (rs-at t) rs.Post rs-Inv-loop rs-μ-loop
-rs-same-length t c = c .before .before .before .before .before .ro .kept .1 .1 .1 .1 .1 .1 .0 ∙ c .before .before .before .before .before .before .before .before .before .before .between .kept .1 .1 .0 ∙ c .before .before .before .before .before .before .before .before .before .before .before .before .before .before .loop .inv .2
+rs-same-length t c = c .before .before .before .before .before .ro .kept .1 .1 .1 .1 .1 .0 ∙ c .before .before .before .before .before .before .before .before .before .before .between .kept .1 .1 .0 ∙ c .before .before .before .before .before .before .before .before .before .before .before .before .before .before .loop .inv .2
 
 rs-returns-2 : (t : ℕ) → rs-lts.Need-returns-2 (rs-claims t) (rs-at t) rs.Post rs-Inv-loop rs-μ-loop
 unfolding Exp.exp-rows Helpers.sep
@@ -3965,7 +3966,7 @@ rs-loop-less t c = omega arith
 
 rs-loop-again : (t : ℕ) → rs-lts.Need-loop-again (rs-claims t) (rs-at t) rs.Post rs-Inv-loop rs-μ-loop
 unfolding Exp.exp-rows Helpers.sep
-rs-loop-again t c = (omega (arith, c .before .before .before .before .before .before .before .before .before .before .before .before .before .before .before .loop .inv .0), λ r m o h. c .before .before .before .before .before .before .before .before .before .before .before .before .before .before .before .loop .inv .1 r m o (from-more _ _ (c .before .before .before .before .before .before .before .before .before .before .before .before .before .before .loop-test .taken) (then-sure (c .before .before .before .before .before .before .before .before .before .before .before .between .ensures) (then-done (c .before .before .before .before .before .before .ro .ensures .is) (c .before .before .before .told .ensures) (c .before .s1 .given .1) h))), c .before .before .before .before .before .before .ro .kept .1 .1 .1 .1 .1 .1 .0 ∙ c .before .before .before .before .before .before .before .before .before .before .before .between .kept .1 .1 .0 ∙ c .before .before .before .before .before .before .before .before .before .before .before .before .before .before .before .loop .inv .2)
+rs-loop-again t c = (omega (arith, c .before .before .before .before .before .before .before .before .before .before .before .before .before .before .before .loop .inv .0), λ r m o h. c .before .before .before .before .before .before .before .before .before .before .before .before .before .before .before .loop .inv .1 r m o (from-more _ _ (c .before .before .before .before .before .before .before .before .before .before .before .before .before .before .loop-test .taken) (then-sure (c .before .before .before .before .before .before .before .before .before .before .before .between .ensures) (then-done (c .before .before .before .before .before .before .ro .ensures .is) (c .before .before .before .told .ensures) (c .before .s1 .given .1) h))), c .before .before .before .before .before .before .ro .kept .1 .1 .1 .1 .1 .0 ∙ c .before .before .before .before .before .before .before .before .before .before .before .between .kept .1 .1 .0 ∙ c .before .before .before .before .before .before .before .before .before .before .before .before .before .before .before .loop .inv .2)
 
 rs-same-length-2 : (t : ℕ) → rs-lts.Need-same-length-2 (rs-claims t) (rs-at t) rs.Post rs-Inv-loop rs-μ-loop
 rs-same-length-2 t c = c .before .loop .inv .2
@@ -3975,31 +3976,31 @@ unfolding Exp.exp-rows Helpers.sep
 rs-returns-3 t c = record { is = by-same (list-is (c .before .before .before .before .before .list .ensures) (c .before .before .before .n .given .1)) (by-same (items-all _ _ _) (c .before .loop .inv .1 _ _ _ (from-none _ _ (c .loop-test .left)))) }
 
 sa-str-requires : (t : ℕ) → sa-lts.Need-str-requires (sa-claims t) (sa-at t) sa.Post
-sa-str-requires t c κs = omega (arith, c .before .before .before .before .before .before .before .before .before .pre .0, c .before .before .before .before .before .before .before .before .before .pre .1)
+sa-str-requires t c κs = omega (arith, c .before .before .before .before .before .before .pre .0, c .before .before .before .before .before .before .pre .1)
 
 sa-da-requires : (t : ℕ) → sa-lts.Need-da-requires (sa-claims t) (sa-at t) sa.Post
-sa-da-requires t c κs = omega (arith, c .before .before .before .before .before .before .before .before .before .pre .0, c .before .before .before .before .before .before .before .before .before .pre .1)
+sa-da-requires t c κs = omega (arith, c .before .before .before .before .before .before .pre .0, c .before .before .before .before .before .before .pre .1)
 
 sa-stop-requires : (t : ℕ) → sa-lts.Need-stop-requires (sa-claims t) (sa-at t) sa.Post
 sa-stop-requires t c κs = search needs
 
 sa-same-length : (t : ℕ) → sa-lts.Need-same-length (sa-claims t) (sa-at t) sa.Post
-sa-same-length t c = c .before .before .str .kept .1 .1 .1 .1 .1 .1 .0
+sa-same-length t c = c .before .before .str .kept .1 .1 .1 .1 .1 .0
 
 sa-returns : (t : ℕ) → sa-lts.Need-returns (sa-claims t) (sa-at t) sa.Post
 unfolding StrExp.app-arg
-sa-returns t c = record { is = at-key (λ i. StrExp.app-arg (walks (c .before .before .before .before .before .before .before .before .before .before .before .before .args .cfg .nesting)) (cfgOf (c .before .before .before .before .before .before .before .before .before .before .before .before .args .cfg)) i) (c .before .before .before .before .before .match .keys1) (c .before .before .str .ensures .is) }
+sa-returns t c = record { is = at-key (λ i. StrExp.app-arg (walks (c .before .before .before .before .before .before .before .before .before .args .cfg .nesting)) (cfgOf (c .before .before .before .before .before .before .before .before .before .args .cfg)) i) (c .before .before .before .before .before .match .keys1) (c .before .before .str .ensures .is) }
 
 sa-same-length-2 : (t : ℕ) → sa-lts.Need-same-length-2 (sa-claims t) (sa-at t) sa.Post
-sa-same-length-2 t c = c .before .before .da .kept .1 .1 .1 .1 .1 .1 .0
+sa-same-length-2 t c = c .before .before .da .kept .1 .1 .1 .1 .1 .0
 
 sa-returns-2 : (t : ℕ) → sa-lts.Need-returns-2 (sa-claims t) (sa-at t) sa.Post
 unfolding StrExp.app-arg
-sa-returns-2 t c = record { is = at-key (λ i. StrExp.app-arg (walks (c .before .before .before .before .before .before .before .before .before .before .before .before .args .cfg .nesting)) (cfgOf (c .before .before .before .before .before .before .before .before .before .before .before .before .args .cfg)) i) (c .before .before .before .before .before .match .keys2) (c .before .before .da .ensures .is) }
+sa-returns-2 t c = record { is = at-key (λ i. StrExp.app-arg (walks (c .before .before .before .before .before .before .before .before .before .args .cfg .nesting)) (cfgOf (c .before .before .before .before .before .before .before .before .before .args .cfg)) i) (c .before .before .before .before .before .match .keys2) (c .before .before .da .ensures .is) }
 
 sa-returns-3 : (t : ℕ) → sa-lts.Need-returns-3 (sa-claims t) (sa-at t) sa.Post
 unfolding StrExp.app-arg
-sa-returns-3 t c = record { is = beyond ((walks (c .before .before .before .before .before .before .before .before .args .cfg .nesting) .get-str-exp (cfgOf (c .before .before .before .before .before .before .before .before .args .cfg))) ∷ GetDec.dec-arg (walks (c .before .before .before .before .before .before .before .before .args .cfg .nesting)) (cfgOf (c .before .before .before .before .before .before .before .before .args .cfg)) ∷ []) (c .before .before .before .before .before .before .before .before .args .which) 2 refl (past (past zero-le (c .before .match .rest .0 .1)) (c .before .match .rest .1)) (c .stop .ensures) }
+sa-returns-3 t c = record { is = beyond ((walks (c .before .before .before .before .before .args .cfg .nesting) .get-str-exp (cfgOf (c .before .before .before .before .before .args .cfg))) ∷ GetDec.dec-arg (walks (c .before .before .before .before .before .args .cfg .nesting)) (cfgOf (c .before .before .before .before .before .args .cfg)) ∷ []) (c .before .before .before .before .before .args .which) 2 refl (past (past zero-le (c .before .match .rest .0 .1)) (c .before .match .rest .1)) (c .stop .ensures) }
 
 sb-group-requires : (t : ℕ) → sb-lts.Need-group-requires (sb-claims t) (sb-at t) sb.Post
 sb-group-requires t c κs = search needs
@@ -4030,14 +4031,14 @@ sb-enum-told-2 : (t : ℕ) → sb-lts.Need-enum-told-2 (sb-claims t) (sb-at t) s
 sb-enum-told-2 t c = search needs
 
 sb-same-length : (t : ℕ) → sb-lts.Need-same-length (sb-claims t) (sb-at t) sb.Post
-sb-same-length t c = c .before .before .before .before .before .text-of .kept .1 .1 .1 .1 .1 .0
+sb-same-length t c = c .before .before .before .before .before .text-of .kept .1 .1 .1 .1 .0
 
 sb-returns-2 : (t : ℕ) → sb-lts.Need-returns-2 (sb-claims t) (sb-at t) sb.Post
 unfolding DecOne.str-bind
 sb-returns-2 t c = record { is = by-same (group-is (c .before .before .before .before .before .before .before .before .before .before .before .before .group .ensures) (c .before .before .before .before .before .before .before .before .before .before .before .told .ensures) (c .before .before .before .before .before .before .before .before .before .s1 .given .1)) (then-stop (plain (c .before .before .before .before .before .text-of .ensures)) (c .before .before .told2 .ensures) (c .enum-told2 .given .1)) }
 
 sb-ac-requires : (t : ℕ) → sb-lts.Need-ac-requires (sb-claims t) (sb-at t) sb.Post
-sb-ac-requires t c κs = omega (arith, c .before .before .before .before .before .before .before .before .before .before .before .before .before .before .before .before .before .before .before .before .before .before .pre .0, c .before .before .before .before .before .before .before .before .before .before .before .before .before .before .before .before .before .before .before .before .before .before .pre .1)
+sb-ac-requires t c κs = omega (arith, c .before .before .before .before .before .before .before .before .before .before .before .before .before .before .before .before .before .before .before .pre .0, c .before .before .before .before .before .before .before .before .before .before .before .before .before .before .before .before .before .before .before .pre .1)
 
 sb-told-requires-3 : (t : ℕ) → sb-lts.Need-told-requires-3 (sb-claims t) (sb-at t) sb.Post
 sb-told-requires-3 t c κs = search needs
@@ -4049,7 +4050,7 @@ sb-enum-told-3 : (t : ℕ) → sb-lts.Need-enum-told-3 (sb-claims t) (sb-at t) s
 sb-enum-told-3 t c = search needs
 
 sb-same-length-2 : (t : ℕ) → sb-lts.Need-same-length-2 (sb-claims t) (sb-at t) sb.Post
-sb-same-length-2 t c = c .before .before .before .before .before .ac .kept .1 .1 .1 .1 .1 .1 .0 ∙ c .before .before .before .before .before .before .before .before .before .before .before .before .before .before .text-of .kept .1 .1 .1 .1 .1 .0
+sb-same-length-2 t c = c .before .before .before .before .before .ac .kept .1 .1 .1 .1 .1 .0 ∙ c .before .before .before .before .before .before .before .before .before .before .before .before .before .before .text-of .kept .1 .1 .1 .1 .0
 
 sb-returns-3 : (t : ℕ) → sb-lts.Need-returns-3 (sb-claims t) (sb-at t) sb.Post
 unfolding DecOne.str-bind
@@ -4062,7 +4063,7 @@ sb-enum-known-s4 : (t : ℕ) → sb-lts.Need-enum-known-s4 (sb-claims t) (sb-at 
 sb-enum-known-s4 t c = search needs
 
 sb-same-length-3 : (t : ℕ) → sb-lts.Need-same-length-3 (sb-claims t) (sb-at t) sb.Post
-sb-same-length-3 t c = c .before .before .before .before .before .before .before .before .before .before .ac .kept .1 .1 .1 .1 .1 .1 .0 ∙ c .before .before .before .before .before .before .before .before .before .before .before .before .before .before .before .before .before .before .before .text-of .kept .1 .1 .1 .1 .1 .0
+sb-same-length-3 t c = c .before .before .before .before .before .before .before .before .before .before .ac .kept .1 .1 .1 .1 .1 .0 ∙ c .before .before .before .before .before .before .before .before .before .before .before .before .before .before .before .before .before .before .before .text-of .kept .1 .1 .1 .1 .0
 
 sb-returns-4 : (t : ℕ) → sb-lts.Need-returns-4 (sb-claims t) (sb-at t) sb.Post
 unfolding DecOne.str-bind
@@ -4084,7 +4085,7 @@ sb-enum-told-5 : (t : ℕ) → sb-lts.Need-enum-told-5 (sb-claims t) (sb-at t) s
 sb-enum-told-5 t c = search needs
 
 sb-same-length-4 : (t : ℕ) → sb-lts.Need-same-length-4 (sb-claims t) (sb-at t) sb.Post
-sb-same-length-4 t c = c .before .before .before .before .before .before .before .before .before .before .before .before .before .ac .kept .1 .1 .1 .1 .1 .1 .0 ∙ c .before .before .before .before .before .before .before .before .before .before .before .before .before .before .before .before .before .before .before .before .before .before .text-of .kept .1 .1 .1 .1 .1 .0
+sb-same-length-4 t c = c .before .before .before .before .before .before .before .before .before .before .before .before .before .ac .kept .1 .1 .1 .1 .1 .0 ∙ c .before .before .before .before .before .before .before .before .before .before .before .before .before .before .before .before .before .before .before .before .before .before .text-of .kept .1 .1 .1 .1 .0
 
 sb-returns-5 : (t : ℕ) → sb-lts.Need-returns-5 (sb-claims t) (sb-at t) sb.Post
 unfolding DecOne.str-bind
@@ -4094,21 +4095,21 @@ sb-word-requires : (t : ℕ) → sb-lts.Need-word-requires (sb-claims t) (sb-at 
 sb-word-requires t c κs = search needs
 
 sb-str-requires : (t : ℕ) → sb-lts.Need-str-requires (sb-claims t) (sb-at t) sb.Post
-sb-str-requires t c κs = omega (arith, c .before .before .before .before .before .before .before .before .before .before .before .before .before .before .before .before .before .before .before .before .before .before .before .before .before .before .before .before .before .before .before .before .before .before .before .before .before .before .before .before .before .before .before .before .pre .0, c .before .before .before .before .before .before .before .before .before .before .before .before .before .before .before .before .before .before .before .before .before .before .before .before .before .before .before .before .before .before .before .before .before .before .before .before .before .before .before .before .before .before .before .before .pre .1)
+sb-str-requires t c κs = omega (arith, c .before .before .before .before .before .before .before .before .before .before .before .before .before .before .before .before .before .before .before .before .before .before .before .before .before .before .before .before .before .before .before .before .before .before .before .before .before .before .before .before .before .pre .0, c .before .before .before .before .before .before .before .before .before .before .before .before .before .before .before .before .before .before .before .before .before .before .before .before .before .before .before .before .before .before .before .before .before .before .before .before .before .before .before .before .before .pre .1)
 
 sb-same-length-5 : (t : ℕ) → sb-lts.Need-same-length-5 (sb-claims t) (sb-at t) sb.Post
-sb-same-length-5 t c = c .before .before .str .kept .1 .1 .1 .1 .1 .1 .0 ∙ c .before .before .before .before .before .before .before .word .kept .1 .1 .0 ∙ c .before .before .before .before .before .before .before .before .before .before .before .before .before .before .before .before .before .before .before .before .before .before .before .before .ac .kept .1 .1 .1 .1 .1 .1 .0 ∙ c .before .before .before .before .before .before .before .before .before .before .before .before .before .before .before .before .before .before .before .before .before .before .before .before .before .before .before .before .before .before .before .before .before .text-of .kept .1 .1 .1 .1 .1 .0
+sb-same-length-5 t c = c .before .before .str .kept .1 .1 .1 .1 .1 .0 ∙ c .before .before .before .before .before .before .before .word .kept .1 .1 .0 ∙ c .before .before .before .before .before .before .before .before .before .before .before .before .before .before .before .before .before .before .before .before .before .before .before .before .ac .kept .1 .1 .1 .1 .1 .0 ∙ c .before .before .before .before .before .before .before .before .before .before .before .before .before .before .before .before .before .before .before .before .before .before .before .before .before .before .before .before .before .before .before .before .before .text-of .kept .1 .1 .1 .1 .0
 
 sb-returns-6 : (t : ℕ) → sb-lts.Need-returns-6 (sb-claims t) (sb-at t) sb.Post
 unfolding DecOne.str-bind
 sb-returns-6 t c = record { is = by-same (group-is (c .before .before .before .before .before .before .before .before .before .before .before .before .before .before .before .before .before .before .before .before .before .before .before .before .before .before .before .before .before .before .before .before .before .before .before .before .before .before .before .before .group .ensures) (c .before .before .before .before .before .before .before .before .before .before .before .before .before .before .before .before .before .before .before .before .before .before .before .before .before .before .before .before .before .before .before .before .before .before .before .before .before .before .before .told .ensures) (c .before .before .before .before .before .before .before .before .before .before .before .before .before .before .before .before .before .before .before .before .before .before .before .before .before .before .before .before .before .before .before .before .before .before .before .before .before .s1 .given .1)) (then-done (plain (c .before .before .before .before .before .before .before .before .before .before .before .before .before .before .before .before .before .before .before .before .before .before .before .before .before .before .before .before .before .before .before .before .before .text-of .ensures)) (c .before .before .before .before .before .before .before .before .before .before .before .before .before .before .before .before .before .before .before .before .before .before .before .before .before .before .before .before .before .before .told2 .ensures) (c .before .before .before .before .before .before .before .before .before .before .before .before .before .before .before .before .before .before .before .before .before .before .before .before .before .before .before .before .s2 .given .1) (then-done (c .before .before .before .before .before .before .before .before .before .before .before .before .before .before .before .before .before .before .before .before .before .before .before .before .ac .ensures .is) (c .before .before .before .before .before .before .before .before .before .before .before .before .before .before .before .before .before .before .before .before .before .told3 .ensures) (c .before .before .before .before .before .before .before .before .before .before .before .before .before .before .before .before .before .before .before .s3 .given .1) (by-same (maybe-there (c .before .before .before .before .before .before .before .before .before .before .before .before .before .before .before .before .before .absent .ensures) (c .before .before .before .before .before .before .before .before .before .before .before .before .before .before .before .enum-told4 .given .1)) (by-same (group-is (c .before .before .before .before .before .before .before .before .before .before .before .before .before .before .group2 .ensures) (c .before .before .before .before .before .before .before .before .before .before .before .before .before .told4 .ensures) (c .before .before .before .before .before .before .before .before .before .before .before .s5 .given .1)) (then-sure (c .before .before .before .before .before .before .before .word .ensures) (c .before .before .str .ensures .is)))))) }
 
 abbrev sd-Inv-loop : sd-lts.InvT-loop
-sd-Inv-loop run text rec kinds starts lens out₀ mem₀ at cfg n s1 s₀ i₀ out mem s i =
-    Turn run (page text rec kinds starts lens) (from (Helpers.new-line (cfgOf cfg) "and ") (DecOne.str-bind (walks (cfg .nesting)) (cfgOf cfg))) n s₀ mem₀ out₀ i s mem out
+sd-Inv-loop run text rec kinds spans out₀ mem₀ at cfg n s1 s₀ i₀ out mem s i =
+    Turn run (pageAt text rec kinds spans) (from (Helpers.new-line (cfgOf cfg) "and ") (DecOne.str-bind (walks (cfg .nesting)) (cfgOf cfg))) n s₀ mem₀ out₀ i s mem out
 
 abbrev sd-μ-loop : sd-lts.MeasureT-loop
-sd-μ-loop run text rec kinds starts lens out₀ mem₀ at cfg n s1 s₀ i₀ out mem s i = n - i
+sd-μ-loop run text rec kinds spans out₀ mem₀ at cfg n s1 s₀ i₀ out mem s i = n - i
 
 sd-word-requires : (t : ℕ) → sd-lts.Need-word-requires (sd-claims t) (sd-at t) sd.Post sd-Inv-loop sd-μ-loop
 sd-word-requires t c κs = search needs
@@ -4139,7 +4140,7 @@ sd-new-line-requires : (t : ℕ) → sd-lts.Need-new-line-requires (sd-claims t)
 sd-new-line-requires t c κs = search needs
 
 sd-sb-requires : (t : ℕ) → sd-lts.Need-sb-requires (sd-claims t) (sd-at t) sd.Post sd-Inv-loop sd-μ-loop
-sd-sb-requires t c κs = omega (arith, c .before .before .before .before .before .before .before .before .before .before .before .before .before .before .before .before .before .before .before .before .before .before .before .before .pre .0, c .before .before .before .before .before .before .before .before .before .before .before .before .before .before .before .before .before .before .before .before .before .before .before .before .pre .1)
+sd-sb-requires t c κs = omega (arith, c .before .before .before .before .before .before .before .before .before .before .before .before .before .before .before .before .before .before .before .before .before .pre .0, c .before .before .before .before .before .before .before .before .before .before .before .before .before .before .before .before .before .before .before .before .before .pre .1)
 
 sd-told-requires : (t : ℕ) → sd-lts.Need-told-requires (sd-claims t) (sd-at t) sd.Post sd-Inv-loop sd-μ-loop
 sd-told-requires t c κs = search needs
@@ -4151,7 +4152,7 @@ sd-enum-told-2 : (t : ℕ) → sd-lts.Need-enum-told-2 (sd-claims t) (sd-at t) s
 sd-enum-told-2 t c = search needs
 
 sd-same-length-2 : (t : ℕ) → sd-lts.Need-same-length-2 (sd-claims t) (sd-at t) sd.Post sd-Inv-loop sd-μ-loop
-sd-same-length-2 t c = c .before .before .before .before .before .sb .kept .1 .1 .1 .1 .1 .1 .0 ∙ c .before .before .before .before .before .before .before .before .before .before .new-line .kept .1 .1 .0 ∙ c .before .before .before .before .before .before .before .before .before .before .before .before .before .before .loop .inv .2 ∙ c .before .before .before .before .before .before .before .before .before .before .before .before .before .before .before .before .before .before .before .before .before .word .kept .1 .1 .0
+sd-same-length-2 t c = c .before .before .before .before .before .sb .kept .1 .1 .1 .1 .1 .0 ∙ c .before .before .before .before .before .before .before .before .before .before .new-line .kept .1 .1 .0 ∙ c .before .before .before .before .before .before .before .before .before .before .before .before .before .before .loop .inv .2 ∙ c .before .before .before .before .before .before .before .before .before .before .before .before .before .before .before .before .before .before .before .before .before .word .kept .1 .1 .0
 
 sd-returns-2 : (t : ℕ) → sd-lts.Need-returns-2 (sd-claims t) (sd-at t) sd.Post sd-Inv-loop sd-μ-loop
 unfolding DecOne.dec-one Helpers.sep-with-lines
@@ -4165,7 +4166,7 @@ sd-loop-less t c = omega arith
 
 sd-loop-again : (t : ℕ) → sd-lts.Need-loop-again (sd-claims t) (sd-at t) sd.Post sd-Inv-loop sd-μ-loop
 unfolding DecOne.dec-one Helpers.sep-with-lines
-sd-loop-again t c = (omega (arith, c .before .before .before .before .before .before .before .before .before .before .before .before .before .before .before .loop .inv .0), λ r m o h. c .before .before .before .before .before .before .before .before .before .before .before .before .before .before .before .loop .inv .1 r m o (from-more _ _ (c .before .before .before .before .before .before .before .before .before .before .before .before .before .before .loop-test .taken) (then-sure (c .before .before .before .before .before .before .before .before .before .before .before .new-line .ensures) (then-done (c .before .before .before .before .before .before .sb .ensures .is) (c .before .before .before .told .ensures) (c .before .s2 .given .1) h))), c .before .before .before .before .before .before .sb .kept .1 .1 .1 .1 .1 .1 .0 ∙ c .before .before .before .before .before .before .before .before .before .before .before .new-line .kept .1 .1 .0 ∙ c .before .before .before .before .before .before .before .before .before .before .before .before .before .before .before .loop .inv .2)
+sd-loop-again t c = (omega (arith, c .before .before .before .before .before .before .before .before .before .before .before .before .before .before .before .loop .inv .0), λ r m o h. c .before .before .before .before .before .before .before .before .before .before .before .before .before .before .before .loop .inv .1 r m o (from-more _ _ (c .before .before .before .before .before .before .before .before .before .before .before .before .before .before .loop-test .taken) (then-sure (c .before .before .before .before .before .before .before .before .before .before .before .new-line .ensures) (then-done (c .before .before .before .before .before .before .sb .ensures .is) (c .before .before .before .told .ensures) (c .before .s2 .given .1) h))), c .before .before .before .before .before .before .sb .kept .1 .1 .1 .1 .1 .0 ∙ c .before .before .before .before .before .before .before .before .before .before .before .new-line .kept .1 .1 .0 ∙ c .before .before .before .before .before .before .before .before .before .before .before .before .before .before .before .loop .inv .2)
 
 sd-same-length-3 : (t : ℕ) → sd-lts.Need-same-length-3 (sd-claims t) (sd-at t) sd.Post sd-Inv-loop sd-μ-loop
 sd-same-length-3 t c = c .before .loop .inv .2 ∙ c .before .before .before .before .before .before .before .before .word .kept .1 .1 .0
@@ -4178,13 +4179,13 @@ seq-word-requires : (t : ℕ) → seq-lts.Need-word-requires (seq-claims t) (seq
 seq-word-requires t c κs = search needs
 
 seq-indent-deeper-requires : (t : ℕ) → seq-lts.Need-indent-deeper-requires (seq-claims t) (seq-at t) seq.Post
-seq-indent-deeper-requires t c κs = omega (arith, c .before .before .before .before .before .before .before .before .before .before .before .before .before .pre .1)
+seq-indent-deeper-requires t c κs = omega (arith, c .before .before .before .before .before .before .before .before .before .before .pre .1)
 
 seq-indented-requires : (t : ℕ) → seq-lts.Need-indented-requires (seq-claims t) (seq-at t) seq.Post
-seq-indented-requires t c κs = omega (arith, c .before .before .before .before .before .before .before .before .before .before .before .before .before .before .before .before .pre .1)
+seq-indented-requires t c κs = omega (arith, c .before .before .before .before .before .before .before .before .before .before .before .before .before .pre .1)
 
 seq-sm-requires : (t : ℕ) → seq-lts.Need-sm-requires (seq-claims t) (seq-at t) seq.Post
-seq-sm-requires t c κs = omega (arith, c .before .before .before .before .before .before .before .before .before .before .before .before .before .before .before .before .before .before .before .pre .0, c .before .before .before .before .before .before .before .before .before .before .before .before .before .before .before .before .before .before .before .pre .1, deep-depth (c .before .before .indented .ensures), deep-left (c .before .before .indented .ensures))
+seq-sm-requires t c κs = omega (arith, c .before .before .before .before .before .before .before .before .before .before .before .before .before .before .before .before .pre .0, c .before .before .before .before .before .before .before .before .before .before .before .before .before .before .before .before .pre .1, deep-depth (c .before .before .indented .ensures), deep-left (c .before .before .indented .ensures))
 
 seq-told-requires : (t : ℕ) → seq-lts.Need-told-requires (seq-claims t) (seq-at t) seq.Post
 seq-told-requires t c κs = search needs
@@ -4196,7 +4197,7 @@ seq-enum-told : (t : ℕ) → seq-lts.Need-enum-told (seq-claims t) (seq-at t) s
 seq-enum-told t c = search needs
 
 seq-same-length : (t : ℕ) → seq-lts.Need-same-length (seq-claims t) (seq-at t) seq.Post
-seq-same-length t c = c .before .before .before .before .before .sm .kept .1 .1 .1 .1 .1 .1 .0 ∙ c .before .before .before .before .before .before .before .before .before .before .before .indent-deeper .kept .0 ∙ c .before .before .before .before .before .before .before .before .before .before .before .before .before .before .before .before .word .kept .1 .1 .0
+seq-same-length t c = c .before .before .before .before .before .sm .kept .1 .1 .1 .1 .1 .0 ∙ c .before .before .before .before .before .before .before .before .before .before .before .indent-deeper .kept .0 ∙ c .before .before .before .before .before .before .before .before .before .before .before .before .before .before .before .before .word .kept .1 .1 .0
 
 seq-returns : (t : ℕ) → seq-lts.Need-returns (seq-claims t) (seq-at t) seq.Post
 unfolding Exp.exp Helpers.indent-deeper Helpers.deepen
@@ -4209,7 +4210,7 @@ seq-word-requires-2 : (t : ℕ) → seq-lts.Need-word-requires-2 (seq-claims t) 
 seq-word-requires-2 t c κs = search needs
 
 seq-same-length-2 : (t : ℕ) → seq-lts.Need-same-length-2 (seq-claims t) (seq-at t) seq.Post
-seq-same-length-2 t c = c .before .before .word2 .kept .1 .1 .0 ∙ c .before .before .before .before .before .before .before .line .kept .1 .1 .0 ∙ c .before .before .before .before .before .before .before .before .before .before .before .before .before .before .before .before .sm .kept .1 .1 .1 .1 .1 .1 .0 ∙ c .before .before .before .before .before .before .before .before .before .before .before .before .before .before .before .before .before .before .before .before .before .before .indent-deeper .kept .0 ∙ c .before .before .before .before .before .before .before .before .before .before .before .before .before .before .before .before .before .before .before .before .before .before .before .before .before .before .before .word .kept .1 .1 .0
+seq-same-length-2 t c = c .before .before .word2 .kept .1 .1 .0 ∙ c .before .before .before .before .before .before .before .line .kept .1 .1 .0 ∙ c .before .before .before .before .before .before .before .before .before .before .before .before .before .before .before .before .sm .kept .1 .1 .1 .1 .1 .0 ∙ c .before .before .before .before .before .before .before .before .before .before .before .before .before .before .before .before .before .before .before .before .before .before .indent-deeper .kept .0 ∙ c .before .before .before .before .before .before .before .before .before .before .before .before .before .before .before .before .before .before .before .before .before .before .before .before .before .before .before .word .kept .1 .1 .0
 
 seq-returns-2 : (t : ℕ) → seq-lts.Need-returns-2 (seq-claims t) (seq-at t) seq.Post
 unfolding Exp.exp Helpers.indent-deeper Helpers.deepen
@@ -4219,13 +4220,13 @@ sg-word-requires : (t : ℕ) → sg-lts.Need-word-requires (sg-claims t) (sg-at 
 sg-word-requires t c κs = search needs
 
 sg-indent-deeper-requires : (t : ℕ) → sg-lts.Need-indent-deeper-requires (sg-claims t) (sg-at t) sg.Post
-sg-indent-deeper-requires t c κs = omega (arith, c .before .before .before .before .before .before .before .before .before .before .before .before .before .pre .1)
+sg-indent-deeper-requires t c κs = omega (arith, c .before .before .before .before .before .before .before .before .before .before .pre .1)
 
 sg-indented-requires : (t : ℕ) → sg-lts.Need-indented-requires (sg-claims t) (sg-at t) sg.Post
-sg-indented-requires t c κs = omega (arith, c .before .before .before .before .before .before .before .before .before .before .before .before .before .before .before .before .pre .1)
+sg-indented-requires t c κs = omega (arith, c .before .before .before .before .before .before .before .before .before .before .before .before .before .pre .1)
 
 sg-ds-requires : (t : ℕ) → sg-lts.Need-ds-requires (sg-claims t) (sg-at t) sg.Post
-sg-ds-requires t c κs = omega (arith, c .before .before .before .before .before .before .before .before .before .before .before .before .before .before .before .before .before .before .before .pre .0, c .before .before .before .before .before .before .before .before .before .before .before .before .before .before .before .before .before .before .before .pre .1, deep-depth (c .before .before .indented .ensures), deep-left (c .before .before .indented .ensures))
+sg-ds-requires t c κs = omega (arith, c .before .before .before .before .before .before .before .before .before .before .before .before .before .before .before .before .pre .0, c .before .before .before .before .before .before .before .before .before .before .before .before .before .before .before .before .pre .1, deep-depth (c .before .before .indented .ensures), deep-left (c .before .before .indented .ensures))
 
 sg-told-requires : (t : ℕ) → sg-lts.Need-told-requires (sg-claims t) (sg-at t) sg.Post
 sg-told-requires t c κs = search needs
@@ -4237,7 +4238,7 @@ sg-enum-told : (t : ℕ) → sg-lts.Need-enum-told (sg-claims t) (sg-at t) sg.Po
 sg-enum-told t c = search needs
 
 sg-same-length : (t : ℕ) → sg-lts.Need-same-length (sg-claims t) (sg-at t) sg.Post
-sg-same-length t c = c .before .before .before .before .before .ds .kept .1 .1 .1 .1 .1 .1 .0 ∙ c .before .before .before .before .before .before .before .before .before .before .before .indent-deeper .kept .0 ∙ c .before .before .before .before .before .before .before .before .before .before .before .before .before .before .before .before .word .kept .1 .1 .0
+sg-same-length t c = c .before .before .before .before .before .ds .kept .1 .1 .1 .1 .1 .0 ∙ c .before .before .before .before .before .before .before .before .before .before .before .indent-deeper .kept .0 ∙ c .before .before .before .before .before .before .before .before .before .before .before .before .before .before .before .before .word .kept .1 .1 .0
 
 sg-returns : (t : ℕ) → sg-lts.Need-returns (sg-claims t) (sg-at t) sg.Post
 unfolding SigExp.sig-exp Helpers.indent-deeper Helpers.deepen
@@ -4250,7 +4251,7 @@ sg-word-requires-2 : (t : ℕ) → sg-lts.Need-word-requires-2 (sg-claims t) (sg
 sg-word-requires-2 t c κs = search needs
 
 sg-same-length-2 : (t : ℕ) → sg-lts.Need-same-length-2 (sg-claims t) (sg-at t) sg.Post
-sg-same-length-2 t c = c .before .before .word2 .kept .1 .1 .0 ∙ c .before .before .before .before .before .before .before .line .kept .1 .1 .0 ∙ c .before .before .before .before .before .before .before .before .before .before .before .before .before .before .before .before .ds .kept .1 .1 .1 .1 .1 .1 .0 ∙ c .before .before .before .before .before .before .before .before .before .before .before .before .before .before .before .before .before .before .before .before .before .before .indent-deeper .kept .0 ∙ c .before .before .before .before .before .before .before .before .before .before .before .before .before .before .before .before .before .before .before .before .before .before .before .before .before .before .before .word .kept .1 .1 .0
+sg-same-length-2 t c = c .before .before .word2 .kept .1 .1 .0 ∙ c .before .before .before .before .before .before .before .line .kept .1 .1 .0 ∙ c .before .before .before .before .before .before .before .before .before .before .before .before .before .before .before .before .ds .kept .1 .1 .1 .1 .1 .0 ∙ c .before .before .before .before .before .before .before .before .before .before .before .before .before .before .before .before .before .before .before .before .before .before .indent-deeper .kept .0 ∙ c .before .before .before .before .before .before .before .before .before .before .before .before .before .before .before .before .before .before .before .before .before .before .before .before .before .before .before .word .kept .1 .1 .0
 
 sg-returns-2 : (t : ℕ) → sg-lts.Need-returns-2 (sg-claims t) (sg-at t) sg.Post
 unfolding SigExp.sig-exp Helpers.indent-deeper Helpers.deepen
@@ -4279,47 +4280,47 @@ sig-returns-2 : (t : ℕ) → sig-lts.Need-returns-2 (sig-claims t) (sig-at t) s
 unfolding SigExp.sig-exps SigExp.sig-exp
 sig-returns-2 t c = record { is = sig-form _ _ (c .before .before .before .before .if1 .left) (form-not (c .stop2 .ensures) (c .before .before .before .form .ensures) (c .before .enum-told .given .1)) }
 
-sig-sub-t18 : (t : ℕ) → sig-lts.Need-sub-t18 (sig-claims t) (sig-at t) sig.Post
-sig-sub-t18 t c = search needs
+sig-sub-t17 : (t : ℕ) → sig-lts.Need-sub-t17 (sig-claims t) (sig-at t) sig.Post
+sig-sub-t17 t c = search needs
 
 sig-sg-requires : (t : ℕ) → sig-lts.Need-sg-requires (sig-claims t) (sig-at t) sig.Post
-sig-sg-requires t c κs = omega (arith, c .before .before .before .before .before .before .before .before .before .before .before .before .before .before .pre .0, c .before .before .before .before .before .before .before .before .before .before .before .before .before .before .pre .1, c .before .before .before .before .before .before .before .if1 .left)
+sig-sg-requires t c κs = omega (arith, c .before .before .before .before .before .before .before .before .before .before .before .pre .0, c .before .before .before .before .before .before .before .before .before .before .before .pre .1, c .before .before .before .before .before .before .before .if1 .left)
 
 sig-text-of-requires : (t : ℕ) → sig-lts.Need-text-of-requires (sig-claims t) (sig-at t) sig.Post
 sig-text-of-requires t c κs = search needs
 
 sig-wt-requires : (t : ℕ) → sig-lts.Need-wt-requires (sig-claims t) (sig-at t) sig.Post
-sig-wt-requires t c κs = omega (arith, c .before .before .before .before .before .before .before .before .before .before .before .before .before .before .pre .0, c .before .before .before .before .before .before .before .before .before .before .before .before .before .before .pre .1, c .before .before .before .before .before .before .before .if1 .left)
+sig-wt-requires t c κs = omega (arith, c .before .before .before .before .before .before .before .before .before .before .before .pre .0, c .before .before .before .before .before .before .before .before .before .before .before .pre .1, c .before .before .before .before .before .before .before .if1 .left)
 
 sig-wr-requires : (t : ℕ) → sig-lts.Need-wr-requires (sig-claims t) (sig-at t) sig.Post
-sig-wr-requires t c κs = omega (arith, c .before .before .before .before .before .before .before .before .before .before .before .before .before .before .pre .0, c .before .before .before .before .before .before .before .before .before .before .before .before .before .before .pre .1, c .before .before .before .before .before .before .before .if1 .left)
+sig-wr-requires t c κs = omega (arith, c .before .before .before .before .before .before .before .before .before .before .before .pre .0, c .before .before .before .before .before .before .before .before .before .before .before .pre .1, c .before .before .before .before .before .before .before .if1 .left)
 
 sig-stop-requires-3 : (t : ℕ) → sig-lts.Need-stop-requires-3 (sig-claims t) (sig-at t) sig.Post
 sig-stop-requires-3 t c κs = search needs
 
 sig-same-length : (t : ℕ) → sig-lts.Need-same-length (sig-claims t) (sig-at t) sig.Post
-sig-same-length t c = c .before .before .sg .kept .1 .1 .1 .1 .1 .1 .0
+sig-same-length t c = c .before .before .sg .kept .1 .1 .1 .1 .1 .0
 
 sig-returns-3 : (t : ℕ) → sig-lts.Need-returns-3 (sig-claims t) (sig-at t) sig.Post
 unfolding SigExp.sig-exps SigExp.sig-exp
 sig-returns-3 t c = record { is = sig-form _ _ (c .before .before .before .before .before .before .before .before .before .before .if1 .left) (form-key (c .before .before .before .before .before .before .before .before .before .form .ensures) (c .before .before .before .before .before .before .before .k .given .1) (c .before .before .before .before .before .match2 .keys1) (c .before .before .sg .ensures .is)) }
 
 sig-same-length-2 : (t : ℕ) → sig-lts.Need-same-length-2 (sig-claims t) (sig-at t) sig.Post
-sig-same-length-2 t c = c .before .before .text-of .kept .1 .1 .1 .1 .1 .0
+sig-same-length-2 t c = c .before .before .text-of .kept .1 .1 .1 .1 .0
 
 sig-returns-4 : (t : ℕ) → sig-lts.Need-returns-4 (sig-claims t) (sig-at t) sig.Post
 unfolding SigExp.sig-exps SigExp.sig-exp
 sig-returns-4 t c = record { is = sig-form _ _ (c .before .before .before .before .before .before .before .before .before .before .if1 .left) (form-key (c .before .before .before .before .before .before .before .before .before .form .ensures) (c .before .before .before .before .before .before .before .k .given .1) (c .before .before .before .before .before .match2 .keys2) (plain (c .before .before .text-of .ensures))) }
 
 sig-same-length-3 : (t : ℕ) → sig-lts.Need-same-length-3 (sig-claims t) (sig-at t) sig.Post
-sig-same-length-3 t c = c .before .before .wt .kept .1 .1 .1 .1 .1 .1 .0
+sig-same-length-3 t c = c .before .before .wt .kept .1 .1 .1 .1 .1 .0
 
 sig-returns-5 : (t : ℕ) → sig-lts.Need-returns-5 (sig-claims t) (sig-at t) sig.Post
 unfolding SigExp.sig-exps SigExp.sig-exp
 sig-returns-5 t c = record { is = sig-form _ _ (c .before .before .before .before .before .before .before .before .before .before .if1 .left) (form-key (c .before .before .before .before .before .before .before .before .before .form .ensures) (c .before .before .before .before .before .before .before .k .given .1) (c .before .before .before .before .before .match2 .keys3) (c .before .before .wt .ensures .is)) }
 
 sig-same-length-4 : (t : ℕ) → sig-lts.Need-same-length-4 (sig-claims t) (sig-at t) sig.Post
-sig-same-length-4 t c = c .before .before .wr .kept .1 .1 .1 .1 .1 .1 .0
+sig-same-length-4 t c = c .before .before .wr .kept .1 .1 .1 .1 .1 .0
 
 sig-returns-6 : (t : ℕ) → sig-lts.Need-returns-6 (sig-claims t) (sig-at t) sig.Post
 unfolding SigExp.sig-exps SigExp.sig-exp
@@ -4327,7 +4328,7 @@ sig-returns-6 t c = record { is = sig-form _ _ (c .before .before .before .befor
 
 sig-returns-7 : (t : ℕ) → sig-lts.Need-returns-7 (sig-claims t) (sig-at t) sig.Post
 unfolding SigExp.sig-exps SigExp.sig-exp
-sig-returns-7 t c = record { is = sig-form _ _ (c .before .before .before .before .before .before .if1 .left) (by-same (form-is (c .before .before .before .before .before .form .ensures) (c .before .before .before .k .given .1)) (beyond (SigExp.sig-exps (walks (c .before .before .before .before .before .before .before .before .before .before .before .before .before .args .cfg .nesting - 1)) (cfgOf (c .before .before .before .before .before .before .before .before .before .before .before .before .before .args .cfg))) (c .before .before .before .k .given .0 .0) 4 refl (past (past (past (past zero-le (c .before .match2 .rest .0 .0 .0 .1)) (c .before .match2 .rest .0 .0 .1)) (c .before .match2 .rest .0 .1)) (c .before .match2 .rest .1)) (c .stop3 .ensures))) }
+sig-returns-7 t c = record { is = sig-form _ _ (c .before .before .before .before .before .before .if1 .left) (by-same (form-is (c .before .before .before .before .before .form .ensures) (c .before .before .before .k .given .1)) (beyond (SigExp.sig-exps (walks (c .before .before .before .before .before .before .before .before .before .before .args .cfg .nesting - 1)) (cfgOf (c .before .before .before .before .before .before .before .before .before .before .args .cfg))) (c .before .before .before .k .given .0 .0) 4 refl (past (past (past (past zero-le (c .before .match2 .rest .0 .0 .0 .1)) (c .before .match2 .rest .0 .0 .1)) (c .before .match2 .rest .0 .1)) (c .before .match2 .rest .1)) (c .stop3 .ensures))) }
 
 sl-word-requires : (t : ℕ) → sl-lts.Need-word-requires (sl-claims t) (sl-at t) sl.Post
 sl-word-requires t c κs = search needs
@@ -4336,13 +4337,13 @@ sl-word-requires-2 : (t : ℕ) → sl-lts.Need-word-requires-2 (sl-claims t) (sl
 sl-word-requires-2 t c κs = search needs
 
 sl-indent-deeper-requires : (t : ℕ) → sl-lts.Need-indent-deeper-requires (sl-claims t) (sl-at t) sl.Post
-sl-indent-deeper-requires t c κs = omega (arith, c .before .before .before .before .before .before .before .before .before .before .before .before .before .before .before .before .before .before .pre .1)
+sl-indent-deeper-requires t c κs = omega (arith, c .before .before .before .before .before .before .before .before .before .before .before .before .before .before .before .pre .1)
 
 sl-indented-requires : (t : ℕ) → sl-lts.Need-indented-requires (sl-claims t) (sl-at t) sl.Post
-sl-indented-requires t c κs = omega (arith, c .before .before .before .before .before .before .before .before .before .before .before .before .before .before .before .before .before .before .before .before .before .pre .1)
+sl-indented-requires t c κs = omega (arith, c .before .before .before .before .before .before .before .before .before .before .before .before .before .before .before .before .before .before .pre .1)
 
 sl-ds-requires : (t : ℕ) → sl-lts.Need-ds-requires (sl-claims t) (sl-at t) sl.Post
-sl-ds-requires t c κs = omega (arith, c .before .before .before .before .before .before .before .before .before .before .before .before .before .before .before .before .before .before .before .before .before .before .before .before .pre .0, c .before .before .before .before .before .before .before .before .before .before .before .before .before .before .before .before .before .before .before .before .before .before .before .before .pre .1, deep-depth (c .before .before .indented .ensures), deep-left (c .before .before .indented .ensures))
+sl-ds-requires t c κs = omega (arith, c .before .before .before .before .before .before .before .before .before .before .before .before .before .before .before .before .before .before .before .before .before .pre .0, c .before .before .before .before .before .before .before .before .before .before .before .before .before .before .before .before .before .before .before .before .before .pre .1, deep-depth (c .before .before .indented .ensures), deep-left (c .before .before .indented .ensures))
 
 sl-told-requires : (t : ℕ) → sl-lts.Need-told-requires (sl-claims t) (sl-at t) sl.Post
 sl-told-requires t c κs = search needs
@@ -4354,7 +4355,7 @@ sl-enum-told : (t : ℕ) → sl-lts.Need-enum-told (sl-claims t) (sl-at t) sl.Po
 sl-enum-told t c = search needs
 
 sl-same-length : (t : ℕ) → sl-lts.Need-same-length (sl-claims t) (sl-at t) sl.Post
-sl-same-length t c = c .before .before .before .before .before .ds .kept .1 .1 .1 .1 .1 .1 .0 ∙ c .before .before .before .before .before .before .before .before .before .before .before .indent-deeper .kept .0 ∙ c .before .before .before .before .before .before .before .before .before .before .before .before .before .before .before .before .word2 .kept .1 .1 .0 ∙ c .before .before .before .before .before .before .before .before .before .before .before .before .before .before .before .before .before .before .before .before .before .word .kept .1 .1 .0
+sl-same-length t c = c .before .before .before .before .before .ds .kept .1 .1 .1 .1 .1 .0 ∙ c .before .before .before .before .before .before .before .before .before .before .before .indent-deeper .kept .0 ∙ c .before .before .before .before .before .before .before .before .before .before .before .before .before .before .before .before .word2 .kept .1 .1 .0 ∙ c .before .before .before .before .before .before .before .before .before .before .before .before .before .before .before .before .before .before .before .before .before .word .kept .1 .1 .0
 
 sl-returns : (t : ℕ) → sl-lts.Need-returns (sl-claims t) (sl-at t) sl.Post
 unfolding StrExp.str-exp Helpers.in-end Helpers.indent-deeper Helpers.deepen
@@ -4367,10 +4368,10 @@ sl-word-requires-3 : (t : ℕ) → sl-lts.Need-word-requires-3 (sl-claims t) (sl
 sl-word-requires-3 t c κs = search needs
 
 sl-indent-in-requires : (t : ℕ) → sl-lts.Need-indent-in-requires (sl-claims t) (sl-at t) sl.Post
-sl-indent-in-requires t c κs = omega (arith, c .before .before .before .before .before .before .before .before .before .before .before .before .before .before .before .before .before .before .before .before .before .before .before .before .before .before .before .before .before .before .before .before .before .before .before .before .before .before .before .before .before .before .before .pre .1)
+sl-indent-in-requires t c κs = omega (arith, c .before .before .before .before .before .before .before .before .before .before .before .before .before .before .before .before .before .before .before .before .before .before .before .before .before .before .before .before .before .before .before .before .before .before .before .before .before .before .before .before .pre .1)
 
 sl-str-requires : (t : ℕ) → sl-lts.Need-str-requires (sl-claims t) (sl-at t) sl.Post
-sl-str-requires t c κs = omega (arith, c .before .before .before .before .before .before .before .before .before .before .before .before .before .before .before .before .before .before .before .before .before .before .before .before .before .before .before .before .before .before .before .before .before .before .before .before .before .before .before .before .before .before .before .before .before .before .before .before .pre .0, c .before .before .before .before .before .before .before .before .before .before .before .before .before .before .before .before .before .before .before .before .before .before .before .before .before .before .before .before .before .before .before .before .before .before .before .before .before .before .before .before .before .before .before .before .before .before .before .before .pre .1, deep-depth (c .before .before .before .before .before .before .before .before .before .before .before .before .before .before .before .before .before .before .before .before .before .before .before .before .before .before .indented .ensures), deep-left (c .before .before .before .before .before .before .before .before .before .before .before .before .before .before .before .before .before .before .before .before .before .before .before .before .before .before .indented .ensures))
+sl-str-requires t c κs = omega (arith, c .before .before .before .before .before .before .before .before .before .before .before .before .before .before .before .before .before .before .before .before .before .before .before .before .before .before .before .before .before .before .before .before .before .before .before .before .before .before .before .before .before .before .before .before .before .pre .0, c .before .before .before .before .before .before .before .before .before .before .before .before .before .before .before .before .before .before .before .before .before .before .before .before .before .before .before .before .before .before .before .before .before .before .before .before .before .before .before .before .before .before .before .before .before .pre .1, deep-depth (c .before .before .before .before .before .before .before .before .before .before .before .before .before .before .before .before .before .before .before .before .before .before .before .before .before .before .indented .ensures), deep-left (c .before .before .before .before .before .before .before .before .before .before .before .before .before .before .before .before .before .before .before .before .before .before .before .before .before .before .indented .ensures))
 
 sl-told-requires-2 : (t : ℕ) → sl-lts.Need-told-requires-2 (sl-claims t) (sl-at t) sl.Post
 sl-told-requires-2 t c κs = search needs
@@ -4382,7 +4383,7 @@ sl-enum-told-2 : (t : ℕ) → sl-lts.Need-enum-told-2 (sl-claims t) (sl-at t) s
 sl-enum-told-2 t c = search needs
 
 sl-same-length-2 : (t : ℕ) → sl-lts.Need-same-length-2 (sl-claims t) (sl-at t) sl.Post
-sl-same-length-2 t c = c .before .before .before .before .before .str .kept .1 .1 .1 .1 .1 .1 .0 ∙ c .before .before .before .before .before .before .before .before .before .before .indent-in .kept .0 ∙ c .before .before .before .before .before .before .before .before .before .before .before .before .before .before .before .word3 .kept .1 .1 .0 ∙ c .before .before .before .before .before .before .before .before .before .before .before .before .before .before .before .before .before .before .before .before .line .kept .1 .1 .0 ∙ c .before .before .before .before .before .before .before .before .before .before .before .before .before .before .before .before .before .before .before .before .before .before .before .before .before .before .before .before .before .ds .kept .1 .1 .1 .1 .1 .1 .0 ∙ c .before .before .before .before .before .before .before .before .before .before .before .before .before .before .before .before .before .before .before .before .before .before .before .before .before .before .before .before .before .before .before .before .before .before .before .indent-deeper .kept .0 ∙ c .before .before .before .before .before .before .before .before .before .before .before .before .before .before .before .before .before .before .before .before .before .before .before .before .before .before .before .before .before .before .before .before .before .before .before .before .before .before .before .before .word2 .kept .1 .1 .0 ∙ c .before .before .before .before .before .before .before .before .before .before .before .before .before .before .before .before .before .before .before .before .before .before .before .before .before .before .before .before .before .before .before .before .before .before .before .before .before .before .before .before .before .before .before .before .before .word .kept .1 .1 .0
+sl-same-length-2 t c = c .before .before .before .before .before .str .kept .1 .1 .1 .1 .1 .0 ∙ c .before .before .before .before .before .before .before .before .before .before .indent-in .kept .0 ∙ c .before .before .before .before .before .before .before .before .before .before .before .before .before .before .before .word3 .kept .1 .1 .0 ∙ c .before .before .before .before .before .before .before .before .before .before .before .before .before .before .before .before .before .before .before .before .line .kept .1 .1 .0 ∙ c .before .before .before .before .before .before .before .before .before .before .before .before .before .before .before .before .before .before .before .before .before .before .before .before .before .before .before .before .before .ds .kept .1 .1 .1 .1 .1 .0 ∙ c .before .before .before .before .before .before .before .before .before .before .before .before .before .before .before .before .before .before .before .before .before .before .before .before .before .before .before .before .before .before .before .before .before .before .before .indent-deeper .kept .0 ∙ c .before .before .before .before .before .before .before .before .before .before .before .before .before .before .before .before .before .before .before .before .before .before .before .before .before .before .before .before .before .before .before .before .before .before .before .before .before .before .before .before .word2 .kept .1 .1 .0 ∙ c .before .before .before .before .before .before .before .before .before .before .before .before .before .before .before .before .before .before .before .before .before .before .before .before .before .before .before .before .before .before .before .before .before .before .before .before .before .before .before .before .before .before .before .before .before .word .kept .1 .1 .0
 
 sl-returns-2 : (t : ℕ) → sl-lts.Need-returns-2 (sl-claims t) (sl-at t) sl.Post
 unfolding StrExp.str-exp Helpers.in-end Helpers.indent-deeper Helpers.deepen
@@ -4395,7 +4396,7 @@ sl-word-requires-4 : (t : ℕ) → sl-lts.Need-word-requires-4 (sl-claims t) (sl
 sl-word-requires-4 t c κs = search needs
 
 sl-same-length-3 : (t : ℕ) → sl-lts.Need-same-length-3 (sl-claims t) (sl-at t) sl.Post
-sl-same-length-3 t c = c .before .before .word4 .kept .1 .1 .0 ∙ c .before .before .before .before .before .before .before .line2 .kept .1 .1 .0 ∙ c .before .before .before .before .before .before .before .before .before .before .before .before .before .before .before .before .str .kept .1 .1 .1 .1 .1 .1 .0 ∙ c .before .before .before .before .before .before .before .before .before .before .before .before .before .before .before .before .before .before .before .before .before .indent-in .kept .0 ∙ c .before .before .before .before .before .before .before .before .before .before .before .before .before .before .before .before .before .before .before .before .before .before .before .before .before .before .word3 .kept .1 .1 .0 ∙ c .before .before .before .before .before .before .before .before .before .before .before .before .before .before .before .before .before .before .before .before .before .before .before .before .before .before .before .before .before .before .before .line .kept .1 .1 .0 ∙ c .before .before .before .before .before .before .before .before .before .before .before .before .before .before .before .before .before .before .before .before .before .before .before .before .before .before .before .before .before .before .before .before .before .before .before .before .before .before .before .before .ds .kept .1 .1 .1 .1 .1 .1 .0 ∙ c .before .before .before .before .before .before .before .before .before .before .before .before .before .before .before .before .before .before .before .before .before .before .before .before .before .before .before .before .before .before .before .before .before .before .before .before .before .before .before .before .before .before .before .before .before .before .indent-deeper .kept .0 ∙ c .before .before .before .before .before .before .before .before .before .before .before .before .before .before .before .before .before .before .before .before .before .before .before .before .before .before .before .before .before .before .before .before .before .before .before .before .before .before .before .before .before .before .before .before .before .before .before .before .before .before .before .word2 .kept .1 .1 .0 ∙ c .before .before .before .before .before .before .before .before .before .before .before .before .before .before .before .before .before .before .before .before .before .before .before .before .before .before .before .before .before .before .before .before .before .before .before .before .before .before .before .before .before .before .before .before .before .before .before .before .before .before .before .before .before .before .before .before .word .kept .1 .1 .0
+sl-same-length-3 t c = c .before .before .word4 .kept .1 .1 .0 ∙ c .before .before .before .before .before .before .before .line2 .kept .1 .1 .0 ∙ c .before .before .before .before .before .before .before .before .before .before .before .before .before .before .before .before .str .kept .1 .1 .1 .1 .1 .0 ∙ c .before .before .before .before .before .before .before .before .before .before .before .before .before .before .before .before .before .before .before .before .before .indent-in .kept .0 ∙ c .before .before .before .before .before .before .before .before .before .before .before .before .before .before .before .before .before .before .before .before .before .before .before .before .before .before .word3 .kept .1 .1 .0 ∙ c .before .before .before .before .before .before .before .before .before .before .before .before .before .before .before .before .before .before .before .before .before .before .before .before .before .before .before .before .before .before .before .line .kept .1 .1 .0 ∙ c .before .before .before .before .before .before .before .before .before .before .before .before .before .before .before .before .before .before .before .before .before .before .before .before .before .before .before .before .before .before .before .before .before .before .before .before .before .before .before .before .ds .kept .1 .1 .1 .1 .1 .0 ∙ c .before .before .before .before .before .before .before .before .before .before .before .before .before .before .before .before .before .before .before .before .before .before .before .before .before .before .before .before .before .before .before .before .before .before .before .before .before .before .before .before .before .before .before .before .before .before .indent-deeper .kept .0 ∙ c .before .before .before .before .before .before .before .before .before .before .before .before .before .before .before .before .before .before .before .before .before .before .before .before .before .before .before .before .before .before .before .before .before .before .before .before .before .before .before .before .before .before .before .before .before .before .before .before .before .before .before .word2 .kept .1 .1 .0 ∙ c .before .before .before .before .before .before .before .before .before .before .before .before .before .before .before .before .before .before .before .before .before .before .before .before .before .before .before .before .before .before .before .before .before .before .before .before .before .before .before .before .before .before .before .before .before .before .before .before .before .before .before .before .before .before .before .before .word .kept .1 .1 .0
 
 sl-returns-3 : (t : ℕ) → sl-lts.Need-returns-3 (sl-claims t) (sl-at t) sl.Post
 unfolding StrExp.str-exp Helpers.in-end Helpers.indent-deeper Helpers.deepen
@@ -4422,7 +4423,7 @@ unfolding Exp.exp-semi-seq
 sm-returns-2 t c = record { is = by-same (list-is (c .before .before .before .before .list .ensures) (c .before .before .n .given .1)) (semi-zero _ _ _ (c .if1 .taken)) }
 
 sm-it-requires : (t : ℕ) → sm-lts.Need-it-requires (sm-claims t) (sm-at t) sm.Post
-sm-it-requires t c κs = omega (arith, c .before .before .before .before .before .before .before .before .before .before .before .before .before .pre .0, c .before .before .before .before .before .before .before .before .before .before .before .before .before .pre .1)
+sm-it-requires t c κs = omega (arith, c .before .before .before .before .before .before .before .before .before .before .pre .0, c .before .before .before .before .before .before .before .before .before .before .pre .1)
 
 sm-told-requires : (t : ℕ) → sm-lts.Need-told-requires (sm-claims t) (sm-at t) sm.Post
 sm-told-requires t c κs = search needs
@@ -4434,7 +4435,7 @@ sm-enum-told-2 : (t : ℕ) → sm-lts.Need-enum-told-2 (sm-claims t) (sm-at t) s
 sm-enum-told-2 t c = search needs
 
 sm-same-length : (t : ℕ) → sm-lts.Need-same-length (sm-claims t) (sm-at t) sm.Post
-sm-same-length t c = c .before .before .before .before .before .it .kept .1 .1 .1 .1 .1 .1 .0
+sm-same-length t c = c .before .before .before .before .before .it .kept .1 .1 .1 .1 .1 .0
 
 sm-returns-3 : (t : ℕ) → sm-lts.Need-returns-3 (sm-claims t) (sm-at t) sm.Post
 unfolding Exp.exp-semi-seq
@@ -4444,21 +4445,21 @@ sm-sub-mo : (t : ℕ) → sm-lts.Need-sub-mo (sm-claims t) (sm-at t) sm.Post
 sm-sub-mo t c = search needs
 
 sm-mo-requires : (t : ℕ) → sm-lts.Need-mo-requires (sm-claims t) (sm-at t) sm.Post
-sm-mo-requires t c κs = omega (arith, c .before .before .before .before .before .before .before .before .before .before .before .before .before .before .before .before .before .before .before .before .before .before .pre .0, c .before .before .before .before .before .before .before .before .before .before .before .before .before .before .before .before .before .before .before .before .before .before .pre .1)
+sm-mo-requires t c κs = omega (arith, c .before .before .before .before .before .before .before .before .before .before .before .before .before .before .before .before .before .before .before .pre .0, c .before .before .before .before .before .before .before .before .before .before .before .before .before .before .before .before .before .before .before .pre .1)
 
 sm-same-length-2 : (t : ℕ) → sm-lts.Need-same-length-2 (sm-claims t) (sm-at t) sm.Post
-sm-same-length-2 t c = c .before .before .mo .kept .1 .1 .1 .1 .1 .1 .0 ∙ c .before .before .before .before .before .before .before .before .before .before .before .it .kept .1 .1 .1 .1 .1 .1 .0
+sm-same-length-2 t c = c .before .before .mo .kept .1 .1 .1 .1 .1 .0 ∙ c .before .before .before .before .before .before .before .before .before .before .before .it .kept .1 .1 .1 .1 .1 .0
 
 sm-returns-4 : (t : ℕ) → sm-lts.Need-returns-4 (sm-claims t) (sm-at t) sm.Post
 unfolding Exp.exp-semi-seq
 sm-returns-4 t c = record { is = by-same (list-is (c .before .before .before .before .before .before .before .before .before .before .before .before .before .before .before .before .before .before .list .ensures) (c .before .before .before .before .before .before .before .before .before .before .before .before .before .before .before .before .n .given .1)) (semi-first _ _ _ (c .before .before .before .before .before .before .before .before .before .before .before .before .before .before .if1 .left) (then-done (c .before .before .before .before .before .before .before .before .before .before .before .it .ensures .is) (c .before .before .before .before .before .before .before .before .told .ensures) (c .before .before .before .before .before .before .s2 .given .1) (c .before .before .mo .ensures .is))) }
 
 abbrev sp-Inv-loop : sp-lts.InvT-loop
-sp-Inv-loop run text rec kinds starts lens out₀ mem₀ at cfg r1 s1 n s2 s₀ needs₀ i₀ out mem s needs i =
-    (i ≤ n) × ((r : ℕ) (m′ o′ : List ℕ) → Walked false run (page text rec kinds starts lens) (StrExp.app-args (walks (cfg .nesting)) (cfgOf cfg) needs (n - i)) (runOf s mem out) r m′ o′ → Walked false run (page text rec kinds starts lens) (StrExp.app-args (walks (cfg .nesting)) (cfgOf cfg) false (n - 0)) (runOf s₀ mem₀ out₀) r m′ o′) × (length out ≡ length out₀)
+sp-Inv-loop run text rec kinds spans out₀ mem₀ at cfg r1 s1 n s2 s₀ needs₀ i₀ out mem s needs i =
+    (i ≤ n) × ((r : ℕ) (m′ o′ : List ℕ) → Walked false run (pageAt text rec kinds spans) (StrExp.app-args (walks (cfg .nesting)) (cfgOf cfg) needs (n - i)) (runOf s mem out) r m′ o′ → Walked false run (pageAt text rec kinds spans) (StrExp.app-args (walks (cfg .nesting)) (cfgOf cfg) false (n - 0)) (runOf s₀ mem₀ out₀) r m′ o′) × (length out ≡ length out₀)
 
 abbrev sp-μ-loop : sp-lts.MeasureT-loop
-sp-μ-loop run text rec kinds starts lens out₀ mem₀ at cfg r1 s1 n s2 s₀ needs₀ i₀ out mem s needs i = n - i
+sp-μ-loop run text rec kinds spans out₀ mem₀ at cfg r1 s1 n s2 s₀ needs₀ i₀ out mem s needs i = n - i
 
 sp-text-of-requires : (t : ℕ) → sp-lts.Need-text-of-requires (sp-claims t) (sp-at t) sp.Post sp-Inv-loop sp-μ-loop
 sp-text-of-requires t c κs = search needs
@@ -4473,7 +4474,7 @@ sp-enum-told : (t : ℕ) → sp-lts.Need-enum-told (sp-claims t) (sp-at t) sp.Po
 sp-enum-told t c = search needs
 
 sp-same-length : (t : ℕ) → sp-lts.Need-same-length (sp-claims t) (sp-at t) sp.Post sp-Inv-loop sp-μ-loop
-sp-same-length t c = c .before .before .before .before .before .text-of .kept .1 .1 .1 .1 .1 .0
+sp-same-length t c = c .before .before .before .before .before .text-of .kept .1 .1 .1 .1 .0
 
 sp-returns : (t : ℕ) → sp-lts.Need-returns (sp-claims t) (sp-at t) sp.Post sp-Inv-loop sp-μ-loop
 unfolding StrExp.str-exp
@@ -4495,7 +4496,7 @@ sp-stop-requires : (t : ℕ) → sp-lts.Need-stop-requires (sp-claims t) (sp-at 
 sp-stop-requires t c κs = search needs
 
 sp-same-length-2 : (t : ℕ) → sp-lts.Need-same-length-2 (sp-claims t) (sp-at t) sp.Post sp-Inv-loop sp-μ-loop
-sp-same-length-2 t c = c .before .before .before .before .before .before .word .kept .1 .1 .0 ∙ c .before .before .before .before .before .before .before .before .before .before .before .before .before .before .before .text-of .kept .1 .1 .1 .1 .1 .0
+sp-same-length-2 t c = c .before .before .before .before .before .before .word .kept .1 .1 .0 ∙ c .before .before .before .before .before .before .before .before .before .before .before .before .before .before .before .text-of .kept .1 .1 .1 .1 .0
 
 sp-returns-2 : (t : ℕ) → sp-lts.Need-returns-2 (sp-claims t) (sp-at t) sp.Post sp-Inv-loop sp-μ-loop
 unfolding StrExp.str-exp
@@ -4517,14 +4518,14 @@ sp-stop-requires-2 : (t : ℕ) → sp-lts.Need-stop-requires-2 (sp-claims t) (sp
 sp-stop-requires-2 t c κs = search needs
 
 sp-same-length-3 : (t : ℕ) → sp-lts.Need-same-length-3 (sp-claims t) (sp-at t) sp.Post sp-Inv-loop sp-μ-loop
-sp-same-length-3 t c = c .before .before .before .before .before .loop .inv .2 ∙ c .before .before .before .before .before .before .before .before .before .before .before .before .word .kept .1 .1 .0 ∙ c .before .before .before .before .before .before .before .before .before .before .before .before .before .before .before .before .before .before .before .before .before .text-of .kept .1 .1 .1 .1 .1 .0
+sp-same-length-3 t c = c .before .before .before .before .before .loop .inv .2 ∙ c .before .before .before .before .before .before .before .before .before .before .before .before .word .kept .1 .1 .0 ∙ c .before .before .before .before .before .before .before .before .before .before .before .before .before .before .before .before .before .before .before .before .before .text-of .kept .1 .1 .1 .1 .0
 
 sp-returns-3 : (t : ℕ) → sp-lts.Need-returns-3 (sp-claims t) (sp-at t) sp.Post sp-Inv-loop sp-μ-loop
 unfolding StrExp.str-exp
 sp-returns-3 t c = record { is = then-done (plain (c .before .before .before .before .before .before .before .before .before .before .before .before .before .before .before .before .before .before .before .before .before .text-of .ensures)) (c .before .before .before .before .before .before .before .before .before .before .before .before .before .before .before .before .before .before .told .ensures) (c .before .before .before .before .before .before .before .before .before .before .before .before .before .before .before .before .s1 .given .1) (then-sure (c .before .before .before .before .before .before .before .before .before .before .before .before .word .ensures) (by-same (list-is (c .before .before .before .before .before .before .before .before .before .list .ensures) (c .before .before .before .before .before .before .before .n .given .1)) (by-same (args-all _ _ _) (c .before .before .before .before .before .loop .inv .1 _ _ _ (args-more _ _ _ (c .before .before .before .before .loop-test .taken) (choice-not (c .stop2 .ensures) (c .before .before .before .choice .ensures) (c .before .enum-told3 .given .1))))))) }
 
 sp-sa-requires : (t : ℕ) → sp-lts.Need-sa-requires (sp-claims t) (sp-at t) sp.Post sp-Inv-loop sp-μ-loop
-sp-sa-requires t c κs = omega (arith, c .before .before .before .before .before .before .before .before .before .before .before .before .before .before .before .before .before .before .before .before .before .before .before .before .before .before .before .before .before .before .before .before .pre .0, c .before .before .before .before .before .before .before .before .before .before .before .before .before .before .before .before .before .before .before .before .before .before .before .before .before .before .before .before .before .before .before .before .pre .1)
+sp-sa-requires t c κs = omega (arith, c .before .before .before .before .before .before .before .before .before .before .before .before .before .before .before .before .before .before .before .before .before .before .before .before .before .before .before .before .before .pre .0, c .before .before .before .before .before .before .before .before .before .before .before .before .before .before .before .before .before .before .before .before .before .before .before .before .before .before .before .before .before .pre .1)
 
 sp-told-requires-2 : (t : ℕ) → sp-lts.Need-told-requires-2 (sp-claims t) (sp-at t) sp.Post sp-Inv-loop sp-μ-loop
 sp-told-requires-2 t c κs = search needs
@@ -4536,7 +4537,7 @@ sp-enum-told-4 : (t : ℕ) → sp-lts.Need-enum-told-4 (sp-claims t) (sp-at t) s
 sp-enum-told-4 t c = search needs
 
 sp-same-length-4 : (t : ℕ) → sp-lts.Need-same-length-4 (sp-claims t) (sp-at t) sp.Post sp-Inv-loop sp-μ-loop
-sp-same-length-4 t c = c .before .before .before .before .before .sa .kept .1 .1 .1 .1 .1 .1 .0 ∙ c .before .before .before .before .before .before .before .before .before .before .before .before .before .loop .inv .2 ∙ c .before .before .before .before .before .before .before .before .before .before .before .before .before .before .before .before .before .before .before .before .word .kept .1 .1 .0 ∙ c .before .before .before .before .before .before .before .before .before .before .before .before .before .before .before .before .before .before .before .before .before .before .before .before .before .before .before .before .before .text-of .kept .1 .1 .1 .1 .1 .0
+sp-same-length-4 t c = c .before .before .before .before .before .sa .kept .1 .1 .1 .1 .1 .0 ∙ c .before .before .before .before .before .before .before .before .before .before .before .before .before .loop .inv .2 ∙ c .before .before .before .before .before .before .before .before .before .before .before .before .before .before .before .before .before .before .before .before .word .kept .1 .1 .0 ∙ c .before .before .before .before .before .before .before .before .before .before .before .before .before .before .before .before .before .before .before .before .before .before .before .before .before .before .before .before .before .text-of .kept .1 .1 .1 .1 .0
 
 sp-returns-4 : (t : ℕ) → sp-lts.Need-returns-4 (sp-claims t) (sp-at t) sp.Post sp-Inv-loop sp-μ-loop
 unfolding StrExp.str-exp
@@ -4553,13 +4554,13 @@ sp-loop-less t c = omega arith
 
 sp-loop-again : (t : ℕ) → sp-lts.Need-loop-again (sp-claims t) (sp-at t) sp.Post sp-Inv-loop sp-μ-loop
 unfolding StrExp.str-exp
-sp-loop-again t c = (omega (arith, c .before .before .before .before .before .before .before .before .before .before .before .before .before .before .before .loop .inv .0), λ r m o h. c .before .before .before .before .before .before .before .before .before .before .before .before .before .before .before .loop .inv .1 r m o (args-more _ _ _ (c .before .before .before .before .before .before .before .before .before .before .before .before .before .before .loop-test .taken) (by-same (choice-is (c .before .before .before .before .before .before .before .before .before .before .before .before .before .choice .ensures) (c .before .before .before .before .before .before .before .before .before .before .before .k .given .1)) (then-done (c .before .before .before .before .before .before .before .sa .ensures .is) (c .before .before .before .before .told2 .ensures) (c .before .before .s4 .given .1) ((args-needs _ _ _ (c .later-needs .ensures) h))))), c .before .before .before .before .before .before .before .sa .kept .1 .1 .1 .1 .1 .1 .0 ∙ c .before .before .before .before .before .before .before .before .before .before .before .before .before .before .before .loop .inv .2)
+sp-loop-again t c = (omega (arith, c .before .before .before .before .before .before .before .before .before .before .before .before .before .before .before .loop .inv .0), λ r m o h. c .before .before .before .before .before .before .before .before .before .before .before .before .before .before .before .loop .inv .1 r m o (args-more _ _ _ (c .before .before .before .before .before .before .before .before .before .before .before .before .before .before .loop-test .taken) (by-same (choice-is (c .before .before .before .before .before .before .before .before .before .before .before .before .before .choice .ensures) (c .before .before .before .before .before .before .before .before .before .before .before .k .given .1)) (then-done (c .before .before .before .before .before .before .before .sa .ensures .is) (c .before .before .before .before .told2 .ensures) (c .before .before .s4 .given .1) ((args-needs _ _ _ (c .later-needs .ensures) h))))), c .before .before .before .before .before .before .before .sa .kept .1 .1 .1 .1 .1 .0 ∙ c .before .before .before .before .before .before .before .before .before .before .before .before .before .before .before .loop .inv .2)
 
 sp-app-end-requires : (t : ℕ) → sp-lts.Need-app-end-requires (sp-claims t) (sp-at t) sp.Post sp-Inv-loop sp-μ-loop
 sp-app-end-requires t c κs = search needs
 
 sp-same-length-5 : (t : ℕ) → sp-lts.Need-same-length-5 (sp-claims t) (sp-at t) sp.Post sp-Inv-loop sp-μ-loop
-sp-same-length-5 t c = c .before .before .app-end .kept .1 .1 .0 ∙ c .before .before .before .before .before .before .loop .inv .2 ∙ c .before .before .before .before .before .before .before .before .before .before .before .before .before .word .kept .1 .1 .0 ∙ c .before .before .before .before .before .before .before .before .before .before .before .before .before .before .before .before .before .before .before .before .before .before .text-of .kept .1 .1 .1 .1 .1 .0
+sp-same-length-5 t c = c .before .before .app-end .kept .1 .1 .0 ∙ c .before .before .before .before .before .before .loop .inv .2 ∙ c .before .before .before .before .before .before .before .before .before .before .before .before .before .word .kept .1 .1 .0 ∙ c .before .before .before .before .before .before .before .before .before .before .before .before .before .before .before .before .before .before .before .before .before .before .text-of .kept .1 .1 .1 .1 .0
 
 sp-returns-5 : (t : ℕ) → sp-lts.Need-returns-5 (sp-claims t) (sp-at t) sp.Post sp-Inv-loop sp-μ-loop
 unfolding StrExp.str-exp
@@ -4582,7 +4583,7 @@ unfolding GetDec.dec-in-seq Helpers.with-extra-blank Helpers.semicolon
 sq-returns t c = record { is = group-not (c .before .before .before .group .ensures) (c .before .before .told .ensures) (c .enum-told .given .1) }
 
 sq-one-requires : (t : ℕ) → sq-lts.Need-one-requires (sq-claims t) (sq-at t) sq.Post
-sq-one-requires t c κs = omega (arith, c .before .before .before .before .before .before .before .before .before .before .before .before .before .pre .0, c .before .before .before .before .before .before .before .before .before .before .before .before .before .pre .1)
+sq-one-requires t c κs = omega (arith, c .before .before .before .before .before .before .before .before .before .before .pre .0, c .before .before .before .before .before .before .before .before .before .before .pre .1)
 
 sq-told-requires-2 : (t : ℕ) → sq-lts.Need-told-requires-2 (sq-claims t) (sq-at t) sq.Post
 sq-told-requires-2 t c κs = search needs
@@ -4594,7 +4595,7 @@ sq-enum-told-2 : (t : ℕ) → sq-lts.Need-enum-told-2 (sq-claims t) (sq-at t) s
 sq-enum-told-2 t c = search needs
 
 sq-same-length : (t : ℕ) → sq-lts.Need-same-length (sq-claims t) (sq-at t) sq.Post
-sq-same-length t c = c .before .before .before .before .before .one .kept .1 .1 .1 .1 .1 .1 .0
+sq-same-length t c = c .before .before .before .before .before .one .kept .1 .1 .1 .1 .1 .0
 
 sq-returns-2 : (t : ℕ) → sq-lts.Need-returns-2 (sq-claims t) (sq-at t) sq.Post
 unfolding GetDec.dec-in-seq Helpers.with-extra-blank Helpers.semicolon
@@ -4604,7 +4605,7 @@ sq-word-if-requires : (t : ℕ) → sq-lts.Need-word-if-requires (sq-claims t) (
 sq-word-if-requires t c κs = search needs
 
 sq-same-length-2 : (t : ℕ) → sq-lts.Need-same-length-2 (sq-claims t) (sq-at t) sq.Post
-sq-same-length-2 t c = c .before .before .word-if .kept .1 .1 .1 .1 .1 .0 ∙ c .before .before .before .before .before .before .before .before .before .before .before .one .kept .1 .1 .1 .1 .1 .1 .0
+sq-same-length-2 t c = c .before .before .word-if .kept .1 .1 .1 .1 .0 ∙ c .before .before .before .before .before .before .before .before .before .before .before .one .kept .1 .1 .1 .1 .1 .0
 
 sq-returns-3 : (t : ℕ) → sq-lts.Need-returns-3 (sq-claims t) (sq-at t) sq.Post
 unfolding GetDec.dec-in-seq Helpers.with-extra-blank Helpers.semicolon
@@ -4614,13 +4615,13 @@ ss-word-requires : (t : ℕ) → ss-lts.Need-word-requires (ss-claims t) (ss-at 
 ss-word-requires t c κs = search needs
 
 ss-indent-deeper-requires : (t : ℕ) → ss-lts.Need-indent-deeper-requires (ss-claims t) (ss-at t) ss.Post
-ss-indent-deeper-requires t c κs = omega (arith, c .before .before .before .before .before .before .before .before .before .before .before .before .before .pre .1)
+ss-indent-deeper-requires t c κs = omega (arith, c .before .before .before .before .before .before .before .before .before .before .pre .1)
 
 ss-indented-requires : (t : ℕ) → ss-lts.Need-indented-requires (ss-claims t) (ss-at t) ss.Post
-ss-indented-requires t c κs = omega (arith, c .before .before .before .before .before .before .before .before .before .before .before .before .before .before .before .before .pre .1)
+ss-indented-requires t c κs = omega (arith, c .before .before .before .before .before .before .before .before .before .before .before .before .before .pre .1)
 
 ss-ds-requires : (t : ℕ) → ss-lts.Need-ds-requires (ss-claims t) (ss-at t) ss.Post
-ss-ds-requires t c κs = omega (arith, c .before .before .before .before .before .before .before .before .before .before .before .before .before .before .before .before .before .before .before .pre .0, c .before .before .before .before .before .before .before .before .before .before .before .before .before .before .before .before .before .before .before .pre .1, deep-depth (c .before .before .indented .ensures), deep-left (c .before .before .indented .ensures))
+ss-ds-requires t c κs = omega (arith, c .before .before .before .before .before .before .before .before .before .before .before .before .before .before .before .before .pre .0, c .before .before .before .before .before .before .before .before .before .before .before .before .before .before .before .before .pre .1, deep-depth (c .before .before .indented .ensures), deep-left (c .before .before .indented .ensures))
 
 ss-told-requires : (t : ℕ) → ss-lts.Need-told-requires (ss-claims t) (ss-at t) ss.Post
 ss-told-requires t c κs = search needs
@@ -4632,7 +4633,7 @@ ss-enum-told : (t : ℕ) → ss-lts.Need-enum-told (ss-claims t) (ss-at t) ss.Po
 ss-enum-told t c = search needs
 
 ss-same-length : (t : ℕ) → ss-lts.Need-same-length (ss-claims t) (ss-at t) ss.Post
-ss-same-length t c = c .before .before .before .before .before .ds .kept .1 .1 .1 .1 .1 .1 .0 ∙ c .before .before .before .before .before .before .before .before .before .before .before .indent-deeper .kept .0 ∙ c .before .before .before .before .before .before .before .before .before .before .before .before .before .before .before .before .word .kept .1 .1 .0
+ss-same-length t c = c .before .before .before .before .before .ds .kept .1 .1 .1 .1 .1 .0 ∙ c .before .before .before .before .before .before .before .before .before .before .before .indent-deeper .kept .0 ∙ c .before .before .before .before .before .before .before .before .before .before .before .before .before .before .before .before .word .kept .1 .1 .0
 
 ss-returns : (t : ℕ) → ss-lts.Need-returns (ss-claims t) (ss-at t) ss.Post
 unfolding StrExp.str-exp Helpers.with-extra-blank Helpers.indent-deeper Helpers.deepen
@@ -4645,7 +4646,7 @@ ss-word-requires-2 : (t : ℕ) → ss-lts.Need-word-requires-2 (ss-claims t) (ss
 ss-word-requires-2 t c κs = search needs
 
 ss-same-length-2 : (t : ℕ) → ss-lts.Need-same-length-2 (ss-claims t) (ss-at t) ss.Post
-ss-same-length-2 t c = c .before .before .word2 .kept .1 .1 .0 ∙ c .before .before .before .before .before .before .before .line .kept .1 .1 .0 ∙ c .before .before .before .before .before .before .before .before .before .before .before .before .before .before .before .before .ds .kept .1 .1 .1 .1 .1 .1 .0 ∙ c .before .before .before .before .before .before .before .before .before .before .before .before .before .before .before .before .before .before .before .before .before .before .indent-deeper .kept .0 ∙ c .before .before .before .before .before .before .before .before .before .before .before .before .before .before .before .before .before .before .before .before .before .before .before .before .before .before .before .word .kept .1 .1 .0
+ss-same-length-2 t c = c .before .before .word2 .kept .1 .1 .0 ∙ c .before .before .before .before .before .before .before .line .kept .1 .1 .0 ∙ c .before .before .before .before .before .before .before .before .before .before .before .before .before .before .before .before .ds .kept .1 .1 .1 .1 .1 .0 ∙ c .before .before .before .before .before .before .before .before .before .before .before .before .before .before .before .before .before .before .before .before .before .before .indent-deeper .kept .0 ∙ c .before .before .before .before .before .before .before .before .before .before .before .before .before .before .before .before .before .before .before .before .before .before .before .before .before .before .before .word .kept .1 .1 .0
 
 ss-returns-2 : (t : ℕ) → ss-lts.Need-returns-2 (ss-claims t) (ss-at t) ss.Post
 unfolding StrExp.str-exp Helpers.with-extra-blank Helpers.indent-deeper Helpers.deepen
@@ -4674,57 +4675,57 @@ str-returns-2 : (t : ℕ) → str-lts.Need-returns-2 (str-claims t) (str-at t) s
 unfolding StrExp.str-exps StrExp.str-exp
 str-returns-2 t c = record { is = str-form _ _ (c .before .before .before .before .if1 .left) (form-not (c .stop2 .ensures) (c .before .before .before .form .ensures) (c .before .enum-told .given .1)) }
 
-str-sub-t18 : (t : ℕ) → str-lts.Need-sub-t18 (str-claims t) (str-at t) str.Post
-str-sub-t18 t c = search needs
+str-sub-t17 : (t : ℕ) → str-lts.Need-sub-t17 (str-claims t) (str-at t) str.Post
+str-sub-t17 t c = search needs
 
 str-ss-requires : (t : ℕ) → str-lts.Need-ss-requires (str-claims t) (str-at t) str.Post
-str-ss-requires t c κs = omega (arith, c .before .before .before .before .before .before .before .before .before .before .before .before .before .before .pre .0, c .before .before .before .before .before .before .before .before .before .before .before .before .before .before .pre .1, c .before .before .before .before .before .before .before .if1 .left)
+str-ss-requires t c κs = omega (arith, c .before .before .before .before .before .before .before .before .before .before .before .pre .0, c .before .before .before .before .before .before .before .before .before .before .before .pre .1, c .before .before .before .before .before .before .before .if1 .left)
 
 str-path-requires : (t : ℕ) → str-lts.Need-path-requires (str-claims t) (str-at t) str.Post
 str-path-requires t c κs = search needs
 
 str-an-requires : (t : ℕ) → str-lts.Need-an-requires (str-claims t) (str-at t) str.Post
-str-an-requires t c κs = omega (arith, c .before .before .before .before .before .before .before .before .before .before .before .before .before .before .pre .0, c .before .before .before .before .before .before .before .before .before .before .before .before .before .before .pre .1, c .before .before .before .before .before .before .before .if1 .left)
+str-an-requires t c κs = omega (arith, c .before .before .before .before .before .before .before .before .before .before .before .pre .0, c .before .before .before .before .before .before .before .before .before .before .before .pre .1, c .before .before .before .before .before .before .before .if1 .left)
 
 str-sp-requires : (t : ℕ) → str-lts.Need-sp-requires (str-claims t) (str-at t) str.Post
-str-sp-requires t c κs = omega (arith, c .before .before .before .before .before .before .before .before .before .before .before .before .before .before .pre .0, c .before .before .before .before .before .before .before .before .before .before .before .before .before .before .pre .1, c .before .before .before .before .before .before .before .if1 .left)
+str-sp-requires t c κs = omega (arith, c .before .before .before .before .before .before .before .before .before .before .before .pre .0, c .before .before .before .before .before .before .before .before .before .before .before .pre .1, c .before .before .before .before .before .before .before .if1 .left)
 
 str-sl-requires : (t : ℕ) → str-lts.Need-sl-requires (str-claims t) (str-at t) str.Post
-str-sl-requires t c κs = omega (arith, c .before .before .before .before .before .before .before .before .before .before .before .before .before .before .pre .0, c .before .before .before .before .before .before .before .before .before .before .before .before .before .before .pre .1, c .before .before .before .before .before .before .before .if1 .left)
+str-sl-requires t c κs = omega (arith, c .before .before .before .before .before .before .before .before .before .before .before .pre .0, c .before .before .before .before .before .before .before .before .before .before .before .pre .1, c .before .before .before .before .before .before .before .if1 .left)
 
 str-stop-requires-3 : (t : ℕ) → str-lts.Need-stop-requires-3 (str-claims t) (str-at t) str.Post
 str-stop-requires-3 t c κs = search needs
 
 str-same-length : (t : ℕ) → str-lts.Need-same-length (str-claims t) (str-at t) str.Post
-str-same-length t c = c .before .before .ss .kept .1 .1 .1 .1 .1 .1 .0
+str-same-length t c = c .before .before .ss .kept .1 .1 .1 .1 .1 .0
 
 str-returns-3 : (t : ℕ) → str-lts.Need-returns-3 (str-claims t) (str-at t) str.Post
 unfolding StrExp.str-exps StrExp.str-exp
 str-returns-3 t c = record { is = str-form _ _ (c .before .before .before .before .before .before .before .before .before .before .if1 .left) (form-key (c .before .before .before .before .before .before .before .before .before .form .ensures) (c .before .before .before .before .before .before .before .k .given .1) (c .before .before .before .before .before .match2 .keys1) (c .before .before .ss .ensures .is)) }
 
 str-same-length-2 : (t : ℕ) → str-lts.Need-same-length-2 (str-claims t) (str-at t) str.Post
-str-same-length-2 t c = c .before .before .path .kept .1 .1 .1 .1 .1 .0
+str-same-length-2 t c = c .before .before .path .kept .1 .1 .1 .1 .0
 
 str-returns-4 : (t : ℕ) → str-lts.Need-returns-4 (str-claims t) (str-at t) str.Post
 unfolding StrExp.str-exps StrExp.str-exp
 str-returns-4 t c = record { is = str-form _ _ (c .before .before .before .before .before .before .before .before .before .before .if1 .left) (form-key (c .before .before .before .before .before .before .before .before .before .form .ensures) (c .before .before .before .before .before .before .before .k .given .1) (c .before .before .before .before .before .match2 .keys2) (plain (c .before .before .path .ensures))) }
 
 str-same-length-3 : (t : ℕ) → str-lts.Need-same-length-3 (str-claims t) (str-at t) str.Post
-str-same-length-3 t c = c .before .before .an .kept .1 .1 .1 .1 .1 .1 .0
+str-same-length-3 t c = c .before .before .an .kept .1 .1 .1 .1 .1 .0
 
 str-returns-5 : (t : ℕ) → str-lts.Need-returns-5 (str-claims t) (str-at t) str.Post
 unfolding StrExp.str-exps StrExp.str-exp
 str-returns-5 t c = record { is = str-form _ _ (c .before .before .before .before .before .before .before .before .before .before .if1 .left) (form-key (c .before .before .before .before .before .before .before .before .before .form .ensures) (c .before .before .before .before .before .before .before .k .given .1) (c .before .before .before .before .before .match2 .keys3) (c .before .before .an .ensures .is)) }
 
 str-same-length-4 : (t : ℕ) → str-lts.Need-same-length-4 (str-claims t) (str-at t) str.Post
-str-same-length-4 t c = c .before .before .sp .kept .1 .1 .1 .1 .1 .1 .0
+str-same-length-4 t c = c .before .before .sp .kept .1 .1 .1 .1 .1 .0
 
 str-returns-6 : (t : ℕ) → str-lts.Need-returns-6 (str-claims t) (str-at t) str.Post
 unfolding StrExp.str-exps StrExp.str-exp
 str-returns-6 t c = record { is = str-form _ _ (c .before .before .before .before .before .before .before .before .before .before .if1 .left) (form-key (c .before .before .before .before .before .before .before .before .before .form .ensures) (c .before .before .before .before .before .before .before .k .given .1) (c .before .before .before .before .before .match2 .keys4) (c .before .before .sp .ensures .is)) }
 
 str-same-length-5 : (t : ℕ) → str-lts.Need-same-length-5 (str-claims t) (str-at t) str.Post
-str-same-length-5 t c = c .before .before .sl .kept .1 .1 .1 .1 .1 .1 .0
+str-same-length-5 t c = c .before .before .sl .kept .1 .1 .1 .1 .1 .0
 
 str-returns-7 : (t : ℕ) → str-lts.Need-returns-7 (str-claims t) (str-at t) str.Post
 unfolding StrExp.str-exps StrExp.str-exp
@@ -4732,7 +4733,7 @@ str-returns-7 t c = record { is = str-form _ _ (c .before .before .before .befor
 
 str-returns-8 : (t : ℕ) → str-lts.Need-returns-8 (str-claims t) (str-at t) str.Post
 unfolding StrExp.str-exps StrExp.str-exp
-str-returns-8 t c = record { is = str-form _ _ (c .before .before .before .before .before .before .if1 .left) (by-same (form-is (c .before .before .before .before .before .form .ensures) (c .before .before .before .k .given .1)) (beyond (StrExp.str-exps (walks (c .before .before .before .before .before .before .before .before .before .before .before .before .before .args .cfg .nesting - 1)) (cfgOf (c .before .before .before .before .before .before .before .before .before .before .before .before .before .args .cfg))) (c .before .before .before .k .given .0 .0) 5 refl (past (past (past (past (past zero-le (c .before .match2 .rest .0 .0 .0 .0 .1)) (c .before .match2 .rest .0 .0 .0 .1)) (c .before .match2 .rest .0 .0 .1)) (c .before .match2 .rest .0 .1)) (c .before .match2 .rest .1)) (c .stop3 .ensures))) }
+str-returns-8 t c = record { is = str-form _ _ (c .before .before .before .before .before .before .if1 .left) (by-same (form-is (c .before .before .before .before .before .form .ensures) (c .before .before .before .k .given .1)) (beyond (StrExp.str-exps (walks (c .before .before .before .before .before .before .before .before .before .before .args .cfg .nesting - 1)) (cfgOf (c .before .before .before .before .before .before .before .before .before .before .args .cfg))) (c .before .before .before .k .given .0 .0) 5 refl (past (past (past (past (past zero-le (c .before .match2 .rest .0 .0 .0 .0 .1)) (c .before .match2 .rest .0 .0 .0 .1)) (c .before .match2 .rest .0 .0 .1)) (c .before .match2 .rest .0 .1)) (c .before .match2 .rest .1)) (c .stop3 .ensures))) }
 
 ta-group-requires : (t : ℕ) → ta-lts.Need-group-requires (ta-claims t) (ta-at t) ta.Post
 ta-group-requires t c κs = search needs
@@ -4766,7 +4767,7 @@ ta-enum-told-2 : (t : ℕ) → ta-lts.Need-enum-told-2 (ta-claims t) (ta-at t) t
 ta-enum-told-2 t c = search needs
 
 ta-same-length : (t : ℕ) → ta-lts.Need-same-length (ta-claims t) (ta-at t) ta.Post
-ta-same-length t c = c .before .before .before .before .before .text-of .kept .1 .1 .1 .1 .1 .0 ∙ c .before .before .before .before .before .before .before .before .before .before .word .kept .1 .1 .0
+ta-same-length t c = c .before .before .before .before .before .text-of .kept .1 .1 .1 .1 .0 ∙ c .before .before .before .before .before .before .before .before .before .before .word .kept .1 .1 .0
 
 ta-returns-2 : (t : ℕ) → ta-lts.Need-returns-2 (ta-claims t) (ta-at t) ta.Post
 unfolding SigExp.ascription-tail
@@ -4776,17 +4777,17 @@ ta-word-requires-2 : (t : ℕ) → ta-lts.Need-word-requires-2 (ta-claims t) (ta
 ta-word-requires-2 t c κs = search needs
 
 ta-sig-requires : (t : ℕ) → ta-lts.Need-sig-requires (ta-claims t) (ta-at t) ta.Post
-ta-sig-requires t c κs = omega (arith, c .before .before .before .before .before .before .before .before .before .before .before .before .before .before .before .before .before .before .before .before .before .before .before .before .before .before .before .before .before .before .before .before .pre .0, c .before .before .before .before .before .before .before .before .before .before .before .before .before .before .before .before .before .before .before .before .before .before .before .before .before .before .before .before .before .before .before .before .pre .1)
+ta-sig-requires t c κs = omega (arith, c .before .before .before .before .before .before .before .before .before .before .before .before .before .before .before .before .before .before .before .before .before .before .before .before .before .before .before .before .before .pre .0, c .before .before .before .before .before .before .before .before .before .before .before .before .before .before .before .before .before .before .before .before .before .before .before .before .before .before .before .before .before .pre .1)
 
 ta-same-length-2 : (t : ℕ) → ta-lts.Need-same-length-2 (ta-claims t) (ta-at t) ta.Post
-ta-same-length-2 t c = c .before .before .sig .kept .1 .1 .1 .1 .1 .1 .0 ∙ c .before .before .before .before .before .before .before .word2 .kept .1 .1 .0 ∙ c .before .before .before .before .before .before .before .before .before .before .before .before .before .before .before .before .text-of .kept .1 .1 .1 .1 .1 .0 ∙ c .before .before .before .before .before .before .before .before .before .before .before .before .before .before .before .before .before .before .before .before .before .word .kept .1 .1 .0
+ta-same-length-2 t c = c .before .before .sig .kept .1 .1 .1 .1 .1 .0 ∙ c .before .before .before .before .before .before .before .word2 .kept .1 .1 .0 ∙ c .before .before .before .before .before .before .before .before .before .before .before .before .before .before .before .before .text-of .kept .1 .1 .1 .1 .0 ∙ c .before .before .before .before .before .before .before .before .before .before .before .before .before .before .before .before .before .before .before .before .before .word .kept .1 .1 .0
 
 ta-returns-3 : (t : ℕ) → ta-lts.Need-returns-3 (ta-claims t) (ta-at t) ta.Post
 unfolding SigExp.ascription-tail
 ta-returns-3 t c = record { is = by-same (group-is (c .before .before .before .before .before .before .before .before .before .before .before .before .before .before .before .before .before .before .before .before .before .before .before .before .before .before .before .before .group .ensures) (c .before .before .before .before .before .before .before .before .before .before .before .before .before .before .before .before .before .before .before .before .before .before .before .before .before .before .before .told .ensures) (c .before .before .before .before .before .before .before .before .before .before .before .before .before .before .before .before .before .before .before .before .before .before .before .before .before .s1 .given .1)) (then-sure (c .before .before .before .before .before .before .before .before .before .before .before .before .before .before .before .before .before .before .before .before .before .word .ensures) (then-done (plain (c .before .before .before .before .before .before .before .before .before .before .before .before .before .before .before .before .text-of .ensures)) (c .before .before .before .before .before .before .before .before .before .before .before .before .before .told2 .ensures) (c .before .before .before .before .before .before .before .before .before .before .before .s2 .given .1) (then-sure (c .before .before .before .before .before .before .before .word2 .ensures) (c .before .before .sig .ensures .is)))) }
 
 ty-exp-requires : (t : ℕ) → ty-lts.Need-exp-requires (ty-claims t) (ty-at t) ty.Post
-ty-exp-requires t c κs = omega (arith, c .before .before .before .before .before .before .before .before .pre .0, c .before .before .before .before .before .before .before .before .pre .1)
+ty-exp-requires t c κs = omega (arith, c .before .before .before .before .before .pre .0, c .before .before .before .before .before .pre .1)
 
 ty-told-requires : (t : ℕ) → ty-lts.Need-told-requires (ty-claims t) (ty-at t) ty.Post
 ty-told-requires t c κs = search needs
@@ -4798,7 +4799,7 @@ ty-enum-told : (t : ℕ) → ty-lts.Need-enum-told (ty-claims t) (ty-at t) ty.Po
 ty-enum-told t c = search needs
 
 ty-same-length : (t : ℕ) → ty-lts.Need-same-length (ty-claims t) (ty-at t) ty.Post
-ty-same-length t c = c .before .before .before .before .before .exp .kept .1 .1 .1 .1 .1 .1 .0
+ty-same-length t c = c .before .before .before .before .before .exp .kept .1 .1 .1 .1 .1 .0
 
 ty-returns : (t : ℕ) → ty-lts.Need-returns (ty-claims t) (ty-at t) ty.Post
 unfolding Exp.exp
@@ -4811,7 +4812,7 @@ ty-get-ty-requires : (t : ℕ) → ty-lts.Need-get-ty-requires (ty-claims t) (ty
 ty-get-ty-requires t c κs = search needs
 
 ty-same-length-2 : (t : ℕ) → ty-lts.Need-same-length-2 (ty-claims t) (ty-at t) ty.Post
-ty-same-length-2 t c = c .before .before .get-ty .kept .1 .1 .1 .1 .1 .0 ∙ c .before .before .before .before .before .before .before .word .kept .1 .1 .0 ∙ c .before .before .before .before .before .before .before .before .before .before .before .before .before .before .before .before .exp .kept .1 .1 .1 .1 .1 .1 .0
+ty-same-length-2 t c = c .before .before .get-ty .kept .1 .1 .1 .1 .0 ∙ c .before .before .before .before .before .before .before .word .kept .1 .1 .0 ∙ c .before .before .before .before .before .before .before .before .before .before .before .before .before .before .before .before .exp .kept .1 .1 .1 .1 .1 .0
 
 ty-returns-2 : (t : ℕ) → ty-lts.Need-returns-2 (ty-claims t) (ty-at t) ty.Post
 unfolding Exp.exp
@@ -4846,7 +4847,7 @@ vb-enum-told-2 : (t : ℕ) → vb-lts.Need-enum-told-2 (vb-claims t) (vb-at t) v
 vb-enum-told-2 t c = search needs
 
 vb-same-length : (t : ℕ) → vb-lts.Need-same-length (vb-claims t) (vb-at t) vb.Post
-vb-same-length t c = c .before .before .before .before .before .word-if .kept .1 .1 .1 .1 .1 .0
+vb-same-length t c = c .before .before .before .before .before .word-if .kept .1 .1 .1 .1 .0
 
 vb-returns-2 : (t : ℕ) → vb-lts.Need-returns-2 (vb-claims t) (vb-at t) vb.Post
 unfolding DecOne.val-bind
@@ -4865,28 +4866,28 @@ vb-enum-told-3 : (t : ℕ) → vb-lts.Need-enum-told-3 (vb-claims t) (vb-at t) v
 vb-enum-told-3 t c = search needs
 
 vb-same-length-2 : (t : ℕ) → vb-lts.Need-same-length-2 (vb-claims t) (vb-at t) vb.Post
-vb-same-length-2 t c = c .before .before .before .before .before .get-pat .kept .1 .1 .1 .1 .1 .0 ∙ c .before .before .before .before .before .before .before .before .before .before .before .before .before .before .word-if .kept .1 .1 .1 .1 .1 .0
+vb-same-length-2 t c = c .before .before .before .before .before .get-pat .kept .1 .1 .1 .1 .0 ∙ c .before .before .before .before .before .before .before .before .before .before .before .before .before .before .word-if .kept .1 .1 .1 .1 .0
 
 vb-returns-3 : (t : ℕ) → vb-lts.Need-returns-3 (vb-claims t) (vb-at t) vb.Post
 unfolding DecOne.val-bind
 vb-returns-3 t c = record { is = by-same (group-is (c .before .before .before .before .before .before .before .before .before .before .before .before .before .before .before .before .before .before .before .before .before .group .ensures) (c .before .before .before .before .before .before .before .before .before .before .before .before .before .before .before .before .before .before .before .before .told .ensures) (c .before .before .before .before .before .before .before .before .before .before .before .before .before .before .before .before .before .before .s1 .given .1)) (then-done (plain (c .before .before .before .before .before .before .before .before .before .before .before .before .before .before .word-if .ensures)) (c .before .before .before .before .before .before .before .before .before .before .before .told2 .ensures) (c .before .before .before .before .before .before .before .before .before .s2 .given .1) (then-stop (plain (c .before .before .before .before .before .get-pat .ensures)) (c .before .before .told3 .ensures) (c .enum-told3 .given .1))) }
 
 vb-qb-requires : (t : ℕ) → vb-lts.Need-qb-requires (vb-claims t) (vb-at t) vb.Post
-vb-qb-requires t c κs = omega (arith, c .before .before .before .before .before .before .before .before .before .before .before .before .before .before .before .before .before .before .before .before .before .before .before .before .before .before .before .before .before .before .before .pre .0, c .before .before .before .before .before .before .before .before .before .before .before .before .before .before .before .before .before .before .before .before .before .before .before .before .before .before .before .before .before .before .before .pre .1)
+vb-qb-requires t c κs = omega (arith, c .before .before .before .before .before .before .before .before .before .before .before .before .before .before .before .before .before .before .before .before .before .before .before .before .before .before .before .before .pre .0, c .before .before .before .before .before .before .before .before .before .before .before .before .before .before .before .before .before .before .before .before .before .before .before .before .before .before .before .before .pre .1)
 
 vb-same-length-3 : (t : ℕ) → vb-lts.Need-same-length-3 (vb-claims t) (vb-at t) vb.Post
-vb-same-length-3 t c = c .before .before .qb .kept .1 .1 .1 .1 .1 .1 .0 ∙ c .before .before .before .before .before .before .before .before .before .before .before .get-pat .kept .1 .1 .1 .1 .1 .0 ∙ c .before .before .before .before .before .before .before .before .before .before .before .before .before .before .before .before .before .before .before .before .word-if .kept .1 .1 .1 .1 .1 .0
+vb-same-length-3 t c = c .before .before .qb .kept .1 .1 .1 .1 .1 .0 ∙ c .before .before .before .before .before .before .before .before .before .before .before .get-pat .kept .1 .1 .1 .1 .0 ∙ c .before .before .before .before .before .before .before .before .before .before .before .before .before .before .before .before .before .before .before .before .word-if .kept .1 .1 .1 .1 .0
 
 vb-returns-4 : (t : ℕ) → vb-lts.Need-returns-4 (vb-claims t) (vb-at t) vb.Post
 unfolding DecOne.val-bind
 vb-returns-4 t c = record { is = by-same (group-is (c .before .before .before .before .before .before .before .before .before .before .before .before .before .before .before .before .before .before .before .before .before .before .before .before .before .before .before .group .ensures) (c .before .before .before .before .before .before .before .before .before .before .before .before .before .before .before .before .before .before .before .before .before .before .before .before .before .before .told .ensures) (c .before .before .before .before .before .before .before .before .before .before .before .before .before .before .before .before .before .before .before .before .before .before .before .before .s1 .given .1)) (then-done (plain (c .before .before .before .before .before .before .before .before .before .before .before .before .before .before .before .before .before .before .before .before .word-if .ensures)) (c .before .before .before .before .before .before .before .before .before .before .before .before .before .before .before .before .before .told2 .ensures) (c .before .before .before .before .before .before .before .before .before .before .before .before .before .before .before .s2 .given .1) (then-done (plain (c .before .before .before .before .before .before .before .before .before .before .before .get-pat .ensures)) (c .before .before .before .before .before .before .before .before .told3 .ensures) (c .before .before .before .before .before .before .s3 .given .1) (c .before .before .qb .ensures .is))) }
 
 abbrev vd-Inv-loop : vd-lts.InvT-loop
-vd-Inv-loop run text rec kinds starts lens out₀ mem₀ at cfg n s1 s₀ i₀ out mem s i =
-    Turn run (page text rec kinds starts lens) (from (Helpers.new-line (cfgOf cfg) "and ") (DecOne.val-bind (walks (cfg .nesting)) (cfgOf cfg))) n s₀ mem₀ out₀ i s mem out
+vd-Inv-loop run text rec kinds spans out₀ mem₀ at cfg n s1 s₀ i₀ out mem s i =
+    Turn run (pageAt text rec kinds spans) (from (Helpers.new-line (cfgOf cfg) "and ") (DecOne.val-bind (walks (cfg .nesting)) (cfgOf cfg))) n s₀ mem₀ out₀ i s mem out
 
 abbrev vd-μ-loop : vd-lts.MeasureT-loop
-vd-μ-loop run text rec kinds starts lens out₀ mem₀ at cfg n s1 s₀ i₀ out mem s i = n - i
+vd-μ-loop run text rec kinds spans out₀ mem₀ at cfg n s1 s₀ i₀ out mem s i = n - i
 
 vd-word-requires : (t : ℕ) → vd-lts.Need-word-requires (vd-claims t) (vd-at t) vd.Post vd-Inv-loop vd-μ-loop
 vd-word-requires t c κs = search needs
@@ -4917,7 +4918,7 @@ vd-new-line-requires : (t : ℕ) → vd-lts.Need-new-line-requires (vd-claims t)
 vd-new-line-requires t c κs = search needs
 
 vd-vb-requires : (t : ℕ) → vd-lts.Need-vb-requires (vd-claims t) (vd-at t) vd.Post vd-Inv-loop vd-μ-loop
-vd-vb-requires t c κs = omega (arith, c .before .before .before .before .before .before .before .before .before .before .before .before .before .before .before .before .before .before .before .before .before .before .before .before .pre .0, c .before .before .before .before .before .before .before .before .before .before .before .before .before .before .before .before .before .before .before .before .before .before .before .before .pre .1)
+vd-vb-requires t c κs = omega (arith, c .before .before .before .before .before .before .before .before .before .before .before .before .before .before .before .before .before .before .before .before .before .pre .0, c .before .before .before .before .before .before .before .before .before .before .before .before .before .before .before .before .before .before .before .before .before .pre .1)
 
 vd-told-requires : (t : ℕ) → vd-lts.Need-told-requires (vd-claims t) (vd-at t) vd.Post vd-Inv-loop vd-μ-loop
 vd-told-requires t c κs = search needs
@@ -4929,7 +4930,7 @@ vd-enum-told-2 : (t : ℕ) → vd-lts.Need-enum-told-2 (vd-claims t) (vd-at t) v
 vd-enum-told-2 t c = search needs
 
 vd-same-length-2 : (t : ℕ) → vd-lts.Need-same-length-2 (vd-claims t) (vd-at t) vd.Post vd-Inv-loop vd-μ-loop
-vd-same-length-2 t c = c .before .before .before .before .before .vb .kept .1 .1 .1 .1 .1 .1 .0 ∙ c .before .before .before .before .before .before .before .before .before .before .new-line .kept .1 .1 .0 ∙ c .before .before .before .before .before .before .before .before .before .before .before .before .before .before .loop .inv .2 ∙ c .before .before .before .before .before .before .before .before .before .before .before .before .before .before .before .before .before .before .before .before .before .word .kept .1 .1 .0
+vd-same-length-2 t c = c .before .before .before .before .before .vb .kept .1 .1 .1 .1 .1 .0 ∙ c .before .before .before .before .before .before .before .before .before .before .new-line .kept .1 .1 .0 ∙ c .before .before .before .before .before .before .before .before .before .before .before .before .before .before .loop .inv .2 ∙ c .before .before .before .before .before .before .before .before .before .before .before .before .before .before .before .before .before .before .before .before .before .word .kept .1 .1 .0
 
 vd-returns-2 : (t : ℕ) → vd-lts.Need-returns-2 (vd-claims t) (vd-at t) vd.Post vd-Inv-loop vd-μ-loop
 unfolding DecOne.dec-one DecOne.val-binds Helpers.sep-with-lines
@@ -4943,7 +4944,7 @@ vd-loop-less t c = omega arith
 
 vd-loop-again : (t : ℕ) → vd-lts.Need-loop-again (vd-claims t) (vd-at t) vd.Post vd-Inv-loop vd-μ-loop
 unfolding DecOne.dec-one DecOne.val-binds Helpers.sep-with-lines
-vd-loop-again t c = (omega (arith, c .before .before .before .before .before .before .before .before .before .before .before .before .before .before .before .loop .inv .0), λ r m o h. c .before .before .before .before .before .before .before .before .before .before .before .before .before .before .before .loop .inv .1 r m o (from-more _ _ (c .before .before .before .before .before .before .before .before .before .before .before .before .before .before .loop-test .taken) (then-sure (c .before .before .before .before .before .before .before .before .before .before .before .new-line .ensures) (then-done (c .before .before .before .before .before .before .vb .ensures .is) (c .before .before .before .told .ensures) (c .before .s2 .given .1) h))), c .before .before .before .before .before .before .vb .kept .1 .1 .1 .1 .1 .1 .0 ∙ c .before .before .before .before .before .before .before .before .before .before .before .new-line .kept .1 .1 .0 ∙ c .before .before .before .before .before .before .before .before .before .before .before .before .before .before .before .loop .inv .2)
+vd-loop-again t c = (omega (arith, c .before .before .before .before .before .before .before .before .before .before .before .before .before .before .before .loop .inv .0), λ r m o h. c .before .before .before .before .before .before .before .before .before .before .before .before .before .before .before .loop .inv .1 r m o (from-more _ _ (c .before .before .before .before .before .before .before .before .before .before .before .before .before .before .loop-test .taken) (then-sure (c .before .before .before .before .before .before .before .before .before .before .before .new-line .ensures) (then-done (c .before .before .before .before .before .before .vb .ensures .is) (c .before .before .before .told .ensures) (c .before .s2 .given .1) h))), c .before .before .before .before .before .before .vb .kept .1 .1 .1 .1 .1 .0 ∙ c .before .before .before .before .before .before .before .before .before .before .before .new-line .kept .1 .1 .0 ∙ c .before .before .before .before .before .before .before .before .before .before .before .before .before .before .before .loop .inv .2)
 
 vd-same-length-3 : (t : ℕ) → vd-lts.Need-same-length-3 (vd-claims t) (vd-at t) vd.Post vd-Inv-loop vd-μ-loop
 vd-same-length-3 t c = c .before .loop .inv .2 ∙ c .before .before .before .before .before .before .before .before .word .kept .1 .1 .0
@@ -4975,7 +4976,7 @@ unfolding Exp.exp
 ve-returns t c = record { is = then-sure (c .before .before .before .before .before .before .word .ensures) (then-stop (group-not (c .before .before .before .group .ensures) (c .before .before .told .ensures) (c .enum-told .given .1)) (c .before .before .told .ensures) (c .enum-told .given .1)) }
 
 ve-ar-requires : (t : ℕ) → ve-lts.Need-ar-requires (ve-claims t) (ve-at t) ve.Post
-ve-ar-requires t c κs = omega (arith, c .before .before .before .before .before .before .before .before .before .before .before .before .before .before .before .before .before .before .pre .0, c .before .before .before .before .before .before .before .before .before .before .before .before .before .before .before .before .before .before .pre .1)
+ve-ar-requires t c κs = omega (arith, c .before .before .before .before .before .before .before .before .before .before .before .before .before .before .before .pre .0, c .before .before .before .before .before .before .before .before .before .before .before .before .before .before .before .pre .1)
 
 ve-told-requires-2 : (t : ℕ) → ve-lts.Need-told-requires-2 (ve-claims t) (ve-at t) ve.Post
 ve-told-requires-2 t c κs = search needs
@@ -4987,7 +4988,7 @@ ve-enum-told-2 : (t : ℕ) → ve-lts.Need-enum-told-2 (ve-claims t) (ve-at t) v
 ve-enum-told-2 t c = search needs
 
 ve-same-length-2 : (t : ℕ) → ve-lts.Need-same-length-2 (ve-claims t) (ve-at t) ve.Post
-ve-same-length-2 t c = c .before .before .before .before .before .ar .kept .1 .1 .1 .1 .1 .1 .0 ∙ c .before .before .before .before .before .before .before .before .before .before .before .before .before .before .before .word .kept .1 .1 .0
+ve-same-length-2 t c = c .before .before .before .before .before .ar .kept .1 .1 .1 .1 .1 .0 ∙ c .before .before .before .before .before .before .before .before .before .before .before .before .before .before .before .word .kept .1 .1 .0
 
 ve-returns-2 : (t : ℕ) → ve-lts.Need-returns-2 (ve-claims t) (ve-at t) ve.Post
 unfolding Exp.exp
@@ -4997,7 +4998,7 @@ ve-word-requires-2 : (t : ℕ) → ve-lts.Need-word-requires-2 (ve-claims t) (ve
 ve-word-requires-2 t c κs = search needs
 
 ve-same-length-3 : (t : ℕ) → ve-lts.Need-same-length-3 (ve-claims t) (ve-at t) ve.Post
-ve-same-length-3 t c = c .before .before .word2 .kept .1 .1 .0 ∙ c .before .before .before .before .before .before .before .before .before .before .before .ar .kept .1 .1 .1 .1 .1 .1 .0 ∙ c .before .before .before .before .before .before .before .before .before .before .before .before .before .before .before .before .before .before .before .before .before .word .kept .1 .1 .0
+ve-same-length-3 t c = c .before .before .word2 .kept .1 .1 .0 ∙ c .before .before .before .before .before .before .before .before .before .before .before .ar .kept .1 .1 .1 .1 .1 .0 ∙ c .before .before .before .before .before .before .before .before .before .before .before .before .before .before .before .before .before .before .before .before .before .word .kept .1 .1 .0
 
 ve-returns-3 : (t : ℕ) → ve-lts.Need-returns-3 (ve-claims t) (ve-at t) ve.Post
 unfolding Exp.exp
@@ -5007,17 +5008,17 @@ wh-word-requires : (t : ℕ) → wh-lts.Need-word-requires (wh-claims t) (wh-at 
 wh-word-requires t c κs = search needs
 
 wh-du-requires : (t : ℕ) → wh-lts.Need-du-requires (wh-claims t) (wh-at t) wh.Post
-wh-du-requires t c κs = omega (arith, c .before .before .before .before .before .before .before .before .before .before .before .before .before .pre .0, c .before .before .before .before .before .before .before .before .before .before .before .before .before .pre .1)
+wh-du-requires t c κs = omega (arith, c .before .before .before .before .before .before .before .before .before .before .pre .0, c .before .before .before .before .before .before .before .before .before .before .pre .1)
 
 wh-same-length : (t : ℕ) → wh-lts.Need-same-length (wh-claims t) (wh-at t) wh.Post
-wh-same-length t c = c .before .before .du .kept .1 .1 .1 .1 .1 .1 .0 ∙ c .before .before .before .before .before .before .before .word .kept .1 .1 .0
+wh-same-length t c = c .before .before .du .kept .1 .1 .1 .1 .1 .0 ∙ c .before .before .before .before .before .before .before .word .kept .1 .1 .0
 
 wh-returns : (t : ℕ) → wh-lts.Need-returns (wh-claims t) (wh-at t) wh.Post
 unfolding Exp.exp
 wh-returns t c = record { is = then-sure (c .before .before .before .before .before .before .before .word .ensures) (c .before .before .du .ensures .is) }
 
 wr-sig-requires : (t : ℕ) → wr-lts.Need-sig-requires (wr-claims t) (wr-at t) wr.Post
-wr-sig-requires t c κs = omega (arith, c .before .before .before .before .before .before .before .before .pre .0, c .before .before .before .before .before .before .before .before .pre .1)
+wr-sig-requires t c κs = omega (arith, c .before .before .before .before .before .pre .0, c .before .before .before .before .before .pre .1)
 
 wr-told-requires : (t : ℕ) → wr-lts.Need-told-requires (wr-claims t) (wr-at t) wr.Post
 wr-told-requires t c κs = search needs
@@ -5029,7 +5030,7 @@ wr-enum-told : (t : ℕ) → wr-lts.Need-enum-told (wr-claims t) (wr-at t) wr.Po
 wr-enum-told t c = search needs
 
 wr-same-length : (t : ℕ) → wr-lts.Need-same-length (wr-claims t) (wr-at t) wr.Post
-wr-same-length t c = c .before .before .before .before .before .sig .kept .1 .1 .1 .1 .1 .1 .0
+wr-same-length t c = c .before .before .before .before .before .sig .kept .1 .1 .1 .1 .1 .0
 
 wr-returns : (t : ℕ) → wr-lts.Need-returns (wr-claims t) (wr-at t) wr.Post
 unfolding SigExp.sig-exp
@@ -5051,7 +5052,7 @@ wr-enum-told-2 : (t : ℕ) → wr-lts.Need-enum-told-2 (wr-claims t) (wr-at t) w
 wr-enum-told-2 t c = search needs
 
 wr-same-length-2 : (t : ℕ) → wr-lts.Need-same-length-2 (wr-claims t) (wr-at t) wr.Post
-wr-same-length-2 t c = c .before .before .before .before .before .path .kept .1 .1 .1 .1 .1 .0 ∙ c .before .before .before .before .before .before .before .before .before .before .word .kept .1 .1 .0 ∙ c .before .before .before .before .before .before .before .before .before .before .before .before .before .before .before .before .before .before .before .sig .kept .1 .1 .1 .1 .1 .1 .0
+wr-same-length-2 t c = c .before .before .before .before .before .path .kept .1 .1 .1 .1 .0 ∙ c .before .before .before .before .before .before .before .before .before .before .word .kept .1 .1 .0 ∙ c .before .before .before .before .before .before .before .before .before .before .before .before .before .before .before .before .before .before .before .sig .kept .1 .1 .1 .1 .1 .0
 
 wr-returns-2 : (t : ℕ) → wr-lts.Need-returns-2 (wr-claims t) (wr-at t) wr.Post
 unfolding SigExp.sig-exp
@@ -5064,14 +5065,14 @@ wr-path-requires-2 : (t : ℕ) → wr-lts.Need-path-requires-2 (wr-claims t) (wr
 wr-path-requires-2 t c κs = search needs
 
 wr-same-length-3 : (t : ℕ) → wr-lts.Need-same-length-3 (wr-claims t) (wr-at t) wr.Post
-wr-same-length-3 t c = c .before .before .path2 .kept .1 .1 .1 .1 .1 .0 ∙ c .before .before .before .before .before .before .before .word2 .kept .1 .1 .0 ∙ c .before .before .before .before .before .before .before .before .before .before .before .before .before .before .before .before .path .kept .1 .1 .1 .1 .1 .0 ∙ c .before .before .before .before .before .before .before .before .before .before .before .before .before .before .before .before .before .before .before .before .before .word .kept .1 .1 .0 ∙ c .before .before .before .before .before .before .before .before .before .before .before .before .before .before .before .before .before .before .before .before .before .before .before .before .before .before .before .before .before .before .sig .kept .1 .1 .1 .1 .1 .1 .0
+wr-same-length-3 t c = c .before .before .path2 .kept .1 .1 .1 .1 .0 ∙ c .before .before .before .before .before .before .before .word2 .kept .1 .1 .0 ∙ c .before .before .before .before .before .before .before .before .before .before .before .before .before .before .before .before .path .kept .1 .1 .1 .1 .0 ∙ c .before .before .before .before .before .before .before .before .before .before .before .before .before .before .before .before .before .before .before .before .before .word .kept .1 .1 .0 ∙ c .before .before .before .before .before .before .before .before .before .before .before .before .before .before .before .before .before .before .before .before .before .before .before .before .before .before .before .before .before .before .sig .kept .1 .1 .1 .1 .1 .0
 
 wr-returns-3 : (t : ℕ) → wr-lts.Need-returns-3 (wr-claims t) (wr-at t) wr.Post
 unfolding SigExp.sig-exp
 wr-returns-3 t c = record { is = then-done (c .before .before .before .before .before .before .before .before .before .before .before .before .before .before .before .before .before .before .before .before .before .before .before .before .before .before .before .before .before .before .sig .ensures .is) (c .before .before .before .before .before .before .before .before .before .before .before .before .before .before .before .before .before .before .before .before .before .before .before .before .before .before .before .told .ensures) (c .before .before .before .before .before .before .before .before .before .before .before .before .before .before .before .before .before .before .before .before .before .before .before .before .before .s1 .given .1) (then-sure (c .before .before .before .before .before .before .before .before .before .before .before .before .before .before .before .before .before .before .before .before .before .word .ensures) (then-done (plain (c .before .before .before .before .before .before .before .before .before .before .before .before .before .before .before .before .path .ensures)) (c .before .before .before .before .before .before .before .before .before .before .before .before .before .told2 .ensures) (c .before .before .before .before .before .before .before .before .before .before .before .s2 .given .1) (then-sure (c .before .before .before .before .before .before .before .word2 .ensures) (plain (c .before .before .path2 .ensures))))) }
 
 wt-sig-requires : (t : ℕ) → wt-lts.Need-sig-requires (wt-claims t) (wt-at t) wt.Post
-wt-sig-requires t c κs = omega (arith, c .before .before .before .before .before .before .before .before .pre .0, c .before .before .before .before .before .before .before .before .pre .1)
+wt-sig-requires t c κs = omega (arith, c .before .before .before .before .before .pre .0, c .before .before .before .before .before .pre .1)
 
 wt-told-requires : (t : ℕ) → wt-lts.Need-told-requires (wt-claims t) (wt-at t) wt.Post
 wt-told-requires t c κs = search needs
@@ -5083,7 +5084,7 @@ wt-enum-told : (t : ℕ) → wt-lts.Need-enum-told (wt-claims t) (wt-at t) wt.Po
 wt-enum-told t c = search needs
 
 wt-same-length : (t : ℕ) → wt-lts.Need-same-length (wt-claims t) (wt-at t) wt.Post
-wt-same-length t c = c .before .before .before .before .before .sig .kept .1 .1 .1 .1 .1 .1 .0
+wt-same-length t c = c .before .before .before .before .before .sig .kept .1 .1 .1 .1 .1 .0
 
 wt-returns : (t : ℕ) → wt-lts.Need-returns (wt-claims t) (wt-at t) wt.Post
 unfolding SigExp.sig-exp
@@ -5105,7 +5106,7 @@ wt-enum-told-2 : (t : ℕ) → wt-lts.Need-enum-told-2 (wt-claims t) (wt-at t) w
 wt-enum-told-2 t c = search needs
 
 wt-same-length-2 : (t : ℕ) → wt-lts.Need-same-length-2 (wt-claims t) (wt-at t) wt.Post
-wt-same-length-2 t c = c .before .before .before .before .before .ty-var-seq .kept .1 .1 .1 .1 .1 .0 ∙ c .before .before .before .before .before .before .before .before .before .before .word .kept .1 .1 .0 ∙ c .before .before .before .before .before .before .before .before .before .before .before .before .before .before .before .before .before .before .before .sig .kept .1 .1 .1 .1 .1 .1 .0
+wt-same-length-2 t c = c .before .before .before .before .before .ty-var-seq .kept .1 .1 .1 .1 .0 ∙ c .before .before .before .before .before .before .before .before .before .before .word .kept .1 .1 .0 ∙ c .before .before .before .before .before .before .before .before .before .before .before .before .before .before .before .before .before .before .before .sig .kept .1 .1 .1 .1 .1 .0
 
 wt-returns-2 : (t : ℕ) → wt-lts.Need-returns-2 (wt-claims t) (wt-at t) wt.Post
 unfolding SigExp.sig-exp
@@ -5124,7 +5125,7 @@ wt-enum-told-3 : (t : ℕ) → wt-lts.Need-enum-told-3 (wt-claims t) (wt-at t) w
 wt-enum-told-3 t c = search needs
 
 wt-same-length-3 : (t : ℕ) → wt-lts.Need-same-length-3 (wt-claims t) (wt-at t) wt.Post
-wt-same-length-3 t c = c .before .before .before .before .before .path .kept .1 .1 .1 .1 .1 .0 ∙ c .before .before .before .before .before .before .before .before .before .before .before .before .before .before .ty-var-seq .kept .1 .1 .1 .1 .1 .0 ∙ c .before .before .before .before .before .before .before .before .before .before .before .before .before .before .before .before .before .before .before .word .kept .1 .1 .0 ∙ c .before .before .before .before .before .before .before .before .before .before .before .before .before .before .before .before .before .before .before .before .before .before .before .before .before .before .before .before .sig .kept .1 .1 .1 .1 .1 .1 .0
+wt-same-length-3 t c = c .before .before .before .before .before .path .kept .1 .1 .1 .1 .0 ∙ c .before .before .before .before .before .before .before .before .before .before .before .before .before .before .ty-var-seq .kept .1 .1 .1 .1 .0 ∙ c .before .before .before .before .before .before .before .before .before .before .before .before .before .before .before .before .before .before .before .word .kept .1 .1 .0 ∙ c .before .before .before .before .before .before .before .before .before .before .before .before .before .before .before .before .before .before .before .before .before .before .before .before .before .before .before .before .sig .kept .1 .1 .1 .1 .1 .0
 
 wt-returns-3 : (t : ℕ) → wt-lts.Need-returns-3 (wt-claims t) (wt-at t) wt.Post
 unfolding SigExp.sig-exp
@@ -5137,7 +5138,7 @@ wt-get-ty-requires : (t : ℕ) → wt-lts.Need-get-ty-requires (wt-claims t) (wt
 wt-get-ty-requires t c κs = search needs
 
 wt-same-length-4 : (t : ℕ) → wt-lts.Need-same-length-4 (wt-claims t) (wt-at t) wt.Post
-wt-same-length-4 t c = c .before .before .get-ty .kept .1 .1 .1 .1 .1 .0 ∙ c .before .before .before .before .before .before .before .word2 .kept .1 .1 .0 ∙ c .before .before .before .before .before .before .before .before .before .before .before .before .before .before .before .before .path .kept .1 .1 .1 .1 .1 .0 ∙ c .before .before .before .before .before .before .before .before .before .before .before .before .before .before .before .before .before .before .before .before .before .before .before .before .before .ty-var-seq .kept .1 .1 .1 .1 .1 .0 ∙ c .before .before .before .before .before .before .before .before .before .before .before .before .before .before .before .before .before .before .before .before .before .before .before .before .before .before .before .before .before .before .word .kept .1 .1 .0 ∙ c .before .before .before .before .before .before .before .before .before .before .before .before .before .before .before .before .before .before .before .before .before .before .before .before .before .before .before .before .before .before .before .before .before .before .before .before .before .before .before .sig .kept .1 .1 .1 .1 .1 .1 .0
+wt-same-length-4 t c = c .before .before .get-ty .kept .1 .1 .1 .1 .0 ∙ c .before .before .before .before .before .before .before .word2 .kept .1 .1 .0 ∙ c .before .before .before .before .before .before .before .before .before .before .before .before .before .before .before .before .path .kept .1 .1 .1 .1 .0 ∙ c .before .before .before .before .before .before .before .before .before .before .before .before .before .before .before .before .before .before .before .before .before .before .before .before .before .ty-var-seq .kept .1 .1 .1 .1 .0 ∙ c .before .before .before .before .before .before .before .before .before .before .before .before .before .before .before .before .before .before .before .before .before .before .before .before .before .before .before .before .before .before .word .kept .1 .1 .0 ∙ c .before .before .before .before .before .before .before .before .before .before .before .before .before .before .before .before .before .before .before .before .before .before .before .before .before .before .before .before .before .before .before .before .before .before .before .before .before .before .before .sig .kept .1 .1 .1 .1 .1 .0
 
 wt-returns-4 : (t : ℕ) → wt-lts.Need-returns-4 (wt-claims t) (wt-at t) wt.Post
 unfolding SigExp.sig-exp
@@ -5172,7 +5173,7 @@ xb-enum-told-2 : (t : ℕ) → xb-lts.Need-enum-told-2 (xb-claims t) (xb-at t) x
 xb-enum-told-2 t c = search needs
 
 xb-same-length : (t : ℕ) → xb-lts.Need-same-length (xb-claims t) (xb-at t) xb.Post
-xb-same-length t c = c .before .before .before .before .before .text-of .kept .1 .1 .1 .1 .1 .0
+xb-same-length t c = c .before .before .before .before .before .text-of .kept .1 .1 .1 .1 .0
 
 xb-returns-2 : (t : ℕ) → xb-lts.Need-returns-2 (xb-claims t) (xb-at t) xb.Post
 unfolding DecOne.ex-bind
@@ -5185,7 +5186,7 @@ xb-enum-known-s3 : (t : ℕ) → xb-lts.Need-enum-known-s3 (xb-claims t) (xb-at 
 xb-enum-known-s3 t c = search needs
 
 xb-same-length-2 : (t : ℕ) → xb-lts.Need-same-length-2 (xb-claims t) (xb-at t) xb.Post
-xb-same-length-2 t c = c .before .before .before .before .before .before .before .before .before .before .text-of .kept .1 .1 .1 .1 .1 .0
+xb-same-length-2 t c = c .before .before .before .before .before .before .before .before .before .before .text-of .kept .1 .1 .1 .1 .0
 
 xb-returns-3 : (t : ℕ) → xb-lts.Need-returns-3 (xb-claims t) (xb-at t) xb.Post
 unfolding DecOne.ex-bind
@@ -5207,28 +5208,28 @@ xb-stop-requires : (t : ℕ) → xb-lts.Need-stop-requires (xb-claims t) (xb-at 
 xb-stop-requires t c κs = search needs
 
 xb-same-length-3 : (t : ℕ) → xb-lts.Need-same-length-3 (xb-claims t) (xb-at t) xb.Post
-xb-same-length-3 t c = c .before .before .before .before .before .before .before .before .before .before .before .before .before .text-of .kept .1 .1 .1 .1 .1 .0
+xb-same-length-3 t c = c .before .before .before .before .before .before .before .before .before .before .before .before .before .text-of .kept .1 .1 .1 .1 .0
 
 xb-returns-4 : (t : ℕ) → xb-lts.Need-returns-4 (xb-claims t) (xb-at t) xb.Post
 unfolding DecOne.ex-bind
 xb-returns-4 t c = record { is = by-same (group-is (c .before .before .before .before .before .before .before .before .before .before .before .before .before .before .before .before .before .before .before .before .group .ensures) (c .before .before .before .before .before .before .before .before .before .before .before .before .before .before .before .before .before .before .before .told .ensures) (c .before .before .before .before .before .before .before .before .before .before .before .before .before .before .before .before .before .s1 .given .1)) (then-done (plain (c .before .before .before .before .before .before .before .before .before .before .before .before .before .text-of .ensures)) (c .before .before .before .before .before .before .before .before .before .before .told2 .ensures) (c .before .before .before .before .before .before .before .before .s2 .given .1) (by-same (maybe-there (c .before .before .before .before .before .before .absent .ensures) (c .before .before .before .before .enum-told3 .given .1)) (choice-not (c .stop .ensures) (c .before .before .before .choice .ensures) (c .before .enum-told4 .given .1)))) }
 
 xb-xi-requires : (t : ℕ) → xb-lts.Need-xi-requires (xb-claims t) (xb-at t) xb.Post
-xb-xi-requires t c κs = omega (arith, c .before .before .before .before .before .before .before .before .before .before .before .before .before .before .before .before .before .before .before .before .before .before .before .before .before .before .before .before .before .pre .0, c .before .before .before .before .before .before .before .before .before .before .before .before .before .before .before .before .before .before .before .before .before .before .before .before .before .before .before .before .before .pre .1)
+xb-xi-requires t c κs = omega (arith, c .before .before .before .before .before .before .before .before .before .before .before .before .before .before .before .before .before .before .before .before .before .before .before .before .before .before .pre .0, c .before .before .before .before .before .before .before .before .before .before .before .before .before .before .before .before .before .before .before .before .before .before .before .before .before .before .pre .1)
 
 xb-same-length-4 : (t : ℕ) → xb-lts.Need-same-length-4 (xb-claims t) (xb-at t) xb.Post
-xb-same-length-4 t c = c .before .before .xi .kept .1 .1 .1 .1 .1 .1 .0 ∙ c .before .before .before .before .before .before .before .before .before .before .before .before .before .before .before .before .before .before .text-of .kept .1 .1 .1 .1 .1 .0
+xb-same-length-4 t c = c .before .before .xi .kept .1 .1 .1 .1 .1 .0 ∙ c .before .before .before .before .before .before .before .before .before .before .before .before .before .before .before .before .before .before .text-of .kept .1 .1 .1 .1 .0
 
 xb-returns-5 : (t : ℕ) → xb-lts.Need-returns-5 (xb-claims t) (xb-at t) xb.Post
 unfolding DecOne.ex-bind
 xb-returns-5 t c = record { is = by-same (group-is (c .before .before .before .before .before .before .before .before .before .before .before .before .before .before .before .before .before .before .before .before .before .before .before .before .before .group .ensures) (c .before .before .before .before .before .before .before .before .before .before .before .before .before .before .before .before .before .before .before .before .before .before .before .before .told .ensures) (c .before .before .before .before .before .before .before .before .before .before .before .before .before .before .before .before .before .before .before .before .before .before .s1 .given .1)) (then-done (plain (c .before .before .before .before .before .before .before .before .before .before .before .before .before .before .before .before .before .before .text-of .ensures)) (c .before .before .before .before .before .before .before .before .before .before .before .before .before .before .before .told2 .ensures) (c .before .before .before .before .before .before .before .before .before .before .before .before .before .s2 .given .1) (by-same (maybe-there (c .before .before .before .before .before .before .before .before .before .before .before .absent .ensures) (c .before .before .before .before .before .before .before .before .before .enum-told3 .given .1)) (by-same (choice-is (c .before .before .before .before .before .before .before .before .choice .ensures) (c .before .before .before .before .before .before .k .given .1)) (c .before .before .xi .ensures .is)))) }
 
 abbrev xd-Inv-loop : xd-lts.InvT-loop
-xd-Inv-loop run text rec kinds starts lens out₀ mem₀ at cfg n s1 s₀ i₀ out mem s i =
-    Turn run (page text rec kinds starts lens) (from (Helpers.new-line (cfgOf cfg) "and ") (DecOne.ex-bind (walks (cfg .nesting)) (cfgOf cfg))) n s₀ mem₀ out₀ i s mem out
+xd-Inv-loop run text rec kinds spans out₀ mem₀ at cfg n s1 s₀ i₀ out mem s i =
+    Turn run (pageAt text rec kinds spans) (from (Helpers.new-line (cfgOf cfg) "and ") (DecOne.ex-bind (walks (cfg .nesting)) (cfgOf cfg))) n s₀ mem₀ out₀ i s mem out
 
 abbrev xd-μ-loop : xd-lts.MeasureT-loop
-xd-μ-loop run text rec kinds starts lens out₀ mem₀ at cfg n s1 s₀ i₀ out mem s i = n - i
+xd-μ-loop run text rec kinds spans out₀ mem₀ at cfg n s1 s₀ i₀ out mem s i = n - i
 
 xd-word-requires : (t : ℕ) → xd-lts.Need-word-requires (xd-claims t) (xd-at t) xd.Post xd-Inv-loop xd-μ-loop
 xd-word-requires t c κs = search needs
@@ -5259,7 +5260,7 @@ xd-new-line-requires : (t : ℕ) → xd-lts.Need-new-line-requires (xd-claims t)
 xd-new-line-requires t c κs = search needs
 
 xd-xb-requires : (t : ℕ) → xd-lts.Need-xb-requires (xd-claims t) (xd-at t) xd.Post xd-Inv-loop xd-μ-loop
-xd-xb-requires t c κs = omega (arith, c .before .before .before .before .before .before .before .before .before .before .before .before .before .before .before .before .before .before .before .before .before .before .before .before .pre .0, c .before .before .before .before .before .before .before .before .before .before .before .before .before .before .before .before .before .before .before .before .before .before .before .before .pre .1)
+xd-xb-requires t c κs = omega (arith, c .before .before .before .before .before .before .before .before .before .before .before .before .before .before .before .before .before .before .before .before .before .pre .0, c .before .before .before .before .before .before .before .before .before .before .before .before .before .before .before .before .before .before .before .before .before .pre .1)
 
 xd-told-requires : (t : ℕ) → xd-lts.Need-told-requires (xd-claims t) (xd-at t) xd.Post xd-Inv-loop xd-μ-loop
 xd-told-requires t c κs = search needs
@@ -5271,7 +5272,7 @@ xd-enum-told-2 : (t : ℕ) → xd-lts.Need-enum-told-2 (xd-claims t) (xd-at t) x
 xd-enum-told-2 t c = search needs
 
 xd-same-length-2 : (t : ℕ) → xd-lts.Need-same-length-2 (xd-claims t) (xd-at t) xd.Post xd-Inv-loop xd-μ-loop
-xd-same-length-2 t c = c .before .before .before .before .before .xb .kept .1 .1 .1 .1 .1 .1 .0 ∙ c .before .before .before .before .before .before .before .before .before .before .new-line .kept .1 .1 .0 ∙ c .before .before .before .before .before .before .before .before .before .before .before .before .before .before .loop .inv .2 ∙ c .before .before .before .before .before .before .before .before .before .before .before .before .before .before .before .before .before .before .before .before .before .word .kept .1 .1 .0
+xd-same-length-2 t c = c .before .before .before .before .before .xb .kept .1 .1 .1 .1 .1 .0 ∙ c .before .before .before .before .before .before .before .before .before .before .new-line .kept .1 .1 .0 ∙ c .before .before .before .before .before .before .before .before .before .before .before .before .before .before .loop .inv .2 ∙ c .before .before .before .before .before .before .before .before .before .before .before .before .before .before .before .before .before .before .before .before .before .word .kept .1 .1 .0
 
 xd-returns-2 : (t : ℕ) → xd-lts.Need-returns-2 (xd-claims t) (xd-at t) xd.Post xd-Inv-loop xd-μ-loop
 unfolding DecOne.dec-one Helpers.sep-with-lines
@@ -5285,7 +5286,7 @@ xd-loop-less t c = omega arith
 
 xd-loop-again : (t : ℕ) → xd-lts.Need-loop-again (xd-claims t) (xd-at t) xd.Post xd-Inv-loop xd-μ-loop
 unfolding DecOne.dec-one Helpers.sep-with-lines
-xd-loop-again t c = (omega (arith, c .before .before .before .before .before .before .before .before .before .before .before .before .before .before .before .loop .inv .0), λ r m o h. c .before .before .before .before .before .before .before .before .before .before .before .before .before .before .before .loop .inv .1 r m o (from-more _ _ (c .before .before .before .before .before .before .before .before .before .before .before .before .before .before .loop-test .taken) (then-sure (c .before .before .before .before .before .before .before .before .before .before .before .new-line .ensures) (then-done (c .before .before .before .before .before .before .xb .ensures .is) (c .before .before .before .told .ensures) (c .before .s2 .given .1) h))), c .before .before .before .before .before .before .xb .kept .1 .1 .1 .1 .1 .1 .0 ∙ c .before .before .before .before .before .before .before .before .before .before .before .new-line .kept .1 .1 .0 ∙ c .before .before .before .before .before .before .before .before .before .before .before .before .before .before .before .loop .inv .2)
+xd-loop-again t c = (omega (arith, c .before .before .before .before .before .before .before .before .before .before .before .before .before .before .before .loop .inv .0), λ r m o h. c .before .before .before .before .before .before .before .before .before .before .before .before .before .before .before .loop .inv .1 r m o (from-more _ _ (c .before .before .before .before .before .before .before .before .before .before .before .before .before .before .loop-test .taken) (then-sure (c .before .before .before .before .before .before .before .before .before .before .before .new-line .ensures) (then-done (c .before .before .before .before .before .before .xb .ensures .is) (c .before .before .before .told .ensures) (c .before .s2 .given .1) h))), c .before .before .before .before .before .before .xb .kept .1 .1 .1 .1 .1 .0 ∙ c .before .before .before .before .before .before .before .before .before .before .before .new-line .kept .1 .1 .0 ∙ c .before .before .before .before .before .before .before .before .before .before .before .before .before .before .before .loop .inv .2)
 
 xd-same-length-3 : (t : ℕ) → xd-lts.Need-same-length-3 (xd-claims t) (xd-at t) xd.Post xd-Inv-loop xd-μ-loop
 xd-same-length-3 t c = c .before .loop .inv .2 ∙ c .before .before .before .before .before .before .before .before .word .kept .1 .1 .0
@@ -5298,28 +5299,28 @@ xi-ex-bind-of-requires : (t : ℕ) → xi-lts.Need-ex-bind-of-requires (xi-claim
 xi-ex-bind-of-requires t c κs = search needs
 
 xi-pr-requires : (t : ℕ) → xi-lts.Need-pr-requires (xi-claims t) (xi-at t) xi.Post
-xi-pr-requires t c κs = omega (arith, c .before .before .before .before .before .before .before .before .before .pre .0, c .before .before .before .before .before .before .before .before .before .pre .1)
+xi-pr-requires t c κs = omega (arith, c .before .before .before .before .before .before .pre .0, c .before .before .before .before .before .before .pre .1)
 
 xi-stop-requires : (t : ℕ) → xi-lts.Need-stop-requires (xi-claims t) (xi-at t) xi.Post
 xi-stop-requires t c κs = search needs
 
 xi-same-length : (t : ℕ) → xi-lts.Need-same-length (xi-claims t) (xi-at t) xi.Post
-xi-same-length t c = c .before .before .ex-bind-of .kept .1 .1 .1 .1 .1 .0
+xi-same-length t c = c .before .before .ex-bind-of .kept .1 .1 .1 .1 .0
 
 xi-returns : (t : ℕ) → xi-lts.Need-returns (xi-claims t) (xi-at t) xi.Post
 unfolding DecOne.ex-bind-inner
-xi-returns t c = record { is = at-key (λ i. DecOne.ex-bind-inner (walks (c .before .before .before .before .before .before .before .before .before .before .before .before .args .cfg .nesting)) (cfgOf (c .before .before .before .before .before .before .before .before .before .before .before .before .args .cfg)) i) (c .before .before .before .before .before .match .keys1) (plain (c .before .before .ex-bind-of .ensures)) }
+xi-returns t c = record { is = at-key (λ i. DecOne.ex-bind-inner (walks (c .before .before .before .before .before .before .before .before .before .args .cfg .nesting)) (cfgOf (c .before .before .before .before .before .before .before .before .before .args .cfg)) i) (c .before .before .before .before .before .match .keys1) (plain (c .before .before .ex-bind-of .ensures)) }
 
 xi-same-length-2 : (t : ℕ) → xi-lts.Need-same-length-2 (xi-claims t) (xi-at t) xi.Post
-xi-same-length-2 t c = c .before .before .pr .kept .1 .1 .1 .1 .1 .1 .0
+xi-same-length-2 t c = c .before .before .pr .kept .1 .1 .1 .1 .1 .0
 
 xi-returns-2 : (t : ℕ) → xi-lts.Need-returns-2 (xi-claims t) (xi-at t) xi.Post
 unfolding DecOne.ex-bind-inner
-xi-returns-2 t c = record { is = at-key (λ i. DecOne.ex-bind-inner (walks (c .before .before .before .before .before .before .before .before .before .before .before .before .args .cfg .nesting)) (cfgOf (c .before .before .before .before .before .before .before .before .before .before .before .before .args .cfg)) i) (c .before .before .before .before .before .match .keys2) (c .before .before .pr .ensures .is) }
+xi-returns-2 t c = record { is = at-key (λ i. DecOne.ex-bind-inner (walks (c .before .before .before .before .before .before .before .before .before .args .cfg .nesting)) (cfgOf (c .before .before .before .before .before .before .before .before .before .args .cfg)) i) (c .before .before .before .before .before .match .keys2) (c .before .before .pr .ensures .is) }
 
 xi-returns-3 : (t : ℕ) → xi-lts.Need-returns-3 (xi-claims t) (xi-at t) xi.Post
 unfolding DecOne.ex-bind-inner
-xi-returns-3 t c = record { is = beyond (DecOne.ex-bind-of (walks (c .before .before .before .before .before .before .before .before .args .cfg .nesting)) ∷ (Layout._⨾_ (Layout.word " = ") (walks (c .before .before .before .before .before .before .before .before .args .cfg .nesting) .get-exp (cfgOf (c .before .before .before .before .before .before .before .before .args .cfg)))) ∷ []) (c .before .before .before .before .before .before .before .before .args .which) 2 refl (past (past zero-le (c .before .match .rest .0 .1)) (c .before .match .rest .1)) (c .stop .ensures) }
+xi-returns-3 t c = record { is = beyond (DecOne.ex-bind-of (walks (c .before .before .before .before .before .args .cfg .nesting)) ∷ (Layout._⨾_ (Layout.word " = ") (walks (c .before .before .before .before .before .args .cfg .nesting) .get-exp (cfgOf (c .before .before .before .before .before .args .cfg)))) ∷ []) (c .before .before .before .before .before .args .which) 2 refl (past (past zero-le (c .before .match .rest .0 .1)) (c .before .match .rest .1)) (c .stop .ensures) }
 
 pub +ab+ac+an+app+ar+arm+br+ca+cb+cd+da+dec+dp+ds+du+exp+fa+fb+fc+fd+fe+fs+fx+gd+ha+ic+ie+it+ld+lo+lx+ma+mo+nm+nu+one+pa+pr+qb+qs+rc+ro+rs+sa+sb+sd+seq+sg+sig+sl+sm+sp+sq+ss+str+ta+ty+vb+vd+ve+wh+wr+wt+xb+xd+xi-spec :
     {M : Type 1} → statement M
@@ -5699,7 +5700,7 @@ pub +ab+ac+an+app+ar+arm+br+ca+cb+cd+da+dec+dp+ds+du+exp+fa+fb+fc+fd+fe+fs+fx+gd
     (exp-enum-told t)
     (exp-stop-requires-2 t)
     (exp-returns-2 t)
-    (exp-sub-t18 t)
+    (exp-sub-t17 t)
     (exp-word-requires t)
     (exp-word-requires-2 t)
     (exp-word-requires-3 t)
@@ -6285,7 +6286,7 @@ pub +ab+ac+an+app+ar+arm+br+ca+cb+cd+da+dec+dp+ds+du+exp+fa+fb+fc+fd+fe+fs+fx+gd
     (one-stop-requires-2 t)
     (one-returns-2 t)
     (one-comment-above-requires t)
-    (one-sub-t23 t)
+    (one-sub-t21 t)
     (one-nu-requires t)
     (one-same-length t)
     (one-returns-3 t))
@@ -6539,7 +6540,7 @@ pub +ab+ac+an+app+ar+arm+br+ca+cb+cd+da+dec+dp+ds+du+exp+fa+fb+fc+fd+fe+fs+fx+gd
     (sig-enum-told t)
     (sig-stop-requires-2 t)
     (sig-returns-2 t)
-    (sig-sub-t18 t)
+    (sig-sub-t17 t)
     (sig-sg-requires t)
     (sig-text-of-requires t)
     (sig-wt-requires t)
@@ -6680,7 +6681,7 @@ pub +ab+ac+an+app+ar+arm+br+ca+cb+cd+da+dec+dp+ds+du+exp+fa+fb+fc+fd+fe+fs+fx+gd
     (str-enum-told t)
     (str-stop-requires-2 t)
     (str-returns-2 t)
-    (str-sub-t18 t)
+    (str-sub-t17 t)
     (str-ss-requires t)
     (str-path-requires t)
     (str-an-requires t)

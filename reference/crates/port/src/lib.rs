@@ -29,8 +29,7 @@ extern "C" {
         record_length: usize,
         answer: &mut [u64; 4],
         kinds: &mut [u8; limit::TOKENS],
-        starts: &mut [u16; limit::TOKENS],
-        lengths: &mut [u16; limit::TOKENS],
+        spans: &mut [u32; limit::TOKENS],
     );
     fn diverplume_test_classes(table: &mut [u8; 256]);
     fn diverplume_test_is_letter(byte: u8) -> bool;
@@ -87,16 +86,14 @@ pub struct Reading {
 #[derive(Debug)]
 pub struct Tables {
     kinds: [u8; limit::TOKENS],
-    starts: [u16; limit::TOKENS],
-    lengths: [u16; limit::TOKENS],
+    spans: [u32; limit::TOKENS],
 }
 
 impl Tables {
     /// Tables of zeros.
     #[must_use]
     pub fn new() -> Self {
-        let zeros = [0; limit::TOKENS];
-        Self { kinds: [0; limit::TOKENS], starts: zeros, lengths: zeros }
+        Self { kinds: [0; limit::TOKENS], spans: [0; limit::TOKENS] }
     }
 
     /// The record check: number, place, count of tokens, where the list of declarations starts.
@@ -111,8 +108,7 @@ impl Tables {
                 record.len(),
                 &mut answer,
                 &mut self.kinds,
-                &mut self.starts,
-                &mut self.lengths,
+                &mut self.spans,
             );
         }
         answer
@@ -135,8 +131,10 @@ pub fn read(text: &[u8], record: &[u8]) -> Reading {
     let mut tables = Tables::new();
     let answer = tables.read(text, record);
     let count = usize::try_from(answer[2]).expect("a count of tokens");
-    let Tables { kinds, starts, lengths } = tables;
-    let tokens = (0..count).map(|token| (kinds[token], starts[token], lengths[token])).collect();
+    let Tables { kinds, spans } = tables;
+    let tokens = (0..count)
+        .map(|token| (kinds[token], (spans[token] >> 16) as u16, (spans[token] & 0xFFFF) as u16))
+        .collect();
     Reading { answer, tokens }
 }
 

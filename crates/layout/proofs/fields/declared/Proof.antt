@@ -1,4 +1,4 @@
-use Rattle.layout.proofs.Reading.{declared-fits, declared-past}
+use Rattle.layout.proofs.Reading.{declared-fits, declared-past, declared-by}
 use borrow.Author.Needs.{needs}
 use Rattle.layout.proofs.fields.declared.Statement.{statement}
 use Rattle.layout.proofs.fields.declared.Tie as tie
@@ -14,10 +14,14 @@ first-fits-requires : tie.Need-first-fits-requires
 first-fits-requires c κs = search needs
 
 returns : tie.Need-returns
-returns c = declared-fits (c .before .before .declaration-at .ensures) (c .before .first-fits .ensures) (c .if1 .taken)
+returns c =
+    declared-by (c .before .before .before .before .args .spans .now .now)
+    (declared-fits (c .before .before .declaration-at .ensures) (c .before .first-fits .ensures) (c .if1 .taken))
 
 returns-2 : tie.Need-returns-2
-returns-2 c = declared-past (c .before .before .declaration-at .ensures) (c .before .first-fits .ensures) (c .if1 .left)
+returns-2 c =
+    declared-by (c .before .before .before .before .args .spans .now .now)
+    (declared-past (c .before .before .declaration-at .ensures) (c .before .first-fits .ensures) (c .if1 .left))
 
 pub declared-spec : {M : Type 1} → statement M
 declared-spec = tie.close (tie.spec declaration-at-requires first-fits-requires returns returns-2)

@@ -1,5 +1,5 @@
 -- `layout::fields::onwards` meets its contract.
-use Rattle.layout.proofs.Dropping.{onwards-done, onwards-none, onwards-ok, onwards-malformed, onwards-deep}
+use Rattle.layout.proofs.Dropping.{onwards-done, onwards-none, onwards-ok, onwards-malformed, onwards-deep, onwards-by}
 use borrow.Author.Needs.{needs}
 use Rattle.layout.proofs.fields.onwards.Statement.{statement}
 use Rattle.layout.proofs.fields.onwards.Tie as tie
@@ -41,19 +41,22 @@ returns-3 : tie.Need-returns-3
 returns-3 c =
     let t = c .before .before .before in
     let f = t .before .before .before .before in
-    onwards-ok (f .before .if1 .left) (f .form-at .ensures) (t .before .before .-k .given .1) (t .ty-end-within .ensures) (c .before .end .given .1)
+    onwards-by (c .before .before .before .before .before .before .before .before .before .before .args .spans .now .now)
+    (onwards-ok (f .before .if1 .left) (f .form-at .ensures) (t .before .before .-k .given .1) (t .ty-end-within .ensures) (c .before .end .given .1))
 
 returns-4 : tie.Need-returns-4
 returns-4 c =
     let t = c .before .before .before .before in
     let f = t .before .before .before .before in
-    onwards-malformed (f .before .if1 .left) (f .form-at .ensures) (t .before .before .-k .given .1) (t .ty-end-within .ensures) (c .before .before .end2 .given .1) (c .stop .ensures)
+    onwards-by (c .before .before .before .before .before .before .before .before .before .before .before .args .spans .now .now)
+    (onwards-malformed (f .before .if1 .left) (f .form-at .ensures) (t .before .before .-k .given .1) (t .ty-end-within .ensures) (c .before .before .end2 .given .1) (c .stop .ensures))
 
 returns-5 : tie.Need-returns-5
 returns-5 c =
     let t = c .before .before .before .before in
     let f = t .before .before .before .before in
-    onwards-deep (f .before .if1 .left) (f .form-at .ensures) (t .before .before .-k .given .1) (t .ty-end-within .ensures) (c .before .before .end3 .given .1) (c .stop2 .ensures)
+    onwards-by (c .before .before .before .before .before .before .before .before .before .before .before .args .spans .now .now)
+    (onwards-deep (f .before .if1 .left) (f .form-at .ensures) (t .before .before .-k .given .1) (t .ty-end-within .ensures) (c .before .before .end3 .given .1) (c .stop2 .ensures))
 
 pub onwards-spec : {M : Type 1} → statement M
 onwards-spec =

@@ -1,5 +1,7 @@
 -- `layout::fields::token_no` meets its contract.
 use native.Mathlib.Omega.{arith}
+use lib.ListN.{length-map}
+use Rattle.reader.specs.Contracts.Tokens.{startOf}
 use Rattle.layout.proofs.Reading.{token-fits, token-none, token-below, token-over}
 use borrow.Author.Needs.{needs}
 use Rattle.layout.proofs.fields.token_no.Statement.{statement}
@@ -17,16 +19,18 @@ enum-told c = search needs
 returns : tie.Need-returns
 returns c = token-none _ (c .before .before .token-at .ensures) (c .enum-told .given .1)
 
-add-t7 : tie.Need-add-t7
-add-t7 c = omega (arith, token-fits (c .before .before .before .before .token-at .ensures) (c .before .before .n .given .1))
+add-t8 : tie.Need-add-t8
+add-t8 c = omega (arith, token-fits (c .before .before .before .before .token-at .ensures) (c .before .before .n .given .1))
 
 returns-2 : tie.Need-returns-2
-returns-2 c = token-below _ (c .before .before .before .before .token-at .ensures) (c .before .before .n .given .1) (c .if1 .taken)
+returns-2 c = token-below _ (c .before .before .before .before .token-at .ensures) (c .before .before .n .given .1)
+    (omega (arith, c .if1 .taken, length-map (c .before .before .before .before .before .before .args .spans .now .now) startOf))
 
 returns-3 : tie.Need-returns-3
-returns-3 c = token-over _ (c .before .before .before .before .token-at .ensures) (c .before .before .n .given .1) (c .if1 .left)
+returns-3 c = token-over _ (c .before .before .before .before .token-at .ensures) (c .before .before .n .given .1)
+    (omega (arith, c .if1 .left, length-map (c .before .before .before .before .before .before .args .spans .now .now) startOf))
 
 pub token-no-spec : {M : Type 1} → statement M
 token-no-spec =
     tie.close
-    (tie.spec token-at-requires enum-known-n enum-told returns add-t7 returns-2 returns-3)
+    (tie.spec token-at-requires enum-known-n enum-told returns add-t8 returns-2 returns-3)

@@ -31,7 +31,10 @@ enum-told-2 c = search needs
 
 returns-2 : tie.Need-returns-2
 unfolding numberIn commentOf foundOf commentIn
-returns-2 c = comment-none (ap numberIn (c .before .before .before .before .first .given .1)) (comment-told _ _ (c .before .before .comment-above .result) (c .before .before .comment-above .ensures)) (ap commentOf (c .enum-told2 .given .1))
+returns-2 c =
+    let found = c .before .before in
+    comment-none (ap numberIn (found .before .before .before .first .given .1)) (comment-told _ _ (found .comment-above .result) (found .comment-above .ensures))
+    (ap commentOf (c .enum-told2 .given .1))
 
 comment-requires : tie.Need-comment-requires
 comment-requires c κs = search needs
@@ -44,7 +47,11 @@ same-length c = search needs
 
 returns-3 : tie.Need-returns-3
 unfolding numberIn commentOf foundOf commentIn comment-line
-returns-3 c = comment-some (ap numberIn (c .before .before .before .before .before .before .before .before .before .before .before .before .before .before .before .first .given .1)) (comment-told _ _ (c .before .before .before .before .before .before .before .before .before .before .before .before .before .comment-above .result) (c .before .before .before .before .before .before .before .before .before .before .before .before .before .comment-above .ensures)) (ap commentOf (c .before .before .before .before .before .before .before .before .before .before .before .found .given .1)) (c .before .before .before .before .before .before .before .comment .ensures) (c .before .before .line .ensures)
+returns-3 c =
+    let written = c .before .before .before .before .before .before .before in
+    let found = written .before .before .before .before .before .before in
+    comment-some (ap numberIn (found .before .before .before .first .given .1)) (comment-told _ _ (found .comment-above .result) (found .comment-above .ensures))
+    (ap commentOf (written .before .before .before .before .found .given .1)) (written .comment .ensures) (c .before .before .line .ensures)
 
 pub comment-above-spec : {M : Type 1} → statement M
 comment-above-spec =

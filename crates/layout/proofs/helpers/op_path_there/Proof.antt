@@ -23,7 +23,7 @@ enum-told : tie.Need-enum-told
 enum-told c = search needs
 
 same-length : tie.Need-same-length
-same-length c = c .before .before .before .before .before .op .kept .1 .1 .1 .1 .1 .0
+same-length c = c .before .before .before .before .before .op .kept .1 .1 .1 .1 .0
 
 returns : tie.Need-returns
 returns c = record { is = λ kinds. then-stop (plain (c .before .before .before .before .before .op .ensures)) (c .before .before .told .ensures) (c .enum-told .given .1) }
@@ -32,7 +32,7 @@ path-requires : tie.Need-path-requires
 path-requires c κs = search needs
 
 same-length-2 : tie.Need-same-length-2
-same-length-2 c = c .before .before .path .kept .1 .1 .1 .1 .1 .0 ∙ c .before .before .before .before .before .before .before .before .before .before .before .op .kept .1 .1 .1 .1 .1 .0
+same-length-2 c = c .before .before .path .kept .1 .1 .1 .1 .0 ∙ c .before .before .before .before .before .before .before .before .before .before .before .op .kept .1 .1 .1 .1 .0
 
 returns-2 : tie.Need-returns-2
 returns-2 c = record { is = λ kinds. then-done (plain (c .before .before .before .before .before .before .before .before .before .before .before .op .ensures)) (c .before .before .before .before .before .before .before .before .told .ensures) (c .before .before .before .before .before .before .s1 .given .1) (plain (c .before .before .path .ensures)) }

@@ -11,11 +11,11 @@ use Rattle.layout.proofs.helpers.path.Statement.{statement}
 use Rattle.layout.proofs.helpers.path.Tie as tie
 
 abbrev Inv-loop : tie.InvT-loop
-Inv-loop run text rec starts lens out₀ mem₀ at r0 s0 n s1 s₀ i₀ out mem s i =
-    PlainTurn run text rec starts lens (from (Layout.word ".") (Layout.group Layout.text)) n s₀ mem₀ out₀ i s mem out
+Inv-loop run text rec spans out₀ mem₀ at r0 s0 n s1 s₀ i₀ out mem s i =
+    PlainTurn run text rec spans (from (Layout.word ".") (Layout.group Layout.text)) n s₀ mem₀ out₀ i s mem out
 
 abbrev μ-loop : tie.MeasureT-loop
-μ-loop run text rec starts lens out₀ mem₀ at r0 s0 n s1 s₀ i₀ out mem s i = n - i
+μ-loop run text rec spans out₀ mem₀ at r0 s0 n s1 s₀ i₀ out mem s i = n - i
 
 group-requires : tie.Need-group-requires Inv-loop μ-loop
 group-requires c κs = search needs
@@ -87,7 +87,7 @@ enum-told-4 : tie.Need-enum-told-4 Inv-loop μ-loop
 enum-told-4 c = search needs
 
 same-length-2 : tie.Need-same-length-2 Inv-loop μ-loop
-same-length-2 c = c .before .before .before .before .before .text-of .kept .1 .1 .1 .1 .1 .0 ∙ c .before .before .before .before .before .before .before .before .before .before .before .before .before .before .before .between .kept .1 .1 .0 ∙ c .before .before .before .before .before .before .before .before .before .before .before .before .before .before .before .before .before .before .before .loop .inv .2
+same-length-2 c = c .before .before .before .before .before .text-of .kept .1 .1 .1 .1 .0 ∙ c .before .before .before .before .before .before .before .before .before .before .before .before .before .before .before .between .kept .1 .1 .0 ∙ c .before .before .before .before .before .before .before .before .before .before .before .before .before .before .before .before .before .before .before .loop .inv .2
 
 returns-4 : tie.Need-returns-4 Inv-loop μ-loop
 unfolding Helpers.path Helpers.sep
@@ -101,7 +101,7 @@ loop-less c = omega arith
 
 loop-again : tie.Need-loop-again Inv-loop μ-loop
 unfolding Helpers.path Helpers.sep
-loop-again c = (omega (arith, c .before .before .before .before .before .before .before .before .before .before .before .before .before .before .before .before .before .before .before .before .loop .inv .0), λ kinds r m o h. c .before .before .before .before .before .before .before .before .before .before .before .before .before .before .before .before .before .before .before .before .loop .inv .1 kinds r m o (from-more _ _ (c .before .before .before .before .before .before .before .before .before .before .before .before .before .before .before .before .before .before .before .loop-test .taken) (then-sure (c .before .before .before .before .before .before .before .before .before .before .before .before .before .before .before .before .between .ensures) (by-same (first-same (group-is (c .before .before .before .before .before .before .before .before .before .before .before .before .before .group2 .ensures) (c .before .before .before .before .before .before .before .before .before .before .before .before .told2 .ensures) (c .before .before .before .before .before .before .before .before .before .before .s2 .given .1))) (then-done (plain (c .before .before .before .before .before .before .text-of .ensures)) (c .before .before .before .told3 .ensures) (c .before .s3 .given .1) h)))), c .before .before .before .before .before .before .text-of .kept .1 .1 .1 .1 .1 .0 ∙ c .before .before .before .before .before .before .before .before .before .before .before .before .before .before .before .before .between .kept .1 .1 .0 ∙ c .before .before .before .before .before .before .before .before .before .before .before .before .before .before .before .before .before .before .before .before .loop .inv .2)
+loop-again c = (omega (arith, c .before .before .before .before .before .before .before .before .before .before .before .before .before .before .before .before .before .before .before .before .loop .inv .0), λ kinds r m o h. c .before .before .before .before .before .before .before .before .before .before .before .before .before .before .before .before .before .before .before .before .loop .inv .1 kinds r m o (from-more _ _ (c .before .before .before .before .before .before .before .before .before .before .before .before .before .before .before .before .before .before .before .loop-test .taken) (then-sure (c .before .before .before .before .before .before .before .before .before .before .before .before .before .before .before .before .between .ensures) (by-same (first-same (group-is (c .before .before .before .before .before .before .before .before .before .before .before .before .before .group2 .ensures) (c .before .before .before .before .before .before .before .before .before .before .before .before .told2 .ensures) (c .before .before .before .before .before .before .before .before .before .before .s2 .given .1))) (then-done (plain (c .before .before .before .before .before .before .text-of .ensures)) (c .before .before .before .told3 .ensures) (c .before .s3 .given .1) h)))), c .before .before .before .before .before .before .text-of .kept .1 .1 .1 .1 .0 ∙ c .before .before .before .before .before .before .before .before .before .before .before .before .before .before .before .before .between .kept .1 .1 .0 ∙ c .before .before .before .before .before .before .before .before .before .before .before .before .before .before .before .before .before .before .before .before .loop .inv .2)
 
 same-length-3 : tie.Need-same-length-3 Inv-loop μ-loop
 same-length-3 c = c .before .loop .inv .2

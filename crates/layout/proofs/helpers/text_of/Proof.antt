@@ -29,7 +29,7 @@ token-requires : tie.Need-token-requires
 token-requires c κs = search needs
 
 same-length : tie.Need-same-length
-same-length c = c .before .before .token .kept .1 .1 .1 .1 .0
+same-length c = c .before .before .token .kept .1 .1 .1 .0
 
 returns-2 : tie.Need-returns-2
 returns-2 c = record { is = λ kinds. text-is (c .before .before .before .before .before .before .before .before .token-no .ensures) (c .before .before .before .before .before .before .k .given .1) (c .before .before .token .ensures) }

@@ -39,7 +39,7 @@ enum-told-2 : tie.Need-enum-told-2
 enum-told-2 c = search needs
 
 same-length : tie.Need-same-length
-same-length c = c .before .before .before .before .before .ty-vars-in-parens .kept .1 .1 .1 .1 .1 .0
+same-length c = c .before .before .before .before .before .ty-vars-in-parens .kept .1 .1 .1 .1 .0
 
 returns-2 : tie.Need-returns-2
 unfolding Helpers.ty-var-seq-there
@@ -49,7 +49,7 @@ word-requires : tie.Need-word-requires
 word-requires c κs = search needs
 
 same-length-2 : tie.Need-same-length-2
-same-length-2 c = c .before .before .word .kept .1 .1 .0 ∙ c .before .before .before .before .before .before .before .before .before .before .before .ty-vars-in-parens .kept .1 .1 .1 .1 .1 .0
+same-length-2 c = c .before .before .word .kept .1 .1 .0 ∙ c .before .before .before .before .before .before .before .before .before .before .before .ty-vars-in-parens .kept .1 .1 .1 .1 .0
 
 returns-3 : tie.Need-returns-3
 unfolding Helpers.ty-var-seq-there

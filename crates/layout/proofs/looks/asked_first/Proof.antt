@@ -1,5 +1,5 @@
 -- `layout::looks::asked_first` meets its contract.
-use Rattle.layout.proofs.HeadLaws.{asked-both, asked-missing}
+use Rattle.layout.proofs.HeadLaws.{asked-both, asked-missing, asked-by}
 use borrow.Author.Needs.{needs}
 use Rattle.layout.proofs.looks.asked_first.Statement.{statement}
 use Rattle.layout.proofs.looks.asked_first.Tie as tie
@@ -17,10 +17,14 @@ stop-requires : tie.Need-stop-requires
 stop-requires c κs = search needs
 
 returns : tie.Need-returns
-returns c = asked-both (c .before .before .before .heads .ensures) (c .before .seen .given .1)
+returns c =
+    asked-by (c .before .before .before .before .before .args .spans .now .now)
+    (asked-both (c .before .before .before .heads .ensures) (c .before .seen .given .1))
 
 returns-2 : tie.Need-returns-2
-returns-2 c = asked-missing (c .before .before .before .before .heads .ensures) (c .before .before .seen2 .given .1) (c .stop .ensures)
+returns-2 c =
+    asked-by (c .before .before .before .before .before .before .args .spans .now .now)
+    (asked-missing (c .before .before .before .before .heads .ensures) (c .before .before .seen2 .given .1) (c .stop .ensures))
 
 pub asked-first-spec : {M : Type 1} → statement M
 asked-first-spec =

@@ -17,7 +17,7 @@ abbrev pub claims : ℕ → lts.Claims
 claims t = (get-pat-below t, get-pat.Post, told-reads.Asked, told-reads.Learnt, word-reads.Asked, word-reads.Learnt, group-reads.Asked, group-reads.Learnt)
 
 get-pat-requires : (t : ℕ) → lts.Need-get-pat-requires (claims t) (as-pat-at t) as-pat.Post
-get-pat-requires t c κs = omega (arith, c .before .before .before .before .before .before .before .pre .0)
+get-pat-requires t c κs = omega (arith, c .before .before .before .before .before .pre .0)
 
 told-requires : (t : ℕ) → lts.Need-told-requires (claims t) (as-pat-at t) as-pat.Post
 told-requires t c κs = search needs
@@ -29,7 +29,7 @@ enum-told : (t : ℕ) → lts.Need-enum-told (claims t) (as-pat-at t) as-pat.Pos
 enum-told t c = search needs
 
 same-length : (t : ℕ) → lts.Need-same-length (claims t) (as-pat-at t) as-pat.Post
-same-length t c = c .before .before .before .before .before .get-pat .kept .1 .1 .1 .1 .1 .0
+same-length t c = c .before .before .before .before .before .get-pat .kept .1 .1 .1 .1 .0
 
 returns : (t : ℕ) → lts.Need-returns (claims t) (as-pat-at t) as-pat.Post
 unfolding Pat.pat
@@ -51,17 +51,17 @@ enum-told-2 : (t : ℕ) → lts.Need-enum-told-2 (claims t) (as-pat-at t) as-pat
 enum-told-2 t c = search needs
 
 same-length-2 : (t : ℕ) → lts.Need-same-length-2 (claims t) (as-pat-at t) as-pat.Post
-same-length-2 t c = c .before .before .before .before .before .before .word .kept .1 .1 .0 ∙ c .before .before .before .before .before .before .before .before .before .before .before .before .before .before .before .get-pat .kept .1 .1 .1 .1 .1 .0
+same-length-2 t c = c .before .before .before .before .before .before .word .kept .1 .1 .0 ∙ c .before .before .before .before .before .before .before .before .before .before .before .before .before .before .before .get-pat .kept .1 .1 .1 .1 .0
 
 returns-2 : (t : ℕ) → lts.Need-returns-2 (claims t) (as-pat-at t) as-pat.Post
 unfolding Pat.pat
 returns-2 t c = record { is = λ kinds. then-done (plain (c .before .before .before .before .before .before .before .before .before .before .before .before .before .before .before .get-pat .ensures)) (c .before .before .before .before .before .before .before .before .before .before .before .before .told .ensures) (c .before .before .before .before .before .before .before .before .before .before .s1 .given .1) (then-sure (c .before .before .before .before .before .before .word .ensures) (group-not (c .before .before .before .group .ensures) (c .before .before .told2 .ensures) (c .enum-told2 .given .1))) }
 
 get-pat-requires-2 : (t : ℕ) → lts.Need-get-pat-requires-2 (claims t) (as-pat-at t) as-pat.Post
-get-pat-requires-2 t c κs = omega (arith, c .before .before .before .before .before .before .before .before .before .before .before .before .before .before .before .before .before .before .before .before .before .before .before .before .before .before .pre .0)
+get-pat-requires-2 t c κs = omega (arith, c .before .before .before .before .before .before .before .before .before .before .before .before .before .before .before .before .before .before .before .before .before .before .before .before .pre .0)
 
 same-length-3 : (t : ℕ) → lts.Need-same-length-3 (claims t) (as-pat-at t) as-pat.Post
-same-length-3 t c = c .before .before .get-pat2 .kept .1 .1 .1 .1 .1 .0 ∙ c .before .before .before .before .before .before .before .before .before .before .before .before .word .kept .1 .1 .0 ∙ c .before .before .before .before .before .before .before .before .before .before .before .before .before .before .before .before .before .before .before .before .before .get-pat .kept .1 .1 .1 .1 .1 .0
+same-length-3 t c = c .before .before .get-pat2 .kept .1 .1 .1 .1 .0 ∙ c .before .before .before .before .before .before .before .before .before .before .before .before .word .kept .1 .1 .0 ∙ c .before .before .before .before .before .before .before .before .before .before .before .before .before .before .before .before .before .before .before .before .before .get-pat .kept .1 .1 .1 .1 .0
 
 returns-3 : (t : ℕ) → lts.Need-returns-3 (claims t) (as-pat-at t) as-pat.Post
 unfolding Pat.pat

@@ -23,14 +23,14 @@ enum-told : (t : ℕ) → lts.Need-enum-told (claims t) (as-tail-at t) as-tail.P
 enum-told t c = search needs
 
 as-tail-there-requires : (t : ℕ) → lts.Need-as-tail-there-requires (claims t) (as-tail-at t) as-tail.Post
-as-tail-there-requires t c κs = omega (arith, c .before .before .before .before .before .before .before .before .before .before .pre .0)
+as-tail-there-requires t c κs = omega (arith, c .before .before .before .before .before .before .before .before .pre .0)
 
 returns : (t : ℕ) → lts.Need-returns (claims t) (as-tail-at t) as-tail.Post
 unfolding Pat.as-tail
 returns t c = record { is = λ kinds. maybe-past (c .before .before .before .absent .ensures) (c .before .gone .given .1) }
 
 same-length : (t : ℕ) → lts.Need-same-length (claims t) (as-tail-at t) as-tail.Post
-same-length t c = c .before .before .as-tail-there .kept .1 .1 .1 .1 .1 .0
+same-length t c = c .before .before .as-tail-there .kept .1 .1 .1 .1 .0
 
 returns-2 : (t : ℕ) → lts.Need-returns-2 (claims t) (as-tail-at t) as-tail.Post
 unfolding Pat.as-tail

@@ -36,10 +36,10 @@ word-requires : (t : ℕ) → lts.Need-word-requires (claims t) (as-tail-there-a
 word-requires t c κs = search needs
 
 get-pat-requires : (t : ℕ) → lts.Need-get-pat-requires (claims t) (as-tail-there-at t) as-tail-there.Post
-get-pat-requires t c κs = omega (arith, c .before .before .before .before .before .before .before .before .before .before .before .before .before .before .before .before .before .pre .0)
+get-pat-requires t c κs = omega (arith, c .before .before .before .before .before .before .before .before .before .before .before .before .before .before .before .pre .0)
 
 same-length : (t : ℕ) → lts.Need-same-length (claims t) (as-tail-there-at t) as-tail-there.Post
-same-length t c = c .before .before .get-pat .kept .1 .1 .1 .1 .1 .0 ∙ c .before .before .before .before .before .before .before .word .kept .1 .1 .0
+same-length t c = c .before .before .get-pat .kept .1 .1 .1 .1 .0 ∙ c .before .before .before .before .before .before .before .word .kept .1 .1 .0
 
 returns-2 : (t : ℕ) → lts.Need-returns-2 (claims t) (as-tail-there-at t) as-tail-there.Post
 unfolding Pat.as-tail-there

@@ -46,67 +46,67 @@ use Rattle.patterns.proofs.vector_pat.Reads as vector-pat
 use Rattle.patterns.proofs.vector_pat.Kinds as vector-pat-kinds
 
 abbrev pub μ-as-pat : Measures 6 as-pat-kinds.ps ℕ
-μ-as-pat κs a = 16 * a .1 .1 .1 .1 .1 .1 .1 .1 .0 .nesting + 1
+μ-as-pat κs a = 16 * a .1 .1 .1 .1 .1 .1 .1 .0 .nesting + 1
 
 abbrev pub μ-as-tail : Measures 6 as-tail-kinds.ps ℕ
-μ-as-tail κs a = 16 * a .1 .1 .1 .1 .1 .1 .1 .1 .0 .nesting + 2
+μ-as-tail κs a = 16 * a .1 .1 .1 .1 .1 .1 .1 .0 .nesting + 2
 
 abbrev pub μ-as-tail-there : Measures 6 as-tail-there-kinds.ps ℕ
-μ-as-tail-there κs a = 16 * a .1 .1 .1 .1 .1 .1 .1 .1 .0 .nesting + 1
+μ-as-tail-there κs a = 16 * a .1 .1 .1 .1 .1 .1 .1 .0 .nesting + 1
 
 abbrev pub μ-con-arg : Measures 6 con-arg-kinds.ps ℕ
-μ-con-arg κs a = 16 * a .1 .1 .1 .1 .1 .1 .1 .1 .0 .nesting + 2
+μ-con-arg κs a = 16 * a .1 .1 .1 .1 .1 .1 .1 .0 .nesting + 2
 
 abbrev pub μ-con-arg-there : Measures 6 con-arg-there-kinds.ps ℕ
-μ-con-arg-there κs a = 16 * a .1 .1 .1 .1 .1 .1 .1 .1 .0 .nesting + 1
+μ-con-arg-there κs a = 16 * a .1 .1 .1 .1 .1 .1 .1 .0 .nesting + 1
 
 abbrev pub μ-con-pat : Measures 6 con-pat-kinds.ps ℕ
-μ-con-pat κs a = 16 * a .1 .1 .1 .1 .1 .1 .1 .1 .0 .nesting + 3
+μ-con-pat κs a = 16 * a .1 .1 .1 .1 .1 .1 .1 .0 .nesting + 3
 
 abbrev pub μ-get-pat : Measures 6 get-pat-kinds.ps ℕ
-μ-get-pat κs a = 16 * a .1 .1 .1 .1 .1 .1 .1 .1 .0 .nesting + 0
+μ-get-pat κs a = 16 * a .1 .1 .1 .1 .1 .1 .1 .0 .nesting + 0
 
 abbrev pub μ-infix-pat : Measures 6 infix-pat-kinds.ps ℕ
-μ-infix-pat κs a = 16 * a .1 .1 .1 .1 .1 .1 .1 .1 .0 .nesting + 1
+μ-infix-pat κs a = 16 * a .1 .1 .1 .1 .1 .1 .1 .0 .nesting + 1
 
 abbrev pub μ-lab-and-pat : Measures 6 lab-and-pat-kinds.ps ℕ
-μ-lab-and-pat κs a = 16 * a .1 .1 .1 .1 .1 .1 .1 .1 .0 .nesting + 1
+μ-lab-and-pat κs a = 16 * a .1 .1 .1 .1 .1 .1 .1 .0 .nesting + 1
 
 abbrev pub μ-lab-pat : Measures 6 lab-pat-kinds.ps ℕ
-μ-lab-pat κs a = 16 * a .1 .1 .1 .1 .1 .1 .1 .1 .0 .nesting + 3
+μ-lab-pat κs a = 16 * a .1 .1 .1 .1 .1 .1 .1 .0 .nesting + 3
 
 abbrev pub μ-list-pat : Measures 6 list-pat-kinds.ps ℕ
-μ-list-pat κs a = 16 * a .1 .1 .1 .1 .1 .1 .1 .1 .0 .nesting + 2
+μ-list-pat κs a = 16 * a .1 .1 .1 .1 .1 .1 .1 .0 .nesting + 2
 
 abbrev pub μ-or-pat : Measures 6 or-pat-kinds.ps ℕ
-μ-or-pat κs a = 16 * a .1 .1 .1 .1 .1 .1 .1 .1 .0 .nesting + 1
+μ-or-pat κs a = 16 * a .1 .1 .1 .1 .1 .1 .1 .0 .nesting + 1
 
 abbrev pub μ-paren-pat : Measures 6 paren-pat-kinds.ps ℕ
-μ-paren-pat κs a = 16 * a .1 .1 .1 .1 .1 .1 .1 .1 .0 .nesting + 1
+μ-paren-pat κs a = 16 * a .1 .1 .1 .1 .1 .1 .1 .0 .nesting + 1
 
 abbrev pub μ-pat-args : Measures 6 pat-args-kinds.ps ℕ
-μ-pat-args κs a = 16 * a .1 .1 .1 .1 .1 .1 .1 .1 .0 .nesting + 1
+μ-pat-args κs a = 16 * a .1 .1 .1 .1 .1 .1 .1 .0 .nesting + 1
 
 abbrev pub μ-record-pat : Measures 6 record-pat-kinds.ps ℕ
-μ-record-pat κs a = 16 * a .1 .1 .1 .1 .1 .1 .1 .1 .0 .nesting + 7
+μ-record-pat κs a = 16 * a .1 .1 .1 .1 .1 .1 .1 .0 .nesting + 7
 
 abbrev pub μ-row : Measures 6 row-kinds.ps ℕ
-μ-row κs a = 16 * a .1 .1 .1 .1 .1 .1 .1 .1 .0 .nesting + 5
+μ-row κs a = 16 * a .1 .1 .1 .1 .1 .1 .1 .0 .nesting + 5
 
 abbrev pub μ-row-inner : Measures 6 row-inner-kinds.ps ℕ
-μ-row-inner κs a = 16 * a .1 .1 .1 .1 .1 .1 .1 .1 .0 .nesting + 4
+μ-row-inner κs a = 16 * a .1 .1 .1 .1 .1 .1 .1 .0 .nesting + 4
 
 abbrev pub μ-rows : Measures 6 rows-kinds.ps ℕ
-μ-rows κs a = 16 * a .1 .1 .1 .1 .1 .1 .1 .1 .0 .nesting + 6
+μ-rows κs a = 16 * a .1 .1 .1 .1 .1 .1 .1 .0 .nesting + 6
 
 abbrev pub μ-tuple-pat : Measures 6 tuple-pat-kinds.ps ℕ
-μ-tuple-pat κs a = 16 * a .1 .1 .1 .1 .1 .1 .1 .1 .0 .nesting + 2
+μ-tuple-pat κs a = 16 * a .1 .1 .1 .1 .1 .1 .1 .0 .nesting + 2
 
 abbrev pub μ-typed-pat : Measures 6 typed-pat-kinds.ps ℕ
-μ-typed-pat κs a = 16 * a .1 .1 .1 .1 .1 .1 .1 .1 .0 .nesting + 1
+μ-typed-pat κs a = 16 * a .1 .1 .1 .1 .1 .1 .1 .0 .nesting + 1
 
 abbrev pub μ-vector-pat : Measures 6 vector-pat-kinds.ps ℕ
-μ-vector-pat κs a = 16 * a .1 .1 .1 .1 .1 .1 .1 .1 .0 .nesting + 2
+μ-vector-pat κs a = 16 * a .1 .1 .1 .1 .1 .1 .1 .0 .nesting + 2
 
 abbrev pub as-pat-at : ℕ → In 6 as-pat-kinds.ps
 as-pat-at t = and 6 as-pat-kinds.ps (is 6 as-pat-kinds.ps μ-as-pat t) as-pat.Pre

@@ -23,14 +23,14 @@ enum-told : (t : ℕ) → lts.Need-enum-told (claims t) (con-arg-at t) con-arg.P
 enum-told t c = search needs
 
 con-arg-there-requires : (t : ℕ) → lts.Need-con-arg-there-requires (claims t) (con-arg-at t) con-arg.Post
-con-arg-there-requires t c κs = omega (arith, c .before .before .before .before .before .before .before .before .before .before .pre .0)
+con-arg-there-requires t c κs = omega (arith, c .before .before .before .before .before .before .before .before .pre .0)
 
 returns : (t : ℕ) → lts.Need-returns (claims t) (con-arg-at t) con-arg.Post
 unfolding Pat.con-arg
 returns t c = record { is = λ kinds. maybe-past (c .before .before .before .absent .ensures) (c .before .gone .given .1) }
 
 same-length : (t : ℕ) → lts.Need-same-length (claims t) (con-arg-at t) con-arg.Post
-same-length t c = c .before .before .con-arg-there .kept .1 .1 .1 .1 .1 .0
+same-length t c = c .before .before .con-arg-there .kept .1 .1 .1 .1 .0
 
 returns-2 : (t : ℕ) → lts.Need-returns-2 (claims t) (con-arg-at t) con-arg.Post
 unfolding Pat.con-arg

@@ -18,10 +18,10 @@ word-requires : (t : ℕ) → lts.Need-word-requires (claims t) (con-arg-there-a
 word-requires t c κs = search needs
 
 get-pat-requires : (t : ℕ) → lts.Need-get-pat-requires (claims t) (con-arg-there-at t) con-arg-there.Post
-get-pat-requires t c κs = omega (arith, c .before .before .before .before .before .before .before .before .before .before .before .before .pre .0)
+get-pat-requires t c κs = omega (arith, c .before .before .before .before .before .before .before .before .before .before .pre .0)
 
 same-length : (t : ℕ) → lts.Need-same-length (claims t) (con-arg-there-at t) con-arg-there.Post
-same-length t c = c .before .before .get-pat .kept .1 .1 .1 .1 .1 .0 ∙ c .before .before .before .before .before .before .before .word .kept .1 .1 .0
+same-length t c = c .before .before .get-pat .kept .1 .1 .1 .1 .0 ∙ c .before .before .before .before .before .before .before .word .kept .1 .1 .0
 
 returns : (t : ℕ) → lts.Need-returns (claims t) (con-arg-there-at t) con-arg-there.Post
 unfolding Pat.con-arg-there

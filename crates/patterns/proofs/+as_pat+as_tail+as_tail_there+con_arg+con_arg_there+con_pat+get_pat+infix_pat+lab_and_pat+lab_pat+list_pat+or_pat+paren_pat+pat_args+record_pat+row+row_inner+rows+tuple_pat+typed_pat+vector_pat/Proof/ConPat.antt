@@ -28,17 +28,17 @@ enum-told : (t : ℕ) → lts.Need-enum-told (claims t) (con-pat-at t) con-pat.P
 enum-told t c = search needs
 
 same-length : (t : ℕ) → lts.Need-same-length (claims t) (con-pat-at t) con-pat.Post
-same-length t c = c .before .before .before .before .before .op-path .kept .1 .1 .1 .1 .1 .0
+same-length t c = c .before .before .before .before .before .op-path .kept .1 .1 .1 .1 .0
 
 returns : (t : ℕ) → lts.Need-returns (claims t) (con-pat-at t) con-pat.Post
 unfolding Pat.pat
 returns t c = record { is = λ kinds. then-stop (plain (c .before .before .before .before .before .op-path .ensures)) (c .before .before .told .ensures) (c .enum-told .given .1) }
 
 con-arg-requires : (t : ℕ) → lts.Need-con-arg-requires (claims t) (con-pat-at t) con-pat.Post
-con-arg-requires t c κs = omega (arith, c .before .before .before .before .before .before .before .before .before .before .before .before .before .before .before .before .pre .0)
+con-arg-requires t c κs = omega (arith, c .before .before .before .before .before .before .before .before .before .before .before .before .before .before .pre .0)
 
 same-length-2 : (t : ℕ) → lts.Need-same-length-2 (claims t) (con-pat-at t) con-pat.Post
-same-length-2 t c = c .before .before .con-arg .kept .1 .1 .1 .1 .1 .0 ∙ c .before .before .before .before .before .before .before .before .before .before .before .op-path .kept .1 .1 .1 .1 .1 .0
+same-length-2 t c = c .before .before .con-arg .kept .1 .1 .1 .1 .0 ∙ c .before .before .before .before .before .before .before .before .before .before .before .op-path .kept .1 .1 .1 .1 .0
 
 returns-2 : (t : ℕ) → lts.Need-returns-2 (claims t) (con-pat-at t) con-pat.Post
 unfolding Pat.pat

@@ -51,8 +51,8 @@ returns-2 : (t : ℕ) → lts.Need-returns-2 (claims t) (get-pat-at t) get-pat.P
 unfolding Pat.pats Pat.pat
 returns-2 t c = record { is = λ kinds. pat-form _ (c .before .before .before .before .if1 .left) (form-not (c .stop2 .ensures) (c .before .before .before .form .ensures) (c .before .enum-told .given .1)) }
 
-sub-t17 : (t : ℕ) → lts.Need-sub-t17 (claims t) (get-pat-at t) get-pat.Post
-sub-t17 t c = search needs
+sub-t16 : (t : ℕ) → lts.Need-sub-t16 (claims t) (get-pat-at t) get-pat.Post
+sub-t16 t c = search needs
 
 word-requires : (t : ℕ) → lts.Need-word-requires (claims t) (get-pat-at t) get-pat.Post
 word-requires t c κs = search needs
@@ -61,34 +61,34 @@ text-of-requires : (t : ℕ) → lts.Need-text-of-requires (claims t) (get-pat-a
 text-of-requires t c κs = search needs
 
 con-pat-requires : (t : ℕ) → lts.Need-con-pat-requires (claims t) (get-pat-at t) get-pat.Post
-con-pat-requires t c κs = omega (arith, c .before .before .before .before .before .before .before .before .before .before .before .before .before .pre .0, c .before .before .before .before .before .before .before .if1 .left)
+con-pat-requires t c κs = omega (arith, c .before .before .before .before .before .before .before .before .before .before .before .pre .0, c .before .before .before .before .before .before .before .if1 .left)
 
 record-pat-requires : (t : ℕ) → lts.Need-record-pat-requires (claims t) (get-pat-at t) get-pat.Post
-record-pat-requires t c κs = omega (arith, c .before .before .before .before .before .before .before .before .before .before .before .before .before .pre .0, c .before .before .before .before .before .before .before .if1 .left)
+record-pat-requires t c κs = omega (arith, c .before .before .before .before .before .before .before .before .before .before .before .pre .0, c .before .before .before .before .before .before .before .if1 .left)
 
 paren-pat-requires : (t : ℕ) → lts.Need-paren-pat-requires (claims t) (get-pat-at t) get-pat.Post
-paren-pat-requires t c κs = omega (arith, c .before .before .before .before .before .before .before .before .before .before .before .before .before .pre .0, c .before .before .before .before .before .before .before .if1 .left)
+paren-pat-requires t c κs = omega (arith, c .before .before .before .before .before .before .before .before .before .before .before .pre .0, c .before .before .before .before .before .before .before .if1 .left)
 
 tuple-pat-requires : (t : ℕ) → lts.Need-tuple-pat-requires (claims t) (get-pat-at t) get-pat.Post
-tuple-pat-requires t c κs = omega (arith, c .before .before .before .before .before .before .before .before .before .before .before .before .before .pre .0, c .before .before .before .before .before .before .before .if1 .left)
+tuple-pat-requires t c κs = omega (arith, c .before .before .before .before .before .before .before .before .before .before .before .pre .0, c .before .before .before .before .before .before .before .if1 .left)
 
 list-pat-requires : (t : ℕ) → lts.Need-list-pat-requires (claims t) (get-pat-at t) get-pat.Post
-list-pat-requires t c κs = omega (arith, c .before .before .before .before .before .before .before .before .before .before .before .before .before .pre .0, c .before .before .before .before .before .before .before .if1 .left)
+list-pat-requires t c κs = omega (arith, c .before .before .before .before .before .before .before .before .before .before .before .pre .0, c .before .before .before .before .before .before .before .if1 .left)
 
 vector-pat-requires : (t : ℕ) → lts.Need-vector-pat-requires (claims t) (get-pat-at t) get-pat.Post
-vector-pat-requires t c κs = omega (arith, c .before .before .before .before .before .before .before .before .before .before .before .before .before .pre .0, c .before .before .before .before .before .before .before .if1 .left)
+vector-pat-requires t c κs = omega (arith, c .before .before .before .before .before .before .before .before .before .before .before .pre .0, c .before .before .before .before .before .before .before .if1 .left)
 
 infix-pat-requires : (t : ℕ) → lts.Need-infix-pat-requires (claims t) (get-pat-at t) get-pat.Post
-infix-pat-requires t c κs = omega (arith, c .before .before .before .before .before .before .before .before .before .before .before .before .before .pre .0, c .before .before .before .before .before .before .before .if1 .left)
+infix-pat-requires t c κs = omega (arith, c .before .before .before .before .before .before .before .before .before .before .before .pre .0, c .before .before .before .before .before .before .before .if1 .left)
 
 typed-pat-requires : (t : ℕ) → lts.Need-typed-pat-requires (claims t) (get-pat-at t) get-pat.Post
-typed-pat-requires t c κs = omega (arith, c .before .before .before .before .before .before .before .before .before .before .before .before .before .pre .0, c .before .before .before .before .before .before .before .if1 .left)
+typed-pat-requires t c κs = omega (arith, c .before .before .before .before .before .before .before .before .before .before .before .pre .0, c .before .before .before .before .before .before .before .if1 .left)
 
 as-pat-requires : (t : ℕ) → lts.Need-as-pat-requires (claims t) (get-pat-at t) get-pat.Post
-as-pat-requires t c κs = omega (arith, c .before .before .before .before .before .before .before .before .before .before .before .before .before .pre .0, c .before .before .before .before .before .before .before .if1 .left)
+as-pat-requires t c κs = omega (arith, c .before .before .before .before .before .before .before .before .before .before .before .pre .0, c .before .before .before .before .before .before .before .if1 .left)
 
 or-pat-requires : (t : ℕ) → lts.Need-or-pat-requires (claims t) (get-pat-at t) get-pat.Post
-or-pat-requires t c κs = omega (arith, c .before .before .before .before .before .before .before .before .before .before .before .before .before .pre .0, c .before .before .before .before .before .before .before .if1 .left)
+or-pat-requires t c κs = omega (arith, c .before .before .before .before .before .before .before .before .before .before .before .pre .0, c .before .before .before .before .before .before .before .if1 .left)
 
 stop-requires-3 : (t : ℕ) → lts.Need-stop-requires-3 (claims t) (get-pat-at t) get-pat.Post
 stop-requires-3 t c κs = search needs
@@ -101,77 +101,77 @@ unfolding Pat.pats Pat.pat
 returns-3 t c = record { is = λ kinds. pat-form _ (c .before .before .before .before .before .before .before .before .before .before .if1 .left) (form-key (c .before .before .before .before .before .before .before .before .before .form .ensures) (c .before .before .before .before .before .before .before .k .given .1) (c .before .before .before .before .before .match2 .keys1) (last-sure (c .before .before .word .ensures))) }
 
 same-length-2 : (t : ℕ) → lts.Need-same-length-2 (claims t) (get-pat-at t) get-pat.Post
-same-length-2 t c = c .before .before .text-of .kept .1 .1 .1 .1 .1 .0
+same-length-2 t c = c .before .before .text-of .kept .1 .1 .1 .1 .0
 
 returns-4 : (t : ℕ) → lts.Need-returns-4 (claims t) (get-pat-at t) get-pat.Post
 unfolding Pat.pats Pat.pat
 returns-4 t c = record { is = λ kinds. pat-form _ (c .before .before .before .before .before .before .before .before .before .before .if1 .left) (form-key (c .before .before .before .before .before .before .before .before .before .form .ensures) (c .before .before .before .before .before .before .before .k .given .1) (c .before .before .before .before .before .match2 .keys2) (plain (c .before .before .text-of .ensures))) }
 
 same-length-3 : (t : ℕ) → lts.Need-same-length-3 (claims t) (get-pat-at t) get-pat.Post
-same-length-3 t c = c .before .before .con-pat .kept .1 .1 .1 .1 .1 .0
+same-length-3 t c = c .before .before .con-pat .kept .1 .1 .1 .1 .0
 
 returns-5 : (t : ℕ) → lts.Need-returns-5 (claims t) (get-pat-at t) get-pat.Post
 unfolding Pat.pats Pat.pat
 returns-5 t c = record { is = λ kinds. pat-form _ (c .before .before .before .before .before .before .before .before .before .before .if1 .left) (form-key (c .before .before .before .before .before .before .before .before .before .form .ensures) (c .before .before .before .before .before .before .before .k .given .1) (c .before .before .before .before .before .match2 .keys3) (plain (c .before .before .con-pat .ensures))) }
 
 same-length-4 : (t : ℕ) → lts.Need-same-length-4 (claims t) (get-pat-at t) get-pat.Post
-same-length-4 t c = c .before .before .record-pat .kept .1 .1 .1 .1 .1 .0
+same-length-4 t c = c .before .before .record-pat .kept .1 .1 .1 .1 .0
 
 returns-6 : (t : ℕ) → lts.Need-returns-6 (claims t) (get-pat-at t) get-pat.Post
 unfolding Pat.pats Pat.pat
 returns-6 t c = record { is = λ kinds. pat-form _ (c .before .before .before .before .before .before .before .before .before .before .if1 .left) (form-key (c .before .before .before .before .before .before .before .before .before .form .ensures) (c .before .before .before .before .before .before .before .k .given .1) (c .before .before .before .before .before .match2 .keys4) (plain (c .before .before .record-pat .ensures))) }
 
 same-length-5 : (t : ℕ) → lts.Need-same-length-5 (claims t) (get-pat-at t) get-pat.Post
-same-length-5 t c = c .before .before .paren-pat .kept .1 .1 .1 .1 .1 .0
+same-length-5 t c = c .before .before .paren-pat .kept .1 .1 .1 .1 .0
 
 returns-7 : (t : ℕ) → lts.Need-returns-7 (claims t) (get-pat-at t) get-pat.Post
 unfolding Pat.pats Pat.pat
 returns-7 t c = record { is = λ kinds. pat-form _ (c .before .before .before .before .before .before .before .before .before .before .if1 .left) (form-key (c .before .before .before .before .before .before .before .before .before .form .ensures) (c .before .before .before .before .before .before .before .k .given .1) (c .before .before .before .before .before .match2 .keys5) (plain (c .before .before .paren-pat .ensures))) }
 
 same-length-6 : (t : ℕ) → lts.Need-same-length-6 (claims t) (get-pat-at t) get-pat.Post
-same-length-6 t c = c .before .before .tuple-pat .kept .1 .1 .1 .1 .1 .0
+same-length-6 t c = c .before .before .tuple-pat .kept .1 .1 .1 .1 .0
 
 returns-8 : (t : ℕ) → lts.Need-returns-8 (claims t) (get-pat-at t) get-pat.Post
 unfolding Pat.pats Pat.pat
 returns-8 t c = record { is = λ kinds. pat-form _ (c .before .before .before .before .before .before .before .before .before .before .if1 .left) (form-key (c .before .before .before .before .before .before .before .before .before .form .ensures) (c .before .before .before .before .before .before .before .k .given .1) (c .before .before .before .before .before .match2 .keys6) (plain (c .before .before .tuple-pat .ensures))) }
 
 same-length-7 : (t : ℕ) → lts.Need-same-length-7 (claims t) (get-pat-at t) get-pat.Post
-same-length-7 t c = c .before .before .list-pat .kept .1 .1 .1 .1 .1 .0
+same-length-7 t c = c .before .before .list-pat .kept .1 .1 .1 .1 .0
 
 returns-9 : (t : ℕ) → lts.Need-returns-9 (claims t) (get-pat-at t) get-pat.Post
 unfolding Pat.pats Pat.pat
 returns-9 t c = record { is = λ kinds. pat-form _ (c .before .before .before .before .before .before .before .before .before .before .if1 .left) (form-key (c .before .before .before .before .before .before .before .before .before .form .ensures) (c .before .before .before .before .before .before .before .k .given .1) (c .before .before .before .before .before .match2 .keys7) (plain (c .before .before .list-pat .ensures))) }
 
 same-length-8 : (t : ℕ) → lts.Need-same-length-8 (claims t) (get-pat-at t) get-pat.Post
-same-length-8 t c = c .before .before .vector-pat .kept .1 .1 .1 .1 .1 .0
+same-length-8 t c = c .before .before .vector-pat .kept .1 .1 .1 .1 .0
 
 returns-10 : (t : ℕ) → lts.Need-returns-10 (claims t) (get-pat-at t) get-pat.Post
 unfolding Pat.pats Pat.pat
 returns-10 t c = record { is = λ kinds. pat-form _ (c .before .before .before .before .before .before .before .before .before .before .if1 .left) (form-key (c .before .before .before .before .before .before .before .before .before .form .ensures) (c .before .before .before .before .before .before .before .k .given .1) (c .before .before .before .before .before .match2 .keys8) (plain (c .before .before .vector-pat .ensures))) }
 
 same-length-9 : (t : ℕ) → lts.Need-same-length-9 (claims t) (get-pat-at t) get-pat.Post
-same-length-9 t c = c .before .before .infix-pat .kept .1 .1 .1 .1 .1 .0
+same-length-9 t c = c .before .before .infix-pat .kept .1 .1 .1 .1 .0
 
 returns-11 : (t : ℕ) → lts.Need-returns-11 (claims t) (get-pat-at t) get-pat.Post
 unfolding Pat.pats Pat.pat
 returns-11 t c = record { is = λ kinds. pat-form _ (c .before .before .before .before .before .before .before .before .before .before .if1 .left) (form-key (c .before .before .before .before .before .before .before .before .before .form .ensures) (c .before .before .before .before .before .before .before .k .given .1) (c .before .before .before .before .before .match2 .keys9) (plain (c .before .before .infix-pat .ensures))) }
 
 same-length-10 : (t : ℕ) → lts.Need-same-length-10 (claims t) (get-pat-at t) get-pat.Post
-same-length-10 t c = c .before .before .typed-pat .kept .1 .1 .1 .1 .1 .0
+same-length-10 t c = c .before .before .typed-pat .kept .1 .1 .1 .1 .0
 
 returns-12 : (t : ℕ) → lts.Need-returns-12 (claims t) (get-pat-at t) get-pat.Post
 unfolding Pat.pats Pat.pat
 returns-12 t c = record { is = λ kinds. pat-form _ (c .before .before .before .before .before .before .before .before .before .before .if1 .left) (form-key (c .before .before .before .before .before .before .before .before .before .form .ensures) (c .before .before .before .before .before .before .before .k .given .1) (c .before .before .before .before .before .match2 .keys10) (plain (c .before .before .typed-pat .ensures))) }
 
 same-length-11 : (t : ℕ) → lts.Need-same-length-11 (claims t) (get-pat-at t) get-pat.Post
-same-length-11 t c = c .before .before .as-pat .kept .1 .1 .1 .1 .1 .0
+same-length-11 t c = c .before .before .as-pat .kept .1 .1 .1 .1 .0
 
 returns-13 : (t : ℕ) → lts.Need-returns-13 (claims t) (get-pat-at t) get-pat.Post
 unfolding Pat.pats Pat.pat
 returns-13 t c = record { is = λ kinds. pat-form _ (c .before .before .before .before .before .before .before .before .before .before .if1 .left) (form-key (c .before .before .before .before .before .before .before .before .before .form .ensures) (c .before .before .before .before .before .before .before .k .given .1) (c .before .before .before .before .before .match2 .keys11) (plain (c .before .before .as-pat .ensures))) }
 
 same-length-12 : (t : ℕ) → lts.Need-same-length-12 (claims t) (get-pat-at t) get-pat.Post
-same-length-12 t c = c .before .before .or-pat .kept .1 .1 .1 .1 .1 .0
+same-length-12 t c = c .before .before .or-pat .kept .1 .1 .1 .1 .0
 
 returns-14 : (t : ℕ) → lts.Need-returns-14 (claims t) (get-pat-at t) get-pat.Post
 unfolding Pat.pats Pat.pat
@@ -179,7 +179,7 @@ returns-14 t c = record { is = λ kinds. pat-form _ (c .before .before .before .
 
 returns-15 : (t : ℕ) → lts.Need-returns-15 (claims t) (get-pat-at t) get-pat.Post
 unfolding Pat.pats Pat.pat
-returns-15 t c = record { is = λ kinds. pat-form _ (c .before .before .before .before .before .before .if1 .left) (by-same (form-is (c .before .before .before .before .before .form .ensures) (c .before .before .before .k .given .1)) (beyond (Pat.pats (walks (c .before .before .before .before .before .before .before .before .before .before .before .before .args .cfg .nesting - 1))) (c .before .before .before .k .given .0 .0) 12 refl (past (past (past (past (past (past (past (past (past (past (past (past zero-le (c .before .match2 .rest .0 .0 .0 .0 .0 .0 .0 .0 .0 .0 .0 .1)) (c .before .match2 .rest .0 .0 .0 .0 .0 .0 .0 .0 .0 .0 .1)) (c .before .match2 .rest .0 .0 .0 .0 .0 .0 .0 .0 .0 .1)) (c .before .match2 .rest .0 .0 .0 .0 .0 .0 .0 .0 .1)) (c .before .match2 .rest .0 .0 .0 .0 .0 .0 .0 .1)) (c .before .match2 .rest .0 .0 .0 .0 .0 .0 .1)) (c .before .match2 .rest .0 .0 .0 .0 .0 .1)) (c .before .match2 .rest .0 .0 .0 .0 .1)) (c .before .match2 .rest .0 .0 .0 .1)) (c .before .match2 .rest .0 .0 .1)) (c .before .match2 .rest .0 .1)) (c .before .match2 .rest .1)) (c .stop3 .ensures))) }
+returns-15 t c = record { is = λ kinds. pat-form _ (c .before .before .before .before .before .before .if1 .left) (by-same (form-is (c .before .before .before .before .before .form .ensures) (c .before .before .before .k .given .1)) (beyond (Pat.pats (walks (c .before .before .before .before .before .before .before .before .before .before .args .cfg .nesting - 1))) (c .before .before .before .k .given .0 .0) 12 refl (past (past (past (past (past (past (past (past (past (past (past (past zero-le (c .before .match2 .rest .0 .0 .0 .0 .0 .0 .0 .0 .0 .0 .0 .1)) (c .before .match2 .rest .0 .0 .0 .0 .0 .0 .0 .0 .0 .0 .1)) (c .before .match2 .rest .0 .0 .0 .0 .0 .0 .0 .0 .0 .1)) (c .before .match2 .rest .0 .0 .0 .0 .0 .0 .0 .0 .1)) (c .before .match2 .rest .0 .0 .0 .0 .0 .0 .0 .1)) (c .before .match2 .rest .0 .0 .0 .0 .0 .0 .1)) (c .before .match2 .rest .0 .0 .0 .0 .0 .1)) (c .before .match2 .rest .0 .0 .0 .0 .1)) (c .before .match2 .rest .0 .0 .0 .1)) (c .before .match2 .rest .0 .0 .1)) (c .before .match2 .rest .0 .1)) (c .before .match2 .rest .1)) (c .stop3 .ensures))) }
 
 pub met : {M : Type 1} (t : ℕ) → lts.Closed (claims t) (get-pat-at t) get-pat.Post M
-met t = lts.spec (claims t) (get-pat-at t) get-pat.Post (stop-requires t) (returns t) (form-requires t) (enum-known-k t) (enum-told t) (stop-requires-2 t) (returns-2 t) (sub-t17 t) (word-requires t) (text-of-requires t) (con-pat-requires t) (record-pat-requires t) (paren-pat-requires t) (tuple-pat-requires t) (list-pat-requires t) (vector-pat-requires t) (infix-pat-requires t) (typed-pat-requires t) (as-pat-requires t) (or-pat-requires t) (stop-requires-3 t) (same-length t) (returns-3 t) (same-length-2 t) (returns-4 t) (same-length-3 t) (returns-5 t) (same-length-4 t) (returns-6 t) (same-length-5 t) (returns-7 t) (same-length-6 t) (returns-8 t) (same-length-7 t) (returns-9 t) (same-length-8 t) (returns-10 t) (same-length-9 t) (returns-11 t) (same-length-10 t) (returns-12 t) (same-length-11 t) (returns-13 t) (same-length-12 t) (returns-14 t) (returns-15 t)
+met t = lts.spec (claims t) (get-pat-at t) get-pat.Post (stop-requires t) (returns t) (form-requires t) (enum-known-k t) (enum-told t) (stop-requires-2 t) (returns-2 t) (sub-t16 t) (word-requires t) (text-of-requires t) (con-pat-requires t) (record-pat-requires t) (paren-pat-requires t) (tuple-pat-requires t) (list-pat-requires t) (vector-pat-requires t) (infix-pat-requires t) (typed-pat-requires t) (as-pat-requires t) (or-pat-requires t) (stop-requires-3 t) (same-length t) (returns-3 t) (same-length-2 t) (returns-4 t) (same-length-3 t) (returns-5 t) (same-length-4 t) (returns-6 t) (same-length-5 t) (returns-7 t) (same-length-6 t) (returns-8 t) (same-length-7 t) (returns-9 t) (same-length-8 t) (returns-10 t) (same-length-9 t) (returns-11 t) (same-length-10 t) (returns-12 t) (same-length-11 t) (returns-13 t) (same-length-12 t) (returns-14 t) (returns-15 t)

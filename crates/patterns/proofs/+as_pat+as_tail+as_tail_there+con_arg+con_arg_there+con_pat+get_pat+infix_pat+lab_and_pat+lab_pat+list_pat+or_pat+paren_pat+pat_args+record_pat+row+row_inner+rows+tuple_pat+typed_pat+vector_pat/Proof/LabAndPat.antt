@@ -29,7 +29,7 @@ enum-told : (t : ℕ) → lts.Need-enum-told (claims t) (lab-and-pat-at t) lab-a
 enum-told t c = search needs
 
 same-length : (t : ℕ) → lts.Need-same-length (claims t) (lab-and-pat-at t) lab-and-pat.Post
-same-length t c = c .before .before .before .before .before .text-of .kept .1 .1 .1 .1 .1 .0
+same-length t c = c .before .before .before .before .before .text-of .kept .1 .1 .1 .1 .0
 
 returns : (t : ℕ) → lts.Need-returns (claims t) (lab-and-pat-at t) lab-and-pat.Post
 unfolding Pat.LabAndPatPatRow
@@ -39,10 +39,10 @@ word-requires : (t : ℕ) → lts.Need-word-requires (claims t) (lab-and-pat-at 
 word-requires t c κs = search needs
 
 get-pat-requires : (t : ℕ) → lts.Need-get-pat-requires (claims t) (lab-and-pat-at t) lab-and-pat.Post
-get-pat-requires t c κs = omega (arith, c .before .before .before .before .before .before .before .before .before .before .before .before .before .before .before .before .before .before .before .before .before .pre .0)
+get-pat-requires t c κs = omega (arith, c .before .before .before .before .before .before .before .before .before .before .before .before .before .before .before .before .before .before .before .pre .0)
 
 same-length-2 : (t : ℕ) → lts.Need-same-length-2 (claims t) (lab-and-pat-at t) lab-and-pat.Post
-same-length-2 t c = c .before .before .get-pat .kept .1 .1 .1 .1 .1 .0 ∙ c .before .before .before .before .before .before .before .word .kept .1 .1 .0 ∙ c .before .before .before .before .before .before .before .before .before .before .before .before .before .before .before .before .text-of .kept .1 .1 .1 .1 .1 .0
+same-length-2 t c = c .before .before .get-pat .kept .1 .1 .1 .1 .0 ∙ c .before .before .before .before .before .before .before .word .kept .1 .1 .0 ∙ c .before .before .before .before .before .before .before .before .before .before .before .before .before .before .before .before .text-of .kept .1 .1 .1 .1 .0
 
 returns-2 : (t : ℕ) → lts.Need-returns-2 (claims t) (lab-and-pat-at t) lab-and-pat.Post
 unfolding Pat.LabAndPatPatRow

@@ -29,7 +29,7 @@ enum-told : (t : ℕ) → lts.Need-enum-told (claims t) (lab-pat-at t) lab-pat.P
 enum-told t c = search needs
 
 same-length : (t : ℕ) → lts.Need-same-length (claims t) (lab-pat-at t) lab-pat.Post
-same-length t c = c .before .before .before .before .before .text-of .kept .1 .1 .1 .1 .1 .0
+same-length t c = c .before .before .before .before .before .text-of .kept .1 .1 .1 .1 .0
 
 returns : (t : ℕ) → lts.Need-returns (claims t) (lab-pat-at t) lab-pat.Post
 unfolding Pat.LabPatRow
@@ -48,17 +48,17 @@ enum-told-2 : (t : ℕ) → lts.Need-enum-told-2 (claims t) (lab-pat-at t) lab-p
 enum-told-2 t c = search needs
 
 same-length-2 : (t : ℕ) → lts.Need-same-length-2 (claims t) (lab-pat-at t) lab-pat.Post
-same-length-2 t c = c .before .before .before .before .before .ty-annotation .kept .1 .1 .1 .1 .1 .0 ∙ c .before .before .before .before .before .before .before .before .before .before .before .before .before .before .text-of .kept .1 .1 .1 .1 .1 .0
+same-length-2 t c = c .before .before .before .before .before .ty-annotation .kept .1 .1 .1 .1 .0 ∙ c .before .before .before .before .before .before .before .before .before .before .before .before .before .before .text-of .kept .1 .1 .1 .1 .0
 
 returns-2 : (t : ℕ) → lts.Need-returns-2 (claims t) (lab-pat-at t) lab-pat.Post
 unfolding Pat.LabPatRow
 returns-2 t c = record { is = λ kinds. then-done (plain (c .before .before .before .before .before .before .before .before .before .before .before .before .before .before .text-of .ensures)) (c .before .before .before .before .before .before .before .before .before .before .before .told .ensures) (c .before .before .before .before .before .before .before .before .before .s1 .given .1) (then-stop (plain (c .before .before .before .before .before .ty-annotation .ensures)) (c .before .before .told2 .ensures) (c .enum-told2 .given .1)) }
 
 as-tail-requires : (t : ℕ) → lts.Need-as-tail-requires (claims t) (lab-pat-at t) lab-pat.Post
-as-tail-requires t c κs = omega (arith, c .before .before .before .before .before .before .before .before .before .before .before .before .before .before .before .before .before .before .before .before .before .before .before .before .before .pre .0)
+as-tail-requires t c κs = omega (arith, c .before .before .before .before .before .before .before .before .before .before .before .before .before .before .before .before .before .before .before .before .before .before .before .pre .0)
 
 same-length-3 : (t : ℕ) → lts.Need-same-length-3 (claims t) (lab-pat-at t) lab-pat.Post
-same-length-3 t c = c .before .before .as-tail .kept .1 .1 .1 .1 .1 .0 ∙ c .before .before .before .before .before .before .before .before .before .before .before .ty-annotation .kept .1 .1 .1 .1 .1 .0 ∙ c .before .before .before .before .before .before .before .before .before .before .before .before .before .before .before .before .before .before .before .before .text-of .kept .1 .1 .1 .1 .1 .0
+same-length-3 t c = c .before .before .as-tail .kept .1 .1 .1 .1 .0 ∙ c .before .before .before .before .before .before .before .before .before .before .before .ty-annotation .kept .1 .1 .1 .1 .0 ∙ c .before .before .before .before .before .before .before .before .before .before .before .before .before .before .before .before .before .before .before .before .text-of .kept .1 .1 .1 .1 .0
 
 returns-3 : (t : ℕ) → lts.Need-returns-3 (claims t) (lab-pat-at t) lab-pat.Post
 unfolding Pat.LabPatRow

@@ -16,7 +16,7 @@ abbrev pub claims : ℕ → lts.Claims
 claims t = (get-pat-below t, get-pat.Post, told-reads.Asked, told-reads.Learnt, word-reads.Asked, word-reads.Learnt)
 
 get-pat-requires : (t : ℕ) → lts.Need-get-pat-requires (claims t) (or-pat-at t) or-pat.Post
-get-pat-requires t c κs = omega (arith, c .before .before .before .before .before .before .before .pre .0)
+get-pat-requires t c κs = omega (arith, c .before .before .before .before .before .pre .0)
 
 told-requires : (t : ℕ) → lts.Need-told-requires (claims t) (or-pat-at t) or-pat.Post
 told-requires t c κs = search needs
@@ -28,7 +28,7 @@ enum-told : (t : ℕ) → lts.Need-enum-told (claims t) (or-pat-at t) or-pat.Pos
 enum-told t c = search needs
 
 same-length : (t : ℕ) → lts.Need-same-length (claims t) (or-pat-at t) or-pat.Post
-same-length t c = c .before .before .before .before .before .get-pat .kept .1 .1 .1 .1 .1 .0
+same-length t c = c .before .before .before .before .before .get-pat .kept .1 .1 .1 .1 .0
 
 returns : (t : ℕ) → lts.Need-returns (claims t) (or-pat-at t) or-pat.Post
 unfolding Pat.pat
@@ -38,10 +38,10 @@ word-requires : (t : ℕ) → lts.Need-word-requires (claims t) (or-pat-at t) or
 word-requires t c κs = search needs
 
 get-pat-requires-2 : (t : ℕ) → lts.Need-get-pat-requires-2 (claims t) (or-pat-at t) or-pat.Post
-get-pat-requires-2 t c κs = omega (arith, c .before .before .before .before .before .before .before .before .before .before .before .before .before .before .before .before .before .before .before .before .before .pre .0)
+get-pat-requires-2 t c κs = omega (arith, c .before .before .before .before .before .before .before .before .before .before .before .before .before .before .before .before .before .before .before .pre .0)
 
 same-length-2 : (t : ℕ) → lts.Need-same-length-2 (claims t) (or-pat-at t) or-pat.Post
-same-length-2 t c = c .before .before .get-pat2 .kept .1 .1 .1 .1 .1 .0 ∙ c .before .before .before .before .before .before .before .word .kept .1 .1 .0 ∙ c .before .before .before .before .before .before .before .before .before .before .before .before .before .before .before .before .get-pat .kept .1 .1 .1 .1 .1 .0
+same-length-2 t c = c .before .before .get-pat2 .kept .1 .1 .1 .1 .0 ∙ c .before .before .before .before .before .before .before .word .kept .1 .1 .0 ∙ c .before .before .before .before .before .before .before .before .before .before .before .before .before .before .before .before .get-pat .kept .1 .1 .1 .1 .0
 
 returns-2 : (t : ℕ) → lts.Need-returns-2 (claims t) (or-pat-at t) or-pat.Post
 unfolding Pat.pat

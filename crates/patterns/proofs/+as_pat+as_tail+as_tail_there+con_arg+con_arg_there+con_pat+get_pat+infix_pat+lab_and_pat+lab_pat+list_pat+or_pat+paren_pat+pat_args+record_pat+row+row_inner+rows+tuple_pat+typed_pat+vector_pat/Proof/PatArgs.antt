@@ -22,11 +22,11 @@ abbrev pub claims : ℕ → lts.Claims
 claims t = (list-reads.Asked, list-reads.Learnt, stop-reads.Asked, stop-reads.Learnt, between-reads.Asked, between-reads.Learnt, group-reads.Asked, group-reads.Learnt, told-reads.Asked, told-reads.Learnt, get-pat-below t, get-pat.Post)
 
 abbrev Inv-loop : lts.InvT-loop
-Inv-loop run text rec starts lens out₀ mem₀ at cfg n s0 s₀ i₀ out mem s i =
-    PlainTurn run text rec starts lens (from (Layout.word ", ") (Layout.group (walks (cfg .nesting) .get-pat))) n s₀ mem₀ out₀ i s mem out
+Inv-loop run text rec spans out₀ mem₀ at cfg n s0 s₀ i₀ out mem s i =
+    PlainTurn run text rec spans (from (Layout.word ", ") (Layout.group (walks (cfg .nesting) .get-pat))) n s₀ mem₀ out₀ i s mem out
 
 abbrev μ-loop : lts.MeasureT-loop
-μ-loop run text rec starts lens out₀ mem₀ at cfg n s0 s₀ i₀ out mem s i = n - i
+μ-loop run text rec spans out₀ mem₀ at cfg n s0 s₀ i₀ out mem s i = n - i
 
 list-requires : (t : ℕ) → lts.Need-list-requires (claims t) (pat-args-at t) pat-args.Post Inv-loop μ-loop
 list-requires t c κs = search needs
@@ -70,7 +70,7 @@ unfolding Pat.pat-args Helpers.sep
 returns-2 t c = record { is = λ kinds. by-same (list-is (c .before .before .before .before .before .before .before .before .before .before .before .before .before .before .list .ensures) (c .before .before .before .before .before .before .before .before .before .before .before .before .n .given .1)) (by-same (items-all _ _ _) (c .before .before .before .before .before .before .before .before .before .before .loop .inv .1 kinds _ _ _ (from-more _ _ (c .before .before .before .before .before .before .before .before .before .loop-test .taken) (then-sure (c .before .before .before .before .before .before .between .ensures) (then-stop (group-not (c .before .before .before .group .ensures) (c .before .before .told .ensures) (c .enum-told2 .given .1)) (c .before .before .told .ensures) (c .enum-told2 .given .1)))))) }
 
 get-pat-requires : (t : ℕ) → lts.Need-get-pat-requires (claims t) (pat-args-at t) pat-args.Post Inv-loop μ-loop
-get-pat-requires t c κs = omega (arith, c .before .before .before .before .before .before .before .before .before .before .before .before .before .before .before .before .before .before .before .before .before .before .before .pre .0)
+get-pat-requires t c κs = omega (arith, c .before .before .before .before .before .before .before .before .before .before .before .before .before .before .before .before .before .before .before .before .before .pre .0)
 
 told-requires-2 : (t : ℕ) → lts.Need-told-requires-2 (claims t) (pat-args-at t) pat-args.Post Inv-loop μ-loop
 told-requires-2 t c κs = search needs
@@ -82,7 +82,7 @@ enum-told-3 : (t : ℕ) → lts.Need-enum-told-3 (claims t) (pat-args-at t) pat-
 enum-told-3 t c = search needs
 
 same-length-2 : (t : ℕ) → lts.Need-same-length-2 (claims t) (pat-args-at t) pat-args.Post Inv-loop μ-loop
-same-length-2 t c = c .before .before .before .before .before .get-pat .kept .1 .1 .1 .1 .1 .0 ∙ c .before .before .before .before .before .before .before .before .before .before .before .before .before .before .before .between .kept .1 .1 .0 ∙ c .before .before .before .before .before .before .before .before .before .before .before .before .before .before .before .before .before .before .before .loop .inv .2
+same-length-2 t c = c .before .before .before .before .before .get-pat .kept .1 .1 .1 .1 .0 ∙ c .before .before .before .before .before .before .before .before .before .before .before .before .before .before .before .between .kept .1 .1 .0 ∙ c .before .before .before .before .before .before .before .before .before .before .before .before .before .before .before .before .before .before .before .loop .inv .2
 
 returns-3 : (t : ℕ) → lts.Need-returns-3 (claims t) (pat-args-at t) pat-args.Post Inv-loop μ-loop
 unfolding Pat.pat-args Helpers.sep
@@ -96,7 +96,7 @@ loop-less t c = omega arith
 
 loop-again : (t : ℕ) → lts.Need-loop-again (claims t) (pat-args-at t) pat-args.Post Inv-loop μ-loop
 unfolding Pat.pat-args Helpers.sep
-loop-again t c = (omega (arith, c .before .before .before .before .before .before .before .before .before .before .before .before .before .before .before .before .before .before .before .before .loop .inv .0), λ kinds r m o h. c .before .before .before .before .before .before .before .before .before .before .before .before .before .before .before .before .before .before .before .before .loop .inv .1 kinds r m o (from-more _ _ (c .before .before .before .before .before .before .before .before .before .before .before .before .before .before .before .before .before .before .before .loop-test .taken) (then-sure (c .before .before .before .before .before .before .before .before .before .before .before .before .before .before .before .before .between .ensures) (by-same (first-same (group-is (c .before .before .before .before .before .before .before .before .before .before .before .before .before .group .ensures) (c .before .before .before .before .before .before .before .before .before .before .before .before .told .ensures) (c .before .before .before .before .before .before .before .before .before .before .s1 .given .1))) (then-done (plain (c .before .before .before .before .before .before .get-pat .ensures)) (c .before .before .before .told2 .ensures) (c .before .s2 .given .1) h)))), c .before .before .before .before .before .before .get-pat .kept .1 .1 .1 .1 .1 .0 ∙ c .before .before .before .before .before .before .before .before .before .before .before .before .before .before .before .before .between .kept .1 .1 .0 ∙ c .before .before .before .before .before .before .before .before .before .before .before .before .before .before .before .before .before .before .before .before .loop .inv .2)
+loop-again t c = (omega (arith, c .before .before .before .before .before .before .before .before .before .before .before .before .before .before .before .before .before .before .before .before .loop .inv .0), λ kinds r m o h. c .before .before .before .before .before .before .before .before .before .before .before .before .before .before .before .before .before .before .before .before .loop .inv .1 kinds r m o (from-more _ _ (c .before .before .before .before .before .before .before .before .before .before .before .before .before .before .before .before .before .before .before .loop-test .taken) (then-sure (c .before .before .before .before .before .before .before .before .before .before .before .before .before .before .before .before .between .ensures) (by-same (first-same (group-is (c .before .before .before .before .before .before .before .before .before .before .before .before .before .group .ensures) (c .before .before .before .before .before .before .before .before .before .before .before .before .told .ensures) (c .before .before .before .before .before .before .before .before .before .before .s1 .given .1))) (then-done (plain (c .before .before .before .before .before .before .get-pat .ensures)) (c .before .before .before .told2 .ensures) (c .before .s2 .given .1) h)))), c .before .before .before .before .before .before .get-pat .kept .1 .1 .1 .1 .0 ∙ c .before .before .before .before .before .before .before .before .before .before .before .before .before .before .before .before .between .kept .1 .1 .0 ∙ c .before .before .before .before .before .before .before .before .before .before .before .before .before .before .before .before .before .before .before .before .loop .inv .2)
 
 same-length-3 : (t : ℕ) → lts.Need-same-length-3 (claims t) (pat-args-at t) pat-args.Post Inv-loop μ-loop
 same-length-3 t c = c .before .loop .inv .2

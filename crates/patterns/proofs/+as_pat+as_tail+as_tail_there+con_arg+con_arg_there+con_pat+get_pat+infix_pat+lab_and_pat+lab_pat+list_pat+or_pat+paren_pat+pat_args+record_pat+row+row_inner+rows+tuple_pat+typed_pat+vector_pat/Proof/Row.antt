@@ -49,10 +49,10 @@ unfolding Pat.pat-row
 returns-2 t c = record { is = λ kinds. by-same (group-is (c .before .before .before .before .before .before .before .before .group .ensures) (c .before .before .before .before .before .before .before .told .ensures) (c .before .before .before .before .before .s1 .given .1)) (choice-not (c .stop .ensures) (c .before .before .before .choice .ensures) (c .before .enum-told2 .given .1)) }
 
 row-inner-requires : (t : ℕ) → lts.Need-row-inner-requires (claims t) (row-at t) row.Post
-row-inner-requires t c κs = omega (arith, c .before .before .before .before .before .before .before .before .before .before .before .before .before .before .before .before .pre .0)
+row-inner-requires t c κs = omega (arith, c .before .before .before .before .before .before .before .before .before .before .before .before .before .before .pre .0)
 
 same-length : (t : ℕ) → lts.Need-same-length (claims t) (row-at t) row.Post
-same-length t c = c .before .before .row-inner .kept .1 .1 .1 .1 .1 .0
+same-length t c = c .before .before .row-inner .kept .1 .1 .1 .1 .0
 
 returns-3 : (t : ℕ) → lts.Need-returns-3 (claims t) (row-at t) row.Post
 unfolding Pat.pat-row

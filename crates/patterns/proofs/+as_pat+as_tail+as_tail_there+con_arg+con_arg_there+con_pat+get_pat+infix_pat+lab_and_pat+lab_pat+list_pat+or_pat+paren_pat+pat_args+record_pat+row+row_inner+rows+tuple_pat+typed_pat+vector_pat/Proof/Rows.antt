@@ -21,11 +21,11 @@ abbrev pub claims : ℕ → lts.Claims
 claims t = (list-reads.Asked, list-reads.Learnt, stop-reads.Asked, stop-reads.Learnt, between-reads.Asked, between-reads.Learnt, row-below t, row.Post, told-reads.Asked, told-reads.Learnt)
 
 abbrev Inv-loop : lts.InvT-loop
-Inv-loop run text rec starts lens out₀ mem₀ at cfg n s0 s₀ i₀ out mem s i =
-    PlainTurn run text rec starts lens (from (Layout.word ", ") (Pat.pat-row (walks (cfg .nesting)))) n s₀ mem₀ out₀ i s mem out
+Inv-loop run text rec spans out₀ mem₀ at cfg n s0 s₀ i₀ out mem s i =
+    PlainTurn run text rec spans (from (Layout.word ", ") (Pat.pat-row (walks (cfg .nesting)))) n s₀ mem₀ out₀ i s mem out
 
 abbrev μ-loop : lts.MeasureT-loop
-μ-loop run text rec starts lens out₀ mem₀ at cfg n s0 s₀ i₀ out mem s i = n - i
+μ-loop run text rec spans out₀ mem₀ at cfg n s0 s₀ i₀ out mem s i = n - i
 
 list-requires : (t : ℕ) → lts.Need-list-requires (claims t) (rows-at t) rows.Post Inv-loop μ-loop
 list-requires t c κs = search needs
@@ -50,7 +50,7 @@ between-requires : (t : ℕ) → lts.Need-between-requires (claims t) (rows-at t
 between-requires t c κs = search needs
 
 row-requires : (t : ℕ) → lts.Need-row-requires (claims t) (rows-at t) rows.Post Inv-loop μ-loop
-row-requires t c κs = omega (arith, c .before .before .before .before .before .before .before .before .before .before .before .before .before .before .before .before .before .before .pre .0)
+row-requires t c κs = omega (arith, c .before .before .before .before .before .before .before .before .before .before .before .before .before .before .before .before .pre .0)
 
 told-requires : (t : ℕ) → lts.Need-told-requires (claims t) (rows-at t) rows.Post Inv-loop μ-loop
 told-requires t c κs = search needs
@@ -62,7 +62,7 @@ enum-told-2 : (t : ℕ) → lts.Need-enum-told-2 (claims t) (rows-at t) rows.Pos
 enum-told-2 t c = search needs
 
 same-length : (t : ℕ) → lts.Need-same-length (claims t) (rows-at t) rows.Post Inv-loop μ-loop
-same-length t c = c .before .before .before .before .before .row .kept .1 .1 .1 .1 .1 .0 ∙ c .before .before .before .before .before .before .before .before .before .before .between .kept .1 .1 .0 ∙ c .before .before .before .before .before .before .before .before .before .before .before .before .before .before .loop .inv .2
+same-length t c = c .before .before .before .before .before .row .kept .1 .1 .1 .1 .0 ∙ c .before .before .before .before .before .before .before .before .before .before .between .kept .1 .1 .0 ∙ c .before .before .before .before .before .before .before .before .before .before .before .before .before .before .loop .inv .2
 
 returns-2 : (t : ℕ) → lts.Need-returns-2 (claims t) (rows-at t) rows.Post Inv-loop μ-loop
 unfolding Pat.pat-rows Helpers.sep
@@ -76,7 +76,7 @@ loop-less t c = omega arith
 
 loop-again : (t : ℕ) → lts.Need-loop-again (claims t) (rows-at t) rows.Post Inv-loop μ-loop
 unfolding Pat.pat-rows Helpers.sep
-loop-again t c = (omega (arith, c .before .before .before .before .before .before .before .before .before .before .before .before .before .before .before .loop .inv .0), λ kinds r m o h. c .before .before .before .before .before .before .before .before .before .before .before .before .before .before .before .loop .inv .1 kinds r m o (from-more _ _ (c .before .before .before .before .before .before .before .before .before .before .before .before .before .before .loop-test .taken) (then-sure (c .before .before .before .before .before .before .before .before .before .before .before .between .ensures) (then-done (plain (c .before .before .before .before .before .before .row .ensures)) (c .before .before .before .told .ensures) (c .before .s1 .given .1) h))), c .before .before .before .before .before .before .row .kept .1 .1 .1 .1 .1 .0 ∙ c .before .before .before .before .before .before .before .before .before .before .before .between .kept .1 .1 .0 ∙ c .before .before .before .before .before .before .before .before .before .before .before .before .before .before .before .loop .inv .2)
+loop-again t c = (omega (arith, c .before .before .before .before .before .before .before .before .before .before .before .before .before .before .before .loop .inv .0), λ kinds r m o h. c .before .before .before .before .before .before .before .before .before .before .before .before .before .before .before .loop .inv .1 kinds r m o (from-more _ _ (c .before .before .before .before .before .before .before .before .before .before .before .before .before .before .loop-test .taken) (then-sure (c .before .before .before .before .before .before .before .before .before .before .before .between .ensures) (then-done (plain (c .before .before .before .before .before .before .row .ensures)) (c .before .before .before .told .ensures) (c .before .s1 .given .1) h))), c .before .before .before .before .before .before .row .kept .1 .1 .1 .1 .0 ∙ c .before .before .before .before .before .before .before .before .before .before .before .between .kept .1 .1 .0 ∙ c .before .before .before .before .before .before .before .before .before .before .before .before .before .before .before .loop .inv .2)
 
 same-length-2 : (t : ℕ) → lts.Need-same-length-2 (claims t) (rows-at t) rows.Post Inv-loop μ-loop
 same-length-2 t c = c .before .loop .inv .2

@@ -17,7 +17,7 @@ abbrev pub claims : ℕ → lts.Claims
 claims t = (get-pat-below t, get-pat.Post, told-reads.Asked, told-reads.Learnt, word-reads.Asked, word-reads.Learnt, get-ty-reads.Asked, get-ty-reads.Learnt)
 
 get-pat-requires : (t : ℕ) → lts.Need-get-pat-requires (claims t) (typed-pat-at t) typed-pat.Post
-get-pat-requires t c κs = omega (arith, c .before .before .before .before .before .before .before .pre .0)
+get-pat-requires t c κs = omega (arith, c .before .before .before .before .before .pre .0)
 
 told-requires : (t : ℕ) → lts.Need-told-requires (claims t) (typed-pat-at t) typed-pat.Post
 told-requires t c κs = search needs
@@ -29,7 +29,7 @@ enum-told : (t : ℕ) → lts.Need-enum-told (claims t) (typed-pat-at t) typed-p
 enum-told t c = search needs
 
 same-length : (t : ℕ) → lts.Need-same-length (claims t) (typed-pat-at t) typed-pat.Post
-same-length t c = c .before .before .before .before .before .get-pat .kept .1 .1 .1 .1 .1 .0
+same-length t c = c .before .before .before .before .before .get-pat .kept .1 .1 .1 .1 .0
 
 returns : (t : ℕ) → lts.Need-returns (claims t) (typed-pat-at t) typed-pat.Post
 unfolding Pat.pat
@@ -42,7 +42,7 @@ get-ty-requires : (t : ℕ) → lts.Need-get-ty-requires (claims t) (typed-pat-a
 get-ty-requires t c κs = search needs
 
 same-length-2 : (t : ℕ) → lts.Need-same-length-2 (claims t) (typed-pat-at t) typed-pat.Post
-same-length-2 t c = c .before .before .get-ty .kept .1 .1 .1 .1 .1 .0 ∙ c .before .before .before .before .before .before .before .word .kept .1 .1 .0 ∙ c .before .before .before .before .before .before .before .before .before .before .before .before .before .before .before .before .get-pat .kept .1 .1 .1 .1 .1 .0
+same-length-2 t c = c .before .before .get-ty .kept .1 .1 .1 .1 .0 ∙ c .before .before .before .before .before .before .before .word .kept .1 .1 .0 ∙ c .before .before .before .before .before .before .before .before .before .before .before .before .before .before .before .before .get-pat .kept .1 .1 .1 .1 .0
 
 returns-2 : (t : ℕ) → lts.Need-returns-2 (claims t) (typed-pat-at t) typed-pat.Post
 unfolding Pat.pat

@@ -39,7 +39,7 @@ unfolding Pat.pat
 returns t c = record { is = λ kinds. then-sure (c .before .before .before .before .before .before .word .ensures) (then-stop (group-not (c .before .before .before .group .ensures) (c .before .before .told .ensures) (c .enum-told .given .1)) (c .before .before .told .ensures) (c .enum-told .given .1)) }
 
 pat-args-requires : (t : ℕ) → lts.Need-pat-args-requires (claims t) (vector-pat-at t) vector-pat.Post
-pat-args-requires t c κs = omega (arith, c .before .before .before .before .before .before .before .before .before .before .before .before .before .before .before .before .before .pre .0)
+pat-args-requires t c κs = omega (arith, c .before .before .before .before .before .before .before .before .before .before .before .before .before .before .before .pre .0)
 
 told-requires-2 : (t : ℕ) → lts.Need-told-requires-2 (claims t) (vector-pat-at t) vector-pat.Post
 told-requires-2 t c κs = search needs
@@ -51,7 +51,7 @@ enum-told-2 : (t : ℕ) → lts.Need-enum-told-2 (claims t) (vector-pat-at t) ve
 enum-told-2 t c = search needs
 
 same-length-2 : (t : ℕ) → lts.Need-same-length-2 (claims t) (vector-pat-at t) vector-pat.Post
-same-length-2 t c = c .before .before .before .before .before .pat-args .kept .1 .1 .1 .1 .1 .0 ∙ c .before .before .before .before .before .before .before .before .before .before .before .before .before .before .before .word .kept .1 .1 .0
+same-length-2 t c = c .before .before .before .before .before .pat-args .kept .1 .1 .1 .1 .0 ∙ c .before .before .before .before .before .before .before .before .before .before .before .before .before .before .before .word .kept .1 .1 .0
 
 returns-2 : (t : ℕ) → lts.Need-returns-2 (claims t) (vector-pat-at t) vector-pat.Post
 unfolding Pat.pat
@@ -61,7 +61,7 @@ word-requires-2 : (t : ℕ) → lts.Need-word-requires-2 (claims t) (vector-pat-
 word-requires-2 t c κs = search needs
 
 same-length-3 : (t : ℕ) → lts.Need-same-length-3 (claims t) (vector-pat-at t) vector-pat.Post
-same-length-3 t c = c .before .before .word2 .kept .1 .1 .0 ∙ c .before .before .before .before .before .before .before .before .before .before .before .pat-args .kept .1 .1 .1 .1 .1 .0 ∙ c .before .before .before .before .before .before .before .before .before .before .before .before .before .before .before .before .before .before .before .before .before .word .kept .1 .1 .0
+same-length-3 t c = c .before .before .word2 .kept .1 .1 .0 ∙ c .before .before .before .before .before .before .before .before .before .before .before .pat-args .kept .1 .1 .1 .1 .0 ∙ c .before .before .before .before .before .before .before .before .before .before .before .before .before .before .before .before .before .before .before .before .before .word .kept .1 .1 .0
 
 returns-3 : (t : ℕ) → lts.Need-returns-3 (claims t) (vector-pat-at t) vector-pat.Post
 unfolding Pat.pat

@@ -1,8 +1,8 @@
 -- `lay_row` meets its contract. The invariant: the commands before `count` are laid out.
 use mathlib.Core.Path.{_≡_, refl, sym, _∙_}
 use lib.ListN.{length, length-set}
-use Prim.Native.Nat.{ℕ, _+_, _-_, _*_, _≤_}
-use Rattle.reader.specs.Contracts.Tokens.{Laid}
+use Prim.Native.Nat.{_-_, _*_, _≤_}
+use Rattle.reader.specs.Contracts.Tokens.{startsOf, lengthsOf, Laid}
 use Rattle.reader.proofs.RowLaws.{laid-none, laid-more, length-is}
 use borrow.Author.Needs.{needs}
 use native.Mathlib.Omega.{arith}
@@ -10,16 +10,17 @@ use Rattle.reader.proofs.tokens.lay_row.Statement.{statement}
 use Rattle.reader.proofs.tokens.lay_row.Tie as tie
 
 abbrev Inv-loop : tie.InvT-loop
-Inv-loop rec kinds₀ starts₀ most count₀ sum₀ kinds starts count sum = Laid rec kinds starts count sum × (length kinds ≡ 4096) × (length starts ≡ 4096) × (sum ≤ 65535 * count) × (count ≤ most)
+Inv-loop rec kinds₀ spans₀ most count₀ sum₀ kinds spans count sum =
+    Laid rec kinds (startsOf spans) (lengthsOf spans) count sum × (length kinds ≡ 4096) × (length spans ≡ 4096) × (sum ≤ 65535 * count) × (count ≤ most)
 
 abbrev μ-loop : tie.MeasureT-loop
-μ-loop rec kinds₀ starts₀ most count₀ sum₀ kinds starts count sum = most - count
+μ-loop rec kinds₀ spans₀ most count₀ sum₀ kinds spans count sum = most - count
 
 most-in-requires : tie.Need-most-in-requires Inv-loop μ-loop
 most-in-requires c κs = search needs
 
 loop-holds : tie.Need-loop-holds Inv-loop μ-loop
-loop-holds c = let start = c .before .before .before .before in (laid-none _ _ _, start .pre .0, start .pre .1, omega arith, omega arith)
+loop-holds c = let start = c .before .before .before .before in (laid-none _ _ _ _, start .pre .0, start .pre .1, omega arith, omega arith)
 
 mul-at : tie.Need-mul-at Inv-loop μ-loop
 mul-at c = search needs
@@ -45,15 +46,6 @@ shared-slice-read-kinds c = search needs
 slice-write-kinds : tie.Need-slice-write-kinds Inv-loop μ-loop
 slice-write-kinds c = omega (arith, c .before .before .before .before .loop .inv .1)
 
-cast-starts : tie.Need-cast-starts Inv-loop μ-loop
-cast-starts c = search needs
-
-mul-starts : tie.Need-mul-starts Inv-loop μ-loop
-mul-starts c = search needs
-
-slice-write-starts : tie.Need-slice-write-starts Inv-loop μ-loop
-slice-write-starts c = omega (arith, c .before .before .before .before .loop .inv .2)
-
 add-two : tie.Need-add-two Inv-loop μ-loop
 add-two c = search needs
 
@@ -69,6 +61,21 @@ shared-slice-read-two-2 c = search needs
 two-requires : tie.Need-two-requires Inv-loop μ-loop
 two-requires c κs = search needs
 
+mul-spans : tie.Need-mul-spans Inv-loop μ-loop
+mul-spans c = search needs
+
+add-spans : tie.Need-add-spans Inv-loop μ-loop
+add-spans c = search needs
+
+cast-spans : tie.Need-cast-spans Inv-loop μ-loop
+cast-spans c = search needs
+
+mul-spans-2 : tie.Need-mul-spans-2 Inv-loop μ-loop
+mul-spans-2 c = search needs
+
+slice-write-spans : tie.Need-slice-write-spans Inv-loop μ-loop
+slice-write-spans c = omega (arith, c .before .before .before .before .before .before .before .loop .inv .2)
+
 add-sum : tie.Need-add-sum Inv-loop μ-loop
 add-sum c = search needs
 
@@ -80,8 +87,13 @@ loop-less c = search needs
 
 loop-again : tie.Need-loop-again Inv-loop μ-loop
 loop-again c =
-    let at = c .before .before .before .before .before .before .before .loop in
-    (laid-more (at .inv .0) (omega (arith, at .inv .1)) (omega (arith, at .inv .2)) (omega arith) (omega arith) (c .before .before .before .before .if1 .left) refl refl (length-is _ _ (c .two .ensures .0) refl refl), length-set (at .kinds) _ _ ∙ at .inv .1, length-set (at .starts) _ _ ∙ at .inv .2, omega arith, omega arith)
+    let at = c .before .before .before .before .before .before .before .loop in (
+      laid-more (at .spans) (at .inv .0) (at .inv .1) (at .inv .2) (omega arith) (omega arith) (c .before .before .before .before .if1 .left) refl refl (length-is _ _ (c .two .ensures .0) refl refl) (c .two .ensures .1),
+      length-set (at .kinds) _ _ ∙ at .inv .1,
+      length-set (at .spans) _ _ ∙ at .inv .2,
+      omega arith,
+      omega arith,
+    )
 
 same-length-3 : tie.Need-same-length-3 Inv-loop μ-loop
 same-length-3 c = c .before .loop .inv .1 ∙ sym (c .before .before .before .before .before .before .pre .0)
@@ -108,14 +120,16 @@ lay-row-spec =
     add-kinds
     shared-slice-read-kinds
     slice-write-kinds
-    cast-starts
-    mul-starts
-    slice-write-starts
     add-two
     shared-slice-read-two
     add-two-2
     shared-slice-read-two-2
     two-requires
+    mul-spans
+    add-spans
+    cast-spans
+    mul-spans-2
+    slice-write-spans
     add-sum
     add-count
     loop-less

@@ -8,16 +8,17 @@ use borrow.Author.Count.{below-more}
 use borrow.Author.Tests.{not-false}
 use Rattle.text.specs.Utf8.{boundary}
 use Rattle.reader.proofs.AsciiLaws.{ascii-boundary}
+use Rattle.reader.specs.Contracts.Tokens.{startOf}
 use borrow.Author.Needs.{needs}
 use native.Mathlib.Omega.{arith}
 use Rattle.reader.proofs.tokens.none_inside.Statement.{statement}
 use Rattle.reader.proofs.tokens.none_inside.Tie as tie
 
 abbrev Inv-loop : tie.InvT-loop
-Inv-loop text starts i₀ i = (i ≤ length starts) × ((k : ℕ) → k < i → boundary text (getD starts k 0) ≡ true)
+Inv-loop text spans i₀ i = (i ≤ length spans) × ((k : ℕ) → k < i → boundary text (startOf (getD spans k 0)) ≡ true)
 
 abbrev μ-loop : tie.MeasureT-loop
-μ-loop text starts i₀ i = length starts - i
+μ-loop text spans i₀ i = length spans - i
 
 greatest-requires : tie.Need-greatest-requires Inv-loop μ-loop
 greatest-requires c κs = search needs
@@ -28,14 +29,14 @@ returns c = λ e i h. ascii-boundary _ _ (λ k l. omega (arith, c .before .great
 loop-holds : tie.Need-loop-holds Inv-loop μ-loop
 loop-holds c = (omega arith, λ k h. absurd (omega (arith, h)))
 
-mul-is-boundary : tie.Need-mul-is-boundary Inv-loop μ-loop
-mul-is-boundary c = search needs
+mul-start-of : tie.Need-mul-start-of Inv-loop μ-loop
+mul-start-of c = search needs
 
-shared-slice-read-is-boundary : tie.Need-shared-slice-read-is-boundary Inv-loop μ-loop
-shared-slice-read-is-boundary c = search needs
+shared-slice-read-start-of : tie.Need-shared-slice-read-start-of Inv-loop μ-loop
+shared-slice-read-start-of c = search needs
 
-cast-is-boundary : tie.Need-cast-is-boundary Inv-loop μ-loop
-cast-is-boundary c = omega (arith, c .shared-slice-known3 .given (c .before .before .loop .i))
+start-of-requires : tie.Need-start-of-requires Inv-loop μ-loop
+start-of-requires c κs = search needs
 
 is-boundary-requires : tie.Need-is-boundary-requires Inv-loop μ-loop
 is-boundary-requires c κs = search needs
@@ -50,7 +51,9 @@ loop-less : tie.Need-loop-less Inv-loop μ-loop
 loop-less c = search needs
 
 loop-again : tie.Need-loop-again Inv-loop μ-loop
-loop-again c = (omega arith, below-more _ _ (c .before .before .before .before .loop .inv .1) (sym (c .before .is-boundary .ensures) ∙ not-false _ (c .if2 .left)))
+loop-again c =
+    let apart = rw (c .before .before .start-of .ensures) at (sym (c .before .is-boundary .ensures) ∙ not-false _ (c .if2 .left)) in
+    (omega arith, below-more _ _ (c .before .before .before .before .before .loop .inv .1) apart)
 
 returns-3 : tie.Need-returns-3 Inv-loop μ-loop
 returns-3 c = λ e i h. c .before .loop .inv .1 i (omega (arith, h))
@@ -64,9 +67,9 @@ none-inside-spec =
     greatest-requires
     returns
     loop-holds
-    mul-is-boundary
-    shared-slice-read-is-boundary
-    cast-is-boundary
+    mul-start-of
+    shared-slice-read-start-of
+    start-of-requires
     is-boundary-requires
     returns-2
     add-i

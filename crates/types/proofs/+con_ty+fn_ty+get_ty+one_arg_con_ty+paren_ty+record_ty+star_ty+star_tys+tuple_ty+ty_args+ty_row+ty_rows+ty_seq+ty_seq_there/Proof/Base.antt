@@ -32,46 +32,46 @@ use Rattle.types.proofs.ty_seq_there.Reads as ty-seq-there
 use Rattle.types.proofs.ty_seq_there.Kinds as ty-seq-there-kinds
 
 abbrev pub μ-con-ty : Measures 6 con-ty-kinds.ps ℕ
-μ-con-ty κs a = 16 * a .1 .1 .1 .1 .1 .1 .1 .1 .0 .nesting + 4
+μ-con-ty κs a = 16 * a .1 .1 .1 .1 .1 .1 .1 .0 .nesting + 4
 
 abbrev pub μ-fn-ty : Measures 6 fn-ty-kinds.ps ℕ
-μ-fn-ty κs a = 16 * a .1 .1 .1 .1 .1 .1 .1 .1 .0 .nesting + 1
+μ-fn-ty κs a = 16 * a .1 .1 .1 .1 .1 .1 .1 .0 .nesting + 1
 
 abbrev pub μ-get-ty : Measures 6 get-ty-kinds.ps ℕ
-μ-get-ty κs a = 16 * a .1 .1 .1 .1 .1 .1 .1 .1 .0 .nesting + 0
+μ-get-ty κs a = 16 * a .1 .1 .1 .1 .1 .1 .1 .0 .nesting + 0
 
 abbrev pub μ-one-arg-con-ty : Measures 6 one-arg-con-ty-kinds.ps ℕ
-μ-one-arg-con-ty κs a = 16 * a .1 .1 .1 .1 .1 .1 .1 .1 .0 .nesting + 1
+μ-one-arg-con-ty κs a = 16 * a .1 .1 .1 .1 .1 .1 .1 .0 .nesting + 1
 
 abbrev pub μ-paren-ty : Measures 6 paren-ty-kinds.ps ℕ
-μ-paren-ty κs a = 16 * a .1 .1 .1 .1 .1 .1 .1 .1 .0 .nesting + 1
+μ-paren-ty κs a = 16 * a .1 .1 .1 .1 .1 .1 .1 .0 .nesting + 1
 
 abbrev pub μ-record-ty : Measures 6 record-ty-kinds.ps ℕ
-μ-record-ty κs a = 16 * a .1 .1 .1 .1 .1 .1 .1 .1 .0 .nesting + 3
+μ-record-ty κs a = 16 * a .1 .1 .1 .1 .1 .1 .1 .0 .nesting + 3
 
 abbrev pub μ-star-ty : Measures 6 star-ty-kinds.ps ℕ
-μ-star-ty κs a = 16 * a .1 .1 .1 .1 .1 .1 .1 .1 .0 .nesting + 1
+μ-star-ty κs a = 16 * a .1 .1 .1 .1 .1 .1 .1 .0 .nesting + 1
 
 abbrev pub μ-star-tys : Measures 6 star-tys-kinds.ps ℕ
-μ-star-tys κs a = 16 * a .1 .1 .1 .1 .1 .1 .1 .1 .0 .nesting + 2
+μ-star-tys κs a = 16 * a .1 .1 .1 .1 .1 .1 .1 .0 .nesting + 2
 
 abbrev pub μ-tuple-ty : Measures 6 tuple-ty-kinds.ps ℕ
-μ-tuple-ty κs a = 16 * a .1 .1 .1 .1 .1 .1 .1 .1 .0 .nesting + 3
+μ-tuple-ty κs a = 16 * a .1 .1 .1 .1 .1 .1 .1 .0 .nesting + 3
 
 abbrev pub μ-ty-args : Measures 6 ty-args-kinds.ps ℕ
-μ-ty-args κs a = 16 * a .1 .1 .1 .1 .1 .1 .1 .1 .0 .nesting + 1
+μ-ty-args κs a = 16 * a .1 .1 .1 .1 .1 .1 .1 .0 .nesting + 1
 
 abbrev pub μ-ty-row : Measures 6 ty-row-kinds.ps ℕ
-μ-ty-row κs a = 16 * a .1 .1 .1 .1 .1 .1 .1 .1 .0 .nesting + 1
+μ-ty-row κs a = 16 * a .1 .1 .1 .1 .1 .1 .1 .0 .nesting + 1
 
 abbrev pub μ-ty-rows : Measures 6 ty-rows-kinds.ps ℕ
-μ-ty-rows κs a = 16 * a .1 .1 .1 .1 .1 .1 .1 .1 .0 .nesting + 2
+μ-ty-rows κs a = 16 * a .1 .1 .1 .1 .1 .1 .1 .0 .nesting + 2
 
 abbrev pub μ-ty-seq : Measures 6 ty-seq-kinds.ps ℕ
-μ-ty-seq κs a = 16 * a .1 .1 .1 .1 .1 .1 .1 .1 .0 .nesting + 3
+μ-ty-seq κs a = 16 * a .1 .1 .1 .1 .1 .1 .1 .0 .nesting + 3
 
 abbrev pub μ-ty-seq-there : Measures 6 ty-seq-there-kinds.ps ℕ
-μ-ty-seq-there κs a = 16 * a .1 .1 .1 .1 .1 .1 .1 .1 .0 .nesting + 2
+μ-ty-seq-there κs a = 16 * a .1 .1 .1 .1 .1 .1 .1 .0 .nesting + 2
 
 abbrev pub con-ty-at : ℕ → In 6 con-ty-kinds.ps
 con-ty-at t = and 6 con-ty-kinds.ps (is 6 con-ty-kinds.ps μ-con-ty t) con-ty.Pre

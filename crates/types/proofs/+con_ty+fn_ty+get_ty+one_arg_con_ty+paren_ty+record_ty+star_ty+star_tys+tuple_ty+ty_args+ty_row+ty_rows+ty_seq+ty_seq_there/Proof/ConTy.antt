@@ -16,7 +16,7 @@ abbrev pub claims : ℕ → lts.Claims
 claims t = (ty-seq-below t, ty-seq.Post, told-reads.Asked, told-reads.Learnt, path-reads.Asked, path-reads.Learnt)
 
 ty-seq-requires : (t : ℕ) → lts.Need-ty-seq-requires (claims t) (con-ty-at t) con-ty.Post
-ty-seq-requires t c κs = omega (arith, c .before .before .before .before .before .before .before .pre .0)
+ty-seq-requires t c κs = omega (arith, c .before .before .before .before .before .pre .0)
 
 told-requires : (t : ℕ) → lts.Need-told-requires (claims t) (con-ty-at t) con-ty.Post
 told-requires t c κs = search needs
@@ -28,7 +28,7 @@ enum-told : (t : ℕ) → lts.Need-enum-told (claims t) (con-ty-at t) con-ty.Pos
 enum-told t c = search needs
 
 same-length : (t : ℕ) → lts.Need-same-length (claims t) (con-ty-at t) con-ty.Post
-same-length t c = c .before .before .before .before .before .ty-seq .kept .1 .1 .1 .1 .1 .0
+same-length t c = c .before .before .before .before .before .ty-seq .kept .1 .1 .1 .1 .0
 
 returns : (t : ℕ) → lts.Need-returns (claims t) (con-ty-at t) con-ty.Post
 unfolding Ty.ty
@@ -38,7 +38,7 @@ path-requires : (t : ℕ) → lts.Need-path-requires (claims t) (con-ty-at t) co
 path-requires t c κs = search needs
 
 same-length-2 : (t : ℕ) → lts.Need-same-length-2 (claims t) (con-ty-at t) con-ty.Post
-same-length-2 t c = c .before .before .path .kept .1 .1 .1 .1 .1 .0 ∙ c .before .before .before .before .before .before .before .before .before .before .before .ty-seq .kept .1 .1 .1 .1 .1 .0
+same-length-2 t c = c .before .before .path .kept .1 .1 .1 .1 .0 ∙ c .before .before .before .before .before .before .before .before .before .before .before .ty-seq .kept .1 .1 .1 .1 .0
 
 returns-2 : (t : ℕ) → lts.Need-returns-2 (claims t) (con-ty-at t) con-ty.Post
 unfolding Ty.ty

@@ -16,7 +16,7 @@ abbrev pub claims : ℕ → lts.Claims
 claims t = (get-ty-below t, get-ty.Post, told-reads.Asked, told-reads.Learnt, word-reads.Asked, word-reads.Learnt)
 
 get-ty-requires : (t : ℕ) → lts.Need-get-ty-requires (claims t) (fn-ty-at t) fn-ty.Post
-get-ty-requires t c κs = omega (arith, c .before .before .before .before .before .before .before .pre .0)
+get-ty-requires t c κs = omega (arith, c .before .before .before .before .before .pre .0)
 
 told-requires : (t : ℕ) → lts.Need-told-requires (claims t) (fn-ty-at t) fn-ty.Post
 told-requires t c κs = search needs
@@ -28,7 +28,7 @@ enum-told : (t : ℕ) → lts.Need-enum-told (claims t) (fn-ty-at t) fn-ty.Post
 enum-told t c = search needs
 
 same-length : (t : ℕ) → lts.Need-same-length (claims t) (fn-ty-at t) fn-ty.Post
-same-length t c = c .before .before .before .before .before .get-ty .kept .1 .1 .1 .1 .1 .0
+same-length t c = c .before .before .before .before .before .get-ty .kept .1 .1 .1 .1 .0
 
 returns : (t : ℕ) → lts.Need-returns (claims t) (fn-ty-at t) fn-ty.Post
 unfolding Ty.ty
@@ -38,10 +38,10 @@ word-requires : (t : ℕ) → lts.Need-word-requires (claims t) (fn-ty-at t) fn-
 word-requires t c κs = search needs
 
 get-ty-requires-2 : (t : ℕ) → lts.Need-get-ty-requires-2 (claims t) (fn-ty-at t) fn-ty.Post
-get-ty-requires-2 t c κs = omega (arith, c .before .before .before .before .before .before .before .before .before .before .before .before .before .before .before .before .before .before .before .before .before .pre .0)
+get-ty-requires-2 t c κs = omega (arith, c .before .before .before .before .before .before .before .before .before .before .before .before .before .before .before .before .before .before .before .pre .0)
 
 same-length-2 : (t : ℕ) → lts.Need-same-length-2 (claims t) (fn-ty-at t) fn-ty.Post
-same-length-2 t c = c .before .before .get-ty2 .kept .1 .1 .1 .1 .1 .0 ∙ c .before .before .before .before .before .before .before .word .kept .1 .1 .0 ∙ c .before .before .before .before .before .before .before .before .before .before .before .before .before .before .before .before .get-ty .kept .1 .1 .1 .1 .1 .0
+same-length-2 t c = c .before .before .get-ty2 .kept .1 .1 .1 .1 .0 ∙ c .before .before .before .before .before .before .before .word .kept .1 .1 .0 ∙ c .before .before .before .before .before .before .before .before .before .before .before .before .before .before .before .before .get-ty .kept .1 .1 .1 .1 .0
 
 returns-2 : (t : ℕ) → lts.Need-returns-2 (claims t) (fn-ty-at t) fn-ty.Post
 unfolding Ty.ty

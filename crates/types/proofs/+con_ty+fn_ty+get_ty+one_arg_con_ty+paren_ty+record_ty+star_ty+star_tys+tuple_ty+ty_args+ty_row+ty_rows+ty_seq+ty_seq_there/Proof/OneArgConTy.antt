@@ -17,7 +17,7 @@ abbrev pub claims : ℕ → lts.Claims
 claims t = (get-ty-below t, get-ty.Post, told-reads.Asked, told-reads.Learnt, word-reads.Asked, word-reads.Learnt, path-reads.Asked, path-reads.Learnt)
 
 get-ty-requires : (t : ℕ) → lts.Need-get-ty-requires (claims t) (one-arg-con-ty-at t) one-arg-con-ty.Post
-get-ty-requires t c κs = omega (arith, c .before .before .before .before .before .before .before .pre .0)
+get-ty-requires t c κs = omega (arith, c .before .before .before .before .before .pre .0)
 
 told-requires : (t : ℕ) → lts.Need-told-requires (claims t) (one-arg-con-ty-at t) one-arg-con-ty.Post
 told-requires t c κs = search needs
@@ -29,7 +29,7 @@ enum-told : (t : ℕ) → lts.Need-enum-told (claims t) (one-arg-con-ty-at t) on
 enum-told t c = search needs
 
 same-length : (t : ℕ) → lts.Need-same-length (claims t) (one-arg-con-ty-at t) one-arg-con-ty.Post
-same-length t c = c .before .before .before .before .before .get-ty .kept .1 .1 .1 .1 .1 .0
+same-length t c = c .before .before .before .before .before .get-ty .kept .1 .1 .1 .1 .0
 
 returns : (t : ℕ) → lts.Need-returns (claims t) (one-arg-con-ty-at t) one-arg-con-ty.Post
 unfolding Ty.ty
@@ -42,7 +42,7 @@ path-requires : (t : ℕ) → lts.Need-path-requires (claims t) (one-arg-con-ty-
 path-requires t c κs = search needs
 
 same-length-2 : (t : ℕ) → lts.Need-same-length-2 (claims t) (one-arg-con-ty-at t) one-arg-con-ty.Post
-same-length-2 t c = c .before .before .path .kept .1 .1 .1 .1 .1 .0 ∙ c .before .before .before .before .before .before .before .word .kept .1 .1 .0 ∙ c .before .before .before .before .before .before .before .before .before .before .before .before .before .before .before .before .get-ty .kept .1 .1 .1 .1 .1 .0
+same-length-2 t c = c .before .before .path .kept .1 .1 .1 .1 .0 ∙ c .before .before .before .before .before .before .before .word .kept .1 .1 .0 ∙ c .before .before .before .before .before .before .before .before .before .before .before .before .before .before .before .before .get-ty .kept .1 .1 .1 .1 .0
 
 returns-2 : (t : ℕ) → lts.Need-returns-2 (claims t) (one-arg-con-ty-at t) one-arg-con-ty.Post
 unfolding Ty.ty

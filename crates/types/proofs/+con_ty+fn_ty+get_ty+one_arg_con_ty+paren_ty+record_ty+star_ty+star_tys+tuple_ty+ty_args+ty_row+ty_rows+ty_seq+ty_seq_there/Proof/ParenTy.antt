@@ -19,7 +19,7 @@ word-requires : (t : ℕ) → lts.Need-word-requires (claims t) (paren-ty-at t) 
 word-requires t c κs = search needs
 
 get-ty-requires : (t : ℕ) → lts.Need-get-ty-requires (claims t) (paren-ty-at t) paren-ty.Post
-get-ty-requires t c κs = omega (arith, c .before .before .before .before .before .before .before .before .before .before .before .before .pre .0)
+get-ty-requires t c κs = omega (arith, c .before .before .before .before .before .before .before .before .before .before .pre .0)
 
 told-requires : (t : ℕ) → lts.Need-told-requires (claims t) (paren-ty-at t) paren-ty.Post
 told-requires t c κs = search needs
@@ -31,7 +31,7 @@ enum-told : (t : ℕ) → lts.Need-enum-told (claims t) (paren-ty-at t) paren-ty
 enum-told t c = search needs
 
 same-length : (t : ℕ) → lts.Need-same-length (claims t) (paren-ty-at t) paren-ty.Post
-same-length t c = c .before .before .before .before .before .get-ty .kept .1 .1 .1 .1 .1 .0 ∙ c .before .before .before .before .before .before .before .before .before .before .word .kept .1 .1 .0
+same-length t c = c .before .before .before .before .before .get-ty .kept .1 .1 .1 .1 .0 ∙ c .before .before .before .before .before .before .before .before .before .before .word .kept .1 .1 .0
 
 returns : (t : ℕ) → lts.Need-returns (claims t) (paren-ty-at t) paren-ty.Post
 unfolding Ty.ty
@@ -41,7 +41,7 @@ word-requires-2 : (t : ℕ) → lts.Need-word-requires-2 (claims t) (paren-ty-at
 word-requires-2 t c κs = search needs
 
 same-length-2 : (t : ℕ) → lts.Need-same-length-2 (claims t) (paren-ty-at t) paren-ty.Post
-same-length-2 t c = c .before .before .word2 .kept .1 .1 .0 ∙ c .before .before .before .before .before .before .before .before .before .before .before .get-ty .kept .1 .1 .1 .1 .1 .0 ∙ c .before .before .before .before .before .before .before .before .before .before .before .before .before .before .before .before .word .kept .1 .1 .0
+same-length-2 t c = c .before .before .word2 .kept .1 .1 .0 ∙ c .before .before .before .before .before .before .before .before .before .before .before .get-ty .kept .1 .1 .1 .1 .0 ∙ c .before .before .before .before .before .before .before .before .before .before .before .before .before .before .before .before .word .kept .1 .1 .0
 
 returns-2 : (t : ℕ) → lts.Need-returns-2 (claims t) (paren-ty-at t) paren-ty.Post
 unfolding Ty.ty

@@ -19,7 +19,7 @@ word-requires : (t : ℕ) → lts.Need-word-requires (claims t) (record-ty-at t)
 word-requires t c κs = search needs
 
 ty-rows-requires : (t : ℕ) → lts.Need-ty-rows-requires (claims t) (record-ty-at t) record-ty.Post
-ty-rows-requires t c κs = omega (arith, c .before .before .before .before .before .before .before .before .before .before .before .before .pre .0)
+ty-rows-requires t c κs = omega (arith, c .before .before .before .before .before .before .before .before .before .before .pre .0)
 
 told-requires : (t : ℕ) → lts.Need-told-requires (claims t) (record-ty-at t) record-ty.Post
 told-requires t c κs = search needs
@@ -31,7 +31,7 @@ enum-told : (t : ℕ) → lts.Need-enum-told (claims t) (record-ty-at t) record-
 enum-told t c = search needs
 
 same-length : (t : ℕ) → lts.Need-same-length (claims t) (record-ty-at t) record-ty.Post
-same-length t c = c .before .before .before .before .before .ty-rows .kept .1 .1 .1 .1 .1 .0 ∙ c .before .before .before .before .before .before .before .before .before .before .word .kept .1 .1 .0
+same-length t c = c .before .before .before .before .before .ty-rows .kept .1 .1 .1 .1 .0 ∙ c .before .before .before .before .before .before .before .before .before .before .word .kept .1 .1 .0
 
 returns : (t : ℕ) → lts.Need-returns (claims t) (record-ty-at t) record-ty.Post
 unfolding Ty.ty
@@ -41,7 +41,7 @@ word-requires-2 : (t : ℕ) → lts.Need-word-requires-2 (claims t) (record-ty-a
 word-requires-2 t c κs = search needs
 
 same-length-2 : (t : ℕ) → lts.Need-same-length-2 (claims t) (record-ty-at t) record-ty.Post
-same-length-2 t c = c .before .before .word2 .kept .1 .1 .0 ∙ c .before .before .before .before .before .before .before .before .before .before .before .ty-rows .kept .1 .1 .1 .1 .1 .0 ∙ c .before .before .before .before .before .before .before .before .before .before .before .before .before .before .before .before .word .kept .1 .1 .0
+same-length-2 t c = c .before .before .word2 .kept .1 .1 .0 ∙ c .before .before .before .before .before .before .before .before .before .before .before .ty-rows .kept .1 .1 .1 .1 .0 ∙ c .before .before .before .before .before .before .before .before .before .before .before .before .before .before .before .before .word .kept .1 .1 .0
 
 returns-2 : (t : ℕ) → lts.Need-returns-2 (claims t) (record-ty-at t) record-ty.Post
 unfolding Ty.ty

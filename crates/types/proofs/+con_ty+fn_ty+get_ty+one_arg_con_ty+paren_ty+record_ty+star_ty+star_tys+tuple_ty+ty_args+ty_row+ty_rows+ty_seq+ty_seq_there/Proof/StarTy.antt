@@ -36,10 +36,10 @@ word-requires : (t : ℕ) → lts.Need-word-requires (claims t) (star-ty-at t) s
 word-requires t c κs = search needs
 
 get-ty-requires : (t : ℕ) → lts.Need-get-ty-requires (claims t) (star-ty-at t) star-ty.Post
-get-ty-requires t c κs = omega (arith, c .before .before .before .before .before .before .before .before .before .before .before .before .before .before .before .before .before .pre .0)
+get-ty-requires t c κs = omega (arith, c .before .before .before .before .before .before .before .before .before .before .before .before .before .before .before .pre .0)
 
 same-length : (t : ℕ) → lts.Need-same-length (claims t) (star-ty-at t) star-ty.Post
-same-length t c = c .before .before .get-ty .kept .1 .1 .1 .1 .1 .0 ∙ c .before .before .before .before .before .before .before .word .kept .1 .1 .0
+same-length t c = c .before .before .get-ty .kept .1 .1 .1 .1 .0 ∙ c .before .before .before .before .before .before .before .word .kept .1 .1 .0
 
 returns-2 : (t : ℕ) → lts.Need-returns-2 (claims t) (star-ty-at t) star-ty.Post
 unfolding Ty.star-ty

@@ -20,11 +20,11 @@ abbrev pub claims : ℕ → lts.Claims
 claims t = (list-reads.Asked, list-reads.Learnt, stop-reads.Asked, stop-reads.Learnt, star-ty-below t, star-ty.Post, told-reads.Asked, told-reads.Learnt)
 
 abbrev Inv-loop : lts.InvT-loop
-Inv-loop run text rec starts lens out₀ mem₀ at cfg n s0 s₀ i₀ out mem s i =
-    PlainTurn run text rec starts lens (λ i k. times k (Ty.star-ty (walks (cfg .nesting)))) n s₀ mem₀ out₀ i s mem out
+Inv-loop run text rec spans out₀ mem₀ at cfg n s0 s₀ i₀ out mem s i =
+    PlainTurn run text rec spans (λ i k. times k (Ty.star-ty (walks (cfg .nesting)))) n s₀ mem₀ out₀ i s mem out
 
 abbrev μ-loop : lts.MeasureT-loop
-μ-loop run text rec starts lens out₀ mem₀ at cfg n s0 s₀ i₀ out mem s i = n - i
+μ-loop run text rec spans out₀ mem₀ at cfg n s0 s₀ i₀ out mem s i = n - i
 
 list-requires : (t : ℕ) → lts.Need-list-requires (claims t) (star-tys-at t) star-tys.Post Inv-loop μ-loop
 list-requires t c κs = search needs
@@ -46,7 +46,7 @@ loop-holds : (t : ℕ) → lts.Need-loop-holds (claims t) (star-tys-at t) star-t
 loop-holds t c = (omega arith, λ kinds r m o h. h, refl)
 
 star-ty-requires : (t : ℕ) → lts.Need-star-ty-requires (claims t) (star-tys-at t) star-tys.Post Inv-loop μ-loop
-star-ty-requires t c κs = omega (arith, c .before .before .before .before .before .before .before .before .before .before .before .before .before .pre .0)
+star-ty-requires t c κs = omega (arith, c .before .before .before .before .before .before .before .before .before .before .before .pre .0)
 
 told-requires : (t : ℕ) → lts.Need-told-requires (claims t) (star-tys-at t) star-tys.Post Inv-loop μ-loop
 told-requires t c κs = search needs
@@ -58,7 +58,7 @@ enum-told-2 : (t : ℕ) → lts.Need-enum-told-2 (claims t) (star-tys-at t) star
 enum-told-2 t c = search needs
 
 same-length : (t : ℕ) → lts.Need-same-length (claims t) (star-tys-at t) star-tys.Post Inv-loop μ-loop
-same-length t c = c .before .before .before .before .before .star-ty .kept .1 .1 .1 .1 .1 .0 ∙ c .before .before .before .before .before .before .before .before .before .loop .inv .2
+same-length t c = c .before .before .before .before .before .star-ty .kept .1 .1 .1 .1 .0 ∙ c .before .before .before .before .before .before .before .before .before .loop .inv .2
 
 returns-2 : (t : ℕ) → lts.Need-returns-2 (claims t) (star-tys-at t) star-tys.Post Inv-loop μ-loop
 unfolding Ty.star-tys Helpers.for-each
@@ -72,7 +72,7 @@ loop-less t c = omega arith
 
 loop-again : (t : ℕ) → lts.Need-loop-again (claims t) (star-tys-at t) star-tys.Post Inv-loop μ-loop
 unfolding Ty.star-tys Helpers.for-each
-loop-again t c = (omega (arith, c .before .before .before .before .before .before .before .before .before .before .loop .inv .0), λ kinds r m o h. c .before .before .before .before .before .before .before .before .before .before .loop .inv .1 kinds r m o (times-more _ (c .before .before .before .before .before .before .before .before .before .loop-test .taken) (then-done (plain (c .before .before .before .before .before .before .star-ty .ensures)) (c .before .before .before .told .ensures) (c .before .s1 .given .1) h)), c .before .before .before .before .before .before .star-ty .kept .1 .1 .1 .1 .1 .0 ∙ c .before .before .before .before .before .before .before .before .before .before .loop .inv .2)
+loop-again t c = (omega (arith, c .before .before .before .before .before .before .before .before .before .before .loop .inv .0), λ kinds r m o h. c .before .before .before .before .before .before .before .before .before .before .loop .inv .1 kinds r m o (times-more _ (c .before .before .before .before .before .before .before .before .before .loop-test .taken) (then-done (plain (c .before .before .before .before .before .before .star-ty .ensures)) (c .before .before .before .told .ensures) (c .before .s1 .given .1) h)), c .before .before .before .before .before .before .star-ty .kept .1 .1 .1 .1 .0 ∙ c .before .before .before .before .before .before .before .before .before .before .loop .inv .2)
 
 same-length-2 : (t : ℕ) → lts.Need-same-length-2 (claims t) (star-tys-at t) star-tys.Post Inv-loop μ-loop
 same-length-2 t c = c .before .loop .inv .2

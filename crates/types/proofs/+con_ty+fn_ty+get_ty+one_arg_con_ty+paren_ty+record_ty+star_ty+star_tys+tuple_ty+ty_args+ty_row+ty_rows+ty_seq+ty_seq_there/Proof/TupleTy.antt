@@ -18,7 +18,7 @@ abbrev pub claims : ℕ → lts.Claims
 claims t = (get-ty-below t, get-ty.Post, onwards-reads.Asked, onwards-reads.Learnt, told-reads.Asked, told-reads.Learnt, star-tys-below t, star-tys.Post)
 
 get-ty-requires : (t : ℕ) → lts.Need-get-ty-requires (claims t) (tuple-ty-at t) tuple-ty.Post
-get-ty-requires t c κs = omega (arith, c .before .before .before .before .before .before .before .pre .0)
+get-ty-requires t c κs = omega (arith, c .before .before .before .before .before .pre .0)
 
 onwards-requires : (t : ℕ) → lts.Need-onwards-requires (claims t) (tuple-ty-at t) tuple-ty.Post
 onwards-requires t c κs = search needs
@@ -33,17 +33,17 @@ enum-told : (t : ℕ) → lts.Need-enum-told (claims t) (tuple-ty-at t) tuple-ty
 enum-told t c = search needs
 
 same-length : (t : ℕ) → lts.Need-same-length (claims t) (tuple-ty-at t) tuple-ty.Post
-same-length t c = c .before .before .before .before .before .before .get-ty .kept .1 .1 .1 .1 .1 .0
+same-length t c = c .before .before .before .before .before .before .get-ty .kept .1 .1 .1 .1 .0
 
 returns : (t : ℕ) → lts.Need-returns (claims t) (tuple-ty-at t) tuple-ty.Post
 unfolding Ty.ty
 returns t c = record { is = λ kinds. then-stop (dropped-by (plain (c .before .before .before .before .before .before .get-ty .ensures)) (c .before .before .before .onwards .ensures)) (c .before .before .told .ensures) (c .enum-told .given .1) }
 
 star-tys-requires : (t : ℕ) → lts.Need-star-tys-requires (claims t) (tuple-ty-at t) tuple-ty.Post
-star-tys-requires t c κs = omega (arith, c .before .before .before .before .before .before .before .before .before .before .before .before .before .before .before .before .before .pre .0)
+star-tys-requires t c κs = omega (arith, c .before .before .before .before .before .before .before .before .before .before .before .before .before .before .before .pre .0)
 
 same-length-2 : (t : ℕ) → lts.Need-same-length-2 (claims t) (tuple-ty-at t) tuple-ty.Post
-same-length-2 t c = c .before .before .star-tys .kept .1 .1 .1 .1 .1 .0 ∙ c .before .before .before .before .before .before .before .before .before .before .before .before .get-ty .kept .1 .1 .1 .1 .1 .0
+same-length-2 t c = c .before .before .star-tys .kept .1 .1 .1 .1 .0 ∙ c .before .before .before .before .before .before .before .before .before .before .before .before .get-ty .kept .1 .1 .1 .1 .0
 
 returns-2 : (t : ℕ) → lts.Need-returns-2 (claims t) (tuple-ty-at t) tuple-ty.Post
 unfolding Ty.ty

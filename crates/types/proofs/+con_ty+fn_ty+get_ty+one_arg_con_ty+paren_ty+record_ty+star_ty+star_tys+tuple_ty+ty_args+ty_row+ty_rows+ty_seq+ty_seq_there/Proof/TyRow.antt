@@ -46,7 +46,7 @@ enum-told-2 : (t : ℕ) → lts.Need-enum-told-2 (claims t) (ty-row-at t) ty-row
 enum-told-2 t c = search needs
 
 same-length : (t : ℕ) → lts.Need-same-length (claims t) (ty-row-at t) ty-row.Post
-same-length t c = c .before .before .before .before .before .text-of .kept .1 .1 .1 .1 .1 .0
+same-length t c = c .before .before .before .before .before .text-of .kept .1 .1 .1 .1 .0
 
 returns-2 : (t : ℕ) → lts.Need-returns-2 (claims t) (ty-row-at t) ty-row.Post
 unfolding Ty.ty-row
@@ -56,10 +56,10 @@ word-requires : (t : ℕ) → lts.Need-word-requires (claims t) (ty-row-at t) ty
 word-requires t c κs = search needs
 
 get-ty-requires : (t : ℕ) → lts.Need-get-ty-requires (claims t) (ty-row-at t) ty-row.Post
-get-ty-requires t c κs = omega (arith, c .before .before .before .before .before .before .before .before .before .before .before .before .before .before .before .before .before .before .before .before .before .before .before .before .before .before .pre .0)
+get-ty-requires t c κs = omega (arith, c .before .before .before .before .before .before .before .before .before .before .before .before .before .before .before .before .before .before .before .before .before .before .before .before .pre .0)
 
 same-length-2 : (t : ℕ) → lts.Need-same-length-2 (claims t) (ty-row-at t) ty-row.Post
-same-length-2 t c = c .before .before .get-ty .kept .1 .1 .1 .1 .1 .0 ∙ c .before .before .before .before .before .before .before .word .kept .1 .1 .0 ∙ c .before .before .before .before .before .before .before .before .before .before .before .before .before .before .before .before .text-of .kept .1 .1 .1 .1 .1 .0
+same-length-2 t c = c .before .before .get-ty .kept .1 .1 .1 .1 .0 ∙ c .before .before .before .before .before .before .before .word .kept .1 .1 .0 ∙ c .before .before .before .before .before .before .before .before .before .before .before .before .before .before .before .before .text-of .kept .1 .1 .1 .1 .0
 
 returns-3 : (t : ℕ) → lts.Need-returns-3 (claims t) (ty-row-at t) ty-row.Post
 unfolding Ty.ty-row

@@ -23,14 +23,14 @@ enum-told : (t : ℕ) → lts.Need-enum-told (claims t) (ty-seq-at t) ty-seq.Pos
 enum-told t c = search needs
 
 ty-seq-there-requires : (t : ℕ) → lts.Need-ty-seq-there-requires (claims t) (ty-seq-at t) ty-seq.Post
-ty-seq-there-requires t c κs = omega (arith, c .before .before .before .before .before .before .before .before .before .before .pre .0)
+ty-seq-there-requires t c κs = omega (arith, c .before .before .before .before .before .before .before .before .pre .0)
 
 returns : (t : ℕ) → lts.Need-returns (claims t) (ty-seq-at t) ty-seq.Post
 unfolding Ty.ty-seq
 returns t c = record { is = λ kinds. maybe-past (c .before .before .before .absent .ensures) (c .before .gone .given .1) }
 
 same-length : (t : ℕ) → lts.Need-same-length (claims t) (ty-seq-at t) ty-seq.Post
-same-length t c = c .before .before .ty-seq-there .kept .1 .1 .1 .1 .1 .0
+same-length t c = c .before .before .ty-seq-there .kept .1 .1 .1 .1 .0
 
 returns-2 : (t : ℕ) → lts.Need-returns-2 (claims t) (ty-seq-at t) ty-seq.Post
 unfolding Ty.ty-seq

@@ -36,7 +36,7 @@ word-requires : (t : ℕ) → lts.Need-word-requires (claims t) (ty-seq-there-at
 word-requires t c κs = search needs
 
 ty-args-requires : (t : ℕ) → lts.Need-ty-args-requires (claims t) (ty-seq-there-at t) ty-seq-there.Post
-ty-args-requires t c κs = omega (arith, c .before .before .before .before .before .before .before .before .before .before .before .before .before .before .before .before .before .pre .0)
+ty-args-requires t c κs = omega (arith, c .before .before .before .before .before .before .before .before .before .before .before .before .before .before .before .pre .0)
 
 told-requires-2 : (t : ℕ) → lts.Need-told-requires-2 (claims t) (ty-seq-there-at t) ty-seq-there.Post
 told-requires-2 t c κs = search needs
@@ -48,7 +48,7 @@ enum-told-2 : (t : ℕ) → lts.Need-enum-told-2 (claims t) (ty-seq-there-at t) 
 enum-told-2 t c = search needs
 
 same-length : (t : ℕ) → lts.Need-same-length (claims t) (ty-seq-there-at t) ty-seq-there.Post
-same-length t c = c .before .before .before .before .before .ty-args .kept .1 .1 .1 .1 .1 .0 ∙ c .before .before .before .before .before .before .before .before .before .before .word .kept .1 .1 .0
+same-length t c = c .before .before .before .before .before .ty-args .kept .1 .1 .1 .1 .0 ∙ c .before .before .before .before .before .before .before .before .before .before .word .kept .1 .1 .0
 
 returns-2 : (t : ℕ) → lts.Need-returns-2 (claims t) (ty-seq-there-at t) ty-seq-there.Post
 unfolding Ty.ty-seq-there
@@ -58,7 +58,7 @@ word-requires-2 : (t : ℕ) → lts.Need-word-requires-2 (claims t) (ty-seq-ther
 word-requires-2 t c κs = search needs
 
 same-length-2 : (t : ℕ) → lts.Need-same-length-2 (claims t) (ty-seq-there-at t) ty-seq-there.Post
-same-length-2 t c = c .before .before .word2 .kept .1 .1 .0 ∙ c .before .before .before .before .before .before .before .before .before .before .before .ty-args .kept .1 .1 .1 .1 .1 .0 ∙ c .before .before .before .before .before .before .before .before .before .before .before .before .before .before .before .before .word .kept .1 .1 .0
+same-length-2 t c = c .before .before .word2 .kept .1 .1 .0 ∙ c .before .before .before .before .before .before .before .before .before .before .before .ty-args .kept .1 .1 .1 .1 .0 ∙ c .before .before .before .before .before .before .before .before .before .before .before .before .before .before .before .before .word .kept .1 .1 .0
 
 returns-3 : (t : ℕ) → lts.Need-returns-3 (claims t) (ty-seq-there-at t) ty-seq-there.Post
 unfolding Ty.ty-seq-there
