@@ -6,7 +6,7 @@ use mathlib.Core.Path.{_≡_, refl, sym, ap, ap₂, _∙_, subst}
 use mathlib.Core.Bool.{Bool, true, false, cond}
 use mathlib.Core.List.{List, _∷_, _++_}
 use mathlib.Core.Option.{none}
-use lib.ListN.{length, getD, take, drop, length-take, length-map}
+use lib.ListN.{length, getD, take, drop, length-take}
 use lib.Seq.{paste, take-append-seam, take-length}
 use lib.Dec.{eqb, ltb}
 use borrow.Author.Tests.{eq-eqb, ne-eqb, eqb-true, le-leb, lt-leb, lt-ltb, le-ltb, ltb-true, ltb-false}
@@ -17,7 +17,7 @@ use Rattle.text.specs.declared.Broken.{Broken}
 use Rattle.text.specs.Utf8.{firstBroken, boundary}
 use Rattle.text.specs.Contracts.Utf8.{brokenAt}
 use Rattle.reader.specs.Tokens.{countOf, maxTokens, tokens}
-use Rattle.reader.specs.Contracts.Tokens.{startOf, lengthOf, startsOf, lengthsOf, tokensIn, tilingIn, Tiles}
+use Rattle.reader.specs.Contracts.Tokens.{startsOf, lengthsOf, tokensIn, tilingIn, Tiles}
 use Rattle.reader.specs.Reading.{maxText, maxRecord}
 use Rattle.reader.specs.Contracts.Tree.{checkedIn, TreeEnd}
 use Rattle.reader.specs.declared.tree.Checked as Tree
@@ -50,7 +50,7 @@ use Rattle.formatter.proofs.EventLaws.{length-formatted}
 use Rattle.formatter.proofs.RunLaws.{out-is, left-comments, empty-left, first-left, comments-some, comments-none}
 use Rattle.formatter.proofs.VerdictLaws.{format-wide, format-short, format-fits, check-declined, get-declined, check-accepted, get-accepted}
 use Rattle.formatter.proofs.WalkFirstLaws.{walk-first}
-use Rattle.reader.proofs.SpanLaws.{map-take, counted}
+use Rattle.reader.proofs.SpanLaws.{starts-long, counted, starts-take, lengths-take}
 use Rattle.reader.proofs.EvenLaws.{tiled-even}
 use Rattle.reader.proofs.TreePlace.{tree-near}
 
@@ -224,7 +224,7 @@ module _ {run· : List ℕ} {p : Page} {tree tab : ℕ} {words m o : List ℕ} {
 -- With the count of a table of spans.
 module _ (rec spans : List ℕ) (tree : ℕ) where
   pub behind-by : {r : ℕ} → BehindWhere (treeCheck rec (length (startsOf spans)) tree) r → BehindWhere (treeCheck rec (length spans) tree) r
-  behind-by {r} h = subst (λ n. BehindWhere (treeCheck rec n tree) r) (length-map spans startOf) h
+  behind-by {r} h = subst (λ n. BehindWhere (treeCheck rec n tree) r) (starts-long spans) h
 
   pub checked-by : (r : ℕ) {j : Judged} → j ≡ byCheck (otherwise r) (treeCheck rec (length spans) tree)
       → j ≡ byCheck (otherwise r) (treeCheck rec (length (startsOf spans)) tree)
@@ -468,7 +468,7 @@ module _ (text rec : List ℕ) where
 
           -- The first of the starts are the starts of the first spans; and so the lengths.
           page-is : page text rec (take count kinds) (take count (startsOf spans)) (take count (lengthsOf spans)) ≡ sheetPage
-          page-is = ap₂ (λ s l. page text rec (take count kinds) s l) (sym (map-take startOf count spans)) (sym (map-take lengthOf count spans))
+          page-is = ap₂ (λ s l. page text rec (take count kinds) s l) (sym (starts-take count spans)) (sym (lengths-take count spans))
 
           pub sheet-limits : Limits text rec kinds spans count tree
           sheet-limits =
@@ -477,7 +477,7 @@ module _ (text rec : List ℕ) where
               let even = tiled-even (boundary text) (length text) rec tokens tree (tiling-is e u f) in
               let long : Within count kinds spans = (
                 omega (arith, c .0, length-take count kinds),
-                omega (arith, c .0, even .0, length-take count (startsOf spans), length-map spans startOf),
+                omega (arith, c .0, even .0, length-take count (startsOf spans), starts-long spans),
               ) in
               let near = tree-near (boundary text) (length text) rec tokens tree (tiling-is e u f) in
               record { text-fits = a; rec-fits = b; few = c .1; near = omega (arith, near); within = long }

@@ -30,10 +30,10 @@ abbrev pub lengthOf : ℕ → ℕ
 lengthOf span = span % 65536
 
 -- The starts and the lengths of a table of spans.
-abbrev pub startsOf : List ℕ → List ℕ
+unfoldable pub startsOf : List ℕ → List ℕ
 startsOf spans = map startOf spans
 
-abbrev pub lengthsOf : List ℕ → List ℕ
+unfoldable pub lengthsOf : List ℕ → List ℕ
 lengthsOf spans = map lengthOf spans
 
 -- The first entries of the tables.

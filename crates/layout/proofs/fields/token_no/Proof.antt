@@ -1,7 +1,6 @@
 -- `layout::fields::token_no` meets its contract.
 use native.Mathlib.Omega.{arith}
-use lib.ListN.{length-map}
-use Rattle.reader.specs.Contracts.Tokens.{startOf}
+use Rattle.reader.proofs.SpanLaws.{starts-long}
 use Rattle.layout.proofs.Reading.{token-fits, token-none, token-below, token-over}
 use borrow.Author.Needs.{needs}
 use Rattle.layout.proofs.fields.token_no.Statement.{statement}
@@ -24,11 +23,11 @@ add-t8 c = omega (arith, token-fits (c .before .before .before .before .token-at
 
 returns-2 : tie.Need-returns-2
 returns-2 c = token-below _ (c .before .before .before .before .token-at .ensures) (c .before .before .n .given .1)
-    (omega (arith, c .if1 .taken, length-map (c .before .before .before .before .before .before .args .spans .now .now) startOf))
+    (omega (arith, c .if1 .taken, starts-long (c .before .before .before .before .before .before .args .spans .now .now)))
 
 returns-3 : tie.Need-returns-3
 returns-3 c = token-over _ (c .before .before .before .before .token-at .ensures) (c .before .before .n .given .1)
-    (omega (arith, c .if1 .left, length-map (c .before .before .before .before .before .before .args .spans .now .now) startOf))
+    (omega (arith, c .if1 .left, starts-long (c .before .before .before .before .before .before .args .spans .now .now)))
 
 pub token-no-spec : {M : Type 1} → statement M
 token-no-spec =
