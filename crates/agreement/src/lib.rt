@@ -1,1 +1,2 @@
 // The walk and the record check agree on every record.
+#![tactic(auto)]

@@ -1,7 +1,7 @@
 -- Laws of the comment set: a word and its bits, the words and the set that they mean, counts and the first token. Assumes nothing.
 use Prim.Native.Nat.{ℕ, zero, suc, ◌+◌, ◌-◌, ◌*◌, ◌/◌, ◌%◌, ◌^◌, ◌≤◌, ◌<◌}
 use native.Mathlib.Nat.{pow-suc, div-one, add-zero, zero-add, suc-add, one-mul}
-use native.Mathlib.Numerals.{one_add}
+use native.Mathlib.Numerals.{one-add}
 use native.Mathlib.Omega.{arith}
 use mathlib.Core.Path.{◌≡◌, refl, sym, ap, ap₂, ◌∙◌}
 use mathlib.Core.Bool.{Bool, true, false, cond, not, ◌&&◌, and-true, and-false}
@@ -25,7 +25,7 @@ bit-zero x = ap (λ (n : ℕ). eqb (n % 2) 1) (div-one x)
 
 bit-suc : (x i : ℕ) → bit x (suc i) ≡ bit (x / 2) i
 unfolding bit
-bit-suc x i = ap (λ (n : ℕ). eqb (n % 2) 1) (sym (shr-shr x 1 i ∙ ap (λ (n : ℕ). x / 2 ^ n) (one_add i)))
+bit-suc x i = ap (λ (n : ℕ). eqb (n % 2) 1) (sym (shr-shr x 1 i ∙ ap (λ (n : ℕ). x / 2 ^ n) (one-add i)))
 
 ones_zero : ones 0 ≡ 0
 unfolding ones ones_in

@@ -1,4 +1,6 @@
 // The program of document 01: a sheet from standard input, its verdict and its formatted text to standard output.
+#![tactic(auto)]
+
 use libc::{STDIN_FILENO, STDOUT_FILENO};
 
 // The input within the limits has at most 6 + 32,768 + 65,536 bytes; with a byte more, what does not fit changes

@@ -1,4 +1,6 @@
 // The public calls `check`, `get` and the lookup `comment_above` (document 01, module 6).
+#![tactic(auto)]
+
 pub mod numbers; // numbers.rt: the numbers of an answer
 
 ghost use Rattle.std.specs.Prelude.{◌≡◌, ◌*◌, ◌≤◌, ◌∷◌, length, drop};
@@ -19,7 +21,7 @@ use reader::{MAX_RECORD, MAX_TEXT, Reading};
 use text::{Broken, copy, first_broken};
 
 // Deepest, letters and units of a walk (document 01, module 5).
-#[derive(Drop)]
+#[derive(Clone, Copy)]
 pub struct Measures {
     pub deepest: u64,
     pub letters: u64,
@@ -27,7 +29,7 @@ pub struct Measures {
 }
 
 // The answer of `check` and `get`. The set of comments left stands beside it.
-#[derive(Drop)]
+#[derive(Clone, Copy)]
 pub enum Answer {
     Accepted(Measures),
     // The text or the record is too long.
@@ -51,7 +53,7 @@ pub enum Answer {
 }
 
 // The answer of a lookup.
-#[derive(Drop)]
+#[derive(Clone, Copy)]
 pub enum Lookup {
     // The token number of the comment and the keyword that the search passed; or the length of the doc text, and no keyword.
     Found(usize, Passed),
@@ -71,7 +73,7 @@ pub enum Lookup {
 }
 
 // The sheet of a lookup.
-#[derive(Drop)]
+#[derive(Clone, Copy)]
 pub enum Asked {
     // The number of tokens, which stand in the tables.
     Tokens(usize),
@@ -79,7 +81,7 @@ pub enum Asked {
 }
 
 // What the sheet alone decides.
-#[derive(Drop)]
+#[derive(Clone, Copy)]
 pub enum Judged {
     // The number of tokens, which stand in the tables, and the offset in the record of the list of declarations.
     Accepted {

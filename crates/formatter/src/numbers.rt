@@ -6,7 +6,7 @@ ghost use Rattle.formatter.specs.Promises.Numbers.{said, numbered};
 use crate::{Answer, Measures};
 
 // Number, place and measures of a verdict.
-#[derive(Drop)]
+#[derive(Clone, Copy)]
 pub struct Numbers {
     pub number: u64,
     pub place: usize,

@@ -11,21 +11,21 @@ use reader::commands::{Declaration, Family, Number};
 use reader::tree::Checked;
 
 // What is read at the cursor, with the cursor behind it.
-#[derive(Drop)]
+#[derive(Clone, Copy)]
 pub enum Read {
     Is(usize, usize),
     Not,
 }
 
 // Whether the field at the cursor is absent, with the cursor behind it.
-#[derive(Drop)]
+#[derive(Clone, Copy)]
 pub enum Gone {
     Past(usize),
     There,
 }
 
 // Whether a token that may be absent stands at the cursor, with the cursor behind it.
-#[derive(Drop)]
+#[derive(Clone, Copy)]
 pub enum Given {
     There(usize),
     Absent(usize),

@@ -1,5 +1,7 @@
 // Layouts: what the walk's functions are made of. Writing into a lent output what fits and counting it in any case,
 // and reading the fields of a record (document 01, module 5).
+#![tactic(auto)]
+
 pub mod words; // words.rt: the fixed words of 000
 pub mod fields; // fields.rt: the fields of a record, each read at the cursor
 pub mod names; // names.rt: the first name of a path
@@ -37,7 +39,7 @@ pub const TAB: usize = 3;
 pub const SET: usize = 4;
 
 // `Cfg` of 000, with the depth in place of the indent's width, and how many forms may still stand inside one another.
-#[derive(Drop)]
+#[derive(Clone, Copy)]
 pub struct Cfg {
     pub depth: u64,
     pub blank: bool,
@@ -59,7 +61,7 @@ impl Cfg {
 }
 
 // What a walk's number says: an answer enum, as 01 has it.
-#[derive(Drop)]
+#[derive(Clone, Copy)]
 pub enum Status {
     Done(usize),
     Stopped,
@@ -155,7 +157,7 @@ pub fn formed(mem: &mut [u64; 68], depth: u64)
 
 // ---- pieces
 // A part of one of two runs of bytes, its start and its length: the fixed words or the text.
-#[derive(Drop)]
+#[derive(Clone, Copy)]
 pub enum Piece {
     Word(usize, usize),
     Text(usize, usize),

@@ -109,21 +109,21 @@ pub fn body_exp_needs_newline(rec: &[u8], at: usize) -> bool
 
 // ---- what `AppExp` sees of its expressions
 // The first name of a `PathExp` and the number of its names, or any other form.
-#[derive(Drop)]
+#[derive(Clone, Copy)]
 pub enum Head {
     PathExp(usize, usize),
     OtherExp,
 }
 
 // What is seen of one expression, or the offset of the first part that is not there.
-#[derive(Drop)]
+#[derive(Clone, Copy)]
 pub enum Seen {
     Is(Head),
     Missing(usize),
 }
 
 // What is seen of both.
-#[derive(Drop)]
+#[derive(Clone, Copy)]
 pub enum BothSeen {
     Are(Head, Head),
     Missing(usize),

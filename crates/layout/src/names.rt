@@ -6,7 +6,7 @@ ghost use Rattle.layout.specs.Promises.State.{name_in};
 use reader::commands::{Number, absent_at, group_at, list_at, token_at};
 
 // The first name's token and the number of names; or the offset of the part that is not there.
-#[derive(Drop)]
+#[derive(Clone, Copy)]
 pub enum Name {
     Is(usize, usize),
     Not(usize),

@@ -1,5 +1,7 @@
 // The walk's parts that hold no expression, structure or signature: declarations of types and of precedence, heads of
 // functions' cases, what stands between the expressions of an application.
+#![tactic(auto)]
+
 ghost use Rattle.std.specs.Prelude.{◌≡◌, ◌&&◌, ◌+◌, ◌≤◌, eqb};
 ghost use Rattle.layout.specs.Promises.Words.{word_of};
 ghost use Rattle.layout.specs.Layout.{word as word_of·, choice as choice·, ◌⨾◌};

@@ -1,4 +1,6 @@
 // `get_pat` of 000: the walk over patterns. A function for each arm, over configurations one form deeper.
+#![tactic(auto)]
+
 ghost use Rattle.layout.specs.Promises.Lent.{plainly};
 ghost use Rattle.layout.specs.Walk.{walks};
 ghost use Rattle.layout.specs.Pat.{con-arg-there, con-arg, LabAndPatPatRow, as-tail-there, as-tail, LabPatRow};

@@ -1,4 +1,6 @@
 // The program's work, from input bytes to printed bytes (document 01, above its modules).
+#![tactic(auto)]
+
 ghost use Rattle.std.specs.Prelude.{◌≡◌, [], ◌∷◌, ◌++◌, ◌+◌, ◌≤◌, ◌<◌, length, take, drop};
 ghost use Rattle.formatter.specs.Promises.Numbers.{said, numbered};
 ghost use Rattle.program.specs.Program.{decimal, head_length, tab_size, text_length, program};

@@ -357,11 +357,11 @@ module _ {rec : List ℕ} {count left : ℕ} where
 
 -- An answer that is no place to go on from.
 abbrev Stopped : Code.Checked → Type 0
-Stopped r = OneOf (1 ∷ 2 ∷ []) (tag_of the_type r)
+Stopped r = (next : ℕ) → r ≡ Ok next → ⊥
 
 stops : (r : Code.Checked) → Stopped r → (k : ℕ → Checked) → and_then (checked_in r) k ≡ checked_in r
 unfolding and_then
-stops (Ok next) w k = ⊎_elim (λ e. never e) (λ e. absurd (omega arith)) w
+stops (Ok next) w k = absurd (w next refl)
 stops (Malformed place) w k = refl
 stops (TooDeep place) w k = refl
 

@@ -2,7 +2,7 @@
 use Prim.Native.Nat.{ℕ, zero, suc, ◌+◌, ◌-◌, ◌≤◌, ◌<◌}
 use mathlib.Core.Path.{◌≡◌, refl, sym, ◌∙◌, ap}
 use mathlib.Core.List.{List}
-use mathlib.Core.Bool.{Bool, true, false, or_true, or_false}
+use mathlib.Core.Bool.{Bool, true, false, or-true, or-false}
 use mathlib.Core.Option.{Option, none, some}
 use native.Mathlib.Omega.{arith}
 use lib.ListN.{length, get_or}
@@ -106,13 +106,13 @@ module _ (count : ℕ) {rec : List ℕ} {at : ℕ} {r : Number} (s : NumberAt fi
   pub first_absent : r ≡ Not → true ≡ operand_fits rec count Fields.DecOne at
   unfolding operand_fits first_token
   first_absent e =
-      rw (none_true (eqb (u16 rec (at + 1)) no_token) (u16 rec (at + 1)) (read-not s e)) (sym (or_true (ltb (u16 rec (at + 1)) count)))
+      rw (none_true (eqb (u16 rec (at + 1)) no_token) (u16 rec (at + 1)) (read-not s e)) (sym (or-true (ltb (u16 rec (at + 1)) count)))
 
   pub first_below : {k : ℕ} → r ≡ Is k → ltb k count ≡ operand_fits rec count Fields.DecOne at
   unfolding operand_fits first_token
   first_below {k} e =
       let f = some_false (eqb (u16 rec (at + 1)) no_token) (u16 rec (at + 1)) k (read_is s e) in
-      rw (f.0, f.1) (sym (or_false (ltb k count)))
+      rw (f.0, f.1) (sym (or-false (ltb k count)))
 
 -- A command of one byte has no operand; else it is that of a declaration.
 module _ (rec : List ℕ) (count at : ℕ) where

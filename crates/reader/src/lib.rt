@@ -1,4 +1,6 @@
 // The record: commands, tokens, the record check, the end of a field (document 01, "The record" and module 3).
+#![tactic(auto)]
+
 pub mod commands; // commands.rt: the commands, each read at an offset
 pub mod tokens; // tokens.rt: the tokens
 mod grammar; // grammar.rt: the fields of every form, group and choice
@@ -15,7 +17,7 @@ use tokens::{Tiled, read_tokens};
 use tree::{Checked, tree_end};
 
 // What the record check says of a text and a record.
-#[derive(Drop)]
+#[derive(Clone, Copy)]
 pub enum Reading {
     // It passes: the number of tokens, and the offset in the record of the list of declarations.
     Sheet { count: usize, tree: usize },

@@ -1,4 +1,6 @@
 // Replays the stored calls of reference/vectors, read from standard input, and prints how many have the stored answer.
+#![tactic(auto)]
+
 mod vector; // vector.rt: the layout of a stored call
 
 ghost use Rattle.std.specs.Prelude.{◌≡◌, length};

@@ -30,7 +30,7 @@ pub fn u64_at(s: &[u8], at: usize) -> u64 {
 }
 
 // The bytes of a part whose length stands before it, in four bytes: where it starts and ends.
-#[derive(Drop)]
+#[derive(Clone, Copy)]
 pub struct Run {
     pub start: usize,
     pub end: usize,
@@ -46,7 +46,7 @@ fn run_at(s: &[u8], at: usize) -> Run {
 }
 
 // A stored call: where its parts start, and where the next one stands.
-#[derive(Drop)]
+#[derive(Clone, Copy)]
 pub struct Vector {
     pub call: u64,
     pub text: Run,

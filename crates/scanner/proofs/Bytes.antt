@@ -2,7 +2,7 @@
 use Prim.Native.Nat.{ℕ, ◌-◌, ◌≤◌, ◌<◌}
 use native.Mathlib.Omega.{arith}
 use mathlib.Core.Path.{◌≡◌, refl, sym, ap, ap₂, ◌∙◌}
-use mathlib.Core.Bool.{Bool, true, false, not, ◌&&◌, ◌||◌, false≢true, or_false}
+use mathlib.Core.Bool.{Bool, true, false, not, ◌&&◌, ◌||◌, false≢true, or-false}
 use mathlib.Core.Logic.{inl, inr}
 use mathlib.Core.List.{List, [], ◌∷◌}
 use lib.Dec.{leb, ltb, eqb, T}
@@ -119,8 +119,8 @@ unfolding is_hex_digit
 hex_below b h =
     sym
     (ap₂ (λ (x y : Bool). is_digit b || x || y) (under 97 102 b (omega arith)) (under 65 70 b h)
-    ∙ or_false (is_digit b || false)
-    ∙ or_false (is_digit b))
+    ∙ or-false (is_digit b || false)
+    ∙ or-false (is_digit b))
 
 -- ---- digits of base 10 and 16
 

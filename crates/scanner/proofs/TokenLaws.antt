@@ -3,7 +3,7 @@ use Prim.Native.Nat.{ℕ, zero, suc, ◌+◌, ◌<◌}
 use Prim.Native.String.{String}
 use native.Mathlib.Omega.{arith}
 use mathlib.Core.Path.{◌≡◌, refl, sym, ap, ap₂, ◌∙◌, fun_ext, subst⁻¹}
-use mathlib.Core.Bool.{Bool, true, false, not, ◌&&◌, ◌||◌, false≢true, or_true, or_false, or_comm}
+use mathlib.Core.Bool.{Bool, true, false, not, ◌&&◌, ◌||◌, false≢true, or-true, or-false, or_comm}
 use mathlib.Core.Logic.{inl, inr}
 use mathlib.Core.List.{List, [], ◌∷◌, ◌++◌}
 use mathlib.Core.Option.{Option, none, some}
@@ -176,7 +176,7 @@ module _ (r i w e s c a y o p d : Bool) where
       go false false false = refl
 
   space-only : r ≡ false → i ≡ false → w ≡ false → e ≡ false → s ≡ false → c ≡ false → a ≡ false → y ≡ false → o ≡ false → d ≡ false → eleven ≡ p
-  space-only er ei ew ee es ec ea ey eo ed = rw (er, ei, ew, ee, es, ec, ea, ey, eo, ed) (or_false p)
+  space-only er ei ew ee es ec ea ey eo ed = rw (er, ei, ew, ee, es, ec, ea, ey, eo, ed) (or-false p)
 
   alphanumeric-only : i ≡ false → w ≡ false → e ≡ false → s ≡ false → c ≡ false → y ≡ false → o ≡ false → p ≡ false → d ≡ false → eleven ≡ (r || a)
   alphanumeric-only ei ew ee es ec ey eo ep ed = rw (ei, ew, ee, es, ec, ey, eo, ep, ed) (go r a)
@@ -334,7 +334,7 @@ one_character = denotes (λ n. eqb n 1) between-characters
 token_hash : (t : List ℕ) → is_token (35 ∷ t) ≡ (every is_symbol t || behind (34 ∷ []) one_character t)
 unfolding is_token is_reserved reserved_core reserved_modules is_among bytes same_bytes is_integer is_decimal unsigned one_or_more behind is_word is_real digits_then is_string is_character is_alphanumeric is_symbolic is_comment is_white_space is_dot is_space is_letter is_digit is_symbol is_one_of between every denotes
 token_hash [] = refl
-token_hash (c ∷ t) = simp or_false (or_comm (behind (34 ∷ []) one_character (c ∷ t)) (every is_symbol (c ∷ t)))
+token_hash (c ∷ t) = simp or-false (or_comm (behind (34 ∷ []) one_character (c ∷ t)) (every is_symbol (c ∷ t)))
 
 number_or_symbols : (i e y : Bool) → (i || false || e || false || false || false || y || false || false || false) ≡ (y || (i || e))
 number_or_symbols true e true = refl
@@ -351,17 +351,17 @@ token_tilde t =
 
 token_quote : (t : List ℕ) → is_token (34 ∷ t) ≡ denotes (λ n. true) between-characters t
 unfolding is_token is_reserved reserved_core reserved_modules is_among bytes same_bytes is_integer is_decimal unsigned one_or_more behind is_word is_real digits_then is_string is_character is_alphanumeric is_symbolic is_comment is_white_space is_dot is_space is_letter is_digit is_symbol is_one_of between denotes
-token_quote t = simp or_false
+token_quote t = simp or-false
 
 pub token_bracket : (t : List ℕ) → is_token (40 ∷ t) ≡ (is_empty t || behind (42 ∷ []) (λ r. closes r 1) t)
 unfolding is_token is_reserved reserved_core reserved_modules is_among bytes same_bytes is_integer is_decimal unsigned one_or_more behind is_word is_real digits_then is_string is_character is_alphanumeric is_symbolic is_comment is_white_space is_dot is_space is_letter is_digit is_symbol is_one_of between is_empty
 token_bracket [] = refl
-token_bracket (c ∷ t) = simp or_false
+token_bracket (c ∷ t) = simp or-false
 
 token_dots : (t : List ℕ) → is_token (46 ∷ t) ≡ (is_empty t || same_bytes t (46 ∷ 46 ∷ []))
 unfolding is_token is_reserved reserved_core reserved_modules is_among bytes same_bytes is_integer is_decimal unsigned one_or_more behind is_word is_real digits_then is_string is_character is_alphanumeric is_symbolic is_comment is_white_space is_dot is_space is_letter is_digit is_symbol is_one_of between is_empty
 token_dots [] = refl
-token_dots (c ∷ t) = simp or_false
+token_dots (c ∷ t) = simp or-false
 
 -- A byte that is a token by itself and begins no other.
 Lone : ℕ → Type 0
@@ -630,7 +630,7 @@ module _ (b : ℕ) where
   name-letter e = ap (λ (x : Bool). x || eqb b 39) e
 
   pub name-prime : b ≡ 39 → starts_name b ≡ true
-  name-prime e = ap (λ (x : Bool). is_letter b || x) (eq-eqb b 39 e) ∙ or_true (is_letter b)
+  name-prime e = ap (λ (x : Bool). is_letter b || x) (eq-eqb b 39 e) ∙ or-true (is_letter b)
 
   pub no_name : is_letter b ≡ false → (b ≡ 39 → ⊥) → starts_name b ≡ false
   no_name e f = ap₂ (λ (x y : Bool). x || y) e (ne_eqb b 39 f)

@@ -1,4 +1,6 @@
 // Tokens straight from the text (document 02, Ticket 2): tables of tokens, and above them the commands of a record.
+#![tactic(auto)]
+
 pub mod lexical; // lexical.rt: the longest token and its kind
 mod numbers; // numbers.rt: integers, words and reals
 mod runs; // runs.rt: runs of bytes of a class
@@ -20,7 +22,7 @@ use runs::symbol_table;
 use text::{Broken, first_broken};
 
 // Why a text is refused.
-#[derive(Drop)]
+#[derive(Clone, Copy)]
 pub enum Refusal {
     // The text has too many bytes or too many tokens.
     TooLong,
@@ -35,7 +37,7 @@ pub enum Refusal {
 }
 
 // The answer of `tables`.
-#[derive(Drop)]
+#[derive(Clone, Copy)]
 pub enum Tabled {
     // The number of tokens, which stand first in the tables.
     Tokens(usize),
@@ -43,7 +45,7 @@ pub enum Tabled {
 }
 
 // The answer of `scan`.
-#[derive(Drop)]
+#[derive(Clone, Copy)]
 pub enum Scanned {
     // How many bytes were written at the output's start.
     Written(usize),

@@ -5,7 +5,7 @@ ghost use Rattle.scanner.specs.Constants.{is_hex_digit};
 ghost use Rattle.scanner.specs.Lexical.{is_alphanumeric_byte, is_symbol};
 ghost use Rattle.scanner.specs.Promises.Reach.{is_plain, in_class, run, TellsSymbols};
 
-#[derive(Drop)]
+#[derive(Clone, Copy)]
 pub enum Class {
     Blank,
     Alphanumeric,

@@ -9,7 +9,7 @@ use crate::runs;
 use crate::runs::Class;
 
 // What is read of a string constant: its end, and the characters that are denoted.
-#[derive(Drop)]
+#[derive(Clone, Copy)]
 pub enum Quoted {
     Ends { end: usize, count: usize },
     Endless,

@@ -1,4 +1,6 @@
 // Calls for the tests of reference/, in an archive of their own: the record check, the tables, the ends of fields.
+#![tactic(auto)]
+
 ghost use Rattle.std.specs.Prelude.{◌≡◌, [], ◌∷◌};
 ghost use Rattle.text.specs.Bytes.{is_letter, is_digit, class_table};
 ghost use Rattle.reader.specs.Fields.{form, Exp, Ty};

@@ -2,7 +2,7 @@
 use Prim.Native.Nat.{ℕ, suc, ◌+◌, ◌-◌, ◌*◌, ◌/◌, ◌%◌, ◌≤◌, ◌<◌}
 use native.Mathlib.Omega.{arith}
 use mathlib.Core.Path.{◌≡◌, refl, sym, ap, subst, ◌∙◌}
-use mathlib.Core.Bool.{Bool, true, false, ◌&&◌, ◌||◌, and-false, or_true, false≢true}
+use mathlib.Core.Bool.{Bool, true, false, ◌&&◌, ◌||◌, and-false, or-true, false≢true}
 use mathlib.Core.List.{List, [], ◌∷◌, ◌++◌}
 use lib.Dec.{leb}
 use lib.ListN.{length, take, drop}
@@ -212,7 +212,7 @@ scalar_low c h = rw (in-yes 0x0 0xD7FF c (omega arith) h)
 
 scalar_high : (c : ℕ) → 0xE000 ≤ c → c ≤ 0x10FFFF → is_scalar c ≡ true
 unfolding is_scalar
-scalar_high c g h = rw (in-yes 0xE000 0x10FFFF c g h) (or_true (is_in (0x0 ‥ 0xD7FF) c))
+scalar_high c g h = rw (in-yes 0xE000 0x10FFFF c g h) (or-true (is_in (0x0 ‥ 0xD7FF) c))
 
 cons_eq : {a b : ℕ} {s t : List ℕ} → a ≡ b → s ≡ t → ◌≡◌ {A = List ℕ} (a ∷ s) (b ∷ t)
 cons_eq e f = rw (e, f)

@@ -3,7 +3,7 @@ use Prim.Native.Nat.{ℕ, zero, suc, ◌+◌, ◌-◌, ◌≤◌, ◌<◌}
 use native.Mathlib.Numerals.{add-one}
 use native.Mathlib.Omega.{arith}
 use mathlib.Core.Path.{◌≡◌, refl, sym, ap, ap₂, ◌∙◌}
-use mathlib.Core.Bool.{Bool, true, false, ◌&&◌, ◌||◌, and-true, or_false, false≢true}
+use mathlib.Core.Bool.{Bool, true, false, ◌&&◌, ◌||◌, and-true, or-false, false≢true}
 use mathlib.Core.List.{List, [], ◌∷◌, ◌++◌, map, reverse, reverse-append, reverse-reverse}
 use lib.Dec.{eqb}
 use lib.ListN.{length, get_or, take, drop, drop_of_length-le, length-reverse}
@@ -176,7 +176,7 @@ and_no y b n e f = rw (e, ne_eqb b n f)
 module _ (b : ℕ) where
   pub pair-c2 : is_among white_space (0xC2 ∷ b ∷ []) ≡ (eqb b 0x85 || eqb b 0xA0)
   unfolding is_among same_bytes
-  pair-c2 = pairs_are 0xC2 b ∙ ap₂ (λ (x y : Bool). x || y) (and-true (eqb b 0x85)) (or_false (eqb b 0xA0 && true) ∙ and-true (eqb b 0xA0))
+  pair-c2 = pairs_are 0xC2 b ∙ ap₂ (λ (x y : Bool). x || y) (and-true (eqb b 0x85)) (or-false (eqb b 0xA0 && true) ∙ and-true (eqb b 0xA0))
 
   pub pair-other : (a : ℕ) → (a ≡ 0xC2 → ⊥) → is_among white_space (a ∷ b ∷ []) ≡ false
   unfolding is_among same_bytes

@@ -1,1 +1,2 @@
 // Theorems about the definitions that the calls are proved against: no function's proof cites them.
+#![tactic(auto)]

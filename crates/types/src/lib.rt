@@ -1,4 +1,6 @@
 // `get_ty` of 000: the walk over types. A function for each arm, over configurations one form deeper.
+#![tactic(auto)]
+
 ghost use Rattle.layout.specs.Promises.Lent.{plainly};
 ghost use Rattle.layout.specs.Walk.{walks};
 ghost use Rattle.layout.specs.Ty.{ty_row, ty-rows, ty-seq, ty-seq-there, ty-args, star-ty, star-tys, ty-annotation-there, ty-annotation, ty as ty·};

@@ -3,6 +3,8 @@
 // The names are short, because all names of a cycle share one limit; the comment above a function has 000's name.
 // `vd` is a declaration of values and `vb` one of its bindings; so with `f` for functions, `x` for exceptions, `s` for
 // structures, `g` for signatures, `c` for functors.
+#![tactic(auto)]
+
 ghost use Rattle.std.specs.Prelude.{◌≡◌, Bool, true, false, ◌&&◌, ◌||◌, get_or, eqb, ◌+◌, ◌-◌, ◌*◌, ◌≤◌, ◌<◌};
 ghost use Rattle.reader.specs.Check.{max_forms};
 ghost use Rattle.layout.specs.Promises.Words.{word_of};

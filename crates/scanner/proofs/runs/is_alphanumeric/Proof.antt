@@ -1,7 +1,7 @@
 -- `is_alphanumeric` meets its contract, by the rule of the table. Assumes nothing.
 use native.Mathlib.Omega.{arith}
 use mathlib.Core.Path.{sym, ◌∙◌}
-use mathlib.Core.Bool.{or_false}
+use mathlib.Core.Bool.{or-false}
 use borrow.Author.Tests.{ne_eqb}
 use Rattle.text.specs.Bytes.{bytes, between, is_letter, is_digit}
 use Rattle.scanner.specs.Parts.{is_one_of}
@@ -26,7 +26,7 @@ returns-3 : tie.Need-returns-3
 unfolding is_alphanumeric_byte is_one_of bytes
 returns-3 c =
     rw (no-entry _ c.before.before.before.args.b (omega arith) c.before.before.before.requires c.before.if1.false, ne_eqb _ 39 c.if2.false)
-    (sym (or_false _))
+    (sym (or-false _))
 
 pub is-alphanumeric-spec : {M : Type 1} → statement M
 is-alphanumeric-spec = tie.close (tie.spec element-copy-out-if1 returns returns-2 returns-3)

@@ -1,0 +1,14 @@
+-- `text::barred_three` meets its contract. Assumes nothing.
+use native.Mathlib.Omega.{arith}
+use mathlib.Core.Path.{sym, ◌∙◌}
+use Rattle.text.proofs.WholeLaws.{inside, outside}
+use borrow.Author.Rules.{rules}
+use Rattle.text.proofs.barred_three.Goals as goal
+
+pub returns-then-in_range : goal.returns-then-in_range
+returns-then-in_range c =
+    (omega arith, λ z. ((λ g. absurd (c.if-c-eq224.false g)), λ g. (inside 0x80 0x9F _ (sym c.in_range.ensures ∙ c.if-in_range.true)).1))
+
+pub returns : goal.returns
+returns c =
+    (omega arith, λ z. ((λ g. outside 0x80 0x9F _ (sym c.in_range.ensures ∙ c.if-in_range.false)), λ g. absurd (c.if-c-eq237.false g)))

@@ -1,0 +1,15 @@
+-- `text::same` meets its contract. The invariant: the runs are equal where what follows `i` in both is. Assumes nothing.
+use Prim.Native.Nat.{◌≤◌, ◌-◌}
+use native.Mathlib.Omega.{arith}
+use mathlib.Core.Path.{◌≡◌, refl, sym, ◌∙◌}
+use lib.ListN.{length, drop}
+use Rattle.text.specs.Bytes.{same_bytes}
+use Rattle.text.proofs.Laws.{same_lengths, same_end, same_more, same_not}
+use borrow.Author.Rules.{rules}
+use Rattle.text.proofs.same.Given as goal
+
+abbrev pub invariant-loop-i : goal.invariant-loop-i
+invariant-loop-i l = (l.i ≤ length l.a) × (same_bytes l.a l.b ≡ same_bytes (drop l.i l.a) (drop l.i l.b))
+
+abbrev pub decreases-loop-i : goal.decreases-loop-i
+decreases-loop-i l = length l.a - l.i
