@@ -1,0 +1,18 @@
+-- `comments::Set::first` meets its contract. The invariant: the words before `w` are 0. Assumes nothing.
+use mir.Syntax.{w64}
+use mir.Val.{Fits}
+use lib.ListN.{get_or}
+use native.Mathlib.Omega.{arith}
+use Prim.Native.Nat.{ℕ, ◌+◌, ◌-◌, ◌*◌, ◌≤◌, ◌<◌, ◌^◌}
+use mathlib.Core.Path.{◌≡◌, refl, sym, ap, ◌∙◌}
+use mathlib.Core.Option.{some}
+use Rattle.comments.specs.Set.{holds, room, first, first_at}
+use Rattle.comments.proofs.Words.{first-here, first-later, first-behind}
+use borrow.Author.Rules.{rules}
+use Rattle.comments.proofs.Set.first.Given as goal
+
+abbrev pub invariant-loop-w : goal.invariant-loop-w
+invariant-loop-w l = (l.w ≤ 64) × (first (holds l.words) 0 room ≡ first (holds l.words) (64 * l.w) (room - 64 * l.w))
+
+abbrev pub decreases-loop-w : goal.decreases-loop-w
+decreases-loop-w l = 64 - l.w

@@ -1,0 +1,15 @@
+-- `comments::word` meets its contract. The invariant: x has the bits from `b` up, and is shifted as each lower one is put under them. Assumes nothing.
+use Prim.Native.Nat.{◌+◌, ◌-◌, ◌≤◌}
+use native.Mathlib.Omega.{arith}
+use mathlib.Core.Path.{◌≡◌, refl, sym, ◌∙◌}
+use Rattle.comments.specs.Set.{is_comment, bits}
+use Rattle.comments.proofs.Words.{bits-empty, made-fits, made_one, made-zero, made_all}
+use Rattle.comments.proofs.Search.{no-comment}
+use borrow.Author.Rules.{rules}
+use Rattle.comments.proofs.word.Given as goal
+
+abbrev pub invariant-loop-b : goal.invariant-loop-b
+invariant-loop-b l = (l.b ≤ 64) × (l.x ≡ bits (is_comment l.kinds) (l.k + l.b) (64 - l.b))
+
+abbrev pub decreases-loop-b : goal.decreases-loop-b
+decreases-loop-b l = l.b
