@@ -1,0 +1,19 @@
+-- `layout::helpers::op_path` equals its layout. Written by tools/arms.py.
+use Rattle.std.proofs.Common.{◌-◌, refl, ◌∙◌, arith, rules}
+use Rattle.layout.specs.Promises.Words.{word_of}
+use Rattle.layout.specs.Layout as Layout
+use Rattle.layout.specs.Helpers as Helpers
+use Rattle.layout.proofs.Steps.{PlainTurn, from, plain, by-same, first-same, then-done, then-stop, then-halt, then-sure, last-sure, last-skip, list-is, list-not, group-is, group-not, maybe-past, maybe-there, skip-same, items-all, from_more, from-none, text-is, text-not, present-there, present-gone, present-not, name_yes, name-no, name-not}
+use Rattle.layout.proofs.helpers.op_path.Goals as goal
+
+pub returns-in-There : goal.returns-in-There
+unfolding Helpers.op-path
+returns-in-There c = record { is = λ kinds. by-same (first-same (present-there c.present-given.ensures c.in-There.is)) (plain c.op_path_there.ensures) }
+
+pub returns-in-Absent : goal.returns-in-Absent
+unfolding Helpers.op-path
+returns-in-Absent c = record { is = λ kinds. by-same (first-same (present-gone c.present-given.ensures c.in-Absent.is)) (by-same skip-same (plain c.path.ensures)) }
+
+pub returns-in-Neither : goal.returns-in-Neither
+unfolding Helpers.op-path
+returns-in-Neither c = record { is = λ kinds. then-halt (present-not c.stop.ensures c.present-given.ensures c.in-Neither.is) c.stop.ensures }
