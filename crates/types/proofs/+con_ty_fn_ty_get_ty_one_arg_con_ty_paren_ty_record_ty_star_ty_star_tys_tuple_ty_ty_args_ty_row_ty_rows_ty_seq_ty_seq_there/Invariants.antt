@@ -1,0 +1,107 @@
+-- The measures of a cycle of calls, and what its members are given and asked. Written by tools/arms.py.
+-- `types::con_ty` equals its layout: a member of a cycle of calls. Written by tools/arms.py.
+-- `types::fn_ty` equals its layout: a member of a cycle of calls. Written by tools/arms.py.
+-- `types::get_ty` equals its layout: a member of a cycle of calls. Written by tools/arms.py.
+-- `types::one_arg_con_ty` equals its layout: a member of a cycle of calls. Written by tools/arms.py.
+-- `types::paren_ty` equals its layout: a member of a cycle of calls. Written by tools/arms.py.
+-- `types::record_ty` equals its layout: a member of a cycle of calls. Written by tools/arms.py.
+-- `types::star_ty` equals its layout: a member of a cycle of calls. Written by tools/arms.py.
+-- `types::star_tys` equals its layout: a member of a cycle of calls. Written by tools/arms.py.
+-- `types::tuple_ty` equals its layout: a member of a cycle of calls. Written by tools/arms.py.
+-- `types::ty_args` equals its layout: a member of a cycle of calls. Written by tools/arms.py.
+-- `types::ty_row` equals its layout: a member of a cycle of calls. Written by tools/arms.py.
+-- `types::ty_rows` equals its layout: a member of a cycle of calls. Written by tools/arms.py.
+-- `types::ty_seq` equals its layout: a member of a cycle of calls. Written by tools/arms.py.
+-- `types::ty_seq_there` equals its layout: a member of a cycle of calls. Written by tools/arms.py.
+-- The functions of a cycle of calls equal their layouts: a file for each, and what ties them. Written by tools/arms.py.
+use Prim.Native.Nat.{◌+◌, ◌*◌, ℕ, ◌<◌}
+use borrow.Author.Rules.{rules}
+use native.Mathlib.Omega.{arith}
+use mathlib.Core.Path.{◌∙◌}
+use Prim.Native.Nat.{ℕ}
+use Rattle.layout.proofs.Steps.{plain, then-done, then-stop}
+use Rattle.layout.specs.Ty as Ty
+use Rattle.layout.proofs.Steps.{plain, then-done, then-stop, then-sure}
+use mathlib.Core.Path.{refl}
+use Prim.Native.Nat.{zero-le, ◌-◌, ℕ}
+use Rattle.layout.specs.Walk.{walks}
+use Rattle.layout.proofs.Steps.{plain, by-same, last-sure, form-is, form-not}
+use Rattle.layout.proofs.Knot.{past, beyond, form-key, ty-zero, ty-form}
+use Rattle.layout.proofs.Steps.{plain, then-done, then-stop, then-sure, last-sure}
+use Rattle.layout.proofs.Steps.{plain, by-same, then-sure, group-is, group-not}
+use mathlib.Core.Path.{refl, ◌∙◌}
+use Prim.Native.Nat.{◌-◌, ℕ}
+use Rattle.layout.specs.Helpers.{times}
+use Rattle.layout.proofs.Steps.{PlainTurn, plain, by-same, then-done, then-stop, list-is, list-not, times-all, times_more, times_none}
+use Rattle.layout.specs.Helpers as Helpers
+use Rattle.layout.proofs.Dropping.{dropped_by}
+use Rattle.layout.proofs.Steps.{PlainTurn, from, plain, by-same, first-same, then-done, then-stop, then-sure, list-is, list-not, group-is, group-not, items-all, from_more, from-none}
+use Rattle.layout.specs.Layout as Layout
+use Rattle.layout.proofs.Steps.{plain, by-same, then-done, then-stop, then-sure, group-is, group-not}
+use Rattle.layout.proofs.Steps.{PlainTurn, from, plain, by-same, then-done, then-stop, then-sure, list-is, list-not, items-all, from_more, from-none}
+use Rattle.layout.proofs.Steps.{plain, by-same, maybe-past, maybe-there}
+use Rattle.layout.proofs.Steps.{plain, by-same, then-done, then-stop, then-sure, last-sure, group-is, group-not}
+use Rattle.types.proofs.+con_ty_fn_ty_get_ty_one_arg_con_ty_paren_ty_record_ty_star_ty_star_tys_tuple_ty_ty_args_ty_row_ty_rows_ty_seq_ty_seq_there.Given as goal
+
+abbrev pub decreases-con_ty : goal.decreases-con_ty
+decreases-con_ty l = 16 * l.cfg.nesting + 4
+
+abbrev pub decreases-fn_ty : goal.decreases-fn_ty
+decreases-fn_ty l = 16 * l.cfg.nesting + 1
+
+abbrev pub decreases-get_ty : goal.decreases-get_ty
+decreases-get_ty l = 16 * l.cfg.nesting + 0
+
+abbrev pub decreases-one_arg_con_ty : goal.decreases-one_arg_con_ty
+decreases-one_arg_con_ty l = 16 * l.cfg.nesting + 1
+
+abbrev pub decreases-paren_ty : goal.decreases-paren_ty
+decreases-paren_ty l = 16 * l.cfg.nesting + 1
+
+abbrev pub decreases-record_ty : goal.decreases-record_ty
+decreases-record_ty l = 16 * l.cfg.nesting + 3
+
+abbrev pub decreases-star_ty : goal.decreases-star_ty
+decreases-star_ty l = 16 * l.cfg.nesting + 1
+
+abbrev pub decreases-star_tys : goal.decreases-star_tys
+decreases-star_tys l = 16 * l.cfg.nesting + 2
+
+abbrev pub decreases-tuple_ty : goal.decreases-tuple_ty
+decreases-tuple_ty l = 16 * l.cfg.nesting + 3
+
+abbrev pub decreases-ty_args : goal.decreases-ty_args
+decreases-ty_args l = 16 * l.cfg.nesting + 1
+
+abbrev pub decreases-ty_row : goal.decreases-ty_row
+decreases-ty_row l = 16 * l.cfg.nesting + 1
+
+abbrev pub decreases-ty_rows : goal.decreases-ty_rows
+decreases-ty_rows l = 16 * l.cfg.nesting + 2
+
+abbrev pub decreases-ty_seq : goal.decreases-ty_seq
+decreases-ty_seq l = 16 * l.cfg.nesting + 3
+
+abbrev pub decreases-ty_seq_there : goal.decreases-ty_seq_there
+decreases-ty_seq_there l = 16 * l.cfg.nesting + 2
+
+abbrev pub invariant-star_tys-loop-i : goal.invariant-star_tys-loop-i
+invariant-star_tys-loop-i l =
+    PlainTurn l.run l.text l.rec l.spans (λ i' k. times k (Ty.star-ty (walks l.cfg.nesting))) l.n l.initial.s l.initial.mem l.initial.out l.i l.s l.mem l.out
+
+abbrev pub decreases-star_tys-loop-i : goal.decreases-star_tys-loop-i
+decreases-star_tys-loop-i l = l.n - l.i
+
+abbrev pub invariant-ty_args-loop-i : goal.invariant-ty_args-loop-i
+invariant-ty_args-loop-i l =
+    PlainTurn l.run l.text l.rec l.spans (from (Layout.word ", ") (Layout.group (walks l.cfg.nesting).get-ty)) l.n l.initial.s l.initial.mem l.initial.out l.i l.s l.mem l.out
+
+abbrev pub decreases-ty_args-loop-i : goal.decreases-ty_args-loop-i
+decreases-ty_args-loop-i l = l.n - l.i
+
+abbrev pub invariant-ty_rows-loop-i : goal.invariant-ty_rows-loop-i
+invariant-ty_rows-loop-i l =
+    PlainTurn l.run l.text l.rec l.spans (from (Layout.word ", ") (Ty.ty_row (walks l.cfg.nesting))) l.n l.initial.s l.initial.mem l.initial.out l.i l.s l.mem l.out
+
+abbrev pub decreases-ty_rows-loop-i : goal.decreases-ty_rows-loop-i
+decreases-ty_rows-loop-i l = l.n - l.i
