@@ -1,0 +1,36 @@
+-- `leaves::dat_dec` equals its layout. Written by tools/arms.py.
+use mathlib.Core.List.{[], ◌∷◌}
+use borrow.Author.Rules.{rules}
+use native.Mathlib.Omega.{arith}
+use mathlib.Core.Path.{refl, ◌∙◌}
+use Prim.Native.Nat.{zero-le, ◌+◌, ◌-◌, ◌*◌}
+use Rattle.layout.specs.Promises.Words.{word_of}
+use Rattle.layout.specs.Layout as Layout
+use Rattle.layout.specs.Helpers as Helpers
+use Rattle.layout.specs.Helpers.{times}
+use Rattle.layout.specs.Walk.{walks}
+use Rattle.layout.specs.Promises.State.{cfg_of}
+use Rattle.layout.specs.Exp as Exp
+use Rattle.layout.specs.GetDec as GetDec
+use Rattle.layout.specs.DecOne as DecOne
+use Rattle.layout.proofs.Steps.{PlainTurn, from, plain, by-same, first-same, then-done, then-stop, then-halt, then-sure, last-sure, then-both, last-skip, skip-same, list-is, list-not, choice-is, choice-not, group-is, group-not, maybe-past, maybe-there, items-all, from_more, from-none, times-all, times_more, times_none, regroup, present-there, present-gone, present-not, operated-pipe, operated-gap, sure_then}
+use Rattle.layout.proofs.Knot.{past, beyond, at_key}
+use Rattle.leaves.proofs.Laws.{con-over, con-under}
+use Rattle.leaves.proofs.dat_dec.Goals as goal
+
+pub dat_binds-r1-requires : goal.dat_binds-r1-requires
+dat_binds-r1-requires c = omega (arith, c.requires)
+
+pub shape_of-out-in_default : goal.shape_of-out-in_default
+shape_of-out-in_default c = c.dat_binds-r1.auto.out ∙ c.word.auto.out
+
+pub returns-in_default : goal.returns-in_default
+unfolding DecOne.dec-one
+returns-in_default c = record { is = λ kinds. then-sure c.word.ensures (then-stop (plain c.dat_binds-r1.ensures) c.told.ensures c.in_default.is) }
+
+pub shape_of-out : goal.shape_of-out
+shape_of-out c = c.with_type.auto.out ∙ c.dat_binds-r1.auto.out ∙ c.word.auto.out
+
+pub returns : goal.returns
+unfolding DecOne.dec-one
+returns c = record { is = λ kinds. then-sure c.word.ensures (then-done (plain c.dat_binds-r1.ensures) c.told.ensures c.in-Done.is (plain c.with_type.ensures)) }

@@ -1,0 +1,37 @@
+-- `leaves::infix_pats` equals its layout. Written by tools/arms.py.
+use mathlib.Core.List.{[], ◌∷◌}
+use borrow.Author.Rules.{rules}
+use native.Mathlib.Omega.{arith}
+use mathlib.Core.Path.{refl, ◌∙◌}
+use Prim.Native.Nat.{zero-le, ◌+◌, ◌-◌, ◌*◌}
+use Rattle.layout.specs.Promises.Words.{word_of}
+use Rattle.layout.specs.Layout as Layout
+use Rattle.layout.specs.Helpers as Helpers
+use Rattle.layout.specs.Helpers.{times}
+use Rattle.layout.specs.Walk.{walks}
+use Rattle.layout.specs.Promises.State.{cfg_of}
+use Rattle.layout.specs.Exp as Exp
+use Rattle.layout.specs.GetDec as GetDec
+use Rattle.layout.specs.DecOne as DecOne
+use Rattle.layout.proofs.Steps.{PlainTurn, from, plain, by-same, first-same, then-done, then-stop, then-halt, then-sure, last-sure, then-both, last-skip, skip-same, list-is, list-not, choice-is, choice-not, group-is, group-not, maybe-past, maybe-there, items-all, from_more, from-none, times-all, times_more, times_none, regroup, present-there, present-gone, present-not, operated-pipe, operated-gap, sure_then}
+use Rattle.layout.proofs.Knot.{past, beyond, at_key}
+use Rattle.leaves.proofs.Laws.{con-over, con-under}
+use Rattle.leaves.proofs.infix_pats.Goals as goal
+
+pub returns-in_default : goal.returns-in_default
+unfolding DecOne.infix-head
+returns-in_default c = record { is = λ kinds. then-stop (plain c.get_pat-r1.ensures) c.told.ensures c.in_default.is }
+
+pub shape_of-out-in_default-told : goal.shape_of-out-in_default-told
+shape_of-out-in_default-told c = c.text_of-r2.auto.out ∙ c.word.auto.out ∙ c.get_pat-r1.auto.out
+
+pub returns-in_default-told : goal.returns-in_default-told
+unfolding DecOne.infix-head
+returns-in_default-told c = record { is = λ kinds. then-done (plain c.get_pat-r1.ensures) c.told.ensures c.in-Done.is (then-sure c.word.ensures (then-stop (plain c.text_of-r2.ensures) c.told-2.ensures c.in_default-told.is)) }
+
+pub shape_of-out : goal.shape_of-out
+shape_of-out c = c.get_pat.auto.out ∙ c.word-2.auto.out ∙ c.text_of-r2.auto.out ∙ c.word.auto.out ∙ c.get_pat-r1.auto.out
+
+pub returns : goal.returns
+unfolding DecOne.infix-head
+returns c = record { is = λ kinds. then-done (plain c.get_pat-r1.ensures) c.told.ensures c.in-Done.is (then-sure c.word.ensures (then-done (plain c.text_of-r2.ensures) c.told-2.ensures c.in-Done-told.is (then-sure c.word-2.ensures (plain c.get_pat.ensures)))) }

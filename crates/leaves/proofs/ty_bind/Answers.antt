@@ -1,0 +1,55 @@
+-- `leaves::ty_bind` equals its layout. Written by tools/arms.py.
+use mathlib.Core.List.{[], ◌∷◌}
+use borrow.Author.Rules.{rules}
+use native.Mathlib.Omega.{arith}
+use mathlib.Core.Path.{refl, ◌∙◌}
+use Prim.Native.Nat.{zero-le, ◌+◌, ◌-◌, ◌*◌}
+use Rattle.layout.specs.Promises.Words.{word_of}
+use Rattle.layout.specs.Layout as Layout
+use Rattle.layout.specs.Helpers as Helpers
+use Rattle.layout.specs.Helpers.{times}
+use Rattle.layout.specs.Walk.{walks}
+use Rattle.layout.specs.Promises.State.{cfg_of}
+use Rattle.layout.specs.Exp as Exp
+use Rattle.layout.specs.GetDec as GetDec
+use Rattle.layout.specs.DecOne as DecOne
+use Rattle.layout.proofs.Steps.{PlainTurn, from, plain, by-same, first-same, then-done, then-stop, then-halt, then-sure, last-sure, then-both, last-skip, skip-same, list-is, list-not, choice-is, choice-not, group-is, group-not, maybe-past, maybe-there, items-all, from_more, from-none, times-all, times_more, times_none, regroup, present-there, present-gone, present-not, operated-pipe, operated-gap, sure_then}
+use Rattle.layout.proofs.Knot.{past, beyond, at_key}
+use Rattle.leaves.proofs.Laws.{con-over, con-under}
+use Rattle.leaves.proofs.ty_bind.Goals as goal
+
+pub returns-in_default : goal.returns-in_default
+unfolding DecOne.ty-bind
+returns-in_default c = record { is = λ kinds. group-not c.group-r1.ensures c.told.ensures c.in_default.is }
+
+pub returns-in_default-told : goal.returns-in_default-told
+unfolding DecOne.ty-bind
+returns-in_default-told c = record { is = λ kinds. by-same (group-is c.group-r1.ensures c.told.ensures c.in-Done.is) (then-stop (plain c.ty_var_seq-r2.ensures) c.told-2.ensures c.in_default-told.is) }
+
+pub shape_of-out-in_default-told-2 : goal.shape_of-out-in_default-told-2
+shape_of-out-in_default-told-2 c = c.text_of-r3.auto.out ∙ c.ty_var_seq-r2.auto.out
+
+pub returns-in_default-told-2 : goal.returns-in_default-told-2
+unfolding DecOne.ty-bind
+returns-in_default-told-2 c = record { is = λ kinds. by-same (group-is c.group-r1.ensures c.told.ensures c.in-Done.is) (then-done (plain c.ty_var_seq-r2.ensures) c.told-2.ensures c.in-Done-told.is (then-stop (plain c.text_of-r3.ensures) c.told-3.ensures c.in_default-told-2.is)) }
+
+pub shape_of-out-in-Past : goal.shape_of-out-in-Past
+shape_of-out-in-Past c = c.text_of-r3.auto.out ∙ c.ty_var_seq-r2.auto.out
+
+pub returns-in-Past : goal.returns-in-Past
+unfolding DecOne.ty-bind
+returns-in-Past c = record { is = λ kinds. by-same (group-is c.group-r1.ensures c.told.ensures c.in-Done.is) (then-done (plain c.ty_var_seq-r2.ensures) c.told-2.ensures c.in-Done-told.is (then-done (plain c.text_of-r3.ensures) c.told-3.ensures c.in-Done-told-2.is (maybe-past c.absent.ensures c.in-Past.is))) }
+
+pub shape_of-out-in_default-told-3 : goal.shape_of-out-in_default-told-3
+shape_of-out-in_default-told-3 c = c.text_of-r3.auto.out ∙ c.ty_var_seq-r2.auto.out
+
+pub returns-in_default-told-3 : goal.returns-in_default-told-3
+unfolding DecOne.ty-bind
+returns-in_default-told-3 c = record { is = λ kinds. by-same (group-is c.group-r1.ensures c.told.ensures c.in-Done.is) (then-done (plain c.ty_var_seq-r2.ensures) c.told-2.ensures c.in-Done-told.is (then-done (plain c.text_of-r3.ensures) c.told-3.ensures c.in-Done-told-2.is (by-same (maybe-there c.absent.ensures c.in_default-absent.is) (group-not c.group-r5.ensures c.told-4.ensures c.in_default-told-3.is)))) }
+
+pub shape_of-out : goal.shape_of-out
+shape_of-out c = c.get_ty.auto.out ∙ c.word.auto.out ∙ c.text_of-r3.auto.out ∙ c.ty_var_seq-r2.auto.out
+
+pub returns : goal.returns
+unfolding DecOne.ty-bind
+returns c = record { is = λ kinds. by-same (group-is c.group-r1.ensures c.told.ensures c.in-Done.is) (then-done (plain c.ty_var_seq-r2.ensures) c.told-2.ensures c.in-Done-told.is (then-done (plain c.text_of-r3.ensures) c.told-3.ensures c.in-Done-told-2.is (by-same (maybe-there c.absent.ensures c.in_default-absent.is) (by-same (group-is c.group-r5.ensures c.told-4.ensures c.in-Done-told-3.is) (then-sure c.word.ensures (plain c.get_ty.ensures)))))) }
