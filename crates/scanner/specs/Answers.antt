@@ -1,7 +1,6 @@
 -- What the answers of the code stand for, and the contracts of its functions.
 use Rattle.std.specs.Prelude.{ℕ, List}
 use Rattle.text.specs.Output.{Plain, plain, Reply}
-use Rattle.scanner.specs.Scan.{Scanned}
 use Rattle.scanner.specs.declared.Refusal.{Refusal}
 use Rattle.scanner.specs.declared.Refusal.TheVariants.{TooLong, NotUtf8, OpenComment, NoString, BeginsNoToken}
 use Rattle.scanner.specs.declared.Scanned as Code
