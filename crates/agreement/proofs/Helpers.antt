@@ -1,12 +1,12 @@
 -- The walk keeps step with the check in the helpers of 000, in declarations in sequence, and in layouts that are not regular.
 use mathlib.Core.Path.{refl}
-use mathlib.Core.Bool.{Bool, true, false}
+use mathlib.Core.Bool.{Bool, true, false, ◌||◌}
 use Prim.Native.Nat.{ℕ, zero, suc}
 use Prim.Native.String.{String}
 use lib.Dec.{ltb}
-use Rattle.reader.specs.Fields as Fields
+use Rattle.std.specs.Prelude.{◌==◌}
 use Rattle.reader.specs.Fields.{DecOne, StrExp, SigExp, Exp, Pat, Ty, Fields, ◌▸◌, Path, TyVarSeq, ConBind, ExpInSeq, Dec, DecFields, AppStrExpArg}
-use Rattle.layout.specs.Layout.{Layout, ◌⨾◌, word, text, dropped}
+use Rattle.layout.specs.Layout.{Layout, ◌⨾◌, word, dropped}
 use Rattle.layout.specs.Meaning.{Page}
 use Rattle.layout.specs.Helpers.{Cfg, Walkers, deeper, deepen, indent, indent-deeper, items, new_line, path, op, op-path, in_parens, ty_vars, ty_var_seq_there, ty_var_seq, word_if, semicolon}
 use Rattle.layout.specs.GetDec.{dec-in-seq, sharing-tail, sharing-tails, dec-in-seqs, dec, get-dec, dec-arg}
@@ -127,4 +127,4 @@ module _ {p : Page} {d : ℕ} {ws : Walkers} (go : Walks p d ws) where
   pub app-arguments : (c : Cfg) (b : Bool) (n : ℕ) → Items p d AppStrExpArg n (app-args ws c b n)
   unfolding app-args app-arg
   app-arguments c b zero = no_items (before (whens (at-depth c) _) fixed)
-  app-arguments c b (suc n) = choice-items (λ which. pick which ((λ h. go.str-exp c) ▹ (λ h. dec-args c) ▹ no_more)) (λ which. app-arguments c _ n)
+  app-arguments c b (suc n) = choice-items (λ which. pick which ((λ h. go.str-exp c) ▹ (λ h. dec-args c) ▹ no_more)) (λ which. app-arguments c (b || which == 1) n)

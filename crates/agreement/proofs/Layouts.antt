@@ -11,18 +11,17 @@ use lib.ListN.{length, get_or}
 use lib.Dec.{ltb, eqb}
 use borrow.Author.Tests.{ltb-true, ltb-false, eqb-true, eqb-false}
 use Rattle.text.proofs.Laws.{never}
-use Rattle.reader.specs.Fields as Fields
 use Rattle.reader.specs.Fields.{Family, DecOne, Ty, Fields, ◌▸◌, forms}
 use Rattle.reader.specs.Commands.{absent_at, token_at, list_at, group_at, choice_at, form_at, form_width, first_token}
 use Rattle.reader.specs.Check as Check
 use Rattle.reader.specs.Forms.{EsImportDec, dec_number}
 use Rattle.reader.specs.Check.{Checked, ok, malformed, too_deep, and_then, operand_fits, token_fits, or_absent, fields, form_fits, form_check, field_end}
 use Rattle.reader.proofs.CommandLaws.{and_right, and_second, token-there, group-there, choice-there, form-there, form-fits, form-number}
-use Rattle.reader.proofs.FieldLaws.{then_parts, if_parts, or_is, token-parts, fits-parts, fits-yes, zero-never}
+use Rattle.reader.proofs.FieldLaws.{then_parts, or_is, token-parts, fits-parts, fits-yes, zero-never}
 use Rattle.reader.proofs.Ends.{ends_more}
 use Rattle.layout.specs.Layout.{Layout, is_pipe, skip, ◌⨾◌, word, output-indent, formed, text, group, choice, form, list}
 use Rattle.layout.specs.Layout.{maybe, present, operator, declaration, dropped, halt, import}
-use Rattle.layout.specs.Meaning.{Page, Event, Token, Comment, Outcome, done, stopped, Stop, absent, imported, outcome, or_stop, bind, after, commented, operated, above_first, onwards, passes}
+use Rattle.layout.specs.Meaning.{Page, Event, Token, Comment, Outcome, done, stopped, absent, imported, outcome, or_stop, bind, after, commented, operated, above_first, onwards, passes}
 use Rattle.layout.specs.Helpers.{Cfg, indent, new_line, when, times, items, for_each, sep, sep-with_lines}
 use Rattle.agreement.specs.Agreement.{Proper, Agree}
 use Rattle.agreement.specs.Unbounded as Unbounded

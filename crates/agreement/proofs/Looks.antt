@@ -2,7 +2,7 @@
 -- path without names.
 use native.Mathlib.Omega.{arith}
 use mathlib.Core.Path.{◌≡◌, refl, sym, ap, ◌∙◌, subst}
-use mathlib.Core.List.{List, [], ◌∷◌}
+use mathlib.Core.List.{[]}
 use mathlib.Core.Bool.{Bool, true, false}
 use mathlib.Core.Option.{Option, none, some}
 use mathlib.Core.Logic.{◌⊎◌, inl, inr}
@@ -11,7 +11,6 @@ use lib.ListN.{get_or}
 use lib.Dec.{eqb}
 use borrow.Author.Tests.{eqb-true, ne_eqb}
 use Rattle.text.proofs.Laws.{never}
-use Rattle.reader.specs.Fields as Fields
 use Rattle.reader.specs.Fields.{Exp, Fields, ◌▸◌, Path, forms}
 use Rattle.reader.specs.Forms.{PathExp, exp_number}
 use Rattle.reader.specs.Commands.{absent_at, token_at, list_at, group_at, form_at, form_width}
@@ -22,7 +21,7 @@ use Rattle.reader.proofs.FieldLaws.{then_parts, some_parts, or_is, fits-yes, zer
 use Rattle.reader.proofs.Ends.{ends_more}
 use Rattle.layout.specs.Layout.{Layout, Look, Test, ◌⨾◌, look, first_name, application}
 use Rattle.layout.specs.Meaning.{Page, Outcome, stopped, absent, bind, or_stop, outcome, sees, name_passes, Name, name, no_name, dot_name, list_name, path_name, op_path_name}
-use Rattle.layout.specs.Meaning.{Head, path_exp, other_exp, func_is_bang, arg_is_symbolic}
+use Rattle.layout.specs.Meaning.{path_exp, other_exp, func_is_bang, arg_is_symbolic}
 use Rattle.layout.specs.Meaning.{Seen, seen, unseen, both_seen, Heads, both, missing, head_of, heads_from, heads_at}
 use Rattle.agreement.specs.Agreement.{Proper, Agree}
 use Rattle.agreement.specs.Unbounded as Unbounded

@@ -1,7 +1,7 @@
 -- Each arm of the walk keeps step with the check of its fields.
 -- Written by `python3 tools/credits.py` from the layouts in crates/layout/specs.
 use mathlib.Core.Path.{◌≡◌, refl, sym}
-use mathlib.Core.Bool.{true, false}
+use mathlib.Core.Bool.{true}
 use Prim.Native.Nat.{ℕ, ◌≤◌}
 use Rattle.reader.specs.Fields.{DecOne, StrExp, SigExp, Exp, Pat, Ty, forms}
 use Rattle.layout.specs.Meaning.{Page}

@@ -1,6 +1,6 @@
 -- The meaning of a layout without the bounds that the check sets: a token and a declaration's first token may have any number, and in
 -- a dropped type 200 forms may stand inside one another wherever it stands. All else is as in Meaning.
-use Rattle.std.specs.Prelude.{ℕ, ◌+◌, List, [], ◌∷◌, true, false}
+use Rattle.std.specs.Prelude.{ℕ, ◌+◌, [], ◌∷◌, true, false}
 use Rattle.std.proofs.Math.Option.{none, some}
 use Rattle.reader.specs.Fields.{DecOne, Exp, Ty}
 use Rattle.reader.specs.Fields as Fields

@@ -10,7 +10,6 @@ use lib.ListN.{length, get_or}
 use lib.Dec.{leb}
 use borrow.Author.Tests.{leb-true}
 use Rattle.text.specs.Bytes.{bytes}
-use Rattle.reader.specs.Fields as Fields
 use Rattle.reader.specs.Fields.{Ty, Fields, ◌▸◌, forms}
 use Rattle.reader.specs.Commands.{absent_at, list_at, group_at, form_at, form_width}
 use Rattle.reader.specs.Check as Check

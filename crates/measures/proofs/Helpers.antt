@@ -7,7 +7,7 @@ use Prim.Native.String.{String}
 use lib.Dec.{leb}
 use borrow.Author.Tests.{leb-true}
 use Rattle.text.specs.Bytes.{bytes}
-use Rattle.layout.specs.Layout.{Layout, word, text}
+use Rattle.layout.specs.Layout.{Layout, word}
 use Rattle.layout.specs.Meaning.{Page}
 use Rattle.layout.specs.Helpers.{Cfg, deeper, deepen, indent, for_each, sep, new_line, sep-with_lines, in_end, path, op, op-path, in_parens, ty_vars, ty_var_seq_there, ty_var_seq, word_if, semicolon}
 use Rattle.measures.proofs.Paying as Paying

@@ -1,9 +1,10 @@
 -- What layouts pay that call themselves or go by cases of an argument. The terms of all others are written by tools/credits.py.
 use native.Mathlib.Omega.{arith}
 use mathlib.Core.Path.{refl}
-use mathlib.Core.Bool.{Bool, true, false}
+use mathlib.Core.Bool.{Bool, true, false, ◌||◌}
 use Prim.Native.Nat.{ℕ, zero, suc, ◌+◌, ◌≤◌}
 use lib.Dec.{ltb}
+use Rattle.std.specs.Prelude.{◌==◌}
 use Rattle.text.specs.Bytes.{bytes}
 use Rattle.layout.specs.Layout.{Layout, ◌⨾◌, word}
 use Rattle.layout.specs.Meaning.{Page}
@@ -66,4 +67,4 @@ module _ {p : Page} (short : Short p) {top : ℕ} {ws : Walkers} (go : Walks p t
   pub app-arguments : (b : Bool) (n : ℕ) → Paid p 2 0 (app-args ws c b n)
   unfolding app-args bytes
   app-arguments b zero = whens (at-depth c (omega arith)) _ then fixed refl
-  app-arguments b (suc n) = eased (omega arith) (omega arith) (choices (λ which. app-argument which then app-arguments _ n))
+  app-arguments b (suc n) = eased (omega arith) (omega arith) (choices (λ which. app-argument which then app-arguments (b || which == 1) n))

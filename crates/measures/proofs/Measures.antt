@@ -19,7 +19,7 @@ use Rattle.reader.proofs.CommandLaws.{and_left, and_right, list-fits}
 use Rattle.layout.specs.Layout.{Layout, list}
 use Rattle.layout.specs.Meaning.{Page, Event, Outcome, done, stopped, Stop, outcome, or_stop}
 use Rattle.layout.specs.Events.{sum_of, deepest, units, letters}
-use Rattle.layout.specs.Helpers.{Cfg, Walkers, sep-with_lines}
+use Rattle.layout.specs.Helpers.{Cfg, sep-with_lines}
 use Rattle.layout.specs.GetDec.{get-dec}
 use Rattle.layout.specs.DecOne.{comment-line}
 use Rattle.layout.specs.Walk.{walks, top, walk}

@@ -2,7 +2,7 @@
 -- Written by `python3 tools/credits.py` from the layouts in crates/layout/specs.
 use native.Mathlib.Omega.{arith}
 use mathlib.Core.Path.{refl}
-use mathlib.Core.Bool.{true, false}
+use mathlib.Core.Bool.{true}
 use Prim.Native.Nat.{ℕ, ◌+◌, ◌≤◌}
 use Rattle.text.specs.Bytes.{bytes}
 use Rattle.layout.specs.Meaning.{Page}

@@ -1,5 +1,5 @@
 -- What no sheet exceeds.
-use Rattle.std.specs.Prelude.{ℕ, ◌+◌, ◌≤◌, List}
+use Rattle.std.specs.Prelude.{◌+◌, ◌≤◌, List}
 use Rattle.layout.specs.Meaning.{Page, Event, Outcome, done, stopped}
 use Rattle.layout.specs.Events.{deepest, letters, units}
 
