@@ -1,0 +1,12 @@
+-- `formatter::left_in` meets its contract.
+use native.Mathlib.Omega.{arith}
+use Prim.Native.Nat.{◌-◌}
+use Rattle.formatter.proofs.LentLaws.{Taking, taking-starts, taking_goes, taking_ends}
+use borrow.Author.Rules.{rules}
+use Rattle.formatter.proofs.left_in.Given as goal
+
+abbrev pub invariant-loop-i : goal.invariant-loop-i
+invariant-loop-i l = Taking l.mem l.words l.i
+
+abbrev pub decreases-loop-i : goal.decreases-loop-i
+decreases-loop-i l = 64 - l.i
