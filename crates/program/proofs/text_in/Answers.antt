@@ -1,0 +1,6 @@
+-- `program::text_in` meets its contract. Assumes nothing.
+use borrow.Author.Rules.{rules}
+use Rattle.program.proofs.text_in.Goals as goal
+
+pub returns : goal.returns
+returns c = c.part.ensures
