@@ -1,0 +1,16 @@
+-- `diverplume::put_verdict` meets its contract. The invariant: the first `w` words of the set are copied. Assumes nothing.
+use Prim.Native.Nat.{◌-◌, ◌≤◌}
+use native.Mathlib.Omega.{arith}
+use mathlib.Core.Path.{◌≡◌, refl, ◌∙◌}
+use lib.ListN.{length, length-set}
+use lib.Seq.{paste, paste-zero}
+use Rattle.text.proofs.Laws.{copied_more}
+use Rattle.diverplume.proofs.Laws.{unfilled, verdict-put}
+use borrow.Author.Rules.{rules}
+use Rattle.diverplume.proofs.put_verdict.Given as goal
+
+abbrev pub invariant-loop-w : goal.invariant-loop-w
+invariant-loop-w l = (l.w ≤ 64) × (l.verdict ≡ paste l.initial.verdict 5 l.left l.w) × (length l.verdict ≡ 69)
+
+abbrev pub decreases-loop-w : goal.decreases-loop-w
+decreases-loop-w l = 64 - l.w
