@@ -12,7 +12,7 @@ use Rattle.reader.specs.Commands.{u16}
 use Rattle.reader.specs.Reading.{read, refused, max_text, max_record}
 use Rattle.layout.specs.Events.{letters, units, formatted}
 use Rattle.formatter.specs.declared.Answer.{Answer}
-use Rattle.formatter.specs.Verdict.{Result, verdict, no_measures, measures_of, declined, judge, get, number_of, given_measures, verdict_of}
+use Rattle.formatter.specs.Verdict.{Result, verdict, no_measures, measures_of, declined, judge, get, verdict_of}
 use Rattle.formatter.proofs.EventLaws.{length-formatted}
 use Rattle.formatter.proofs.VerdictLaws.{get-declined, get-accepted, format-fits, get-accepts}
 use Rattle.program.specs.Program.{line, text_of, line_of, printed, room, head_length, tab_size, text_length, format_input, program}

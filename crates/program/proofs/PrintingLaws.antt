@@ -10,9 +10,6 @@ use lib.ListN.{length, take, drop, set, length-append}
 use lib.Seq.{append_snoc, take_at, drop_at, drop-drop, set_split, length-take-le, take-length, paste}
 use lib.Dec.{ltb, eqb}
 use borrow.Author.Tests.{lt-ltb, le-ltb, ltb-true, ltb-false}
-use types.Run.{OneOf, miss}
-use denote.Enum.Declared.{tag_of}
-use Rattle.formatter.specs.contracts.Answer.{the_type}
 use Rattle.formatter.specs.declared.Measures.{Measures}
 use Rattle.formatter.specs.declared.Answer.{Answer}
 use Rattle.formatter.specs.declared.Answer.TheVariants.{Accepted, TooLong, NotUtf8, Malformed, TooDeep, Missing, Import, CommentsLeft, IndentTooWide, OutputTooShort}
@@ -113,16 +110,13 @@ line-parts v = rw (behind, behind, behind, behind)
 
 -- ---- the line and the text
 
--- An answer that does not accept, by the places of its cases.
-abbrev others : List ℕ
-others = 1 ∷ 2 ∷ 3 ∷ 4 ∷ 5 ∷ 6 ∷ 7 ∷ 8 ∷ 9 ∷ []
-
+-- An answer that does not accept.
 abbrev pub Declines : Answer → Type 0
-Declines a = OneOf others (tag_of the_type a)
+Declines a = (m : Measures) → a ≡ Accepted m → ⊥
 
 declines_number : (a : Answer) → Declines a → eqb (number_of a) 0 ≡ false
 unfolding number_of
-declines_number (Accepted m) d = absurd (miss others 0 tt d)
+declines_number (Accepted m) d = absurd (d m refl)
 declines_number TooLong d = refl
 declines_number (NotUtf8 at) d = refl
 declines_number (Malformed at) d = refl

@@ -1,6 +1,5 @@
 -- The program: from the bytes of standard input to the bytes printed.
-use Rattle.std.specs.Prelude.{ℕ, zero, suc, ◌+◌, ◌*◌, ◌/◌, ◌%◌, List, [], ◌∷◌, ◌++◌, Bool, true, false, length, take, drop, replicate, leb, ltb, eqb}
-use Rattle.text.specs.Bytes.{bytes}
+use Rattle.std.specs.Prelude.{ℕ, zero, suc, ◌+◌, ◌*◌, ◌/◌, ◌%◌, List, [], ◌∷◌, ◌++◌, true, false, length, take, drop, replicate, leb, ltb, eqb}
 use Rattle.reader.specs.Commands.{u16}
 use Rattle.layout.specs.Events.{formatted}
 use Rattle.formatter.specs.Verdict.{Verdict, Judged, declined, accepted, judge, get, no_measures, verdict}

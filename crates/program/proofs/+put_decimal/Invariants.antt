@@ -1,8 +1,4 @@
--- `program::put_decimal` meets its contract. The measure is the number. Assumes nothing.
-use Prim.Native.Nat.{ℕ, ◌<◌, ◌/◌}
-use native.Mathlib.Omega.{arith}
-use borrow.Author.Rules.{rules}
-use Rattle.program.proofs.PrintingLaws.{decimal-one, decimal-more, length_one, length_more, puts-both}
+-- `program::put_decimal` meets its contract: the measure is the number. Assumes nothing.
 use Rattle.program.proofs.+put_decimal.Given as goal
 
 abbrev pub decreases-put_decimal : goal.decreases-put_decimal

@@ -1,6 +1,5 @@
 -- `program::put_byte` meets its contract. Assumes nothing.
 use Rattle.program.proofs.PrintingLaws.{puts_byte}
-use borrow.Author.Rules.{rules}
 use Rattle.program.proofs.put_byte.Goals as goal
 
 pub returns : goal.returns

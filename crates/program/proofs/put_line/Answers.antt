@@ -1,5 +1,4 @@
 -- `program::put_line` meets its contract. Assumes nothing.
-use borrow.Author.Rules.{rules}
 use Rattle.program.proofs.put_line.Goals as goal
 
 pub returns : goal.returns

@@ -1,6 +1,5 @@
 -- `program::record_in` meets its contract. Assumes nothing.
 use Rattle.program.proofs.InputLaws.{to_the_end}
-use borrow.Author.Rules.{rules}
 use Rattle.program.proofs.record_in.Goals as goal
 
 pub returns : goal.returns

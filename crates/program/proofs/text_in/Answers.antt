@@ -1,5 +1,4 @@
 -- `program::text_in` meets its contract. Assumes nothing.
-use borrow.Author.Rules.{rules}
 use Rattle.program.proofs.text_in.Goals as goal
 
 pub returns : goal.returns
