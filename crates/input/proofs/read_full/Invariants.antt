@@ -1,0 +1,6 @@
+-- The bytes read so far fit the buffer.
+use Rattle.std.proofs.Common.{◌≤◌, length}
+use Rattle.input.proofs.read_full.Given as goal
+
+abbrev pub invariant-loop : goal.invariant-loop
+invariant-loop g l = l.n ≤ length l.buffer
