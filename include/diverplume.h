@@ -1,6 +1,6 @@
 /* Diverplume: a proved formatter for Standard ML rule files.
  *
- * The functions stand in the archive target/staticlib/libdiverplume.a, which `rt staticlib diverplume`
+ * The functions stand in the archive target/staticlib/libdiverplume.a, which `tools/build diverplume`
  * makes. They need nothing but memset and memcpy, keep no state and may be called from any thread; a stack of
  * 512 KiB is enough.
  *

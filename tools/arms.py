@@ -1,13 +1,15 @@
 #!/usr/bin/env python3
-"""arms.py CRATE [FUNCTION..]: writes the proofs of the functions of CRATE that are proved equal to a layout.
-arms.py --check [CRATE..]: whether the proofs are those that were written from what stands in the tree now; needs no `rt`.
+"""arms.py --check [CRATE..]: whether the proofs of the functions that are proved equal to a layout are those that were recorded
+for what stands in the tree now; needs no `rt`.
+arms.py --record [CRATE..]: proves the crates by `rt check`, and records their proofs.
 
 A function of the walk is a chain of calls, and its proof is the chain of the steps that the laws of
-crates/layout/proofs/Steps.antt give for them. This tool reads the proof files that `rt dev` offers
-(with a hole for each need), the generated modules that name the places of the code, and the crate's
-answers, crates/CRATE/arms.json; it fills each hole and writes the files.
+crates/layout/proofs/Steps.antt give for them. The terms follow from the places of the code and from the crate's answers,
+crates/CRATE/arms.json. They were written here, on a toolchain whose files with a hole for each need led to a place
+by its path (`c .before .before .word`); in Answers.antt each place has its name (`c.word`), and the terms are the same.
+What makes the terms stands above the sums, and has its tests; no command runs it.
 
-The answers: "functions" has an entry for each function that is written by this tool,
+The answers: "functions" has an entry for each function whose terms were written so,
   "as": "plain", "walked" or "does", the record of its contract; "operated" is that of a call that writes an operator;
   "unfold": the definitions that its layout is read through;
   "loop": the layouts of a loop's turn, ["from", U, W] or ["times", W], with "pair" behind W
@@ -21,20 +23,16 @@ where each of them has a file of its own. The records of
 functions of lower crates are those that the lower crates' answers give. Which functions ask for a bound of the depth is read from the sources.
 Functions that call each other are proved in one file, or in a folder: the root, Base with their measures, a file for each.
 
-crates/CRATE/arms.sum has a sum of what each function's proof was written from (its code and contract, its answers, the records of what it calls, the
-rules of this tool) and of each file that was written; spaces and comments of the code do not count.
+crates/CRATE/arms.sum has a sum of what each function's proof stands on (its code and contract, its answers, the records of what it calls) and of each
+file of the proofs, its own and those of cycles of calls; spaces and comments of the code do not count.
 """
 import glob
 import hashlib
-import io
 import json
 import os
 import re
-import shutil
 import subprocess
 import sys
-import tempfile
-import tokenize
 
 READS = {"list": "list", "choice": "choice", "form": "form", "expression": "look"}
 SURE = {"word", "between", "indent", "indent-in", "new-line", "new-line-in", "word-when", "app-end", "app-space"}
@@ -430,27 +428,6 @@ def filled_cycle(functions, text, left):
     return re.sub(r"^([a-z0-9-]+) :\s+\(t : ℕ\) →\s.*?\n(\1 t c)", unfolding, text, flags=re.M | re.S)
 
 
-def offered(crate):
-    """The proof files that `rt dev` offers: path to text."""
-    run = subprocess.run(["rt", "dev", crate], capture_output=True, text=True, env=dict(os.environ, RT_CUT="0"))
-    lines, files, at = (run.stdout + run.stderr).split("\n"), {}, 0
-    while at < len(lines):
-        found = re.match(r"help: write (\S+/Proof\.antt) with these lines", lines[at])
-        at += 1
-        if found:
-            body = []
-            while at < len(lines) and (lines[at].startswith("    ") or lines[at] == ""):
-                body.append(lines[at][4:])
-                at += 1
-            files[found.group(1)] = "\n".join(body).rstrip("\n") + "\n"
-    return files
-
-
-def generated(crate, room):
-    subprocess.run(["rt", "dev", crate, "--generated", room], capture_output=True)
-    return "%s/Rattle·%s·proofs/proofs" % (room, crate)
-
-
 def with_uses(uses, text):
     """A proof file with the lines that its answers need; none stands twice."""
     return "".join(line + "\n" for line in uses) + "\n".join(line for line in text.split("\n") if line not in uses)
@@ -545,24 +522,11 @@ def cycle_files(crate, cycle, text, which):
     return dict((file, "-- %s Written by tools/arms.py.\n%s" % (heads[file], part)) for file, part in parted(crate, cycle, text).items())
 
 
-def write_cycle(crate, root, path, text, answers, members):
-    folder, functions = os.path.dirname(path), {}
-    names = os.path.basename(folder)[1:].split("+")
-    source = read("crates/%s/src/lib.rt" % crate)
-    for name in names:
-        places = Places(read("%s/%s/Lts-%s.antt" % (root, os.path.basename(folder), name)))
-        functions[dashed(name)] = Function(name, places, answers["functions"][name], members, [dashed(other) for other in names], deep_calls(source, name))
-    filled_text = re.sub(r"(?m)^-- src/.*\n", "", filled_cycle(functions, text, answers["left"]))
-    for file, part in cycle_files(crate, os.path.basename(folder), with_uses(answers["use"], filled_text), answers.get("files")).items():
-        os.makedirs(os.path.dirname("%s/%s" % (folder, file)), exist_ok=True)
-        write("%s/%s" % (folder, file), part)
-    print("wrote", os.path.basename(folder))
-
-
+# ---- what is read of the tree
 def below(crate):
     """The crates that a crate sees, and those that they see, as crates.txt has them."""
     lines = (line.split(":") for line in read("crates.txt").split("\n") if ":" in line and not line.startswith("#"))
-    sees = dict((name.strip(), names.split()) for name, names in lines)
+    sees = dict((name.split()[0], names.split()) for name, names in lines)
     found = []
     for name in sees.get(crate, []):
         found += [other for other in below(name) + [name] if other in sees and other not in found]
@@ -589,29 +553,15 @@ def bounded(crate, answers):
     found = set()
     for name in below(crate) + ([] if "left" in answers else [crate]):
         for path in glob.glob("crates/%s/src/*.rt" % name):
-            pattern = r"\bfn (\w+)(?:<'a>)?\([^{}]*?\)[^{}]*?requires \{ ⌜ ([^⌝]*)⌝"
-            found |= set(dashed(fn) for fn, bound in re.findall(pattern, read(path)) if ".depth" in bound)
+            for fn, head in re.findall(r"^ *(?:pub )?fn (\w+)(?:<'a>)?(\(.*?)\n? *\{\n", read(path), re.M | re.S):
+                found |= set(dashed(fn) for bound in re.findall(r"\brequires (?:\w+ )?\{([^{}]*)\}", head) if ".depth" in bound)
     return found
 
 
-# ---- sums: what was written, and from what. The rules of writing stand above this line.
+# ---- sums: the proofs, and what they stand on
 def sum_of(*parts):
     """A short digest of texts, spaces aside."""
     return hashlib.sha256("\n".join(re.sub(r"\s+", " ", part).strip() for part in parts).encode()).hexdigest()[:16]
-
-
-def rules():
-    """The code of this tool above the sums, without comments and what stands as a text by itself."""
-    source = read(os.path.abspath(__file__)).split("\n# ---- sums:")[0]
-    kept, starts = [], True
-    for token in tokenize.generate_tokens(io.StringIO(source).readline):
-        if token.type in (tokenize.NEWLINE, tokenize.INDENT, tokenize.DEDENT, tokenize.NL, tokenize.COMMENT):
-            starts = starts or token.type == tokenize.NEWLINE
-            continue
-        if not (starts and token.type == tokenize.STRING):
-            kept.append(token.string)
-        starts = False
-    return " ".join(kept)
 
 
 def item_of(crate, name):
@@ -623,105 +573,75 @@ def item_of(crate, name):
 
 
 class Sums:
-    """The sums of a crate: what the tree has now, and what was noted when the proofs were written."""
+    """The sums of a crate: what the tree has now, and what was noted when the proofs were recorded."""
 
     def __init__(self, crate):
         self.crate, self.path, self.noted = crate, "crates/%s/arms.sum" % crate, {"from": {}, "is": {}}
         self.answers = json.loads(read("crates/%s/arms.json" % crate))
-        self.members, self.bounded, self.rules = known(crate, self.answers), bounded(crate, self.answers), rules()
+        self.members, self.bounded = known(crate, self.answers), bounded(crate, self.answers)
         if os.path.exists(self.path):
             self.noted = json.loads(read(self.path))
 
     def source(self, name):
-        """The sum of what the proof of a function is written from."""
+        """The sum of what the proof of a function stands on."""
         item = item_of(self.crate, name)
         called = sorted(set(dashed(word) for word in re.findall(r"\w+", item)))
         read = [self.answers["functions"][name], self.answers["use"], self.answers.get("left"),
                 [(word, self.members[word]) for word in called if word in self.members], [word for word in called if word in self.bounded]]
-        return sum_of(self.rules, item, json.dumps(read, sort_keys=True))
+        return sum_of(item, json.dumps(read, sort_keys=True))
 
-    def written(self):
-        """{file: its sum}: the proofs that are there, of the functions that have answers; a cycle has several files."""
+    def proofs(self):
+        """{file: its sum}: the proofs that are there, of the functions that have answers and of cycles."""
         found = {}
         for path in sorted(glob.glob("crates/%s/proofs/**/*.antt" % self.crate, recursive=True)):
             name = path.split("/proofs/", 1)[1]
-            if name.startswith("+") or name[:-len("/Proof.antt")] in self.answers["functions"]:
+            if name.startswith("+") or os.path.dirname(name) in self.answers["functions"]:
                 found[name] = sum_of(read(path))
         return found
 
-    def note(self, names):
-        """Notes the proofs of some functions, which were written now, and those of a cycle, which are written with any."""
-        there = self.written()
-        new = set(path for path in there if path.startswith("+") or path[:-len("/Proof.antt")] in names)
-        names = set(names) | set(name for path in new if path.startswith("+") for name in path.split("/")[0][1:].split("+"))
-        known = [(name, noted) for name, noted in self.noted["from"].items() if name in self.answers["functions"]]
-        files = [(path, noted) for path, noted in self.noted["is"].items() if path in there]
-        sums = {"written by": "tools/arms.py", "from": dict(known + [(name, self.source(name)) for name in names]),
-                "is": dict(files + [(path, there[path]) for path in new])}
+    def note(self):
+        sums = {"written by": "tools/arms.py", "from": dict((name, self.source(name)) for name in self.answers["functions"]), "is": self.proofs()}
         write(self.path, json.dumps(sums, indent=1, sort_keys=True, ensure_ascii=False) + "\n")
 
     def stale(self):
         """What is not as it was noted: a sentence for each."""
-        run = "run: python3 tools/arms.py %s" % self.crate
+        run = "mend the proof, then run: python3 tools/arms.py --record %s" % self.crate
         for name in self.answers["functions"]:
             if self.noted["from"].get(name) != self.source(name):
-                yield "crates/%s: `%s`, its answers or the rules changed since its proof was written; %s %s" % (self.crate, name, run, name)
-        there = self.written()
+                yield "crates/%s: `%s`, its answers or what it calls changed since its proof was recorded; %s" % (self.crate, name, run)
+        there = self.proofs()
         for name in sorted(set(there) | set(self.noted["is"])):
             if there.get(name) != self.noted["is"].get(name):
-                yield "crates/%s/proofs/%s is not what was written; %s" % (self.crate, name, run)
+                yield "crates/%s/proofs/%s is not what was recorded; %s" % (self.crate, name, run)
 
 
 def check(crates):
-    """Says what is stale, of these crates or of all that have answers."""
-    told = [line for crate in crates or sorted(path.split("/")[1] for path in glob.glob("crates/*/arms.json")) for line in Sums(crate).stale()]
+    """Says what is stale."""
+    told = [line for crate in crates for line in Sums(crate).stale()]
     for line in told:
         print("arms: " + line)
     return 1 if told else 0
 
 
+def record(crates):
+    """Records the proofs of crates that are proved; of others none."""
+    for crate in crates:
+        if subprocess.run(["rt", "check"], cwd="crates/" + crate, capture_output=True, check=False).returncode:
+            raise SystemExit("arms: 'rt check' does not prove crates/%s, and its proofs are not recorded" % crate)
+        Sums(crate).note()
+        print("recorded", crate)
+
+
 def main():
-    crates = sys.argv[2:] if sys.argv[1:2] == ["--check"] else sys.argv[1:2] or [""]
-    if not all(os.path.exists("crates/%s/arms.json" % crate) for crate in crates):
-        raise SystemExit("usage: tools/arms.py CRATE [FUNCTION..], or --check [CRATE..], from the root, where crates/CRATE/arms.json stands")
-    if sys.argv[1] == "--check":
+    """The crates are those that are named, or all that have answers."""
+    command, *crates = sys.argv[1:] or [""]
+    crates = crates or sorted(path.split("/")[1] for path in glob.glob("crates/*/arms.json"))
+    if command not in ("--check", "--record") or not crates or not all(os.path.exists("crates/%s/arms.json" % crate) for crate in crates):
+        raise SystemExit("usage: tools/arms.py --check [CRATE..], or --record [CRATE..], from the root, where crates/CRATE/arms.json stands")
+    if command == "--record":
+        record(crates)
+    else:
         raise SystemExit(check(crates))
-    crate = sys.argv[1]
-    answers = json.loads(read("crates/%s/arms.json" % crate))
-    wanted = sys.argv[2:] or list(answers["functions"])
-    unknown = [name for name in wanted if name not in answers["functions"]]
-    if unknown:
-        raise SystemExit("arms: crates/%s/arms.json has no function '%s'" % (crate, unknown[0]))
-    DEEPER.update(bounded(crate, answers))
-    members = known(crate, answers)
-    for name in wanted:
-        path = "crates/%s/proofs/%s/Proof.antt" % (crate, name)
-        if os.path.exists(path):
-            os.remove(path)
-    for folder in glob.glob("crates/%s/proofs/+*" % crate):
-        shutil.rmtree(folder)
-    left = set(wanted)
-    while left:
-        files = offered(crate)
-        name_of = lambda path: path.split("/proofs/")[1][:-len("/Proof.antt")]
-        todo = [path for path in files if name_of(path) in wanted or name_of(path).startswith("+")]
-        if not todo:
-            raise SystemExit("arms: nothing is offered for %s" % ", ".join(sorted(left)))
-        with tempfile.TemporaryDirectory() as room:
-            root = generated(crate, room)
-            for path in todo:
-                name = name_of(path)
-                left -= set(name[1:].split("+") if name.startswith("+") else [name])
-                if name.startswith("+"):
-                    write_cycle(crate, root, path, files[path], answers, members)
-                    continue
-                places = Places(read("%s/%s/Lts.antt" % (root, name)))
-                function = Function(name, places, answers["functions"][name], members)
-                os.makedirs(os.path.dirname(path), exist_ok=True)
-                head = "-- `%s::%s` equals its layout. Written by tools/arms.py.\n" % (crate, name.replace("/", "::"))
-                write(path, head + with_uses(answers["use"], filled(function, files[path])))
-                print("wrote", name)
-    Sums(crate).note(wanted)
 
 
 if __name__ == "__main__":

@@ -143,7 +143,7 @@ def read_forms(text):
     for line in re.findall(r"^  ([A-Z][\w ]*) : \w+$", text, re.M):
         CONSTRUCTORS.update(line.split())
     return dict((one, Definition(None, False, [("", " ".join(body.split()))]))
-                for one, body in re.findall(r"^(\w+Forms) =\n((?:    .*\n)+)", text, re.M))
+                for one, body in re.findall(r"^(\w+_forms) =\n((?:    .*\n)+)", text, re.M))
 
 
 def read_definitions(files):
@@ -214,7 +214,7 @@ class Terms:
     def __init__(self, definitions, answers):
         self.definitions, self.silent, self.opened, self.laws = definitions, answers.get("silent"), [], {}
         self.always, self.chains = answers["unfolding"], answers.get("chains", [])
-        self.arm, self.pick = answers.get("arm", "arm refl %s"), answers.get("pick", "(%(row)s) .at %(number)s")
+        self.arm, self.pick = answers.get("arm", "arm refl %s"), answers.get("pick", "(%(row)s).at %(number)s")
         for left, right in (line for table in answers["laws"].values() for line in table.items()):
             head, parameters = parts_of(parse(left))
             self.laws.setdefault(head.value, []).append((parameters, right))
@@ -254,8 +254,8 @@ class Terms:
                 raise Unknown("'elim' goes by what is not known")
             return self.term(apply(node.parts[1 + node.value.index(subject.value)], arguments))
         head, arguments = parts_of(node)
-        if head == name("getD") and arguments[2:] == (name("halt"),):
-            row = " ▹ ".join([term for arm, term in self.row(arguments[0])] + ["no-more"])
+        if head == name("slice_index_or") and arguments[2:] == (name("halt"),):
+            row = " ▹ ".join([term for arm, term in self.row(arguments[0])] + ["no_more"])
             return Term(self.pick % {"row": row, "number": self.shown(arguments[1])}, False, False)
         found = self.law(head.value, arguments)
         if found:
@@ -339,18 +339,18 @@ def theorem(terms, clause, row, indent):
     except Unknown as why:
         raise Unknown("%s: %s" % (head.value, why)) from None
     lines = [wrapped(("▹ " if at else "") + term, indent + "    ") + "  -- " + arm for at, (arm, term) in enumerate(arms)]
-    return [indent + "unfolding " + " ".join(terms.opened + terms.always), indent + clause + " =", *lines, indent + "    ▹ no-more"]
+    return [indent + "unfolding " + " ".join(terms.opened + terms.always), indent + clause + " =", *lines, indent + "    ▹ no_more"]
 
 
 def uses(crate, definitions, laws, lines):
     """The lines that bring in what a file names: definitions by their files, then laws."""
     words = set(re.findall(r"[^\s(){}]+", "\n".join(lines)))
-    names = dict(("Rattle·layout.specs." + file, []) for file in SPECS)
+    names = dict(("Rattle.layout.specs." + file, []) for file in SPECS)
     for one, definition in definitions.items():
         if definition.file:
-            names["Rattle·layout.specs." + definition.file].append(one)
+            names["Rattle.layout.specs." + definition.file].append(one)
     for file, table in laws.items():
-        names["Rattle·%s·proofs.proofs.%s" % (crate, file)] = dict.fromkeys(
+        names["Rattle.%s.proofs.%s" % (crate, file)] = dict.fromkeys(
             right.split()[0] for rights in table.values() for right in ([rights] if isinstance(rights, str) else rights) if file)
     found = dict((library, [one for one in own if one in words]) for library, own in names.items())
     return ["use %s.{%s}" % (library, ", ".join(own)) for library, own in found.items() if own]

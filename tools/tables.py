@@ -60,7 +60,7 @@ def public(text):
 
 
 def specs(crate):
-    """The definitions of a crate: {file: (names, constructors and fields)}; a file of specs/Contracts is Contracts/File."""
+    """The definitions of a crate: {file: (names, constructors and fields)}; a file of specs/Promises is Promises/File."""
     folder = "crates/%s/specs/" % crate
     paths = sorted(glob.glob(folder + "**/*.antt", recursive=True))
     files = {path[len(folder):-5]: public(read(path)) for path in paths}
@@ -68,7 +68,7 @@ def specs(crate):
 
 
 def crates():
-    return [crate for crate in re.findall(r"^(\w+):", read("crates.txt"), re.M) if specs(crate)]
+    return [crate for crate in re.findall(r"^(\w+)(?: staticlib)?:", read("crates.txt"), re.M) if specs(crate)]
 
 
 def placed(names):
@@ -147,7 +147,7 @@ def helpers():
 def forms(family):
     """The forms of a family in order, with the command of the first."""
     data = re.search(r"^pub data %s : .* where\n((?:  .*\n)+)" % FAMILIES[family], read("crates/reader/specs/Forms.antt"), re.M)
-    first = re.search(r"^firstForm %s = (0x[0-9A-F]+)$" % family, read("crates/reader/specs/Fields.antt"), re.M)
+    first = re.search(r"^first_form %s = (0x[0-9A-F]+)$" % family, read("crates/reader/specs/Fields.antt"), re.M)
     if not data or not first:
         stop("crates/reader/specs has no forms of %s" % family)
     return int(first.group(1), 16), [name for line in data.group(1).split("\n") for name in line.split(" : ")[0].split()]

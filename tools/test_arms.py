@@ -1,5 +1,5 @@
 #!/usr/bin/env python3
-"""Tests of arms.py: the terms that it writes for small functions, from their places; the files of a cycle; that the proofs are what it wrote."""
+"""Tests of arms.py: the terms that it makes for small functions, from their places; the files of a cycle; that the proofs are those that were recorded."""
 import glob
 import json
 import os
@@ -283,26 +283,37 @@ met t = lts.spec (claims t) (get-at t) get.Post (row-requires t) (returns t)
         """A checked module is kept in an archive up to 249 bytes of name (DECISIONS C7)."""
         for path in glob.glob("crates/*/proofs/+*/**/*.antt", recursive=True):
             crate, name = path.split("/")[1], path.split("/proofs/")[1][:-len(".antt")].replace("/", ".")
-            module = "Rattle·%s·proofs.proofs.%s" % (crate, name)
+            module = "Rattle.%s.proofs.%s" % (crate, name)
             self.assertLessEqual(len(module.encode()), 249, "%s has %d bytes; see tools/test_schema.py" % (module, len(module.encode())))
 
 
 class Sums(unittest.TestCase):
-    """The proofs are what was written from the tree."""
+    """The proofs are those that were recorded for the tree."""
 
     def setUp(self):
-        self.root = tempfile.mkdtemp()
+        """A copy of what the tool reads, recorded as it stands: there an `rt` proves what it is given, until `proves` is 1."""
+        self.root, self.proves = tempfile.mkdtemp(), 0
         self.addCleanup(shutil.rmtree, self.root)
         shutil.copy("crates.txt", self.root)
-        for path in glob.glob("crates/*/arms.json") + glob.glob("crates/*/src/*.rt") + glob.glob("crates/types/arms.sum"):
+        for path in glob.glob("crates/*/arms.json") + glob.glob("crates/*/src/*.rt"):
             os.makedirs(os.path.join(self.root, os.path.dirname(path)), exist_ok=True)
             shutil.copy(path, os.path.join(self.root, path))
         shutil.copytree("crates/types/proofs", os.path.join(self.root, "crates/types/proofs"))
+        os.mkdir(os.path.join(self.root, "bin"))
+        stub = os.path.join(self.root, "bin/rt")
+        with open(stub, "w", encoding="utf-8") as file:
+            file.write("#!/bin/sh\nexit \"$PROVES\"\n")
+        os.chmod(stub, 0o755)
+        self.assertEqual((0, "recorded types\n"), self.run_tool("--record", "types"))
+
+    def run_tool(self, *words, root=None):
+        tool = os.path.abspath(os.path.join(os.path.dirname(os.path.abspath(__file__)), "arms.py"))
+        given = dict(os.environ, PATH="%s/bin:%s" % (self.root, os.environ["PATH"]), PROVES=str(self.proves))
+        run = subprocess.run([sys.executable, tool, *words], capture_output=True, text=True, cwd=root or self.root, env=given, check=False)
+        return run.returncode, run.stdout
 
     def check(self, *crates, root=None):
-        tool = os.path.abspath(os.path.join(os.path.dirname(os.path.abspath(__file__)), "arms.py"))
-        run = subprocess.run([sys.executable, tool, "--check", *crates], capture_output=True, text=True, cwd=root or self.root)
-        return run.returncode, run.stdout
+        return self.run_tool("--check", *crates, root=root)
 
     def edit(self, path, old, new):
         path = os.path.join(self.root, path)
@@ -317,14 +328,14 @@ class Sums(unittest.TestCase):
 
     def test_spaces_and_comments_do_not_count(self):
         self.edit("crates/types/src/lib.rt", "    word(run, text, out, mem, words::STAR);", "    // A star.\n    word(run,  text, out, mem, words::STAR);")
-        self.edit("crates/types/proofs/ty_annotation/Proof.antt", "search needs", "search\n    needs")
+        self.edit("crates/types/proofs/ty_annotation/Answers.antt", "λ kinds. maybe-past", "λ kinds.\n    maybe-past")
         self.assertEqual((0, ""), self.check("types"))
 
     def test_a_changed_function(self):
         self.edit("crates/types/src/lib.rt", "words::STAR", "words::ARROW")
         code, told = self.check("types")
         self.assertEqual(1, code)
-        self.assertRegex(told, r"^arms: crates/types: `star_ty`, .*run: python3 tools/arms\.py types star_ty\n$")
+        self.assertRegex(told, r"^arms: crates/types: `star_ty`, .*run: python3 tools/arms\.py --record types\n$")
 
     def test_changed_answers(self):
         self.edit("crates/types/arms.json", '"ty_annotation": {', '"ty_annotation": { "skip": ["path"],')
@@ -337,14 +348,23 @@ class Sums(unittest.TestCase):
         self.assertEqual(["get_ty", "ty_row"], sorted(re.findall(r"`(\w+)`", told)))
 
     def test_a_proof_edited_by_hand(self):
-        path = glob.glob("crates/types/proofs/+*/Proof/StarTy.antt")[0]
-        self.edit(path, "search needs", "omega arith")
+        path = glob.glob("crates/types/proofs/+*/Answers.antt")[0]
+        self.edit(path, "omega (arith, c.decreases)", "omega arith")
         code, told = self.check("types")
-        self.assertEqual((1, "arms: %s is not what was written; run: python3 tools/arms.py types\n" % path), (code, told))
+        self.assertEqual((1, "arms: %s is not what was recorded; mend the proof, then run: python3 tools/arms.py --record types\n" % path), (code, told))
+
+    def test_a_crate_that_is_not_proved_is_not_recorded(self):
+        self.edit("crates/types/src/lib.rt", "words::STAR", "words::ARROW")
+        self.proves = 1
+        self.assertNotEqual(0, self.run_tool("--record", "types")[0])
+        self.assertEqual(1, self.check("types")[0])
+        self.proves = 0
+        self.assertEqual(0, self.run_tool("--record", "types")[0])
+        self.assertEqual((0, ""), self.check("types"))
 
     def test_a_proof_that_is_gone(self):
-        os.remove(os.path.join(self.root, "crates/types/proofs/ty_annotation/Proof.antt"))
-        self.assertIn("crates/types/proofs/ty_annotation/Proof.antt is not what was written", self.check("types")[1])
+        os.remove(os.path.join(self.root, "crates/types/proofs/ty_annotation/Answers.antt"))
+        self.assertIn("crates/types/proofs/ty_annotation/Answers.antt is not what was recorded", self.check("types")[1])
 
 
 if __name__ == "__main__":

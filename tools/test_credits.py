@@ -30,66 +30,66 @@ def term(layout, *specs, file="measures/Rows"):
 
 class Credits(unittest.TestCase):
     def test_one_after_another(self):
-        self.assertEqual(term('word "(" ⨾ get-exp c ⨾ word ")"'), "fixed refl then go .exp c (omega arith) then fixed refl")
-        self.assertEqual(term('(text ⨾ path) ⨾ get-ty'), "(texts short then paths short) then go .ty")
+        self.assertEqual(term('word "(" ⨾ get-exp c ⨾ word ")"'), "fixed refl then go.exp c (omega arith) then fixed refl")
+        self.assertEqual(term('(text ⨾ path) ⨾ get-ty'), "(texts short then paths short) then go.ty")
 
     def test_lists_and_groups(self):
-        self.assertEqual(term('group (sep ", " (group get-pat))'), "groups (seps (fixed refl) refl (groups (go .pat)))")
-        self.assertEqual(term('for-each (maybe (word " " ⨾ text))'), "each refl (maybes (fixed refl then texts short))")
+        self.assertEqual(term('group (sep ", " (group get-pat))'), "groups (seps (fixed refl) refl (groups go.pat))")
+        self.assertEqual(term('for_each (maybe (word " " ⨾ text))'), "each refl (maybes (fixed refl then texts short))")
 
     def test_definitions_are_unfolded(self):
         writer = terms(['row = group (text ⨾ rest)', 'rest = word "," ⨾ get-ty'])
-        self.assertEqual(writer.term(credits.parse("row")).text, "groups (texts short then fixed refl then go .ty)")
+        self.assertEqual(writer.term(credits.parse("row")).text, "groups (texts short then fixed refl then go.ty)")
         self.assertEqual(writer.opened, ["row", "rest"])
 
     def test_a_depth_more(self):
         self.assertEqual(term('deepen c ⨾ indent (deeper c) ⨾ get-exp (deeper c)'),
-                         "deepened c (omega arith) then at-depth (deeper c) (omega arith) then go .exp (deeper c) (omega arith)")
-        self.assertEqual(term('in-end c "let" (get-dec ws) get-str-exp'),
-                         "in-ends c (omega arith) _ _ (fixed refl) (get-decs short go low (deeper c) (omega arith)) (go .str-exp (deeper c) (omega arith))")
+                         "deepened c (omega arith) then at-depth (deeper c) (omega arith) then go.exp (deeper c) (omega arith)")
+        self.assertEqual(term('in_end c "let" (get-dec ws) get-str-exp'),
+                         "in-ends c (omega arith) _ _ (fixed refl) (get-decs short go low (deeper c) (omega arith)) (go.str-exp (deeper c) (omega arith))")
 
     def test_levels_by_a_number(self):
         levels = ['levels c zero = get-exp c', 'levels c (suc n) = deepen c ⨾ levels (deeper c) n']
         self.assertEqual(term('levels c 2', *levels),
-                         "deepened c (omega arith) then deepened (deeper c) (omega arith) then go .exp (deeper (deeper c)) (omega arith)")
+                         "deepened c (omega arith) then deepened (deeper c) (omega arith) then go.exp (deeper (deeper c)) (omega arith)")
 
     def test_a_choice(self):
-        self.assertEqual(term('choice (inner c)', 'inner c which = getD (text ∷ (word " " ⨾ get-exp c) ∷ []) which halt'),
-                         "choices (λ which. (arm refl (texts short) ▹ arm refl (fixed refl then go .exp c (omega arith)) ▹ no-more) .at which)")
+        self.assertEqual(term('choice (inner c)', 'inner c which = slice_index_or (text ∷ (word " " ⨾ get-exp c) ∷ []) which halt'),
+                         "choices (λ which. (arm refl (texts short) ▹ arm refl (fixed refl then go.exp c (omega arith)) ▹ no_more).at which)")
 
     def test_a_token_that_may_be_absent(self):
         self.assertEqual(term('present (word "(" ⨾ path) path'), "presents (fixed refl then paths short) (paths short)")
         self.assertEqual(term('maybe (text ⨾ word " ")'), "maybes (texts short then fixed refl)")
 
     def test_a_question(self):
-        self.assertEqual(term('look isIfExp get-ty (word " " ⨾ get-pat)'), "looks (go .ty) (fixed refl then go .pat)")
+        self.assertEqual(term('look is_if_exp get-ty (word " " ⨾ get-pat)'), "looks go.ty (fixed refl then go.pat)")
         self.assertEqual(term('application λ bang symbolic. get-exp c ⨾ when (not bang || symbolic) (word " ")'),
-                         "applications (λ bang symbolic. go .exp c (omega arith) then whens (fixed refl) _)")
+                         "applications (λ bang symbolic. go.exp c (omega arith) then whens (fixed refl) _)")
 
     def test_fields_followed(self):
         self.assertEqual(term('word "(" ⨾ get-ty ⨾ word ")"', file="measures/TypesFollow"), "before (alone refl) (behind (ty _ d) (alone refl))")
         self.assertEqual(term('dropped left get-ty ⨾ text', file="measures/TypesFollow"), "both (drops (ty true)) (texts short)")
 
     def test_fields_agreed(self):
-        self.assertEqual(term('word "(" ⨾ get-exp c ⨾ word ")"', file="agreement/Rows"), "before fixed (behind (go .exp c) fixed)")
+        self.assertEqual(term('word "(" ⨾ get-exp c ⨾ word ")"', file="agreement/Rows"), "before fixed (behind (go.exp c) fixed)")
         self.assertEqual(term('get-pat ⨾ (deepen c ⨾ indent (deeper c)) ⨾ get-ty', file="agreement/Rows"),
-                         "both (go .pat) (before (before (deepened c) (at-depth (deeper c))) (go .ty))")
-        self.assertEqual(term('maybe (dropped left get-ty)', file="agreement/Rows"), "maybes refl (go .dropped-ty)")
+                         "both go.pat (before (before (deepened c) (at-depth (deeper c))) go.ty)")
+        self.assertEqual(term('maybe (dropped left get-ty)', file="agreement/Rows"), "maybes refl go.dropped-ty")
 
     def test_two_fields_before_a_third(self):
-        self.assertEqual(term('op-path ⨾ get-pat', file="agreement/Rows"), "regrouped (both op-paths (go .pat))")
+        self.assertEqual(term('op-path ⨾ get-pat', file="agreement/Rows"), "regrouped (both op-paths go.pat)")
         self.assertEqual(term('(text ⨾ word " " ⨾ get-pat) ⨾ get-ty', file="agreement/Rows"),
-                         "regrouped (both (both texts (before fixed (go .pat))) (go .ty))")
+                         "regrouped (both (both texts (before fixed go.pat)) go.ty)")
 
     def test_a_token_and_what_is_behind_it(self):
         self.assertEqual(term('operator (get-exp c) skip (word " ") ⨾ get-ty', file="agreement/Rows"),
-                         "regrouped (both (operators (go .exp c) skips fixed) (go .ty))")
+                         "regrouped (both (operators (go.exp c) skips fixed) go.ty)")
         self.assertEqual(term('present (word "op") skip', file="agreement/Rows"), "presents-last fixed skips")
-        self.assertEqual(term('present (word "(" ⨾ get-pat) get-pat', file="agreement/Rows"), "presents (before fixed (go .pat)) (go .pat)")
+        self.assertEqual(term('present (word "(" ⨾ get-pat) get-pat', file="agreement/Rows"), "presents (before fixed go.pat) go.pat")
 
     def test_a_choice_of_fields(self):
-        self.assertEqual(term('choice inner', 'inner which = getD (text ∷ (word " " ⨾ get-ty) ∷ []) which halt', file="agreement/Rows"),
-                         "choices (λ which. pick which ((λ h. texts) ▹ (λ h. before fixed (go .ty)) ▹ no-more))")
+        self.assertEqual(term('choice inner', 'inner which = slice_index_or (text ∷ (word " " ⨾ get-ty) ∷ []) which halt', file="agreement/Rows"),
+                         "choices (λ which. pick which ((λ h. texts) ▹ (λ h. before fixed go.ty) ▹ no_more))")
 
     def test_a_name_without_definition(self):
         with self.assertRaisesRegex(credits.Unknown, "arm: row: 'frob' has no definition and no law"):
@@ -104,10 +104,10 @@ class Credits(unittest.TestCase):
         self.assertEqual((run.returncode, run.stderr), (0, ""))
 
     def test_an_arm_for_each_form(self):
-        forms = credits.read_forms("pub data F : Type 0 where\n  OneF TwoF : F\n\nabbrev pub fForms : List F\nfForms =\n    OneF ∷ TwoF\n    ∷ []\n")
+        forms = credits.read_forms("pub data F : Type 0 where\n  OneF TwoF : F\n\nabbrev pub f_forms : List F\nf_forms =\n    OneF ∷ TwoF\n    ∷ []\n")
         writer = terms(['f OneF = word "1"', 'f TwoF = get-ty'])
         writer.definitions.update(forms)
-        self.assertEqual(writer.row(credits.parse("map f fForms")), [("OneF", "arm refl (fixed refl)"), ("TwoF", "arm refl (go .ty)")])
+        self.assertEqual(writer.row(credits.parse("map f f_forms")), [("OneF", "arm refl (fixed refl)"), ("TwoF", "arm refl go.ty")])
 
     def with_arm(self, room, body):
         """A copy of what the tool reads, with one more arm of expressions; how the tool runs there."""
@@ -127,9 +127,9 @@ class Credits(unittest.TestCase):
             self.assertNotEqual(run("--check").returncode, 0)
             self.assertIn("run 'python3 tools/credits.py'", run("--check").stderr)
             self.assertEqual((run().returncode, run("--check").returncode), (0, 0))
-            for crate, arm in ("measures", "arm refl (fixed refl then go .exp c (omega arith))"), ("agreement", "(λ h. before fixed (go .exp c))"):
+            for crate, arm in ("measures", "arm refl (fixed refl then go.exp c (omega arith))"), ("agreement", "(λ h. before fixed (go.exp c))"):
                 rows = pathlib.Path(room, credits.PROOFS % (crate, "Rows")).read_text()
-                self.assertIn("▹ %s  -- BangExp\n        ▹ no-more" % arm, rows)
+                self.assertIn("▹ %s  -- BangExp\n        ▹ no_more" % arm, rows)
 
     def test_a_new_arm_that_is_not_regular(self):
         with tempfile.TemporaryDirectory() as room:

@@ -23,14 +23,14 @@ def definition(path, name):
     return number(re.search(r"^%s = (\w+)$" % name, read("crates/%s.antt" % path), re.M).group(1))
 
 
-TEXT = definition("reader/specs/Reading", "maxText")
-RECORD = definition("reader/specs/Reading", "maxRecord")
-TOKENS = definition("reader/specs/Tokens", "maxTokens")
-FORMS = definition("reader/specs/Check", "maxForms")
-WIDTH = definition("formatter/specs/Verdict", "maxWidth")
+TEXT = definition("reader/specs/Reading", "max_text")
+RECORD = definition("reader/specs/Reading", "max_record")
+TOKENS = definition("reader/specs/Tokens", "max_tokens")
+FORMS = definition("reader/specs/Check", "max_forms")
+WIDTH = definition("formatter/specs/Verdict", "max_width")
 ROOM = definition("program/specs/Program", "room")
-HEAD = definition("program/specs/Program", "headLength")
-LINE = definition("program/specs/Contracts/Printing", "maxLine")
+HEAD = definition("program/specs/Program", "head_length")
+LINE = definition("program/specs/Promises/Printing", "max_line")
 
 
 class Limits(unittest.TestCase):

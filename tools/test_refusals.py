@@ -74,7 +74,7 @@ class Refusals(unittest.TestCase):
         count = 0
         for path in glob.glob(os.path.join(ROOT, "crates/*/specs/**/*.antt"), recursive=True):
             where = os.path.relpath(path, ROOT)
-            given = r"^ *(?:numberOf|verdictOf|docSaid) \(?(?:Case\.)?(\w+)[^=]*= (?:plain |doc \(looked )?(\d+)\b"
+            given = r"^ *(?:number_of|verdict_of|doc_said) \(?(?:Case\.)?(\w+)[^=]*= (?:plain |doc \(looked )?(\d+)\b"
             for case, number in re.findall(given, read(where), re.M):
                 count += 1
                 self.holds(where, case, int(number))

@@ -7,7 +7,7 @@ import re
 import unittest
 
 ROOT = os.path.join(os.path.dirname(os.path.abspath(__file__)), "..")
-FAMILIES = {"DecOne": "dec", "StrExp": "strExp", "SigExp": "sigExp", "Exp": "exp", "Pat": "pat", "Ty": "ty"}
+FAMILIES = {"DecOne": "dec", "StrExp": "str_exp", "SigExp": "sig_exp", "Exp": "exp", "Pat": "pat", "Ty": "ty"}
 
 
 def read(path):
@@ -26,12 +26,12 @@ class Definitions:
         forms = read("crates/reader/specs/Forms.antt")
         self.forms = {}
         for family, name in FAMILIES.items():
-            listed = re.search(r"^%sForms =\n(.*?)\[\]" % name, forms, re.M | re.S).group(1)
+            listed = re.search(r"^%s_forms =\n(.*?)\[\]" % name, forms, re.M | re.S).group(1)
             self.forms[family] = re.findall(r"\w+", listed)
-        self.first = {family: int(first, 16) for family, first in re.findall(r"^firstForm (\w+) = (0x\w+)$", text, re.M)}
+        self.first = {family: int(first, 16) for family, first in re.findall(r"^first_form (\w+) = (0x\w+)$", text, re.M)}
 
     def of_form(self, family, form):
-        return self.shape(self.bodies["%sFields %s" % (FAMILIES[family], form)])
+        return self.shape(self.bodies["%s_fields %s" % (FAMILIES[family], form)])
 
     def shape(self, tokens):
         shown, rest = self.fields(list(tokens))
@@ -57,7 +57,7 @@ class Definitions:
         if word in ("list", "group"):
             shown, tokens = self.field(tokens)
             return ("[%s]" if word == "list" else "{%s}") % shown, tokens
-        if word == "oneOf":
+        if word == "one_of":
             return self.choice(tokens[1:])
         if word in ("token", "none"):
             return "token" if word == "token" else "", tokens

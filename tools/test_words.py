@@ -11,7 +11,7 @@ import words as tool  # noqa: E402
 
 ROOT = os.path.join(os.path.dirname(os.path.abspath(__file__)), "..")
 LIST = 'AS\t" as "\nIN\t"in\\n"\n'
-SPEC = 'abbrev pub wordText : String\nwordText = " as in\\n"\n'
+SPEC = 'abbrev pub word_text : String\nword_text = " as in\\n"\n'
 
 
 class Words(unittest.TestCase):

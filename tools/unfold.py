@@ -24,17 +24,21 @@ def modules():
                 yield crate, name, names
 
 
+def opened(module):
+    """The name that opens a module's definitions: `run_at` for At."""
+    return "run_" + re.sub(r"(?<=[a-z0-9])(?=[A-Z])", "_", module).lower()
+
+
 def text():
     """What the file has to be."""
     found = list(modules())
     lines = ["-- `unfolding run` opens every definition of specs/, so that a theorem about a sheet is closed by computation.",
              "-- Written by tools/unfold.py."]
     for crate, name, names in found:
-        library = "Rattle·theorems·specs" if crate == "theorems" else "Rattle·" + crate
-        lines.append("use %s.specs.%s as %s" % (library, name, name))
+        lines.append("use Rattle.%s.specs.%s as %s" % (crate, name, name))
     for crate, name, names in found:
-        lines += ["", "unfoldable pub run%s : Unit {0}" % name, "unfolding " + " ".join(name + "." + one for one in names), "run%s = tt" % name]
-    lines += ["", "unfoldable pub run : Unit {0}", "unfolding " + " ".join("run" + name for crate, name, names in found), "run = tt"]
+        lines += ["", "unfoldable pub %s : Unit {0}" % opened(name), "unfolding " + " ".join(name + "." + one for one in names), "%s = tt" % opened(name)]
+    lines += ["", "unfoldable pub run : Unit {0}", "unfolding " + " ".join(opened(name) for crate, name, names in found), "run = tt"]
     return "\n".join(lines) + "\n"
 
 

@@ -4,7 +4,7 @@
 The list has a line for each word: the name of its constant, and the word in quotes. The words stand one behind another
 in one run of bytes; a constant is its word's place there, 16 × start + length. Written are
   crates/layout/src/words.rt       a constant for each word, and the run;
-  crates/layout/specs/Contracts/Words.antt   of it the run alone, `wordText`.
+  crates/layout/specs/Promises/Words.antt   of it the run alone, `word_text`.
 With --check nothing is written: the exit status says whether each constant of the code is the place of its word, and
 whether both runs are the words of the list.
 """
@@ -14,10 +14,10 @@ import sys
 
 LIST = "crates/layout/words.tsv"
 CODE = "crates/layout/src/words.rt"
-SPEC = "crates/layout/specs/Contracts/Words.antt"
+SPEC = "crates/layout/specs/Promises/Words.antt"
 HEAD = "// The fixed words of 000: one run of bytes. A word is its place there, 16 × its start + its length.\n"
 QUOTED = r'"((?:[^"\\]|\\.)*)"'
-SPEC_RUN = re.compile(r"^(wordText = )" + QUOTED + "$", re.M)
+SPEC_RUN = re.compile(r"^(word_text = )" + QUOTED + "$", re.M)
 
 
 def stop(problem):
@@ -83,7 +83,7 @@ def problems(listed, source, definitions):
     if [(int(size), plain(text)) for size, text in runs] != [(len(run), run)]:
         yield "RUN in %s is not the words of the list" % CODE
     if [plain(text) for _, text in SPEC_RUN.findall(definitions)] != [run]:
-        yield "wordText in %s is not the words of the list" % SPEC
+        yield "word_text in %s is not the words of the list" % SPEC
 
 
 def main(arguments):

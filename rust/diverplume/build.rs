@@ -1,5 +1,5 @@
 //! Links the archive of the proved calls: the one that `DIVERPLUME_ARCHIVE` names, else the one
-//! that `rt staticlib diverplume` writes to the repository's `target/`.
+//! that `tools/build diverplume` writes to the repository's `target/`.
 
 use std::path::{Path, PathBuf};
 use std::process::exit;
@@ -35,7 +35,7 @@ fn fail(archive: &Path, is_named: bool) -> ! {
         eprintln!("diverplume: {VARIABLE} names it; set it to the archive, or leave it unset");
     }
     eprintln!(
-        "diverplume: `rt staticlib diverplume`, run in the repository's root, makes the archive"
+        "diverplume: `tools/build diverplume`, run in the repository's root, makes the archive"
     );
     exit(1);
 }

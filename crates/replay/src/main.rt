@@ -7,7 +7,8 @@ ghost use Rattle.std.specs.Prelude.{◌≡◌, length};
 
 use formatter::Answer;
 use formatter::numbers::numbers_of;
-use libc::{STDIN_FILENO, STDOUT_FILENO};
+use input::read_full;
+use std::io;
 use text::at::part;
 use vector::{FIXED, Vector, byte_at, bytes_of, past, u32_at, u64_at, vector_at};
 
@@ -133,13 +134,10 @@ fn room() -> [u8; 1300000]
     [0; 1300000]
 }
 
-fn main() {
+fn main(rt: HostRuntime) -> io::Result<()> {
     let mut input = room();
-    let n = io::read_full(STDIN_FILENO, &mut input);
+    let n = read_full(&mut rt.stdin(), &mut input)?;
     let count = u32_at(&input[..n], 0) as u64;
     let same = replay(&input[..n], count);
-    io::print_decimal(STDOUT_FILENO, same);
-    io::write_all(STDOUT_FILENO, b" of ");
-    io::print_decimal(STDOUT_FILENO, count);
-    io::write_all(STDOUT_FILENO, b" the same\n");
+    println!(rt; "{same} of {count} the same")
 }

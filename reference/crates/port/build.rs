@@ -11,7 +11,7 @@ fn main() {
     println!("cargo:rerun-if-changed={}", archive.display());
     if !archive.is_file() {
         eprintln!("port: no archive at {}", archive.display());
-        eprintln!("port: `rt staticlib testing`, run in the repository's root, makes it");
+        eprintln!("port: `tools/build testing`, run in the repository's root, makes it");
         exit(1);
     }
     println!("cargo:rustc-link-search=native={folder}");

@@ -51,7 +51,7 @@
 //! # Ok::<(), diverplume::Refusal>(())
 //! ```
 //!
-//! The archive is what `rt staticlib diverplume` makes in the repository's root; the variable
+//! The archive is what `tools/build diverplume` makes in the repository's root; the variable
 //! `DIVERPLUME_ARCHIVE` may name another place of it.
 
 mod calls;

@@ -11,7 +11,7 @@ fn printed(input: &[u8]) -> Vec<u8> {
     let path = PathBuf::from(env!("CARGO_MANIFEST_DIR")).join("../../../target/bin/format_sheet");
     let mut child =
         Command::new(&path).stdin(Stdio::piped()).stdout(Stdio::piped()).spawn().unwrap_or_else(
-            |error| panic!("{}: {error}; `rt check format_sheet` makes it", path.display()),
+            |error| panic!("{}: {error}; `tools/build format_sheet` makes it", path.display()),
         );
     let mut stdin = child.stdin.take().expect("a pipe");
     for piece in input.chunks(4096) {
