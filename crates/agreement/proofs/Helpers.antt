@@ -13,10 +13,8 @@ use Rattle.layout.specs.GetDec.{dec-in-seq, sharing-tail, sharing-tails, dec-in-
 use Rattle.layout.specs.Exp.{item_semi, exp-semi-item, exp-semi-more, exp-semi-items, exp-semi-seq}
 use Rattle.layout.specs.StrExp.{app-arg, app-args}
 use Rattle.layout.specs.DecOne.{con-bind, con-binds}
-use Rattle.agreement.proofs.Layouts.{Agrees, Items, skips, fixed, indents, forms-depth, before, behind, both, texts, presents, presents-then, presents-last}
-use Rattle.agreement.proofs.Layouts.{groups, lists, maybes, whens, before-items, no_items, item-then, choice-items, itemed, each, seps, lines}
+use Rattle.agreement.proofs.Layouts.{Agrees, Items, skips, fixed, indents, forms-depth, before, behind, both, texts, presents, presents-then, presents-last, groups, lists, maybes, whens, before-items, no_items, item-then, choice-items, itemed, each, seps, lines, ◌▹◌, no_more, pick}
 use Rattle.agreement.proofs.Looks.{first_names}
-use Rattle.agreement.proofs.Layouts.{◌▹◌, no_more, pick}
 
 -- The walks one form deeper agree with the check where as many forms may stand inside one another.
 pub record Walks (p : Page) (d : ℕ) (ws : Walkers) : Type 0 where

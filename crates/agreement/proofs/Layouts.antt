@@ -19,8 +19,7 @@ use Rattle.reader.specs.Check.{Checked, ok, malformed, too_deep, and_then, opera
 use Rattle.reader.proofs.CommandLaws.{and_right, and_second, token-there, group-there, choice-there, form-there, form-fits, form-number}
 use Rattle.reader.proofs.FieldLaws.{then_parts, or_is, token-parts, fits-parts, fits-yes, zero-never}
 use Rattle.reader.proofs.Ends.{ends_more}
-use Rattle.layout.specs.Layout.{Layout, is_pipe, skip, ◌⨾◌, word, output-indent, formed, text, group, choice, form, list}
-use Rattle.layout.specs.Layout.{maybe, present, operator, declaration, dropped, halt, import}
+use Rattle.layout.specs.Layout.{Layout, is_pipe, skip, ◌⨾◌, word, output-indent, formed, text, group, choice, form, list, maybe, present, operator, declaration, dropped, halt, import}
 use Rattle.layout.specs.Meaning.{Page, Event, Token, Comment, Outcome, done, stopped, absent, imported, outcome, or_stop, bind, after, commented, operated, above_first, onwards, passes}
 use Rattle.layout.specs.Helpers.{Cfg, indent, new_line, when, times, items, for_each, sep, sep-with_lines}
 use Rattle.agreement.specs.Agreement.{Proper, Agree}

@@ -20,9 +20,7 @@ use Rattle.reader.proofs.CommandLaws.{token-there, group-there, form-there, form
 use Rattle.reader.proofs.FieldLaws.{then_parts, some_parts, or_is, fits-yes, zero-never}
 use Rattle.reader.proofs.Ends.{ends_more}
 use Rattle.layout.specs.Layout.{Layout, Look, Test, ◌⨾◌, look, first_name, application}
-use Rattle.layout.specs.Meaning.{Page, Outcome, stopped, absent, bind, or_stop, outcome, sees, name_passes, Name, name, no_name, dot_name, list_name, path_name, op_path_name}
-use Rattle.layout.specs.Meaning.{path_exp, other_exp, func_is_bang, arg_is_symbolic}
-use Rattle.layout.specs.Meaning.{Seen, seen, unseen, both_seen, Heads, both, missing, head_of, heads_from, heads_at}
+use Rattle.layout.specs.Meaning.{Page, Outcome, stopped, absent, bind, or_stop, outcome, sees, name_passes, Name, name, no_name, dot_name, list_name, path_name, op_path_name, path_exp, other_exp, func_is_bang, arg_is_symbolic, Seen, seen, unseen, both_seen, Heads, both, missing, head_of, heads_from, heads_at}
 use Rattle.agreement.specs.Agreement.{Proper, Agree}
 use Rattle.agreement.specs.Unbounded as Unbounded
 use Rattle.agreement.proofs.Layouts.{ends, Agrees, count, gone, there-is}

@@ -4,7 +4,6 @@ use Rattle.std.proofs.Math.Option.{Option, none, some}
 use Rattle.comments.specs.Set.{is_comment}
 use Rattle.comments.specs.declared.Passed.{Passed}
 use Rattle.comments.specs.declared.Passed.TheVariants as Saw
-use Rattle.comments.specs.declared.Above.TheVariants.{Nothing}
 
 -- Kinds 2 to 20: the keywords that a declaration starts with.
 unfoldable pub is_keyword : List ℕ → ℕ → Bool

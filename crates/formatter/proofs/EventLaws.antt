@@ -1,20 +1,20 @@
 -- Any list of events: the length of the formatted text, and the comments left. Assumes nothing.
 use Prim.Native.Nat.{ℕ, zero, suc, ◌+◌, ◌*◌, ◌≤◌, ◌<◌}
-use native.Mathlib.Nat.{mul-add, mul_comm, mul-zero, zero-mul, eq_of_mul-eq-mul_right}
+use native.Mathlib.Nat.{mul-add, mul_comm, mul-zero}
 use native.Mathlib.Omega.{arith}
-use mathlib.Core.Path.{◌≡◌, refl, sym, ap, ap₂, ◌∙◌}
-use mathlib.Core.Logic.{◌↔◌, ⊎_elim}
-use mathlib.Core.Bool.{Bool, true, false, not, ◌&&◌, ◌||◌, false≢true}
+use mathlib.Core.Path.{◌≡◌, refl, ap, ◌∙◌}
+use mathlib.Core.Logic.{⊎_elim}
+use mathlib.Core.Bool.{Bool, true, false, not, ◌&&◌}
 use mathlib.Core.Option.{Option, none, some, some-ne-none}
-use mathlib.Core.List.{List, [], ◌∷◌, ◌++◌, append_assoc}
-use lib.ListN.{length, length-append, replicate, length-replicate}
+use mathlib.Core.List.{List, [], ◌∷◌}
+use lib.ListN.{length, length-append, length-replicate}
 use lib.Dec.{eqb, leb}
-use borrow.Author.Tests.{eqb-true, eqb-false, leb-true, leb-false, not-false}
-use Rattle.comments.specs.Set.{is_comment, first}
+use borrow.Author.Tests.{eqb-true, eqb-false, leb-true, leb-false}
+use Rattle.comments.specs.Set.{first}
 use Rattle.comments.proofs.Words.{whether}
 use Rattle.comments.proofs.Search.{no-comment}
 use Rattle.layout.specs.Meaning.{Page, Event, Word, Token, Comment, Formed, Indent, token_text}
-use Rattle.layout.specs.Events.{sum_of, indent_depth, units, letters_of, trimmed, letters, spelt, formatted, writes_comment, written, is_left}
+use Rattle.layout.specs.Events.{sum_of, indent_depth, units, letters_of, trimmed, letters, spelt, formatted, written, is_left}
 
 -- The letters of one event.
 abbrev pub letters_in : Page → Event → ℕ

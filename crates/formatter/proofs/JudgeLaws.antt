@@ -12,7 +12,7 @@ use lib.Dec.{eqb, ltb}
 use borrow.Author.Tests.{eq-eqb, ne_eqb, eqb-true, le-leb, lt-leb, lt-ltb, le-ltb, ltb-true, ltb-false}
 use Rattle.text.proofs.Laws.{never}
 use Rattle.reader.specs.Commands.{form_width}
-use Rattle.reader.specs.Check.{Checked, max_forms, tree_check}
+use Rattle.reader.specs.Check.{max_forms, tree_check}
 use Rattle.text.specs.declared.Broken.{Broken}
 use Rattle.text.specs.Utf8.{first_broken, boundary}
 use Rattle.text.specs.Promises.Utf8.{broken_at}
@@ -31,10 +31,10 @@ use Rattle.layout.specs.Promises.Words.{word_run}
 use Rattle.layout.specs.Walk.{walks, top, walk}
 use Rattle.layout.specs.GetDec.{get-dec}
 use Rattle.layout.specs.Events.{deepest, letters, units, formatted, is_left}
-use Rattle.layout.specs.Promises.State.{Run, run_of, at, sum_of, width_of, effects, Ran, went, fell, run, runs, packed, shown, stop_no, stop_of, Fair, Walked, page}
+use Rattle.layout.specs.Promises.State.{Run, run_of, at, sum_of, width_of, Ran, went, fell, run, runs, packed, shown, stop_no, stop_of, Fair, Walked, page}
 use Rattle.layout.proofs.Exact.{cap, Sums, position, lent, letters-is, steps, exact, exact-letters, exact-units, exact-deepest}
 use Rattle.layout.proofs.Steps.{shown-went}
-use Rattle.agreement.specs.Agreement.{EndsAt, Proper}
+use Rattle.agreement.specs.Agreement.{EndsAt}
 use Rattle.agreement.proofs.Knot.{passes-walks}
 use Rattle.measures.specs.Small.{Small}
 use Rattle.measures.proofs.Measures.{small-done}

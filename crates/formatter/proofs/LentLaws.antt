@@ -1,10 +1,9 @@
 -- The words that are lent to the walk: how they are filled from a set, and how the set is taken out of them again.
 use native.Mathlib.Omega.{arith}
-use native.Mathlib.Numerals.{add-one}
 use native.Mathlib.Nat.{zero-add}
 use mathlib.Core.Path.{◌≡◌, refl, sym, ap, ◌∙◌}
 use mathlib.Core.List.{List, [], ◌∷◌, ◌++◌, append-nil}
-use Prim.Native.Nat.{ℕ, ◌+◌, ◌-◌, ◌≤◌, ◌<◌}
+use Prim.Native.Nat.{ℕ, ◌+◌, ◌≤◌, ◌<◌}
 use lib.ListN.{length, get_or, set, drop, replicate, length-drop}
 use lib.Seq.{paste, paste-zero, take_all, get_or-drop}
 use Rattle.layout.proofs.Placing.{copy_turn}

@@ -4,24 +4,23 @@ use Prim.Native.Nat.{ℕ, ◌+◌, ◌-◌, ◌*◌, ◌/◌, ◌≤◌}
 use native.Mathlib.Nat.{zero-add, mul-add, mul_comm, mul-zero}
 use native.Mathlib.Omega.{arith}
 use mathlib.Core.Path.{◌≡◌, refl, sym, ap, ap₂, ◌∙◌}
-use mathlib.Core.Bool.{Bool, true, false, not, ◌&&◌, ◌||◌, cond, and-true}
+use mathlib.Core.Bool.{Bool, true, false, not, ◌&&◌, ◌||◌, and-true}
 use mathlib.Core.Logic.{◌↔◌}
 use mathlib.Core.List.{List, [], ◌∷◌, ◌++◌, append_assoc}
 use mathlib.Core.Option.{none, some}
 use lib.ListN.{length, get_or, take, drop, length-append, replicate, length-replicate}
-use lib.Seq.{paste, paste-zero, length-paste, take-paste, drop-paste, take-length, take-nil, drop-nil, drop-drop}
+use lib.Seq.{paste, paste-zero, length-paste, take-paste, drop-paste, take-length, drop-drop}
 use lib.Dec.{eqb, ltb}
 use borrow.Author.Tests.{eqb-true, eqb-false, eq-eqb, ne_eqb, ltb-true, ltb-false}
 use Rattle.text.specs.Bytes.{bytes}
 use Rattle.comments.specs.Set.{is_comment, holds, bits, words_from, words_of, room, without, count, first}
 use Rattle.comments.proofs.Words.{words-clear, words-past, words-first, first-among, count_none, none-count}
 use Rattle.layout.specs.Meaning.{Page, Event, Word, Token, Comment, Formed, Indent, token_text}
-use Rattle.layout.specs.Events.{sum_of, indent_depth, units, letters_of, trimmed, letters, spelt, formatted, writes_comment, written, is_left}
-use Rattle.layout.specs.Promises.State.{placed, spaced}
+use Rattle.layout.specs.Events.{sum_of, indent_depth, units, trimmed, letters, spelt, formatted, writes_comment, written, is_left}
+use Rattle.layout.specs.Promises.State.{spaced}
 use Rattle.layout.proofs.Placing.{placed-yes, spaced-yes}
-use Rattle.layout.proofs.Exact.{Sums, position, step, steps, exact-letters, exact-units}
-use Rattle.layout.proofs.Exact.{without as struck}
-use Rattle.formatter.proofs.EventLaws.{letters_in, length-spelt, length-formatted, left-past, not_left}
+use Rattle.layout.proofs.Exact.{Sums, position, step, steps, exact-letters, exact-units, without as struck}
+use Rattle.formatter.proofs.EventLaws.{length-spelt, length-formatted, left-past, not_left}
 use Rattle.formatter.specs.Verdict.{empty_set, no_measures, declined, accepted, comments}
 
 -- ---- the output

@@ -1,6 +1,6 @@
 -- The walk before the record check, for every text and record. Assumes nothing.
 use Prim.Native.Nat.{ℕ}
-use mathlib.Core.Path.{◌≡◌, refl, sym, ap, ◌∙◌, subst}
+use mathlib.Core.Path.{◌≡◌, refl, ap, ◌∙◌, subst}
 use mathlib.Core.Bool.{Bool, true, false, ◌&&◌}
 use mathlib.Core.List.{List}
 use mathlib.Core.Option.{Option, none, some}
@@ -12,7 +12,6 @@ use Rattle.text.proofs.Laws.{never}
 use Rattle.reader.specs.Tokens.{Tokens, count_of, Tiling, tiled, untiled, tokens}
 use Rattle.reader.specs.Check.{Checked, ok, malformed, too_deep, tree_check}
 use Rattle.reader.specs.Reading.{Read, refused, sheet, read_tree, read_record, read_text, read, max_text, max_record}
-use Rattle.reader.proofs.ReadingLaws.{read-cases}
 use Rattle.layout.specs.Meaning.{Page, Event, Outcome, done, stopped}
 use Rattle.layout.specs.Walk.{walk}
 use Rattle.agreement.specs.Agreement.{EndsAt}

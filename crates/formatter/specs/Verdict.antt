@@ -1,10 +1,9 @@
 -- Document 01, module 6, and document 02, Ticket 4: the verdicts of `check` and `get` and the final output, for every input.
-use Rattle.std.specs.Prelude.{ℕ, zero, suc, ◌+◌, ◌-◌, ◌*◌, List, [], ◌∷◌, ◌++◌, Bool, true, false, length, get_or, drop, replicate, leb}
-use Rattle.std.proofs.Math.Option.{Option, none, some}
+use Rattle.std.specs.Prelude.{ℕ, ◌-◌, ◌*◌, List, ◌++◌, true, false, length, get_or, drop, replicate, leb}
+use Rattle.std.proofs.Math.Option.{none, some}
 use Rattle.reader.specs.Fields.{DecOne}
 use Rattle.reader.specs.Commands.{form_width}
-use Rattle.reader.specs.Tokens.{Tokens}
-use Rattle.reader.specs.Reading.{Read, refused, sheet, read}
+use Rattle.reader.specs.Reading.{refused, sheet, read}
 use Rattle.comments.specs.Set.{words_of, first}
 use Rattle.layout.specs.Meaning.{Page, Event, Stop, absent, imported, done, stopped}
 use Rattle.layout.specs.Walk.{walk}

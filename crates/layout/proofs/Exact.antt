@@ -1,6 +1,6 @@
 -- What the walk's code counts and writes, without the wrap: from words that stand for these sums its effects are those of document 01, as
 -- long as no sum is large.
-use Rattle.std.proofs.Common.{◌≡◌, ℕ, suc, ◌+◌, ◌*◌, ◌/◌, ◌%◌, ◌<◌, ◌≤◌, max, Bool, true, false, cond, ltb, List, [], ◌∷◌, length, get_or, set, sym, refl, ap, ◌∙◌, ap₂, mul-le-mul, mul-add, arith}
+use Rattle.std.proofs.Common.{◌≡◌, ℕ, suc, ◌+◌, ◌*◌, ◌/◌, ◌%◌, ◌<◌, ◌≤◌, max, Bool, true, false, cond, ltb, List, [], ◌∷◌, length, get_or, set, refl, ap, ◌∙◌, mul-le-mul, mul-add, arith}
 use Rattle.text.specs.Bytes.{bytes}
 use Rattle.comments.specs.Set.{clear}
 use Rattle.layout.specs.Meaning.{Page, Event, Word, Token, Comment, Formed, Indent, token_text}

@@ -20,7 +20,7 @@ use Rattle.layout.specs.declared.names.Name as Code
 use Rattle.layout.specs.declared.looks.Head as Looks
 use Rattle.layout.specs.declared.looks.BothSeen as Both
 use Rattle.layout.specs.Layout.{Layout, ◌⨾◌, application}
-use Rattle.layout.specs.Meaning.{Page, op_path_name, Head, path_exp, other_exp, Seen, seen, unseen, head_of, Heads, both, missing, both_seen, heads_from, heads_at, func_is_bang, arg_is_symbolic, outcome}
+use Rattle.layout.specs.Meaning.{Page, op_path_name, path_exp, other_exp, Seen, seen, unseen, head_of, Heads, both, missing, both_seen, heads_from, heads_at, func_is_bang, arg_is_symbolic, outcome}
 use Rattle.layout.specs.Promises.State.{run_of, run, runs, effects, page, packed, shown, told_of, Fair, Walked, Stops, name_in, head_in, heads_in, heads_behind, asked_first, AskedFirst, BangIs, SymbolicIs}
 use Rattle.layout.proofs.Steps.{Same, packed-absent, then-stop}
 use Rattle.layout.proofs.HeadPlaces.{missing_below}

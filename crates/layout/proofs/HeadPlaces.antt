@@ -8,7 +8,7 @@ use Rattle.reader.specs.Commands.{absent_at, token_at, list_at, group_at, form_a
 use Rattle.reader.specs.Check.{Checked, ok, malformed, too_deep, max_forms, field_end}
 use Rattle.reader.proofs.CommandLaws.{token-fits, list-fits, absent-fits, group-fits, form-fits}
 use Rattle.reader.proofs.Bounded.{Below, end_below}
-use Rattle.layout.specs.Meaning.{Name, name, no_name, dot_name, list_name, path_name, op_path_name, Head, path_exp, other_exp, Seen, seen, unseen, Heads, both, missing, both_seen, head_of, heads_from, heads_at}
+use Rattle.layout.specs.Meaning.{Name, name, no_name, dot_name, list_name, path_name, op_path_name, path_exp, other_exp, Seen, seen, unseen, Heads, both, missing, both_seen, head_of, heads_from, heads_at}
 
 abbrev NameBelow : ℕ → Name → Type 0
 NameBelow bound (name k n) = Unit {0}

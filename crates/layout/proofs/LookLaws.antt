@@ -1,10 +1,10 @@
 -- Laws of the questions about the form at an offset and about a token's text.
-use Rattle.std.proofs.Common.{◌≡◌, ℕ, suc, ◌+◌, ◌<◌, ◌≤◌, Bool, false, eqb, List, ◌∷◌, length, get_or, drop, sym, refl, ap, ◌∙◌, add-one, arith, drop_of_length-le, drop-cons, eq-eqb, ne_eqb}
+use Rattle.std.proofs.Common.{◌≡◌, ℕ, ◌+◌, ◌<◌, ◌≤◌, Bool, false, eqb, List, length, get_or, drop, refl, add-one, drop_of_length-le, drop-cons, eq-eqb, ne_eqb}
 use Rattle.layout.specs.Layout.{body_exp_needs_newline}
 use Rattle.reader.specs.Forms.{exp_number}
 use Rattle.reader.specs.Fields.{first_form}
 use Rattle.layout.specs.Meaning.{is_command, on_new_line, needs_newline, sees}
-use Rattle.layout.specs.Promises.State.{Looked, page}
+use Rattle.layout.specs.Promises.State.{Looked}
 
 pub on_line_last : (b : ℕ) → (b ≡ 0x4C → ⊥) → (b ≡ 0x4D → ⊥) → (b ≡ 0x53 → ⊥) → (b ≡ 0x55 → ⊥) → (b ≡ 0x56 → ⊥) → eqb b 0x57 ≡ on_new_line b
 unfolding on_new_line is_command exp_number first_form

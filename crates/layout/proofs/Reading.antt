@@ -5,7 +5,7 @@ use Rattle.reader.specs.Promises.Tokens.{starts_of}
 use Rattle.reader.proofs.SpanLaws.{counted}
 use Rattle.reader.specs.declared.commands.Family.{Family}
 use Rattle.reader.specs.declared.commands.Number.{Number}
-use Rattle.reader.specs.Commands.{absent_at, token_at, list_at, group_at, choice_at, form_at, form_width, first_token, declaration_at}
+use Rattle.reader.specs.Commands.{absent_at, token_at, list_at, group_at, choice_at, form_width, first_token, declaration_at}
 use Rattle.reader.specs.Promises.Commands.{family_of, declaration_in, SignAt, NumberAt, FormAt, DeclarationAt}
 use Rattle.reader.specs.Fields.{DecOne}
 use Rattle.reader.specs.Check.{operand_fits, token_fits}

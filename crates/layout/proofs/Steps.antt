@@ -8,17 +8,16 @@ use Rattle.layout.specs.declared.Cfg.{Cfg}
 use Rattle.layout.specs.declared.Status.{Status}
 use Rattle.layout.specs.declared.Status.TheVariants.{Done, Stopped}
 use Rattle.layout.specs.Layout.{Layout, skip, ◌⨾◌, word, output-indent, formed, text, group, choice, form, list, maybe, present, Look, look, Test, is_pipe, first_name, operator, halt}
-use Rattle.layout.specs.Meaning.{Page, Event, Word, Token, Comment, Formed, Indent, Outcome, done, stopped, Stop, absent, imported, after, bind, or_stop, outcome, operated, token_text, name_passes, sees, passes}
+use Rattle.layout.specs.Meaning.{Page, Event, Word, Token, Comment, Formed, Indent, Outcome, done, stopped, Stop, absent, imported, after, bind, or_stop, outcome, operated, token_text, sees}
 use Rattle.layout.specs.Promises.Words.{word_run}
 use Rattle.layout.specs.Promises.State.{Run, run_of, at, effect, effects, Ran, went, fell, run, runs, stop_no, stop_of, told_of, packed, shown, page, Fair, Walked, Ended, Plain, Put, Sure, Texted, Indented, deepened, Stops, read_of, ReadAt, FormRead, group_of, GroupRead, gone_of, GoneRead, present_of, PresentRead, joint, TestedText, TestedName, Looked, Operated, cfg_of, Deeper, Does}
 use Rattle.reader.specs.Tokens.{text_of}
 use Rattle.reader.specs.Promises.Tokens.{starts_of, lengths_of}
 use Rattle.reader.specs.declared.commands.Family as Code
 use Rattle.reader.specs.declared.commands.Family.TheVariants as Case
-use Rattle.reader.specs.Fields as Fields
 use Rattle.reader.specs.Fields.{Exp}
 use Rattle.reader.specs.Check.{token_fits}
-use Rattle.reader.specs.Commands.{absent_at, token_at, list_at, group_at, choice_at, form_at, form_width}
+use Rattle.reader.specs.Commands.{absent_at, list_at, group_at, choice_at, form_at, form_width}
 use Rattle.reader.specs.Promises.Commands.{family_of}
 use Rattle.reader.proofs.CommandLaws.{token-fits, list-fits, choice-fits, form-fits, absent-fits, group-fits}
 use Rattle.reader.proofs.FieldLaws.{token-parts}

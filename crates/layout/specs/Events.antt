@@ -1,5 +1,5 @@
 -- What is read off the events of a walk: deepest, units, letters, the formatted text at a tab size, the comments left.
-use Rattle.std.specs.Prelude.{ℕ, ◌+◌, ◌*◌, max, Bool, true, false, not, ◌&&◌, ◌||◌, List, [], ◌∷◌, ◌++◌, length, replicate, ◌==◌}
+use Rattle.std.specs.Prelude.{ℕ, ◌+◌, ◌*◌, max, Bool, false, not, ◌&&◌, ◌||◌, List, [], ◌∷◌, ◌++◌, length, replicate, ◌==◌}
 use Rattle.text.specs.Bytes.{bytes, trim}
 use Rattle.comments.specs.Set.{is_comment}
 use Rattle.layout.specs.Meaning.{Event, Word, Token, Comment, Formed, Indent, Page, token_text}

@@ -8,7 +8,7 @@ use Rattle.reader.specs.Fields.{DecOne, Exp, Ty, first_form}
 use Rattle.reader.specs.Fields as Fields
 use Rattle.reader.specs.Commands.{absent_at, token_at, list_at, group_at, choice_at, form_at, form_width, first_token}
 use Rattle.reader.specs.Tokens.{Tokens, count_of, text_of}
-use Rattle.reader.specs.Check.{Checked, ok, malformed, too_deep, token_fits, form_fits, end_within, field_end}
+use Rattle.reader.specs.Check.{ok, malformed, too_deep, token_fits, form_fits, end_within, field_end}
 use Rattle.comments.specs.Above.{comment_above}
 use Rattle.layout.specs.Layout.{Layout, Look, is_if_exp, body_exp_needs_newline, Test, is_bang, is_pipe, is_alphabetic, is_alphanumeric}
 use Rattle.layout.specs.Layout.{skip, ◌⨾◌, word, output-indent, formed, text, group, choice, form, list, maybe, present}

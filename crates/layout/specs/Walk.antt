@@ -2,7 +2,7 @@
 use Rattle.std.specs.Prelude.{ℕ, zero, suc, true, slice_index_or}
 use Rattle.reader.specs.Fields.{Ty, Pat, Exp, StrExp, SigExp}
 use Rattle.reader.specs.Check.{max_forms}
-use Rattle.layout.specs.Layout.{Layout, form, declaration, halt}
+use Rattle.layout.specs.Layout.{form, declaration, halt}
 use Rattle.layout.specs.Helpers.{Cfg, Walkers}
 use Rattle.layout.specs.Ty.{tys}
 use Rattle.layout.specs.Pat.{pats}

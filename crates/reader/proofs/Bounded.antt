@@ -1,5 +1,5 @@
 -- From an offset below a bound that is over the record's length, the check ends below it, and the places that it tells lie below it.
-use Prim.Native.Nat.{ℕ, zero, suc, ◌+◌, ◌≤◌, ◌<◌}
+use Prim.Native.Nat.{ℕ, zero, suc, ◌+◌, ◌<◌}
 use mathlib.Core.Path.{◌≡◌, refl}
 use mathlib.Core.List.{List}
 use mathlib.Core.Bool.{Bool, true, false, ◌&&◌}
@@ -7,7 +7,6 @@ use mathlib.Core.Option.{Option, none, some}
 use native.Mathlib.Omega.{arith}
 use lib.ListN.{length, get_or}
 use lib.Dec.{ltb}
-use Rattle.reader.specs.Fields as Fields
 use Rattle.reader.specs.Fields.{Family, Fields, ◌▸◌, token, list, group, choice, form, forms}
 use Rattle.reader.specs.Commands.{absent_at, list_at, group_at, choice_at, form_width}
 use Rattle.reader.specs.Check.{Checked, ok, malformed, too_deep, and_then, items, token_fits, or_absent, fields, form_fits, form_check}

@@ -1,13 +1,12 @@
 -- Where the check of a field passes, its end is within the record, and the same where more forms may stand inside one another.
 use native.Mathlib.Omega.{arith}
-use mathlib.Core.Path.{◌≡◌, refl, sym, ap, ◌∙◌, subst}
+use mathlib.Core.Path.{◌≡◌, refl, ap, ◌∙◌, subst}
 use mathlib.Core.List.{List}
 use mathlib.Core.Bool.{Bool, true, false, ◌&&◌}
 use Prim.Native.Nat.{ℕ, zero, suc, ◌+◌, ◌≤◌}
 use lib.ListN.{length, get_or}
 use lib.Dec.{leb, ltb}
 use borrow.Author.Tests.{leb-true, leb-false}
-use Rattle.reader.specs.Fields as Fields
 use Rattle.reader.specs.Fields.{Family, Fields, ◌▸◌, token, list, group, choice, form, forms}
 use Rattle.reader.specs.Commands.{absent_at, list_at, group_at, choice_at, form_width}
 use Rattle.reader.specs.Check.{Checked, ok, and_then, items, or_absent, token_fits, fields, form_fits, form_check}

@@ -1,11 +1,7 @@
 -- Laws of the check of fields: it never goes back, and how fields, items and a row of codes are passed.
 use Prim.Native.Nat.{ℕ, zero, suc, ◌+◌, ◌-◌, ◌*◌, ◌/◌, ◌%◌, ◌^◌, ◌≤◌, ◌<◌}
 use mathlib.Core.Path.{◌≡◌, refl, sym, ◌∙◌, ap, subst}
-use mathlib.Core.List.{List, [], ◌∷◌}
-use mathlib.Core.Logic.{⊎_elim}
-use types.Run.{OneOf}
-use denote.Enum.Declared.{tag_of}
-use Rattle.reader.specs.contracts.tree.Checked.{the_type}
+use mathlib.Core.List.{List}
 use mathlib.Core.Bool.{Bool, true, false, ◌&&◌}
 use mathlib.Core.Option.{Option, none, some}
 use native.Mathlib.Omega.{arith}
@@ -13,7 +9,6 @@ use lib.ListN.{length, get_or, replicate, get_or-map}
 use lib.Dec.{ltb, eqb}
 use borrow.Author.Tests.{lt-ltb, le-ltb, eq-eqb, ne_eqb, eqb-true, eqb-false}
 use Rattle.text.proofs.Laws.{never}
-use Rattle.reader.specs.Fields as Fields
 use Rattle.reader.specs.Fields.{Family, Fields, ◌▸◌, token, list, group, choice, form, forms, Dec}
 use Rattle.reader.specs.Commands.{absent_at, token_at, list_at, group_at, choice_at, form_at, form_width}
 use Rattle.reader.specs.Check.{Checked, ok, malformed, too_deep, and_then, items, operand_fits, token_fits, or_absent, fields, form_fits, form_check, tree_check}
@@ -23,7 +18,6 @@ use Rattle.reader.specs.Promises.Tree.{checked_in, opened, Opens, ran, Runs, Fie
 use Rattle.reader.specs.declared.tree.Checked as Code
 use Rattle.reader.specs.declared.tree.Checked.TheVariants.{Ok, Malformed, TooDeep}
 use Rattle.reader.specs.declared.tree.Opened.{Opened}
-use Rattle.reader.specs.declared.tree.Opened.TheVariants as Opened
 use Rattle.reader.specs.declared.tree.Opened.TheVariants.{Token, Inside}
 use Rattle.reader.specs.declared.tree.Run.{Run}
 use Rattle.reader.specs.declared.tree.Run.TheVariants as Running

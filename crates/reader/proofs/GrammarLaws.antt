@@ -6,7 +6,6 @@ use native.Mathlib.Omega.{arith}
 use lib.ListN.{length, get_or, take, drop, get_or-map, get_or-append, get_or-eq_default}
 use lib.Seq.{get_or-append-add}
 use Rattle.reader.specs.Fields.{Fields, none, token, group, forms, Family, DecOne, StrExp, SigExp, Exp, Pat, Ty}
-use Rattle.reader.specs.Fields.{PatRowInner, FunBindCaseHead, ExBindInner, FunctorArg, AppStrExpArg}
 use Rattle.reader.specs.Promises.Grammar.{groups, nodes, node, digits, fields_of, inside, up_to, held, rows, first_row, Spells}
 
 -- A row of a table that spells the fields.

@@ -10,7 +10,6 @@ use lib.Seq.{get_or-take, get_or-drop}
 use lib.Dec.{leb, ltb, eqb}
 use borrow.Author.Tests.{le-leb}
 use Rattle.text.proofs.Laws.{never}
-use Rattle.reader.specs.Fields as Fields
 use Rattle.reader.specs.Fields.{Family, DecOne, StrExp, SigExp, Exp, Pat, Ty, Fields, ◌▸◌, token, list, group, choice, form, forms, first_form}
 use Rattle.reader.specs.Commands.{u16, command, absent_at, token_at, list_at, group_at, choice_at, form_at, form_width}
 use Rattle.reader.specs.Check.{Checked, ok, and_then, items, operand_fits, token_fits, or_absent, fields, form_fits, form_check, field_end}

@@ -10,7 +10,6 @@ use lib.ListN.{length, get_or, drop, length-drop}
 use lib.Seq.{get_or-drop}
 use lib.Dec.{leb, ltb}
 use borrow.Author.Tests.{le-leb, lt-leb, leb-true, leb-false}
-use Rattle.reader.specs.Fields as Fields
 use Rattle.reader.specs.Fields.{Family, DecOne, StrExp, SigExp, Exp, Pat, Ty, Fields, ◌▸◌, token, list, group, choice, form, forms, first_form}
 use Rattle.reader.specs.Commands.{u16, command, absent_at, token_at, list_at, group_at, choice_at, form_at, form_width}
 use Rattle.reader.specs.Check.{Checked, ok, malformed, too_deep, and_then, items, operand_fits, token_fits, or_absent, fields, form_fits, form_check, field_end}

@@ -1,7 +1,6 @@
 -- The record check behind the tokens: one forward pass that tells the first command that is malformed, or the 201st form inside.
-use Rattle.std.specs.Prelude.{ℕ, zero, suc, ◌+◌, List, Bool, true, false, ◌&&◌, ◌||◌, not, length, get_or, leb, ltb, eqb}
+use Rattle.std.specs.Prelude.{ℕ, zero, suc, ◌+◌, List, Bool, true, false, ◌&&◌, ◌||◌, length, get_or, ltb, eqb}
 use Rattle.std.proofs.Math.Option.{Option, none, some}
-use Rattle.reader.specs.Fields as Fields
 use Rattle.reader.specs.Fields.{Family, DecOne, StrExp, SigExp, Exp, Pat, Ty, Fields, ◌▸◌, token, list, group, choice, form, Dec, forms}
 use Rattle.reader.specs.Commands.{u16, absent_at, token_at, list_at, group_at, choice_at, form_at, form_width, no_token}
 

@@ -7,7 +7,7 @@ use mathlib.Core.Bool.{Bool, true, false, not, ◌&&◌, ◌||◌, false≢true}
 use mathlib.Core.List.{List, [], ◌∷◌, ◌++◌, map, reverse, reverse-append, reverse-reverse, append_assoc, append-nil}
 use mathlib.Core.Option.{Option, none, some}
 use lib.Dec.{leb, eqb}
-use lib.ListN.{length, get_or, take, drop, length-take, length-drop, length-append, length-reverse}
+use lib.ListN.{length, take, drop, length-take, length-drop, length-append, length-reverse}
 use lib.Seq.{get_or-take, drop_at, take_at, drop-append-add}
 use borrow.Author.Tests.{eq-eqb, eqb-true, eqb-false, leb-true, leb-false, lt-leb}
 use Rattle.text.specs.Utf8.{is_in, is_scalar, encode, encoded, continuation, char_at, broken_from, first_broken, is_inside, boundary}

@@ -1,6 +1,5 @@
 -- `comments::cleared` meets its contract: a bit that is set is subtracted. Assumes nothing.
 use Rattle.comments.proofs.Words.{cleared-fits, cleared-is, clear-already}
-use borrow.Author.Rules.{rules}
 use Rattle.comments.proofs.cleared.Goals as goal
 
 pub overflow_sub-result : goal.overflow_sub-result

@@ -1,11 +1,9 @@
-use Prim.Native.Nat.{suc, ◌-◌}
+use Prim.Native.Nat.{◌-◌}
 use native.Mathlib.Omega.{arith}
-use mathlib.Core.Path.{◌≡◌, refl, sym, ◌∙◌}
-use mathlib.Core.Option.{none}
-use Rattle.comments.specs.Above.{above, found_above, passed_in}
-use Rattle.comments.specs.Promises.Above.{found_of, is_some}
+use mathlib.Core.Path.{sym, ◌∙◌}
+use Rattle.comments.specs.Above.{found_above, passed_in}
+use Rattle.comments.specs.Promises.Above.{found_of}
 use Rattle.comments.proofs.Search.{at-comment, at_first, at_second, at_other, at-start}
-use borrow.Author.Rules.{rules}
 use Rattle.comments.proofs.comment_above.Goals as goal
 
 pub loop-k-init : goal.loop-k-init

@@ -1,6 +1,5 @@
 -- `comments::eight` meets its contract. Assumes nothing.
 use Rattle.comments.proofs.Eights.{eight_is}
-use borrow.Author.Rules.{rules}
 use Rattle.comments.proofs.eight.Goals as goal
 
 pub returns : goal.returns

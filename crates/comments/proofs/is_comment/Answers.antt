@@ -2,7 +2,6 @@
 use mathlib.Core.Path.{refl, sym}
 use Rattle.comments.specs.Set.{is_comment}
 use Rattle.comments.proofs.Search.{no-comment}
-use borrow.Author.Rules.{rules}
 use Rattle.comments.proofs.is_comment.Goals as goal
 
 pub returns-then-k-kinds : goal.returns-then-k-kinds

@@ -3,7 +3,6 @@ use mathlib.Core.Path.{sym}
 use borrow.Author.Tests.{le-leb, lt-leb}
 use Rattle.comments.specs.Above.{is_keyword}
 use Rattle.comments.proofs.Search.{no-keyword}
-use borrow.Author.Rules.{rules}
 use Rattle.comments.proofs.is_keyword.Goals as goal
 
 pub returns-then-kind-ge2 : goal.returns-then-kind-ge2

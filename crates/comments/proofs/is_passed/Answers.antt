@@ -1,5 +1,4 @@
 -- `comments::is_passed` meets its contract. Assumes nothing.
-use mathlib.Core.Path.{sym, ap}
 use Rattle.comments.specs.Above.{passed_in}
 use Rattle.comments.specs.Promises.Above.{is_some}
 use borrow.Author.Rules.{rules}

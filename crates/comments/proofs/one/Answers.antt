@@ -1,7 +1,6 @@
 -- `comments::one` meets its contract. Assumes nothing.
 use native.Mathlib.Omega.{arith}
 use Rattle.comments.proofs.Eights.{one_set, one-unset}
-use borrow.Author.Rules.{rules}
 use Rattle.comments.proofs.one.Goals as goal
 
 pub returns-then-kinds-k-eq1 : goal.returns-then-kinds-k-eq1

@@ -2,7 +2,6 @@
 use native.Mathlib.Omega.{arith}
 use mathlib.Core.Option.{none}
 use Rattle.comments.proofs.Search.{up_to, from_last}
-use borrow.Author.Rules.{rules}
 use Rattle.comments.proofs.through.Goals as goal
 
 pub returns-then-k-kinds : goal.returns-then-k-kinds

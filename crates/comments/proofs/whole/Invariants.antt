@@ -1,11 +1,7 @@
 -- `comments::whole` meets its contract. The invariant: x has the bits from `b` up, and is shifted as the eight below them are put under them. Assumes nothing.
 use Prim.Native.Nat.{◌+◌, ◌-◌, ◌%◌, ◌≤◌}
-use native.Mathlib.Omega.{arith}
-use mathlib.Core.Path.{◌≡◌, refl}
-use borrow.Author.Rules.{rules}
+use mathlib.Core.Path.{◌≡◌}
 use Rattle.comments.specs.Set.{is_comment, bits}
-use Rattle.comments.proofs.Words.{made_all, bits_below}
-use Rattle.comments.proofs.Eights.{eights-fit, eights-more}
 use Rattle.comments.proofs.whole.Given as goal
 
 abbrev pub invariant-loop-b : goal.invariant-loop-b

@@ -1,6 +1,6 @@
-use Prim.Native.Nat.{◌+◌, ◌-◌, ◌≤◌}
+use Prim.Native.Nat.{◌-◌}
 use native.Mathlib.Omega.{arith}
-use mathlib.Core.Path.{◌≡◌, refl, sym, ◌∙◌}
+use mathlib.Core.Path.{refl, sym, ◌∙◌}
 use Rattle.comments.specs.Set.{is_comment, bits}
 use Rattle.comments.proofs.Words.{bits-empty, made-fits, made_one, made-zero, made_all}
 use Rattle.comments.proofs.Search.{no-comment}

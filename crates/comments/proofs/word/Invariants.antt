@@ -1,11 +1,7 @@
 -- `comments::word` meets its contract. The invariant: x has the bits from `b` up, and is shifted as each lower one is put under them. Assumes nothing.
 use Prim.Native.Nat.{◌+◌, ◌-◌, ◌≤◌}
-use native.Mathlib.Omega.{arith}
-use mathlib.Core.Path.{◌≡◌, refl, sym, ◌∙◌}
+use mathlib.Core.Path.{◌≡◌}
 use Rattle.comments.specs.Set.{is_comment, bits}
-use Rattle.comments.proofs.Words.{bits-empty, made-fits, made_one, made-zero, made_all}
-use Rattle.comments.proofs.Search.{no-comment}
-use borrow.Author.Rules.{rules}
 use Rattle.comments.proofs.word.Given as goal
 
 abbrev pub invariant-loop-b : goal.invariant-loop-b

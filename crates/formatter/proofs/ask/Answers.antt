@@ -1,6 +1,5 @@
 -- `formatter::ask` meets its contract: each case of the record check. Assumes nothing.
 use Rattle.formatter.proofs.LookupLaws.{ask-tokens, ask-past, ask-long, ask-broken, ask-malformed, ask-deep}
-use borrow.Author.Rules.{rules}
 use Rattle.formatter.proofs.ask.Goals as goal
 
 pub returns-then-token-count : goal.returns-then-token-count

@@ -3,7 +3,6 @@ use mathlib.Core.Path.{sym, ap, ◌∙◌}
 use Rattle.formatter.specs.Verdict as Verdict
 use Rattle.formatter.specs.Promises.WalkFirst as WalkFirst
 use Rattle.formatter.proofs.JudgeLaws.{tree_end_is, checks}
-use borrow.Author.Rules.{rules}
 use Rattle.formatter.proofs.by_check.Goals as goal
 
 pub stop-requires : goal.stop-requires

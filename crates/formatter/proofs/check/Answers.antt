@@ -1,6 +1,5 @@
 -- `formatter::check` equals its definition.
 use Rattle.formatter.proofs.JudgeLaws.{check-accepts, check-refuses}
-use borrow.Author.Rules.{rules}
 use Rattle.formatter.proofs.check.Goals as goal
 
 pub returns-in-Accepted : goal.returns-in-Accepted

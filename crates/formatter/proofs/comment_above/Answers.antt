@@ -1,7 +1,6 @@
 -- `formatter::comment_above` meets its contract: the search over the tokens that `ask` gives. Assumes nothing.
 use mathlib.Core.Path.{sym}
 use Rattle.formatter.proofs.LookupLaws.{asked-counts, asked-within, lookup-declined, lookup-found, lookup-nothing}
-use borrow.Author.Rules.{rules}
 use Rattle.formatter.proofs.comment_above.Goals as goal
 
 pub slice_bounds-kinds-end : goal.slice_bounds-kinds-end

@@ -1,6 +1,5 @@
 -- `formatter::drafted` equals the definition of `get`, whatever the draft's length.
 use Rattle.formatter.proofs.JudgeLaws.{taken, within, weight_is, draft-is, get-puts, get-refuses}
-use borrow.Author.Rules.{rules}
 use Rattle.formatter.proofs.drafted.Goals as goal
 
 pub slice_bounds-kinds-end : goal.slice_bounds-kinds-end

@@ -1,6 +1,5 @@
 -- `formatter::judge` meets its contract: lengths, ASCII and tokens, then the walk.
 use Rattle.formatter.proofs.JudgeLaws.{text-long, record-long, not-utf8, not-tiled, sheet-limits, judges-sheet, judges-declined}
-use borrow.Author.Rules.{rules}
 use Rattle.formatter.proofs.judge.Goals as goal
 
 pub returns-then-text-gt-MAX_TEXT : goal.returns-then-text-gt-MAX_TEXT

@@ -1,6 +1,4 @@
-use native.Mathlib.Omega.{arith}
-use Prim.Native.Nat.{◌-◌}
-use Rattle.formatter.proofs.LentLaws.{Taking, taking-starts, taking_goes, taking_ends}
+use Rattle.formatter.proofs.LentLaws.{taking-starts, taking_goes, taking_ends}
 use borrow.Author.Rules.{rules}
 use Rattle.formatter.proofs.left_in.Goals as goal
 

@@ -1,8 +1,6 @@
 -- `formatter::left_in` meets its contract.
-use native.Mathlib.Omega.{arith}
 use Prim.Native.Nat.{◌-◌}
-use Rattle.formatter.proofs.LentLaws.{Taking, taking-starts, taking_goes, taking_ends}
-use borrow.Author.Rules.{rules}
+use Rattle.formatter.proofs.LentLaws.{Taking}
 use Rattle.formatter.proofs.left_in.Given as goal
 
 abbrev pub invariant-loop-i : goal.invariant-loop-i

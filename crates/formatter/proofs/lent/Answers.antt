@@ -1,6 +1,4 @@
-use native.Mathlib.Omega.{arith}
-use Prim.Native.Nat.{◌-◌}
-use Rattle.formatter.proofs.LentLaws.{Filling, filling-starts, filling_goes, filling_ends}
+use Rattle.formatter.proofs.LentLaws.{filling-starts, filling_goes, filling_ends}
 use borrow.Author.Rules.{rules}
 use Rattle.formatter.proofs.lent.Goals as goal
 

@@ -1,11 +1,9 @@
 -- `formatter::put` meets its contract: 7, then 8, then the text from the draft, or by the walk over the output.
 use native.Mathlib.Omega.{arith}
 use mathlib.Core.Path.{refl}
-use Prim.Native.Nat.{◌≤◌}
 use Rattle.text.specs.Bytes.{bytes}
 use Rattle.layout.specs.Promises.Words.{word_run}
 use Rattle.formatter.proofs.JudgeLaws.{taken, taken-fits, starts, weight-deep, weight-letters, weight-units, put-wide, put-short, put-copied, put-walked}
-use borrow.Author.Rules.{rules}
 use Rattle.formatter.proofs.put.Goals as goal
 
 pub scaled-width-requires : goal.scaled-width-requires

@@ -2,13 +2,11 @@
 use native.Mathlib.Omega.{arith}
 use mathlib.Core.Path.{refl, sym, ap, ◌∙◌}
 use lib.ListN.{take}
-use Prim.Native.Nat.{◌≤◌}
 use Rattle.text.specs.Bytes.{bytes}
 use Rattle.reader.specs.Promises.Tokens.{start_of}
 use Rattle.reader.proofs.SpanLaws.{start-at}
 use Rattle.layout.specs.Promises.Words.{word_run}
 use Rattle.formatter.proofs.JudgeLaws.{taken, kinds_few, starts, weigh_checked, other-checked, behind, behind-by, checked-by, weigh-accepts, weigh-never, weigh-comments}
-use borrow.Author.Rules.{rules}
 use Rattle.formatter.proofs.weigh.Goals as goal
 
 pub slice_bounds-kinds-end : goal.slice_bounds-kinds-end

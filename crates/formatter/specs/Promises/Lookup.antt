@@ -1,6 +1,6 @@
 -- What the code's answer and tables stand for.
 use Rattle.std.specs.Prelude.{ℕ, ◌≤◌, ◌≡◌, List, length, take}
-use Rattle.reader.specs.Tokens.{Tokens, max_tokens}
+use Rattle.reader.specs.Tokens.{max_tokens}
 use Rattle.reader.specs.Promises.Tokens.{tokens_in}
 use Rattle.formatter.specs.declared.Asked as Code
 use Rattle.formatter.specs.declared.Asked.TheVariants as Case

@@ -1,5 +1,5 @@
 -- `layout::comment` meets its contract.
-use Rattle.std.proofs.Common.{ap, ◌∙◌, rules}
+use Rattle.std.proofs.Common.{ap, ◌∙◌}
 use Rattle.text.specs.Bytes.{trim}
 use Rattle.layout.proofs.Pieces.{put_same, put-behind}
 use Rattle.layout.proofs.comment.Goals as goal

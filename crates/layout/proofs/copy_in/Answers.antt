@@ -1,5 +1,5 @@
 -- `layout::copy_in` meets its contract.
-use Rattle.std.proofs.Common.{sym, ◌∙◌, arith, rules}
+use Rattle.std.proofs.Common.{sym, ◌∙◌, arith}
 use Rattle.layout.proofs.Placing.{placed-yes, placed-not}
 use Rattle.layout.proofs.copy_in.Goals as goal
 

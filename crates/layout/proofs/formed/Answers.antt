@@ -1,5 +1,5 @@
 -- `layout::formed` meets its contract.
-use Rattle.std.proofs.Common.{set, ap, rules}
+use Rattle.std.proofs.Common.{set, ap}
 use Rattle.layout.proofs.formed.Goals as goal
 
 pub returns : goal.returns

@@ -1,5 +1,5 @@
 -- `layout::indent_at` meets its contract.
-use Rattle.std.proofs.Common.{ap, ◌∙◌, rules}
+use Rattle.std.proofs.Common.{ap, ◌∙◌}
 use Rattle.layout.specs.Promises.State.{sum_of}
 use Rattle.layout.proofs.Placing.{indent-is}
 use Rattle.layout.proofs.indent_at.Goals as goal

@@ -1,6 +1,5 @@
-use Rattle.std.proofs.Common.{sym, ap, ◌∙◌, rules}
+use Rattle.std.proofs.Common.{sym, ap, ◌∙◌}
 use Rattle.layout.specs.Promises.State.{piece_of}
-use Rattle.layout.proofs.piece_of.Lts as lts
 use Rattle.layout.proofs.piece_of.Goals as goal
 
 pub returns-in-Word : goal.returns-in-Word

@@ -1,6 +1,5 @@
 -- `layout::put` meets its contract.
 use Rattle.layout.proofs.Placing.{put_is}
-use Rattle.std.proofs.Common.{rules}
 use Rattle.layout.proofs.put.Goals as goal
 
 pub returns : goal.returns

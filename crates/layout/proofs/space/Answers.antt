@@ -1,4 +1,4 @@
-use Rattle.std.proofs.Common.{◌≡◌, ℕ, ◌+◌, ◌-◌, ◌≤◌, length, replicate, sym, refl, ap, ◌∙◌, arith, length-set, rules}
+use Rattle.std.proofs.Common.{◌≡◌, ◌-◌, replicate, sym, refl, ap, ◌∙◌, arith, length-set}
 use lib.Seq.{paste, paste-zero}
 use Rattle.layout.proofs.Placing.{spaced-yes, spaced-not, space_turn}
 use Rattle.layout.proofs.space.Goals as goal

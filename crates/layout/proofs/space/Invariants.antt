@@ -1,7 +1,6 @@
 -- `layout::space` meets its contract.
-use Rattle.std.proofs.Common.{◌≡◌, ℕ, ◌+◌, ◌-◌, ◌≤◌, length, replicate, sym, refl, ap, ◌∙◌, arith, length-set, rules}
-use lib.Seq.{paste, paste-zero}
-use Rattle.layout.proofs.Placing.{spaced-yes, spaced-not, space_turn}
+use Rattle.std.proofs.Common.{◌≡◌, ◌-◌, ◌≤◌, length, replicate}
+use lib.Seq.{paste}
 use Rattle.layout.proofs.space.Given as goal
 
 abbrev pub invariant-loop-o : goal.invariant-loop-o

@@ -1,5 +1,5 @@
 -- `layout::span_at` equals its definition.
-use Rattle.std.proofs.Common.{sym, arith, rules}
+use Rattle.std.proofs.Common.{sym}
 use lib.ListN.{get_or-eq_default}
 use Rattle.layout.proofs.span_at.Goals as goal
 

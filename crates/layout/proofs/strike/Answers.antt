@@ -1,6 +1,5 @@
 -- `layout::strike` meets its contract.
 use Rattle.layout.proofs.Placing.{struck-is, struck-not}
-use Rattle.std.proofs.Common.{rules}
 use Rattle.layout.proofs.strike.Goals as goal
 
 pub returns-then-w-lt64 : goal.returns-then-w-lt64

@@ -1,5 +1,5 @@
 -- `layout::token` meets its contract.
-use Rattle.std.proofs.Common.{◌∙◌, rules}
+use Rattle.std.proofs.Common.{◌∙◌}
 use Rattle.layout.proofs.Pieces.{span_text, put_same}
 use Rattle.layout.proofs.token.Goals as goal
 

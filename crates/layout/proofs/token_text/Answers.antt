@@ -1,5 +1,5 @@
 -- `layout::token_text` equals its definition.
-use Rattle.std.proofs.Common.{◌∙◌, rules}
+use Rattle.std.proofs.Common.{◌∙◌}
 use Rattle.layout.proofs.Pieces.{span_text}
 use Rattle.layout.proofs.token_text.Goals as goal
 

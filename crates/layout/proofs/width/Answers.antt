@@ -1,5 +1,5 @@
 -- `layout::width` meets its contract.
-use Rattle.std.proofs.Common.{◌%◌, ◌≤◌, mul-le-mul, arith, rules}
+use Rattle.std.proofs.Common.{◌%◌, ◌≤◌, mul-le-mul, arith}
 use Rattle.layout.proofs.width.Goals as goal
 
 pub overflow_mul-result : goal.overflow_mul-result

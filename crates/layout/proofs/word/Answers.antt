@@ -1,6 +1,6 @@
 -- `layout::word` meets its contract.
 use Rattle.layout.proofs.Steps.{sure_word}
-use Rattle.std.proofs.Common.{ap, ◌∙◌, rules}
+use Rattle.std.proofs.Common.{ap, ◌∙◌}
 use Rattle.layout.specs.Promises.State.{piece_of}
 use Rattle.layout.proofs.Pieces.{put_same}
 use Rattle.layout.proofs.word.Goals as goal

@@ -1,6 +1,5 @@
 -- `word_piece` meets its contract.
 use Rattle.layout.proofs.Pieces.{word_in}
-use Rattle.std.proofs.Common.{rules}
 use Rattle.layout.proofs.word_piece.Goals as goal
 
 pub returns : goal.returns

@@ -1,7 +1,6 @@
 -- What the walk's functions do to what is lent to them, event by event.
 -- Their sums wrap; proofs/Exact says that below the limits they are the sums of Events.
-use Rattle.std.specs.Prelude.{◌≡◌, ℕ, ◌+◌, ◌-◌, ◌*◌, ◌/◌, ◌%◌, ◌<◌, max, Bool, true, false, cond, List, [], ◌∷◌, length, take, drop, set, replicate, ◌==◌, nat_le, nat_lt, slice_index, slice_set}
-use Prim.Native.String.{String}
+use Rattle.std.specs.Prelude.{◌≡◌, ℕ, ◌+◌, ◌-◌, ◌*◌, ◌/◌, ◌%◌, ◌<◌, max, Bool, true, false, cond, List, [], ◌∷◌, length, take, drop, replicate, ◌==◌, nat_le, nat_lt, slice_index, slice_set}
 use Rattle.std.proofs.Math.Seq.{paste}
 use Rattle.text.specs.Bytes.{bytes, trim}
 use Rattle.comments.specs.Set.{clear}

@@ -1,6 +1,5 @@
 -- `leaves::app_end` equals its layout.
 use Rattle.layout.proofs.Steps.{sure_then}
-use borrow.Author.Rules.{rules}
 use Rattle.leaves.proofs.app_end.Goals as goal
 
 pub returns : goal.returns

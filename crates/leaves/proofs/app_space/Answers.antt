@@ -1,6 +1,5 @@
 -- `leaves::app_space` equals its layout.
 use Rattle.leaves.proofs.Laws.{app-banged, app-spaced}
-use borrow.Author.Rules.{rules}
 use Rattle.leaves.proofs.app_space.Goals as goal
 
 pub returns-then-bang : goal.returns-then-bang

@@ -1,6 +1,5 @@
 -- `leaves::arg_is_symbolic` meets its contract.
 use Rattle.leaves.proofs.Laws.{symbolic-other, symbolic-named}
-use borrow.Author.Rules.{rules}
 use Rattle.leaves.proofs.arg_is_symbolic.Goals as goal
 
 pub returns-in_default : goal.returns-in_default

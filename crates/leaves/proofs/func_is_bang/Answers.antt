@@ -1,6 +1,5 @@
 -- `leaves::func_is_bang` meets its contract.
 use Rattle.leaves.proofs.Laws.{bang-other, bang-named, bang-many}
-use borrow.Author.Rules.{rules}
 use Rattle.leaves.proofs.func_is_bang.Goals as goal
 
 pub returns-in_default : goal.returns-in_default

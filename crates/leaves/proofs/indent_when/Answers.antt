@@ -1,6 +1,5 @@
 -- `leaves::indent_when` equals its layout.
 use Rattle.layout.proofs.Steps.{sure-when, sure_unless}
-use borrow.Author.Rules.{rules}
 use Rattle.leaves.proofs.indent_when.Goals as goal
 
 pub returns-then-b : goal.returns-then-b

@@ -1,6 +1,5 @@
 -- `leaves::missing` meets its contract.
 use Rattle.leaves.specs.Promises.Heads.{missed_at}
-use borrow.Author.Rules.{rules}
 use Rattle.leaves.proofs.missing.Goals as goal
 
 pub returns-in-Missing : goal.returns-in-Missing

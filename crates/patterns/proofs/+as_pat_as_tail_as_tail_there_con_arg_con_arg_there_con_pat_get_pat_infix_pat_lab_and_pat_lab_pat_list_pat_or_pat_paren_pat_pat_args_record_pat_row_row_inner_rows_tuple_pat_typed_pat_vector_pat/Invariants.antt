@@ -1,56 +1,9 @@
--- `patterns::as_pat` equals its layout: a member of a cycle of calls. Written by tools/arms.py.
--- `patterns::as_tail` equals its layout: a member of a cycle of calls. Written by tools/arms.py.
--- `patterns::as_tail_there` equals its layout: a member of a cycle of calls. Written by tools/arms.py.
--- The measures of a cycle of calls, and what its members are given and asked. Written by tools/arms.py.
--- `patterns::con_arg` equals its layout: a member of a cycle of calls. Written by tools/arms.py.
--- `patterns::con_arg_there` equals its layout: a member of a cycle of calls. Written by tools/arms.py.
--- `patterns::con_pat` equals its layout: a member of a cycle of calls. Written by tools/arms.py.
--- `patterns::get_pat` equals its layout: a member of a cycle of calls. Written by tools/arms.py.
--- `patterns::infix_pat` equals its layout: a member of a cycle of calls. Written by tools/arms.py.
--- `patterns::lab_and_pat` equals its layout: a member of a cycle of calls. Written by tools/arms.py.
--- `patterns::lab_pat` equals its layout: a member of a cycle of calls. Written by tools/arms.py.
--- `patterns::list_pat` equals its layout: a member of a cycle of calls. Written by tools/arms.py.
--- `patterns::or_pat` equals its layout: a member of a cycle of calls. Written by tools/arms.py.
--- `patterns::paren_pat` equals its layout: a member of a cycle of calls. Written by tools/arms.py.
--- `patterns::pat_args` equals its layout: a member of a cycle of calls. Written by tools/arms.py.
--- `patterns::record_pat` equals its layout: a member of a cycle of calls. Written by tools/arms.py.
--- `patterns::row` equals its layout: a member of a cycle of calls. Written by tools/arms.py.
--- `patterns::row_inner` equals its layout: a member of a cycle of calls. Written by tools/arms.py.
--- `patterns::rows` equals its layout: a member of a cycle of calls. Written by tools/arms.py.
--- `patterns::tuple_pat` equals its layout: a member of a cycle of calls. Written by tools/arms.py.
--- `patterns::typed_pat` equals its layout: a member of a cycle of calls. Written by tools/arms.py.
--- `patterns::vector_pat` equals its layout: a member of a cycle of calls. Written by tools/arms.py.
--- The functions of a cycle of calls equal their layouts: a file for each, and what ties them. Written by tools/arms.py.
-use borrow.Author.Rules.{rules}
-use native.Mathlib.Omega.{arith}
-use mathlib.Core.Path.{◌∙◌}
-use Prim.Native.Nat.{ℕ}
-use Rattle.layout.proofs.Steps.{plain, by-same, then-done, then-stop, then-sure, group-is, group-not}
+-- The functions of a cycle of calls equal their layouts.
 use Rattle.layout.specs.Pat as Pat
-use Rattle.layout.proofs.Steps.{plain, by-same, maybe-past, maybe-there}
-use Rattle.layout.proofs.Steps.{plain, by-same, then-sure, group-is, group-not}
-use Prim.Native.Nat.{◌+◌, ◌*◌, ℕ, ◌<◌}
-use Rattle.layout.proofs.Steps.{plain, then-sure}
-use Rattle.layout.proofs.Steps.{plain, then-done, then-stop}
-use mathlib.Core.Path.{refl}
-use Prim.Native.Nat.{zero-le, ◌-◌, ℕ}
+use Prim.Native.Nat.{◌+◌, ◌*◌, ◌-◌}
 use Rattle.layout.specs.Walk.{walks}
-use Rattle.layout.proofs.Steps.{plain, by-same, last-sure, form-is, form-not}
-use Rattle.layout.proofs.Knot.{past, beyond, form-key, pat-zero, pat-form}
-use Rattle.layout.proofs.Steps.{plain, then-done, then-stop, then-sure}
-use Rattle.layout.proofs.Steps.{plain, then-done, then-stop, then-sure, last-sure}
-use mathlib.Core.Path.{refl, ◌∙◌}
-use Prim.Native.Nat.{◌-◌, ℕ}
-use Rattle.layout.proofs.Steps.{PlainTurn, from, plain, by-same, first-same, then-done, then-stop, then-sure, list-is, list-not, group-is, group-not, items-all, from_more, from-none}
+use Rattle.layout.proofs.Steps.{PlainTurn, from}
 use Rattle.layout.specs.Layout as Layout
-use Rattle.layout.specs.Helpers as Helpers
-use Rattle.layout.proofs.Steps.{plain, by-same, choice-is, choice-not, group-is, group-not}
-use mathlib.Core.List.{[], ◌∷◌}
-use Prim.Native.Nat.{zero-le, ℕ}
-use Rattle.layout.proofs.Steps.{plain, last-sure}
-use Rattle.layout.proofs.Knot.{past, beyond, at_key}
-use Rattle.layout.proofs.Steps.{PlainTurn, from, plain, by-same, then-done, then-stop, then-sure, list-is, list-not, items-all, from_more, from-none}
-use Rattle.layout.proofs.Steps.{plain, by-same, first-same, then-done, then-stop, then-sure, last-sure, group-is, group-not}
 use Rattle.patterns.proofs.+as_pat_as_tail_as_tail_there_con_arg_con_arg_there_con_pat_get_pat_infix_pat_lab_and_pat_lab_pat_list_pat_or_pat_paren_pat_pat_args_record_pat_row_row_inner_rows_tuple_pat_typed_pat_vector_pat.Given as goal
 
 abbrev pub decreases-as_pat : goal.decreases-as_pat

@@ -1,6 +1,5 @@
 -- `check` meets its contract.
 use Rattle.reader.proofs.ReadingLaws.{text-long, record-long, not-utf8, utf8}
-use borrow.Author.Rules.{rules}
 use Rattle.reader.proofs.check.Goals as goal
 
 pub returns-then-text-gt-MAX_TEXT : goal.returns-then-text-gt-MAX_TEXT

@@ -1,6 +1,5 @@
 -- `read_record` meets its contract.
 use Rattle.reader.proofs.ReadingLaws.{record-sheet, record-malformed, record-deep, record-untiled}
-use borrow.Author.Rules.{rules}
 use Rattle.reader.proofs.read_record.Goals as goal
 
 pub returns-in-Ok : goal.returns-in-Ok

@@ -1,6 +1,5 @@
 -- The table by which the code reads the fields of a node: a row of codes for each form, each alternative of a choice, each group.
-use Rattle.std.specs.Prelude.{ℕ, zero, suc, ◌-◌, ◌/◌, ◌%◌, ◌≡◌, List, [], ◌∷◌, ◌++◌, map, Bool, true, false, length, get_or, eqb, ltb}
-use Rattle.reader.specs.Fields as Fields
+use Rattle.std.specs.Prelude.{ℕ, zero, suc, ◌-◌, ◌/◌, ◌%◌, ◌≡◌, List, [], ◌∷◌, ◌++◌, map, true, false, length, get_or, eqb, ltb}
 use Rattle.reader.specs.Fields.{Family, Fields, ◌▸◌, token, list, group, choice, form, DecOne, StrExp, SigExp, Exp, Pat, Ty, forms}
 use Rattle.reader.specs.Fields.{Path, TyVarSeq, TyRow, TySeq, TyBind, WithType, ConBind, DatBind, PatRow, PatArg, ExpRow, ExpArg, ExpInSeq, Arm, Matcher, ValBind, FunBindCase, FunBind, ExBind, SigBind, StrBind, PathEq, SharingTail, DecInSeq, DecWithTail, Dec, FunctorBind}
 use Rattle.reader.specs.Fields.{PatRowInner, FunBindCaseHead, ExBindInner, FunctorArg, AppStrExpArg}

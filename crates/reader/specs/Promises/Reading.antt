@@ -1,6 +1,5 @@
 -- What the code's answer and tables stand for.
 use Rattle.std.specs.Prelude.{ℕ, ◌≤◌, ◌≡◌, List, Bool, length, take}
-use Rattle.text.specs.Utf8.{boundary}
 use Rattle.reader.specs.Tokens.{max_tokens}
 use Rattle.reader.specs.Promises.Tokens.{tokens_in}
 use Rattle.reader.specs.declared.Reading.{Reading}

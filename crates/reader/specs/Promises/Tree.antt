@@ -1,6 +1,5 @@
 -- Contracts of the record check behind the tokens.
 use Rattle.std.specs.Prelude.{ℕ, ◌+◌, ◌≤◌, ◌<◌, ◌≡◌, List, Bool, true, false, length, get_or}
-use Rattle.reader.specs.Fields as Fields
 use Rattle.reader.specs.Fields.{Fields, choice}
 use Rattle.reader.specs.Check.{Checked, ok, malformed, too_deep, items, fields, form_check, tree_check, field_end}
 use Rattle.reader.specs.Promises.Grammar.{field_of, fields_of, node, rows}

@@ -1,12 +1,9 @@
-use mathlib.Core.Logic.{⊎_elim}
 use borrow.Author.Count.{below_more}
 use borrow.Author.Tests.{eqb-true}
-use Prim.Native.Nat.{ℕ, ◌-◌, ◌≤◌, ◌<◌}
+use Prim.Native.Nat.{ℕ, ◌-◌, ◌≤◌}
 use native.Mathlib.Omega.{arith}
-use mathlib.Core.Path.{◌≡◌}
-use lib.ListN.{length, get_or}
+use lib.ListN.{get_or}
 use Rattle.text.specs.Promises.Utf8.{Follows}
-use borrow.Author.Rules.{rules}
 use Rattle.text.proofs.all_follow.Goals as goal
 use Rattle.text.proofs.all_follow.Goals.{else-wrong-w, then-wrong-w}
 

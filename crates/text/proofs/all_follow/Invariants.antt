@@ -1,13 +1,8 @@
 -- `text::all_follow` meets its contract. The invariant: where nothing was wrong so far, the bytes that were passed follow. Assumes nothing.
-use mathlib.Core.Logic.{⊎_elim}
-use borrow.Author.Count.{below_more}
-use borrow.Author.Tests.{eqb-true}
 use Prim.Native.Nat.{ℕ, ◌-◌, ◌≤◌, ◌<◌}
-use native.Mathlib.Omega.{arith}
 use mathlib.Core.Path.{◌≡◌}
 use lib.ListN.{length, get_or}
 use Rattle.text.specs.Promises.Utf8.{Follows}
-use borrow.Author.Rules.{rules}
 use Rattle.text.proofs.all_follow.Given as goal
 
 abbrev pub invariant-loop-i : goal.invariant-loop-i

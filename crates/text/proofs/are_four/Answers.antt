@@ -1,7 +1,6 @@
 -- `text::are_four` meets its contract: the ranges before the last, then the last. Assumes nothing.
 use mathlib.Core.Path.{sym, ◌∙◌}
 use Rattle.text.proofs.Utf8Laws.{both_true, both_false, fits_more}
-use borrow.Author.Rules.{rules}
 use Rattle.text.proofs.are_four.Goals as goal
 
 pub returns-then-are_three : goal.returns-then-are_three

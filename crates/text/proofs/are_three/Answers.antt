@@ -1,7 +1,6 @@
 -- `text::are_three` meets its contract: the ranges before the last, then the last. Assumes nothing.
 use mathlib.Core.Path.{sym, ◌∙◌}
 use Rattle.text.proofs.Utf8Laws.{both_true, both_false, fits_more}
-use borrow.Author.Rules.{rules}
 use Rattle.text.proofs.are_three.Goals as goal
 
 pub returns-then-are_two : goal.returns-then-are_two

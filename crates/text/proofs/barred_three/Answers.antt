@@ -2,7 +2,6 @@
 use native.Mathlib.Omega.{arith}
 use mathlib.Core.Path.{sym, ◌∙◌}
 use Rattle.text.proofs.WholeLaws.{inside, outside}
-use borrow.Author.Rules.{rules}
 use Rattle.text.proofs.barred_three.Goals as goal
 
 pub returns-then-in_range : goal.returns-then-in_range

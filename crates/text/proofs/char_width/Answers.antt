@@ -2,7 +2,6 @@
 use mathlib.Core.Path.{◌∙◌}
 use Rattle.text.proofs.Utf8Laws.{row-yes, row-no, no_rows}
 use Rattle.text.specs.Utf8.{well_formed, char_at}
-use borrow.Author.Rules.{rules}
 use Rattle.text.proofs.char_width.Goals as goal
 
 pub returns-then-is_in : goal.returns-then-is_in

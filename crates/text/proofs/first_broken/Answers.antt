@@ -3,7 +3,6 @@ use native.Mathlib.Omega.{arith}
 use mathlib.Core.Path.{sym}
 use Rattle.text.specs.Promises.Utf8.{broken_at}
 use Rattle.text.proofs.Utf8Laws.{ascii_whole}
-use borrow.Author.Rules.{rules}
 use Rattle.text.proofs.first_broken.Goals as goal
 
 pub returns-then-most-lt128 : goal.returns-then-most-lt128

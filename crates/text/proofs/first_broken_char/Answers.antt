@@ -1,8 +1,6 @@
-use Prim.Native.Nat.{◌≤◌, ◌-◌}
 use native.Mathlib.Omega.{arith}
-use mathlib.Core.Path.{◌≡◌, refl, sym, ◌∙◌}
-use lib.ListN.{length, drop}
-use Rattle.text.specs.Utf8.{broken_from, first_broken}
+use mathlib.Core.Path.{refl, sym, ◌∙◌}
+use Rattle.text.specs.Utf8.{first_broken}
 use Rattle.text.specs.Promises.Utf8.{broken_at}
 use Rattle.text.proofs.Utf8Laws.{char-here, char-ends, broken-none, broken-at, broken-more}
 use borrow.Author.Rules.{rules}

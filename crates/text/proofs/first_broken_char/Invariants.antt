@@ -1,12 +1,8 @@
 -- `text::first_broken_char` meets its contract. The invariant: what the scan finds from the start is what it finds from `i`. Assumes nothing.
 use Prim.Native.Nat.{◌≤◌, ◌-◌}
-use native.Mathlib.Omega.{arith}
-use mathlib.Core.Path.{◌≡◌, refl, sym, ◌∙◌}
+use mathlib.Core.Path.{◌≡◌}
 use lib.ListN.{length, drop}
 use Rattle.text.specs.Utf8.{broken_from, first_broken}
-use Rattle.text.specs.Promises.Utf8.{broken_at}
-use Rattle.text.proofs.Utf8Laws.{char-here, char-ends, broken-none, broken-at, broken-more}
-use borrow.Author.Rules.{rules}
 use Rattle.text.proofs.first_broken_char.Given as goal
 
 abbrev pub invariant-loop-i : goal.invariant-loop-i

@@ -1,10 +1,6 @@
 -- `text::greatest` meets its contract. The invariant: no byte that was passed exceeds the greatest so far. Assumes nothing.
 use Prim.Native.Nat.{ℕ, ◌≤◌, ◌<◌, ◌-◌}
-use native.Mathlib.Omega.{arith}
-use mathlib.Core.Logic.{⊎_elim}
 use lib.ListN.{length, get_or}
-use borrow.Author.Count.{below_more}
-use borrow.Author.Rules.{rules}
 use Rattle.text.proofs.greatest.Given as goal
 
 abbrev pub invariant-loop-i : goal.invariant-loop-i

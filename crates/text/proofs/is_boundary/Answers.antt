@@ -1,6 +1,5 @@
 -- `text::is_boundary` meets its contract. Assumes nothing.
 use Rattle.text.proofs.Utf8Laws.{boundary-is}
-use borrow.Author.Rules.{rules}
 use Rattle.text.proofs.is_boundary.Goals as goal
 
 pub returns : goal.returns

@@ -3,7 +3,6 @@ use mathlib.Core.Path.{◌∙◌}
 use Rattle.text.proofs.Utf8Laws.{in-past, in-at}
 use Rattle.text.specs.Bytes.{between}
 use Rattle.text.specs.Utf8.{is_in}
-use borrow.Author.Rules.{rules}
 use Rattle.text.proofs.is_in.Goals as goal
 
 pub returns-then-s-at : goal.returns-then-s-at

@@ -2,7 +2,6 @@
 use mathlib.Core.Path.{refl}
 use Rattle.text.specs.Bytes.{is_space}
 use Rattle.text.proofs.Laws.{or_true, or_false}
-use borrow.Author.Rules.{rules}
 use Rattle.text.proofs.is_space.Goals as goal
 
 pub returns-then-in_range : goal.returns-then-in_range

@@ -3,7 +3,6 @@ use native.Mathlib.Omega.{arith}
 use mathlib.Core.Path.{refl, sym, ◌∙◌}
 use Rattle.text.proofs.Laws.{or_true, or_false}
 use Rattle.text.proofs.SpaceLaws.{behind-80}
-use borrow.Author.Rules.{rules}
 use Rattle.text.proofs.is_space_behind_80.Goals as goal
 
 pub returns-then-in_range : goal.returns-then-in_range

@@ -1,7 +1,6 @@
 -- `text::is_space_triple` meets its contract. Assumes nothing.
 use mathlib.Core.Path.{sym}
 use Rattle.text.proofs.SpaceLaws.{triple-e1, triple-e2, triple-e3, triple-other, and_yes, and_no}
-use borrow.Author.Rules.{rules}
 use Rattle.text.proofs.is_space_triple.Goals as goal
 
 pub returns-then-b-eq128 : goal.returns-then-b-eq128

@@ -3,7 +3,6 @@ use mathlib.Core.Path.{sym}
 use mathlib.Core.Bool.{false≢true}
 use lib.Seq.{length-take-le}
 use Rattle.text.proofs.WholeLaws.{follows-whole, first-narrow}
-use borrow.Author.Rules.{rules}
 use Rattle.text.proofs.is_whole.Goals as goal
 
 pub returns-then-n-lt3 : goal.returns-then-n-lt3

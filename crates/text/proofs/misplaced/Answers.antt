@@ -1,6 +1,5 @@
 -- `text::misplaced` meets its contract: a sum is 0 only where each part is. Assumes nothing.
 use native.Mathlib.Omega.{arith}
-use borrow.Author.Rules.{rules}
 use Rattle.text.proofs.misplaced.Goals as goal
 
 pub returns : goal.returns

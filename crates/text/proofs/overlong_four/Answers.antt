@@ -2,7 +2,6 @@
 use native.Mathlib.Omega.{arith}
 use mathlib.Core.Path.{sym, ◌∙◌}
 use Rattle.text.proofs.WholeLaws.{outside}
-use borrow.Author.Rules.{rules}
 use Rattle.text.proofs.overlong_four.Goals as goal
 
 pub returns-else-in_range : goal.returns-else-in_range

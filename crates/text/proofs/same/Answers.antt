@@ -1,8 +1,5 @@
-use Prim.Native.Nat.{◌≤◌, ◌-◌}
 use native.Mathlib.Omega.{arith}
-use mathlib.Core.Path.{◌≡◌, refl, sym, ◌∙◌}
-use lib.ListN.{length, drop}
-use Rattle.text.specs.Bytes.{same_bytes}
+use mathlib.Core.Path.{refl, sym, ◌∙◌}
 use Rattle.text.proofs.Laws.{same_lengths, same_end, same_more, same_not}
 use borrow.Author.Rules.{rules}
 use Rattle.text.proofs.same.Goals as goal

@@ -1,11 +1,8 @@
 -- `text::same` meets its contract. The invariant: the runs are equal where what follows `i` in both is. Assumes nothing.
 use Prim.Native.Nat.{◌≤◌, ◌-◌}
-use native.Mathlib.Omega.{arith}
-use mathlib.Core.Path.{◌≡◌, refl, sym, ◌∙◌}
+use mathlib.Core.Path.{◌≡◌}
 use lib.ListN.{length, drop}
 use Rattle.text.specs.Bytes.{same_bytes}
-use Rattle.text.proofs.Laws.{same_lengths, same_end, same_more, same_not}
-use borrow.Author.Rules.{rules}
 use Rattle.text.proofs.same.Given as goal
 
 abbrev pub invariant-loop-i : goal.invariant-loop-i

@@ -4,7 +4,6 @@ use mathlib.Core.Path.{sym, ◌∙◌}
 use Rattle.text.specs.Utf8.{encode}
 use Rattle.text.specs.Bytes.{white_space_codes, white_space}
 use Rattle.text.proofs.SpaceLaws.{forwards, past, lead-one, lead-one-end, lead-two, lead-two-end, lead-three, lead-none, first_byte, first-last, first_two, two-last, first_three}
-use borrow.Author.Rules.{rules}
 use Rattle.text.proofs.space_at.Goals as goal
 
 pub returns-then-s-at : goal.returns-then-s-at

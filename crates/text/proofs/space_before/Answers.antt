@@ -5,7 +5,6 @@ use mathlib.Core.Path.{sym, ◌∙◌}
 use Rattle.text.specs.Utf8.{encode}
 use Rattle.text.specs.Bytes.{white_space_codes, white_space}
 use Rattle.text.proofs.SpaceLaws.{backwards, before-all, lead-one, lead-one-end, lead-two, lead-two-end, lead-three, lead-none, last_one, last-alone, last-two, last-pair, last-three}
-use borrow.Author.Rules.{rules}
 use Rattle.text.proofs.space_before.Goals as goal
 
 pub returns-then-end-lt1 : goal.returns-then-end-lt1

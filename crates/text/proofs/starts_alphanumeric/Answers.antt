@@ -1,7 +1,6 @@
 -- `text::starts_alphanumeric` meets its contract, from what `is_letter` and `is_digit` ensure of the first byte. Assumes nothing.
 use mathlib.Core.Path.{sym, ◌∙◌}
 use Rattle.text.proofs.Laws.{or_true, or_false, first-none, first-at}
-use borrow.Author.Rules.{rules}
 use Rattle.text.proofs.starts_alphanumeric.Goals as goal
 
 pub returns-then-s-eq0 : goal.returns-then-s-eq0

@@ -1,7 +1,6 @@
 -- `text::starts_with_letter` meets its contract, from what `is_letter` ensures of the first byte. Assumes nothing.
 use mathlib.Core.Path.{sym, ◌∙◌}
 use Rattle.text.proofs.Laws.{first-none, first-at}
-use borrow.Author.Rules.{rules}
 use Rattle.text.proofs.starts_with_letter.Goals as goal
 
 pub returns-then-s-eq0 : goal.returns-then-s-eq0

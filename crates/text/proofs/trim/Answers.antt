@@ -2,7 +2,6 @@
 use mathlib.Core.Path.{sym}
 use lib.Seq.{length-take-le}
 use Rattle.text.proofs.Laws.{trim-of}
-use borrow.Author.Rules.{rules}
 use Rattle.text.proofs.trim.Goals as goal
 
 pub slice_bounds-result-end : goal.slice_bounds-result-end

@@ -1,8 +1,7 @@
-use Prim.Native.Nat.{ℕ, ◌≤◌}
+use Prim.Native.Nat.{ℕ}
 use native.Mathlib.Omega.{arith}
-use mathlib.Core.Path.{◌≡◌, sym, ap, ◌∙◌}
+use mathlib.Core.Path.{sym, ap, ◌∙◌}
 use mathlib.Core.List.{List, map, reverse, reverse-reverse}
-use lib.ListN.{length, take}
 use lib.Seq.{take-length}
 use Rattle.text.specs.Bytes.{white_space, strip, trim_end}
 use Rattle.text.proofs.Laws.{strip-none, end-within, end_more}

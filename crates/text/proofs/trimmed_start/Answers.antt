@@ -1,8 +1,6 @@
-use Prim.Native.Nat.{◌≤◌, ◌-◌}
 use native.Mathlib.Omega.{arith}
-use mathlib.Core.Path.{◌≡◌, refl, sym, ◌∙◌}
-use lib.ListN.{length, drop}
-use Rattle.text.specs.Bytes.{white_space, strip, trim_start}
+use mathlib.Core.Path.{refl, sym, ◌∙◌}
+use Rattle.text.specs.Bytes.{white_space, trim_start}
 use Rattle.text.proofs.Laws.{strip-none, start-within, start-more}
 use borrow.Author.Rules.{rules}
 use Rattle.text.proofs.trimmed_start.Goals as goal

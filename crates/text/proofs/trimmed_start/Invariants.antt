@@ -1,11 +1,8 @@
 -- `text::trimmed_start` meets its contract. The invariant: what stands before `i` is white space, which trimming the start strips. Assumes nothing.
 use Prim.Native.Nat.{◌≤◌, ◌-◌}
-use native.Mathlib.Omega.{arith}
-use mathlib.Core.Path.{◌≡◌, refl, sym, ◌∙◌}
+use mathlib.Core.Path.{◌≡◌}
 use lib.ListN.{length, drop}
 use Rattle.text.specs.Bytes.{white_space, strip, trim_start}
-use Rattle.text.proofs.Laws.{strip-none, start-within, start-more}
-use borrow.Author.Rules.{rules}
 use Rattle.text.proofs.trimmed_start.Given as goal
 
 abbrev pub invariant-loop-i : goal.invariant-loop-i

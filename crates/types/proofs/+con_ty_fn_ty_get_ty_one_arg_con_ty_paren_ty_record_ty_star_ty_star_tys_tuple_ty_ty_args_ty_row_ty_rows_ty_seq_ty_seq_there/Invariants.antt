@@ -1,46 +1,10 @@
--- The measures of a cycle of calls, and what its members are given and asked. Written by tools/arms.py.
--- `types::con_ty` equals its layout: a member of a cycle of calls. Written by tools/arms.py.
--- `types::fn_ty` equals its layout: a member of a cycle of calls. Written by tools/arms.py.
--- `types::get_ty` equals its layout: a member of a cycle of calls. Written by tools/arms.py.
--- `types::one_arg_con_ty` equals its layout: a member of a cycle of calls. Written by tools/arms.py.
--- `types::paren_ty` equals its layout: a member of a cycle of calls. Written by tools/arms.py.
--- `types::record_ty` equals its layout: a member of a cycle of calls. Written by tools/arms.py.
--- `types::star_ty` equals its layout: a member of a cycle of calls. Written by tools/arms.py.
--- `types::star_tys` equals its layout: a member of a cycle of calls. Written by tools/arms.py.
--- `types::tuple_ty` equals its layout: a member of a cycle of calls. Written by tools/arms.py.
--- `types::ty_args` equals its layout: a member of a cycle of calls. Written by tools/arms.py.
--- `types::ty_row` equals its layout: a member of a cycle of calls. Written by tools/arms.py.
--- `types::ty_rows` equals its layout: a member of a cycle of calls. Written by tools/arms.py.
--- `types::ty_seq` equals its layout: a member of a cycle of calls. Written by tools/arms.py.
--- `types::ty_seq_there` equals its layout: a member of a cycle of calls. Written by tools/arms.py.
--- The functions of a cycle of calls equal their layouts: a file for each, and what ties them. Written by tools/arms.py.
-use Prim.Native.Nat.{◌+◌, ◌*◌, ℕ, ◌<◌}
-use borrow.Author.Rules.{rules}
-use native.Mathlib.Omega.{arith}
-use mathlib.Core.Path.{◌∙◌}
-use Prim.Native.Nat.{ℕ}
-use Rattle.layout.proofs.Steps.{plain, then-done, then-stop}
+-- The functions of a cycle of calls equal their layouts.
+use Prim.Native.Nat.{◌+◌, ◌*◌, ◌-◌}
 use Rattle.layout.specs.Ty as Ty
-use Rattle.layout.proofs.Steps.{plain, then-done, then-stop, then-sure}
-use mathlib.Core.Path.{refl}
-use Prim.Native.Nat.{zero-le, ◌-◌, ℕ}
 use Rattle.layout.specs.Walk.{walks}
-use Rattle.layout.proofs.Steps.{plain, by-same, last-sure, form-is, form-not}
-use Rattle.layout.proofs.Knot.{past, beyond, form-key, ty-zero, ty-form}
-use Rattle.layout.proofs.Steps.{plain, then-done, then-stop, then-sure, last-sure}
-use Rattle.layout.proofs.Steps.{plain, by-same, then-sure, group-is, group-not}
-use mathlib.Core.Path.{refl, ◌∙◌}
-use Prim.Native.Nat.{◌-◌, ℕ}
 use Rattle.layout.specs.Helpers.{times}
-use Rattle.layout.proofs.Steps.{PlainTurn, plain, by-same, then-done, then-stop, list-is, list-not, times-all, times_more, times_none}
-use Rattle.layout.specs.Helpers as Helpers
-use Rattle.layout.proofs.Dropping.{dropped_by}
-use Rattle.layout.proofs.Steps.{PlainTurn, from, plain, by-same, first-same, then-done, then-stop, then-sure, list-is, list-not, group-is, group-not, items-all, from_more, from-none}
+use Rattle.layout.proofs.Steps.{PlainTurn, from}
 use Rattle.layout.specs.Layout as Layout
-use Rattle.layout.proofs.Steps.{plain, by-same, then-done, then-stop, then-sure, group-is, group-not}
-use Rattle.layout.proofs.Steps.{PlainTurn, from, plain, by-same, then-done, then-stop, then-sure, list-is, list-not, items-all, from_more, from-none}
-use Rattle.layout.proofs.Steps.{plain, by-same, maybe-past, maybe-there}
-use Rattle.layout.proofs.Steps.{plain, by-same, then-done, then-stop, then-sure, last-sure, group-is, group-not}
 use Rattle.types.proofs.+con_ty_fn_ty_get_ty_one_arg_con_ty_paren_ty_record_ty_star_ty_star_tys_tuple_ty_ty_args_ty_row_ty_rows_ty_seq_ty_seq_there.Given as goal
 
 abbrev pub decreases-con_ty : goal.decreases-con_ty

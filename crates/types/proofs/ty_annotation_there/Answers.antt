@@ -1,17 +1,7 @@
--- `types::ty_annotation_there` equals its layout. Written by tools/arms.py.
-use borrow.Author.Rules.{rules}
-use native.Mathlib.Omega.{arith}
-use mathlib.Core.Path.{refl, ◌∙◌}
-use Prim.Native.Nat.{zero-le, ◌+◌, ◌-◌, ◌*◌}
-use Rattle.layout.specs.Promises.Words.{word_of}
-use Rattle.layout.specs.Layout as Layout
-use Rattle.layout.specs.Helpers as Helpers
-use Rattle.layout.specs.Helpers.{times}
-use Rattle.layout.specs.Walk.{walks}
+-- `types::ty_annotation_there` equals its layout.
+use mathlib.Core.Path.{◌∙◌}
 use Rattle.layout.specs.Ty as Ty
-use Rattle.layout.proofs.Steps.{PlainTurn, from, plain, by-same, first-same, then-done, then-stop, then-halt, then-sure, last-sure, last-skip, list-is, list-not, form-is, form-not, group-is, group-not, maybe-past, maybe-there, items-all, from_more, from-none, times-all, times_more, times_none}
-use Rattle.layout.proofs.Dropping.{dropped_by}
-use Rattle.layout.proofs.Knot.{past, beyond, form-key, ty-zero, ty-form}
+use Rattle.layout.proofs.Steps.{plain, by-same, then-sure, group-is, group-not}
 use Rattle.types.proofs.ty_annotation_there.Goals as goal
 
 pub returns-in_default : goal.returns-in_default

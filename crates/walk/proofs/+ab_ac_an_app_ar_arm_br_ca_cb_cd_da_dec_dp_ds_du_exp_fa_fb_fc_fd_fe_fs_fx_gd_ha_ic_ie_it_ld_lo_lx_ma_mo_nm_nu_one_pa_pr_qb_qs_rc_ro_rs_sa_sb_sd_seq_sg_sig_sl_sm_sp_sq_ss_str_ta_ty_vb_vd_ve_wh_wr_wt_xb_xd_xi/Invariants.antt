@@ -1,12 +1,9 @@
--- The functions of a cycle of calls equal their layouts. Written by tools/arms.py.
-use mathlib.Core.List.{List, [], ◌∷◌}
-use mathlib.Core.Bool.{true, false}
-use lib.ListN.{get_or, length}
-use borrow.Author.Rules.{rules}
-use native.Mathlib.Omega.{arith}
-use mathlib.Core.Path.{◌≡◌, refl, ◌∙◌}
-use Prim.Native.Nat.{ℕ, zero-le, ◌+◌, ◌-◌, ◌*◌, ◌≤◌}
-use Rattle.layout.specs.Promises.Words.{word_of}
+-- The functions of a cycle of calls equal their layouts.
+use mathlib.Core.List.{List}
+use mathlib.Core.Bool.{false}
+use lib.ListN.{length}
+use mathlib.Core.Path.{◌≡◌}
+use Prim.Native.Nat.{ℕ, ◌+◌, ◌-◌, ◌*◌, ◌≤◌}
 use Rattle.layout.specs.Layout as Layout
 use Rattle.layout.specs.Helpers as Helpers
 use Rattle.layout.specs.Helpers.{times}
@@ -17,15 +14,7 @@ use Rattle.layout.specs.Exp as Exp
 use Rattle.layout.specs.GetDec as GetDec
 use Rattle.layout.specs.DecOne as DecOne
 use Rattle.layout.specs.StrExp as StrExp
-use Rattle.layout.specs.SigExp as SigExp
-use Rattle.layout.proofs.Steps.{Turn, from, plain, along, deep-depth, deep-left, by-same, first-same, then-done, then-stop, then-halt, then-sure, last-sure, then-both, sure_formed, last-skip, list-is, list-not, choice-is, choice-not, group-is, group-not, maybe-past, maybe-there, items-all, from_more, from-none, times-all, times_more, times_none, regroup, look-yes, look-no, look-not, operator-not, operator-stop}
-use Rattle.layout.proofs.Knot.{past, beyond, at_key, form-key, exp-zero, exp-form, str-zero, str-form, sig-zero, sig-form, dec-zero, dec-form}
-use Rattle.layout.proofs.HeadLaws.{application-is, application-missing, application-stop}
-use Rattle.layout.proofs.DecLaws.{declaration-is, declaration-not}
-use Rattle.leaves.proofs.Laws.{missed}
-use Rattle.walk.proofs.Laws.{semi-all, semi-more, semi-none, semi-zero, semi-first, args-all, args_more, args_none, args-needs, operator_then, seen-behind, last_import}
-use Rattle.layout.proofs.Steps.{form-is, form-not}
-use Prim.Native.Nat.{ℕ, ◌<◌}
+use Rattle.layout.proofs.Steps.{Turn, from}
 use Rattle.walk.proofs.+ab_ac_an_app_ar_arm_br_ca_cb_cd_da_dec_dp_ds_du_exp_fa_fb_fc_fd_fe_fs_fx_gd_ha_ic_ie_it_ld_lo_lx_ma_mo_nm_nu_one_pa_pr_qb_qs_rc_ro_rs_sa_sb_sd_seq_sg_sig_sl_sm_sp_sq_ss_str_ta_ty_vb_vd_ve_wh_wr_wt_xb_xd_xi.Given as goal
 
 abbrev pub decreases-ab : goal.decreases-ab

@@ -1,6 +1,5 @@
 -- `walk::last_semi` meets its contract.
 use Rattle.walk.proofs.Laws.{semi_last, semi_not_last}
-use borrow.Author.Rules.{rules}
 use Rattle.walk.proofs.last_semi.Goals as goal
 
 pub returns-then-n-i-eq1 : goal.returns-then-n-i-eq1

@@ -1,7 +1,5 @@
 -- `walk::walk` equals the walk over a sheet.
-use native.Mathlib.Omega.{arith}
 use Rattle.layout.specs.Walk.{top}
-use borrow.Author.Rules.{rules}
 use Rattle.walk.proofs.walk.Goals as goal
 
 pub returns : goal.returns

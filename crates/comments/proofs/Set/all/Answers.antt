@@ -1,8 +1,6 @@
-use Prim.Native.Nat.{ℕ, ◌-◌, ◌*◌, ◌≤◌, ◌<◌}
 use native.Mathlib.Omega.{arith}
-use mathlib.Core.Path.{◌≡◌, refl, ◌∙◌}
-use lib.ListN.{length, get_or, length-set}
-use Rattle.comments.specs.Set.{is_comment, bits}
+use mathlib.Core.Path.{refl, ◌∙◌}
+use lib.ListN.{length-set}
 use Rattle.comments.proofs.Words.{words_more, words-is}
 use borrow.Author.Rules.{rules}
 use Rattle.comments.proofs.Set.all.Goals as goal

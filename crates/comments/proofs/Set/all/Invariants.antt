@@ -1,11 +1,8 @@
 -- `comments::Set::all` meets its contract. The invariant: each word before `w` has the bits of its tokens. Assumes nothing.
 use Prim.Native.Nat.{ℕ, ◌-◌, ◌*◌, ◌≤◌, ◌<◌}
-use native.Mathlib.Omega.{arith}
-use mathlib.Core.Path.{◌≡◌, refl, ◌∙◌}
-use lib.ListN.{length, get_or, length-set}
+use mathlib.Core.Path.{◌≡◌}
+use lib.ListN.{length, get_or}
 use Rattle.comments.specs.Set.{is_comment, bits}
-use Rattle.comments.proofs.Words.{words_more, words-is}
-use borrow.Author.Rules.{rules}
 use Rattle.comments.proofs.Set.all.Given as goal
 
 abbrev pub invariant-loop-w : goal.invariant-loop-w

@@ -2,7 +2,7 @@ use mir.Syntax.{w64}
 use mir.Val.{Fits}
 use lib.ListN.{get_or}
 use native.Mathlib.Omega.{arith}
-use Prim.Native.Nat.{ℕ, ◌-◌, ◌*◌, ◌≤◌, ◌<◌, ◌^◌}
+use Prim.Native.Nat.{ℕ, ◌*◌, ◌<◌, ◌^◌}
 use mathlib.Core.Path.{◌≡◌, refl, ap, ◌∙◌}
 use lib.Count.{ones-le}
 use Rattle.comments.specs.Set.{holds, count}

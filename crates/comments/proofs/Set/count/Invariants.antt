@@ -1,14 +1,7 @@
 -- `comments::Set::count` meets its contract. The invariant: n counts the tokens of the words before `w`. Assumes nothing.
-use mir.Syntax.{w64}
-use mir.Val.{Fits}
-use lib.ListN.{get_or}
-use native.Mathlib.Omega.{arith}
-use Prim.Native.Nat.{ℕ, ◌-◌, ◌*◌, ◌≤◌, ◌<◌, ◌^◌}
-use mathlib.Core.Path.{◌≡◌, refl, ap, ◌∙◌}
-use lib.Count.{ones-le}
+use Prim.Native.Nat.{◌-◌, ◌*◌, ◌≤◌}
+use mathlib.Core.Path.{◌≡◌}
 use Rattle.comments.specs.Set.{holds, count}
-use Rattle.comments.proofs.Words.{count_word}
-use borrow.Author.Rules.{rules}
 use Rattle.comments.proofs.Set.count.Given as goal
 
 abbrev pub invariant-loop-w : goal.invariant-loop-w

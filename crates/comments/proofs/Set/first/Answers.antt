@@ -2,10 +2,10 @@ use mir.Syntax.{w64}
 use mir.Val.{Fits}
 use lib.ListN.{get_or}
 use native.Mathlib.Omega.{arith}
-use Prim.Native.Nat.{ℕ, ◌+◌, ◌-◌, ◌*◌, ◌≤◌, ◌<◌, ◌^◌}
-use mathlib.Core.Path.{◌≡◌, refl, sym, ap, ◌∙◌}
+use Prim.Native.Nat.{ℕ, ◌+◌, ◌*◌, ◌<◌, ◌^◌}
+use mathlib.Core.Path.{refl, sym, ap, ◌∙◌}
 use mathlib.Core.Option.{some}
-use Rattle.comments.specs.Set.{holds, room, first, first_at}
+use Rattle.comments.specs.Set.{first_at}
 use Rattle.comments.proofs.Words.{first-here, first-later, first-behind}
 use borrow.Author.Rules.{rules}
 use Rattle.comments.proofs.Set.first.Goals as goal

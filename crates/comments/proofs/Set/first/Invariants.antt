@@ -1,14 +1,7 @@
 -- `comments::Set::first` meets its contract. The invariant: the words before `w` are 0. Assumes nothing.
-use mir.Syntax.{w64}
-use mir.Val.{Fits}
-use lib.ListN.{get_or}
-use native.Mathlib.Omega.{arith}
-use Prim.Native.Nat.{ℕ, ◌+◌, ◌-◌, ◌*◌, ◌≤◌, ◌<◌, ◌^◌}
-use mathlib.Core.Path.{◌≡◌, refl, sym, ap, ◌∙◌}
-use mathlib.Core.Option.{some}
-use Rattle.comments.specs.Set.{holds, room, first, first_at}
-use Rattle.comments.proofs.Words.{first-here, first-later, first-behind}
-use borrow.Author.Rules.{rules}
+use Prim.Native.Nat.{◌-◌, ◌*◌, ◌≤◌}
+use mathlib.Core.Path.{◌≡◌}
+use Rattle.comments.specs.Set.{holds, room, first}
 use Rattle.comments.proofs.Set.first.Given as goal
 
 abbrev pub invariant-loop-w : goal.invariant-loop-w

@@ -2,7 +2,6 @@
 use mathlib.Core.Path.{sym, ap, ◌∙◌}
 use Rattle.formatter.specs.Verdict.{verdict_of, number_of, place_of, given_measures}
 use Rattle.formatter.specs.Promises.Numbers.{said}
-use borrow.Author.Rules.{rules}
 use Rattle.formatter.proofs.numbers.numbers_of.Goals as goal
 
 pub returns-in-Accepted : goal.returns-in-Accepted

@@ -1,5 +1,5 @@
 -- `layout::copy::four` meets its contract.
-use Rattle.std.proofs.Common.{arith, length-set}
+use Rattle.std.proofs.Common.{arith}
 use Rattle.layout.proofs.CopyLaws.{stored_is}
 use Rattle.layout.proofs.copy.four.Goals as goal
 

@@ -1,5 +1,5 @@
 -- `layout::copy::pair` meets its contract.
-use Rattle.std.proofs.Common.{arith, length-set}
+use Rattle.std.proofs.Common.{arith}
 use Rattle.layout.proofs.CopyLaws.{stored_is}
 use Rattle.layout.proofs.copy.pair.Goals as goal
 

@@ -1,4 +1,4 @@
-use Rattle.std.proofs.Common.{◌+◌, ◌-◌, ◌<◌, length, refl, ◌∙◌, ⊎_elim, arith, length-set}
+use Rattle.std.proofs.Common.{◌+◌, ◌<◌, length, refl, ◌∙◌, arith}
 use Rattle.layout.proofs.CopyLaws.{Copied, stored_is, copied_none, copied_more, copied_all}
 use Rattle.layout.proofs.copy.whole.Goals as goal
 use Rattle.layout.proofs.copy.whole.Goals.{then-j-n, else-j-n, then-j-n-2, else-j-n-2}

@@ -1,6 +1,6 @@
 -- `layout::copy::whole` meets its contract. The invariant: the first `j` bytes are copied.
-use Rattle.std.proofs.Common.{◌+◌, ◌-◌, ◌<◌, length, refl, ◌∙◌, ⊎_elim, arith, length-set}
-use Rattle.layout.proofs.CopyLaws.{Copied, stored_is, copied_none, copied_more, copied_all}
+use Rattle.std.proofs.Common.{◌-◌, length}
+use Rattle.layout.proofs.CopyLaws.{Copied}
 use Rattle.layout.proofs.copy.whole.Given as goal
 
 abbrev pub invariant-loop-j : goal.invariant-loop-j

@@ -1,5 +1,5 @@
 -- `layout::fields::absent` meets its contract.
-use Rattle.std.proofs.Common.{arith, rules}
+use Rattle.std.proofs.Common.{arith}
 use Rattle.layout.proofs.Reading.{absent-fits, gone-yes, gone-no}
 use Rattle.layout.proofs.fields.absent.Goals as goal
 

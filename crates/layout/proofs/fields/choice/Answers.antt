@@ -1,5 +1,5 @@
 -- `layout::fields::choice` meets its contract.
-use Rattle.std.proofs.Common.{arith, rules}
+use Rattle.std.proofs.Common.{arith}
 use Rattle.layout.proofs.Reading.{choice-fits, read-yes, read_no}
 use Rattle.layout.proofs.fields.choice.Goals as goal
 

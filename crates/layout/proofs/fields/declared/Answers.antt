@@ -1,6 +1,4 @@
 use Rattle.layout.proofs.Reading.{declared-fits, declared-past, declared_by}
-use Rattle.std.proofs.Common.{rules}
-use Rattle.layout.proofs.fields.declared.Lts as lts
 use Rattle.layout.proofs.fields.declared.Goals as goal
 
 pub returns-then-first_fits : goal.returns-then-first_fits

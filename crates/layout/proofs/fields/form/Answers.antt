@@ -1,5 +1,5 @@
 -- `layout::fields::form` meets its contract.
-use Rattle.std.proofs.Common.{arith, rules}
+use Rattle.std.proofs.Common.{arith}
 use Rattle.layout.proofs.Reading.{form-fits, form-yes, form-no}
 use Rattle.layout.proofs.fields.form.Goals as goal
 

@@ -1,5 +1,5 @@
 -- `layout::fields::group` meets its contract.
-use Rattle.std.proofs.Common.{arith, rules}
+use Rattle.std.proofs.Common.{arith}
 use Rattle.layout.proofs.Reading.{group-fits, group-yes, group-no}
 use Rattle.layout.proofs.fields.group.Goals as goal
 

@@ -1,5 +1,5 @@
 -- `layout::fields::list` meets its contract.
-use Rattle.std.proofs.Common.{arith, rules}
+use Rattle.std.proofs.Common.{arith}
 use Rattle.layout.proofs.Reading.{list-fits, read-yes, read_no}
 use Rattle.layout.proofs.fields.list.Goals as goal
 

@@ -1,6 +1,4 @@
 use Rattle.layout.proofs.Reading.{none-absent, none-neither}
-use Rattle.std.proofs.Common.{rules}
-use Rattle.layout.proofs.fields.no_token.Lts as lts
 use Rattle.layout.proofs.fields.no_token.Goals as goal
 
 pub returns-in_default : goal.returns-in_default

@@ -1,6 +1,5 @@
 -- `layout::fields::onwards` meets its contract.
 use Rattle.layout.proofs.Dropping.{onwards-done, onwards-none, onwards-ok, onwards-malformed, onwards-deep, onwards-by}
-use Rattle.std.proofs.Common.{rules}
 use Rattle.layout.proofs.fields.onwards.Goals as goal
 
 pub returns-then-r-lt-STOP : goal.returns-then-r-lt-STOP

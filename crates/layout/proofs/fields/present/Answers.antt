@@ -1,5 +1,4 @@
 use Rattle.layout.proofs.Reading.{present-token, present-none}
-use Rattle.std.proofs.Common.{rules}
 use Rattle.layout.proofs.fields.present.Goals as goal
 
 pub returns-in_default : goal.returns-in_default

@@ -1,5 +1,5 @@
 -- `layout::fields::token_no` meets its contract.
-use Rattle.std.proofs.Common.{arith, rules}
+use Rattle.std.proofs.Common.{arith}
 use Rattle.reader.proofs.SpanLaws.{starts-long}
 use Rattle.layout.proofs.Reading.{token-fits, token_none, token-below, token-over}
 use Rattle.layout.proofs.fields.token_no.Goals as goal

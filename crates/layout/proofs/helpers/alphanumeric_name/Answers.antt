@@ -1,6 +1,5 @@
 -- `layout::helpers::alphanumeric_name` equals its definition.
 use Rattle.layout.proofs.NameLaws.{passes-name, passes_none}
-use Rattle.std.proofs.Common.{rules}
 use Rattle.layout.proofs.helpers.alphanumeric_name.Goals as goal
 
 pub returns-in_default : goal.returns-in_default

@@ -1,6 +1,5 @@
 -- `layout::helpers::between` equals its layout.
 use Rattle.layout.proofs.Steps.{sure-joint, sure_no-joint}
-use Rattle.std.proofs.Common.{rules}
 use Rattle.layout.proofs.helpers.between.Goals as goal
 
 pub returns-then-i-gt0 : goal.returns-then-i-gt0

@@ -1,6 +1,5 @@
 -- `layout::helpers::blank` equals its layout.
 use Rattle.layout.proofs.Steps.{sure-when, sure_unless}
-use Rattle.std.proofs.Common.{rules}
 use Rattle.layout.proofs.helpers.blank.Goals as goal
 
 pub returns-then-blank : goal.returns-then-blank

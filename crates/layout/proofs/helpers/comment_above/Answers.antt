@@ -1,5 +1,5 @@
 -- `layout::helpers::comment_above` equals its layout.
-use Rattle.std.proofs.Common.{ap, rules}
+use Rattle.std.proofs.Common.{ap}
 use Rattle.reader.specs.Promises.Commands.{number_in}
 use Rattle.comments.specs.Above.{comment_in}
 use Rattle.comments.specs.Promises.Above.{found_of, comment_of}

@@ -1,5 +1,5 @@
 -- `layout::helpers::deepen` meets its contract.
-use Rattle.std.proofs.Common.{ap, ◌∙◌, rules}
+use Rattle.std.proofs.Common.{ap, ◌∙◌}
 use Rattle.layout.specs.Promises.State.{deepened}
 use Rattle.layout.proofs.Steps.{deep-depth}
 use Rattle.layout.proofs.helpers.deepen.Goals as goal

@@ -1,7 +1,6 @@
 -- `layout::helpers::indent` equals its layout.
 use Rattle.layout.specs.Helpers as Helpers
 use Rattle.layout.proofs.Steps.{sure-indent}
-use Rattle.std.proofs.Common.{rules}
 use Rattle.layout.proofs.helpers.indent.Goals as goal
 
 pub returns : goal.returns

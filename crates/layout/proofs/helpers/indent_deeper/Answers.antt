@@ -1,7 +1,6 @@
 -- `layout::helpers::indent_deeper` equals its layout.
 use Rattle.layout.specs.Helpers as Helpers
 use Rattle.layout.proofs.Steps.{sure_then, sure_formed}
-use Rattle.std.proofs.Common.{rules}
 use Rattle.layout.proofs.helpers.indent_deeper.Goals as goal
 
 pub returns : goal.returns

@@ -1,7 +1,6 @@
 -- `layout::helpers::indent_in` equals its layout.
 use Rattle.layout.specs.Helpers as Helpers
 use Rattle.layout.proofs.Steps.{sure_in}
-use Rattle.std.proofs.Common.{rules}
 use Rattle.layout.proofs.helpers.indent_in.Goals as goal
 
 pub returns : goal.returns

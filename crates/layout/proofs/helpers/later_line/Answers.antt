@@ -1,7 +1,6 @@
 -- `layout::helpers::later_line` equals its layout.
 use Rattle.layout.specs.Helpers as Helpers
 use Rattle.layout.proofs.Steps.{sure_then}
-use Rattle.std.proofs.Common.{rules}
 use Rattle.layout.proofs.helpers.later_line.Goals as goal
 
 pub returns : goal.returns

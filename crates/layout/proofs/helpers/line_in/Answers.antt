@@ -1,6 +1,5 @@
 -- `layout::helpers::line_in` equals its layout.
 use Rattle.layout.proofs.Steps.{sure_then}
-use Rattle.std.proofs.Common.{rules}
 use Rattle.layout.proofs.helpers.line_in.Goals as goal
 
 pub returns : goal.returns

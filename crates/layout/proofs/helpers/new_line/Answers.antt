@@ -1,6 +1,5 @@
 -- `layout::helpers::new_line` equals its layout.
 use Rattle.layout.proofs.Steps.{sure-joint, sure_no-joint}
-use Rattle.std.proofs.Common.{rules}
 use Rattle.layout.proofs.helpers.new_line.Goals as goal
 
 pub returns-then-i-gt0 : goal.returns-then-i-gt0

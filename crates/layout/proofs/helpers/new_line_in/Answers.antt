@@ -3,7 +3,6 @@ use Rattle.layout.specs.Promises.Words.{word_of}
 use Rattle.layout.specs.Promises.State.{joint}
 use Rattle.layout.specs.Helpers as Helpers
 use Rattle.layout.proofs.Steps.{sure_in}
-use Rattle.std.proofs.Common.{rules}
 use Rattle.layout.proofs.helpers.new_line_in.Goals as goal
 
 pub returns : goal.returns

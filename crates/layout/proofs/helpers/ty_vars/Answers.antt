@@ -1,8 +1,6 @@
-use Rattle.std.proofs.Common.{◌-◌, refl, ◌∙◌, arith, rules}
-use Rattle.layout.specs.Promises.Words.{word_of}
-use Rattle.layout.specs.Layout as Layout
+use Rattle.std.proofs.Common.{refl, ◌∙◌, arith}
 use Rattle.layout.specs.Helpers as Helpers
-use Rattle.layout.proofs.Steps.{PlainTurn, from, plain, by-same, first-same, then-done, then-stop, then-halt, then-sure, last-sure, last-skip, list-is, list-not, group-is, group-not, maybe-past, maybe-there, skip-same, items-all, from_more, from-none, text-is, text-not, present-there, present-gone, present-not, name_yes, name-no, name-not}
+use Rattle.layout.proofs.Steps.{plain, by-same, first-same, then-done, then-stop, then-sure, list-is, list-not, group-is, group-not, items-all, from_more, from-none}
 use Rattle.layout.proofs.helpers.ty_vars.Goals as goal
 
 pub returns-in_default : goal.returns-in_default

@@ -1,9 +1,7 @@
--- `layout::helpers::ty_vars` equals its layout. Written by tools/arms.py.
-use Rattle.std.proofs.Common.{◌-◌, refl, ◌∙◌, arith, rules}
-use Rattle.layout.specs.Promises.Words.{word_of}
+-- `layout::helpers::ty_vars` equals its layout.
+use Rattle.std.proofs.Common.{◌-◌}
 use Rattle.layout.specs.Layout as Layout
-use Rattle.layout.specs.Helpers as Helpers
-use Rattle.layout.proofs.Steps.{PlainTurn, from, plain, by-same, first-same, then-done, then-stop, then-halt, then-sure, last-sure, last-skip, list-is, list-not, group-is, group-not, maybe-past, maybe-there, skip-same, items-all, from_more, from-none, text-is, text-not, present-there, present-gone, present-not, name_yes, name-no, name-not}
+use Rattle.layout.proofs.Steps.{PlainTurn, from}
 use Rattle.layout.proofs.helpers.ty_vars.Given as goal
 
 abbrev pub invariant-loop-i : goal.invariant-loop-i

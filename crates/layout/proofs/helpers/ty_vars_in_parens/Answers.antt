@@ -1,9 +1,6 @@
--- `layout::helpers::ty_vars_in_parens` equals its layout. Written by tools/arms.py.
-use Rattle.std.proofs.Common.{◌-◌, refl, ◌∙◌, arith, rules}
-use Rattle.layout.specs.Promises.Words.{word_of}
-use Rattle.layout.specs.Layout as Layout
+-- `layout::helpers::ty_vars_in_parens` equals its layout.
 use Rattle.layout.specs.Helpers as Helpers
-use Rattle.layout.proofs.Steps.{PlainTurn, from, plain, by-same, first-same, then-done, then-stop, then-halt, then-sure, last-sure, last-skip, list-is, list-not, group-is, group-not, maybe-past, maybe-there, skip-same, items-all, from_more, from-none, text-is, text-not, present-there, present-gone, present-not, name_yes, name-no, name-not}
+use Rattle.layout.proofs.Steps.{plain, by-same, present-there, present-gone, present-not}
 use Rattle.layout.proofs.helpers.ty_vars_in_parens.Goals as goal
 
 pub returns-in-There : goal.returns-in-There

@@ -1,5 +1,5 @@
 -- `layout::looks::alphanumeric` equals its definition.
-use Rattle.std.proofs.Common.{◌||◌, ap, ◌∙◌, rules}
+use Rattle.std.proofs.Common.{◌||◌, ap, ◌∙◌}
 use Rattle.text.specs.Bytes.{first_is, is_letter, is_digit}
 use Rattle.reader.specs.Tokens.{text_of}
 use Rattle.layout.specs.Meaning.{passes, token_text}

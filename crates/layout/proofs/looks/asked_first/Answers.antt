@@ -1,6 +1,5 @@
 -- `layout::looks::asked_first` meets its contract.
 use Rattle.layout.proofs.HeadLaws.{asked-both, asked-missing, asked_by}
-use Rattle.std.proofs.Common.{rules}
 use Rattle.layout.proofs.looks.asked_first.Goals as goal
 
 pub returns-in-Are : goal.returns-in-Are

@@ -1,5 +1,4 @@
-use Rattle.std.proofs.Common.{◌≡◌, ◌-◌, length, drop, refl, ◌∙◌, arith, rules}
-use Rattle.layout.specs.Meaning.{needs_newline}
+use Rattle.std.proofs.Common.{refl, ◌∙◌}
 use Rattle.layout.proofs.LookLaws.{newline-passes, newline-at, newline-ends, newline-looked}
 use Rattle.layout.proofs.looks.body_exp_needs_newline.Goals as goal
 

@@ -1,7 +1,6 @@
 -- `layout::looks::body_exp_needs_newline` equals its definition.
-use Rattle.std.proofs.Common.{◌≡◌, ◌-◌, length, drop, refl, ◌∙◌, arith, rules}
+use Rattle.std.proofs.Common.{◌≡◌, ◌-◌, length, drop}
 use Rattle.layout.specs.Meaning.{needs_newline}
-use Rattle.layout.proofs.LookLaws.{newline-passes, newline-at, newline-ends, newline-looked}
 use Rattle.layout.proofs.looks.body_exp_needs_newline.Given as goal
 
 abbrev pub invariant-loop-i : goal.invariant-loop-i

@@ -1,5 +1,5 @@
 -- `layout::looks::both_seen` equals its definition.
-use Rattle.std.proofs.Common.{refl, rules}
+use Rattle.std.proofs.Common.{refl}
 use Rattle.layout.specs.Meaning.{both_seen}
 use Rattle.layout.proofs.looks.both_seen.Goals as goal
 

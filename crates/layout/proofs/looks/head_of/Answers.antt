@@ -1,6 +1,5 @@
 -- `layout::looks::head_of` equals its definition.
 use Rattle.layout.proofs.HeadLaws.{head-other, head-named, head-missing}
-use Rattle.std.proofs.Common.{rules}
 use Rattle.layout.proofs.looks.head_of.Goals as goal
 
 pub returns-then-number-ne-PATH_EXP : goal.returns-then-number-ne-PATH_EXP

@@ -1,6 +1,5 @@
 -- `layout::looks::heads` equals its definition.
 use Rattle.layout.proofs.HeadLaws.{at-end, at-malformed, at-deep}
-use Rattle.std.proofs.Common.{rules}
 use Rattle.layout.proofs.looks.heads.Goals as goal
 
 pub returns-in-Ok : goal.returns-in-Ok

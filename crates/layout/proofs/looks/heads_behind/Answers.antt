@@ -1,5 +1,5 @@
 -- `layout::looks::heads_behind` equals its definition.
-use Rattle.std.proofs.Common.{refl, arith, rules}
+use Rattle.std.proofs.Common.{refl, arith}
 use Rattle.layout.proofs.Reading.{form-fits}
 use Rattle.layout.proofs.HeadLaws.{behind-missing, behind-both}
 use Rattle.layout.proofs.looks.heads_behind.Goals as goal

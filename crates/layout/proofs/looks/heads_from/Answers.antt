@@ -1,5 +1,5 @@
 -- `layout::looks::heads_from` equals its definition.
-use Rattle.std.proofs.Common.{arith, rules}
+use Rattle.std.proofs.Common.{arith}
 use Rattle.layout.proofs.Reading.{form-fits}
 use Rattle.layout.proofs.HeadLaws.{from-missing, from-both}
 use Rattle.layout.proofs.looks.heads_from.Goals as goal

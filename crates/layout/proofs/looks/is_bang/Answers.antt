@@ -1,5 +1,5 @@
 -- `layout::looks::is_bang` equals its definition.
-use Rattle.std.proofs.Common.{ap, ◌∙◌, rules}
+use Rattle.std.proofs.Common.{ap, ◌∙◌}
 use Rattle.text.specs.Bytes.{bytes, same_bytes}
 use Rattle.reader.specs.Tokens.{text_of}
 use Rattle.layout.specs.Meaning.{passes, token_text}

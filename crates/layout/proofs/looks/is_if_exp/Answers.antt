@@ -1,5 +1,5 @@
 -- `layout::looks::is_if_exp` equals its definition.
-use Rattle.std.proofs.Common.{eqb, ap, rules}
+use Rattle.std.proofs.Common.{eqb, ap}
 use Rattle.reader.specs.Forms.{exp_number}
 use Rattle.reader.specs.Fields.{first_form}
 use Rattle.layout.specs.Meaning.{sees, is_command}

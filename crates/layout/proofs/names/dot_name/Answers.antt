@@ -1,5 +1,5 @@
 -- `layout::names::dot_name` equals its definition.
-use Rattle.std.proofs.Common.{arith, rules}
+use Rattle.std.proofs.Common.{arith}
 use Rattle.layout.proofs.Reading.{group-fits}
 use Rattle.layout.proofs.NameLaws.{dot-is, dot-empty, dot-not}
 use Rattle.layout.proofs.names.dot_name.Goals as goal

@@ -1,5 +1,5 @@
 -- `layout::names::list_name` equals its definition.
-use Rattle.std.proofs.Common.{arith, rules}
+use Rattle.std.proofs.Common.{arith}
 use Rattle.layout.proofs.Reading.{list-fits}
 use Rattle.layout.proofs.NameLaws.{list-empty, list-dots, list-absent}
 use Rattle.layout.proofs.names.list_name.Goals as goal

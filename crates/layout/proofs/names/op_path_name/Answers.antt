@@ -1,5 +1,5 @@
 -- `layout::names::op_path_name` equals its definition.
-use Rattle.std.proofs.Common.{arith, rules}
+use Rattle.std.proofs.Common.{arith}
 use Rattle.layout.proofs.Reading.{token-fits, absent-fits}
 use Rattle.layout.proofs.NameLaws.{op-there, op-absent, op-neither}
 use Rattle.layout.proofs.names.op_path_name.Goals as goal

@@ -1,5 +1,5 @@
 -- `layout::names::path_name` equals its definition.
-use Rattle.std.proofs.Common.{arith, rules}
+use Rattle.std.proofs.Common.{arith}
 use Rattle.layout.proofs.Reading.{group-fits}
 use Rattle.layout.proofs.NameLaws.{path-list, path-absent}
 use Rattle.layout.proofs.names.path_name.Goals as goal

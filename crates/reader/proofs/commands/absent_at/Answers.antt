@@ -1,6 +1,5 @@
 -- `absent_at` meets its contract.
 use Rattle.reader.specs.Commands.{absent_at}
-use borrow.Author.Rules.{rules}
 use Rattle.reader.proofs.commands.absent_at.Goals as goal
 
 pub returns : goal.returns

@@ -1,7 +1,6 @@
 -- `choice_at` meets its contract.
 use native.Mathlib.Omega.{arith}
 use Rattle.reader.proofs.CommandLaws.{fits, choice-yes, choice-no}
-use borrow.Author.Rules.{rules}
 use Rattle.reader.proofs.commands.choice_at.Goals as goal
 
 pub overflow_add-at : goal.overflow_add-at

@@ -1,6 +1,5 @@
 -- `command` meets its contract.
 use Rattle.reader.specs.Commands.{command}
-use borrow.Author.Rules.{rules}
 use Rattle.reader.proofs.commands.command.Goals as goal
 
 pub returns-then-stands : goal.returns-then-stands

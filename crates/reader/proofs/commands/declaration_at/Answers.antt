@@ -4,7 +4,6 @@ use Prim.Native.Nat.{ℕ, ◌+◌}
 use mathlib.Core.Path.{ap, sym}
 use Rattle.reader.proofs.CommandLaws.{declaration-not, declaration-is, form-fits, form-read}
 use Rattle.reader.specs.Fields.{DecOne}
-use borrow.Author.Rules.{rules}
 use Rattle.reader.proofs.commands.declaration_at.Goals as goal
 
 pub returns-in_default : goal.returns-in_default

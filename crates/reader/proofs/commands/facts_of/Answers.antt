@@ -4,7 +4,6 @@ use Rattle.reader.specs.Promises.Grammar.{first_row}
 use Rattle.reader.specs.Commands.{form_width}
 use Rattle.reader.specs.Promises.Commands.{facts_of}
 use Rattle.reader.proofs.CommandLaws.{facts_known}
-use borrow.Author.Rules.{rules}
 use Rattle.reader.proofs.commands.facts_of.Goals as goal
 
 pub returns-in-DecOne : goal.returns-in-DecOne

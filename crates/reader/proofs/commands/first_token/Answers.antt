@@ -1,6 +1,5 @@
 -- `first_token` meets its contract.
 use Rattle.reader.proofs.CommandLaws.{first-none, first-is, first_past}
-use borrow.Author.Rules.{rules}
 use Rattle.reader.proofs.commands.first_token.Goals as goal
 
 pub returns-then-k-eq-NO_TOKEN : goal.returns-then-k-eq-NO_TOKEN

@@ -1,6 +1,5 @@
 -- `form_at` meets its contract.
 use Rattle.reader.proofs.CommandLaws.{form-cut, form-below, form-past, form-is}
-use borrow.Author.Rules.{rules}
 use Rattle.reader.proofs.commands.form_at.Goals as goal
 
 pub returns-then-n-facts : goal.returns-then-n-facts

@@ -1,6 +1,5 @@
 -- `form_width` meets its contract.
 use Rattle.reader.proofs.CommandLaws.{facts-width}
-use borrow.Author.Rules.{rules}
 use Rattle.reader.proofs.commands.form_width.Goals as goal
 
 pub returns : goal.returns

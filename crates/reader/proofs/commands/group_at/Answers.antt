@@ -1,6 +1,5 @@
 -- `group_at` meets its contract.
 use Rattle.reader.specs.Commands.{group_at}
-use borrow.Author.Rules.{rules}
 use Rattle.reader.proofs.commands.group_at.Goals as goal
 
 pub returns : goal.returns

@@ -1,7 +1,6 @@
 -- `list_at` meets its contract.
 use Rattle.reader.specs.Commands.{list_at}
 use Rattle.reader.specs.Promises.Commands.{operand_at}
-use borrow.Author.Rules.{rules}
 use Rattle.reader.proofs.commands.list_at.Goals as goal
 
 pub returns : goal.returns

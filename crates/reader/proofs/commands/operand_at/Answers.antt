@@ -1,7 +1,6 @@
 -- `operand_at` meets its contract.
 use native.Mathlib.Omega.{arith}
 use Rattle.reader.proofs.CommandLaws.{fits, operand-yes, operand-no}
-use borrow.Author.Rules.{rules}
 use Rattle.reader.proofs.commands.operand_at.Goals as goal
 
 pub overflow_add-at : goal.overflow_add-at

@@ -2,7 +2,6 @@
 use Rattle.reader.proofs.GrammarLaws.{row_at, row_past}
 use Rattle.reader.specs.Fields.{forms}
 use Rattle.reader.specs.Promises.Grammar.{groups, inside, up_to, held, rows}
-use borrow.Author.Rules.{rules}
 use Rattle.reader.proofs.grammar.codes_of.Goals as goal
 
 pub returns-then-row-lt-ROWS : goal.returns-then-row-lt-ROWS

@@ -1,12 +1,9 @@
 use native.Mathlib.Omega.{arith}
-use Prim.Native.Nat.{◌-◌}
-use Rattle.text.specs.Utf8.{boundary}
 use borrow.Author.Rules.{rules}
-use mathlib.Core.Path.{◌≡◌, sym, ◌∙◌}
-use lib.ListN.{length, length-set}
-use Rattle.reader.specs.Promises.Tokens.{starts_of, lengths_of}
+use mathlib.Core.Path.{sym, ◌∙◌}
+use lib.ListN.{length-set}
 use Rattle.reader.proofs.SpanLaws.{spans_long}
-use Rattle.reader.proofs.TokenLaws.{Filled, filled_none, filled_span, filled-malformed, filled-end, filled-past, filled-all, is_within, is_whole}
+use Rattle.reader.proofs.TokenLaws.{filled_none, filled_span, filled-malformed, filled-end, filled-past, filled-all, is_within, is_whole}
 use Rattle.reader.proofs.tokens.fill.Goals as goal
 
 pub loop-count-init : goal.loop-count-init

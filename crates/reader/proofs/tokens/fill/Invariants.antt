@@ -1,13 +1,10 @@
 -- `fill` meets its contract.
-use native.Mathlib.Omega.{arith}
 use Prim.Native.Nat.{◌-◌}
 use Rattle.text.specs.Utf8.{boundary}
-use borrow.Author.Rules.{rules}
-use mathlib.Core.Path.{◌≡◌, sym, ◌∙◌}
-use lib.ListN.{length, length-set}
+use mathlib.Core.Path.{◌≡◌}
+use lib.ListN.{length}
 use Rattle.reader.specs.Promises.Tokens.{starts_of, lengths_of}
-use Rattle.reader.proofs.SpanLaws.{spans_long}
-use Rattle.reader.proofs.TokenLaws.{Filled, filled_none, filled_span, filled-malformed, filled-end, filled-past, filled-all, is_within, is_whole}
+use Rattle.reader.proofs.TokenLaws.{Filled}
 use Rattle.reader.proofs.tokens.fill.Given as goal
 
 abbrev pub invariant-loop-count : goal.invariant-loop-count

@@ -1,9 +1,7 @@
 -- `fit` meets its contract.
 use mathlib.Core.Path.{sym, ◌∙◌}
-use borrow.Author.Tests.{not-false}
 use Rattle.text.proofs.Laws.{never}
 use Rattle.reader.proofs.RowLaws.{taken, fits-are}
-use borrow.Author.Rules.{rules}
 use Rattle.reader.proofs.tokens.fit.Goals as goal
 
 pub slice_bounds-greatest-end : goal.slice_bounds-greatest-end

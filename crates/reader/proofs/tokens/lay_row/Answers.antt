@@ -1,9 +1,6 @@
-use mathlib.Core.Path.{◌≡◌, refl, sym, ◌∙◌}
-use lib.ListN.{length, length-set}
-use Prim.Native.Nat.{◌-◌, ◌*◌, ◌≤◌}
-use Rattle.reader.specs.Promises.Tokens.{starts_of, lengths_of, Laid}
+use mathlib.Core.Path.{refl, sym, ◌∙◌}
+use lib.ListN.{length-set}
 use Rattle.reader.proofs.RowLaws.{laid_none, laid_more, length_is}
-use borrow.Author.Rules.{rules}
 use native.Mathlib.Omega.{arith}
 use Rattle.reader.proofs.tokens.lay_row.Goals as goal
 

@@ -1,11 +1,8 @@
 -- `lay_row` meets its contract. The invariant: the commands before `count` are laid out.
-use mathlib.Core.Path.{◌≡◌, refl, sym, ◌∙◌}
-use lib.ListN.{length, length-set}
+use mathlib.Core.Path.{◌≡◌}
+use lib.ListN.{length}
 use Prim.Native.Nat.{◌-◌, ◌*◌, ◌≤◌}
 use Rattle.reader.specs.Promises.Tokens.{starts_of, lengths_of, Laid}
-use Rattle.reader.proofs.RowLaws.{laid_none, laid_more, length_is}
-use borrow.Author.Rules.{rules}
-use native.Mathlib.Omega.{arith}
 use Rattle.reader.proofs.tokens.lay_row.Given as goal
 
 abbrev pub invariant-loop-count : goal.invariant-loop-count

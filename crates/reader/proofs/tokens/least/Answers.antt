@@ -1,9 +1,7 @@
-use Prim.Native.Nat.{ℕ, ◌-◌, ◌≤◌, ◌<◌}
-use mathlib.Core.Logic.{⊎_elim}
-use lib.ListN.{length, get_or}
+use Prim.Native.Nat.{ℕ, ◌≤◌}
+use lib.ListN.{get_or}
 use borrow.Author.Count.{below_more}
 use Rattle.reader.specs.Promises.Tokens.{length_of}
-use borrow.Author.Rules.{rules}
 use native.Mathlib.Omega.{arith}
 use Rattle.reader.proofs.tokens.least.Goals as goal
 use Rattle.reader.proofs.tokens.least.Goals.{else-n-few, then-n-few}

@@ -1,11 +1,7 @@
 -- `least` meets its contract. The invariant: no length that was passed is below the least so far.
 use Prim.Native.Nat.{ℕ, ◌-◌, ◌≤◌, ◌<◌}
-use mathlib.Core.Logic.{⊎_elim}
 use lib.ListN.{length, get_or}
-use borrow.Author.Count.{below_more}
 use Rattle.reader.specs.Promises.Tokens.{length_of}
-use borrow.Author.Rules.{rules}
-use native.Mathlib.Omega.{arith}
 use Rattle.reader.proofs.tokens.least.Given as goal
 
 abbrev pub invariant-loop-i : goal.invariant-loop-i

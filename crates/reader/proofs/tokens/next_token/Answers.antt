@@ -2,11 +2,9 @@
 use native.Mathlib.Omega.{arith}
 use Prim.Native.Nat.{◌+◌}
 use mathlib.Core.Path.{sym, ◌∙◌}
-use borrow.Author.Tests.{not-true, not-false}
 use Rattle.reader.proofs.TokenLaws.{next-end, next-cut, next-kind, next-empty, next_past, next-inside, next-token}
 use Rattle.reader.proofs.CommandLaws.{fits}
 use Rattle.reader.specs.Commands.{u16}
-use borrow.Author.Rules.{rules}
 use Rattle.reader.proofs.tokens.next_token.Goals as goal
 
 pub returns-then-byte_at-ne5 : goal.returns-then-byte_at-ne5

@@ -1,10 +1,6 @@
-use Prim.Native.Nat.{ℕ, ◌<◌, ◌+◌, ◌*◌, ◌-◌}
 use mathlib.Core.Path.{refl}
-use borrow.Author.Rules.{rules}
 use native.Mathlib.Omega.{arith}
-use lib.ListN.{length}
-use Rattle.reader.specs.Promises.Grammar.{node}
-use Rattle.reader.proofs.FieldLaws.{opened-token, opened_inside, opened-malformed, opened-deep, opened-ahead, run-malformed, run-nodes, run-onwards, Passed, row-starts, row-breaks, row-stops, row_goes, row_ends, Counted, list-starts, list-stops, list-goes, list-ends}
+use Rattle.reader.proofs.FieldLaws.{opened-token, opened_inside, opened-malformed, opened-deep, opened-ahead, run-malformed, run-nodes, run-onwards, row-starts, row-breaks, row-stops, row_goes, row_ends, list-starts, list-stops, list-goes, list-ends}
 use Rattle.reader.proofs.tree.+fields_item_items.Goals as goal
 
 pub fields-loop-rest-init : goal.fields-loop-rest-init

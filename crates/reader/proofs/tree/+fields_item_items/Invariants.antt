@@ -1,11 +1,8 @@
 -- `fields`, `item` and `items` meet their contracts. They end because the record left falls.
-use Prim.Native.Nat.{ℕ, ◌<◌, ◌+◌, ◌*◌, ◌-◌}
-use mathlib.Core.Path.{refl}
-use borrow.Author.Rules.{rules}
-use native.Mathlib.Omega.{arith}
+use Prim.Native.Nat.{◌+◌, ◌*◌, ◌-◌}
 use lib.ListN.{length}
 use Rattle.reader.specs.Promises.Grammar.{node}
-use Rattle.reader.proofs.FieldLaws.{opened-token, opened_inside, opened-malformed, opened-deep, opened-ahead, run-malformed, run-nodes, run-onwards, Passed, row-starts, row-breaks, row-stops, row_goes, row_ends, Counted, list-starts, list-stops, list-goes, list-ends}
+use Rattle.reader.proofs.FieldLaws.{Passed, Counted}
 use Rattle.reader.proofs.tree.+fields_item_items.Given as goal
 
 abbrev pub decreases-fields : goal.decreases-fields

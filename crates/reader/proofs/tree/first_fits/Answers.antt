@@ -1,6 +1,5 @@
 -- `first_fits` meets its contract.
 use Rattle.reader.proofs.TreeLaws.{first_absent, first_below}
-use borrow.Author.Rules.{rules}
 use Rattle.reader.proofs.tree.first_fits.Goals as goal
 
 pub returns-in_default : goal.returns-in_default

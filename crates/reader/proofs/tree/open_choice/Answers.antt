@@ -2,7 +2,6 @@
 use native.Mathlib.Omega.{arith}
 use Rattle.reader.proofs.TreeLaws.{choice-none, choice-opens, choice-past}
 use Rattle.reader.proofs.CommandLaws.{choice-fits, read_is}
-use borrow.Author.Rules.{rules}
 use Rattle.reader.proofs.tree.open_choice.Goals as goal
 
 pub returns-in_default : goal.returns-in_default

@@ -9,7 +9,6 @@ use Rattle.reader.proofs.CommandLaws.{form-fits, form-number, form-read, facts-w
 use Rattle.reader.specs.Fields.{none}
 use Rattle.reader.specs.Promises.Grammar.{rows}
 use Rattle.reader.specs.Promises.Commands.{family_of}
-use borrow.Author.Rules.{rules}
 use Rattle.reader.proofs.tree.open_form.Goals as goal
 
 pub returns-in_default : goal.returns-in_default

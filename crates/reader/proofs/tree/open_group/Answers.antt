@@ -3,7 +3,6 @@ use native.Mathlib.Omega.{arith}
 use mathlib.Core.Path.{sym, ◌∙◌}
 use Rattle.reader.proofs.TreeLaws.{group-opens, group-none}
 use Rattle.reader.proofs.CommandLaws.{group-fits}
-use borrow.Author.Rules.{rules}
 use Rattle.reader.proofs.tree.open_group.Goals as goal
 
 pub overflow_add-result : goal.overflow_add-result

@@ -5,7 +5,6 @@ use Rattle.reader.proofs.TreeLaws.{opens_as}
 use Rattle.reader.proofs.GrammarLaws.{group_row, token_code}
 use Rattle.reader.specs.Fields.{forms}
 use Rattle.reader.specs.Promises.Grammar.{node, nodes, groups, rows, held, up_to, inside}
-use borrow.Author.Rules.{rules}
 use Rattle.reader.proofs.tree.open_node.Goals as goal
 
 pub returns-then-code-eq0 : goal.returns-then-code-eq0

@@ -2,7 +2,6 @@
 use native.Mathlib.Omega.{arith}
 use Rattle.reader.proofs.TreeLaws.{token_none, token-opens, token-past}
 use Rattle.reader.proofs.CommandLaws.{token-fits, read_is}
-use borrow.Author.Rules.{rules}
 use Rattle.reader.proofs.tree.open_token.Goals as goal
 
 pub returns-in_default : goal.returns-in_default

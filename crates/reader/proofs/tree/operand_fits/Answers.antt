@@ -1,7 +1,6 @@
 -- `operand_fits` meets its contract.
 use mathlib.Core.Path.{sym, ◌∙◌}
 use Rattle.reader.proofs.TreeLaws.{one_byte, more_bytes}
-use borrow.Author.Rules.{rules}
 use Rattle.reader.proofs.tree.operand_fits.Goals as goal
 
 pub returns-then-form_width-eq1 : goal.returns-then-form_width-eq1

@@ -3,7 +3,6 @@ use mathlib.Core.Path.{sym, ◌∙◌}
 use native.Mathlib.Omega.{arith}
 use Rattle.reader.proofs.CommandLaws.{read-not, read_is, list-fits, absent-fits}
 use Rattle.reader.proofs.FieldLaws.{list-none, list-some, field-absent, field-item}
-use borrow.Author.Rules.{rules}
 use Rattle.reader.proofs.tree.run_at.Goals as goal
 
 pub returns-in_default : goal.returns-in_default

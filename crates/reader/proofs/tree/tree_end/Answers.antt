@@ -1,7 +1,6 @@
 -- `tree_end` meets its contract.
 use Rattle.reader.specs.Promises.Grammar.{groups, nodes, node, field_of, digits}
 use Rattle.reader.proofs.FieldLaws.{tree-stops, tree-whole, tree_over}
-use borrow.Author.Rules.{rules}
 use Rattle.reader.proofs.tree.tree_end.Goals as goal
 
 pub returns-in_default : goal.returns-in_default

@@ -1,7 +1,6 @@
 -- `ty_end` meets its contract.
 use Rattle.reader.specs.Promises.Grammar.{groups, nodes, node, field_of, digits}
 use Rattle.reader.specs.Check.{field_end}
-use borrow.Author.Rules.{rules}
 use Rattle.reader.proofs.tree.ty_end.Goals as goal
 
 pub returns : goal.returns

@@ -1,6 +1,5 @@
 -- `ty_end_within` meets its contract.
 use Rattle.reader.specs.Promises.Grammar.{groups, nodes, node, field_of, digits}
-use borrow.Author.Rules.{rules}
 use Rattle.reader.proofs.tree.ty_end_within.Goals as goal
 
 pub returns : goal.returns

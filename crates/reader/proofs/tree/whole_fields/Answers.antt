@@ -2,7 +2,6 @@
 use mathlib.Core.Path.{refl}
 use Rattle.reader.specs.Fields.{forms}
 use Rattle.reader.specs.Promises.Grammar.{groups, nodes, node, field_of, digits, inside, up_to, held, rows}
-use borrow.Author.Rules.{rules}
 use Rattle.reader.proofs.tree.whole_fields.Goals as goal
 
 -- The rule of `GRAMMAR`, by computation.

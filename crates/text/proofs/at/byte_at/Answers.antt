@@ -1,7 +1,6 @@
 -- `byte_at` meets its contract.
 use mathlib.Core.Path.{sym}
 use lib.ListN.{get_or-eq_default}
-use borrow.Author.Rules.{rules}
 use Rattle.text.proofs.at.byte_at.Goals as goal
 
 pub returns-else-at-s : goal.returns-else-at-s

@@ -1,6 +1,5 @@
 -- `part` meets its contract.
 use Rattle.text.proofs.AtLaws.{part-past, part-short, part-whole}
-use borrow.Author.Rules.{rules}
 use Rattle.text.proofs.at.part.Goals as goal
 
 pub returns-then-len-at : goal.returns-then-len-at

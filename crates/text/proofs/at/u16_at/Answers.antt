@@ -1,7 +1,6 @@
 -- `u16_at` meets its contract.
 use Rattle.text.proofs.AtLaws.{u16-past}
 use Rattle.text.specs.At.{u16}
-use borrow.Author.Rules.{rules}
 use Rattle.text.proofs.at.u16_at.Goals as goal
 
 pub returns-then-at-s : goal.returns-then-at-s
