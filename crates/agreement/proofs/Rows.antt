@@ -5,17 +5,20 @@ use mathlib.Core.Bool.{true}
 use Prim.Native.Nat.{ℕ, ◌≤◌}
 use Rattle.reader.specs.Fields.{DecOne, StrExp, SigExp, Exp, Pat, Ty, forms}
 use Rattle.layout.specs.Meaning.{Page}
-use Rattle.layout.specs.Helpers.{Cfg, Walkers, with_extra_blank, deeper, indent-deeper, in_end, in_parens}
-use Rattle.agreement.proofs.Layouts.{Pairs, before, behind, both, regrouped, pick, ◌▹◌, no_more, fixed, texts, groups, choices, lists, maybes, presents, operators, whens, each, seps, lines}
-use Rattle.agreement.proofs.Helpers.{Walks, deepened, at-depth, paths, op-paths, ty-var-seqs, words-if, get-decs, dec-args, semi-seqs, con-bindings, app-arguments}
+use Rattle.layout.specs.Helpers.{Cfg, Walkers}
+use Rattle.agreement.proofs.Layouts.{Pairs, before, behind, both, regrouped, pick, ◌▹◌, no_more}
+use Rattle.agreement.proofs.Helpers.{Walks}
 use Rattle.reader.specs.Forms.{EsImportDec, dec_number}
+use Rattle.layout.specs.Helpers.{with_extra_blank, deeper, indent-deeper, in_end, in_parens}
 use Rattle.layout.specs.Ty.{ty_row, ty-rows, ty-args, ty-seq-there, ty-seq, star-ty, star-tys, ty, tys, ty-annotation-there, ty-annotation}
 use Rattle.layout.specs.Pat.{con-arg-there, con-arg, RestPatRow, LabAndPatPatRow, as-tail-there, as-tail, LabPatRow, pat-row-inner, pat-row, pat-rows, pat-args, pat, pats}
 use Rattle.layout.specs.Exp.{app_space, pipe, indented-levels, get-body-exp-level, get-body-exp, eq-body, get-matcher-arm, arms-on-lines, get-matcher-across-lines, exp-args, eq-exp, exp-row, exp-rows, if_no, fn-arms, exp, exps}
 use Rattle.layout.specs.SigExp.{ascription-tail, sig-exp, sig-exps}
 use Rattle.layout.specs.StrExp.{str-exp, str-exps}
 use Rattle.layout.specs.DecOne.{ty-bind, ty-binds, with-type, dat-bind, dat-binds, val-bind, val-binds, PrefixFunBindCaseHead, infix-head, InfixFunBindCaseHead, case-head, case-pats, fun-bind-case, fun-bind, ex-bind-of, ex-bind-inner, ex-bind, int-lit, names-space, local-decs, str-bind, sig-bind, functor-arg, functor-args, functor-bind, dec-one, decs}
+use Rattle.agreement.proofs.Layouts.{fixed, texts, groups, choices, lists, maybes, presents, operators, whens, each, seps, lines}
 use Rattle.agreement.proofs.Looks.{applications, looks}
+use Rattle.agreement.proofs.Helpers.{deepened, at-depth, paths, op-paths, ty-var-seqs, words-if, get-decs, dec-args, semi-seqs, con-bindings, app-arguments}
 
 -- For the arm of the number n.
 module _ {p : Page} {d : ℕ} (low : d ≤ 200) {ws : Walkers} (go : Walks p d ws) (n : ℕ) where

@@ -6,15 +6,17 @@ use mathlib.Core.Bool.{true}
 use Prim.Native.Nat.{ℕ, ◌+◌, ◌≤◌}
 use Rattle.text.specs.Bytes.{bytes}
 use Rattle.layout.specs.Meaning.{Page}
-use Rattle.layout.specs.Helpers.{Cfg, Walkers, with_extra_blank, deeper, indent-deeper, in_parens}
-use Rattle.measures.proofs.Paying.{Rows, Short, arm, ◌then◌, ◌▹◌, no_more, imports, fixed, texts, groups, choices, lists, maybes, presents, looks, applications, operators, whens}
+use Rattle.layout.specs.Helpers.{Cfg, Walkers}
+use Rattle.measures.proofs.Paying.{Rows, Short, arm, ◌then◌, ◌▹◌, no_more}
 use Rattle.measures.proofs.Arms.{Walks}
+use Rattle.layout.specs.Helpers.{with_extra_blank, deeper, indent-deeper, in_parens}
 use Rattle.layout.specs.Ty.{ty_row, ty-rows, ty-args, ty-seq-there, ty-seq, star-ty, star-tys, ty, tys, ty-annotation-there, ty-annotation}
 use Rattle.layout.specs.Pat.{con-arg-there, con-arg, RestPatRow, LabAndPatPatRow, as-tail-there, as-tail, LabPatRow, pat-row-inner, pat-row, pat-rows, pat-args, pat, pats}
 use Rattle.layout.specs.Exp.{app_space, pipe, indented-levels, get-body-exp-level, get-body-exp, eq-body, get-matcher-arm, arms-on-lines, get-matcher-across-lines, exp-args, eq-exp, exp-row, exp-rows, if_no, fn-arms, exp, exps}
 use Rattle.layout.specs.SigExp.{ascription-tail, sig-exp, sig-exps}
 use Rattle.layout.specs.StrExp.{str-exp, str-exps}
 use Rattle.layout.specs.DecOne.{ty-bind, ty-binds, with-type, dat-bind, dat-binds, val-bind, val-binds, PrefixFunBindCaseHead, infix-head, InfixFunBindCaseHead, case-head, case-pats, fun-bind-case, fun-bind, ex-bind-of, ex-bind-inner, ex-bind, int-lit, names-space, local-decs, str-bind, sig-bind, functor-arg, functor-args, functor-bind, dec-one, decs}
+use Rattle.measures.proofs.Paying.{imports, fixed, texts, groups, choices, lists, maybes, presents, looks, applications, operators, whens}
 use Rattle.measures.proofs.Helpers.{deepened, at-depth, each, seps, lines, in-ends, words-if, paths, op-paths, ty-var-seqs}
 use Rattle.measures.proofs.Sequences.{get-decs, dec-args}
 use Rattle.measures.proofs.Irregular.{semi-seqs, con-bindings, app-arguments}

@@ -6,10 +6,12 @@ use Prim.Native.Nat.{ℕ}
 use Rattle.text.specs.Bytes.{bytes}
 use Rattle.reader.specs.Fields.{Ty, form, forms}
 use Rattle.layout.specs.Meaning.{Page}
-use Rattle.layout.specs.Helpers.{Walkers, path}
+use Rattle.layout.specs.Helpers.{Walkers}
 use Rattle.measures.proofs.Paying.{Short}
-use Rattle.measures.proofs.Following.{Follows, Pairs, before, behind, both, arm, ◌▹◌, no_more, alone, texts, groups, maybes, each, seps, drops}
+use Rattle.measures.proofs.Following.{Follows, Pairs, before, behind, both, arm, ◌▹◌, no_more}
+use Rattle.layout.specs.Helpers.{path}
 use Rattle.layout.specs.Ty.{ty_row, ty-rows, ty-args, ty-seq-there, ty-seq, star-ty, star-tys, ty, tys}
+use Rattle.measures.proofs.Following.{alone, texts, groups, maybes, each, seps, drops}
 
 module _ {p : Page} (short : Short p) (ws : Walkers) (ty : (may : Bool) (d : ℕ) → Follows p d may (form Ty) 0 12 ws.get-ty) (d : ℕ) where
   pub ty-pairs : Pairs p d (forms Ty) (tys ws)

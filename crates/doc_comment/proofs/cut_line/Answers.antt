@@ -1,6 +1,5 @@
 -- `doc_comment::cut_line` meets its contract: the line feed is the first, and the byte before it is or is not a carriage return. Assumes nothing.
 use Rattle.doc_comment.proofs.Scan.{cut-last, cut-empty, cut-return, cut-plain}
-use borrow.Author.Rules.{rules}
 use Rattle.doc_comment.proofs.cut_line.Goals as goal
 
 pub returns-then-s-n : goal.returns-then-s-n

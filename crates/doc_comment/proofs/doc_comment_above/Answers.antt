@@ -1,10 +1,8 @@
 -- `doc_comment::doc_comment_above` meets its contract: the doc text of the comment found. Assumes nothing.
-use Prim.Native.Nat.{◌<◌}
 use native.Mathlib.Omega.{arith}
 use mathlib.Core.Path.{sym, ◌∙◌}
 use Rattle.formatter.proofs.LookupLaws.{asked-counts, asked-within}
 use Rattle.doc_comment.proofs.Lookup.{doc-declined, doc-nothing, doc-spanned, found_below}
-use borrow.Author.Rules.{rules}
 use Rattle.doc_comment.proofs.doc_comment_above.Goals as goal
 
 pub slice_bounds-kinds-end : goal.slice_bounds-kinds-end

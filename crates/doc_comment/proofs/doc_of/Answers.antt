@@ -1,14 +1,12 @@
 -- `doc_comment::doc_of` meets its contract: each case of `doc_text`. Assumes nothing.
 use mathlib.Core.List.{List}
-use mathlib.Core.Path.{◌≡◌, ap, ap₂, ◌∙◌}
+use mathlib.Core.Path.{ap, ap₂, ◌∙◌}
 use Prim.Native.Nat.{ℕ}
 use lib.ListN.{take, drop}
-use Rattle.reader.specs.Promises.Tokens.{start_of, length_of}
 use Rattle.comments.specs.Above.{passed_in}
 use Rattle.formatter.specs.Lookup.{number_of, place_of, answer_of, keyword_of, looked_of}
 use Rattle.doc_comment.specs.Doc.{doc_of, doc_said, doc_looked}
 use Rattle.doc_comment.proofs.Lookup.{said-case}
-use borrow.Author.Rules.{rules}
 use Rattle.doc_comment.proofs.doc_of.Goals as goal
 
 pub returns-in-Found : goal.returns-in-Found

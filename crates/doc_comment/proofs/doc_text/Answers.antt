@@ -1,16 +1,11 @@
 -- `doc_comment::doc_text` meets its contract: the first line that stands, the last, and the lines between. Assumes nothing.
-use Prim.Native.Nat.{ℕ}
 use native.Mathlib.Omega.{arith}
 use mathlib.Core.Path.{◌≡◌, sym, ◌∙◌}
 use mathlib.Core.Bool.{true}
-use mathlib.Core.List.{List}
-use borrow.Author.Tests.{not-true, not-false}
 use Rattle.text.specs.Bytes.{bytes, same_bytes}
-use Rattle.doc_comment.specs.Promises.Lines.{FirstKept, Closes, kept, part}
-use Rattle.doc_comment.specs.declared.Body.TheVariants.{Lines}
+use Rattle.doc_comment.specs.Promises.Lines.{part}
 use Rattle.doc_comment.proofs.Scan.{next-kept, next-over}
 use Rattle.doc_comment.proofs.Text.{body-closes, body_open, said-empty, said_plain, said-open, said-short, said-found, said-none}
-use borrow.Author.Rules.{rules}
 use Rattle.doc_comment.proofs.doc_text.Goals as goal
 
 pub returns-in_default : goal.returns-in_default

@@ -1,7 +1,5 @@
 -- `doc_comment::feed` meets its contract. Assumes nothing.
-use native.Mathlib.Omega.{arith}
 use Rattle.doc_comment.proofs.Text.{fed-start, fed-later}
-use borrow.Author.Rules.{rules}
 use Rattle.doc_comment.proofs.feed.Goals as goal
 
 pub returns-then-t-gt0 : goal.returns-then-t-gt0

@@ -1,9 +1,7 @@
-use Prim.Native.Nat.{◌+◌, ◌-◌, ◌≤◌}
 use native.Mathlib.Nat.{zero-add}
 use native.Mathlib.Omega.{arith}
-use mathlib.Core.Path.{◌≡◌, sym, ap}
-use lib.ListN.{length, drop}
-use Rattle.doc_comment.specs.Promises.Lines.{before}
+use mathlib.Core.Path.{sym, ap}
+use lib.ListN.{length}
 use Rattle.doc_comment.proofs.Scan.{before_here, before-later, before-end}
 use borrow.Author.Rules.{rules}
 use Rattle.doc_comment.proofs.find.Goals as goal

@@ -1,12 +1,8 @@
 -- `doc_comment::find` meets its contract. The invariant: none of the bytes before `i` is b. Assumes nothing.
 use Prim.Native.Nat.{◌+◌, ◌-◌, ◌≤◌}
-use native.Mathlib.Nat.{zero-add}
-use native.Mathlib.Omega.{arith}
-use mathlib.Core.Path.{◌≡◌, sym, ap}
+use mathlib.Core.Path.{◌≡◌}
 use lib.ListN.{length, drop}
 use Rattle.doc_comment.specs.Promises.Lines.{before}
-use Rattle.doc_comment.proofs.Scan.{before_here, before-later, before-end}
-use borrow.Author.Rules.{rules}
 use Rattle.doc_comment.proofs.find.Given as goal
 
 abbrev pub invariant-loop-i : goal.invariant-loop-i

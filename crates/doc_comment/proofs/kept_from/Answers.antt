@@ -1,6 +1,5 @@
 -- `doc_comment::kept_from` meets its contract: what follows the first asterisk starts with a space or does not. Assumes nothing.
 use Rattle.doc_comment.proofs.Scan.{starts-nowhere, starts-end, starts-space, starts-plain}
-use borrow.Author.Rules.{rules}
 use Rattle.doc_comment.proofs.kept_from.Goals as goal
 
 pub returns-then-n-a : goal.returns-then-n-a

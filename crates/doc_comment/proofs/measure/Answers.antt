@@ -1,12 +1,8 @@
-use Prim.Native.Nat.{◌-◌}
 use native.Mathlib.Omega.{arith}
 use mathlib.Core.Path.{sym, ◌∙◌}
-use lib.ListN.{length}
 use Rattle.text.specs.Bytes.{bytes}
-use Rattle.doc_comment.specs.Promises.Lines.{FirstKept}
 use Rattle.doc_comment.proofs.Scan.{next-kept, next-over}
-use Rattle.doc_comment.proofs.Text.{Seen, seen_none, seen_more, seen-closed, seen_open}
-use borrow.Author.Rules.{rules}
+use Rattle.doc_comment.proofs.Text.{seen_none, seen_more, seen-closed, seen_open}
 use Rattle.doc_comment.proofs.measure.Goals as goal
 
 pub loop-s-init : goal.loop-s-init

@@ -1,13 +1,7 @@
 -- `doc_comment::measure` meets its contract. The invariant: the lines before `at` were read, and the last of them is kept apart. Assumes nothing.
 use Prim.Native.Nat.{◌-◌}
-use native.Mathlib.Omega.{arith}
-use mathlib.Core.Path.{sym, ◌∙◌}
 use lib.ListN.{length}
-use Rattle.text.specs.Bytes.{bytes}
-use Rattle.doc_comment.specs.Promises.Lines.{FirstKept}
-use Rattle.doc_comment.proofs.Scan.{next-kept, next-over}
-use Rattle.doc_comment.proofs.Text.{Seen, seen_none, seen_more, seen-closed, seen_open}
-use borrow.Author.Rules.{rules}
+use Rattle.doc_comment.proofs.Text.{Seen}
 use Rattle.doc_comment.proofs.measure.Given as goal
 
 abbrev pub invariant-loop-s : goal.invariant-loop-s

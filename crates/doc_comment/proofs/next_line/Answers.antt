@@ -1,13 +1,10 @@
-use Prim.Native.Nat.{ℕ, ◌+◌, ◌-◌, ◌≤◌, ◌<◌}
+use Prim.Native.Nat.{◌+◌, ◌-◌, ◌≤◌, ◌<◌}
 use native.Mathlib.Omega.{arith}
-use mathlib.Core.List.{List}
-use mathlib.Core.Path.{◌≡◌, refl, sym, ◌∙◌}
+use mathlib.Core.Path.{refl, sym, ◌∙◌}
 use lib.ListN.{length, take, drop}
 use lib.Seq.{length-take-le}
-use Rattle.doc_comment.specs.declared.Cut.{Cut}
-use Rattle.doc_comment.specs.declared.Start.TheVariants.{At, Nowhere}
 use Rattle.text.proofs.Laws.{take_rest}
-use Rattle.doc_comment.specs.Promises.Lines.{kept, FirstKept, Nexts}
+use Rattle.doc_comment.specs.Promises.Lines.{FirstKept, Nexts}
 use Rattle.doc_comment.proofs.Scan.{rest_some, line-dropped, line-inside, line_kept, first-from, kept-end}
 use borrow.Author.Rules.{rules}
 use Rattle.doc_comment.proofs.next_line.Goals as goal

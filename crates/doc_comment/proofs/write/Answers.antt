@@ -1,11 +1,7 @@
-use Prim.Native.Nat.{ℕ, ◌+◌, ◌-◌, ◌≤◌}
 use native.Mathlib.Omega.{arith}
-use mathlib.Core.Path.{◌≡◌, ◌∙◌}
-use lib.ListN.{length}
-use Rattle.doc_comment.specs.Promises.Lines.{FirstKept, part}
+use mathlib.Core.Path.{◌∙◌}
 use Rattle.doc_comment.proofs.Scan.{next-kept, next-over}
-use Rattle.doc_comment.proofs.Text.{Writing, writing_none, writing-some, writing-room, writing_more, writing-all, length_part}
-use borrow.Author.Rules.{rules}
+use Rattle.doc_comment.proofs.Text.{writing_none, writing-some, writing-room, writing_more, writing-all, length_part}
 use Rattle.doc_comment.proofs.write.Goals as goal
 
 pub loop-t-init : goal.loop-t-init
