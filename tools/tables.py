@@ -53,7 +53,7 @@ def public(text):
         if block is not None:
             parts = re.match(r"\s*(?:pub )?(\S[^:]*?)\s+:", line)
             others.update(parts.group(1).split() if parts and not line.lstrip().startswith("--") else [])
-        elif found and found.group(2) != "mod":
+        elif found and found.group(2) not in ("mod", "use"):
             names.append(found.group(2))
             block = (indent,) if found.group(1) else None
     return names, others
@@ -197,9 +197,19 @@ def shown(crate, module, function):
     return "`%s::%s%s`" % (crate, inner, function)
 
 
+def used(text):
+    """{name: path} of the names that a source takes from elsewhere, one by one or in braces."""
+    paths = {}
+    for head, names in re.findall(r"^use ([\w:]+?)(?:::\{([^}]*)\})?;", text, re.M):
+        for name in [it.strip() for it in names.split(",") if it.strip()] or [""]:
+            path = head + "::" + name if name else head
+            paths[path.split("::")[-1]] = path
+    return paths
+
+
 def code_of(sources, crate, module, dispatch, code):
     """Where an arm's code stands: the first function of the walk that its case calls, or the one that dispatches."""
-    uses = dict((path.split("::")[-1], path) for path in re.findall(r"^use ([\w:]+);", sources[crate, module], re.M))
+    uses = used(sources[crate, module])
     for name in re.findall(r"\b([a-z]\w*)\(", code):
         path = uses.get(name, "")
         owner, *inner = path.split("::")[:-1] or [crate, module]

@@ -45,7 +45,7 @@ def anchors(path):
 
 
 def written():
-    """The proofs that tools/arms.py writes."""
+    """The proofs that tools/arms.py records."""
     for answers in glob.glob(os.path.join(ROOT, "crates/*/arms.json")):
         folder = os.path.relpath(os.path.dirname(answers), ROOT)
         with open(answers, encoding="utf-8") as file:
@@ -99,7 +99,7 @@ class Documents(unittest.TestCase):
         self.assertGreater(len(paths), 10)
         for path in paths:
             self.assertTrue(is_generated(path), "%s is written by a tool; .gitattributes does not say so" % path)
-        for path in ("tools/arms.py", "crates/leaves/proofs/word_when/Proof.antt", "crates/walk/proofs/Laws.antt"):
+        for path in ("tools/arms.py", "crates/leaves/proofs/word_when/Answers.antt", "crates/walk/proofs/Laws.antt"):
             self.assertFalse(is_generated(path), path)
 
 

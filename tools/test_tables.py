@@ -11,6 +11,8 @@ import tables as tool  # noqa: E402
 ROOT = os.path.join(os.path.dirname(os.path.abspath(__file__)), "..")
 
 SPECS = """-- A file.
+pub use text.specs.Bytes.{◌‥◌}
+
 unfoldable pub one : ℕ → ℕ
 one n = n
 
@@ -56,6 +58,11 @@ fn paren(st: St) -> Answer
 
 
 class Sources(unittest.TestCase):
+    def test_names_from_elsewhere(self):
+        text = "use leaves::selector;\nuse layout::{Cfg, word};\nuse layout::fields::{\n    form,\n    list,\n};\n"
+        paths = {"selector": "leaves::selector", "Cfg": "layout::Cfg", "word": "layout::word", "form": "layout::fields::form", "list": "layout::fields::list"}
+        self.assertEqual(paths, tool.used(text))
+
     def test_public_definitions(self):
         names, others = tool.public(SPECS)
         self.assertEqual(names, ["one", "Pair", "two", "Kind", "three"])
