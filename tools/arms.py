@@ -18,10 +18,9 @@ The answers: "functions" has an entry for each function whose terms were written
   "tail": calls whose layout is followed by another in the same function; "regroup": those of two such layouts;
   "grouped": indents one deeper that stand as one layout; "before": terms that go before the step of a call;
   "needs": answers to single needs, in which @call stands for the path to that call;
-"use" the lines that the answers need; "left" the path to the forms left, in a crate whose functions call each other in a cycle; "files" is "each"
-where each of them has a file of its own. The records of
+"use" the lines that the answers need; "left" the path to the forms left, in a crate whose functions call each other in a cycle. The records of
 functions of lower crates are those that the lower crates' answers give. Which functions ask for a bound of the depth is read from the sources.
-Functions that call each other are proved in one file, or in a folder: the root, Base with their measures, a file for each.
+Functions that call each other are proved in one folder.
 
 crates/CRATE/arms.sum has a sum of what each function's proof stands on (its code and contract, its answers, the records of what it calls) and of each
 file of the proofs, its own and those of cycles of calls; spaces and comments of the code do not count.

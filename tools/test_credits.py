@@ -30,31 +30,31 @@ def term(layout, *specs, file="measures/Rows"):
 
 class Credits(unittest.TestCase):
     def test_one_after_another(self):
-        self.assertEqual(term('word "(" ⨾ get-exp c ⨾ word ")"'), "fixed refl then go.exp c (omega arith) then fixed refl")
-        self.assertEqual(term('(text ⨾ path) ⨾ get-ty'), "(texts short then paths short) then go.ty")
+        self.assertEqual(term('word "(" ⨾ get_exp c ⨾ word ")"'), "fixed refl then go.exp c (omega arith) then fixed refl")
+        self.assertEqual(term('(text ⨾ path) ⨾ get_ty'), "(texts short then paths short) then go.ty")
 
     def test_lists_and_groups(self):
-        self.assertEqual(term('group (sep ", " (group get-pat))'), "groups (seps (fixed refl) refl (groups go.pat))")
+        self.assertEqual(term('group (sep ", " (group get_pat))'), "groups (seps (fixed refl) refl (groups go.pat))")
         self.assertEqual(term('for_each (maybe (word " " ⨾ text))'), "each refl (maybes (fixed refl then texts short))")
 
     def test_definitions_are_unfolded(self):
-        writer = terms(['row = group (text ⨾ rest)', 'rest = word "," ⨾ get-ty'])
+        writer = terms(['row = group (text ⨾ rest)', 'rest = word "," ⨾ get_ty'])
         self.assertEqual(writer.term(credits.parse("row")).text, "groups (texts short then fixed refl then go.ty)")
         self.assertEqual(writer.opened, ["row", "rest"])
 
     def test_a_depth_more(self):
-        self.assertEqual(term('deepen c ⨾ indent (deeper c) ⨾ get-exp (deeper c)'),
+        self.assertEqual(term('deepen c ⨾ indent (deeper c) ⨾ get_exp (deeper c)'),
                          "deepened c (omega arith) then at-depth (deeper c) (omega arith) then go.exp (deeper c) (omega arith)")
-        self.assertEqual(term('in_end c "let" (get-dec ws) get-str-exp'),
-                         "in-ends c (omega arith) _ _ (fixed refl) (get-decs short go low (deeper c) (omega arith)) (go.str-exp (deeper c) (omega arith))")
+        self.assertEqual(term('in_end c "let" (get_dec ws) get_str_exp'),
+                         "in-ends c (omega arith) _ _ (fixed refl) (get-decs short go low (deeper c) (omega arith)) (go.str_exp (deeper c) (omega arith))")
 
     def test_levels_by_a_number(self):
-        levels = ['levels c zero = get-exp c', 'levels c (suc n) = deepen c ⨾ levels (deeper c) n']
+        levels = ['levels c zero = get_exp c', 'levels c (suc n) = deepen c ⨾ levels (deeper c) n']
         self.assertEqual(term('levels c 2', *levels),
                          "deepened c (omega arith) then deepened (deeper c) (omega arith) then go.exp (deeper (deeper c)) (omega arith)")
 
     def test_a_choice(self):
-        self.assertEqual(term('choice (inner c)', 'inner c which = slice_index_or (text ∷ (word " " ⨾ get-exp c) ∷ []) which halt'),
+        self.assertEqual(term('choice (inner c)', 'inner c which = slice_index_or (text ∷ (word " " ⨾ get_exp c) ∷ []) which halt'),
                          "choices (λ which. (arm refl (texts short) ▹ arm refl (fixed refl then go.exp c (omega arith)) ▹ no_more).at which)")
 
     def test_a_token_that_may_be_absent(self):
@@ -62,33 +62,33 @@ class Credits(unittest.TestCase):
         self.assertEqual(term('maybe (text ⨾ word " ")'), "maybes (texts short then fixed refl)")
 
     def test_a_question(self):
-        self.assertEqual(term('look is_if_exp get-ty (word " " ⨾ get-pat)'), "looks go.ty (fixed refl then go.pat)")
-        self.assertEqual(term('application λ bang symbolic. get-exp c ⨾ when (not bang || symbolic) (word " ")'),
+        self.assertEqual(term('look is_if_exp get_ty (word " " ⨾ get_pat)'), "looks go.ty (fixed refl then go.pat)")
+        self.assertEqual(term('application λ bang symbolic. get_exp c ⨾ when (not bang || symbolic) (word " ")'),
                          "applications (λ bang symbolic. go.exp c (omega arith) then whens (fixed refl) _)")
 
     def test_fields_followed(self):
-        self.assertEqual(term('word "(" ⨾ get-ty ⨾ word ")"', file="measures/TypesFollow"), "before (alone refl) (behind (ty _ d) (alone refl))")
-        self.assertEqual(term('dropped left get-ty ⨾ text', file="measures/TypesFollow"), "both (drops (ty true)) (texts short)")
+        self.assertEqual(term('word "(" ⨾ get_ty ⨾ word ")"', file="measures/TypesFollow"), "before (alone refl) (behind (ty _ d) (alone refl))")
+        self.assertEqual(term('dropped left get_ty ⨾ text', file="measures/TypesFollow"), "both (drops (ty true)) (texts short)")
 
     def test_fields_agreed(self):
-        self.assertEqual(term('word "(" ⨾ get-exp c ⨾ word ")"', file="agreement/Rows"), "before fixed (behind (go.exp c) fixed)")
-        self.assertEqual(term('get-pat ⨾ (deepen c ⨾ indent (deeper c)) ⨾ get-ty', file="agreement/Rows"),
+        self.assertEqual(term('word "(" ⨾ get_exp c ⨾ word ")"', file="agreement/Rows"), "before fixed (behind (go.exp c) fixed)")
+        self.assertEqual(term('get_pat ⨾ (deepen c ⨾ indent (deeper c)) ⨾ get_ty', file="agreement/Rows"),
                          "both go.pat (before (before (deepened c) (at-depth (deeper c))) go.ty)")
-        self.assertEqual(term('maybe (dropped left get-ty)', file="agreement/Rows"), "maybes refl go.dropped-ty")
+        self.assertEqual(term('maybe (dropped left get_ty)', file="agreement/Rows"), "maybes refl go.dropped-ty")
 
     def test_two_fields_before_a_third(self):
-        self.assertEqual(term('op-path ⨾ get-pat', file="agreement/Rows"), "regrouped (both op-paths go.pat)")
-        self.assertEqual(term('(text ⨾ word " " ⨾ get-pat) ⨾ get-ty', file="agreement/Rows"),
+        self.assertEqual(term('op_path ⨾ get_pat', file="agreement/Rows"), "regrouped (both op-paths go.pat)")
+        self.assertEqual(term('(text ⨾ word " " ⨾ get_pat) ⨾ get_ty', file="agreement/Rows"),
                          "regrouped (both (both texts (before fixed go.pat)) go.ty)")
 
     def test_a_token_and_what_is_behind_it(self):
-        self.assertEqual(term('operator (get-exp c) skip (word " ") ⨾ get-ty', file="agreement/Rows"),
+        self.assertEqual(term('operator (get_exp c) skip (word " ") ⨾ get_ty', file="agreement/Rows"),
                          "regrouped (both (operators (go.exp c) skips fixed) go.ty)")
         self.assertEqual(term('present (word "op") skip', file="agreement/Rows"), "presents-last fixed skips")
-        self.assertEqual(term('present (word "(" ⨾ get-pat) get-pat', file="agreement/Rows"), "presents (before fixed go.pat) go.pat")
+        self.assertEqual(term('present (word "(" ⨾ get_pat) get_pat', file="agreement/Rows"), "presents (before fixed go.pat) go.pat")
 
     def test_a_choice_of_fields(self):
-        self.assertEqual(term('choice inner', 'inner which = slice_index_or (text ∷ (word " " ⨾ get-ty) ∷ []) which halt', file="agreement/Rows"),
+        self.assertEqual(term('choice inner', 'inner which = slice_index_or (text ∷ (word " " ⨾ get_ty) ∷ []) which halt', file="agreement/Rows"),
                          "choices (λ which. pick which ((λ h. texts) ▹ (λ h. before fixed go.ty) ▹ no_more))")
 
     def test_a_name_without_definition(self):
@@ -105,7 +105,7 @@ class Credits(unittest.TestCase):
 
     def test_an_arm_for_each_form(self):
         forms = credits.read_forms("pub data F : Type 0 where\n  OneF TwoF : F\n\nabbrev pub f_forms : List F\nf_forms =\n    OneF ∷ TwoF\n    ∷ []\n")
-        writer = terms(['f OneF = word "1"', 'f TwoF = get-ty'])
+        writer = terms(['f OneF = word "1"', 'f TwoF = get_ty'])
         writer.definitions.update(forms)
         self.assertEqual(writer.row(credits.parse("map f f_forms")), [("OneF", "arm refl (fixed refl)"), ("TwoF", "arm refl go.ty")])
 
@@ -123,7 +123,7 @@ class Credits(unittest.TestCase):
 
     def test_a_new_arm(self):
         with tempfile.TemporaryDirectory() as room:
-            run = self.with_arm(room, 'word " -- " ⨾ get-exp c')
+            run = self.with_arm(room, 'word " -- " ⨾ get_exp c')
             self.assertNotEqual(run("--check").returncode, 0)
             self.assertIn("run 'python3 tools/credits.py'", run("--check").stderr)
             self.assertEqual((run().returncode, run("--check").returncode), (0, 0))
@@ -133,9 +133,9 @@ class Credits(unittest.TestCase):
 
     def test_a_new_arm_that_is_not_regular(self):
         with tempfile.TemporaryDirectory() as room:
-            run = self.with_arm(room, 'list (exp-semi-more c false)')()
+            run = self.with_arm(room, 'list (exp_semi_more c false)')()
             self.assertNotEqual(run.returncode, 0)
-            self.assertIn("exps: exp: exp-semi-more: it goes by cases of an argument that is not known", run.stderr)
+            self.assertIn("exps: exp: exp_semi_more: it goes by cases of an argument that is not known", run.stderr)
             self.assertIn("Irregular.antt", run.stderr)
 
     def test_usage(self):

@@ -20,8 +20,8 @@ use Rattle.layout.specs.Meaning.{Page, Event, Outcome, done, stopped, outcome, H
 use Rattle.layout.specs.Promises.State.{heads_behind}
 use Rattle.layout.specs.Layout.{halt, import}
 use Rattle.layout.specs.Helpers.{Cfg, Walkers}
-use Rattle.layout.specs.GetDec.{get-dec}
-use Rattle.layout.specs.DecOne.{comment-line, dec-one, decs}
+use Rattle.layout.specs.GetDec.{get_dec}
+use Rattle.layout.specs.DecOne.{comment_line, dec_one, decs}
 use Rattle.layout.specs.Walk.{walks, top, walk}
 use Rattle.agreement.specs.Agreement.{Agree, EndsAt}
 use Rattle.agreement.specs.Unbounded as Unbounded
@@ -30,12 +30,12 @@ use Rattle.agreement.proofs.Helpers.{Walks, at-depth, get-decs}
 use Rattle.agreement.proofs.Rows.{ty-pairs, pat-pairs, exp-pairs, sig-pairs, str-pairs, dec-pairs}
 
 -- ---- the forms
-comment_lines : {p : Page} {d : ℕ} (c : Cfg) → Agrees p d true Fields.none (comment-line c)
-unfolding comment-line
+comment_lines : {p : Page} {d : ℕ} (c : Cfg) → Agrees p d true Fields.none (comment_line c)
+unfolding comment_line
 comment_lines c = before fixed (at-depth c)
 
 import_arm : (ws : Walkers) (c : Cfg) → get_or (decs ws c) (dec_number EsImportDec) halt ≡ import
-unfolding decs dec-one dec_number
+unfolding decs dec_one dec_number
 import_arm ws c = refl
 
 pub walks-agree : {p : Page} (n : ℕ) → n ≤ 200 → Walks p n (walks n)
@@ -46,9 +46,9 @@ walks-agree zero h =
       dropped-ty = drops h halted;
       pat = halted;
       exp = λ c. halted;
-      str-exp = λ c. halted;
-      sig-exp = λ c. halted;
-      dec-one = λ c. halted;
+      str_exp = λ c. halted;
+      sig_exp = λ c. halted;
+      dec_one = λ c. halted;
     }
 walks-agree {p} (suc n) h =
     let low : n ≤ 200 = omega arith in
@@ -58,21 +58,21 @@ walks-agree {p} (suc n) h =
       dropped-ty = drops h (families Ty (λ at. refl) (λ k. pick k (ty-pairs low go k)));
       pat = families Pat (λ at. refl) (λ k. pick k (pat-pairs low go k));
       exp = λ c. families Exp (λ at. refl) (λ k. pick k (exp-pairs low go k c));
-      str-exp = λ c. families StrExp (λ at. refl) (λ k. pick k (str-pairs low go k c));
-      sig-exp = λ c. families SigExp (λ at. refl) (λ k. pick k (sig-pairs low go k c));
-      dec-one = λ c. declarations (comment_lines c) (import_arm (walks n) c) (λ k l other. (pick k (dec-pairs low go k c other)).agrees l);
+      str_exp = λ c. families StrExp (λ at. refl) (λ k. pick k (str-pairs low go k c));
+      sig_exp = λ c. families SigExp (λ at. refl) (λ k. pick k (sig-pairs low go k c));
+      dec_one = λ c. declarations (comment_lines c) (import_arm (walks n) c) (λ k l other. (pick k (dec-pairs low go k c other)).agrees l);
     }
 
 -- ---- AppExp
 -- Where the walk of the first expression ended stands the second: what is seen before that walk is seen behind it.
-pub heads-behind : (p : Page) (n : ℕ) → n ≤ 200 → (c : Cfg) (func arg : ℕ) (es : List Event) → outcome p ((walks n).get-exp c) func ≡ done arg es
+pub heads-behind : (p : Page) (n : ℕ) → n ≤ 200 → (c : Cfg) (func arg : ℕ) (es : List Event) → outcome p ((walks n).get_exp c) func ≡ done arg es
     → heads_behind p.rec func arg ≡ heads_at p.rec (count p) func
 unfolding heads_at heads_behind field_end
 heads-behind p n low c func arg es e = go (form_at p.rec Exp func) refl
   where
     passes : ends p n true (Fields.form Exp) func ≡ ok arg
     passes =
-        let x : Agrees p n true (Fields.form Exp) ((walks n).get-exp c) = (walks-agree n low).exp c in
+        let x : Agrees p n true (Fields.form Exp) ((walks n).get_exp c) = (walks-agree n low).exp c in
         subst (λ (o : Outcome). Agree p (ends p n true (Fields.form Exp) func) o) e (x.step.agrees func)
 
     go : (o : Option ℕ) → form_at p.rec Exp func ≡ o
@@ -93,8 +93,8 @@ module _ (p : Page) (tree : ℕ) where
   abbrev list-end : ℕ → Checked
   list-end at = end_within p.rec (count p) max_forms (Fields.list Dec) at
 
-  decs-step : InStep p list-end (get-dec (walks max_forms) top)
-  decs-step = let x : Agrees p max_forms true (Fields.list Dec) (get-dec (walks max_forms) top) = get-decs (walks-agree max_forms (omega arith)) top in x.step
+  decs-step : InStep p list-end (get_dec (walks max_forms) top)
+  decs-step = let x : Agrees p max_forms true (Fields.list Dec) (get_dec (walks max_forms) top) = get-decs (walks-agree max_forms (omega arith)) top in x.step
 
   -- A record that passes: its list of declarations ends at the record's end.
   list-ends : (end : ℕ) → tree_check p.rec (count p) tree ≡ ok end → list-end tree ≡ ok (length p.rec)

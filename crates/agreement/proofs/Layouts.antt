@@ -19,9 +19,9 @@ use Rattle.reader.specs.Check.{Checked, ok, malformed, too_deep, and_then, opera
 use Rattle.reader.proofs.CommandLaws.{and_right, and_second, token-there, group-there, choice-there, form-there, form-fits, form-number}
 use Rattle.reader.proofs.FieldLaws.{then_parts, or_is, token-parts, fits-parts, fits-yes, zero-never}
 use Rattle.reader.proofs.Ends.{ends_more}
-use Rattle.layout.specs.Layout.{Layout, is_pipe, skip, ◌⨾◌, word, output-indent, formed, text, group, choice, form, list, maybe, present, operator, declaration, dropped, halt, import}
+use Rattle.layout.specs.Layout.{Layout, is_pipe, skip, ◌⨾◌, word, output_indent, formed, text, group, choice, form, list, maybe, present, operator, declaration, dropped, halt, import}
 use Rattle.layout.specs.Meaning.{Page, Event, Token, Comment, Outcome, done, stopped, absent, imported, outcome, or_stop, bind, after, commented, operated, above_first, onwards, passes}
-use Rattle.layout.specs.Helpers.{Cfg, indent, new_line, when, times, items, for_each, sep, sep-with_lines}
+use Rattle.layout.specs.Helpers.{Cfg, indent, new_line, when, times, items, for_each, sep, sep_with_lines}
 use Rattle.agreement.specs.Agreement.{Proper, Agree}
 use Rattle.agreement.specs.Unbounded as Unbounded
 
@@ -309,7 +309,7 @@ module _ {p : Page} {d : ℕ} {may : Bool} where
   unfolding fields outcome Unbounded.outcome
   fixed = record { step = record { agrees = λ at. refl; free = λ at end e. refl } }
 
-  pub indents : {depth : ℕ} → Agrees p d may Fields.none (output-indent depth)
+  pub indents : {depth : ℕ} → Agrees p d may Fields.none (output_indent depth)
   unfolding fields outcome Unbounded.outcome
   indents = record { step = record { agrees = λ at. refl; free = λ at end e. refl } }
 
@@ -530,9 +530,9 @@ module _ {p : Page} {d : ℕ} {f : Fields} where
     unfolding sep
     seps s = lists (itemed x (before fixed x))
 
-    pub lines : (c : Cfg) (s : String) → Agrees p d may (Fields.list f) (sep-with_lines c s item)
-    unfolding sep-with_lines new_line indent
-    lines c s = lists (itemed x (before (before fixed (before (whens fixed c.extra-blank) (before indents fixed))) x))
+    pub lines : (c : Cfg) (s : String) → Agrees p d may (Fields.list f) (sep_with_lines c s item)
+    unfolding sep_with_lines new_line indent
+    lines c s = lists (itemed x (before (before fixed (before (whens fixed c.extra_blank) (before indents fixed))) x))
 
 module _ {p : Page} {d n : ℕ} {fs : List Fields} {v w : ℕ → Layout} where
   -- An item that is a choice, with what is behind it laid out by the number that was read.

@@ -9,13 +9,13 @@ use Rattle.layout.specs.Helpers.{Cfg, Walkers}
 use Rattle.agreement.proofs.Layouts.{Pairs, before, behind, both, regrouped, pick, ◌▹◌, no_more}
 use Rattle.agreement.proofs.Helpers.{Walks}
 use Rattle.reader.specs.Forms.{EsImportDec, dec_number}
-use Rattle.layout.specs.Helpers.{with_extra_blank, deeper, indent-deeper, in_end, in_parens}
-use Rattle.layout.specs.Ty.{ty_row, ty-rows, ty-args, ty-seq-there, ty-seq, star-ty, star-tys, ty, tys, ty-annotation-there, ty-annotation}
-use Rattle.layout.specs.Pat.{con-arg-there, con-arg, RestPatRow, LabAndPatPatRow, as-tail-there, as-tail, LabPatRow, pat-row-inner, pat-row, pat-rows, pat-args, pat, pats}
-use Rattle.layout.specs.Exp.{app_space, pipe, indented-levels, get-body-exp-level, get-body-exp, eq-body, get-matcher-arm, arms-on-lines, get-matcher-across-lines, exp-args, eq-exp, exp-row, exp-rows, if_no, fn-arms, exp, exps}
-use Rattle.layout.specs.SigExp.{ascription-tail, sig-exp, sig-exps}
-use Rattle.layout.specs.StrExp.{str-exp, str-exps}
-use Rattle.layout.specs.DecOne.{ty-bind, ty-binds, with-type, dat-bind, dat-binds, val-bind, val-binds, PrefixFunBindCaseHead, infix-head, InfixFunBindCaseHead, case-head, case-pats, fun-bind-case, fun-bind, ex-bind-of, ex-bind-inner, ex-bind, int-lit, names-space, local-decs, str-bind, sig-bind, functor-arg, functor-args, functor-bind, dec-one, decs}
+use Rattle.layout.specs.Helpers.{with_extra_blank, deeper, indent_deeper, in_end, in_parens}
+use Rattle.layout.specs.Ty.{ty_row, ty_rows, ty_args, ty_seq_there, ty_seq, star_ty, star_tys, ty, tys, ty_annotation_there, ty_annotation}
+use Rattle.layout.specs.Pat.{con_arg_there, con_arg, RestPatRow, LabAndPatPatRow, as_tail_there, as_tail, LabPatRow, pat_row_inner, pat_row, pat_rows, pat_args, pat, pats}
+use Rattle.layout.specs.Exp.{app_space, pipe, indented_levels, get_body_exp_level, get_body_exp, eq_body, get_matcher_arm, arms_on_lines, get_matcher_across_lines, exp_args, eq_exp, exp_row, exp_rows, if_no, fn_arms, exp, exps}
+use Rattle.layout.specs.SigExp.{ascription_tail, sig_exp, sig_exps}
+use Rattle.layout.specs.StrExp.{str_exp, str_exps}
+use Rattle.layout.specs.DecOne.{ty_bind, ty_binds, with_type, dat_bind, dat_binds, val_bind, val_binds, PrefixFunBindCaseHead, infix_head, InfixFunBindCaseHead, case_head, case_pats, fun_bind_case, fun_bind, ex_bind_of, ex_bind_inner, ex_bind, int_lit, names_space, local_decs, str_bind, sig_bind, functor_arg, functor_args, functor_bind, dec_one, decs}
 use Rattle.agreement.proofs.Layouts.{fixed, texts, groups, choices, lists, maybes, presents, operators, whens, each, seps, lines}
 use Rattle.agreement.proofs.Looks.{applications, looks}
 use Rattle.agreement.proofs.Helpers.{deepened, at-depth, paths, op-paths, ty-var-seqs, words-if, get-decs, dec-args, semi-seqs, con-bindings, app-arguments}
@@ -23,7 +23,7 @@ use Rattle.agreement.proofs.Helpers.{deepened, at-depth, paths, op-paths, ty-var
 -- For the arm of the number n.
 module _ {p : Page} {d : ℕ} (low : d ≤ 200) {ws : Walkers} (go : Walks p d ws) (n : ℕ) where
   pub ty-pairs : Pairs p d n 0 (forms Ty) (tys ws)
-  unfolding tys ty ty-rows ty_row ty-seq ty-seq-there ty-args star-tys star-ty forms dec_number
+  unfolding tys ty ty_rows ty_row ty_seq ty_seq_there ty_args star_tys star_ty forms dec_number
   ty-pairs =
       (λ h. fixed)  -- HoleTy
       ▹ (λ h. fixed)  -- WildcardTy
@@ -37,7 +37,7 @@ module _ {p : Page} {d : ℕ} (low : d ≤ 200) {ws : Walkers} (go : Walks p d w
       ▹ no_more
 
   pub pat-pairs : Pairs p d n 0 (forms Pat) (pats ws)
-  unfolding pats pat con-arg con-arg-there pat-rows pat-row pat-row-inner RestPatRow LabAndPatPatRow LabPatRow ty-annotation ty-annotation-there as-tail as-tail-there pat-args forms dec_number
+  unfolding pats pat con_arg con_arg_there pat_rows pat_row pat_row_inner RestPatRow LabAndPatPatRow LabPatRow ty_annotation ty_annotation_there as_tail as_tail_there pat_args forms dec_number
   pat-pairs =
       (λ h. fixed)  -- WildcardPat
       ▹ (λ h. texts)  -- SConPat
@@ -56,7 +56,7 @@ module _ {p : Page} {d : ℕ} (low : d ≤ 200) {ws : Walkers} (go : Walks p d w
 
   module _ (c : Cfg) where
     pub exp-pairs : Pairs p d n 0 (forms Exp) (exps ws c)
-    unfolding exps exp exp-rows exp-row eq-exp exp-args in_end app_space pipe indent-deeper get-matcher-across-lines arms-on-lines get-matcher-arm get-body-exp-level indented-levels if_no fn-arms forms dec_number
+    unfolding exps exp exp_rows exp_row eq_exp exp_args in_end app_space pipe indent_deeper get_matcher_across_lines arms_on_lines get_matcher_arm get_body_exp_level indented_levels if_no fn_arms forms dec_number
     exp-pairs =
         (λ h. fixed)  -- HoleExp
         ▹ (λ h. fixed)  -- WildcardExp
@@ -91,29 +91,29 @@ module _ {p : Page} {d : ℕ} (low : d ≤ 200) {ws : Walkers} (go : Walks p d w
         (λ h. before fixed (groups (seps (groups (both go.pat (before fixed (looks (before fixed (before (deepened c) (before (deepened (deeper c)) (before (at-depth (deeper (deeper c))) (go.exp (deeper (deeper c))))))) (before fixed (go.exp c)))))) _)))  -- FnExp
         ▹ no_more
 
-    pub sig-pairs : Pairs p d n 0 (forms SigExp) (sig-exps ws c)
-    unfolding sig-exps sig-exp forms dec_number
+    pub sig-pairs : Pairs p d n 0 (forms SigExp) (sig_exps ws c)
+    unfolding sig_exps sig_exp forms dec_number
     sig-pairs =
         (λ h. before fixed (before (deepened c) (before (at-depth (deeper c)) (behind (get-decs go (deeper c)) (before fixed (before (at-depth c) fixed))))))  -- SigSigExp
         ▹ (λ h. texts)  -- NameSigExp
-        ▹ (λ h. both (go.sig-exp c) (before fixed (both ty-var-seqs (both paths (before fixed go.ty)))))  -- WhereTypeSigExp
-        ▹ (λ h. both (go.sig-exp c) (before fixed (both paths (before fixed paths))))  -- WhereSigExp
+        ▹ (λ h. both (go.sig_exp c) (before fixed (both ty-var-seqs (both paths (before fixed go.ty)))))  -- WhereTypeSigExp
+        ▹ (λ h. both (go.sig_exp c) (before fixed (both paths (before fixed paths))))  -- WhereSigExp
         ▹ no_more
 
-    pub str-pairs : Pairs p d n 0 (forms StrExp) (str-exps ws c)
-    unfolding str-exps str-exp with_extra_blank ascription-tail in_end forms dec_number
+    pub str-pairs : Pairs p d n 0 (forms StrExp) (str_exps ws c)
+    unfolding str_exps str_exp with_extra_blank ascription_tail in_end forms dec_number
     str-pairs =
         (λ h. before fixed (before (deepened c) (before (at-depth (deeper c)) (behind (get-decs go (with_extra_blank true (deeper c))) (before fixed (before (at-depth c) fixed))))))  -- StructStrExp
         ▹ (λ h. paths)  -- PathStrExp
-        ▹ (λ h. both (go.str-exp c) (groups (before fixed (both texts (before fixed (go.sig-exp c))))))  -- AscriptionStrExp
+        ▹ (λ h. both (go.str_exp c) (groups (before fixed (both texts (before fixed (go.sig_exp c))))))  -- AscriptionStrExp
         ▹ (λ h. both texts (before fixed (lists (λ n. app-arguments go c _ _))))  -- AppStrExp
         ▹
-        (λ h. before fixed (before fixed (before (deepened c) (before (at-depth (deeper c)) (both (get-decs go (deeper c)) (before fixed (before (at-depth c) (before fixed (before (at-depth (deeper c)) (behind (go.str-exp (deeper c)) (before fixed (before (at-depth c) fixed))))))))))))  -- LetStrExp
+        (λ h. before fixed (before fixed (before (deepened c) (before (at-depth (deeper c)) (both (get-decs go (deeper c)) (before fixed (before (at-depth c) (before fixed (before (at-depth (deeper c)) (behind (go.str_exp (deeper c)) (before fixed (before (at-depth c) fixed))))))))))))  -- LetStrExp
         ▹ no_more
 
     -- But for an import.
     pub dec-pairs : (n ≡ dec_number EsImportDec → ⊥) → Pairs p d n 0 (forms DecOne) (decs ws c)
-    unfolding decs dec-one val-binds val-bind eq-body get-body-exp get-body-exp-level indented-levels fun-bind fun-bind-case case-head PrefixFunBindCaseHead InfixFunBindCaseHead in_parens infix-head case-pats ty-annotation ty-annotation-there ty-binds ty-bind dat-binds dat-bind with-type ex-bind ex-bind-inner ex-bind-of int-lit names-space in_end local-decs str-bind ascription-tail sig-bind functor-bind functor-args functor-arg forms dec_number
+    unfolding decs dec_one val_binds val_bind eq_body get_body_exp get_body_exp_level indented_levels fun_bind fun_bind_case case_head PrefixFunBindCaseHead InfixFunBindCaseHead in_parens infix_head case_pats ty_annotation ty_annotation_there ty_binds ty_bind dat_binds dat_bind with_type ex_bind ex_bind_inner ex_bind_of int_lit names_space in_end local_decs str_bind ascription_tail sig_bind functor_bind functor_args functor_arg forms dec_number
     dec-pairs other =
         (λ h. fixed)  -- HoleDec
         ▹
@@ -138,12 +138,12 @@ module _ {p : Page} {d : ℕ} (low : d ≤ 200) {ws : Walkers} (go : Walks p d w
         ▹
         (λ h. before fixed (before fixed (before (deepened c) (before (at-depth (deeper c)) (both (maybes refl (groups (get-decs go (deeper c)))) (before fixed (before (at-depth c) (before fixed (before (at-depth (deeper c)) (behind (maybes refl (groups (get-decs go (deeper c)))) (before fixed (before (at-depth c) fixed))))))))))))  -- LocalDec
         ▹
-        (λ h. before fixed (lines (groups (both texts (both (maybes refl (groups (before fixed (both texts (before fixed (go.sig-exp c)))))) (maybes refl (groups (before fixed (go.str-exp c))))))) c _))  -- StructureDec
-        ▹ (λ h. before fixed (lines (groups (both texts (before fixed (go.sig-exp c)))) c _))  -- SignatureDec
+        (λ h. before fixed (lines (groups (both texts (both (maybes refl (groups (before fixed (both texts (before fixed (go.sig_exp c)))))) (maybes refl (groups (before fixed (go.str_exp c))))))) c _))  -- StructureDec
+        ▹ (λ h. before fixed (lines (groups (both texts (before fixed (go.sig_exp c)))) c _))  -- SignatureDec
         ▹ (λ h. before fixed (lines (groups (both texts (before fixed (both (each (choices
-        (λ which. pick which ((λ h. both texts (before fixed (go.sig-exp c))) ▹ (λ h. dec-args go c)
-        ▹ no_more)))) (before fixed (both (maybes refl (groups (before fixed (both texts (before fixed (go.sig-exp c)))))) (before fixed (go.str-exp c)))))))) c _))  -- FunctorDec
+        (λ which. pick which ((λ h. both texts (before fixed (go.sig_exp c))) ▹ (λ h. dec-args go c)
+        ▹ no_more)))) (before fixed (both (maybes refl (groups (before fixed (both texts (before fixed (go.sig_exp c)))))) (before fixed (go.str_exp c)))))))) c _))  -- FunctorDec
         ▹ (λ h. go.exp c)  -- ExpDec
-        ▹ (λ h. before fixed (seps (go.sig-exp c) _))  -- IncludeDec
+        ▹ (λ h. before fixed (seps (go.sig_exp c) _))  -- IncludeDec
         ▹ (λ h. absurd (other (sym h)))  -- EsImportDec
         ▹ no_more

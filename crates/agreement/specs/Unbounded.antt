@@ -7,11 +7,11 @@ use Rattle.reader.specs.Fields as Fields
 use Rattle.reader.specs.Commands.{absent_at, token_at, list_at, group_at, choice_at, form_at, form_width, first_token}
 use Rattle.reader.specs.Tokens.{count_of}
 use Rattle.reader.specs.Check.{ok, malformed, too_deep, max_forms, field_end}
-use Rattle.layout.specs.Layout.{Layout, skip, ◌⨾◌, word, output-indent, formed, text, group, choice, form, list, maybe, present}
+use Rattle.layout.specs.Layout.{Layout, skip, ◌⨾◌, word, output_indent, formed, text, group, choice, form, list, maybe, present}
 use Rattle.layout.specs.Layout.{look, first_name, application, operator, declaration, dropped, halt, import}
 use Rattle.layout.specs.Meaning.{Page, Word, Token, Formed, Indent, Outcome, done, stopped, absent, imported, bind, commented, or_stop, sees}
 use Rattle.layout.specs.Meaning.{name_passes, both, missing, heads_at, func_is_bang, arg_is_symbolic, above_first, operated}
-use Rattle.layout.specs.GetDec.{get-dec}
+use Rattle.layout.specs.GetDec.{get_dec}
 use Rattle.layout.specs.Walk.{walks, top}
 
 module _ (p : Page) where
@@ -45,7 +45,7 @@ module _ (p : Page) where
   outcome skip at = done at []
   outcome (v ⨾ w) at = bind (outcome v at) (λ next. outcome w next)
   outcome (word w) at = done at (Word w ∷ [])
-  outcome (output-indent depth) at = done at (Indent depth ∷ [])
+  outcome (output_indent depth) at = done at (Indent depth ∷ [])
   outcome (formed depth) at = done at (Formed depth ∷ [])
   outcome (group w) at = elim (group_at p.rec at) [ true ↦ outcome w (at + 1) | false ↦ stopped (absent at) [] ]
   outcome (choice k) at = or_stop (choice_at p.rec at) at (λ n. outcome (k n) (at + 2))
@@ -66,4 +66,4 @@ module _ (p : Page) where
   outcome import at = stopped (imported at) []
 
 unfoldable pub walk : Page → ℕ → Outcome
-walk p tree = outcome p (get-dec (walks max_forms) top) tree
+walk p tree = outcome p (get_dec (walks max_forms) top) tree

@@ -6,7 +6,7 @@ use std::io;
 use std::io::Write;
 
 // The input within the limits has at most 6 + 32,768 + 65,536 bytes; with a byte more, what does not fit changes
-// nothing (`first-bytes_suffice`). `read_full` reads on until the buffer is full or the input ends.
+// nothing (`first_bytes_suffice`). `read_full` reads on until the buffer is full or the input ends.
 fn main(rt: HostRuntime) -> io::Result<()> {
     let mut input = [0u8; 98311];
     let n = read_full(&mut rt.stdin(), &mut input)?;

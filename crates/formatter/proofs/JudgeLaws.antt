@@ -29,7 +29,7 @@ use Rattle.comments.specs.Set.{is_comment, holds, words_of, room, count, first, 
 use Rattle.layout.specs.Meaning.{Page, Event, Outcome, done, stopped, Stop, absent, imported}
 use Rattle.layout.specs.Promises.Words.{word_run}
 use Rattle.layout.specs.Walk.{walks, top, walk}
-use Rattle.layout.specs.GetDec.{get-dec}
+use Rattle.layout.specs.GetDec.{get_dec}
 use Rattle.layout.specs.Events.{deepest, letters, units, formatted, is_left}
 use Rattle.layout.specs.Promises.State.{Run, run_of, at, sum_of, width_of, Ran, went, fell, run, runs, packed, shown, stop_no, stop_of, Fair, Walked, page}
 use Rattle.layout.proofs.Exact.{cap, Sums, position, lent, letters-is, steps, exact, exact-letters, exact-units, exact-deepest}
@@ -149,7 +149,7 @@ starts e short near t m =
     record { fair = record { words_are = e; short = omega (arith, short); cursor = near }; tab-fits = omega (arith, t); mem = m }
 
 abbrev Whole : List ℕ → Page → ℕ → List ℕ → List ℕ → ℕ → List ℕ → List ℕ → Type 0
-Whole run p tree m o r m' o' = Walked false run p (get-dec (walks max_forms) top) (run_of tree m o) r m' o'
+Whole run p tree m o r m' o' = Walked false run p (get_dec (walks max_forms) top) (run_of tree m o) r m' o'
 
 module _ {run· : List ℕ} {p : Page} {tree tab : ℕ} {words m o : List ℕ} {r : ℕ} {m' o' : List ℕ} (w : Whole run· p tree m o r m' o') (s : Starts run· p tree tab words m) where
   abbrev start : Run
@@ -254,10 +254,10 @@ module _ {n : ℕ} where
 
 -- ---- 6, and what is accepted
 module _ {run· : List ℕ} {p : Page} {tree tab : ℕ} {words m o : List ℕ} {r : ℕ} {m₁ o' : List ℕ} (w : Whole run· p tree m o r m₁ o') (s : Starts run· p tree tab words m)
-    (text-fits : length p.text ≤ 32768) (rec-fits : length p.rec ≤ 65536) (few : length p.tokens.kinds ≤ room)
+    (text_fits : length p.text ≤ 32768) (rec_fits : length p.rec ≤ 65536) (few : length p.tokens.kinds ≤ room)
     (all : words ≡ words_of (is_comment p.tokens.kinds)) (whole-read : r ≡ length p.rec) {m' : List ℕ} (kept : m' ≡ drop 4 m₁) where
   no_stop : r < stop_no
-  no_stop = omega (arith, whole-read, rec-fits)
+  no_stop = omega (arith, whole-read, rec_fits)
 
   abbrev es : List Event
   es = (whole-ends w s no_stop).0
@@ -266,7 +266,7 @@ module _ {run· : List ℕ} {p : Page} {tree tab : ℕ} {words m o : List ℕ} {
   walk_is = (whole-ends w s no_stop).1
 
   is-small : Small p es
-  is-small = small-done p tree text-fits rec-fits walk_is
+  is-small = small-done p tree text_fits rec_fits walk_is
 
   abbrev all-sums : Sums
   all-sums = steps p tab es (begin words o)
@@ -282,7 +282,7 @@ module _ {run· : List ℕ} {p : Page} {tree tab : ℕ} {words m o : List ℕ} {
   drafts long =
       record {
         is = λ end fs e fits.
-            let small : Small p fs = small-done p tree text-fits rec-fits e in
+            let small : Small p fs = small-done p tree text_fits rec_fits e in
             let room : letters p fs + tab * units fs ≤ length o = omega (arith, length-formatted p tab fs) in
             rw (whole_out w s e (omega (arith, small.both)) (omega (arith, small.both)) ∙ out-is p tab fs (begin words o) refl refl room)
             (take-append_seam (formatted p tab fs) (drop (length (formatted p tab fs)) o));
@@ -305,7 +305,7 @@ module _ {run· : List ℕ} {p : Page} {tree tab : ℕ} {words m o : List ℕ} {
       letters-is tab all-sums.letters all-sums.units n s.tab-fits (omega (arith, l', small.both)) (omega (arith, u', small.both)) a.0 q ∙ l' in
       let d : get_or m₁ 2 0 ≡ deepest es = ap (λ x. get_or x 2 0) mem_is ∙ exact-deepest p tab es (begin words o) ∙ omega arith in
       record {
-        short = rec-fits;
+        short = rec_fits;
         near = s.fair.cursor;
         events = es;
         end = r;
@@ -480,7 +480,7 @@ module _ (text rec : List ℕ) where
                 omega (arith, c.0, even.0, length-take count (starts_of spans), starts-long spans),
               ) in
               let near = tree_near (boundary text) (length text) rec tokens tree (tiling-is e u f) in
-              record { text-fits = a; rec-fits = b; few = c.1; near = omega (arith, near); within = long }
+              record { text_fits = a; rec_fits = b; few = c.1; near = omega (arith, near); within = long }
 
           judge-is : judge text rec ≡ by_walk sheet_page tree
           unfolding record_first

@@ -81,12 +81,12 @@ module _ (text rec : List ℕ) where
   text-is none e = rw (e, read_text, text_first) (record_is (tokens (boundary text) (length text) rec) refl)
   text-is (some place) e = rw (e, read_text, text_first) refl
 
-  lengths-are : (b : Bool) → (leb (length text) max_text && leb (length rec) max_record) ≡ b → judge_of text rec (read text rec) ≡ judge_walk_first text rec
+  lengths_are : (b : Bool) → (leb (length text) max_text && leb (length rec) max_record) ≡ b → judge_of text rec (read text rec) ≡ judge_walk_first text rec
   unfolding read judge_walk_first
-  lengths-are true e = rw (e, read, judge_walk_first) (text-is (first_broken text) refl)
-  lengths-are false e = rw (e, read, judge_walk_first) refl
+  lengths_are true e = rw (e, read, judge_walk_first) (text-is (first_broken text) refl)
+  lengths_are false e = rw (e, read, judge_walk_first) refl
 
   -- Judging by the walk first, and running the check only where it did not end at the record's end, is the same judgement.
   pub walk_first : judge text rec ≡ judge_walk_first text rec
   unfolding judge
-  walk_first = lengths-are (leb (length text) max_text && leb (length rec) max_record) refl
+  walk_first = lengths_are (leb (length text) max_text && leb (length rec) max_record) refl

@@ -7,7 +7,8 @@ ghost use Rattle.std.specs.Io.KnownBytes.{Consumes};
 use std::io;
 use std::io::{ErrorKind, Read};
 
-// Reads on until the buffer is full or the input ends: how many bytes it read, which stand at the buffer's start.
+// Reads on until the buffer is full or the input ends: how many bytes it read, which stand at the buffer's start. The turns are
+// numbered only so that a reader which gives `Interrupted` for ever ends the loop too.
 pub fn read_full<R: Read>(input: &mut R, buffer: &mut [u8]) -> io::Result<usize>
     ensures bound { IfOk result (λ n. n ≤ length buffer.new) }
     ensures bytes { IfOk result (λ n. Consumes (R.remaining input.old) (R.remaining input.new) (take n buffer.new)) }

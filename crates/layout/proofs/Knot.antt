@@ -14,9 +14,9 @@ use Rattle.layout.specs.Walk.{walks}
 use Rattle.layout.specs.Ty.{tys}
 use Rattle.layout.specs.Pat.{pats}
 use Rattle.layout.specs.Exp.{exps}
-use Rattle.layout.specs.StrExp.{str-exps}
-use Rattle.layout.specs.SigExp.{sig-exps}
-use Rattle.layout.specs.DecOne.{comment-line, decs}
+use Rattle.layout.specs.StrExp.{str_exps}
+use Rattle.layout.specs.SigExp.{sig_exps}
+use Rattle.layout.specs.DecOne.{comment_line, decs}
 use Rattle.layout.proofs.Steps.{by-same, form-is, last-halt}
 
 -- A number that is at least k and not k.
@@ -40,62 +40,62 @@ module _ {words : List ℕ} {p : Page} where
   form-key {k = k} {b = b} {r = r} {m = m} {o = o} {m' = m'} {o' = o'} {keep = keep} e f h w =
       by-same (form-is e f) (subst (λ i. Walked keep words p (k i) (run_of b m o) r m' o') (sym h) w)
 
-  pub ty-zero : (n : ℕ) {a r : ℕ} {m o : List ℕ} {keep : Bool} → n ≡ 0 → Stops a r → Walked keep words p (walks n).get-ty (run_of a m o) r m o
+  pub ty-zero : (n : ℕ) {a r : ℕ} {m o : List ℕ} {keep : Bool} → n ≡ 0 → Stops a r → Walked keep words p (walks n).get_ty (run_of a m o) r m o
   unfolding walks
-  ty-zero n {a} {r} {m} {o} {keep} e f = subst (λ n. Walked keep words p (walks n).get-ty (run_of a m o) r m o) (sym e) (last-halt f)
+  ty-zero n {a} {r} {m} {o} {keep} e f = subst (λ n. Walked keep words p (walks n).get_ty (run_of a m o) r m o) (sym e) (last-halt f)
 
-  pub ty-form : (n : ℕ) {g : Run} {r : ℕ} {m o : List ℕ} {keep : Bool} → (n ≡ 0 → ⊥) → Walked keep words p (form Ty (λ k. get_or (tys (walks (n - 1))) k halt)) g r m o → Walked keep words p (walks n).get-ty g r m o
+  pub ty-form : (n : ℕ) {g : Run} {r : ℕ} {m o : List ℕ} {keep : Bool} → (n ≡ 0 → ⊥) → Walked keep words p (form Ty (λ k. get_or (tys (walks (n - 1))) k halt)) g r m o → Walked keep words p (walks n).get_ty g r m o
   unfolding walks
   ty-form n {g} {r} {m} {o} {keep} e w =
       let q : n ≡ suc (n - 1) = omega arith in
-      subst (λ n. Walked keep words p (walks n).get-ty g r m o) (sym q) w
+      subst (λ n. Walked keep words p (walks n).get_ty g r m o) (sym q) w
 
-  pub pat-zero : (n : ℕ) {a r : ℕ} {m o : List ℕ} {keep : Bool} → n ≡ 0 → Stops a r → Walked keep words p (walks n).get-pat (run_of a m o) r m o
+  pub pat-zero : (n : ℕ) {a r : ℕ} {m o : List ℕ} {keep : Bool} → n ≡ 0 → Stops a r → Walked keep words p (walks n).get_pat (run_of a m o) r m o
   unfolding walks
-  pat-zero n {a} {r} {m} {o} {keep} e f = subst (λ n. Walked keep words p (walks n).get-pat (run_of a m o) r m o) (sym e) (last-halt f)
+  pat-zero n {a} {r} {m} {o} {keep} e f = subst (λ n. Walked keep words p (walks n).get_pat (run_of a m o) r m o) (sym e) (last-halt f)
 
-  pub pat-form : (n : ℕ) {g : Run} {r : ℕ} {m o : List ℕ} {keep : Bool} → (n ≡ 0 → ⊥) → Walked keep words p (form Pat (λ k. get_or (pats (walks (n - 1))) k halt)) g r m o → Walked keep words p (walks n).get-pat g r m o
+  pub pat-form : (n : ℕ) {g : Run} {r : ℕ} {m o : List ℕ} {keep : Bool} → (n ≡ 0 → ⊥) → Walked keep words p (form Pat (λ k. get_or (pats (walks (n - 1))) k halt)) g r m o → Walked keep words p (walks n).get_pat g r m o
   unfolding walks
   pat-form n {g} {r} {m} {o} {keep} e w =
       let q : n ≡ suc (n - 1) = omega arith in
-      subst (λ n. Walked keep words p (walks n).get-pat g r m o) (sym q) w
+      subst (λ n. Walked keep words p (walks n).get_pat g r m o) (sym q) w
 
-  pub exp-zero : (n : ℕ) (c : Cfg) {a r : ℕ} {m o : List ℕ} {keep : Bool} → n ≡ 0 → Stops a r → Walked keep words p ((walks n).get-exp c) (run_of a m o) r m o
+  pub exp-zero : (n : ℕ) (c : Cfg) {a r : ℕ} {m o : List ℕ} {keep : Bool} → n ≡ 0 → Stops a r → Walked keep words p ((walks n).get_exp c) (run_of a m o) r m o
   unfolding walks
-  exp-zero n c {a} {r} {m} {o} {keep} e f = subst (λ n. Walked keep words p ((walks n).get-exp c) (run_of a m o) r m o) (sym e) (last-halt f)
+  exp-zero n c {a} {r} {m} {o} {keep} e f = subst (λ n. Walked keep words p ((walks n).get_exp c) (run_of a m o) r m o) (sym e) (last-halt f)
 
-  pub exp-form : (n : ℕ) (c : Cfg) {g : Run} {r : ℕ} {m o : List ℕ} {keep : Bool} → (n ≡ 0 → ⊥) → Walked keep words p (form Exp (λ k. get_or (exps (walks (n - 1)) c) k halt)) g r m o → Walked keep words p ((walks n).get-exp c) g r m o
+  pub exp-form : (n : ℕ) (c : Cfg) {g : Run} {r : ℕ} {m o : List ℕ} {keep : Bool} → (n ≡ 0 → ⊥) → Walked keep words p (form Exp (λ k. get_or (exps (walks (n - 1)) c) k halt)) g r m o → Walked keep words p ((walks n).get_exp c) g r m o
   unfolding walks
   exp-form n c {g} {r} {m} {o} {keep} e w =
       let q : n ≡ suc (n - 1) = omega arith in
-      subst (λ n. Walked keep words p ((walks n).get-exp c) g r m o) (sym q) w
+      subst (λ n. Walked keep words p ((walks n).get_exp c) g r m o) (sym q) w
 
-  pub str-zero : (n : ℕ) (c : Cfg) {a r : ℕ} {m o : List ℕ} {keep : Bool} → n ≡ 0 → Stops a r → Walked keep words p ((walks n).get-str-exp c) (run_of a m o) r m o
+  pub str-zero : (n : ℕ) (c : Cfg) {a r : ℕ} {m o : List ℕ} {keep : Bool} → n ≡ 0 → Stops a r → Walked keep words p ((walks n).get_str_exp c) (run_of a m o) r m o
   unfolding walks
-  str-zero n c {a} {r} {m} {o} {keep} e f = subst (λ n. Walked keep words p ((walks n).get-str-exp c) (run_of a m o) r m o) (sym e) (last-halt f)
+  str-zero n c {a} {r} {m} {o} {keep} e f = subst (λ n. Walked keep words p ((walks n).get_str_exp c) (run_of a m o) r m o) (sym e) (last-halt f)
 
-  pub str-form : (n : ℕ) (c : Cfg) {g : Run} {r : ℕ} {m o : List ℕ} {keep : Bool} → (n ≡ 0 → ⊥) → Walked keep words p (form StrExp (λ k. get_or (str-exps (walks (n - 1)) c) k halt)) g r m o → Walked keep words p ((walks n).get-str-exp c) g r m o
+  pub str-form : (n : ℕ) (c : Cfg) {g : Run} {r : ℕ} {m o : List ℕ} {keep : Bool} → (n ≡ 0 → ⊥) → Walked keep words p (form StrExp (λ k. get_or (str_exps (walks (n - 1)) c) k halt)) g r m o → Walked keep words p ((walks n).get_str_exp c) g r m o
   unfolding walks
   str-form n c {g} {r} {m} {o} {keep} e w =
       let q : n ≡ suc (n - 1) = omega arith in
-      subst (λ n. Walked keep words p ((walks n).get-str-exp c) g r m o) (sym q) w
+      subst (λ n. Walked keep words p ((walks n).get_str_exp c) g r m o) (sym q) w
 
-  pub sig-zero : (n : ℕ) (c : Cfg) {a r : ℕ} {m o : List ℕ} {keep : Bool} → n ≡ 0 → Stops a r → Walked keep words p ((walks n).get-sig-exp c) (run_of a m o) r m o
+  pub sig-zero : (n : ℕ) (c : Cfg) {a r : ℕ} {m o : List ℕ} {keep : Bool} → n ≡ 0 → Stops a r → Walked keep words p ((walks n).get_sig_exp c) (run_of a m o) r m o
   unfolding walks
-  sig-zero n c {a} {r} {m} {o} {keep} e f = subst (λ n. Walked keep words p ((walks n).get-sig-exp c) (run_of a m o) r m o) (sym e) (last-halt f)
+  sig-zero n c {a} {r} {m} {o} {keep} e f = subst (λ n. Walked keep words p ((walks n).get_sig_exp c) (run_of a m o) r m o) (sym e) (last-halt f)
 
-  pub sig-form : (n : ℕ) (c : Cfg) {g : Run} {r : ℕ} {m o : List ℕ} {keep : Bool} → (n ≡ 0 → ⊥) → Walked keep words p (form SigExp (λ k. get_or (sig-exps (walks (n - 1)) c) k halt)) g r m o → Walked keep words p ((walks n).get-sig-exp c) g r m o
+  pub sig-form : (n : ℕ) (c : Cfg) {g : Run} {r : ℕ} {m o : List ℕ} {keep : Bool} → (n ≡ 0 → ⊥) → Walked keep words p (form SigExp (λ k. get_or (sig_exps (walks (n - 1)) c) k halt)) g r m o → Walked keep words p ((walks n).get_sig_exp c) g r m o
   unfolding walks
   sig-form n c {g} {r} {m} {o} {keep} e w =
       let q : n ≡ suc (n - 1) = omega arith in
-      subst (λ n. Walked keep words p ((walks n).get-sig-exp c) g r m o) (sym q) w
+      subst (λ n. Walked keep words p ((walks n).get_sig_exp c) g r m o) (sym q) w
 
-  pub dec-zero : (n : ℕ) (c : Cfg) {a r : ℕ} {m o : List ℕ} {keep : Bool} → n ≡ 0 → Stops a r → Walked keep words p ((walks n).get-dec-one c) (run_of a m o) r m o
+  pub dec-zero : (n : ℕ) (c : Cfg) {a r : ℕ} {m o : List ℕ} {keep : Bool} → n ≡ 0 → Stops a r → Walked keep words p ((walks n).get_dec_one c) (run_of a m o) r m o
   unfolding walks
-  dec-zero n c {a} {r} {m} {o} {keep} e f = subst (λ n. Walked keep words p ((walks n).get-dec-one c) (run_of a m o) r m o) (sym e) (last-halt f)
+  dec-zero n c {a} {r} {m} {o} {keep} e f = subst (λ n. Walked keep words p ((walks n).get_dec_one c) (run_of a m o) r m o) (sym e) (last-halt f)
 
-  pub dec-form : (n : ℕ) (c : Cfg) {g : Run} {r : ℕ} {m o : List ℕ} {keep : Bool} → (n ≡ 0 → ⊥) → Walked keep words p (declaration (comment-line c) (λ k. get_or (decs (walks (n - 1)) c) k halt)) g r m o → Walked keep words p ((walks n).get-dec-one c) g r m o
+  pub dec-form : (n : ℕ) (c : Cfg) {g : Run} {r : ℕ} {m o : List ℕ} {keep : Bool} → (n ≡ 0 → ⊥) → Walked keep words p (declaration (comment_line c) (λ k. get_or (decs (walks (n - 1)) c) k halt)) g r m o → Walked keep words p ((walks n).get_dec_one c) g r m o
   unfolding walks
   dec-form n c {g} {r} {m} {o} {keep} e w =
       let q : n ≡ suc (n - 1) = omega arith in
-      subst (λ n. Walked keep words p ((walks n).get-dec-one c) g r m o) (sym q) w
+      subst (λ n. Walked keep words p ((walks n).get_dec_one c) g r m o) (sym q) w

@@ -7,7 +7,7 @@ use Rattle.text.proofs.Laws.{never}
 use Rattle.layout.specs.declared.Cfg.{Cfg}
 use Rattle.layout.specs.declared.Status.{Status}
 use Rattle.layout.specs.declared.Status.TheVariants.{Done, Stopped}
-use Rattle.layout.specs.Layout.{Layout, skip, ◌⨾◌, word, output-indent, formed, text, group, choice, form, list, maybe, present, Look, look, Test, is_pipe, first_name, operator, halt}
+use Rattle.layout.specs.Layout.{Layout, skip, ◌⨾◌, word, output_indent, formed, text, group, choice, form, list, maybe, present, Look, look, Test, is_pipe, first_name, operator, halt}
 use Rattle.layout.specs.Meaning.{Page, Event, Word, Token, Comment, Formed, Indent, Outcome, done, stopped, Stop, absent, imported, after, bind, or_stop, outcome, operated, token_text, sees}
 use Rattle.layout.specs.Promises.Words.{word_run}
 use Rattle.layout.specs.Promises.State.{Run, run_of, at, effect, effects, Ran, went, fell, run, runs, stop_no, stop_of, told_of, packed, shown, page, Fair, Walked, Ended, Plain, Put, Sure, Texted, Indented, deepened, Stops, read_of, ReadAt, FormRead, group_of, GroupRead, gone_of, GoneRead, present_of, PresentRead, joint, TestedText, TestedName, Looked, Operated, cfg_of, Deeper, Does}
@@ -604,7 +604,7 @@ pub sure_word : {words : List ℕ} {u : String} {m o m' o' : List ℕ} → (word
 unfolding runs outcome run effects effect
 sure_word e = record { is = λ h p a. ap₂ (λ x y. went (run_of a x y)) (e h).mem (e h).out }
 
-pub sure-indent : {words : List ℕ} {d : ℕ} {m o m' o' : List ℕ} → Indented d m o m' o' → Sure words (output-indent d) m o m' o'
+pub sure-indent : {words : List ℕ} {d : ℕ} {m o m' o' : List ℕ} → Indented d m o m' o' → Sure words (output_indent d) m o m' o'
 unfolding runs outcome run effects effect
 sure-indent e = record { is = λ h p a. ap₂ (λ x y. went (run_of a x y)) e.mem e.out }
 

@@ -1,30 +1,30 @@
 -- 000's configuration, and its helpers that serve more than one family. A helper has 000's name, with `-` for `_`.
 use Rattle.std.specs.Prelude.{ℕ, zero, suc, ◌+◌, Bool, true, false}
 use Prim.Native.String.{String}
-use Rattle.layout.specs.Layout.{Layout, is_alphanumeric, skip, ◌⨾◌, word, output-indent, formed, text, group}
+use Rattle.layout.specs.Layout.{Layout, is_alphanumeric, skip, ◌⨾◌, word, output_indent, formed, text, group}
 use Rattle.layout.specs.Layout.{list, maybe, present, first_name}
 
 -- `Cfg`, with the depth in place of the indent's width: a depth × tab size spaces.
 pub record Cfg : Type 0 where
   pub depth : ℕ
-  pub extra-blank : Bool
+  pub extra_blank : Bool
 
 -- The walks of the forms one deeper, by 000's names, and how many forms may stand inside one another there.
 pub record Walkers : Type 0 where
   pub nesting : ℕ
-  pub get-ty : Layout
-  pub get-pat : Layout
-  pub get-exp : Cfg → Layout
-  pub get-str-exp : Cfg → Layout
-  pub get-sig-exp : Cfg → Layout
-  pub get-dec-one : Cfg → Layout
+  pub get_ty : Layout
+  pub get_pat : Layout
+  pub get_exp : Cfg → Layout
+  pub get_str_exp : Cfg → Layout
+  pub get_sig_exp : Cfg → Layout
+  pub get_dec_one : Cfg → Layout
 
 unfoldable pub with_extra_blank : Bool → Cfg → Cfg
-with_extra_blank b c = record { depth = c.depth; extra-blank = b }
+with_extra_blank b c = record { depth = c.depth; extra_blank = b }
 
 -- The configuration one deeper.
 abbrev pub deeper : Cfg → Cfg
-deeper c = record { depth = c.depth + 1; extra-blank = c.extra-blank }
+deeper c = record { depth = c.depth + 1; extra_blank = c.extra_blank }
 
 -- `let new = cfg.indented()`: the depth of `deeper c` is formed.
 unfoldable pub deepen : Cfg → Layout
@@ -32,11 +32,11 @@ deepen c = formed (deeper c).depth
 
 -- `cfg.output_indent(st)`.
 unfoldable pub indent : Cfg → Layout
-indent c = output-indent c.depth
+indent c = output_indent c.depth
 
 -- `cfg.indented().output_indent(st)`.
-unfoldable pub indent-deeper : Cfg → Layout
-indent-deeper c = deepen c ⨾ indent (deeper c)
+unfoldable pub indent_deeper : Cfg → Layout
+indent_deeper c = deepen c ⨾ indent (deeper c)
 
 -- `if b { .. }`.
 unfoldable pub when : Bool → Layout → Layout
@@ -61,10 +61,10 @@ sep s item = list (λ n. items n item (word s ⨾ item))
 
 -- Before an item of `sep_with_lines` that is not the first.
 unfoldable pub new_line : Cfg → String → Layout
-new_line c s = word "\n" ⨾ when c.extra-blank (word "\n") ⨾ indent c ⨾ word s
+new_line c s = word "\n" ⨾ when c.extra_blank (word "\n") ⨾ indent c ⨾ word s
 
-unfoldable pub sep-with_lines : Cfg → String → Layout → Layout
-sep-with_lines c s item = list (λ n. items n item (new_line c s ⨾ item))
+unfoldable pub sep_with_lines : Cfg → String → Layout → Layout
+sep_with_lines c s item = list (λ n. items n item (new_line c s ⨾ item))
 
 unfoldable pub in_end : Cfg → String → (Cfg → Layout) → (Cfg → Layout) → Layout
 in_end c kw f1 f2 =
@@ -91,8 +91,8 @@ unfoldable pub op : Layout
 op = first_name is_alphanumeric (word "op" ⨾ word " ") (word "op")
 
 -- The fields `op_kw` and `path`.
-unfoldable pub op-path : Layout
-op-path = present op skip ⨾ path
+unfoldable pub op_path : Layout
+op_path = present op skip ⨾ path
 
 -- The variables of a sequence, with a comma between.
 unfoldable pub ty_vars : Layout

@@ -26,7 +26,7 @@ pub data Layout : Type 0 where
   ◌⨾◌ : Layout → Layout → Layout
   -- writes: a fixed word; an indent at a depth
   word : String → Layout
-  output-indent : ℕ → Layout
+  output_indent : ℕ → Layout
   -- a depth that `indented` forms
   formed : ℕ → Layout
   -- fields that 000 takes with `?`: a token, whose text is written; a group, a choice, a form; a list, which is always there

@@ -11,7 +11,7 @@ use Rattle.reader.specs.Tokens.{Tokens, count_of, text_of}
 use Rattle.reader.specs.Check.{ok, malformed, too_deep, token_fits, form_fits, end_within, field_end}
 use Rattle.comments.specs.Above.{comment_above}
 use Rattle.layout.specs.Layout.{Layout, Look, is_if_exp, body_exp_needs_newline, Test, is_bang, is_pipe, is_alphabetic, is_alphanumeric}
-use Rattle.layout.specs.Layout.{skip, ◌⨾◌, word, output-indent, formed, text, group, choice, form, list, maybe, present}
+use Rattle.layout.specs.Layout.{skip, ◌⨾◌, word, output_indent, formed, text, group, choice, form, list, maybe, present}
 use Rattle.layout.specs.Layout.{look, first_name, application, operator, declaration, dropped, halt, import}
 
 -- What the walk does, without tab size or text: tokens and comments stand by number, indents by depth.
@@ -197,7 +197,7 @@ module _ (p : Page) where
   outcome skip at = done at []
   outcome (v ⨾ w) at = bind (outcome v at) (λ next. outcome w next)
   outcome (word w) at = done at (Word w ∷ [])
-  outcome (output-indent depth) at = done at (Indent depth ∷ [])
+  outcome (output_indent depth) at = done at (Indent depth ∷ [])
   outcome (formed depth) at = done at (Formed depth ∷ [])
   outcome text at = or_stop (token_fits p.rec count at) at (λ k. done (at + 3) (Token k ∷ []))
   outcome (group w) at = elim (group_at p.rec at) [ true ↦ outcome w (at + 1) | false ↦ stopped (absent at) [] ]

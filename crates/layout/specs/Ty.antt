@@ -5,49 +5,49 @@ use Rattle.layout.specs.Layout.{Layout, ◌⨾◌, word, text, group, maybe, dro
 use Rattle.layout.specs.Helpers.{Walkers, path, sep, for_each}
 
 module _ (ws : Walkers) where
-  open ws use {nesting, get-ty}
+  open ws use {nesting, get_ty}
 
   unfoldable pub ty_row : Layout
-  ty_row = group (text ⨾ word " : " ⨾ get-ty)
+  ty_row = group (text ⨾ word " : " ⨾ get_ty)
 
-  unfoldable pub ty-rows : Layout
-  ty-rows = sep ", " ty_row
+  unfoldable pub ty_rows : Layout
+  ty_rows = sep ", " ty_row
 
-  unfoldable pub ty-args : Layout
-  ty-args = sep ", " (group get-ty)
+  unfoldable pub ty_args : Layout
+  ty_args = sep ", " (group get_ty)
 
-  unfoldable pub ty-seq-there : Layout
-  ty-seq-there = group (word "(" ⨾ ty-args ⨾ word ") ")
+  unfoldable pub ty_seq_there : Layout
+  ty_seq_there = group (word "(" ⨾ ty_args ⨾ word ") ")
 
-  unfoldable pub ty-seq : Layout
-  ty-seq = maybe ty-seq-there
+  unfoldable pub ty_seq : Layout
+  ty_seq = maybe ty_seq_there
 
-  unfoldable pub star-ty : Layout
-  star-ty = group (word " * " ⨾ get-ty)
+  unfoldable pub star_ty : Layout
+  star_ty = group (word " * " ⨾ get_ty)
 
-  unfoldable pub star-tys : Layout
-  star-tys = for_each star-ty
+  unfoldable pub star_tys : Layout
+  star_tys = for_each star_ty
 
   -- The arm of each form.
   unfoldable pub ty : TyForm → Layout
   ty HoleTy = word "..."
   ty WildcardTy = word "_"
   ty TyVarTy = text
-  ty RecordTy = word "{ " ⨾ ty-rows ⨾ word " }"
-  ty ConTy = ty-seq ⨾ path
-  ty OneArgConTy = get-ty ⨾ word " " ⨾ path
+  ty RecordTy = word "{ " ⨾ ty_rows ⨾ word " }"
+  ty ConTy = ty_seq ⨾ path
+  ty OneArgConTy = get_ty ⨾ word " " ⨾ path
   -- The first call of `get_ty` drops its result.
-  ty TupleTy = dropped nesting get-ty ⨾ star-tys
-  ty FnTy = get-ty ⨾ word " -> " ⨾ get-ty
-  ty ParenTy = word "(" ⨾ get-ty ⨾ word ")"
+  ty TupleTy = dropped nesting get_ty ⨾ star_tys
+  ty FnTy = get_ty ⨾ word " -> " ⨾ get_ty
+  ty ParenTy = word "(" ⨾ get_ty ⨾ word ")"
 
   -- The arms in order.
   unfoldable pub tys : List Layout
   tys = map ty ty_forms
 
   -- ---- helpers of other families that walk into a type
-  unfoldable pub ty-annotation-there : Layout
-  ty-annotation-there = group (word " : " ⨾ get-ty)
+  unfoldable pub ty_annotation_there : Layout
+  ty_annotation_there = group (word " : " ⨾ get_ty)
 
-  unfoldable pub ty-annotation : Layout
-  ty-annotation = maybe ty-annotation-there
+  unfoldable pub ty_annotation : Layout
+  ty_annotation = maybe ty_annotation_there

@@ -2,10 +2,10 @@
 ghost use Rattle.layout.specs.Promises.Words.{word_of};
 ghost use Rattle.layout.specs.Layout.{word as word_of·, text as text_field, is_alphanumeric, ◌⨾◌};
 ghost use Rattle.layout.specs.Helpers.{path as path_layout, word_if, in_parens, ty_vars, ty_var_seq_there, ty_var_seq};
-ghost use Rattle.layout.specs.Helpers.{deeper, indent as indent_of, indent-deeper, when, new_line, op as op_layout, op-path};
+ghost use Rattle.layout.specs.Helpers.{deeper, indent as indent_of, indent_deeper, when, new_line, op as op_layout, op_path};
 ghost use Rattle.std.specs.Prelude.{◌≡◌, ◌+◌, ◌≤◌};
 ghost use Rattle.reader.specs.Promises.Commands.{number_in};
-ghost use Rattle.layout.specs.DecOne.{comment-line};
+ghost use Rattle.layout.specs.DecOne.{comment_line};
 ghost use Rattle.layout.specs.Promises.Lent.{starts, lens, plainly, writes, indents, writes_above};
 ghost use Rattle.layout.specs.Promises.State.{TestedName, deepened, joint, cfg_of};
 
@@ -267,7 +267,7 @@ pub fn indent_in(out: &mut [u8], mem: &mut [u64; 68], cfg: Cfg)
 // An indent one deeper, at a depth that is formed here.
 pub fn indent_deeper(out: &mut [u8], mem: &mut [u64; 68], cfg: Cfg)
     requires { cfg.depth + 1 ≤ 1000 }
-    ensures { indents (indent-deeper (cfg_of cfg)) out mem }
+    ensures { indents (indent_deeper (cfg_of cfg)) out mem }
 {
     deepen(mem, cfg);
     indent_in(out, mem, cfg);
@@ -413,7 +413,7 @@ pub fn op_path<'a>(
     mem: &mut [u64; 68],
     at: usize,
 ) -> usize
-    ensures { plainly op-path run text rec spans out mem at result }
+    ensures { plainly op_path run text rec spans out mem at result }
 {
     let given = present(rec, spans, at);
     match given {
@@ -435,7 +435,7 @@ pub fn comment_above<'a>(
     cfg: Cfg,
     first: Number,
 )
-    ensures { writes_above (comment-line (cfg_of cfg)) run text kinds spans out mem (number_in first) }
+    ensures { writes_above (comment_line (cfg_of cfg)) run text kinds spans out mem (number_in first) }
 {
     let Number::Is(k) = first else {
         return;

@@ -8,8 +8,8 @@ use Rattle.layout.specs.declared.looks.Head as Looks
 use Rattle.layout.specs.declared.looks.BothSeen as Both
 use Rattle.layout.specs.Layout.{is_bang, is_alphabetic, word, ◌⨾◌}
 use Rattle.layout.specs.Meaning.{Page, passes, func_is_bang, arg_is_symbolic}
-use Rattle.layout.specs.Helpers.{Cfg, Walkers, when, indent-deeper, items, new_line}
-use Rattle.layout.specs.DecOne.{con-bind, con-binds}
+use Rattle.layout.specs.Helpers.{Cfg, Walkers, when, indent_deeper, items, new_line}
+use Rattle.layout.specs.DecOne.{con_bind, con_binds}
 use Rattle.layout.specs.Exp.{app_space}
 use Rattle.layout.specs.Promises.State.{Run, page, head_in, TestedText, Walked, Sure, Stops, BangIs, SymbolicIs}
 use Rattle.leaves.specs.Promises.Heads.{missed_at}
@@ -49,13 +49,13 @@ module _ {words : List ℕ} {b : Bool} (c : Bool) {m o m' o' : List ℕ} where
 -- Over one constructor, and up to one.
 module _ {words : List ℕ} {p : Page} {n : ℕ} (ws : Walkers) (c : Cfg) {g : Run} {a : ℕ} {m o : List ℕ} where
   pub con-over : {keep : Bool} → 1 < n
-      → Walked keep words p (word " =\n" ⨾ indent-deeper c ⨾ items n (con-bind ws) (new_line c "| " ⨾ con-bind ws)) g a m o → Walked keep words p (con-binds ws c n) g a m o
-  unfolding con-binds
-  con-over h w = rw (lt-ltb 1 n h, con-binds) w
+      → Walked keep words p (word " =\n" ⨾ indent_deeper c ⨾ items n (con_bind ws) (new_line c "| " ⨾ con_bind ws)) g a m o → Walked keep words p (con_binds ws c n) g a m o
+  unfolding con_binds
+  con-over h w = rw (lt-ltb 1 n h, con_binds) w
 
-  pub con-under : {keep : Bool} → n ≤ 1 → Walked keep words p (word " = " ⨾ items n (con-bind ws) (word " | " ⨾ con-bind ws)) g a m o → Walked keep words p (con-binds ws c n) g a m o
-  unfolding con-binds
-  con-under h w = rw (le-ltb 1 n h, con-binds) w
+  pub con-under : {keep : Bool} → n ≤ 1 → Walked keep words p (word " = " ⨾ items n (con_bind ws) (word " | " ⨾ con_bind ws)) g a m o → Walked keep words p (con_binds ws c n) g a m o
+  unfolding con_binds
+  con-under h w = rw (le-ltb 1 n h, con_binds) w
 
 pub missed : {x : Both.BothSeen} {place r : ℕ} → Stops (missed_at x) r → x ≡ Both.BothSeen.Missing place → Stops place r
 unfolding missed_at

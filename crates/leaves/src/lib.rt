@@ -5,16 +5,16 @@
 ghost use Rattle.std.specs.Prelude.{◌≡◌, ◌&&◌, ◌+◌, ◌≤◌, eqb};
 ghost use Rattle.layout.specs.Promises.Words.{word_of};
 ghost use Rattle.layout.specs.Layout.{word as word_of·, choice as choice·, ◌⨾◌};
-ghost use Rattle.layout.specs.Helpers.{indent as indent_of, indent-deeper as indent_deeper, new_line, items, when};
+ghost use Rattle.layout.specs.Helpers.{indent as indent_of, indent_deeper, new_line, items, when};
 ghost use Rattle.layout.specs.Promises.Lent.{starts, lens, plainly, writes, indents, writes_operator};
 ghost use Rattle.layout.specs.Promises.State.{BangIs, SymbolicIs, Stops, cfg_of, head_in};
 ghost use Rattle.layout.specs.Walk.{walks};
 ghost use Rattle.layout.specs.Exp.{item_semi, app_space, pipe, exp as exp·};
 ghost use Rattle.reader.specs.Forms.{SelectorExp};
-ghost use Rattle.layout.specs.GetDec.{sharing-tail, sharing-tails};
-ghost use Rattle.layout.specs.DecOne.{ty-bind, ty-binds, with-type, con-bind, con-binds, dat-bind, dat-binds};
-ghost use Rattle.layout.specs.DecOne.{PrefixFunBindCaseHead, infix-head, InfixFunBindCaseHead, case-head, case-pats, ex-bind-of};
-ghost use Rattle.layout.specs.DecOne.{int-lit, names-space, dec-one as dec-one·};
+ghost use Rattle.layout.specs.GetDec.{sharing_tail, sharing_tails};
+ghost use Rattle.layout.specs.DecOne.{ty_bind, ty_binds, with_type, con_bind, con_binds, dat_bind, dat_binds};
+ghost use Rattle.layout.specs.DecOne.{PrefixFunBindCaseHead, infix_head, InfixFunBindCaseHead, case_head, case_pats, ex_bind_of};
+ghost use Rattle.layout.specs.DecOne.{int_lit, names_space, dec_one as dec_one·};
 ghost use Rattle.reader.specs.Forms.{TyDec, DatDec, DatCopyDec, OpenDec, NonfixDec};
 ghost use Rattle.leaves.specs.Promises.Heads.{missed_at};
 
@@ -199,7 +199,7 @@ fn ty_bind<'a>(
     at: usize,
     cfg: Cfg,
 ) -> usize
-    ensures { plainly (ty-bind (walks cfg.nesting)) run text rec spans out mem at result }
+    ensures { plainly (ty_bind (walks cfg.nesting)) run text rec spans out mem at result }
 {
     let r1 = group(rec, at);
     let Status::Done(s1) = told(r1) else {
@@ -235,7 +235,7 @@ fn ty_binds<'a>(
     at: usize,
     cfg: Cfg,
 ) -> usize
-    ensures { plainly (ty-binds (walks cfg.nesting) (cfg_of cfg)) run text rec spans out mem at result }
+    ensures { plainly (ty_binds (walks cfg.nesting) (cfg_of cfg)) run text rec spans out mem at result }
 {
     let Read::Is(n, s0) = list(rec, at) else {
         return stop(at);
@@ -265,7 +265,7 @@ pub fn with_type<'a>(
     at: usize,
     cfg: Cfg,
 ) -> usize
-    ensures { plainly (with-type (walks cfg.nesting) (cfg_of cfg)) run text rec spans out mem at result }
+    ensures { plainly (with_type (walks cfg.nesting) (cfg_of cfg)) run text rec spans out mem at result }
 {
     if let Gone::Past(s0) = absent(rec, at) {
         return s0;
@@ -290,7 +290,7 @@ fn con_bind<'a>(
     at: usize,
     cfg: Cfg,
 ) -> usize
-    ensures { plainly (con-bind (walks cfg.nesting)) run text rec spans out mem at result }
+    ensures { plainly (con_bind (walks cfg.nesting)) run text rec spans out mem at result }
 {
     let r1 = group(rec, at);
     let Status::Done(s1) = told(r1) else {
@@ -325,8 +325,8 @@ fn con_lines<'a>(
 ) -> usize
     requires { cfg.depth + 1 ≤ 1000 }
     ensures { plainly
-        (word_of· " =\n" ⨾ indent_deeper (cfg_of cfg) ⨾ items n (con-bind (walks cfg.nesting))
-        (new_line (cfg_of cfg) "| " ⨾ con-bind (walks cfg.nesting)))
+        (word_of· " =\n" ⨾ indent_deeper (cfg_of cfg) ⨾ items n (con_bind (walks cfg.nesting))
+        (new_line (cfg_of cfg) "| " ⨾ con_bind (walks cfg.nesting)))
         run text rec spans out mem at result }
 {
     word(run, text, out, mem, words::EQ_LINE);
@@ -357,7 +357,7 @@ fn con_row<'a>(
     cfg: Cfg,
     n: usize,
 ) -> usize
-    ensures { plainly (word_of· " = " ⨾ items n (con-bind (walks cfg.nesting)) (word_of· " | " ⨾ con-bind (walks cfg.nesting)))
+    ensures { plainly (word_of· " = " ⨾ items n (con_bind (walks cfg.nesting)) (word_of· " | " ⨾ con_bind (walks cfg.nesting)))
         run text rec spans out mem at result }
 {
     word(run, text, out, mem, words::EQ_SPACED);
@@ -388,7 +388,7 @@ fn con_binds<'a>(
     n: usize,
 ) -> usize
     requires { cfg.depth + 1 ≤ 1000 }
-    ensures { plainly (con-binds (walks cfg.nesting) (cfg_of cfg) n) run text rec spans out mem at result }
+    ensures { plainly (con_binds (walks cfg.nesting) (cfg_of cfg) n) run text rec spans out mem at result }
 {
     if 1 < n {
         return con_lines(run, text, rec, spans, out, mem, at, cfg, n);
@@ -408,7 +408,7 @@ fn dat_bind<'a>(
     cfg: Cfg,
 ) -> usize
     requires { cfg.depth + 1 ≤ 1000 }
-    ensures { plainly (dat-bind (walks cfg.nesting) (cfg_of cfg)) run text rec spans out mem at result }
+    ensures { plainly (dat_bind (walks cfg.nesting) (cfg_of cfg)) run text rec spans out mem at result }
 {
     let r1 = group(rec, at);
     let Status::Done(s1) = told(r1) else {
@@ -444,7 +444,7 @@ pub fn dat_binds<'a>(
     cfg: Cfg,
 ) -> usize
     requires { cfg.depth + 1 ≤ 1000 }
-    ensures { plainly (dat-binds (walks cfg.nesting) (cfg_of cfg)) run text rec spans out mem at result }
+    ensures { plainly (dat_binds (walks cfg.nesting) (cfg_of cfg)) run text rec spans out mem at result }
 {
     let Read::Is(n, s0) = list(rec, at) else {
         return stop(at);
@@ -474,7 +474,7 @@ pub fn ty_dec<'a>(
     at: usize,
     cfg: Cfg,
 ) -> usize
-    ensures { plainly (dec-one· (walks cfg.nesting) (cfg_of cfg) TyDec) run text rec spans out mem at result }
+    ensures { plainly (dec_one· (walks cfg.nesting) (cfg_of cfg) TyDec) run text rec spans out mem at result }
 {
     let r1 = text_of(run, text, rec, spans, out, mem, at);
     let Status::Done(s1) = told(r1) else {
@@ -496,7 +496,7 @@ pub fn dat_dec<'a>(
     cfg: Cfg,
 ) -> usize
     requires { cfg.depth + 1 ≤ 1000 }
-    ensures { plainly (dec-one· (walks cfg.nesting) (cfg_of cfg) DatDec) run text rec spans out mem at result }
+    ensures { plainly (dec_one· (walks cfg.nesting) (cfg_of cfg) DatDec) run text rec spans out mem at result }
 {
     word(run, text, out, mem, words::DATATYPE);
     let r1 = dat_binds(run, text, rec, spans, out, mem, at, cfg);
@@ -517,7 +517,7 @@ pub fn dat_copy_dec<'a>(
     at: usize,
     cfg: Cfg,
 ) -> usize
-    ensures { plainly (dec-one· (walks cfg.nesting) (cfg_of cfg) DatCopyDec) run text rec spans out mem at result }
+    ensures { plainly (dec_one· (walks cfg.nesting) (cfg_of cfg) DatCopyDec) run text rec spans out mem at result }
 {
     word(run, text, out, mem, words::DATATYPE);
     let r1 = text_of(run, text, rec, spans, out, mem, at);
@@ -540,7 +540,7 @@ pub fn open_dec<'a>(
     at: usize,
     cfg: Cfg,
 ) -> usize
-    ensures { plainly (dec-one· (walks cfg.nesting) (cfg_of cfg) OpenDec) run text rec spans out mem at result }
+    ensures { plainly (dec_one· (walks cfg.nesting) (cfg_of cfg) OpenDec) run text rec spans out mem at result }
 {
     word(run, text, out, mem, words::OPEN);
     let Read::Is(n, s1) = list(rec, at) else {
@@ -571,7 +571,7 @@ fn names_space<'a>(
     at: usize,
     cfg: Cfg,
 ) -> usize
-    ensures { plainly (names-space (walks cfg.nesting)) run text rec spans out mem at result }
+    ensures { plainly (names_space (walks cfg.nesting)) run text rec spans out mem at result }
 {
     let Read::Is(n, s0) = list(rec, at) else {
         return stop(at);
@@ -601,7 +601,7 @@ fn int_lit<'a>(
     at: usize,
     cfg: Cfg,
 ) -> usize
-    ensures { plainly (int-lit (walks cfg.nesting)) run text rec spans out mem at result }
+    ensures { plainly (int_lit (walks cfg.nesting)) run text rec spans out mem at result }
 {
     if let Gone::Past(s0) = absent(rec, at) {
         return s0;
@@ -626,7 +626,7 @@ pub fn infix_dec<'a>(
     cfg: Cfg,
     w: usize,
 ) -> usize
-    ensures { plainly (word_of· (word_of w) ⨾ int-lit (walks cfg.nesting) ⨾ names-space (walks cfg.nesting))
+    ensures { plainly (word_of· (word_of w) ⨾ int_lit (walks cfg.nesting) ⨾ names_space (walks cfg.nesting))
         run text rec spans out mem at result }
 {
     word(run, text, out, mem, w);
@@ -648,7 +648,7 @@ pub fn nonfix_dec<'a>(
     at: usize,
     cfg: Cfg,
 ) -> usize
-    ensures { plainly (dec-one· (walks cfg.nesting) (cfg_of cfg) NonfixDec) run text rec spans out mem at result }
+    ensures { plainly (dec_one· (walks cfg.nesting) (cfg_of cfg) NonfixDec) run text rec spans out mem at result }
 {
     word(run, text, out, mem, words::NONFIX);
     names_space(run, text, rec, spans, out, mem, at, cfg)
@@ -686,7 +686,7 @@ fn infix_pats<'a>(
     at: usize,
     cfg: Cfg,
 ) -> usize
-    ensures { plainly (infix-head (walks cfg.nesting)) run text rec spans out mem at result }
+    ensures { plainly (infix_head (walks cfg.nesting)) run text rec spans out mem at result }
 {
     let r1 = get_pat(run, text, rec, spans, out, mem, at, cfg);
     let Status::Done(s1) = told(r1) else {
@@ -712,7 +712,7 @@ fn infix_in_parens<'a>(
     at: usize,
     cfg: Cfg,
 ) -> usize
-    ensures { plainly (word_of· "(" ⨾ infix-head (walks cfg.nesting) ⨾ word_of· ")") run text rec spans out mem at result }
+    ensures { plainly (word_of· "(" ⨾ infix_head (walks cfg.nesting) ⨾ word_of· ")") run text rec spans out mem at result }
 {
     word(run, text, out, mem, words::L_ROUND);
     let r1 = infix_pats(run, text, rec, spans, out, mem, at, cfg);
@@ -756,7 +756,7 @@ fn case_head_of<'a>(
     cfg: Cfg,
     which: usize,
 ) -> usize
-    ensures { plainly (case-head (walks cfg.nesting) which) run text rec spans out mem at result }
+    ensures { plainly (case_head (walks cfg.nesting) which) run text rec spans out mem at result }
 {
     match which {
         0 => prefix_head(run, text, rec, spans, out, mem, at, cfg),
@@ -776,7 +776,7 @@ pub fn case_head<'a>(
     at: usize,
     cfg: Cfg,
 ) -> usize
-    ensures { plainly (choice· (case-head (walks cfg.nesting))) run text rec spans out mem at result }
+    ensures { plainly (choice· (case_head (walks cfg.nesting))) run text rec spans out mem at result }
 {
     let Read::Is(k, s1) = choice(rec, at) else {
         return stop(at);
@@ -795,7 +795,7 @@ pub fn case_pats<'a>(
     at: usize,
     cfg: Cfg,
 ) -> usize
-    ensures { plainly (case-pats (walks cfg.nesting)) run text rec spans out mem at result }
+    ensures { plainly (case_pats (walks cfg.nesting)) run text rec spans out mem at result }
 {
     let Read::Is(n, s0) = list(rec, at) else {
         return stop(at);
@@ -826,7 +826,7 @@ pub fn ex_bind_of<'a>(
     at: usize,
     cfg: Cfg,
 ) -> usize
-    ensures { plainly (ex-bind-of (walks cfg.nesting)) run text rec spans out mem at result }
+    ensures { plainly (ex_bind_of (walks cfg.nesting)) run text rec spans out mem at result }
 {
     word(run, text, out, mem, words::OF);
     get_ty(run, text, rec, spans, out, mem, at, cfg)
@@ -843,7 +843,7 @@ fn sharing_tail<'a>(
     at: usize,
     cfg: Cfg,
 ) -> usize
-    ensures { plainly (sharing-tail (walks cfg.nesting) (cfg_of cfg)) run text rec spans out mem at result }
+    ensures { plainly (sharing_tail (walks cfg.nesting) (cfg_of cfg)) run text rec spans out mem at result }
 {
     let r1 = group(rec, at);
     let Status::Done(s1) = told(r1) else {
@@ -883,7 +883,7 @@ pub fn sharing_tails<'a>(
     at: usize,
     cfg: Cfg,
 ) -> usize
-    ensures { plainly (sharing-tails (walks cfg.nesting) (cfg_of cfg)) run text rec spans out mem at result }
+    ensures { plainly (sharing_tails (walks cfg.nesting) (cfg_of cfg)) run text rec spans out mem at result }
 {
     let Read::Is(n, s0) = list(rec, at) else {
         return stop(at);

@@ -7,10 +7,10 @@ use Rattle.measures.proofs.Paying.{Paid}
 
 -- From a depth of at most `top` on. A form leaves credits for the word in front of the next.
 pub record Walks (p : Page) (top : ℕ) (ws : Walkers) : Type 0 where
-  pub ty : Paid p 0 12 ws.get-ty
-  pub dropped-ty : Paid p 0 0 (dropped ws.nesting ws.get-ty)
-  pub pat : Paid p 0 12 ws.get-pat
-  pub exp : (c : Cfg) → c.depth ≤ top → Paid p 0 12 (ws.get-exp c)
-  pub str-exp : (c : Cfg) → c.depth ≤ top → Paid p 0 12 (ws.get-str-exp c)
-  pub sig-exp : (c : Cfg) → c.depth ≤ top → Paid p 0 12 (ws.get-sig-exp c)
-  pub dec-one : (c : Cfg) → c.depth ≤ top → Paid p 0 12 (ws.get-dec-one c)
+  pub ty : Paid p 0 12 ws.get_ty
+  pub dropped-ty : Paid p 0 0 (dropped ws.nesting ws.get_ty)
+  pub pat : Paid p 0 12 ws.get_pat
+  pub exp : (c : Cfg) → c.depth ≤ top → Paid p 0 12 (ws.get_exp c)
+  pub str_exp : (c : Cfg) → c.depth ≤ top → Paid p 0 12 (ws.get_str_exp c)
+  pub sig_exp : (c : Cfg) → c.depth ≤ top → Paid p 0 12 (ws.get_sig_exp c)
+  pub dec_one : (c : Cfg) → c.depth ≤ top → Paid p 0 12 (ws.get_dec_one c)

@@ -9,7 +9,7 @@ use borrow.Author.Tests.{leb-true}
 use Rattle.text.specs.Bytes.{bytes}
 use Rattle.layout.specs.Layout.{Layout, word}
 use Rattle.layout.specs.Meaning.{Page}
-use Rattle.layout.specs.Helpers.{Cfg, deeper, deepen, indent, for_each, sep, new_line, sep-with_lines, in_end, path, op, op-path, in_parens, ty_vars, ty_var_seq_there, ty_var_seq, word_if, semicolon}
+use Rattle.layout.specs.Helpers.{Cfg, deeper, deepen, indent, for_each, sep, new_line, sep_with_lines, in_end, path, op, op_path, in_parens, ty_vars, ty_var_seq_there, ty_var_seq, word_if, semicolon}
 use Rattle.measures.proofs.Paying as Paying
 use Rattle.measures.proofs.Paying.{Paid, Short, eased, skips, fixed, indents, ◌then◌, texts, lists, groups, maybes, whens, presents, first_names, repeats, itemed}
 
@@ -44,8 +44,8 @@ module _ {p : Page} where
     new-lines w = fixed refl then whens (fixed refl) _ then at-depth then w
 
     pub lines : {a r : ℕ} {s : String} {item : Layout} → Paid p 1 0 (word s) → leb (4 + a) r ≡ true → Paid p a r item
-        → Paid p (a - 96) (0 + (96 - a)) (sep-with_lines c s item)
-    unfolding sep-with_lines
+        → Paid p (a - 96) (0 + (96 - a)) (sep_with_lines c s item)
+    unfolding sep_with_lines
     lines {a} {r} w e x =
         let l = leb-true (4 + a) r e in
         lists (λ n. eased (omega (arith, l)) (omega (arith, l)) (itemed (omega (arith, l)) (new-lines w then x) x n))
@@ -65,8 +65,8 @@ module _ {p : Page} where
     unfolding path bytes
     paths = groups (seps (fixed refl) refl (groups (texts short)))
 
-    pub op-paths : Paid p 0 64 op-path
-    unfolding op-path op bytes
+    pub op-paths : Paid p 0 64 op_path
+    unfolding op_path op bytes
     op-paths = eased (omega arith) (omega arith) (presents (first_names (fixed refl then fixed refl) (fixed refl)) skips then paths)
 
     ty-vars-paid : Paid p 0 96 ty_vars

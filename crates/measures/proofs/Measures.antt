@@ -19,9 +19,9 @@ use Rattle.reader.proofs.CommandLaws.{and_left, and_right, list-fits}
 use Rattle.layout.specs.Layout.{Layout, list}
 use Rattle.layout.specs.Meaning.{Page, Event, Outcome, done, stopped, Stop, outcome, or_stop}
 use Rattle.layout.specs.Events.{sum_of, deepest, units, letters}
-use Rattle.layout.specs.Helpers.{Cfg, sep-with_lines}
-use Rattle.layout.specs.GetDec.{get-dec}
-use Rattle.layout.specs.DecOne.{comment-line}
+use Rattle.layout.specs.Helpers.{Cfg, sep_with_lines}
+use Rattle.layout.specs.GetDec.{get_dec}
+use Rattle.layout.specs.DecOne.{comment_line}
 use Rattle.layout.specs.Walk.{walks, top, walk}
 use Rattle.layout.proofs.Exact.{cap}
 use Rattle.measures.specs.Small.{events_of, Small}
@@ -36,13 +36,13 @@ use Rattle.measures.proofs.Rows.{ty-arms, pat-arms, exp-arms, sig-arms, str-arms
 use Rattle.measures.proofs.TypesFollow.{ty-pairs}
 
 -- Behind the comment above a declaration.
-comment_lines : {p : Page} (c : Cfg) → c.depth ≤ 400 → Paid p 2 0 (comment-line c)
-unfolding comment-line bytes
+comment_lines : {p : Page} (c : Cfg) → c.depth ≤ 400 → Paid p 2 0 (comment_line c)
+unfolding comment_line bytes
 comment_lines c h = fixed refl then at-depth c h
 
 -- ---- the knot: a form adds at most 2 to the depth
 module _ {p : Page} (short : Short p) where
-  ty-follows : (n : ℕ) (may : Bool) (d : ℕ) → Follows p d may (Fields.form Ty) 0 12 (walks n).get-ty
+  ty-follows : (n : ℕ) (may : Bool) (d : ℕ) → Follows p d may (Fields.form Ty) 0 12 (walks n).get_ty
   unfolding walks
   ty-follows zero may d = Following.halts
   ty-follows (suc n) may d =
@@ -56,25 +56,25 @@ module _ {p : Page} (short : Short p) where
         dropped-ty = drops-paid (ty-follows zero true) halts;
         pat = halts;
         exp = λ c l. halts;
-        str-exp = λ c l. halts;
-        sig-exp = λ c l. halts;
-        dec-one = λ c l. halts;
+        str_exp = λ c l. halts;
+        sig_exp = λ c l. halts;
+        dec_one = λ c l. halts;
       }
   walks-paid (suc n) h =
       let go = walks-paid n (omega arith) in
       let low : 400 - 2 * n ≤ 400 = omega arith in
-      let ty : Paid p 0 12 (walks (suc n)).get-ty = eased (omega arith) (omega arith) (families (λ k. (ty-arms short go low).at k) Ty) in
+      let ty : Paid p 0 12 (walks (suc n)).get_ty = eased (omega arith) (omega arith) (families (λ k. (ty-arms short go low).at k) Ty) in
       record {
         ty = ty;
         dropped-ty = drops-paid (ty-follows (suc n) true) ty;
         pat = eased (omega arith) (omega arith) (families (λ k. (pat-arms short go low).at k) Pat);
         exp = λ c l. eased (omega arith) (omega arith) (families (λ k. (exp-arms short go low c (omega arith)).at k) Exp);
-        str-exp = λ c l. eased (omega arith) (omega arith) (families (λ k. (str-arms short go low c (omega arith)).at k) StrExp);
-        sig-exp = λ c l. eased (omega arith) (omega arith) (families (λ k. (sig-arms short go low c (omega arith)).at k) SigExp);
-        dec-one = λ c l. eased (omega arith) (omega arith) (declarations short (comment_lines c (omega arith)) (λ k. (dec-arms short go low c (omega arith)).at k));
+        str_exp = λ c l. eased (omega arith) (omega arith) (families (λ k. (str-arms short go low c (omega arith)).at k) StrExp);
+        sig_exp = λ c l. eased (omega arith) (omega arith) (families (λ k. (sig-arms short go low c (omega arith)).at k) SigExp);
+        dec_one = λ c l. eased (omega arith) (omega arith) (declarations short (comment_lines c (omega arith)) (λ k. (dec-arms short go low c (omega arith)).at k));
       }
 
-  top-paid : Paid p 0 32 (get-dec (walks 200) top)
+  top-paid : Paid p 0 32 (get_dec (walks 200) top)
   unfolding top
   top-paid = get-decs short (walks-paid 200 (omega arith)) (omega arith) top (omega arith)
 
@@ -102,14 +102,14 @@ module _ (p : Page) (tree : ℕ) (h : length p.rec < tree) where
 
 -- The walk from any offset of a record.
 pub small : (p : Page) (tree : ℕ) → length p.text ≤ 32768 → length p.rec ≤ 65536 → Small p (events_of (walk p tree))
-unfolding walk get-dec sep-with_lines
+unfolding walk get_dec sep_with_lines
 small p tree t l = go (leb tree (length p.rec)) refl
   where
-    go : (b : Bool) → leb tree (length p.rec) ≡ b → Small p (events_of (outcome p (get-dec (walks 200) top) tree))
+    go : (b : Bool) → leb tree (length p.rec) ≡ b → Small p (events_of (outcome p (get_dec (walks 200) top) tree))
     go true e =
-        within_small p tree 32 (outcome p (get-dec (walks 200) top) tree) l
+        within_small p tree 32 (outcome p (get_dec (walks 200) top) tree) l
         ((top-paid {p = p} (record { text = t })).is tree (leb-true tree (length p.rec) e))
-    go false e = past-small p tree (leb-false tree (length p.rec) e) (get-dec (walks 200) top) _ refl
+    go false e = past-small p tree (leb-false tree (length p.rec) e) (get_dec (walks 200) top) _ refl
 
 -- The two outcomes.
 module _ (p : Page) (tree : ℕ) (t : length p.text ≤ 32768) (l : length p.rec ≤ 65536) {es : List Event} where

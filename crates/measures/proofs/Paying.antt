@@ -17,7 +17,7 @@ use Rattle.reader.specs.Commands.{absent_at, list_at, group_at, choice_at, form_
 use Rattle.reader.proofs.CommandLaws.{token-fits, list-fits, choice-fits, absent-fits, group-fits, form-fits}
 use Rattle.reader.proofs.FieldLaws.{token-parts, fits-parts}
 use Rattle.reader.specs.Check.{token_fits, form_fits}
-use Rattle.layout.specs.Layout.{Layout, Look, Test, is_pipe, skip, ◌⨾◌, word, output-indent, formed, text, group, choice, form, list, maybe, present, look, first_name, application, operator, declaration, halt, import}
+use Rattle.layout.specs.Layout.{Layout, Look, Test, is_pipe, skip, ◌⨾◌, word, output_indent, formed, text, group, choice, form, list, maybe, present, look, first_name, application, operator, declaration, halt, import}
 use Rattle.layout.specs.Meaning.{Page, Token, Comment, Outcome, done, stopped, absent, bind, commented, outcome, or_stop, operated, above_first, token_text, passes, name_passes, sees, Heads, both, missing, heads_at, func_is_bang, arg_is_symbolic}
 use Rattle.layout.specs.Events.{sum_of, deepest, formed_depth, indent_depth, letters_of, trimmed}
 use Rattle.layout.specs.Helpers.{when, times, items}
@@ -120,7 +120,7 @@ module _ {p : Page} where
   pub fixed : {s : String} → leb (length (bytes s)) 512 ≡ true → Paid p 1 0 (word s)
   fixed {s} e = record { is = λ at h. word-within p s e at (end p) at (omega arith) h }
 
-  pub indents : {depth : ℕ} → depth ≤ 400 → Paid p 1 0 (output-indent depth)
+  pub indents : {depth : ℕ} → depth ≤ 400 → Paid p 1 0 (output_indent depth)
   unfolding outcome sum_of deepest letters_of indent_depth formed_depth
   indents l = record { is = λ at h. (omega arith, h, omega arith, omega arith) }
 

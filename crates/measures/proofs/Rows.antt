@@ -9,13 +9,13 @@ use Rattle.layout.specs.Meaning.{Page}
 use Rattle.layout.specs.Helpers.{Cfg, Walkers}
 use Rattle.measures.proofs.Paying.{Rows, Short, arm, ◌then◌, ◌▹◌, no_more}
 use Rattle.measures.proofs.Arms.{Walks}
-use Rattle.layout.specs.Helpers.{with_extra_blank, deeper, indent-deeper, in_parens}
-use Rattle.layout.specs.Ty.{ty_row, ty-rows, ty-args, ty-seq-there, ty-seq, star-ty, star-tys, ty, tys, ty-annotation-there, ty-annotation}
-use Rattle.layout.specs.Pat.{con-arg-there, con-arg, RestPatRow, LabAndPatPatRow, as-tail-there, as-tail, LabPatRow, pat-row-inner, pat-row, pat-rows, pat-args, pat, pats}
-use Rattle.layout.specs.Exp.{app_space, pipe, indented-levels, get-body-exp-level, get-body-exp, eq-body, get-matcher-arm, arms-on-lines, get-matcher-across-lines, exp-args, eq-exp, exp-row, exp-rows, if_no, fn-arms, exp, exps}
-use Rattle.layout.specs.SigExp.{ascription-tail, sig-exp, sig-exps}
-use Rattle.layout.specs.StrExp.{str-exp, str-exps}
-use Rattle.layout.specs.DecOne.{ty-bind, ty-binds, with-type, dat-bind, dat-binds, val-bind, val-binds, PrefixFunBindCaseHead, infix-head, InfixFunBindCaseHead, case-head, case-pats, fun-bind-case, fun-bind, ex-bind-of, ex-bind-inner, ex-bind, int-lit, names-space, local-decs, str-bind, sig-bind, functor-arg, functor-args, functor-bind, dec-one, decs}
+use Rattle.layout.specs.Helpers.{with_extra_blank, deeper, indent_deeper, in_parens}
+use Rattle.layout.specs.Ty.{ty_row, ty_rows, ty_args, ty_seq_there, ty_seq, star_ty, star_tys, ty, tys, ty_annotation_there, ty_annotation}
+use Rattle.layout.specs.Pat.{con_arg_there, con_arg, RestPatRow, LabAndPatPatRow, as_tail_there, as_tail, LabPatRow, pat_row_inner, pat_row, pat_rows, pat_args, pat, pats}
+use Rattle.layout.specs.Exp.{app_space, pipe, indented_levels, get_body_exp_level, get_body_exp, eq_body, get_matcher_arm, arms_on_lines, get_matcher_across_lines, exp_args, eq_exp, exp_row, exp_rows, if_no, fn_arms, exp, exps}
+use Rattle.layout.specs.SigExp.{ascription_tail, sig_exp, sig_exps}
+use Rattle.layout.specs.StrExp.{str_exp, str_exps}
+use Rattle.layout.specs.DecOne.{ty_bind, ty_binds, with_type, dat_bind, dat_binds, val_bind, val_binds, PrefixFunBindCaseHead, infix_head, InfixFunBindCaseHead, case_head, case_pats, fun_bind_case, fun_bind, ex_bind_of, ex_bind_inner, ex_bind, int_lit, names_space, local_decs, str_bind, sig_bind, functor_arg, functor_args, functor_bind, dec_one, decs}
 use Rattle.measures.proofs.Paying.{imports, fixed, texts, groups, choices, lists, maybes, presents, looks, applications, operators, whens}
 use Rattle.measures.proofs.Helpers.{deepened, at-depth, each, seps, lines, in-ends, words-if, paths, op-paths, ty-var-seqs}
 use Rattle.measures.proofs.Sequences.{get-decs, dec-args}
@@ -23,7 +23,7 @@ use Rattle.measures.proofs.Irregular.{semi-seqs, con-bindings, app-arguments}
 
 module _ {p : Page} (short : Short p) {top : ℕ} {ws : Walkers} (go : Walks p top ws) (low : top ≤ 400) where
   pub ty-arms : Rows p 16 0 (tys ws)
-  unfolding tys ty ty-rows ty_row ty-seq ty-seq-there ty-args star-tys star-ty bytes
+  unfolding tys ty ty_rows ty_row ty_seq ty_seq_there ty_args star_tys star_ty bytes
   ty-arms =
       arm refl (fixed refl)  -- HoleTy
       ▹ arm refl (fixed refl)  -- WildcardTy
@@ -37,7 +37,7 @@ module _ {p : Page} (short : Short p) {top : ℕ} {ws : Walkers} (go : Walks p t
       ▹ no_more
 
   pub pat-arms : Rows p 16 0 (pats ws)
-  unfolding pats pat con-arg con-arg-there pat-rows pat-row pat-row-inner RestPatRow LabAndPatPatRow LabPatRow ty-annotation ty-annotation-there as-tail as-tail-there pat-args bytes
+  unfolding pats pat con_arg con_arg_there pat_rows pat_row pat_row_inner RestPatRow LabAndPatPatRow LabPatRow ty_annotation ty_annotation_there as_tail as_tail_there pat_args bytes
   pat-arms =
       arm refl (fixed refl)  -- WildcardPat
       ▹ arm refl (texts short)  -- SConPat
@@ -58,7 +58,7 @@ module _ {p : Page} (short : Short p) {top : ℕ} {ws : Walkers} (go : Walks p t
   -- An arm goes at most two deeper.
   module _ (c : Cfg) (h : c.depth + 2 ≤ top) where
     pub exp-arms : Rows p 16 0 (exps ws c)
-    unfolding exps exp exp-rows exp-row eq-exp exp-args app_space pipe indent-deeper get-matcher-across-lines arms-on-lines get-matcher-arm get-body-exp-level indented-levels if_no fn-arms bytes
+    unfolding exps exp exp_rows exp_row eq_exp exp_args app_space pipe indent_deeper get_matcher_across_lines arms_on_lines get_matcher_arm get_body_exp_level indented_levels if_no fn_arms bytes
     exp-arms =
         arm refl (fixed refl)  -- HoleExp
         ▹ arm refl (fixed refl)  -- WildcardExp
@@ -100,29 +100,29 @@ module _ {p : Page} (short : Short p) {top : ℕ} {ws : Walkers} (go : Walks p t
         then go.exp (deeper (deeper c)) (omega arith)) (fixed refl then go.exp c (omega arith))))))  -- FnExp
         ▹ no_more
 
-    pub sig-arms : Rows p 16 0 (sig-exps ws c)
-    unfolding sig-exps sig-exp bytes
+    pub sig-arms : Rows p 16 0 (sig_exps ws c)
+    unfolding sig_exps sig_exp bytes
     sig-arms =
         arm refl (fixed refl then deepened c (omega arith) then at-depth (deeper c) (omega arith) then get-decs short go low (deeper c) (omega arith)
         then fixed refl then at-depth c (omega arith) then fixed refl)  -- SigSigExp
         ▹ arm refl (texts short)  -- NameSigExp
-        ▹ arm refl (go.sig-exp c (omega arith) then fixed refl then ty-var-seqs short then paths short then fixed refl then go.ty)  -- WhereTypeSigExp
-        ▹ arm refl (go.sig-exp c (omega arith) then fixed refl then paths short then fixed refl then paths short)  -- WhereSigExp
+        ▹ arm refl (go.sig_exp c (omega arith) then fixed refl then ty-var-seqs short then paths short then fixed refl then go.ty)  -- WhereTypeSigExp
+        ▹ arm refl (go.sig_exp c (omega arith) then fixed refl then paths short then fixed refl then paths short)  -- WhereSigExp
         ▹ no_more
 
-    pub str-arms : Rows p 16 0 (str-exps ws c)
-    unfolding str-exps str-exp with_extra_blank ascription-tail bytes
+    pub str-arms : Rows p 16 0 (str_exps ws c)
+    unfolding str_exps str_exp with_extra_blank ascription_tail bytes
     str-arms =
         arm refl (fixed refl then deepened c (omega arith) then at-depth (deeper c) (omega arith)
         then get-decs short go low (with_extra_blank true (deeper c)) (omega arith) then fixed refl then at-depth c (omega arith) then fixed refl)  -- StructStrExp
         ▹ arm refl (paths short)  -- PathStrExp
-        ▹ arm refl (go.str-exp c (omega arith) then groups (fixed refl then texts short then fixed refl then go.sig-exp c (omega arith)))  -- AscriptionStrExp
+        ▹ arm refl (go.str_exp c (omega arith) then groups (fixed refl then texts short then fixed refl then go.sig_exp c (omega arith)))  -- AscriptionStrExp
         ▹ arm refl (texts short then fixed refl then lists (λ n. app-arguments short go low c (omega arith) _ _))  -- AppStrExp
-        ▹ arm refl (in-ends c (omega arith) _ _ (fixed refl) (get-decs short go low (deeper c) (omega arith)) (go.str-exp (deeper c) (omega arith)))  -- LetStrExp
+        ▹ arm refl (in-ends c (omega arith) _ _ (fixed refl) (get-decs short go low (deeper c) (omega arith)) (go.str_exp (deeper c) (omega arith)))  -- LetStrExp
         ▹ no_more
 
     pub dec-arms : Rows p 16 0 (decs ws c)
-    unfolding decs dec-one val-binds val-bind eq-body get-body-exp get-body-exp-level indented-levels fun-bind fun-bind-case case-head PrefixFunBindCaseHead InfixFunBindCaseHead in_parens infix-head case-pats ty-annotation ty-annotation-there ty-binds ty-bind dat-binds dat-bind with-type ex-bind ex-bind-inner ex-bind-of int-lit names-space local-decs str-bind ascription-tail sig-bind functor-bind functor-args functor-arg bytes
+    unfolding decs dec_one val_binds val_bind eq_body get_body_exp get_body_exp_level indented_levels fun_bind fun_bind_case case_head PrefixFunBindCaseHead InfixFunBindCaseHead in_parens infix_head case_pats ty_annotation ty_annotation_there ty_binds ty_bind dat_binds dat_bind with_type ex_bind ex_bind_inner ex_bind_of int_lit names_space local_decs str_bind ascription_tail sig_bind functor_bind functor_args functor_arg bytes
     dec-arms =
         arm refl (fixed refl)  -- HoleDec
         ▹ arm refl (fixed refl then lines c (omega arith) (fixed refl) refl (groups (words-if (fixed refl) then go.pat
@@ -153,13 +153,13 @@ module _ {p : Page} (short : Short p) {top : ℕ} {ws : Walkers} (go : Walks p t
         ▹ arm refl (fixed refl then go.exp c (omega arith))  -- DoDec
         ▹ arm refl (in-ends c (omega arith) _ _ (fixed refl) (maybes (groups (get-decs short go low (deeper c) (omega arith)))) (maybes (groups (get-decs short go low (deeper c) (omega arith)))))  -- LocalDec
         ▹ arm refl (fixed refl then lines c (omega arith) (fixed refl) refl (groups (texts short then maybes (groups (fixed refl then texts short
-        then fixed refl then go.sig-exp c (omega arith))) then maybes (groups (fixed refl then go.str-exp c (omega arith))))))  -- StructureDec
-        ▹ arm refl (fixed refl then lines c (omega arith) (fixed refl) refl (groups (texts short then fixed refl then go.sig-exp c (omega arith))))  -- SignatureDec
+        then fixed refl then go.sig_exp c (omega arith))) then maybes (groups (fixed refl then go.str_exp c (omega arith))))))  -- StructureDec
+        ▹ arm refl (fixed refl then lines c (omega arith) (fixed refl) refl (groups (texts short then fixed refl then go.sig_exp c (omega arith))))  -- SignatureDec
         ▹ arm refl (fixed refl then lines c (omega arith) (fixed refl) refl (groups (texts short then fixed refl then each refl (choices
-        (λ which. (arm refl (texts short then fixed refl then go.sig-exp c (omega arith)) ▹ arm refl (dec-args short go low c (omega arith))
-        ▹ no_more).at which)) then fixed refl then maybes (groups (fixed refl then texts short then fixed refl then go.sig-exp c (omega arith)))
-        then fixed refl then go.str-exp c (omega arith))))  -- FunctorDec
+        (λ which. (arm refl (texts short then fixed refl then go.sig_exp c (omega arith)) ▹ arm refl (dec-args short go low c (omega arith))
+        ▹ no_more).at which)) then fixed refl then maybes (groups (fixed refl then texts short then fixed refl then go.sig_exp c (omega arith)))
+        then fixed refl then go.str_exp c (omega arith))))  -- FunctorDec
         ▹ arm refl (go.exp c (omega arith))  -- ExpDec
-        ▹ arm refl (fixed refl then seps (fixed refl) refl (go.sig-exp c (omega arith)))  -- IncludeDec
+        ▹ arm refl (fixed refl then seps (fixed refl) refl (go.sig_exp c (omega arith)))  -- IncludeDec
         ▹ arm refl imports  -- EsImportDec
         ▹ no_more

@@ -10,12 +10,12 @@ use Rattle.layout.specs.Helpers.{Walkers}
 use Rattle.measures.proofs.Paying.{Short}
 use Rattle.measures.proofs.Following.{Follows, Pairs, before, behind, both, arm, ◌▹◌, no_more}
 use Rattle.layout.specs.Helpers.{path}
-use Rattle.layout.specs.Ty.{ty_row, ty-rows, ty-args, ty-seq-there, ty-seq, star-ty, star-tys, ty, tys}
+use Rattle.layout.specs.Ty.{ty_row, ty_rows, ty_args, ty_seq_there, ty_seq, star_ty, star_tys, ty, tys}
 use Rattle.measures.proofs.Following.{alone, texts, groups, maybes, each, seps, drops}
 
-module _ {p : Page} (short : Short p) (ws : Walkers) (ty : (may : Bool) (d : ℕ) → Follows p d may (form Ty) 0 12 ws.get-ty) (d : ℕ) where
+module _ {p : Page} (short : Short p) (ws : Walkers) (ty : (may : Bool) (d : ℕ) → Follows p d may (form Ty) 0 12 ws.get_ty) (d : ℕ) where
   pub ty-pairs : Pairs p d (forms Ty) (tys ws)
-  unfolding tys ty ty-rows ty_row ty-seq ty-seq-there ty-args path star-tys star-ty forms bytes
+  unfolding tys ty ty_rows ty_row ty_seq ty_seq_there ty_args path star_tys star_ty forms bytes
   ty-pairs =
       arm refl (alone refl)  -- HoleTy
       ▹ arm refl (alone refl)  -- WildcardTy

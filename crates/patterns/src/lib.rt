@@ -3,8 +3,8 @@
 
 ghost use Rattle.layout.specs.Promises.Lent.{plainly};
 ghost use Rattle.layout.specs.Walk.{walks};
-ghost use Rattle.layout.specs.Pat.{con-arg-there, con-arg, LabAndPatPatRow, as-tail-there, as-tail, LabPatRow};
-ghost use Rattle.layout.specs.Pat.{pat-row-inner, pat-row, pat-rows, pat-args, pat as pat·};
+ghost use Rattle.layout.specs.Pat.{con_arg_there, con_arg, LabAndPatPatRow, as_tail_there, as_tail, LabPatRow};
+ghost use Rattle.layout.specs.Pat.{pat_row_inner, pat_row, pat_rows, pat_args, pat as pat·};
 ghost use Rattle.reader.specs.Forms.{ConPat, RecordPat, ParenPat, TuplePat, ListPat, VectorPat, InfixPat, TypedPat, AsPat, OrPat};
 
 use layout::fields::{Gone, Read, absent, choice, form, group, list, stop};
@@ -14,7 +14,7 @@ use reader::commands::Family;
 use types::{get_ty, ty_annotation};
 
 // The argument of a constructor that is there.
-#[cycle(as_pat_as_tail_as_tail_there_con_arg_con_arg_there_con_pat_get_pat_infix_pat_lab_and_pat_lab_pat_list_pat_or_pat_paren_pat_pat_args_record_pat_row_row_inner_rows_tuple_pat_typed_pat_vector_pat)]
+#[cycle(patterns)]
 fn con_arg_there<'a>(
     run: &'a [u8; 351],
     text: &'a [u8],
@@ -25,14 +25,14 @@ fn con_arg_there<'a>(
     at: usize,
     cfg: Cfg,
 ) -> usize
-    ensures { plainly (con-arg-there (walks cfg.nesting)) run text rec spans out mem at result }
+    ensures { plainly (con_arg_there (walks cfg.nesting)) run text rec spans out mem at result }
 {
     word(run, text, out, mem, words::SPACE);
     get_pat(run, text, rec, spans, out, mem, at, cfg)
 }
 
 // The argument of a constructor, where there is one.
-#[cycle(as_pat_as_tail_as_tail_there_con_arg_con_arg_there_con_pat_get_pat_infix_pat_lab_and_pat_lab_pat_list_pat_or_pat_paren_pat_pat_args_record_pat_row_row_inner_rows_tuple_pat_typed_pat_vector_pat)]
+#[cycle(patterns)]
 fn con_arg<'a>(
     run: &'a [u8; 351],
     text: &'a [u8],
@@ -43,7 +43,7 @@ fn con_arg<'a>(
     at: usize,
     cfg: Cfg,
 ) -> usize
-    ensures { plainly (con-arg (walks cfg.nesting)) run text rec spans out mem at result }
+    ensures { plainly (con_arg (walks cfg.nesting)) run text rec spans out mem at result }
 {
     let gone = absent(rec, at);
     match gone {
@@ -53,7 +53,7 @@ fn con_arg<'a>(
 }
 
 // `ConPat`.
-#[cycle(as_pat_as_tail_as_tail_there_con_arg_con_arg_there_con_pat_get_pat_infix_pat_lab_and_pat_lab_pat_list_pat_or_pat_paren_pat_pat_args_record_pat_row_row_inner_rows_tuple_pat_typed_pat_vector_pat)]
+#[cycle(patterns)]
 fn con_pat<'a>(
     run: &'a [u8; 351],
     text: &'a [u8],
@@ -74,7 +74,7 @@ fn con_pat<'a>(
 }
 
 // `LabAndPatPatRow`.
-#[cycle(as_pat_as_tail_as_tail_there_con_arg_con_arg_there_con_pat_get_pat_infix_pat_lab_and_pat_lab_pat_list_pat_or_pat_paren_pat_pat_args_record_pat_row_row_inner_rows_tuple_pat_typed_pat_vector_pat)]
+#[cycle(patterns)]
 fn lab_and_pat<'a>(
     run: &'a [u8; 351],
     text: &'a [u8],
@@ -96,7 +96,7 @@ fn lab_and_pat<'a>(
 }
 
 // A tail that is there.
-#[cycle(as_pat_as_tail_as_tail_there_con_arg_con_arg_there_con_pat_get_pat_infix_pat_lab_and_pat_lab_pat_list_pat_or_pat_paren_pat_pat_args_record_pat_row_row_inner_rows_tuple_pat_typed_pat_vector_pat)]
+#[cycle(patterns)]
 fn as_tail_there<'a>(
     run: &'a [u8; 351],
     text: &'a [u8],
@@ -107,7 +107,7 @@ fn as_tail_there<'a>(
     at: usize,
     cfg: Cfg,
 ) -> usize
-    ensures { plainly (as-tail-there (walks cfg.nesting)) run text rec spans out mem at result }
+    ensures { plainly (as_tail_there (walks cfg.nesting)) run text rec spans out mem at result }
 {
     let r1 = group(rec, at);
     let Status::Done(s1) = told(r1) else {
@@ -118,7 +118,7 @@ fn as_tail_there<'a>(
 }
 
 // `as` and a pattern, where there are any.
-#[cycle(as_pat_as_tail_as_tail_there_con_arg_con_arg_there_con_pat_get_pat_infix_pat_lab_and_pat_lab_pat_list_pat_or_pat_paren_pat_pat_args_record_pat_row_row_inner_rows_tuple_pat_typed_pat_vector_pat)]
+#[cycle(patterns)]
 fn as_tail<'a>(
     run: &'a [u8; 351],
     text: &'a [u8],
@@ -129,7 +129,7 @@ fn as_tail<'a>(
     at: usize,
     cfg: Cfg,
 ) -> usize
-    ensures { plainly (as-tail (walks cfg.nesting)) run text rec spans out mem at result }
+    ensures { plainly (as_tail (walks cfg.nesting)) run text rec spans out mem at result }
 {
     let gone = absent(rec, at);
     match gone {
@@ -139,7 +139,7 @@ fn as_tail<'a>(
 }
 
 // `LabPatRow`.
-#[cycle(as_pat_as_tail_as_tail_there_con_arg_con_arg_there_con_pat_get_pat_infix_pat_lab_and_pat_lab_pat_list_pat_or_pat_paren_pat_pat_args_record_pat_row_row_inner_rows_tuple_pat_typed_pat_vector_pat)]
+#[cycle(patterns)]
 fn lab_pat<'a>(
     run: &'a [u8; 351],
     text: &'a [u8],
@@ -164,7 +164,7 @@ fn lab_pat<'a>(
 }
 
 // What a row holds, by its number.
-#[cycle(as_pat_as_tail_as_tail_there_con_arg_con_arg_there_con_pat_get_pat_infix_pat_lab_and_pat_lab_pat_list_pat_or_pat_paren_pat_pat_args_record_pat_row_row_inner_rows_tuple_pat_typed_pat_vector_pat)]
+#[cycle(patterns)]
 fn row_inner<'a>(
     run: &'a [u8; 351],
     text: &'a [u8],
@@ -176,7 +176,7 @@ fn row_inner<'a>(
     cfg: Cfg,
     which: usize,
 ) -> usize
-    ensures { plainly (pat-row-inner (walks cfg.nesting) which) run text rec spans out mem at result }
+    ensures { plainly (pat_row_inner (walks cfg.nesting) which) run text rec spans out mem at result }
 {
     match which {
         0 => {
@@ -190,7 +190,7 @@ fn row_inner<'a>(
 }
 
 // A row of a record pattern.
-#[cycle(as_pat_as_tail_as_tail_there_con_arg_con_arg_there_con_pat_get_pat_infix_pat_lab_and_pat_lab_pat_list_pat_or_pat_paren_pat_pat_args_record_pat_row_row_inner_rows_tuple_pat_typed_pat_vector_pat)]
+#[cycle(patterns)]
 fn row<'a>(
     run: &'a [u8; 351],
     text: &'a [u8],
@@ -201,7 +201,7 @@ fn row<'a>(
     at: usize,
     cfg: Cfg,
 ) -> usize
-    ensures { plainly (pat-row (walks cfg.nesting)) run text rec spans out mem at result }
+    ensures { plainly (pat_row (walks cfg.nesting)) run text rec spans out mem at result }
 {
     let r1 = group(rec, at);
     let Status::Done(s1) = told(r1) else {
@@ -214,7 +214,7 @@ fn row<'a>(
 }
 
 // The rows of a record pattern.
-#[cycle(as_pat_as_tail_as_tail_there_con_arg_con_arg_there_con_pat_get_pat_infix_pat_lab_and_pat_lab_pat_list_pat_or_pat_paren_pat_pat_args_record_pat_row_row_inner_rows_tuple_pat_typed_pat_vector_pat)]
+#[cycle(patterns)]
 fn rows<'a>(
     run: &'a [u8; 351],
     text: &'a [u8],
@@ -225,7 +225,7 @@ fn rows<'a>(
     at: usize,
     cfg: Cfg,
 ) -> usize
-    ensures { plainly (pat-rows (walks cfg.nesting)) run text rec spans out mem at result }
+    ensures { plainly (pat_rows (walks cfg.nesting)) run text rec spans out mem at result }
 {
     let Read::Is(n, s0) = list(rec, at) else {
         return stop(at);
@@ -245,7 +245,7 @@ fn rows<'a>(
 }
 
 // `RecordPat`.
-#[cycle(as_pat_as_tail_as_tail_there_con_arg_con_arg_there_con_pat_get_pat_infix_pat_lab_and_pat_lab_pat_list_pat_or_pat_paren_pat_pat_args_record_pat_row_row_inner_rows_tuple_pat_typed_pat_vector_pat)]
+#[cycle(patterns)]
 fn record_pat<'a>(
     run: &'a [u8; 351],
     text: &'a [u8],
@@ -268,7 +268,7 @@ fn record_pat<'a>(
 }
 
 // `ParenPat`.
-#[cycle(as_pat_as_tail_as_tail_there_con_arg_con_arg_there_con_pat_get_pat_infix_pat_lab_and_pat_lab_pat_list_pat_or_pat_paren_pat_pat_args_record_pat_row_row_inner_rows_tuple_pat_typed_pat_vector_pat)]
+#[cycle(patterns)]
 fn paren_pat<'a>(
     run: &'a [u8; 351],
     text: &'a [u8],
@@ -291,7 +291,7 @@ fn paren_pat<'a>(
 }
 
 // Patterns with a comma between.
-#[cycle(as_pat_as_tail_as_tail_there_con_arg_con_arg_there_con_pat_get_pat_infix_pat_lab_and_pat_lab_pat_list_pat_or_pat_paren_pat_pat_args_record_pat_row_row_inner_rows_tuple_pat_typed_pat_vector_pat)]
+#[cycle(patterns)]
 fn pat_args<'a>(
     run: &'a [u8; 351],
     text: &'a [u8],
@@ -302,7 +302,7 @@ fn pat_args<'a>(
     at: usize,
     cfg: Cfg,
 ) -> usize
-    ensures { plainly (pat-args (walks cfg.nesting)) run text rec spans out mem at result }
+    ensures { plainly (pat_args (walks cfg.nesting)) run text rec spans out mem at result }
 {
     let Read::Is(n, s0) = list(rec, at) else {
         return stop(at);
@@ -326,7 +326,7 @@ fn pat_args<'a>(
 }
 
 // `TuplePat`.
-#[cycle(as_pat_as_tail_as_tail_there_con_arg_con_arg_there_con_pat_get_pat_infix_pat_lab_and_pat_lab_pat_list_pat_or_pat_paren_pat_pat_args_record_pat_row_row_inner_rows_tuple_pat_typed_pat_vector_pat)]
+#[cycle(patterns)]
 fn tuple_pat<'a>(
     run: &'a [u8; 351],
     text: &'a [u8],
@@ -349,7 +349,7 @@ fn tuple_pat<'a>(
 }
 
 // `ListPat`.
-#[cycle(as_pat_as_tail_as_tail_there_con_arg_con_arg_there_con_pat_get_pat_infix_pat_lab_and_pat_lab_pat_list_pat_or_pat_paren_pat_pat_args_record_pat_row_row_inner_rows_tuple_pat_typed_pat_vector_pat)]
+#[cycle(patterns)]
 fn list_pat<'a>(
     run: &'a [u8; 351],
     text: &'a [u8],
@@ -372,7 +372,7 @@ fn list_pat<'a>(
 }
 
 // `VectorPat`.
-#[cycle(as_pat_as_tail_as_tail_there_con_arg_con_arg_there_con_pat_get_pat_infix_pat_lab_and_pat_lab_pat_list_pat_or_pat_paren_pat_pat_args_record_pat_row_row_inner_rows_tuple_pat_typed_pat_vector_pat)]
+#[cycle(patterns)]
 fn vector_pat<'a>(
     run: &'a [u8; 351],
     text: &'a [u8],
@@ -399,7 +399,7 @@ fn vector_pat<'a>(
 }
 
 // `InfixPat`.
-#[cycle(as_pat_as_tail_as_tail_there_con_arg_con_arg_there_con_pat_get_pat_infix_pat_lab_and_pat_lab_pat_list_pat_or_pat_paren_pat_pat_args_record_pat_row_row_inner_rows_tuple_pat_typed_pat_vector_pat)]
+#[cycle(patterns)]
 fn infix_pat<'a>(
     run: &'a [u8; 351],
     text: &'a [u8],
@@ -426,7 +426,7 @@ fn infix_pat<'a>(
 }
 
 // `TypedPat`.
-#[cycle(as_pat_as_tail_as_tail_there_con_arg_con_arg_there_con_pat_get_pat_infix_pat_lab_and_pat_lab_pat_list_pat_or_pat_paren_pat_pat_args_record_pat_row_row_inner_rows_tuple_pat_typed_pat_vector_pat)]
+#[cycle(patterns)]
 fn typed_pat<'a>(
     run: &'a [u8; 351],
     text: &'a [u8],
@@ -448,7 +448,7 @@ fn typed_pat<'a>(
 }
 
 // `AsPat`.
-#[cycle(as_pat_as_tail_as_tail_there_con_arg_con_arg_there_con_pat_get_pat_infix_pat_lab_and_pat_lab_pat_list_pat_or_pat_paren_pat_pat_args_record_pat_row_row_inner_rows_tuple_pat_typed_pat_vector_pat)]
+#[cycle(patterns)]
 fn as_pat<'a>(
     run: &'a [u8; 351],
     text: &'a [u8],
@@ -474,7 +474,7 @@ fn as_pat<'a>(
 }
 
 // `OrPat`.
-#[cycle(as_pat_as_tail_as_tail_there_con_arg_con_arg_there_con_pat_get_pat_infix_pat_lab_and_pat_lab_pat_list_pat_or_pat_paren_pat_pat_args_record_pat_row_row_inner_rows_tuple_pat_typed_pat_vector_pat)]
+#[cycle(patterns)]
 fn or_pat<'a>(
     run: &'a [u8; 351],
     text: &'a [u8],
@@ -496,7 +496,7 @@ fn or_pat<'a>(
 }
 
 // A pattern.
-#[cycle(as_pat_as_tail_as_tail_there_con_arg_con_arg_there_con_pat_get_pat_infix_pat_lab_and_pat_lab_pat_list_pat_or_pat_paren_pat_pat_args_record_pat_row_row_inner_rows_tuple_pat_typed_pat_vector_pat)]
+#[cycle(patterns)]
 pub fn get_pat<'a>(
     run: &'a [u8; 351],
     text: &'a [u8],
@@ -507,7 +507,7 @@ pub fn get_pat<'a>(
     at: usize,
     cfg: Cfg,
 ) -> usize
-    ensures { plainly (walks cfg.nesting).get-pat run text rec spans out mem at result }
+    ensures { plainly (walks cfg.nesting).get_pat run text rec spans out mem at result }
 {
     let left = cfg.nesting;
     if left == 0 {

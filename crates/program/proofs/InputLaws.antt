@@ -145,8 +145,8 @@ past_limits input h = go (leb (head_length + text_length input) (length input)) 
     go false e = short-prints input (leb-false _ _ e)
 
 -- Input past `input_room` bytes need not be read.
-pub first-bytes_suffice : (input : List ℕ) → program (take input_room input) ≡ program input
-first-bytes_suffice input = go (leb input_room (length input)) refl
+pub first_bytes_suffice : (input : List ℕ) → program (take input_room input) ≡ program input
+first_bytes_suffice input = go (leb input_room (length input)) refl
   where
     go : (t : Bool) → leb input_room (length input) ≡ t → program (take input_room input) ≡ program input
     go true e =

@@ -39,9 +39,9 @@ laid_none rec kinds starts lens =
       few = omega arith;
       whole = omega arith;
       commands = λ i h. absurd (omega (arith, h));
-      kinds-are = λ i h. absurd (omega (arith, h));
-      starts-are = λ i h. absurd (omega (arith, h));
-      lengths-are = λ i h. absurd (omega (arith, h));
+      kinds_are = λ i h. absurd (omega (arith, h));
+      starts_are = λ i h. absurd (omega (arith, h));
+      lengths_are = λ i h. absurd (omega (arith, h));
       sums = refl;
     }
 
@@ -63,11 +63,11 @@ laid_more {rec} {kinds} spans {count} {sum} {kind} {span} {len} p a b c d e k s 
       few = omega arith;
       whole = omega arith;
       commands = below_more (λ (i : ℕ). get_or rec (4 * i) 0 ≡ 5) count p.commands e;
-      kinds-are = set_more kinds count kind (λ i. get_or rec (4 * i + 1) 0) (rw a c) p.kinds-are k;
-      starts-are = rw (starts-set spans count (sum % 65536) len s m)
-          (set_more (starts_of spans) count (sum % 65536) (λ i. lengths_to rec i % 65536) (rw long.1 c) p.starts-are (ap (λ (x : ℕ). x % 65536) p.sums));
-      lengths-are = rw (lengths-set spans count (sum % 65536) len s m)
-          (set_more (lengths_of spans) count len (λ i. u16 rec (4 * i + 2)) (rw long.2 c) p.lengths-are n);
+      kinds_are = set_more kinds count kind (λ i. get_or rec (4 * i + 1) 0) (rw a c) p.kinds_are k;
+      starts_are = rw (starts-set spans count (sum % 65536) len s m)
+          (set_more (starts_of spans) count (sum % 65536) (λ i. lengths_to rec i % 65536) (rw long.1 c) p.starts_are (ap (λ (x : ℕ). x % 65536) p.sums));
+      lengths_are = rw (lengths-set spans count (sum % 65536) len s m)
+          (set_more (lengths_of spans) count len (λ i. u16 rec (4 * i + 2)) (rw long.2 c) p.lengths_are n);
       sums = rw (p.sums, n) (sym (lengths_more rec count));
     }
 
@@ -106,10 +106,10 @@ module _ {boundary : ℕ → Bool} {size : ℕ} {rec kinds starts lens : List �
   at_most i h = omega (arith, lengths_le rec i count h, p.sums)
 
   start_is : (i : ℕ) → i < count → lengths_to rec i ≡ get_or starts i 0
-  start_is i h = let k : lengths_to rec i ≤ size = at_most i (omega arith) in omega (arith, p.starts-are i h)
+  start_is i h = let k : lengths_to rec i ≤ size = at_most i (omega arith) in omega (arith, p.starts_are i h)
 
   more : (i : ℕ) → i < count → lengths_to rec (i + 1) ≡ lengths_to rec i + get_or lens i 0
-  more i h = lengths_more rec i ∙ ap (λ (n : ℕ). lengths_to rec i + n) (sym (p.lengths-are i h))
+  more i h = lengths_more rec i ∙ ap (λ (n : ℕ). lengths_to rec i + n) (sym (p.lengths_are i h))
 
   -- A token ends where the next one starts, or at the text's end.
   ends-apart : (i : ℕ) → i < count → boundary (lengths_to rec (i + 1)) ≡ true
@@ -126,9 +126,9 @@ module _ {boundary : ℕ → Bool} {size : ℕ} {rec kinds starts lens : List �
   next : (i : ℕ) → i < count → Is (get_or kinds i 0) (get_or lens i 0) ≡ next_at boundary size rec (lengths_to rec i) (4 * i)
   next i h =
       next-token boundary size rec (lengths_to rec i) (4 * i) (p.commands i h) (record { is = stands i h }) refl
-      (p.kinds-are i h)
+      (p.kinds_are i h)
       (f.known i h)
-      (p.lengths-are i h)
+      (p.lengths_are i h)
       (f.filled i h)
       (rw (more i h) at (at_most (i + 1) (omega arith)))
       (rw (more i h) at (ends-apart i h))
@@ -141,7 +141,7 @@ module _ {boundary : ℕ → Bool} {size : ℕ} {rec kinds starts lens : List �
       let one : Filled boundary size rec (set kinds i (get_or kinds i 0)) (set starts i (get_or starts i 0)) (set lens i (get_or lens i 0)) (i + 1) (lengths_to rec i + get_or lens i 0) (4 * i + 4) =
       rw (← start_is i k) (filled_more (upto i (omega arith)) (omega (arith, p.few)) (next i k)) in
       let at : 4 * i + 4 ≡ 4 * suc i = omega arith in
-      rw (set-get_or, set-get_or, set-get_or, add-one, p.lengths-are i k, at) at one
+      rw (set-get_or, set-get_or, set-get_or, add-one, p.lengths_are i k, at) at one
 
   is-end : Case.Tiled count (4 * count) ≡ end_at size (lengths_to rec count) (4 * count) count
   unfolding end_at

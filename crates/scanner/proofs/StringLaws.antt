@@ -14,7 +14,7 @@ use borrow.Author.Tests.{eqb-true, eqb-false, leb-true, ne_eqb, le-leb}
 use Rattle.text.specs.Bytes.{bytes, between, is_space, is_digit, first_is}
 use Rattle.scanner.specs.Parts.{every, is_one_of}
 use Rattle.scanner.specs.Constants.{is_hex_digit}
-use Rattle.scanner.specs.Strings.{Place, between-characters, escape, control, number, gap, closed, Step, wrong, to, character, is_digit_of, value_of_digit, number_ends, digit, escaped, next, is_closed, characters}
+use Rattle.scanner.specs.Strings.{Place, between_characters, escape, control, number, gap, closed, Step, wrong, to, character, is_digit_of, value_of_digit, number_ends, digit, escaped, next, is_closed, characters}
 use Rattle.scanner.specs.Promises.Reach.{longer, reach, run, is_plain}
 use Rattle.scanner.specs.Promises.Extents.{Extent, ends, endless, further, extent, on_from, Inside, Goes}
 use Rattle.scanner.specs.declared.strings.Quoted.{Quoted}
@@ -55,9 +55,9 @@ module _ (test : ℕ → Bool) (place : Place) (b : ℕ) where
   unfolding denotes characters
   denotes-to after e t = rw (denotes, characters, e)
 
-  denotes-character : next place b ≡ character → (t : List ℕ) → denotes test place (b ∷ t) ≡ denotes (λ n. test (suc n)) between-characters t
+  denotes-character : next place b ≡ character → (t : List ℕ) → denotes test place (b ∷ t) ≡ denotes (λ n. test (suc n)) between_characters t
   unfolding denotes characters
-  denotes-character e t = rw (denotes, characters, e) (go (characters between-characters t))
+  denotes-character e t = rw (denotes, characters, e) (go (characters between_characters t))
     where
       go : (x : Option ℕ) → ◌≡◌ {A = Bool} (elim (elim x as (λ y. Option ℕ) [ none ↦ none | some n ↦ some (suc n) ]) as (λ y. Bool) [ none ↦ false | some n ↦ test n ]) (elim x as (λ y. Bool) [ none ↦ false | some n ↦ test (suc n) ])
       go none = refl
@@ -73,7 +73,7 @@ denotes-closed test place e = rw (denotes, characters, e)
 
 closed-next : (place : Place) (b : ℕ) → is_closed place ≡ true → next place b ≡ wrong
 unfolding is_closed next
-closed-next between-characters b e = absurd (false≢true e)
+closed-next between_characters b e = absurd (false≢true e)
 closed-next escape b e = absurd (false≢true e)
 closed-next control b e = absurd (false≢true e)
 closed-next (number base left value) b e = absurd (false≢true e)
@@ -129,7 +129,7 @@ module _ (place : Place) where
       unfolding extent
       extent-to after e = rw (extent, unclosed, e)
 
-      extent-character : next place b ≡ character → extent place (b ∷ s) ≡ further 1 1 (extent between-characters s)
+      extent-character : next place b ≡ character → extent place (b ∷ s) ≡ further 1 1 (extent between_characters s)
       unfolding extent
       extent-character e = rw (extent, unclosed, e)
 
@@ -145,8 +145,8 @@ reach-next test place b s unclosed ih (to after) e =
     ∙ ap (bytes_of test) (sym (extent-to place unclosed b s after e))
 reach-next test place b s unclosed ih character e =
     reach_step (denotes test place) b s (denotes_open test place unclosed) (denotes-character test place b e)
-    ∙ ap (longer 1) (ih (λ n. test (suc n)) between-characters)
-    ∙ bytes-character test (extent between-characters s)
+    ∙ ap (longer 1) (ih (λ n. test (suc n)) between_characters)
+    ∙ bytes-character test (extent between_characters s)
     ∙ ap (bytes_of test) (sym (extent-character place unclosed b s e))
 
 reach-closed : (test : ℕ → Bool) (place : Place) (s : List ℕ) → is_closed place ≡ true → reach (denotes test place) s ≡ bytes_of test (extent place s)
@@ -194,21 +194,21 @@ module _ (s : List ℕ) (at : ℕ) (place : Place) (unclosed : is_closed place �
         }
 
     -- The byte ends what stands before the next character; it denotes one, or none.
-    lands : (count : ℕ) → count ≤ 1 → extent place (drop at s) ≡ further 1 count (extent between-characters (drop (suc at) s)) → Goes s place at (Ends (at + 1) count)
+    lands : (count : ℕ) → count ≤ 1 → extent place (drop at s) ≡ further 1 count (extent between_characters (drop (suc at) s)) → Goes s place at (Ends (at + 1) count)
     unfolding on_from Inside
     lands count l e =
         record {
           is = ap (further at 0) e
-              ∙ further-further at 0 1 count (extent between-characters (drop (suc at) s))
-              ∙ ap₂ (λ (n : ℕ) (u : List ℕ). further (at + 1) n (extent between-characters u)) (zero-add count) (ap (λ (n : ℕ). drop n s) (sym (add-one at)));
+              ∙ further-further at 0 1 count (extent between_characters (drop (suc at) s))
+              ∙ ap₂ (λ (n : ℕ) (u : List ℕ). further (at + 1) n (extent between_characters u)) (zero-add count) (ap (λ (n : ℕ). drop n s) (sym (add-one at)));
           inside = (omega arith, omega arith, omega arith);
         }
 
     pub goes-character : next place (get_or s at 0) ≡ character → Goes s place at (Ends (at + 1) 1)
     goes-character e = lands 1 (omega arith) (ap (extent place) (drop-cons s at 0 h) ∙ extent-character place unclosed (get_or s at 0) (drop (suc at) s) e)
 
-    pub goes-between : next place (get_or s at 0) ≡ to between-characters → Goes s place at (Ends (at + 1) 0)
-    goes-between e = lands 0 (omega arith) (ap (extent place) (drop-cons s at 0 h) ∙ extent-to place unclosed (get_or s at 0) (drop (suc at) s) between-characters e)
+    pub goes-between : next place (get_or s at 0) ≡ to between_characters → Goes s place at (Ends (at + 1) 0)
+    goes-between e = lands 0 (omega arith) (ap (extent place) (drop-cons s at 0 h) ∙ extent-to place unclosed (get_or s at 0) (drop (suc at) s) between_characters e)
 
     pub goes_to : (after : Place) {r : Quoted} → next place (get_or s at 0) ≡ to after → Goes s after (at + 1) r → Goes s place at r
     goes_to after {r} e g =
@@ -275,20 +275,20 @@ module _ (b : ℕ) where
   escaped-space f e =
       escaped-gap (apart_all is_space b e (bytes "abtnvfr\"\\") refl) (eqb-false b 94 (apart is_space b e 94 refl)) (sym (by_bytes is_space is_digit false refl b f e)) (eqb-false b 117 (apart is_space b e 117 refl)) e
 
-  pub between-quote : b ≡ 34 → next between-characters b ≡ to closed
+  pub between-quote : b ≡ 34 → next between_characters b ≡ to closed
   unfolding next
-  between-quote e = ap (next between-characters) e
+  between-quote e = ap (next between_characters) e
 
-  pub between-escape : b ≡ 92 → next between-characters b ≡ to escape
+  pub between-escape : b ≡ 92 → next between_characters b ≡ to escape
   unfolding next
-  between-escape e = ap (next between-characters) e
+  between-escape e = ap (next between_characters) e
 
   module _ (quote : b ≡ 34 → ⊥) (backslash : b ≡ 92 → ⊥) where
-    pub between-wrong : between 32 126 b ≡ false → next between-characters b ≡ wrong
+    pub between-wrong : between 32 126 b ≡ false → next between_characters b ≡ wrong
     unfolding next
     between-wrong e = rw (next, ne_eqb b 34 quote, ne_eqb b 92 backslash, e)
 
-    pub between-character : between 32 126 b ≡ true → next between-characters b ≡ character
+    pub between-character : between 32 126 b ≡ true → next between_characters b ≡ character
     unfolding next
     between-character e = rw (next, ne_eqb b 34 quote, ne_eqb b 92 backslash, e)
 
@@ -300,12 +300,12 @@ module _ (b : ℕ) where
   unfolding next
   gap-wrong e f = rw (next, e, f)
 
-  gap_back : b ≡ 92 → next gap b ≡ to between-characters
+  gap_back : b ≡ 92 → next gap b ≡ to between_characters
   unfolding next is_space between
   gap_back e = ap (next gap) e
 
 -- Places inside a string are open.
-pub open-between : is_closed between-characters ≡ false
+pub open-between : is_closed between_characters ≡ false
 unfolding is_closed
 open-between = refl
 
@@ -339,29 +339,29 @@ module _ (b : ℕ) (quote : b ≡ 34 → ⊥) (backslash : b ≡ 92 → ⊥) whe
   unfolding is_plain
   plain-is = rw (is_plain, ne_eqb b 34 quote, ne_eqb b 92 backslash)
 
-plain-character : (b : ℕ) → is_plain b ≡ true → next between-characters b ≡ character
+plain-character : (b : ℕ) → is_plain b ≡ true → next between_characters b ≡ character
 unfolding is_plain
 plain-character b h = go (eqb b 34) refl (eqb b 92) refl h
   where
-    go : (x : Bool) → eqb b 34 ≡ x → (y : Bool) → eqb b 92 ≡ y → ◌≡◌ {A = Bool} (elim (x || y) as (λ z. Bool) [ true ↦ false | false ↦ between 32 126 b ]) true → next between-characters b ≡ character
+    go : (x : Bool) → eqb b 34 ≡ x → (y : Bool) → eqb b 92 ≡ y → ◌≡◌ {A = Bool} (elim (x || y) as (λ z. Bool) [ true ↦ false | false ↦ between 32 126 b ]) true → next between_characters b ≡ character
     go true e y f g = absurd (false≢true g)
     go false e true f g = absurd (false≢true g)
     go false e false f g = between-character b (eqb-false b 34 e) (eqb-false b 92 f) g
 
-plain-run : (u : List ℕ) → extent between-characters u ≡ further (run is_plain u) (run is_plain u) (extent between-characters (drop (run is_plain u) u))
+plain-run : (u : List ℕ) → extent between_characters u ≡ further (run is_plain u) (run is_plain u) (extent between_characters (drop (run is_plain u) u))
 unfolding run
-plain-run [] = sym (further-zero (extent between-characters []))
+plain-run [] = sym (further-zero (extent between_characters []))
 plain-run (b ∷ u) = go (is_plain b) refl (plain-run u)
   where
-    go : (x : Bool) → is_plain b ≡ x → extent between-characters u ≡ further (run is_plain u) (run is_plain u) (extent between-characters (drop (run is_plain u) u)) → extent between-characters (b ∷ u) ≡ further (run is_plain (b ∷ u)) (run is_plain (b ∷ u)) (extent between-characters (drop (run is_plain (b ∷ u)) (b ∷ u)))
+    go : (x : Bool) → is_plain b ≡ x → extent between_characters u ≡ further (run is_plain u) (run is_plain u) (extent between_characters (drop (run is_plain u) u)) → extent between_characters (b ∷ u) ≡ further (run is_plain (b ∷ u)) (run is_plain (b ∷ u)) (extent between_characters (drop (run is_plain (b ∷ u)) (b ∷ u)))
     go true e ih =
-        extent-character between-characters open-between b u (plain-character b e)
+        extent-character between_characters open-between b u (plain-character b e)
         ∙ ap (further 1 1) ih
-        ∙ further-further 1 1 (run is_plain u) (run is_plain u) (extent between-characters (drop (run is_plain u) u))
-        ∙ ap (λ (n : ℕ). further n n (extent between-characters (drop (run is_plain u) u))) (one_add (run is_plain u))
-        ∙ ap (λ (n : ℕ). further n n (extent between-characters (drop n (b ∷ u)))) (sym (run-yes is_plain b u e))
+        ∙ further-further 1 1 (run is_plain u) (run is_plain u) (extent between_characters (drop (run is_plain u) u))
+        ∙ ap (λ (n : ℕ). further n n (extent between_characters (drop (run is_plain u) u))) (one_add (run is_plain u))
+        ∙ ap (λ (n : ℕ). further n n (extent between_characters (drop n (b ∷ u)))) (sym (run-yes is_plain b u e))
     go false e ih =
-        sym (further-zero (extent between-characters (b ∷ u))) ∙ ap (λ (n : ℕ). further n n (extent between-characters (drop n (b ∷ u)))) (sym (run-no is_plain b u e))
+        sym (further-zero (extent between_characters (b ∷ u))) ∙ ap (λ (n : ℕ). further n n (extent between_characters (drop n (b ∷ u)))) (sym (run-no is_plain b u e))
 
 -- ---- gaps
 
@@ -425,7 +425,7 @@ module _ (s : List ℕ) (from at : ℕ) (is : at ≡ from + run is_space (drop f
 
 -- What stands behind this many digits less.
 unfoldable pub pending : ℕ → ℕ → ℕ → List ℕ → Extent
-pending base zero value u = further 0 1 (extent between-characters u)
+pending base zero value u = further 0 1 (extent between_characters u)
 pending base (suc left) value u = extent (number base (suc left) value) u
 
 pub pending-first : (base count : ℕ) (u : List ℕ) → 1 ≤ count → extent (number base count 0) u ≡ pending base count 0 u
@@ -457,7 +457,7 @@ pending_one : (base left value b : ℕ) (u : List ℕ) → is_digit_of base b �
 unfolding pending number_ends
 pending_one base zero value b u e f =
     extent-character (number base 1 value) (open_number base 1 value) b u (digit-ends base 0 value b u e f)
-    ∙ sym (further-further 1 0 0 1 (extent between-characters u))
+    ∙ sym (further-further 1 0 0 1 (extent between_characters u))
 pending_one base (suc left) value b u e f =
     extent-to (number base (suc (suc left)) value) (open_number base (suc (suc left)) value) b u (number base (suc left) (value * base + value_of_digit b))
     (digit-ends base (suc left) value b u e f)
@@ -491,11 +491,11 @@ module _ (s : List ℕ) (at base left : ℕ) (h : 1 ≤ left) where
   digits-short w l = digits-endless (pending_short base left 0 (drop at s) (omega (arith, length-drop at s)))
 
   -- As many bytes as digits, which denote a character.
-  pub digits-read : at + left ≤ length s → pending base left 0 (drop at s) ≡ further left 1 (extent between-characters (drop (at + left) s)) → Goes s (number base left 0) at (Ends (at + left) 1)
+  pub digits-read : at + left ≤ length s → pending base left 0 (drop at s) ≡ further left 1 (extent between_characters (drop (at + left) s)) → Goes s (number base left 0) at (Ends (at + left) 1)
   unfolding on_from Inside
   digits-read w e =
       record {
-        is = ap (further at 0) (pending-first base left (drop at s) h ∙ e) ∙ further-further at 0 left 1 (extent between-characters (drop (at + left) s));
+        is = ap (further at 0) (pending-first base left (drop at s) h ∙ e) ∙ further-further at 0 left 1 (extent between_characters (drop (at + left) s));
         inside = (omega arith, omega arith, omega arith);
       }
 
@@ -579,9 +579,9 @@ module _ (s : List ℕ) (at : ℕ) (h : at + 3 ≤ length s) where
         ∙ ap (further 1 0)
         (pending_one 10 1 v₁ second (third ∷ rest) (is-decimal second ∙ d₂) (le-leb v₂ 255 (omega (arith, w, e₁, e₂)))
         ∙ ap (further 1 0) (pending_one 10 0 v₂ third rest (is-decimal third ∙ d₃) (le-leb v₃ 255 (omega (arith, w, e₁, e₂, e₃)))))
-        ∙ ap (further 1 0) (further-further 1 0 1 0 (further 0 1 (extent between-characters rest)))
-        ∙ further-further 1 0 2 0 (further 0 1 (extent between-characters rest))
-        ∙ further-further 3 0 0 1 (extent between-characters rest))
+        ∙ ap (further 1 0) (further-further 1 0 1 0 (further 0 1 (extent between_characters rest)))
+        ∙ further-further 1 0 2 0 (further 0 1 (extent between_characters rest))
+        ∙ further-further 3 0 0 1 (extent between_characters rest))
 
 -- ---- `\uxxxx`
 zero-digit : (left : ℕ) (u : List ℕ) → pending 16 (suc left) 0 (48 ∷ u) ≡ further 1 0 (pending 16 left 0 u)
@@ -668,10 +668,10 @@ module _ (s : List ℕ) (at : ℕ) (h : at + 4 ≤ length s) where
       ∙ ap (further 1 0)
       (pending_one 16 1 0 x₃ (x₄ ∷ behind-four) (is-hex x₃ ∙ d₃) (le-leb v₃ 255 (omega (arith, small₃)))
       ∙ ap (further 1 0) (pending_one 16 0 v₃ x₄ behind-four (is-hex x₄ ∙ d₄) (le-leb v₄ 255 (omega (arith, small₃, small₄))))
-      ∙ further-further 1 0 1 0 (further 0 1 (extent between-characters behind-four)))
-      ∙ further-further 1 0 2 0 (further 0 1 (extent between-characters behind-four)))
-      ∙ further-further 1 0 3 0 (further 0 1 (extent between-characters behind-four))
-      ∙ further-further 4 0 0 1 (extent between-characters behind-four))
+      ∙ further-further 1 0 1 0 (further 0 1 (extent between_characters behind-four)))
+      ∙ further-further 1 0 2 0 (further 0 1 (extent between_characters behind-four)))
+      ∙ further-further 1 0 3 0 (further 0 1 (extent between_characters behind-four))
+      ∙ further-further 4 0 0 1 (extent between_characters behind-four))
 
 -- ---- the whole string
 
@@ -679,50 +679,50 @@ module _ (s : List ℕ) (at total : ℕ) where
   from-total : (x : Extent) → further at total x ≡ further 0 total (further at 0 x)
   from-total x = ap₂ (λ (m n : ℕ). further m n x) (omega arith) (omega arith) ∙ sym (further-further 0 total at 0 x)
 
-  pub string-quote : at < length s → get_or s at 0 ≡ 34 → further at total (extent between-characters (drop at s)) ≡ ends (at + 1) total
+  pub string-quote : at < length s → get_or s at 0 ≡ 34 → further at total (extent between_characters (drop at s)) ≡ ends (at + 1) total
   unfolding further
   string-quote h e =
       ap (further at total)
-      (ap (extent between-characters) (drop-cons s at 0 h)
-      ∙ extent-to between-characters open-between (get_or s at 0) (drop (suc at) s) closed (between-quote (get_or s at 0) e)
+      (ap (extent between_characters) (drop-cons s at 0 h)
+      ∙ extent-to between_characters open-between (get_or s at 0) (drop (suc at) s) closed (between-quote (get_or s at 0) e)
       ∙ ap (further 1 0) (extent-closed closed (drop (suc at) s) closed_is))
       ∙ ap₂ ends refl (omega arith)
 
-  pub string-end : length s ≤ at → further at total (extent between-characters (drop at s)) ≡ endless
+  pub string-end : length s ≤ at → further at total (extent between_characters (drop at s)) ≡ endless
   unfolding further
-  string-end h = ap (further at total) (ap (extent between-characters) (drop_of_length-le s h) ∙ extent-nil between-characters open-between)
+  string-end h = ap (further at total) (ap (extent between_characters) (drop_of_length-le s h) ∙ extent-nil between_characters open-between)
 
   -- A run of plain bytes, each a character.
-  pub string-plain : (end : ℕ) → end ≡ at + run is_plain (drop at s) → further at total (extent between-characters (drop at s)) ≡ further end (total + (end - at)) (extent between-characters (drop end s))
+  pub string-plain : (end : ℕ) → end ≡ at + run is_plain (drop at s) → further at total (extent between_characters (drop at s)) ≡ further end (total + (end - at)) (extent between_characters (drop end s))
   string-plain end e =
       let n = run is_plain (drop at s) in
       ap (further at total) (plain-run (drop at s))
-      ∙ further-further at total n n (extent between-characters (drop n (drop at s)))
-      ∙ ap (λ (u : List ℕ). further (at + n) (total + n) (extent between-characters u)) (drop-drop n at s)
-      ∙ ap₂ (λ (m k : ℕ). further m k (extent between-characters (drop m s))) (sym e) (omega (arith, e))
+      ∙ further-further at total n n (extent between_characters (drop n (drop at s)))
+      ∙ ap (λ (u : List ℕ). further (at + n) (total + n) (extent between_characters u)) (drop-drop n at s)
+      ∙ ap₂ (λ (m k : ℕ). further m k (extent between_characters (drop m s))) (sym e) (omega (arith, e))
 
   -- A byte that is no quote, no backslash and not plain.
-  pub string-other : at < length s → (get_or s at 0 ≡ 34 → ⊥) → (get_or s at 0 ≡ 92 → ⊥) → at ≡ at + run is_plain (drop at s) → further at total (extent between-characters (drop at s)) ≡ endless
+  pub string-other : at < length s → (get_or s at 0 ≡ 34 → ⊥) → (get_or s at 0 ≡ 92 → ⊥) → at ≡ at + run is_plain (drop at s) → further at total (extent between_characters (drop at s)) ≡ endless
   unfolding further
   string-other h quote backslash e =
       let b = get_or s at 0 in
       let other : is_plain b ≡ false = not_so (is_plain b) (λ f. absurd (omega (arith, e, run_more is_plain s at h f))) in
       ap (further at total)
-      (ap (extent between-characters) (drop-cons s at 0 h)
-      ∙ extent-wrong between-characters open-between b (drop (suc at) s) (between-wrong b quote backslash (sym (plain-is b quote backslash) ∙ other)))
+      (ap (extent between_characters) (drop-cons s at 0 h)
+      ∙ extent-wrong between_characters open-between b (drop (suc at) s) (between-wrong b quote backslash (sym (plain-is b quote backslash) ∙ other)))
 
-  module _ (r : Quoted) (g : Goes s between-characters at r) where
-    pub string-endless : r ≡ Endless → further at total (extent between-characters (drop at s)) ≡ endless
+  module _ (r : Quoted) (g : Goes s between_characters at r) where
+    pub string-endless : r ≡ Endless → further at total (extent between_characters (drop at s)) ≡ endless
     unfolding on_from further
-    string-endless e = from-total (extent between-characters (drop at s)) ∙ ap (further 0 total) (g.is ∙ ap (on_from s) e)
+    string-endless e = from-total (extent between_characters (drop at s)) ∙ ap (further 0 total) (g.is ∙ ap (on_from s) e)
 
-    pub string-more : (end count : ℕ) → r ≡ Ends end count → further at total (extent between-characters (drop at s)) ≡ further end (total + count) (extent between-characters (drop end s))
+    pub string-more : (end count : ℕ) → r ≡ Ends end count → further at total (extent between_characters (drop at s)) ≡ further end (total + count) (extent between_characters (drop end s))
     unfolding on_from
     string-more end count e =
-        from-total (extent between-characters (drop at s))
+        from-total (extent between_characters (drop at s))
         ∙ ap (further 0 total) (g.is ∙ ap (on_from s) e)
-        ∙ further-further 0 total end count (extent between-characters (drop end s))
-        ∙ ap (λ (n : ℕ). further n (total + count) (extent between-characters (drop end s))) (zero-add end)
+        ∙ further-further 0 total end count (extent between_characters (drop end s))
+        ∙ ap (λ (n : ℕ). further n (total + count) (extent between_characters (drop end s))) (zero-add end)
 
     pub string-inside : (end count : ℕ) → r ≡ Ends end count → Inside s at (Ends end count)
     string-inside end count e = rw e at g.inside

@@ -71,15 +71,15 @@ module _ {text kinds starts lens : List ℕ} {count at : ℕ} (p : Filled text k
             ∙ ap₂ (λ (x : ℕ) (r : List ℕ). before x at len (scan_from 0 (at + len) r)) (sym k) (drop-drop len at text))
             ∙ front_one p.done kind at len (scan_from 0 (at + len) (drop (at + len) text));
         counts = length-append p.done.kinds (kind ∷ []) ∙ omega (arith, p.counts);
-        held = λ l. rw (s.kind-in, s.start-in, s.len-in)
+        held = λ l. rw (s.kind_in, s.start_in, s.len_in)
             (tokens_more kinds starts lens count kind at len p.long (omega arith)
             ∙ ap (λ (us : Tokens). joined us (one kind at len)) (p.held (omega arith)));
         few = omega (arith, p.few);
         within = omega (arith, length-drop at text);
         long = (
-          ap length s.kind-in ∙ length-set kinds count kind ∙ p.long.0,
-          ap length s.start-in ∙ length-set starts count at ∙ p.long.1,
-          ap length s.len-in ∙ length-set lens count len ∙ p.long.2,
+          ap length s.kind_in ∙ length-set kinds count kind ∙ p.long.0,
+          ap length s.start_in ∙ length-set starts count at ∙ p.long.1,
+          ap length s.len_in ∙ length-set lens count len ∙ p.long.2,
         );
       }
 

@@ -17,7 +17,7 @@ use Rattle.text.specs.Bytes.{bytes, same_bytes, first_is, between, is_space, is_
 use Rattle.text.proofs.Laws.{same_true, never}
 use Rattle.scanner.specs.Parts.{is_empty, every, one_or_more, behind, is_one_of, is_among}
 use Rattle.scanner.specs.Constants.{is_hex_digit, unsigned, is_decimal, is_integer, is_word, digits_then, is_exponent, is_fraction, is_real}
-use Rattle.scanner.specs.Strings.{between-characters, is_string, is_character}
+use Rattle.scanner.specs.Strings.{between_characters, is_string, is_character}
 use Rattle.scanner.specs.Lexical.{reserved_core, reserved_modules, is_reserved, is_alphanumeric_byte, is_alphanumeric, is_symbol, is_symbolic, closes, is_comment, is_white_space, is_dot, is_token, opens_comment, token_of, longest_up_to, longest}
 use Rattle.scanner.specs.Promises.Reach.{longer, reach, taken, run, is_hexadecimal, is_magnitude}
 use Rattle.scanner.specs.Promises.Extents.{Extent, ends, endless, further, extent, extent_of}
@@ -329,7 +329,7 @@ same-behind (c ∷ word) (b ∷ t) = go (eqb b c) (same-behind word t)
     go false ih = refl
 
 abbrev one_character : List ℕ → Bool
-one_character = denotes (λ n. eqb n 1) between-characters
+one_character = denotes (λ n. eqb n 1) between_characters
 
 token_hash : (t : List ℕ) → is_token (35 ∷ t) ≡ (every is_symbol t || behind (34 ∷ []) one_character t)
 unfolding is_token is_reserved reserved_core reserved_modules is_among bytes same_bytes is_integer is_decimal unsigned one_or_more behind is_word is_real digits_then is_string is_character is_alphanumeric is_symbolic is_comment is_white_space is_dot is_space is_letter is_digit is_symbol is_one_of between every denotes
@@ -349,7 +349,7 @@ unfolding is_token is_reserved reserved_core reserved_modules is_among bytes sam
 token_tilde t =
     number_or_symbols (one_or_more is_digit t || behind (bytes "0x") (one_or_more is_hex_digit) t) (digits_then (λ r. is_fraction r || is_exponent r) t) (every is_symbol t)
 
-token_quote : (t : List ℕ) → is_token (34 ∷ t) ≡ denotes (λ n. true) between-characters t
+token_quote : (t : List ℕ) → is_token (34 ∷ t) ≡ denotes (λ n. true) between_characters t
 unfolding is_token is_reserved reserved_core reserved_modules is_among bytes same_bytes is_integer is_decimal unsigned one_or_more behind is_word is_real digits_then is_string is_character is_alphanumeric is_symbolic is_comment is_white_space is_dot is_space is_letter is_digit is_symbol is_one_of between denotes
 token_quote t = simp or-false
 
@@ -506,23 +506,23 @@ module _ (test : ℕ → Bool) (k : ℕ) (x : Extent) (r : Quoted) (is : extent_
     unfolding extent_of bytes_of
     read_no t = let p = read-ends x (sym (ap extent_of e) ∙ is) in ap (bytes_of test) p.1 ∙ rw (bytes_of, t)
 
-pub longest-quote : (rest : List ℕ) → rest ≡ 34 ∷ drop 1 rest → longest rest ≡ taken (longer 1 (bytes_of (λ n. true) (extent between-characters (drop 1 rest))))
+pub longest-quote : (rest : List ℕ) → rest ≡ 34 ∷ drop 1 rest → longest rest ≡ taken (longer 1 (bytes_of (λ n. true) (extent between_characters (drop 1 rest))))
 longest-quote rest s =
-    first_byte rest 34 (denotes (λ n. true) between-characters) s (opens_not rest 34 s refl) token_quote
-    ∙ ap (λ (x : Option ℕ). taken (longer 1 x)) (reach-denotes (drop 1 rest) (λ n. true) between-characters)
+    first_byte rest 34 (denotes (λ n. true) between_characters) s (opens_not rest 34 s refl) token_quote
+    ∙ ap (λ (x : Option ℕ). taken (longer 1 x)) (reach-denotes (drop 1 rest) (λ n. true) between_characters)
 
-module _ (rest : List ℕ) (s : rest ≡ 34 ∷ drop 1 rest) (r : Quoted) (is : extent_of r ≡ further 1 0 (extent between-characters (drop 1 rest))) where
+module _ (rest : List ℕ) (s : rest ≡ 34 ∷ drop 1 rest) (r : Quoted) (is : extent_of r ≡ further 1 0 (extent between_characters (drop 1 rest))) where
   pub quote-endless : r ≡ Endless → 0 ≡ longest rest
   unfolding longer taken
   quote-endless e =
       sym
       (longest-quote rest s
-      ∙ ap (λ (x : Option ℕ). taken (longer 1 x)) (read-endless (λ n. true) 1 (extent between-characters (drop 1 rest)) r is e))
+      ∙ ap (λ (x : Option ℕ). taken (longer 1 x)) (read-endless (λ n. true) 1 (extent between_characters (drop 1 rest)) r is e))
 
   pub quote-ends : (end count : ℕ) → r ≡ Ends end count → end ≡ longest rest
   unfolding longer taken
   quote-ends end count e =
-      let p = read-yes (λ n. true) 1 (extent between-characters (drop 1 rest)) r is end count e refl in
+      let p = read-yes (λ n. true) 1 (extent between_characters (drop 1 rest)) r is end count e refl in
       p.2 ∙ sym (longest-quote rest s ∙ ap (λ (x : Option ℕ). taken (longer 1 x)) p.1)
 
 module _ (rest : List ℕ) (s : rest ≡ 35 ∷ drop 1 rest) where
@@ -540,7 +540,7 @@ module _ (rest : List ℕ) (s : rest ≡ 35 ∷ drop 1 rest) where
       ∙ ap (λ (x : Option ℕ). taken (longer 1 (best (some (run is_symbol (drop 1 rest))) x))) (reach-behind-no [] one_character 34 (drop 1 rest) h)
 
   module _ (h : first_is (λ c. eqb c 34) (drop 1 rest) ≡ true) where
-    pub hash-string : longest rest ≡ 1 + taken (longer 1 (bytes_of (λ n. eqb n 1) (extent between-characters (drop 2 rest))))
+    pub hash-string : longest rest ≡ 1 + taken (longer 1 (bytes_of (λ n. eqb n 1) (extent between_characters (drop 2 rest))))
     unfolding longer taken is_symbol is_one_of bytes
     hash-string =
         longest-hash
@@ -550,27 +550,27 @@ module _ (rest : List ℕ) (s : rest ≡ 35 ∷ drop 1 rest) where
         ∙ ap (longer 1)
         (reach-behind_all one_character (drop 1 (drop 1 rest))
         ∙ ap (reach one_character) (drop-drop 1 1 rest)
-        ∙ reach-denotes (drop 2 rest) (λ n. eqb n 1) between-characters))
-        ∙ ap (λ (x : Option ℕ). taken (longer 1 x)) (best_zero (longer 1 (bytes_of (λ n. eqb n 1) (extent between-characters (drop 2 rest)))))
+        ∙ reach-denotes (drop 2 rest) (λ n. eqb n 1) between_characters))
+        ∙ ap (λ (x : Option ℕ). taken (longer 1 x)) (best_zero (longer 1 (bytes_of (λ n. eqb n 1) (extent between_characters (drop 2 rest)))))
 
-    module _ (r : Quoted) (is : extent_of r ≡ further 2 0 (extent between-characters (drop 2 rest))) where
-      nothing : bytes_of (λ n. eqb n 1) (extent between-characters (drop 2 rest)) ≡ none → 1 ≡ longest rest
+    module _ (r : Quoted) (is : extent_of r ≡ further 2 0 (extent between_characters (drop 2 rest))) where
+      nothing : bytes_of (λ n. eqb n 1) (extent between_characters (drop 2 rest)) ≡ none → 1 ≡ longest rest
       unfolding longer taken
       nothing e = sym (hash-string ∙ ap (λ (x : Option ℕ). 1 + taken (longer 1 x)) e)
 
       pub hash-endless : r ≡ Endless → 1 ≡ longest rest
-      hash-endless e = nothing (read-endless (λ n. eqb n 1) 2 (extent between-characters (drop 2 rest)) r is e)
+      hash-endless e = nothing (read-endless (λ n. eqb n 1) 2 (extent between_characters (drop 2 rest)) r is e)
 
       module _ (end count : ℕ) (e : r ≡ Ends end count) where
         pub hash-one : eqb count 1 ≡ true → end ≡ longest rest
         unfolding longer taken
         hash-one o =
-            let p = read-yes (λ n. eqb n 1) 2 (extent between-characters (drop 2 rest)) r is end count e o in
+            let p = read-yes (λ n. eqb n 1) 2 (extent between_characters (drop 2 rest)) r is end count e o in
             let f : 2 + p.0 ≡ 1 + (1 + p.0) = omega arith in
             p.2 ∙ f ∙ sym (hash-string ∙ ap (λ (x : Option ℕ). 1 + taken (longer 1 x)) p.1)
 
         pub hash-other : eqb count 1 ≡ false → 1 ≡ longest rest
-        hash-other o = nothing (read_no (λ n. eqb n 1) 2 (extent between-characters (drop 2 rest)) r is end count e o)
+        hash-other o = nothing (read_no (λ n. eqb n 1) 2 (extent between_characters (drop 2 rest)) r is end count e o)
 
 -- ---- brackets and dots
 

@@ -7,7 +7,7 @@ use Rattle.scanner.specs.Constants.{is_hex_digit}
 
 -- Where in a string constant a byte stands.
 pub data Place : Type 0 where
-  between-characters : Place
+  between_characters : Place
   -- behind `\`
   escape : Place
   -- behind `\^`
@@ -62,7 +62,7 @@ escaped b =
     ]
 
 unfoldable pub next : Place → ℕ → Step
-next between-characters b =
+next between_characters b =
     elim (eqb b 34) [
       | true ↦ to closed
       | false ↦ elim (eqb b 92) [ true ↦ to escape | false ↦ elim (between 32 126 b) [ true ↦ character | false ↦ wrong ] ]
@@ -70,11 +70,11 @@ next between-characters b =
 next escape b = escaped b
 next control b = elim (between 64 95 b) [ true ↦ character | false ↦ wrong ]
 next (number base left value) b = digit base (left - 1) value b
-next gap b = elim (is_space b) [ true ↦ to gap | false ↦ elim (eqb b 92) [ true ↦ to between-characters | false ↦ wrong ] ]
+next gap b = elim (is_space b) [ true ↦ to gap | false ↦ elim (eqb b 92) [ true ↦ to between_characters | false ↦ wrong ] ]
 next closed b = wrong
 
 unfoldable pub is_closed : Place → Bool
-is_closed between-characters = false
+is_closed between_characters = false
 is_closed escape = false
 is_closed control = false
 is_closed (number base left value) = false
@@ -88,13 +88,13 @@ characters place (b ∷ t) =
     elim (next place b) [
       | wrong ↦ none
       | to after ↦ characters after t
-      | character ↦ elim (characters between-characters t) [ none ↦ none | some n ↦ some (suc n) ]
+      | character ↦ elim (characters between_characters t) [ none ↦ none | some n ↦ some (suc n) ]
     ]
 
 -- A quote, printable characters and escapes, a quote.
 unfoldable pub is_string : List ℕ → Bool
-is_string t = behind (bytes "\"") (λ r. elim (characters between-characters r) [ none ↦ false | some n ↦ true ]) t
+is_string t = behind (bytes "\"") (λ r. elim (characters between_characters r) [ none ↦ false | some n ↦ true ]) t
 
 -- `#` and a string constant that denotes one character.
 unfoldable pub is_character : List ℕ → Bool
-is_character t = behind (bytes "#\"") (λ r. elim (characters between-characters r) [ none ↦ false | some n ↦ eqb n 1 ]) t
+is_character t = behind (bytes "#\"") (λ r. elim (characters between_characters r) [ none ↦ false | some n ↦ eqb n 1 ]) t

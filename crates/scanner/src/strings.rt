@@ -2,7 +2,7 @@
 ghost use Rattle.std.specs.Prelude.{◌≡◌, ◌≤◌, length, drop};
 ghost use Rattle.text.specs.Bytes.{bytes, class_table};
 ghost use Rattle.scanner.specs.Parts.{is_one_of};
-ghost use Rattle.scanner.specs.Strings.{between-characters, escape, control, number, gap};
+ghost use Rattle.scanner.specs.Strings.{between_characters, escape, control, number, gap};
 ghost use Rattle.scanner.specs.Promises.Extents.{further, extent, extent_of, Goes};
 
 use crate::runs;
@@ -150,7 +150,7 @@ fn escape(table: &[u8; 256], s: &[u8], at: usize) -> Quoted
 // The string constant whose opening quote stands before an offset.
 pub fn string(table: &[u8; 256], s: &[u8], from: usize) -> Quoted
     requires { table.now ≡ class_table }
-    ensures { extent_of result ≡ further from 0 (extent between-characters (drop from s.now)) }
+    ensures { extent_of result ≡ further from 0 (extent between_characters (drop from s.now)) }
 {
     let mut at = from;
     let mut total = 0;

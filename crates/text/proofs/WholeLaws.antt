@@ -38,7 +38,7 @@ module _ (a b c d n : ℕ) (p : (0xF0 ≤ a → 0 < n) × (0xE0 ≤ b → 0 < n)
         fourth = λ g. q;
         third = λ g. q;
         second = λ g. q;
-        none-asks = λ x y z g. absurd (e (p.3 x y z));
+        none_asks = λ x y z g. absurd (e (p.3 x y z));
       }
 
   pub asked-outside : n ≡ 0 → (0x80 ≤ d → 0xBF < d) → Asked a b c d
@@ -47,7 +47,7 @@ module _ (a b c d n : ℕ) (p : (0xF0 ≤ a → 0 < n) × (0xE0 ≤ b → 0 < n)
         fourth = λ g. absurd (omega (arith, e, p.0 g));
         third = λ g. absurd (omega (arith, e, p.1 g));
         second = λ g. absurd (omega (arith, e, p.2 g));
-        none-asks = λ x y z g. q g;
+        none_asks = λ x y z g. q g;
       }
 
 -- ---- a text of such bytes
@@ -192,7 +192,7 @@ module _ (s : List ℕ) (known : (i : ℕ) → i < length s → get_or s i 0 ≤
           go : (x : Bool) → eqb (at i) 0xE0 ≡ x → (y : Bool) → eqb (at i) 0xED ≡ y → (z : Bool) → leb (at i) 0xEC ≡ z → Step i
           go true q y r z t =
               let e = eqb-true (at i) 0xE0 q in
-              let o = (behind i l m e).overlong-three (same-lead i l m e) b.0 in
+              let o = (behind i l m e).overlong_three (same-lead i l m e) b.0 in
               three-row 2 0xE0 0xE0 0xA0 0xBF refl (omega (arith, e)) (omega (arith, e)) o b.1 refl
           go false q true r z t =
               let e = eqb-true (at i) 0xED r in
@@ -241,7 +241,7 @@ module _ (s : List ℕ) (known : (i : ℕ) → i < length s → get_or s i 0 ≤
           go : (x : Bool) → eqb (at i) 0xF0 ≡ x → Step i
           go true q =
               let e = eqb-true (at i) 0xF0 q in
-              let o = (behind i l m e).overlong-four (same-lead i l m e) b.0 in
+              let o = (behind i l m e).overlong_four (same-lead i l m e) b.0 in
               four-row 6 0xF0 0xF0 0x90 0xBF refl (omega (arith, e)) (omega (arith, e)) o b.1 refl
           go false q =
               let n = eqb-false (at i) 0xF0 q in
@@ -254,7 +254,7 @@ module _ (s : List ℕ) (known : (i : ℕ) → i < length s → get_or s i 0 ≤
         go true q y r z t = let v = leb-true (at i) 0x7F q in step-one (omega (arith, v))
         go false q true r z t =
             let v = leb-false (at i) 0x7F q in
-            step-two ((f i l h).overlong-two ((f i l h).asked.none-asks p.0 p.1 p.2 (omega (arith, v)))) (leb-true (at i) 0xDF r)
+            step-two ((f i l h).overlong_two ((f i l h).asked.none_asks p.0 p.1 p.2 (omega (arith, v)))) (leb-true (at i) 0xDF r)
         go false q false r true t = let v = leb-false (at i) 0xDF r in threes (omega (arith, v)) (leb-true (at i) 0xEF t)
         go false q false r false t = let v = leb-false (at i) 0xEF t in fours (omega (arith, v)) (known i h)
 

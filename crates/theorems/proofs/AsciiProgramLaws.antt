@@ -1,13 +1,13 @@
 -- Document 02, Ticket 5: on input whose text is ASCII the program prints what it did. Assumes nothing.
 use Prim.Native.Nat.{ℕ, ◌+◌}
-use mathlib.Core.Path.{◌≡◌, refl, sym, ap, ap₂, ◌∙◌}
+use mathlib.Core.Path.{◌≡◌, refl, ap, ap₂, ◌∙◌}
 use mathlib.Core.Bool.{true, false}
 use mathlib.Core.List.{List, [], ◌++◌}
 use lib.Dec.{leb, eqb}
 use lib.ListN.{length, take, drop, replicate}
 use Rattle.text.specs.WellFormed.{Ascii}
-use Rattle.formatter.specs.Verdict.{Verdict, verdict, no_measures, Judged, declined, accepted, judge, Result, get}
-use Rattle.theorems.specs.Ascii.{judge_ascii, get_ascii}
+use Rattle.formatter.specs.Verdict.{Verdict, verdict, no_measures, Judged, declined, accepted, judge, Result}
+use Rattle.theorems.specs.Ascii.{judge_ascii}
 use Rattle.theorems.proofs.AsciiLaws.{formatted-ascii, judge-ascii, page-ascii, get-ascii}
 use Rattle.program.specs.Program.{line, room, text_of, line_of, printed, head_length, tab_size, text_length, format_input, program}
 use Rattle.theorems.specs.AsciiProgram.{text_ascii, printed_ascii, format_ascii, program_ascii}

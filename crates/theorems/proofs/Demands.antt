@@ -5,16 +5,14 @@ use Prim.Native.Nat.{ℕ, ◌+◌, ◌*◌, ◌≤◌}
 use native.Mathlib.Omega.{arith}
 use mathlib.Core.Path.{◌≡◌, refl, sym, ap, ap₂, ◌∙◌}
 use mathlib.Core.Logic.{◌↔◌, ◌⊎◌, inl, inr, ⊎_elim}
-use mathlib.Core.Bool.{Bool, true, false}
+use mathlib.Core.Bool.{true}
 use mathlib.Core.List.{List, ◌++◌}
 use lib.ListN.{length, drop}
-use lib.Dec.{leb}
-use borrow.Author.Tests.{leb-true, leb-false}
 use Rattle.comments.specs.Set.{is_comment}
 use Rattle.layout.specs.Meaning.{Page, Event}
 use Rattle.layout.specs.Events.{deepest, letters, units, trimmed, formatted}
 use Rattle.measures.proofs.Measures.{small-done, sheet_lengths}
-use Rattle.formatter.specs.Verdict.{Verdict, verdict, measures_of, Judged, declined, accepted, judge, check, Result, max_width, get}
+use Rattle.formatter.specs.Verdict.{Judged, declined, accepted, judge, check, get}
 use Rattle.formatter.specs.Accepted.{Sheet, Fits}
 use Rattle.theorems.specs.Demands.{Refuses, Written, without_spaces, Holds}
 use Rattle.formatter.proofs.EventLaws.{length-formatted}

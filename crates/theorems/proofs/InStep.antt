@@ -5,8 +5,7 @@ use mathlib.Core.Path.{◌≡◌, refl, subst}
 use mathlib.Core.List.{List}
 use lib.ListN.{length}
 use Rattle.text.specs.Utf8.{boundary}
-use Rattle.reader.specs.Tokens.{Tokens, count_of, tiled, tokens}
-use Rattle.reader.specs.Check.{ok, tree_check}
+use Rattle.reader.specs.Tokens.{Tokens, tiled, tokens}
 use Rattle.reader.specs.Reading.{Read, refused, sheet, read_tree, read_record, read}
 use Rattle.reader.proofs.ReadingLaws.{read-cases}
 use Rattle.layout.specs.Meaning.{Page, Event, done}

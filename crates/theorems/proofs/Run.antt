@@ -87,35 +87,35 @@ unfolding Meaning.after Meaning.bind Meaning.commented Meaning.or_stop Meaning.t
 run_meaning = tt
 
 unfoldable pub run_helpers : Unit {0}
-unfolding Helpers.with_extra_blank Helpers.deepen Helpers.indent Helpers.indent-deeper Helpers.when Helpers.times Helpers.items Helpers.for_each Helpers.sep Helpers.new_line Helpers.sep-with_lines Helpers.in_end Helpers.path Helpers.op Helpers.op-path Helpers.ty_vars Helpers.in_parens Helpers.ty_var_seq_there Helpers.ty_var_seq Helpers.word_if Helpers.semicolon
+unfolding Helpers.with_extra_blank Helpers.deepen Helpers.indent Helpers.indent_deeper Helpers.when Helpers.times Helpers.items Helpers.for_each Helpers.sep Helpers.new_line Helpers.sep_with_lines Helpers.in_end Helpers.path Helpers.op Helpers.op_path Helpers.ty_vars Helpers.in_parens Helpers.ty_var_seq_there Helpers.ty_var_seq Helpers.word_if Helpers.semicolon
 run_helpers = tt
 
 unfoldable pub run_get_dec : Unit {0}
-unfolding GetDec.dec-in-seq GetDec.sharing-tail GetDec.sharing-tails GetDec.dec-in-seqs GetDec.dec GetDec.get-dec GetDec.dec-arg
+unfolding GetDec.dec_in_seq GetDec.sharing_tail GetDec.sharing_tails GetDec.dec_in_seqs GetDec.dec GetDec.get_dec GetDec.dec_arg
 run_get_dec = tt
 
 unfoldable pub run_ty : Unit {0}
-unfolding Ty.ty_row Ty.ty-rows Ty.ty-args Ty.ty-seq-there Ty.ty-seq Ty.star-ty Ty.star-tys Ty.ty Ty.tys Ty.ty-annotation-there Ty.ty-annotation
+unfolding Ty.ty_row Ty.ty_rows Ty.ty_args Ty.ty_seq_there Ty.ty_seq Ty.star_ty Ty.star_tys Ty.ty Ty.tys Ty.ty_annotation_there Ty.ty_annotation
 run_ty = tt
 
 unfoldable pub run_pat : Unit {0}
-unfolding Pat.con-arg-there Pat.con-arg Pat.RestPatRow Pat.LabAndPatPatRow Pat.as-tail-there Pat.as-tail Pat.LabPatRow Pat.pat-row-inner Pat.pat-row Pat.pat-rows Pat.pat-args Pat.pat Pat.pats
+unfolding Pat.con_arg_there Pat.con_arg Pat.RestPatRow Pat.LabAndPatPatRow Pat.as_tail_there Pat.as_tail Pat.LabPatRow Pat.pat_row_inner Pat.pat_row Pat.pat_rows Pat.pat_args Pat.pat Pat.pats
 run_pat = tt
 
 unfoldable pub run_exp : Unit {0}
-unfolding Exp.item_semi Exp.app_space Exp.pipe Exp.indented-levels Exp.get-body-exp-level Exp.get-body-exp Exp.eq-body Exp.get-matcher-arm Exp.arms-on-lines Exp.get-matcher-across-lines Exp.exp-args Exp.exp-semi-item Exp.exp-semi-more Exp.exp-semi-items Exp.exp-semi-seq Exp.eq-exp Exp.exp-row Exp.exp-rows Exp.if_no Exp.fn-arms Exp.exp Exp.exps
+unfolding Exp.item_semi Exp.app_space Exp.pipe Exp.indented_levels Exp.get_body_exp_level Exp.get_body_exp Exp.eq_body Exp.get_matcher_arm Exp.arms_on_lines Exp.get_matcher_across_lines Exp.exp_args Exp.exp_semi_item Exp.exp_semi_more Exp.exp_semi_items Exp.exp_semi_seq Exp.eq_exp Exp.exp_row Exp.exp_rows Exp.if_no Exp.fn_arms Exp.exp Exp.exps
 run_exp = tt
 
 unfoldable pub run_sig_exp : Unit {0}
-unfolding SigExp.ascription-tail SigExp.sig-exp SigExp.sig-exps
+unfolding SigExp.ascription_tail SigExp.sig_exp SigExp.sig_exps
 run_sig_exp = tt
 
 unfoldable pub run_str_exp : Unit {0}
-unfolding StrExp.app-arg StrExp.app-args StrExp.str-exp StrExp.str-exps
+unfolding StrExp.app_arg StrExp.app_args StrExp.str_exp StrExp.str_exps
 run_str_exp = tt
 
 unfoldable pub run_dec_one : Unit {0}
-unfolding DecOne.comment-line DecOne.ty-bind DecOne.ty-binds DecOne.with-type DecOne.con-bind DecOne.con-binds DecOne.dat-bind DecOne.dat-binds DecOne.val-bind DecOne.val-binds DecOne.PrefixFunBindCaseHead DecOne.infix-head DecOne.InfixFunBindCaseHead DecOne.case-head DecOne.case-pats DecOne.fun-bind-case DecOne.fun-bind DecOne.ex-bind-of DecOne.ex-bind-inner DecOne.ex-bind DecOne.int-lit DecOne.names-space DecOne.local-decs DecOne.str-bind DecOne.sig-bind DecOne.functor-arg DecOne.functor-args DecOne.functor-bind DecOne.dec-one DecOne.decs
+unfolding DecOne.comment_line DecOne.ty_bind DecOne.ty_binds DecOne.with_type DecOne.con_bind DecOne.con_binds DecOne.dat_bind DecOne.dat_binds DecOne.val_bind DecOne.val_binds DecOne.PrefixFunBindCaseHead DecOne.infix_head DecOne.InfixFunBindCaseHead DecOne.case_head DecOne.case_pats DecOne.fun_bind_case DecOne.fun_bind DecOne.ex_bind_of DecOne.ex_bind_inner DecOne.ex_bind DecOne.int_lit DecOne.names_space DecOne.local_decs DecOne.str_bind DecOne.sig_bind DecOne.functor_arg DecOne.functor_args DecOne.functor_bind DecOne.dec_one DecOne.decs
 run_dec_one = tt
 
 unfoldable pub run_walk : Unit {0}

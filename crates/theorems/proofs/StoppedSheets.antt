@@ -33,9 +33,9 @@ unfolding run hex pairs digit
 walks-func = (refl, λ tab out. refl)
 
 -- ---- the look for a space behind `op` is no stop, the path behind it is
-pub op-path : Declines (bytes "op") (hex "05 00 02 00" ++ exp_dec (hex "45 01 00 00 00")) (verdict 13 20 no_measures)
+pub op_path : Declines (bytes "op") (hex "05 00 02 00" ++ exp_dec (hex "45 01 00 00 00")) (verdict 13 20 no_measures)
 unfolding run hex pairs digit
-op-path = (refl, λ tab out. refl)
+op_path = (refl, λ tab out. refl)
 
 -- ---- TupleTy drops the stop of its first type
 -- The record of sheet K with this type, which starts at 72.

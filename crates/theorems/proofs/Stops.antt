@@ -24,7 +24,7 @@ use Rattle.layout.specs.Events.{deepest, formatted, is_left}
 use Rattle.layout.specs.Walk.{walk}
 use Rattle.agreement.specs.Agreement.{EmptyPath, Proper, EndsAt}
 use Rattle.formatter.specs.declared.Measures.{Measures}
-use Rattle.formatter.specs.Verdict.{Verdict, verdict, measures_of, Judged, declined, accepted, comments, stop_verdict, walked, judge, check, max_width, put, format, get}
+use Rattle.formatter.specs.Verdict.{Verdict, measures_of, Judged, declined, accepted, comments, stop_verdict, walked, judge, check, max_width, put, format, get}
 use Rattle.formatter.specs.Lookup.{Looked, Asked, asked, ask, told, lookup}
 use Rattle.formatter.specs.Lookup as Lookup
 use Rattle.theorems.specs.Stops.{Has, MissingAt, ImportAt}
@@ -194,16 +194,16 @@ module _ (text rec : List ℕ) where
 
 -- ---- lookups
 module _ (text rec : List ℕ) (token : ℕ) where
-  abbrev Not-5 : Asked → Type 0
-  Not-5 (Lookup.declined l) = l.number ≡ 5 → ⊥
-  Not-5 (asked ts) = Unit {0}
+  abbrev IsNot5 : Asked → Type 0
+  IsNot5 (Lookup.declined l) = l.number ≡ 5 → ⊥
+  IsNot5 (asked ts) = Unit {0}
 
-  ask-cases : (r : Read) → read text rec ≡ r → Not-5 (ask text rec token)
+  ask-cases : (r : Read) → read text rec ≡ r → IsNot5 (ask text rec token)
   unfolding ask
   ask-cases (refused number place) e = let low : number ≤ 4 = read_low text rec e in rw (e, ask) (λ f. omega (arith, low, f))
   ask-cases (sheet ts tree) e = go (ltb token (length ts.kinds)) refl
     where
-      go : (b : Bool) → ltb token (length ts.kinds) ≡ b → Not-5 (ask text rec token)
+      go : (b : Bool) → ltb token (length ts.kinds) ≡ b → IsNot5 (ask text rec token)
       go true f = rw (e, ask, f) tt
       go false f = rw (e, ask, f) (λ g. omega (arith, g))
 

@@ -3,7 +3,7 @@
 
 ghost use Rattle.layout.specs.Promises.Lent.{plainly};
 ghost use Rattle.layout.specs.Walk.{walks};
-ghost use Rattle.layout.specs.Ty.{ty_row, ty-rows, ty-seq, ty-seq-there, ty-args, star-ty, star-tys, ty-annotation-there, ty-annotation, ty as ty·};
+ghost use Rattle.layout.specs.Ty.{ty_row, ty_rows, ty_seq, ty_seq_there, ty_args, star_ty, star_tys, ty_annotation_there, ty_annotation, ty as ty·};
 ghost use Rattle.reader.specs.Forms.{RecordTy, ConTy, OneArgConTy, TupleTy, FnTy, ParenTy};
 
 use layout::fields::{Gone, Read, absent, form, group, list, onwards, stop};
@@ -12,7 +12,7 @@ use layout::{Cfg, Status, told, word, words};
 use reader::commands::Family;
 
 // A row of a record type.
-#[cycle(con_ty_fn_ty_get_ty_one_arg_con_ty_paren_ty_record_ty_star_ty_star_tys_tuple_ty_ty_args_ty_row_ty_rows_ty_seq_ty_seq_there)]
+#[cycle(types)]
 fn ty_row<'a>(
     run: &'a [u8; 351],
     text: &'a [u8],
@@ -38,7 +38,7 @@ fn ty_row<'a>(
 }
 
 // The rows of a record type.
-#[cycle(con_ty_fn_ty_get_ty_one_arg_con_ty_paren_ty_record_ty_star_ty_star_tys_tuple_ty_ty_args_ty_row_ty_rows_ty_seq_ty_seq_there)]
+#[cycle(types)]
 fn ty_rows<'a>(
     run: &'a [u8; 351],
     text: &'a [u8],
@@ -49,7 +49,7 @@ fn ty_rows<'a>(
     at: usize,
     cfg: Cfg,
 ) -> usize
-    ensures { plainly (ty-rows (walks cfg.nesting)) run text rec spans out mem at result }
+    ensures { plainly (ty_rows (walks cfg.nesting)) run text rec spans out mem at result }
 {
     let Read::Is(n, s0) = list(rec, at) else {
         return stop(at);
@@ -69,7 +69,7 @@ fn ty_rows<'a>(
 }
 
 // `RecordTy`.
-#[cycle(con_ty_fn_ty_get_ty_one_arg_con_ty_paren_ty_record_ty_star_ty_star_tys_tuple_ty_ty_args_ty_row_ty_rows_ty_seq_ty_seq_there)]
+#[cycle(types)]
 fn record_ty<'a>(
     run: &'a [u8; 351],
     text: &'a [u8],
@@ -92,7 +92,7 @@ fn record_ty<'a>(
 }
 
 // The arguments of a type constructor.
-#[cycle(con_ty_fn_ty_get_ty_one_arg_con_ty_paren_ty_record_ty_star_ty_star_tys_tuple_ty_ty_args_ty_row_ty_rows_ty_seq_ty_seq_there)]
+#[cycle(types)]
 fn ty_args<'a>(
     run: &'a [u8; 351],
     text: &'a [u8],
@@ -103,7 +103,7 @@ fn ty_args<'a>(
     at: usize,
     cfg: Cfg,
 ) -> usize
-    ensures { plainly (ty-args (walks cfg.nesting)) run text rec spans out mem at result }
+    ensures { plainly (ty_args (walks cfg.nesting)) run text rec spans out mem at result }
 {
     let Read::Is(n, s0) = list(rec, at) else {
         return stop(at);
@@ -127,7 +127,7 @@ fn ty_args<'a>(
 }
 
 // The arguments of a type constructor in parentheses, where there are any.
-#[cycle(con_ty_fn_ty_get_ty_one_arg_con_ty_paren_ty_record_ty_star_ty_star_tys_tuple_ty_ty_args_ty_row_ty_rows_ty_seq_ty_seq_there)]
+#[cycle(types)]
 fn ty_seq<'a>(
     run: &'a [u8; 351],
     text: &'a [u8],
@@ -138,7 +138,7 @@ fn ty_seq<'a>(
     at: usize,
     cfg: Cfg,
 ) -> usize
-    ensures { plainly (ty-seq (walks cfg.nesting)) run text rec spans out mem at result }
+    ensures { plainly (ty_seq (walks cfg.nesting)) run text rec spans out mem at result }
 {
     let gone = absent(rec, at);
     match gone {
@@ -148,7 +148,7 @@ fn ty_seq<'a>(
 }
 
 // The arguments that are there.
-#[cycle(con_ty_fn_ty_get_ty_one_arg_con_ty_paren_ty_record_ty_star_ty_star_tys_tuple_ty_ty_args_ty_row_ty_rows_ty_seq_ty_seq_there)]
+#[cycle(types)]
 fn ty_seq_there<'a>(
     run: &'a [u8; 351],
     text: &'a [u8],
@@ -159,7 +159,7 @@ fn ty_seq_there<'a>(
     at: usize,
     cfg: Cfg,
 ) -> usize
-    ensures { plainly (ty-seq-there (walks cfg.nesting)) run text rec spans out mem at result }
+    ensures { plainly (ty_seq_there (walks cfg.nesting)) run text rec spans out mem at result }
 {
     let r1 = group(rec, at);
     let Status::Done(s1) = told(r1) else {
@@ -175,7 +175,7 @@ fn ty_seq_there<'a>(
 }
 
 // `ConTy`.
-#[cycle(con_ty_fn_ty_get_ty_one_arg_con_ty_paren_ty_record_ty_star_ty_star_tys_tuple_ty_ty_args_ty_row_ty_rows_ty_seq_ty_seq_there)]
+#[cycle(types)]
 fn con_ty<'a>(
     run: &'a [u8; 351],
     text: &'a [u8],
@@ -196,7 +196,7 @@ fn con_ty<'a>(
 }
 
 // `OneArgConTy`.
-#[cycle(con_ty_fn_ty_get_ty_one_arg_con_ty_paren_ty_record_ty_star_ty_star_tys_tuple_ty_ty_args_ty_row_ty_rows_ty_seq_ty_seq_there)]
+#[cycle(types)]
 fn one_arg_con_ty<'a>(
     run: &'a [u8; 351],
     text: &'a [u8],
@@ -218,7 +218,7 @@ fn one_arg_con_ty<'a>(
 }
 
 // A further part of a tuple type.
-#[cycle(con_ty_fn_ty_get_ty_one_arg_con_ty_paren_ty_record_ty_star_ty_star_tys_tuple_ty_ty_args_ty_row_ty_rows_ty_seq_ty_seq_there)]
+#[cycle(types)]
 fn star_ty<'a>(
     run: &'a [u8; 351],
     text: &'a [u8],
@@ -229,7 +229,7 @@ fn star_ty<'a>(
     at: usize,
     cfg: Cfg,
 ) -> usize
-    ensures { plainly (star-ty (walks cfg.nesting)) run text rec spans out mem at result }
+    ensures { plainly (star_ty (walks cfg.nesting)) run text rec spans out mem at result }
 {
     let r1 = group(rec, at);
     let Status::Done(s1) = told(r1) else {
@@ -240,7 +240,7 @@ fn star_ty<'a>(
 }
 
 // The further parts of a tuple type.
-#[cycle(con_ty_fn_ty_get_ty_one_arg_con_ty_paren_ty_record_ty_star_ty_star_tys_tuple_ty_ty_args_ty_row_ty_rows_ty_seq_ty_seq_there)]
+#[cycle(types)]
 fn star_tys<'a>(
     run: &'a [u8; 351],
     text: &'a [u8],
@@ -251,7 +251,7 @@ fn star_tys<'a>(
     at: usize,
     cfg: Cfg,
 ) -> usize
-    ensures { plainly (star-tys (walks cfg.nesting)) run text rec spans out mem at result }
+    ensures { plainly (star_tys (walks cfg.nesting)) run text rec spans out mem at result }
 {
     let Read::Is(n, s0) = list(rec, at) else {
         return stop(at);
@@ -270,7 +270,7 @@ fn star_tys<'a>(
 }
 
 // `TupleTy`: the answer of the first part is dropped.
-#[cycle(con_ty_fn_ty_get_ty_one_arg_con_ty_paren_ty_record_ty_star_ty_star_tys_tuple_ty_ty_args_ty_row_ty_rows_ty_seq_ty_seq_there)]
+#[cycle(types)]
 fn tuple_ty<'a>(
     run: &'a [u8; 351],
     text: &'a [u8],
@@ -292,7 +292,7 @@ fn tuple_ty<'a>(
 }
 
 // `FnTy`.
-#[cycle(con_ty_fn_ty_get_ty_one_arg_con_ty_paren_ty_record_ty_star_ty_star_tys_tuple_ty_ty_args_ty_row_ty_rows_ty_seq_ty_seq_there)]
+#[cycle(types)]
 fn fn_ty<'a>(
     run: &'a [u8; 351],
     text: &'a [u8],
@@ -314,7 +314,7 @@ fn fn_ty<'a>(
 }
 
 // `ParenTy`.
-#[cycle(con_ty_fn_ty_get_ty_one_arg_con_ty_paren_ty_record_ty_star_ty_star_tys_tuple_ty_ty_args_ty_row_ty_rows_ty_seq_ty_seq_there)]
+#[cycle(types)]
 fn paren_ty<'a>(
     run: &'a [u8; 351],
     text: &'a [u8],
@@ -337,7 +337,7 @@ fn paren_ty<'a>(
 }
 
 // A type.
-#[cycle(con_ty_fn_ty_get_ty_one_arg_con_ty_paren_ty_record_ty_star_ty_star_tys_tuple_ty_ty_args_ty_row_ty_rows_ty_seq_ty_seq_there)]
+#[cycle(types)]
 pub fn get_ty<'a>(
     run: &'a [u8; 351],
     text: &'a [u8],
@@ -348,7 +348,7 @@ pub fn get_ty<'a>(
     at: usize,
     cfg: Cfg,
 ) -> usize
-    ensures { plainly (walks cfg.nesting).get-ty run text rec spans out mem at result }
+    ensures { plainly (walks cfg.nesting).get_ty run text rec spans out mem at result }
 {
     let left = cfg.nesting;
     if left == 0 {
@@ -393,7 +393,7 @@ fn ty_annotation_there<'a>(
     at: usize,
     cfg: Cfg,
 ) -> usize
-    ensures { plainly (ty-annotation-there (walks cfg.nesting)) run text rec spans out mem at result }
+    ensures { plainly (ty_annotation_there (walks cfg.nesting)) run text rec spans out mem at result }
 {
     let r1 = group(rec, at);
     let Status::Done(s1) = told(r1) else {
@@ -414,7 +414,7 @@ pub fn ty_annotation<'a>(
     at: usize,
     cfg: Cfg,
 ) -> usize
-    ensures { plainly (ty-annotation (walks cfg.nesting)) run text rec spans out mem at result }
+    ensures { plainly (ty_annotation (walks cfg.nesting)) run text rec spans out mem at result }
 {
     let gone = absent(rec, at);
     match gone {

@@ -19,8 +19,8 @@ use Rattle.layout.specs.Meaning.{Page, Event, Outcome, done, stopped, outcome, H
 use Rattle.layout.specs.Promises.State.{Run, run_of, Ran, went, fell, run, runs, effects, page, stop_no, told_of, Fair, Walked, Operated, Imports, heads_behind}
 use Rattle.layout.specs.Walk.{walks}
 use Rattle.agreement.proofs.Knot.{heads-behind}
-use Rattle.layout.specs.Exp.{exp-semi-item, exp-semi-more, exp-semi-items}
-use Rattle.layout.specs.StrExp.{app-arg, app-args}
+use Rattle.layout.specs.Exp.{exp_semi_item, exp_semi_more, exp_semi_items}
+use Rattle.layout.specs.StrExp.{app_arg, app_args}
 use Rattle.layout.proofs.Steps.{Same, here, last-skip, TokenRead, told-done, packed-imported, exactly, ended_at, then-done, operator-done, operated_ended}
 
 pub semi_last : (allow : Bool) (i n : ℕ) → i < n → n - i ≡ 1 → allow ≡ (allow && eqb (n - (i + 1)) 0)
@@ -42,57 +42,57 @@ needs_still false which e = sym (ne_eqb which 1 e)
 module _ {words : List ℕ} {p : Page} (ws : Walkers) (c : Cfg) where
   -- ---- the items of a sequence behind the first
   module _ (allow : Bool) where
-    pub semi-all : (n : ℕ) {g : Run} → Same words p (exp-semi-more ws c allow n) g (exp-semi-more ws c allow (n - 0)) g
-    semi-all n {g} = here (ap (λ k. runs p (exp-semi-more ws c allow k) g) (sym (sub-zero n)))
+    pub semi-all : (n : ℕ) {g : Run} → Same words p (exp_semi_more ws c allow n) g (exp_semi_more ws c allow (n - 0)) g
+    semi-all n {g} = here (ap (λ k. runs p (exp_semi_more ws c allow k) g) (sym (sub-zero n)))
 
     pub semi-more : {i n : ℕ} {b : Bool} {g : Run} {r : ℕ} {m o : List ℕ} {keep : Bool} → i < n → b ≡ (allow && eqb (n - (i + 1)) 0)
-        → Walked keep words p (word ";\n" ⨾ indent c ⨾ exp-semi-item ws c b ⨾ exp-semi-more ws c allow (n - (i + 1))) g r m o
-        → Walked keep words p (exp-semi-more ws c allow (n - i)) g r m o
-    unfolding exp-semi-more
+        → Walked keep words p (word ";\n" ⨾ indent c ⨾ exp_semi_item ws c b ⨾ exp_semi_more ws c allow (n - (i + 1))) g r m o
+        → Walked keep words p (exp_semi_more ws c allow (n - i)) g r m o
+    unfolding exp_semi_more
     semi-more {i} {n} {b} {g} {r} {m} {o} h e w =
         let q : n - i ≡ suc (n - (i + 1)) = omega arith in
-        rw (q, exp-semi-more, ← e) w
+        rw (q, exp_semi_more, ← e) w
 
-    pub semi-none : {i n a : ℕ} {m o : List ℕ} {keep : Bool} → n ≤ i → Walked keep words p (exp-semi-more ws c allow (n - i)) (run_of a m o) a m o
-    unfolding exp-semi-more
+    pub semi-none : {i n a : ℕ} {m o : List ℕ} {keep : Bool} → n ≤ i → Walked keep words p (exp_semi_more ws c allow (n - i)) (run_of a m o) a m o
+    unfolding exp_semi_more
     semi-none {i} {n} h =
         let q : n - i ≡ 0 = omega arith in
         rw q last-skip
 
     -- ---- a sequence
-    pub semi-zero : {n a : ℕ} {m o : List ℕ} {keep : Bool} → n ≡ 0 → Walked keep words p (exp-semi-items ws c allow n) (run_of a m o) a m o
-    unfolding exp-semi-items
+    pub semi-zero : {n a : ℕ} {m o : List ℕ} {keep : Bool} → n ≡ 0 → Walked keep words p (exp_semi_items ws c allow n) (run_of a m o) a m o
+    unfolding exp_semi_items
     semi-zero e = rw e last-skip
 
-    pub semi-first : {n : ℕ} {g : Run} {r : ℕ} {m o : List ℕ} {keep : Bool} → (n ≡ 0 → ⊥) → Walked keep words p (exp-semi-item ws c false ⨾ exp-semi-more ws c allow (n - 1)) g r m o
-        → Walked keep words p (exp-semi-items ws c allow n) g r m o
-    unfolding exp-semi-items
+    pub semi-first : {n : ℕ} {g : Run} {r : ℕ} {m o : List ℕ} {keep : Bool} → (n ≡ 0 → ⊥) → Walked keep words p (exp_semi_item ws c false ⨾ exp_semi_more ws c allow (n - 1)) g r m o
+        → Walked keep words p (exp_semi_items ws c allow n) g r m o
+    unfolding exp_semi_items
     semi-first {n} e w =
         let q : n ≡ suc (n - 1) = omega arith in
-        rw (q, exp-semi-items) w
+        rw (q, exp_semi_items) w
 
   -- ---- the arguments of a functor's application
-  pub args-all : (n : ℕ) {g : Run} → Same words p (app-args ws c false n) g (app-args ws c false (n - 0)) g
-  args-all n {g} = here (ap (λ k. runs p (app-args ws c false k) g) (sym (sub-zero n)))
+  pub args-all : (n : ℕ) {g : Run} → Same words p (app_args ws c false n) g (app_args ws c false (n - 0)) g
+  args-all n {g} = here (ap (λ k. runs p (app_args ws c false k) g) (sym (sub-zero n)))
 
   module _ (needs : Bool) where
     pub args_more : {i n : ℕ} {g : Run} {r : ℕ} {m o : List ℕ} {keep : Bool} → i < n
-        → Walked keep words p (choice (λ which. app-arg ws c which ⨾ app-args ws c (needs || eqb which 1) (n - (i + 1)))) g r m o
-        → Walked keep words p (app-args ws c needs (n - i)) g r m o
-    unfolding app-args
+        → Walked keep words p (choice (λ which. app_arg ws c which ⨾ app_args ws c (needs || eqb which 1) (n - (i + 1)))) g r m o
+        → Walked keep words p (app_args ws c needs (n - i)) g r m o
+    unfolding app_args
     args_more {i} {n} h w =
         let q : n - i ≡ suc (n - (i + 1)) = omega arith in
-        rw (q, app-args) w
+        rw (q, app_args) w
 
     pub args_none : {i n : ℕ} {g : Run} {r : ℕ} {m o : List ℕ} {keep : Bool} → n ≤ i → Walked keep words p (when needs (indent c) ⨾ word ")") g r m o
-        → Walked keep words p (app-args ws c needs (n - i)) g r m o
-    unfolding app-args
+        → Walked keep words p (app_args ws c needs (n - i)) g r m o
+    unfolding app_args
     args_none {i} {n} h w =
         let q : n - i ≡ 0 = omega arith in
-        rw (q, app-args) w
+        rw (q, app_args) w
 
-  pub args-needs : (k : ℕ) {a b : Bool} {g : Run} {r : ℕ} {m o : List ℕ} {keep : Bool} → a ≡ b → Walked keep words p (app-args ws c a k) g r m o → Walked keep words p (app-args ws c b k) g r m o
-  args-needs k {g = g} {r = r} {m = m} {o = o} {keep = keep} e w = subst (λ x. Walked keep words p (app-args ws c x k) g r m o) e w
+  pub args-needs : (k : ℕ) {a b : Bool} {g : Run} {r : ℕ} {m o : List ℕ} {keep : Bool} → a ≡ b → Walked keep words p (app_args ws c a k) g r m o → Walked keep words p (app_args ws c b k) g r m o
+  args-needs k {g = g} {r = r} {m = m} {o = o} {keep = keep} e w = subst (λ x. Walked keep words p (app_args ws c x k) g r m o) e w
 
 -- ---- an operator that was kept
 -- Behind the left side stands what is written, at the same cursor, and behind it the right side.
@@ -119,12 +119,12 @@ done_by p (stopped why es) g h e = never (cc)
 
 -- The first expression was walked into before both are looked at.
 pub seen-behind : {words x r kinds starts lens : List ℕ} (n : ℕ) (c : Cfg) {a s k : ℕ} {m o m' o' : List ℕ} {y : Heads} {z : Status} → n ≤ 200
-    → Walked false words (page x r kinds starts lens) ((walks n).get-exp c) (run_of a m o) k m' o' → z ≡ told_of k → z ≡ Done s → y ≡ heads_behind r a s
+    → Walked false words (page x r kinds starts lens) ((walks n).get_exp c) (run_of a m o) k m' o' → z ≡ told_of k → z ≡ Done s → y ≡ heads_behind r a s
     → Fair words (page x r kinds starts lens) a → y ≡ heads_at r (length starts) a
 unfolding runs
 seen-behind {x = x} {r} {kinds} {starts} {lens} n c {a} {s} {k} {m} {o} {m'} {o'} low w t d h fair =
     let p : Page = page x r kinds starts lens in
-    let q = done_by p (outcome p ((walks n).get-exp c) a) (run_of a m o) (run_of s m' o') (ended_at false k (w.is fair) t d) in
+    let q = done_by p (outcome p ((walks n).get_exp c) a) (run_of a m o) (run_of s m' o') (ended_at false k (w.is fair) t d) in
     h ∙ heads-behind p n low c a s q.0 q.1
 
 -- ---- an import

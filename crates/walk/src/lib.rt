@@ -11,16 +11,16 @@ ghost use Rattle.layout.specs.Promises.Words.{word_of};
 ghost use Rattle.layout.specs.Layout.{word as word·, text as text·, maybe, halt, ◌⨾◌};
 ghost use Rattle.layout.specs.Promises.Lent.{does, walked};
 ghost use Rattle.layout.specs.Walk.{walks, top};
-ghost use Rattle.layout.specs.Exp.{indented-levels, get-matcher-arm, get-matcher-across-lines, eq-body, exp-args, exp-semi-item, exp-semi-more};
-ghost use Rattle.layout.specs.Exp.{exp-semi-seq, exp-row, exp-rows, exp as exp·};
+ghost use Rattle.layout.specs.Exp.{indented_levels, get_matcher_arm, get_matcher_across_lines, eq_body, exp_args, exp_semi_item, exp_semi_more};
+ghost use Rattle.layout.specs.Exp.{exp_semi_seq, exp_row, exp_rows, exp as exp·};
 ghost use Rattle.reader.specs.Forms.{RecordExp, ParenExp, VectorExp, SeqExp, LetExp, AppExp, InfixExp, TypedExp, IfExp, WhileExp, CaseExp, FnExp};
-ghost use Rattle.layout.specs.GetDec.{dec as dec·, dec-in-seq, dec-in-seqs, get-dec, dec-arg};
-ghost use Rattle.layout.specs.DecOne.{decs as decs·, val-bind, fun-bind-case, fun-bind, ex-bind-inner, ex-bind};
-ghost use Rattle.layout.specs.DecOne.{local-decs, str-bind, functor-arg, functor-args, functor-bind, dec-one as dec-one·};
+ghost use Rattle.layout.specs.GetDec.{dec as dec·, dec_in_seq, dec_in_seqs, get_dec, dec_arg};
+ghost use Rattle.layout.specs.DecOne.{decs as decs·, val_bind, fun_bind_case, fun_bind, ex_bind_inner, ex_bind};
+ghost use Rattle.layout.specs.DecOne.{local_decs, str_bind, functor_arg, functor_args, functor_bind, dec_one as dec_one·};
 ghost use Rattle.reader.specs.Forms.{ValDec, FunDec, AbstypeDec, ExDec, LocalDec, StructureDec, SignatureDec, FunctorDec, IncludeDec};
-ghost use Rattle.layout.specs.StrExp.{app-arg, str-exp as str-exp·};
+ghost use Rattle.layout.specs.StrExp.{app_arg, str_exp as str_exp·};
 ghost use Rattle.reader.specs.Forms.{StructStrExp, AscriptionStrExp, AppStrExp, LetStrExp};
-ghost use Rattle.layout.specs.SigExp.{ascription-tail, sig-exp as sig-exp·};
+ghost use Rattle.layout.specs.SigExp.{ascription_tail, sig_exp as sig_exp·};
 ghost use Rattle.reader.specs.Forms.{SigSigExp, WhereTypeSigExp, WhereSigExp};
 
 use layout::fields::{
@@ -68,7 +68,7 @@ fn later_needs(needs: bool, which: usize) -> bool
 
 // ---- expressions
 // A row of `RecordExp`.
-#[cycle(ab_ac_an_app_ar_arm_br_ca_cb_cd_da_dec_dp_ds_du_exp_fa_fb_fc_fd_fe_fs_fx_gd_ha_ic_ie_it_ld_lo_lx_ma_mo_nm_nu_one_pa_pr_qb_qs_rc_ro_rs_sa_sb_sd_seq_sg_sig_sl_sm_sp_sq_ss_str_ta_ty_vb_vd_ve_wh_wr_wt_xb_xd_xi)]
+#[cycle(walk)]
 fn ro<'a>(
     run: &'a [u8; 351],
     text: &'a [u8],
@@ -81,7 +81,7 @@ fn ro<'a>(
     cfg: Cfg,
 ) -> usize
     requires { cfg.depth + 2 * cfg.nesting + 2 ≤ 402 }
-    ensures { does exp-row run text rec kinds spans out mem at cfg result }
+    ensures { does exp_row run text rec kinds spans out mem at cfg result }
 {
     let r1 = group(rec, at);
     let Status::Done(s1) = told(r1) else {
@@ -103,7 +103,7 @@ fn ro<'a>(
 }
 
 // The rows of `RecordExp`.
-#[cycle(ab_ac_an_app_ar_arm_br_ca_cb_cd_da_dec_dp_ds_du_exp_fa_fb_fc_fd_fe_fs_fx_gd_ha_ic_ie_it_ld_lo_lx_ma_mo_nm_nu_one_pa_pr_qb_qs_rc_ro_rs_sa_sb_sd_seq_sg_sig_sl_sm_sp_sq_ss_str_ta_ty_vb_vd_ve_wh_wr_wt_xb_xd_xi)]
+#[cycle(walk)]
 fn rs<'a>(
     run: &'a [u8; 351],
     text: &'a [u8],
@@ -116,7 +116,7 @@ fn rs<'a>(
     cfg: Cfg,
 ) -> usize
     requires { cfg.depth + 2 * cfg.nesting + 2 ≤ 402 }
-    ensures { does exp-rows run text rec kinds spans out mem at cfg result }
+    ensures { does exp_rows run text rec kinds spans out mem at cfg result }
 {
     let Read::Is(n, s0) = list(rec, at) else {
         return stop(at);
@@ -136,7 +136,7 @@ fn rs<'a>(
 }
 
 // `RecordExp`.
-#[cycle(ab_ac_an_app_ar_arm_br_ca_cb_cd_da_dec_dp_ds_du_exp_fa_fb_fc_fd_fe_fs_fx_gd_ha_ic_ie_it_ld_lo_lx_ma_mo_nm_nu_one_pa_pr_qb_qs_rc_ro_rs_sa_sb_sd_seq_sg_sig_sl_sm_sp_sq_ss_str_ta_ty_vb_vd_ve_wh_wr_wt_xb_xd_xi)]
+#[cycle(walk)]
 fn rc<'a>(
     run: &'a [u8; 351],
     text: &'a [u8],
@@ -161,7 +161,7 @@ fn rc<'a>(
 }
 
 // `ParenExp`.
-#[cycle(ab_ac_an_app_ar_arm_br_ca_cb_cd_da_dec_dp_ds_du_exp_fa_fb_fc_fd_fe_fs_fx_gd_ha_ic_ie_it_ld_lo_lx_ma_mo_nm_nu_one_pa_pr_qb_qs_rc_ro_rs_sa_sb_sd_seq_sg_sig_sl_sm_sp_sq_ss_str_ta_ty_vb_vd_ve_wh_wr_wt_xb_xd_xi)]
+#[cycle(walk)]
 fn pa<'a>(
     run: &'a [u8; 351],
     text: &'a [u8],
@@ -186,7 +186,7 @@ fn pa<'a>(
 }
 
 // `exp_args`: expressions with a comma between.
-#[cycle(ab_ac_an_app_ar_arm_br_ca_cb_cd_da_dec_dp_ds_du_exp_fa_fb_fc_fd_fe_fs_fx_gd_ha_ic_ie_it_ld_lo_lx_ma_mo_nm_nu_one_pa_pr_qb_qs_rc_ro_rs_sa_sb_sd_seq_sg_sig_sl_sm_sp_sq_ss_str_ta_ty_vb_vd_ve_wh_wr_wt_xb_xd_xi)]
+#[cycle(walk)]
 fn ar<'a>(
     run: &'a [u8; 351],
     text: &'a [u8],
@@ -199,7 +199,7 @@ fn ar<'a>(
     cfg: Cfg,
 ) -> usize
     requires { cfg.depth + 2 * cfg.nesting + 2 ≤ 402 }
-    ensures { does exp-args run text rec kinds spans out mem at cfg result }
+    ensures { does exp_args run text rec kinds spans out mem at cfg result }
 {
     let Read::Is(n, s0) = list(rec, at) else {
         return stop(at);
@@ -223,7 +223,7 @@ fn ar<'a>(
 }
 
 // `TupleExp` and `ListExp`, by their brackets.
-#[cycle(ab_ac_an_app_ar_arm_br_ca_cb_cd_da_dec_dp_ds_du_exp_fa_fb_fc_fd_fe_fs_fx_gd_ha_ic_ie_it_ld_lo_lx_ma_mo_nm_nu_one_pa_pr_qb_qs_rc_ro_rs_sa_sb_sd_seq_sg_sig_sl_sm_sp_sq_ss_str_ta_ty_vb_vd_ve_wh_wr_wt_xb_xd_xi)]
+#[cycle(walk)]
 fn br<'a>(
     run: &'a [u8; 351],
     text: &'a [u8],
@@ -238,7 +238,7 @@ fn br<'a>(
     closes: usize,
 ) -> usize
     requires { cfg.depth + 2 * cfg.nesting + 2 ≤ 402 }
-    ensures { does (λ ws c. word· (word_of opens) ⨾ exp-args ws c ⨾ word· (word_of closes))
+    ensures { does (λ ws c. word· (word_of opens) ⨾ exp_args ws c ⨾ word· (word_of closes))
         run text rec kinds spans out mem at cfg result }
 {
     word(run, text, out, mem, opens);
@@ -251,7 +251,7 @@ fn br<'a>(
 }
 
 // `VectorExp`.
-#[cycle(ab_ac_an_app_ar_arm_br_ca_cb_cd_da_dec_dp_ds_du_exp_fa_fb_fc_fd_fe_fs_fx_gd_ha_ic_ie_it_ld_lo_lx_ma_mo_nm_nu_one_pa_pr_qb_qs_rc_ro_rs_sa_sb_sd_seq_sg_sig_sl_sm_sp_sq_ss_str_ta_ty_vb_vd_ve_wh_wr_wt_xb_xd_xi)]
+#[cycle(walk)]
 fn ve<'a>(
     run: &'a [u8; 351],
     text: &'a [u8],
@@ -280,7 +280,7 @@ fn ve<'a>(
 }
 
 // An item of `exps_in_seq`, with its semicolon where that is written.
-#[cycle(ab_ac_an_app_ar_arm_br_ca_cb_cd_da_dec_dp_ds_du_exp_fa_fb_fc_fd_fe_fs_fx_gd_ha_ic_ie_it_ld_lo_lx_ma_mo_nm_nu_one_pa_pr_qb_qs_rc_ro_rs_sa_sb_sd_seq_sg_sig_sl_sm_sp_sq_ss_str_ta_ty_vb_vd_ve_wh_wr_wt_xb_xd_xi)]
+#[cycle(walk)]
 fn it<'a>(
     run: &'a [u8; 351],
     text: &'a [u8],
@@ -294,7 +294,7 @@ fn it<'a>(
     write: bool,
 ) -> usize
     requires { cfg.depth + 2 * cfg.nesting + 0 ≤ 402 }
-    ensures { does (λ ws c. exp-semi-item ws c write) run text rec kinds spans out mem at cfg result }
+    ensures { does (λ ws c. exp_semi_item ws c write) run text rec kinds spans out mem at cfg result }
 {
     let r1 = group(rec, at);
     let Status::Done(s1) = told(r1) else {
@@ -308,7 +308,7 @@ fn it<'a>(
 }
 
 // The last n items of a sequence, the first not among them.
-#[cycle(ab_ac_an_app_ar_arm_br_ca_cb_cd_da_dec_dp_ds_du_exp_fa_fb_fc_fd_fe_fs_fx_gd_ha_ic_ie_it_ld_lo_lx_ma_mo_nm_nu_one_pa_pr_qb_qs_rc_ro_rs_sa_sb_sd_seq_sg_sig_sl_sm_sp_sq_ss_str_ta_ty_vb_vd_ve_wh_wr_wt_xb_xd_xi)]
+#[cycle(walk)]
 fn mo<'a>(
     run: &'a [u8; 351],
     text: &'a [u8],
@@ -323,7 +323,7 @@ fn mo<'a>(
     n: usize,
 ) -> usize
     requires { cfg.depth + 2 * cfg.nesting + 0 ≤ 402 }
-    ensures { does (λ ws c. exp-semi-more ws c allow n) run text rec kinds spans out mem at cfg result }
+    ensures { does (λ ws c. exp_semi_more ws c allow n) run text rec kinds spans out mem at cfg result }
 {
     let mut s = at;
     let mut i = 0;
@@ -342,7 +342,7 @@ fn mo<'a>(
 }
 
 // `exp_semi_seq`. The first item's semicolon is never written.
-#[cycle(ab_ac_an_app_ar_arm_br_ca_cb_cd_da_dec_dp_ds_du_exp_fa_fb_fc_fd_fe_fs_fx_gd_ha_ic_ie_it_ld_lo_lx_ma_mo_nm_nu_one_pa_pr_qb_qs_rc_ro_rs_sa_sb_sd_seq_sg_sig_sl_sm_sp_sq_ss_str_ta_ty_vb_vd_ve_wh_wr_wt_xb_xd_xi)]
+#[cycle(walk)]
 fn sm<'a>(
     run: &'a [u8; 351],
     text: &'a [u8],
@@ -356,7 +356,7 @@ fn sm<'a>(
     allow: bool,
 ) -> usize
     requires { cfg.depth + 2 * cfg.nesting + 0 ≤ 402 }
-    ensures { does (λ ws c. exp-semi-seq ws c allow) run text rec kinds spans out mem at cfg result }
+    ensures { does (λ ws c. exp_semi_seq ws c allow) run text rec kinds spans out mem at cfg result }
 {
     let Read::Is(n, s1) = list(rec, at) else {
         return stop(at);
@@ -384,7 +384,7 @@ fn sm<'a>(
 }
 
 // `SeqExp`.
-#[cycle(ab_ac_an_app_ar_arm_br_ca_cb_cd_da_dec_dp_ds_du_exp_fa_fb_fc_fd_fe_fs_fx_gd_ha_ic_ie_it_ld_lo_lx_ma_mo_nm_nu_one_pa_pr_qb_qs_rc_ro_rs_sa_sb_sd_seq_sg_sig_sl_sm_sp_sq_ss_str_ta_ty_vb_vd_ve_wh_wr_wt_xb_xd_xi)]
+#[cycle(walk)]
 fn seq<'a>(
     run: &'a [u8; 351],
     text: &'a [u8],
@@ -412,7 +412,7 @@ fn seq<'a>(
 }
 
 // `LetExp`.
-#[cycle(ab_ac_an_app_ar_arm_br_ca_cb_cd_da_dec_dp_ds_du_exp_fa_fb_fc_fd_fe_fs_fx_gd_ha_ic_ie_it_ld_lo_lx_ma_mo_nm_nu_one_pa_pr_qb_qs_rc_ro_rs_sa_sb_sd_seq_sg_sig_sl_sm_sp_sq_ss_str_ta_ty_vb_vd_ve_wh_wr_wt_xb_xd_xi)]
+#[cycle(walk)]
 fn lx<'a>(
     run: &'a [u8; 351],
     text: &'a [u8],
@@ -448,7 +448,7 @@ fn lx<'a>(
 }
 
 // `AppExp`: what 000 sees of both expressions before it walks into the first is seen behind its walk.
-#[cycle(ab_ac_an_app_ar_arm_br_ca_cb_cd_da_dec_dp_ds_du_exp_fa_fb_fc_fd_fe_fs_fx_gd_ha_ic_ie_it_ld_lo_lx_ma_mo_nm_nu_one_pa_pr_qb_qs_rc_ro_rs_sa_sb_sd_seq_sg_sig_sl_sm_sp_sq_ss_str_ta_ty_vb_vd_ve_wh_wr_wt_xb_xd_xi)]
+#[cycle(walk)]
 fn app<'a>(
     run: &'a [u8; 351],
     text: &'a [u8],
@@ -478,7 +478,7 @@ fn app<'a>(
 }
 
 // `InfixExp`.
-#[cycle(ab_ac_an_app_ar_arm_br_ca_cb_cd_da_dec_dp_ds_du_exp_fa_fb_fc_fd_fe_fs_fx_gd_ha_ic_ie_it_ld_lo_lx_ma_mo_nm_nu_one_pa_pr_qb_qs_rc_ro_rs_sa_sb_sd_seq_sg_sig_sl_sm_sp_sq_ss_str_ta_ty_vb_vd_ve_wh_wr_wt_xb_xd_xi)]
+#[cycle(walk)]
 fn fx<'a>(
     run: &'a [u8; 351],
     text: &'a [u8],
@@ -505,7 +505,7 @@ fn fx<'a>(
 }
 
 // `TypedExp`.
-#[cycle(ab_ac_an_app_ar_arm_br_ca_cb_cd_da_dec_dp_ds_du_exp_fa_fb_fc_fd_fe_fs_fx_gd_ha_ic_ie_it_ld_lo_lx_ma_mo_nm_nu_one_pa_pr_qb_qs_rc_ro_rs_sa_sb_sd_seq_sg_sig_sl_sm_sp_sq_ss_str_ta_ty_vb_vd_ve_wh_wr_wt_xb_xd_xi)]
+#[cycle(walk)]
 fn ty<'a>(
     run: &'a [u8; 351],
     text: &'a [u8],
@@ -529,7 +529,7 @@ fn ty<'a>(
 }
 
 // `AndalsoExp` and `OrelseExp`, by their word.
-#[cycle(ab_ac_an_app_ar_arm_br_ca_cb_cd_da_dec_dp_ds_du_exp_fa_fb_fc_fd_fe_fs_fx_gd_ha_ic_ie_it_ld_lo_lx_ma_mo_nm_nu_one_pa_pr_qb_qs_rc_ro_rs_sa_sb_sd_seq_sg_sig_sl_sm_sp_sq_ss_str_ta_ty_vb_vd_ve_wh_wr_wt_xb_xd_xi)]
+#[cycle(walk)]
 fn du<'a>(
     run: &'a [u8; 351],
     text: &'a [u8],
@@ -543,7 +543,7 @@ fn du<'a>(
     w: usize,
 ) -> usize
     requires { cfg.depth + 2 * cfg.nesting + 2 ≤ 402 }
-    ensures { does (λ ws c. ws.get-exp c ⨾ word· (word_of w) ⨾ ws.get-exp c) run text rec kinds spans out mem at cfg result }
+    ensures { does (λ ws c. ws.get_exp c ⨾ word· (word_of w) ⨾ ws.get_exp c) run text rec kinds spans out mem at cfg result }
 {
     let r1 = exp(run, text, rec, kinds, spans, out, mem, at, cfg);
     let Status::Done(s1) = told(r1) else {
@@ -554,7 +554,7 @@ fn du<'a>(
 }
 
 // `WhileExp`.
-#[cycle(ab_ac_an_app_ar_arm_br_ca_cb_cd_da_dec_dp_ds_du_exp_fa_fb_fc_fd_fe_fs_fx_gd_ha_ic_ie_it_ld_lo_lx_ma_mo_nm_nu_one_pa_pr_qb_qs_rc_ro_rs_sa_sb_sd_seq_sg_sig_sl_sm_sp_sq_ss_str_ta_ty_vb_vd_ve_wh_wr_wt_xb_xd_xi)]
+#[cycle(walk)]
 fn wh<'a>(
     run: &'a [u8; 351],
     text: &'a [u8],
@@ -585,7 +585,7 @@ fn wh<'a>(
 }
 
 // `HandleExp`, by its word.
-#[cycle(ab_ac_an_app_ar_arm_br_ca_cb_cd_da_dec_dp_ds_du_exp_fa_fb_fc_fd_fe_fs_fx_gd_ha_ic_ie_it_ld_lo_lx_ma_mo_nm_nu_one_pa_pr_qb_qs_rc_ro_rs_sa_sb_sd_seq_sg_sig_sl_sm_sp_sq_ss_str_ta_ty_vb_vd_ve_wh_wr_wt_xb_xd_xi)]
+#[cycle(walk)]
 fn ha<'a>(
     run: &'a [u8; 351],
     text: &'a [u8],
@@ -599,7 +599,7 @@ fn ha<'a>(
     w: usize,
 ) -> usize
     requires { cfg.depth + 2 * cfg.nesting + 2 ≤ 402 }
-    ensures { does (λ ws c. ws.get-exp c ⨾ word· (word_of w) ⨾ get-matcher-across-lines ws c)
+    ensures { does (λ ws c. ws.get_exp c ⨾ word· (word_of w) ⨾ get_matcher_across_lines ws c)
         run text rec kinds spans out mem at cfg result }
 {
     let r1 = exp(run, text, rec, kinds, spans, out, mem, at, cfg);
@@ -611,7 +611,7 @@ fn ha<'a>(
 }
 
 // `CaseExp`.
-#[cycle(ab_ac_an_app_ar_arm_br_ca_cb_cd_da_dec_dp_ds_du_exp_fa_fb_fc_fd_fe_fs_fx_gd_ha_ic_ie_it_ld_lo_lx_ma_mo_nm_nu_one_pa_pr_qb_qs_rc_ro_rs_sa_sb_sd_seq_sg_sig_sl_sm_sp_sq_ss_str_ta_ty_vb_vd_ve_wh_wr_wt_xb_xd_xi)]
+#[cycle(walk)]
 fn ca<'a>(
     run: &'a [u8; 351],
     text: &'a [u8],
@@ -642,7 +642,7 @@ fn ca<'a>(
 }
 
 // `RaiseExp`, `DoDec` and an exception's expression, by their word.
-#[cycle(ab_ac_an_app_ar_arm_br_ca_cb_cd_da_dec_dp_ds_du_exp_fa_fb_fc_fd_fe_fs_fx_gd_ha_ic_ie_it_ld_lo_lx_ma_mo_nm_nu_one_pa_pr_qb_qs_rc_ro_rs_sa_sb_sd_seq_sg_sig_sl_sm_sp_sq_ss_str_ta_ty_vb_vd_ve_wh_wr_wt_xb_xd_xi)]
+#[cycle(walk)]
 fn pr<'a>(
     run: &'a [u8; 351],
     text: &'a [u8],
@@ -656,14 +656,14 @@ fn pr<'a>(
     w: usize,
 ) -> usize
     requires { cfg.depth + 2 * cfg.nesting + 2 ≤ 402 }
-    ensures { does (λ ws c. word· (word_of w) ⨾ ws.get-exp c) run text rec kinds spans out mem at cfg result }
+    ensures { does (λ ws c. word· (word_of w) ⨾ ws.get_exp c) run text rec kinds spans out mem at cfg result }
 {
     word(run, text, out, mem, w);
     exp(run, text, rec, kinds, spans, out, mem, at, cfg)
 }
 
 // `IfExp`. Another `if` stays on the line of `else`.
-#[cycle(ab_ac_an_app_ar_arm_br_ca_cb_cd_da_dec_dp_ds_du_exp_fa_fb_fc_fd_fe_fs_fx_gd_ha_ic_ie_it_ld_lo_lx_ma_mo_nm_nu_one_pa_pr_qb_qs_rc_ro_rs_sa_sb_sd_seq_sg_sig_sl_sm_sp_sq_ss_str_ta_ty_vb_vd_ve_wh_wr_wt_xb_xd_xi)]
+#[cycle(walk)]
 fn ie<'a>(
     run: &'a [u8; 351],
     text: &'a [u8],
@@ -704,7 +704,7 @@ fn ie<'a>(
 }
 
 // `get_matcher_across_lines`. No matcher is allowed.
-#[cycle(ab_ac_an_app_ar_arm_br_ca_cb_cd_da_dec_dp_ds_du_exp_fa_fb_fc_fd_fe_fs_fx_gd_ha_ic_ie_it_ld_lo_lx_ma_mo_nm_nu_one_pa_pr_qb_qs_rc_ro_rs_sa_sb_sd_seq_sg_sig_sl_sm_sp_sq_ss_str_ta_ty_vb_vd_ve_wh_wr_wt_xb_xd_xi)]
+#[cycle(walk)]
 fn ma<'a>(
     run: &'a [u8; 351],
     text: &'a [u8],
@@ -717,7 +717,7 @@ fn ma<'a>(
     cfg: Cfg,
 ) -> usize
     requires { cfg.depth + 2 * cfg.nesting + 2 ≤ 402 }
-    ensures { does get-matcher-across-lines run text rec kinds spans out mem at cfg result }
+    ensures { does get_matcher_across_lines run text rec kinds spans out mem at cfg result }
 {
     if let Gone::Past(s0) = absent(rec, at) {
         return s0;
@@ -745,7 +745,7 @@ fn ma<'a>(
 }
 
 // `get_matcher_arm`: the body stands two deeper where it needs a line of its own.
-#[cycle(ab_ac_an_app_ar_arm_br_ca_cb_cd_da_dec_dp_ds_du_exp_fa_fb_fc_fd_fe_fs_fx_gd_ha_ic_ie_it_ld_lo_lx_ma_mo_nm_nu_one_pa_pr_qb_qs_rc_ro_rs_sa_sb_sd_seq_sg_sig_sl_sm_sp_sq_ss_str_ta_ty_vb_vd_ve_wh_wr_wt_xb_xd_xi)]
+#[cycle(walk)]
 fn arm<'a>(
     run: &'a [u8; 351],
     text: &'a [u8],
@@ -758,7 +758,7 @@ fn arm<'a>(
     cfg: Cfg,
 ) -> usize
     requires { cfg.depth + 2 * cfg.nesting + 2 ≤ 402 }
-    ensures { does get-matcher-arm run text rec kinds spans out mem at cfg result }
+    ensures { does get_matcher_arm run text rec kinds spans out mem at cfg result }
 {
     let r1 = group(rec, at);
     let Status::Done(s1) = told(r1) else {
@@ -783,7 +783,7 @@ fn arm<'a>(
 }
 
 // An expression one deeper.
-#[cycle(ab_ac_an_app_ar_arm_br_ca_cb_cd_da_dec_dp_ds_du_exp_fa_fb_fc_fd_fe_fs_fx_gd_ha_ic_ie_it_ld_lo_lx_ma_mo_nm_nu_one_pa_pr_qb_qs_rc_ro_rs_sa_sb_sd_seq_sg_sig_sl_sm_sp_sq_ss_str_ta_ty_vb_vd_ve_wh_wr_wt_xb_xd_xi)]
+#[cycle(walk)]
 fn dp<'a>(
     run: &'a [u8; 351],
     text: &'a [u8],
@@ -796,7 +796,7 @@ fn dp<'a>(
     cfg: Cfg,
 ) -> usize
     requires { cfg.depth + 2 * cfg.nesting + 1 ≤ 402 }
-    ensures { does (λ ws c. indented-levels ws c 1) run text rec kinds spans out mem at cfg result }
+    ensures { does (λ ws c. indented_levels ws c 1) run text rec kinds spans out mem at cfg result }
 {
     indent_deeper(out, mem, cfg);
     let new = cfg.indented();
@@ -804,7 +804,7 @@ fn dp<'a>(
 }
 
 // ` =` and the body of a binding, where there is one.
-#[cycle(ab_ac_an_app_ar_arm_br_ca_cb_cd_da_dec_dp_ds_du_exp_fa_fb_fc_fd_fe_fs_fx_gd_ha_ic_ie_it_ld_lo_lx_ma_mo_nm_nu_one_pa_pr_qb_qs_rc_ro_rs_sa_sb_sd_seq_sg_sig_sl_sm_sp_sq_ss_str_ta_ty_vb_vd_ve_wh_wr_wt_xb_xd_xi)]
+#[cycle(walk)]
 fn qb<'a>(
     run: &'a [u8; 351],
     text: &'a [u8],
@@ -817,7 +817,7 @@ fn qb<'a>(
     cfg: Cfg,
 ) -> usize
     requires { cfg.depth + 2 * cfg.nesting + 2 ≤ 402 }
-    ensures { does eq-body run text rec kinds spans out mem at cfg result }
+    ensures { does eq_body run text rec kinds spans out mem at cfg result }
 {
     if let Gone::Past(s0) = absent(rec, at) {
         return s0;
@@ -839,7 +839,7 @@ fn qb<'a>(
 }
 
 // `FnExp`.
-#[cycle(ab_ac_an_app_ar_arm_br_ca_cb_cd_da_dec_dp_ds_du_exp_fa_fb_fc_fd_fe_fs_fx_gd_ha_ic_ie_it_ld_lo_lx_ma_mo_nm_nu_one_pa_pr_qb_qs_rc_ro_rs_sa_sb_sd_seq_sg_sig_sl_sm_sp_sq_ss_str_ta_ty_vb_vd_ve_wh_wr_wt_xb_xd_xi)]
+#[cycle(walk)]
 fn fe<'a>(
     run: &'a [u8; 351],
     text: &'a [u8],
@@ -877,7 +877,7 @@ fn fe<'a>(
 }
 
 // `get_exp`: a form is dispatched by number to its arm.
-#[cycle(ab_ac_an_app_ar_arm_br_ca_cb_cd_da_dec_dp_ds_du_exp_fa_fb_fc_fd_fe_fs_fx_gd_ha_ic_ie_it_ld_lo_lx_ma_mo_nm_nu_one_pa_pr_qb_qs_rc_ro_rs_sa_sb_sd_seq_sg_sig_sl_sm_sp_sq_ss_str_ta_ty_vb_vd_ve_wh_wr_wt_xb_xd_xi)]
+#[cycle(walk)]
 fn exp<'a>(
     run: &'a [u8; 351],
     text: &'a [u8],
@@ -890,7 +890,7 @@ fn exp<'a>(
     cfg: Cfg,
 ) -> usize
     requires { cfg.depth + 2 * cfg.nesting + 0 ≤ 402 }
-    ensures { does (λ ws c. ws.get-exp c) run text rec kinds spans out mem at cfg result }
+    ensures { does (λ ws c. ws.get_exp c) run text rec kinds spans out mem at cfg result }
 {
     let forms_left = cfg.nesting;
     if forms_left == 0 {
@@ -972,7 +972,7 @@ fn exp<'a>(
 
 // ---- declarations
 // `get_dec`: the Decs of a sequence, with a blank line between where the configuration has them.
-#[cycle(ab_ac_an_app_ar_arm_br_ca_cb_cd_da_dec_dp_ds_du_exp_fa_fb_fc_fd_fe_fs_fx_gd_ha_ic_ie_it_ld_lo_lx_ma_mo_nm_nu_one_pa_pr_qb_qs_rc_ro_rs_sa_sb_sd_seq_sg_sig_sl_sm_sp_sq_ss_str_ta_ty_vb_vd_ve_wh_wr_wt_xb_xd_xi)]
+#[cycle(walk)]
 fn ds<'a>(
     run: &'a [u8; 351],
     text: &'a [u8],
@@ -985,7 +985,7 @@ fn ds<'a>(
     cfg: Cfg,
 ) -> usize
     requires { cfg.depth + 2 * cfg.nesting + 0 ≤ 402 }
-    ensures { does get-dec run text rec kinds spans out mem at cfg result }
+    ensures { does get_dec run text rec kinds spans out mem at cfg result }
 {
     let Read::Is(n, s0) = list(rec, at) else {
         return stop(at);
@@ -1009,7 +1009,7 @@ fn ds<'a>(
 }
 
 // The fields of one Dec.
-#[cycle(ab_ac_an_app_ar_arm_br_ca_cb_cd_da_dec_dp_ds_du_exp_fa_fb_fc_fd_fe_fs_fx_gd_ha_ic_ie_it_ld_lo_lx_ma_mo_nm_nu_one_pa_pr_qb_qs_rc_ro_rs_sa_sb_sd_seq_sg_sig_sl_sm_sp_sq_ss_str_ta_ty_vb_vd_ve_wh_wr_wt_xb_xd_xi)]
+#[cycle(walk)]
 fn dec<'a>(
     run: &'a [u8; 351],
     text: &'a [u8],
@@ -1040,7 +1040,7 @@ fn dec<'a>(
 }
 
 // `dec_in_seqs`.
-#[cycle(ab_ac_an_app_ar_arm_br_ca_cb_cd_da_dec_dp_ds_du_exp_fa_fb_fc_fd_fe_fs_fx_gd_ha_ic_ie_it_ld_lo_lx_ma_mo_nm_nu_one_pa_pr_qb_qs_rc_ro_rs_sa_sb_sd_seq_sg_sig_sl_sm_sp_sq_ss_str_ta_ty_vb_vd_ve_wh_wr_wt_xb_xd_xi)]
+#[cycle(walk)]
 fn qs<'a>(
     run: &'a [u8; 351],
     text: &'a [u8],
@@ -1053,7 +1053,7 @@ fn qs<'a>(
     cfg: Cfg,
 ) -> usize
     requires { cfg.depth + 2 * cfg.nesting + 0 ≤ 402 }
-    ensures { does dec-in-seqs run text rec kinds spans out mem at cfg result }
+    ensures { does dec_in_seqs run text rec kinds spans out mem at cfg result }
 {
     let Read::Is(n, s0) = list(rec, at) else {
         return stop(at);
@@ -1073,7 +1073,7 @@ fn qs<'a>(
 }
 
 // An item of `dec_in_seqs`.
-#[cycle(ab_ac_an_app_ar_arm_br_ca_cb_cd_da_dec_dp_ds_du_exp_fa_fb_fc_fd_fe_fs_fx_gd_ha_ic_ie_it_ld_lo_lx_ma_mo_nm_nu_one_pa_pr_qb_qs_rc_ro_rs_sa_sb_sd_seq_sg_sig_sl_sm_sp_sq_ss_str_ta_ty_vb_vd_ve_wh_wr_wt_xb_xd_xi)]
+#[cycle(walk)]
 fn sq<'a>(
     run: &'a [u8; 351],
     text: &'a [u8],
@@ -1086,7 +1086,7 @@ fn sq<'a>(
     cfg: Cfg,
 ) -> usize
     requires { cfg.depth + 2 * cfg.nesting + 0 ≤ 402 }
-    ensures { does dec-in-seq run text rec kinds spans out mem at cfg result }
+    ensures { does dec_in_seq run text rec kinds spans out mem at cfg result }
 {
     let r1 = group(rec, at);
     let Status::Done(s1) = told(r1) else {
@@ -1105,7 +1105,7 @@ fn sq<'a>(
 }
 
 // `get_dec_one`: the comment above a declaration, then the declaration.
-#[cycle(ab_ac_an_app_ar_arm_br_ca_cb_cd_da_dec_dp_ds_du_exp_fa_fb_fc_fd_fe_fs_fx_gd_ha_ic_ie_it_ld_lo_lx_ma_mo_nm_nu_one_pa_pr_qb_qs_rc_ro_rs_sa_sb_sd_seq_sg_sig_sl_sm_sp_sq_ss_str_ta_ty_vb_vd_ve_wh_wr_wt_xb_xd_xi)]
+#[cycle(walk)]
 fn one<'a>(
     run: &'a [u8; 351],
     text: &'a [u8],
@@ -1118,7 +1118,7 @@ fn one<'a>(
     cfg: Cfg,
 ) -> usize
     requires { cfg.depth + 2 * cfg.nesting + 0 ≤ 402 }
-    ensures { does (λ ws c. ws.get-dec-one c) run text rec kinds spans out mem at cfg result }
+    ensures { does (λ ws c. ws.get_dec_one c) run text rec kinds spans out mem at cfg result }
 {
     let forms_left = cfg.nesting;
     if forms_left == 0 {
@@ -1142,7 +1142,7 @@ fn one<'a>(
 }
 
 // A declaration by its number, from its fields on.
-#[cycle(ab_ac_an_app_ar_arm_br_ca_cb_cd_da_dec_dp_ds_du_exp_fa_fb_fc_fd_fe_fs_fx_gd_ha_ic_ie_it_ld_lo_lx_ma_mo_nm_nu_one_pa_pr_qb_qs_rc_ro_rs_sa_sb_sd_seq_sg_sig_sl_sm_sp_sq_ss_str_ta_ty_vb_vd_ve_wh_wr_wt_xb_xd_xi)]
+#[cycle(walk)]
 fn nu<'a>(
     run: &'a [u8; 351],
     text: &'a [u8],
@@ -1187,7 +1187,7 @@ fn nu<'a>(
 }
 
 // `ValDec`.
-#[cycle(ab_ac_an_app_ar_arm_br_ca_cb_cd_da_dec_dp_ds_du_exp_fa_fb_fc_fd_fe_fs_fx_gd_ha_ic_ie_it_ld_lo_lx_ma_mo_nm_nu_one_pa_pr_qb_qs_rc_ro_rs_sa_sb_sd_seq_sg_sig_sl_sm_sp_sq_ss_str_ta_ty_vb_vd_ve_wh_wr_wt_xb_xd_xi)]
+#[cycle(walk)]
 fn vd<'a>(
     run: &'a [u8; 351],
     text: &'a [u8],
@@ -1200,7 +1200,7 @@ fn vd<'a>(
     cfg: Cfg,
 ) -> usize
     requires { cfg.depth + 2 * cfg.nesting + 2 ≤ 402 }
-    ensures { does (λ ws c. dec-one· ws c ValDec) run text rec kinds spans out mem at cfg result }
+    ensures { does (λ ws c. dec_one· ws c ValDec) run text rec kinds spans out mem at cfg result }
 {
     word(run, text, out, mem, words::VAL);
     let Read::Is(n, s1) = list(rec, at) else {
@@ -1221,7 +1221,7 @@ fn vd<'a>(
 }
 
 // A binding of `ValDec`.
-#[cycle(ab_ac_an_app_ar_arm_br_ca_cb_cd_da_dec_dp_ds_du_exp_fa_fb_fc_fd_fe_fs_fx_gd_ha_ic_ie_it_ld_lo_lx_ma_mo_nm_nu_one_pa_pr_qb_qs_rc_ro_rs_sa_sb_sd_seq_sg_sig_sl_sm_sp_sq_ss_str_ta_ty_vb_vd_ve_wh_wr_wt_xb_xd_xi)]
+#[cycle(walk)]
 fn vb<'a>(
     run: &'a [u8; 351],
     text: &'a [u8],
@@ -1234,7 +1234,7 @@ fn vb<'a>(
     cfg: Cfg,
 ) -> usize
     requires { cfg.depth + 2 * cfg.nesting + 2 ≤ 402 }
-    ensures { does val-bind run text rec kinds spans out mem at cfg result }
+    ensures { does val_bind run text rec kinds spans out mem at cfg result }
 {
     let r1 = group(rec, at);
     let Status::Done(s1) = told(r1) else {
@@ -1252,7 +1252,7 @@ fn vb<'a>(
 }
 
 // `FunDec`.
-#[cycle(ab_ac_an_app_ar_arm_br_ca_cb_cd_da_dec_dp_ds_du_exp_fa_fb_fc_fd_fe_fs_fx_gd_ha_ic_ie_it_ld_lo_lx_ma_mo_nm_nu_one_pa_pr_qb_qs_rc_ro_rs_sa_sb_sd_seq_sg_sig_sl_sm_sp_sq_ss_str_ta_ty_vb_vd_ve_wh_wr_wt_xb_xd_xi)]
+#[cycle(walk)]
 fn fd<'a>(
     run: &'a [u8; 351],
     text: &'a [u8],
@@ -1265,7 +1265,7 @@ fn fd<'a>(
     cfg: Cfg,
 ) -> usize
     requires { cfg.depth + 2 * cfg.nesting + 2 ≤ 402 }
-    ensures { does (λ ws c. dec-one· ws c FunDec) run text rec kinds spans out mem at cfg result }
+    ensures { does (λ ws c. dec_one· ws c FunDec) run text rec kinds spans out mem at cfg result }
 {
     word(run, text, out, mem, words::FUN);
     let r1 = ty_var_seq(run, text, rec, spans, out, mem, at);
@@ -1290,7 +1290,7 @@ fn fd<'a>(
 }
 
 // A binding of `FunDec`: bars stand one deeper, bodies are laid out from the declaration's own depth.
-#[cycle(ab_ac_an_app_ar_arm_br_ca_cb_cd_da_dec_dp_ds_du_exp_fa_fb_fc_fd_fe_fs_fx_gd_ha_ic_ie_it_ld_lo_lx_ma_mo_nm_nu_one_pa_pr_qb_qs_rc_ro_rs_sa_sb_sd_seq_sg_sig_sl_sm_sp_sq_ss_str_ta_ty_vb_vd_ve_wh_wr_wt_xb_xd_xi)]
+#[cycle(walk)]
 fn fb<'a>(
     run: &'a [u8; 351],
     text: &'a [u8],
@@ -1303,7 +1303,7 @@ fn fb<'a>(
     cfg: Cfg,
 ) -> usize
     requires { cfg.depth + 2 * cfg.nesting + 2 ≤ 402 }
-    ensures { does fun-bind run text rec kinds spans out mem at cfg result }
+    ensures { does fun_bind run text rec kinds spans out mem at cfg result }
 {
     let r1 = group(rec, at);
     let Status::Done(s1) = told(r1) else {
@@ -1328,7 +1328,7 @@ fn fb<'a>(
 }
 
 // A case of `FunDec`.
-#[cycle(ab_ac_an_app_ar_arm_br_ca_cb_cd_da_dec_dp_ds_du_exp_fa_fb_fc_fd_fe_fs_fx_gd_ha_ic_ie_it_ld_lo_lx_ma_mo_nm_nu_one_pa_pr_qb_qs_rc_ro_rs_sa_sb_sd_seq_sg_sig_sl_sm_sp_sq_ss_str_ta_ty_vb_vd_ve_wh_wr_wt_xb_xd_xi)]
+#[cycle(walk)]
 fn fc<'a>(
     run: &'a [u8; 351],
     text: &'a [u8],
@@ -1341,7 +1341,7 @@ fn fc<'a>(
     cfg: Cfg,
 ) -> usize
     requires { cfg.depth + 2 * cfg.nesting + 2 ≤ 402 }
-    ensures { does fun-bind-case run text rec kinds spans out mem at cfg result }
+    ensures { does fun_bind_case run text rec kinds spans out mem at cfg result }
 {
     let r1 = group(rec, at);
     let Status::Done(s1) = told(r1) else {
@@ -1363,7 +1363,7 @@ fn fc<'a>(
 }
 
 // `AbstypeDec`.
-#[cycle(ab_ac_an_app_ar_arm_br_ca_cb_cd_da_dec_dp_ds_du_exp_fa_fb_fc_fd_fe_fs_fx_gd_ha_ic_ie_it_ld_lo_lx_ma_mo_nm_nu_one_pa_pr_qb_qs_rc_ro_rs_sa_sb_sd_seq_sg_sig_sl_sm_sp_sq_ss_str_ta_ty_vb_vd_ve_wh_wr_wt_xb_xd_xi)]
+#[cycle(walk)]
 fn ab<'a>(
     run: &'a [u8; 351],
     text: &'a [u8],
@@ -1376,7 +1376,7 @@ fn ab<'a>(
     cfg: Cfg,
 ) -> usize
     requires { cfg.depth + 2 * cfg.nesting + 2 ≤ 402 }
-    ensures { does (λ ws c. dec-one· ws c AbstypeDec) run text rec kinds spans out mem at cfg result }
+    ensures { does (λ ws c. dec_one· ws c AbstypeDec) run text rec kinds spans out mem at cfg result }
 {
     word(run, text, out, mem, words::ABSTYPE);
     let r1 = dat_binds(run, text, rec, spans, out, mem, at, cfg);
@@ -1397,7 +1397,7 @@ fn ab<'a>(
 }
 
 // `ExDec`.
-#[cycle(ab_ac_an_app_ar_arm_br_ca_cb_cd_da_dec_dp_ds_du_exp_fa_fb_fc_fd_fe_fs_fx_gd_ha_ic_ie_it_ld_lo_lx_ma_mo_nm_nu_one_pa_pr_qb_qs_rc_ro_rs_sa_sb_sd_seq_sg_sig_sl_sm_sp_sq_ss_str_ta_ty_vb_vd_ve_wh_wr_wt_xb_xd_xi)]
+#[cycle(walk)]
 fn xd<'a>(
     run: &'a [u8; 351],
     text: &'a [u8],
@@ -1410,7 +1410,7 @@ fn xd<'a>(
     cfg: Cfg,
 ) -> usize
     requires { cfg.depth + 2 * cfg.nesting + 2 ≤ 402 }
-    ensures { does (λ ws c. dec-one· ws c ExDec) run text rec kinds spans out mem at cfg result }
+    ensures { does (λ ws c. dec_one· ws c ExDec) run text rec kinds spans out mem at cfg result }
 {
     word(run, text, out, mem, words::EXCEPTION);
     let Read::Is(n, s1) = list(rec, at) else {
@@ -1431,7 +1431,7 @@ fn xd<'a>(
 }
 
 // A binding of `ExDec`.
-#[cycle(ab_ac_an_app_ar_arm_br_ca_cb_cd_da_dec_dp_ds_du_exp_fa_fb_fc_fd_fe_fs_fx_gd_ha_ic_ie_it_ld_lo_lx_ma_mo_nm_nu_one_pa_pr_qb_qs_rc_ro_rs_sa_sb_sd_seq_sg_sig_sl_sm_sp_sq_ss_str_ta_ty_vb_vd_ve_wh_wr_wt_xb_xd_xi)]
+#[cycle(walk)]
 fn xb<'a>(
     run: &'a [u8; 351],
     text: &'a [u8],
@@ -1444,7 +1444,7 @@ fn xb<'a>(
     cfg: Cfg,
 ) -> usize
     requires { cfg.depth + 2 * cfg.nesting + 2 ≤ 402 }
-    ensures { does ex-bind run text rec kinds spans out mem at cfg result }
+    ensures { does ex_bind run text rec kinds spans out mem at cfg result }
 {
     let r1 = group(rec, at);
     let Status::Done(s1) = told(r1) else {
@@ -1464,7 +1464,7 @@ fn xb<'a>(
 }
 
 // What an exception is bound to, by its number.
-#[cycle(ab_ac_an_app_ar_arm_br_ca_cb_cd_da_dec_dp_ds_du_exp_fa_fb_fc_fd_fe_fs_fx_gd_ha_ic_ie_it_ld_lo_lx_ma_mo_nm_nu_one_pa_pr_qb_qs_rc_ro_rs_sa_sb_sd_seq_sg_sig_sl_sm_sp_sq_ss_str_ta_ty_vb_vd_ve_wh_wr_wt_xb_xd_xi)]
+#[cycle(walk)]
 fn xi<'a>(
     run: &'a [u8; 351],
     text: &'a [u8],
@@ -1478,7 +1478,7 @@ fn xi<'a>(
     which: usize,
 ) -> usize
     requires { cfg.depth + 2 * cfg.nesting + 2 ≤ 402 }
-    ensures { does (λ ws c. ex-bind-inner ws c which) run text rec kinds spans out mem at cfg result }
+    ensures { does (λ ws c. ex_bind_inner ws c which) run text rec kinds spans out mem at cfg result }
 {
     match which {
         0 => ex_bind_of(run, text, rec, spans, out, mem, at, cfg),
@@ -1499,7 +1499,7 @@ fn xi<'a>(
 }
 
 // `LocalDec`.
-#[cycle(ab_ac_an_app_ar_arm_br_ca_cb_cd_da_dec_dp_ds_du_exp_fa_fb_fc_fd_fe_fs_fx_gd_ha_ic_ie_it_ld_lo_lx_ma_mo_nm_nu_one_pa_pr_qb_qs_rc_ro_rs_sa_sb_sd_seq_sg_sig_sl_sm_sp_sq_ss_str_ta_ty_vb_vd_ve_wh_wr_wt_xb_xd_xi)]
+#[cycle(walk)]
 fn lo<'a>(
     run: &'a [u8; 351],
     text: &'a [u8],
@@ -1512,7 +1512,7 @@ fn lo<'a>(
     cfg: Cfg,
 ) -> usize
     requires { cfg.depth + 2 * cfg.nesting + 2 ≤ 402 }
-    ensures { does (λ ws c. dec-one· ws c LocalDec) run text rec kinds spans out mem at cfg result }
+    ensures { does (λ ws c. dec_one· ws c LocalDec) run text rec kinds spans out mem at cfg result }
 {
     word(run, text, out, mem, words::LOCAL);
     word(run, text, out, mem, words::LINE_FEED);
@@ -1535,7 +1535,7 @@ fn lo<'a>(
 }
 
 // `local_dec_hd` or `local_dec_tl`: absent, it has no declarations.
-#[cycle(ab_ac_an_app_ar_arm_br_ca_cb_cd_da_dec_dp_ds_du_exp_fa_fb_fc_fd_fe_fs_fx_gd_ha_ic_ie_it_ld_lo_lx_ma_mo_nm_nu_one_pa_pr_qb_qs_rc_ro_rs_sa_sb_sd_seq_sg_sig_sl_sm_sp_sq_ss_str_ta_ty_vb_vd_ve_wh_wr_wt_xb_xd_xi)]
+#[cycle(walk)]
 fn ld<'a>(
     run: &'a [u8; 351],
     text: &'a [u8],
@@ -1548,7 +1548,7 @@ fn ld<'a>(
     cfg: Cfg,
 ) -> usize
     requires { cfg.depth + 2 * cfg.nesting + 0 ≤ 402 }
-    ensures { does local-decs run text rec kinds spans out mem at cfg result }
+    ensures { does local_decs run text rec kinds spans out mem at cfg result }
 {
     if let Gone::Past(s0) = absent(rec, at) {
         return s0;
@@ -1561,7 +1561,7 @@ fn ld<'a>(
 }
 
 // `StructureDec`.
-#[cycle(ab_ac_an_app_ar_arm_br_ca_cb_cd_da_dec_dp_ds_du_exp_fa_fb_fc_fd_fe_fs_fx_gd_ha_ic_ie_it_ld_lo_lx_ma_mo_nm_nu_one_pa_pr_qb_qs_rc_ro_rs_sa_sb_sd_seq_sg_sig_sl_sm_sp_sq_ss_str_ta_ty_vb_vd_ve_wh_wr_wt_xb_xd_xi)]
+#[cycle(walk)]
 fn sd<'a>(
     run: &'a [u8; 351],
     text: &'a [u8],
@@ -1574,7 +1574,7 @@ fn sd<'a>(
     cfg: Cfg,
 ) -> usize
     requires { cfg.depth + 2 * cfg.nesting + 2 ≤ 402 }
-    ensures { does (λ ws c. dec-one· ws c StructureDec) run text rec kinds spans out mem at cfg result }
+    ensures { does (λ ws c. dec_one· ws c StructureDec) run text rec kinds spans out mem at cfg result }
 {
     word(run, text, out, mem, words::STRUCTURE);
     let Read::Is(n, s1) = list(rec, at) else {
@@ -1595,7 +1595,7 @@ fn sd<'a>(
 }
 
 // A binding of `StructureDec`.
-#[cycle(ab_ac_an_app_ar_arm_br_ca_cb_cd_da_dec_dp_ds_du_exp_fa_fb_fc_fd_fe_fs_fx_gd_ha_ic_ie_it_ld_lo_lx_ma_mo_nm_nu_one_pa_pr_qb_qs_rc_ro_rs_sa_sb_sd_seq_sg_sig_sl_sm_sp_sq_ss_str_ta_ty_vb_vd_ve_wh_wr_wt_xb_xd_xi)]
+#[cycle(walk)]
 fn sb<'a>(
     run: &'a [u8; 351],
     text: &'a [u8],
@@ -1608,7 +1608,7 @@ fn sb<'a>(
     cfg: Cfg,
 ) -> usize
     requires { cfg.depth + 2 * cfg.nesting + 2 ≤ 402 }
-    ensures { does str-bind run text rec kinds spans out mem at cfg result }
+    ensures { does str_bind run text rec kinds spans out mem at cfg result }
 {
     let r1 = group(rec, at);
     let Status::Done(s1) = told(r1) else {
@@ -1634,7 +1634,7 @@ fn sb<'a>(
 }
 
 // `SignatureDec`.
-#[cycle(ab_ac_an_app_ar_arm_br_ca_cb_cd_da_dec_dp_ds_du_exp_fa_fb_fc_fd_fe_fs_fx_gd_ha_ic_ie_it_ld_lo_lx_ma_mo_nm_nu_one_pa_pr_qb_qs_rc_ro_rs_sa_sb_sd_seq_sg_sig_sl_sm_sp_sq_ss_str_ta_ty_vb_vd_ve_wh_wr_wt_xb_xd_xi)]
+#[cycle(walk)]
 fn gd<'a>(
     run: &'a [u8; 351],
     text: &'a [u8],
@@ -1647,7 +1647,7 @@ fn gd<'a>(
     cfg: Cfg,
 ) -> usize
     requires { cfg.depth + 2 * cfg.nesting + 2 ≤ 402 }
-    ensures { does (λ ws c. dec-one· ws c SignatureDec) run text rec kinds spans out mem at cfg result }
+    ensures { does (λ ws c. dec_one· ws c SignatureDec) run text rec kinds spans out mem at cfg result }
 {
     word(run, text, out, mem, words::SIGNATURE);
     let Read::Is(n, s1) = list(rec, at) else {
@@ -1683,7 +1683,7 @@ fn gd<'a>(
 }
 
 // A name and a signature, with a word between.
-#[cycle(ab_ac_an_app_ar_arm_br_ca_cb_cd_da_dec_dp_ds_du_exp_fa_fb_fc_fd_fe_fs_fx_gd_ha_ic_ie_it_ld_lo_lx_ma_mo_nm_nu_one_pa_pr_qb_qs_rc_ro_rs_sa_sb_sd_seq_sg_sig_sl_sm_sp_sq_ss_str_ta_ty_vb_vd_ve_wh_wr_wt_xb_xd_xi)]
+#[cycle(walk)]
 fn nm<'a>(
     run: &'a [u8; 351],
     text: &'a [u8],
@@ -1697,7 +1697,7 @@ fn nm<'a>(
     w: usize,
 ) -> usize
     requires { cfg.depth + 2 * cfg.nesting + 2 ≤ 402 }
-    ensures { does (λ ws c. text· ⨾ word· (word_of w) ⨾ ws.get-sig-exp c) run text rec kinds spans out mem at cfg result }
+    ensures { does (λ ws c. text· ⨾ word· (word_of w) ⨾ ws.get_sig_exp c) run text rec kinds spans out mem at cfg result }
 {
     let r1 = text_of(run, text, rec, spans, out, mem, at);
     let Status::Done(s1) = told(r1) else {
@@ -1708,7 +1708,7 @@ fn nm<'a>(
 }
 
 // `FunctorDec`.
-#[cycle(ab_ac_an_app_ar_arm_br_ca_cb_cd_da_dec_dp_ds_du_exp_fa_fb_fc_fd_fe_fs_fx_gd_ha_ic_ie_it_ld_lo_lx_ma_mo_nm_nu_one_pa_pr_qb_qs_rc_ro_rs_sa_sb_sd_seq_sg_sig_sl_sm_sp_sq_ss_str_ta_ty_vb_vd_ve_wh_wr_wt_xb_xd_xi)]
+#[cycle(walk)]
 fn cd<'a>(
     run: &'a [u8; 351],
     text: &'a [u8],
@@ -1721,7 +1721,7 @@ fn cd<'a>(
     cfg: Cfg,
 ) -> usize
     requires { cfg.depth + 2 * cfg.nesting + 2 ≤ 402 }
-    ensures { does (λ ws c. dec-one· ws c FunctorDec) run text rec kinds spans out mem at cfg result }
+    ensures { does (λ ws c. dec_one· ws c FunctorDec) run text rec kinds spans out mem at cfg result }
 {
     word(run, text, out, mem, words::FUNCTOR);
     let Read::Is(n, s1) = list(rec, at) else {
@@ -1742,7 +1742,7 @@ fn cd<'a>(
 }
 
 // A binding of `FunctorDec`.
-#[cycle(ab_ac_an_app_ar_arm_br_ca_cb_cd_da_dec_dp_ds_du_exp_fa_fb_fc_fd_fe_fs_fx_gd_ha_ic_ie_it_ld_lo_lx_ma_mo_nm_nu_one_pa_pr_qb_qs_rc_ro_rs_sa_sb_sd_seq_sg_sig_sl_sm_sp_sq_ss_str_ta_ty_vb_vd_ve_wh_wr_wt_xb_xd_xi)]
+#[cycle(walk)]
 fn cb<'a>(
     run: &'a [u8; 351],
     text: &'a [u8],
@@ -1755,7 +1755,7 @@ fn cb<'a>(
     cfg: Cfg,
 ) -> usize
     requires { cfg.depth + 2 * cfg.nesting + 2 ≤ 402 }
-    ensures { does functor-bind run text rec kinds spans out mem at cfg result }
+    ensures { does functor_bind run text rec kinds spans out mem at cfg result }
 {
     let r1 = group(rec, at);
     let Status::Done(s1) = told(r1) else {
@@ -1780,7 +1780,7 @@ fn cb<'a>(
 }
 
 // The arguments of a functor.
-#[cycle(ab_ac_an_app_ar_arm_br_ca_cb_cd_da_dec_dp_ds_du_exp_fa_fb_fc_fd_fe_fs_fx_gd_ha_ic_ie_it_ld_lo_lx_ma_mo_nm_nu_one_pa_pr_qb_qs_rc_ro_rs_sa_sb_sd_seq_sg_sig_sl_sm_sp_sq_ss_str_ta_ty_vb_vd_ve_wh_wr_wt_xb_xd_xi)]
+#[cycle(walk)]
 fn fs<'a>(
     run: &'a [u8; 351],
     text: &'a [u8],
@@ -1793,7 +1793,7 @@ fn fs<'a>(
     cfg: Cfg,
 ) -> usize
     requires { cfg.depth + 2 * cfg.nesting + 2 ≤ 402 }
-    ensures { does functor-args run text rec kinds spans out mem at cfg result }
+    ensures { does functor_args run text rec kinds spans out mem at cfg result }
 {
     let Read::Is(n, s0) = list(rec, at) else {
         return stop(at);
@@ -1815,7 +1815,7 @@ fn fs<'a>(
 }
 
 // An argument of a functor, by its number.
-#[cycle(ab_ac_an_app_ar_arm_br_ca_cb_cd_da_dec_dp_ds_du_exp_fa_fb_fc_fd_fe_fs_fx_gd_ha_ic_ie_it_ld_lo_lx_ma_mo_nm_nu_one_pa_pr_qb_qs_rc_ro_rs_sa_sb_sd_seq_sg_sig_sl_sm_sp_sq_ss_str_ta_ty_vb_vd_ve_wh_wr_wt_xb_xd_xi)]
+#[cycle(walk)]
 fn fa<'a>(
     run: &'a [u8; 351],
     text: &'a [u8],
@@ -1829,7 +1829,7 @@ fn fa<'a>(
     which: usize,
 ) -> usize
     requires { cfg.depth + 2 * cfg.nesting + 2 ≤ 402 }
-    ensures { does (λ ws c. functor-arg ws c which) run text rec kinds spans out mem at cfg result }
+    ensures { does (λ ws c. functor_arg ws c which) run text rec kinds spans out mem at cfg result }
 {
     match which {
         0 => nm(
@@ -1850,7 +1850,7 @@ fn fa<'a>(
 }
 
 // `IncludeDec`.
-#[cycle(ab_ac_an_app_ar_arm_br_ca_cb_cd_da_dec_dp_ds_du_exp_fa_fb_fc_fd_fe_fs_fx_gd_ha_ic_ie_it_ld_lo_lx_ma_mo_nm_nu_one_pa_pr_qb_qs_rc_ro_rs_sa_sb_sd_seq_sg_sig_sl_sm_sp_sq_ss_str_ta_ty_vb_vd_ve_wh_wr_wt_xb_xd_xi)]
+#[cycle(walk)]
 fn ic<'a>(
     run: &'a [u8; 351],
     text: &'a [u8],
@@ -1863,7 +1863,7 @@ fn ic<'a>(
     cfg: Cfg,
 ) -> usize
     requires { cfg.depth + 2 * cfg.nesting + 2 ≤ 402 }
-    ensures { does (λ ws c. dec-one· ws c IncludeDec) run text rec kinds spans out mem at cfg result }
+    ensures { does (λ ws c. dec_one· ws c IncludeDec) run text rec kinds spans out mem at cfg result }
 {
     word(run, text, out, mem, words::INCLUDE);
     let Read::Is(n, s1) = list(rec, at) else {
@@ -1884,7 +1884,7 @@ fn ic<'a>(
 }
 
 // A Dec that is an argument of a functor or of its application.
-#[cycle(ab_ac_an_app_ar_arm_br_ca_cb_cd_da_dec_dp_ds_du_exp_fa_fb_fc_fd_fe_fs_fx_gd_ha_ic_ie_it_ld_lo_lx_ma_mo_nm_nu_one_pa_pr_qb_qs_rc_ro_rs_sa_sb_sd_seq_sg_sig_sl_sm_sp_sq_ss_str_ta_ty_vb_vd_ve_wh_wr_wt_xb_xd_xi)]
+#[cycle(walk)]
 fn da<'a>(
     run: &'a [u8; 351],
     text: &'a [u8],
@@ -1897,7 +1897,7 @@ fn da<'a>(
     cfg: Cfg,
 ) -> usize
     requires { cfg.depth + 2 * cfg.nesting + 2 ≤ 402 }
-    ensures { does dec-arg run text rec kinds spans out mem at cfg result }
+    ensures { does dec_arg run text rec kinds spans out mem at cfg result }
 {
     word(run, text, out, mem, words::LINE_FEED);
     indent_deeper(out, mem, cfg);
@@ -1912,7 +1912,7 @@ fn da<'a>(
 
 // ---- structures
 // `get_str_exp`.
-#[cycle(ab_ac_an_app_ar_arm_br_ca_cb_cd_da_dec_dp_ds_du_exp_fa_fb_fc_fd_fe_fs_fx_gd_ha_ic_ie_it_ld_lo_lx_ma_mo_nm_nu_one_pa_pr_qb_qs_rc_ro_rs_sa_sb_sd_seq_sg_sig_sl_sm_sp_sq_ss_str_ta_ty_vb_vd_ve_wh_wr_wt_xb_xd_xi)]
+#[cycle(walk)]
 fn str<'a>(
     run: &'a [u8; 351],
     text: &'a [u8],
@@ -1925,7 +1925,7 @@ fn str<'a>(
     cfg: Cfg,
 ) -> usize
     requires { cfg.depth + 2 * cfg.nesting + 0 ≤ 402 }
-    ensures { does (λ ws c. ws.get-str-exp c) run text rec kinds spans out mem at cfg result }
+    ensures { does (λ ws c. ws.get_str_exp c) run text rec kinds spans out mem at cfg result }
 {
     let forms_left = cfg.nesting;
     if forms_left == 0 {
@@ -1950,7 +1950,7 @@ fn str<'a>(
 }
 
 // `StructStrExp`.
-#[cycle(ab_ac_an_app_ar_arm_br_ca_cb_cd_da_dec_dp_ds_du_exp_fa_fb_fc_fd_fe_fs_fx_gd_ha_ic_ie_it_ld_lo_lx_ma_mo_nm_nu_one_pa_pr_qb_qs_rc_ro_rs_sa_sb_sd_seq_sg_sig_sl_sm_sp_sq_ss_str_ta_ty_vb_vd_ve_wh_wr_wt_xb_xd_xi)]
+#[cycle(walk)]
 fn ss<'a>(
     run: &'a [u8; 351],
     text: &'a [u8],
@@ -1963,7 +1963,7 @@ fn ss<'a>(
     cfg: Cfg,
 ) -> usize
     requires { cfg.depth + 2 * cfg.nesting + 2 ≤ 402 }
-    ensures { does (λ ws c. str-exp· ws c StructStrExp) run text rec kinds spans out mem at cfg result }
+    ensures { does (λ ws c. str_exp· ws c StructStrExp) run text rec kinds spans out mem at cfg result }
 {
     word(run, text, out, mem, words::STRUCT);
     indent_deeper(out, mem, cfg);
@@ -1983,7 +1983,7 @@ fn ss<'a>(
 }
 
 // `AscriptionStrExp`.
-#[cycle(ab_ac_an_app_ar_arm_br_ca_cb_cd_da_dec_dp_ds_du_exp_fa_fb_fc_fd_fe_fs_fx_gd_ha_ic_ie_it_ld_lo_lx_ma_mo_nm_nu_one_pa_pr_qb_qs_rc_ro_rs_sa_sb_sd_seq_sg_sig_sl_sm_sp_sq_ss_str_ta_ty_vb_vd_ve_wh_wr_wt_xb_xd_xi)]
+#[cycle(walk)]
 fn an<'a>(
     run: &'a [u8; 351],
     text: &'a [u8],
@@ -1996,7 +1996,7 @@ fn an<'a>(
     cfg: Cfg,
 ) -> usize
     requires { cfg.depth + 2 * cfg.nesting + 2 ≤ 402 }
-    ensures { does (λ ws c. str-exp· ws c AscriptionStrExp) run text rec kinds spans out mem at cfg result }
+    ensures { does (λ ws c. str_exp· ws c AscriptionStrExp) run text rec kinds spans out mem at cfg result }
 {
     let r1 = str(run, text, rec, kinds, spans, out, mem, at, cfg);
     let Status::Done(s1) = told(r1) else {
@@ -2006,7 +2006,7 @@ fn an<'a>(
 }
 
 // An ascription.
-#[cycle(ab_ac_an_app_ar_arm_br_ca_cb_cd_da_dec_dp_ds_du_exp_fa_fb_fc_fd_fe_fs_fx_gd_ha_ic_ie_it_ld_lo_lx_ma_mo_nm_nu_one_pa_pr_qb_qs_rc_ro_rs_sa_sb_sd_seq_sg_sig_sl_sm_sp_sq_ss_str_ta_ty_vb_vd_ve_wh_wr_wt_xb_xd_xi)]
+#[cycle(walk)]
 fn ta<'a>(
     run: &'a [u8; 351],
     text: &'a [u8],
@@ -2019,7 +2019,7 @@ fn ta<'a>(
     cfg: Cfg,
 ) -> usize
     requires { cfg.depth + 2 * cfg.nesting + 2 ≤ 402 }
-    ensures { does ascription-tail run text rec kinds spans out mem at cfg result }
+    ensures { does ascription_tail run text rec kinds spans out mem at cfg result }
 {
     let r1 = group(rec, at);
     let Status::Done(s1) = told(r1) else {
@@ -2035,7 +2035,7 @@ fn ta<'a>(
 }
 
 // An ascription, where there is one.
-#[cycle(ab_ac_an_app_ar_arm_br_ca_cb_cd_da_dec_dp_ds_du_exp_fa_fb_fc_fd_fe_fs_fx_gd_ha_ic_ie_it_ld_lo_lx_ma_mo_nm_nu_one_pa_pr_qb_qs_rc_ro_rs_sa_sb_sd_seq_sg_sig_sl_sm_sp_sq_ss_str_ta_ty_vb_vd_ve_wh_wr_wt_xb_xd_xi)]
+#[cycle(walk)]
 fn ac<'a>(
     run: &'a [u8; 351],
     text: &'a [u8],
@@ -2048,7 +2048,7 @@ fn ac<'a>(
     cfg: Cfg,
 ) -> usize
     requires { cfg.depth + 2 * cfg.nesting + 2 ≤ 402 }
-    ensures { does (λ ws c. maybe (ascription-tail ws c)) run text rec kinds spans out mem at cfg result }
+    ensures { does (λ ws c. maybe (ascription_tail ws c)) run text rec kinds spans out mem at cfg result }
 {
     if let Gone::Past(s0) = absent(rec, at) {
         return s0;
@@ -2057,7 +2057,7 @@ fn ac<'a>(
 }
 
 // `AppStrExp`: the closing parenthesis is indented where an argument was a Dec.
-#[cycle(ab_ac_an_app_ar_arm_br_ca_cb_cd_da_dec_dp_ds_du_exp_fa_fb_fc_fd_fe_fs_fx_gd_ha_ic_ie_it_ld_lo_lx_ma_mo_nm_nu_one_pa_pr_qb_qs_rc_ro_rs_sa_sb_sd_seq_sg_sig_sl_sm_sp_sq_ss_str_ta_ty_vb_vd_ve_wh_wr_wt_xb_xd_xi)]
+#[cycle(walk)]
 fn sp<'a>(
     run: &'a [u8; 351],
     text: &'a [u8],
@@ -2070,7 +2070,7 @@ fn sp<'a>(
     cfg: Cfg,
 ) -> usize
     requires { cfg.depth + 2 * cfg.nesting + 2 ≤ 402 }
-    ensures { does (λ ws c. str-exp· ws c AppStrExp) run text rec kinds spans out mem at cfg result }
+    ensures { does (λ ws c. str_exp· ws c AppStrExp) run text rec kinds spans out mem at cfg result }
 {
     let r1 = text_of(run, text, rec, spans, out, mem, at);
     let Status::Done(s1) = told(r1) else {
@@ -2100,7 +2100,7 @@ fn sp<'a>(
 }
 
 // An argument of `AppStrExp`, by its number.
-#[cycle(ab_ac_an_app_ar_arm_br_ca_cb_cd_da_dec_dp_ds_du_exp_fa_fb_fc_fd_fe_fs_fx_gd_ha_ic_ie_it_ld_lo_lx_ma_mo_nm_nu_one_pa_pr_qb_qs_rc_ro_rs_sa_sb_sd_seq_sg_sig_sl_sm_sp_sq_ss_str_ta_ty_vb_vd_ve_wh_wr_wt_xb_xd_xi)]
+#[cycle(walk)]
 fn sa<'a>(
     run: &'a [u8; 351],
     text: &'a [u8],
@@ -2114,7 +2114,7 @@ fn sa<'a>(
     which: usize,
 ) -> usize
     requires { cfg.depth + 2 * cfg.nesting + 2 ≤ 402 }
-    ensures { does (λ ws c. app-arg ws c which) run text rec kinds spans out mem at cfg result }
+    ensures { does (λ ws c. app_arg ws c which) run text rec kinds spans out mem at cfg result }
 {
     match which {
         0 => str(run, text, rec, kinds, spans, out, mem, at, cfg),
@@ -2124,7 +2124,7 @@ fn sa<'a>(
 }
 
 // `LetStrExp`.
-#[cycle(ab_ac_an_app_ar_arm_br_ca_cb_cd_da_dec_dp_ds_du_exp_fa_fb_fc_fd_fe_fs_fx_gd_ha_ic_ie_it_ld_lo_lx_ma_mo_nm_nu_one_pa_pr_qb_qs_rc_ro_rs_sa_sb_sd_seq_sg_sig_sl_sm_sp_sq_ss_str_ta_ty_vb_vd_ve_wh_wr_wt_xb_xd_xi)]
+#[cycle(walk)]
 fn sl<'a>(
     run: &'a [u8; 351],
     text: &'a [u8],
@@ -2137,7 +2137,7 @@ fn sl<'a>(
     cfg: Cfg,
 ) -> usize
     requires { cfg.depth + 2 * cfg.nesting + 2 ≤ 402 }
-    ensures { does (λ ws c. str-exp· ws c LetStrExp) run text rec kinds spans out mem at cfg result }
+    ensures { does (λ ws c. str_exp· ws c LetStrExp) run text rec kinds spans out mem at cfg result }
 {
     word(run, text, out, mem, words::LET);
     word(run, text, out, mem, words::LINE_FEED);
@@ -2161,7 +2161,7 @@ fn sl<'a>(
 
 // ---- signatures
 // `get_sig_exp`.
-#[cycle(ab_ac_an_app_ar_arm_br_ca_cb_cd_da_dec_dp_ds_du_exp_fa_fb_fc_fd_fe_fs_fx_gd_ha_ic_ie_it_ld_lo_lx_ma_mo_nm_nu_one_pa_pr_qb_qs_rc_ro_rs_sa_sb_sd_seq_sg_sig_sl_sm_sp_sq_ss_str_ta_ty_vb_vd_ve_wh_wr_wt_xb_xd_xi)]
+#[cycle(walk)]
 fn sig<'a>(
     run: &'a [u8; 351],
     text: &'a [u8],
@@ -2174,7 +2174,7 @@ fn sig<'a>(
     cfg: Cfg,
 ) -> usize
     requires { cfg.depth + 2 * cfg.nesting + 0 ≤ 402 }
-    ensures { does (λ ws c. ws.get-sig-exp c) run text rec kinds spans out mem at cfg result }
+    ensures { does (λ ws c. ws.get_sig_exp c) run text rec kinds spans out mem at cfg result }
 {
     let forms_left = cfg.nesting;
     if forms_left == 0 {
@@ -2198,7 +2198,7 @@ fn sig<'a>(
 }
 
 // `SigSigExp`.
-#[cycle(ab_ac_an_app_ar_arm_br_ca_cb_cd_da_dec_dp_ds_du_exp_fa_fb_fc_fd_fe_fs_fx_gd_ha_ic_ie_it_ld_lo_lx_ma_mo_nm_nu_one_pa_pr_qb_qs_rc_ro_rs_sa_sb_sd_seq_sg_sig_sl_sm_sp_sq_ss_str_ta_ty_vb_vd_ve_wh_wr_wt_xb_xd_xi)]
+#[cycle(walk)]
 fn sg<'a>(
     run: &'a [u8; 351],
     text: &'a [u8],
@@ -2211,7 +2211,7 @@ fn sg<'a>(
     cfg: Cfg,
 ) -> usize
     requires { cfg.depth + 2 * cfg.nesting + 2 ≤ 402 }
-    ensures { does (λ ws c. sig-exp· ws c SigSigExp) run text rec kinds spans out mem at cfg result }
+    ensures { does (λ ws c. sig_exp· ws c SigSigExp) run text rec kinds spans out mem at cfg result }
 {
     word(run, text, out, mem, words::SIG);
     indent_deeper(out, mem, cfg);
@@ -2226,7 +2226,7 @@ fn sg<'a>(
 }
 
 // `WhereTypeSigExp`.
-#[cycle(ab_ac_an_app_ar_arm_br_ca_cb_cd_da_dec_dp_ds_du_exp_fa_fb_fc_fd_fe_fs_fx_gd_ha_ic_ie_it_ld_lo_lx_ma_mo_nm_nu_one_pa_pr_qb_qs_rc_ro_rs_sa_sb_sd_seq_sg_sig_sl_sm_sp_sq_ss_str_ta_ty_vb_vd_ve_wh_wr_wt_xb_xd_xi)]
+#[cycle(walk)]
 fn wt<'a>(
     run: &'a [u8; 351],
     text: &'a [u8],
@@ -2239,7 +2239,7 @@ fn wt<'a>(
     cfg: Cfg,
 ) -> usize
     requires { cfg.depth + 2 * cfg.nesting + 2 ≤ 402 }
-    ensures { does (λ ws c. sig-exp· ws c WhereTypeSigExp) run text rec kinds spans out mem at cfg result }
+    ensures { does (λ ws c. sig_exp· ws c WhereTypeSigExp) run text rec kinds spans out mem at cfg result }
 {
     let r1 = sig(run, text, rec, kinds, spans, out, mem, at, cfg);
     let Status::Done(s1) = told(r1) else {
@@ -2259,7 +2259,7 @@ fn wt<'a>(
 }
 
 // `WhereSigExp`.
-#[cycle(ab_ac_an_app_ar_arm_br_ca_cb_cd_da_dec_dp_ds_du_exp_fa_fb_fc_fd_fe_fs_fx_gd_ha_ic_ie_it_ld_lo_lx_ma_mo_nm_nu_one_pa_pr_qb_qs_rc_ro_rs_sa_sb_sd_seq_sg_sig_sl_sm_sp_sq_ss_str_ta_ty_vb_vd_ve_wh_wr_wt_xb_xd_xi)]
+#[cycle(walk)]
 fn wr<'a>(
     run: &'a [u8; 351],
     text: &'a [u8],
@@ -2272,7 +2272,7 @@ fn wr<'a>(
     cfg: Cfg,
 ) -> usize
     requires { cfg.depth + 2 * cfg.nesting + 2 ≤ 402 }
-    ensures { does (λ ws c. sig-exp· ws c WhereSigExp) run text rec kinds spans out mem at cfg result }
+    ensures { does (λ ws c. sig_exp· ws c WhereSigExp) run text rec kinds spans out mem at cfg result }
 {
     let r1 = sig(run, text, rec, kinds, spans, out, mem, at, cfg);
     let Status::Done(s1) = told(r1) else {
@@ -2299,7 +2299,7 @@ pub fn walk<'a>(
     mem: &mut [u64; 68],
     tree: usize,
 ) -> usize
-    ensures { walked (get-dec (walks max_forms) top) run text rec kinds spans out mem tree result }
+    ensures { walked (get_dec (walks max_forms) top) run text rec kinds spans out mem tree result }
 {
     let cfg = Cfg {
         depth: 0,

@@ -1,7 +1,6 @@
 -- `diverplume::diverplume_check` meets its contract. Assumes nothing.
 use mathlib.Core.Path.{◌∙◌, ap}
 use Rattle.diverplume.specs.Numbers.{verdict_numbers}
-use borrow.Author.Rules.{rules}
 use Rattle.diverplume.proofs.diverplume_check.Goals as goal
 
 pub returns : goal.returns

@@ -1,7 +1,6 @@
 -- `diverplume::diverplume_comment_above` meets its contract. Assumes nothing.
 use mathlib.Core.Path.{◌∙◌, ap}
 use Rattle.diverplume.specs.Numbers.{comment_numbers}
-use borrow.Author.Rules.{rules}
 use Rattle.diverplume.proofs.diverplume_comment_above.Goals as goal
 
 pub returns : goal.returns

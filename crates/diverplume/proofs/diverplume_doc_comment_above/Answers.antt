@@ -1,6 +1,5 @@
 -- `diverplume::diverplume_doc_comment_above` meets its contract. Assumes nothing.
 use Rattle.diverplume.proofs.Laws.{doc-out}
-use borrow.Author.Rules.{rules}
 use Rattle.diverplume.proofs.diverplume_doc_comment_above.Goals as goal
 
 pub returns : goal.returns

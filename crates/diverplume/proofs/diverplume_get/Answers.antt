@@ -1,6 +1,5 @@
 -- `diverplume::diverplume_get` meets its contract. Assumes nothing.
 use Rattle.diverplume.proofs.Laws.{get-out}
-use borrow.Author.Rules.{rules}
 use Rattle.diverplume.proofs.diverplume_get.Goals as goal
 
 pub returns : goal.returns

@@ -1,6 +1,5 @@
 -- `diverplume::diverplume_scan` meets its contract. Assumes nothing.
 use Rattle.diverplume.proofs.Laws.{scan-out}
-use borrow.Author.Rules.{rules}
 use Rattle.diverplume.proofs.diverplume_scan.Goals as goal
 
 pub returns : goal.returns

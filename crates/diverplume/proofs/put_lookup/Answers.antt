@@ -3,7 +3,6 @@ use mathlib.Core.Path.{◌∙◌}
 use Rattle.formatter.specs.Lookup.{number_of, place_of, answer_of, keyword_of, looked_of}
 use Rattle.diverplume.specs.Numbers.{or_none, comment_numbers}
 use Rattle.diverplume.proofs.Laws.{looked-case, looked-found}
-use borrow.Author.Rules.{rules}
 use Rattle.diverplume.proofs.put_lookup.Goals as goal
 
 pub returns-in-Found : goal.returns-in-Found

@@ -2,7 +2,6 @@
 use mathlib.Core.Path.{◌∙◌}
 use Rattle.scanner.specs.Answers.{number_of, place_of}
 use Rattle.diverplume.proofs.Laws.{refusal_case}
-use borrow.Author.Rules.{rules}
 use Rattle.diverplume.proofs.put_refusal.Goals as goal
 
 pub returns-in-TooLong : goal.returns-in-TooLong

@@ -2,7 +2,6 @@
 use mathlib.Core.Path.{◌∙◌}
 use Rattle.scanner.specs.Answers.{verdict_of, written_of}
 use Rattle.diverplume.proofs.Laws.{scanned_case}
-use borrow.Author.Rules.{rules}
 use Rattle.diverplume.proofs.put_scanned.Goals as goal
 
 pub returns-in-Written : goal.returns-in-Written

@@ -1,8 +1,7 @@
-use Prim.Native.Nat.{◌-◌, ◌≤◌}
 use native.Mathlib.Omega.{arith}
 use mathlib.Core.Path.{◌≡◌, refl, ◌∙◌}
 use lib.ListN.{length, length-set}
-use lib.Seq.{paste, paste-zero}
+use lib.Seq.{paste-zero}
 use Rattle.text.proofs.Laws.{copied_more}
 use Rattle.diverplume.proofs.Laws.{unfilled, verdict-put}
 use borrow.Author.Rules.{rules}

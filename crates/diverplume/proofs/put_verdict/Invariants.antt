@@ -1,12 +1,8 @@
 -- `diverplume::put_verdict` meets its contract. The invariant: the first `w` words of the set are copied. Assumes nothing.
 use Prim.Native.Nat.{◌-◌, ◌≤◌}
-use native.Mathlib.Omega.{arith}
-use mathlib.Core.Path.{◌≡◌, refl, ◌∙◌}
-use lib.ListN.{length, length-set}
-use lib.Seq.{paste, paste-zero}
-use Rattle.text.proofs.Laws.{copied_more}
-use Rattle.diverplume.proofs.Laws.{unfilled, verdict-put}
-use borrow.Author.Rules.{rules}
+use mathlib.Core.Path.{◌≡◌}
+use lib.ListN.{length}
+use lib.Seq.{paste}
 use Rattle.diverplume.proofs.put_verdict.Given as goal
 
 abbrev pub invariant-loop-w : goal.invariant-loop-w

@@ -20,24 +20,24 @@ unfolding word_run bytes
 by_check-requires c =
     let a = c.args in
     behind-by a.rec.now (take a.count a.spans.now) a.tree
-    (behind c.walk-walked.ensures (starts refl c.requires.rec-fits c.requires.near (omega arith) c.lent-mem.ensures))
+    (behind c.walk-walked.ensures (starts refl c.requires.rec_fits c.requires.near (omega arith) c.lent-mem.ensures))
 
 pub returns-then-walked-rec : goal.returns-then-walked-rec
 unfolding word_run bytes
 returns-then-walked-rec c =
     let a = c.args in
-    weigh_checked (other-checked c.walk-walked.ensures (starts refl c.requires.rec-fits c.requires.near (omega arith) c.lent-mem.ensures) c.if-walked-rec.true) (checked-by a.rec.now (take a.count a.spans.now) a.tree c.walk-walked.result c.by_check.ensures) c.refused.ensures
+    weigh_checked (other-checked c.walk-walked.ensures (starts refl c.requires.rec_fits c.requires.near (omega arith) c.lent-mem.ensures) c.if-walked-rec.true) (checked-by a.rec.now (take a.count a.spans.now) a.tree c.walk-walked.result c.by_check.ensures) c.refused.ensures
 
 pub returns-then-is_empty : goal.returns-then-is_empty
 unfolding word_run bytes
-returns-then-is_empty c = weigh-accepts c.walk-walked.ensures (starts refl c.requires.rec-fits c.requires.near (omega arith) c.lent-mem.ensures) c.requires.text-fits c.requires.rec-fits (kinds_few c.requires) c.all.ensures c.if-walked-rec.false c.left_in-set.ensures c.is_empty.ensures c.walk-walked.auto.out c.if-is_empty.true (omega arith, c.letters_at.ensures)
+returns-then-is_empty c = weigh-accepts c.walk-walked.ensures (starts refl c.requires.rec_fits c.requires.near (omega arith) c.lent-mem.ensures) c.requires.text_fits c.requires.rec_fits (kinds_few c.requires) c.all.ensures c.if-walked-rec.false c.left_in-set.ensures c.is_empty.ensures c.walk-walked.auto.out c.if-is_empty.true (omega arith, c.letters_at.ensures)
 
 pub returns-in_default : goal.returns-in_default
 unfolding word_run bytes
-returns-in_default c = weigh-never c.walk-walked.ensures (starts refl c.requires.rec-fits c.requires.near (omega arith) c.lent-mem.ensures) c.requires.text-fits c.requires.rec-fits (kinds_few c.requires) c.all.ensures c.if-walked-rec.false c.left_in-set.ensures c.is_empty.ensures c.first.ensures c.if-is_empty.false c.in_default.is
+returns-in_default c = weigh-never c.walk-walked.ensures (starts refl c.requires.rec_fits c.requires.near (omega arith) c.lent-mem.ensures) c.requires.text_fits c.requires.rec_fits (kinds_few c.requires) c.all.ensures c.if-walked-rec.false c.left_in-set.ensures c.is_empty.ensures c.first.ensures c.if-is_empty.false c.in_default.is
 
 pub returns : goal.returns
 unfolding word_run bytes
 returns c =
     let a = c.args in
-    weigh-comments c.walk-walked.ensures (starts refl c.requires.rec-fits c.requires.near (omega arith) c.lent-mem.ensures) c.requires.text-fits c.requires.rec-fits (kinds_few c.requires) c.all.ensures c.if-walked-rec.false c.left_in-set.ensures c.is_empty.ensures c.first.ensures c.in-At.is (c.start_of.ensures ∙ ap start_of c.span_at.ensures ∙ sym (start-at (take a.count a.spans.now) _))
+    weigh-comments c.walk-walked.ensures (starts refl c.requires.rec_fits c.requires.near (omega arith) c.lent-mem.ensures) c.requires.text_fits c.requires.rec_fits (kinds_few c.requires) c.all.ensures c.if-walked-rec.false c.left_in-set.ensures c.is_empty.ensures c.first.ensures c.in-At.is (c.start_of.ensures ∙ ap start_of c.span_at.ensures ∙ sym (start-at (take a.count a.spans.now) _))

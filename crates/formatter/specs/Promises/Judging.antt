@@ -67,8 +67,8 @@ page_in text rec count kinds spans = page_by text rec (take count kinds) (take c
 
 -- 01's limits, with the tokens in the tables.
 pub record Limits (text rec kinds spans : List ℕ) (count tree : ℕ) : Type 0 where
-  pub text-fits : length text ≤ max_text
-  pub rec-fits : length rec ≤ max_record
+  pub text_fits : length text ≤ max_text
+  pub rec_fits : length rec ≤ max_record
   pub few : count ≤ max_tokens
   pub near : tree < stop_no
   pub within : Within count kinds spans

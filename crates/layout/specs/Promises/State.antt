@@ -158,7 +158,7 @@ page x r kinds starts lens = record { text = x; rec = r; tokens = record { kinds
 
 -- The configuration that a layout sees.
 abbrev pub cfg_of : Cfg → Helpers.Cfg
-cfg_of c = record { depth = c.depth; extra-blank = c.blank }
+cfg_of c = record { depth = c.depth; extra_blank = c.blank }
 
 -- Before an item that is not the first.
 unfoldable pub joint : Layout → ℕ → Layout

@@ -7,7 +7,7 @@ use Rattle.layout.proofs.Steps.{plain, by-same, then-done, then-stop, then-sure,
 use Rattle.leaves.proofs.case_pats.Goals as goal
 
 pub returns-in_default : goal.returns-in_default
-unfolding DecOne.case-pats Helpers.for_each
+unfolding DecOne.case_pats Helpers.for_each
 returns-in_default c = record { is = λ kinds. list-not c.stop.ensures c.list.ensures c.in_default.is }
 
 pub loop-i-init : goal.loop-i-init
@@ -17,19 +17,19 @@ pub shape_of-out-in_default-told : goal.shape_of-out-in_default-told
 shape_of-out-in_default-told c = c.get_pat-r1.auto.out ∙ c.word.auto.out ∙ c.loop-i.invariant.2
 
 pub returns-in_default-told : goal.returns-in_default-told
-unfolding DecOne.case-pats Helpers.for_each
+unfolding DecOne.case_pats Helpers.for_each
 returns-in_default-told c = record { is = λ kinds. by-same (list-is c.list.ensures c.in-Is.is) (by-same (times-all _ _) (c.loop-i.invariant.1 kinds _ _ _ (times_more _ c.loop-i-test.true (regroup (then-sure c.word.ensures (then-stop (plain c.get_pat-r1.ensures) c.told.ensures c.in_default-told.is)))))) }
 
 pub overflow_add-i : goal.overflow_add-i
 overflow_add-i c = omega (arith, c.loop-i-test.true, c.in-Is.known_told-1-own)
 
 pub loop-i-preserved : goal.loop-i-preserved
-unfolding DecOne.case-pats Helpers.for_each
+unfolding DecOne.case_pats Helpers.for_each
 loop-i-preserved c = (omega (arith, c.loop-i.invariant.0), λ kinds r m o h. c.loop-i.invariant.1 kinds r m o (times_more _ c.loop-i-test.true (regroup (then-sure c.word.ensures (then-done (plain c.get_pat-r1.ensures) c.told.ensures c.in-Done.is h)))), c.get_pat-r1.auto.out ∙ c.word.auto.out ∙ c.loop-i.invariant.2)
 
 pub shape_of-out : goal.shape_of-out
 shape_of-out c = c.loop-i.invariant.2
 
 pub returns : goal.returns
-unfolding DecOne.case-pats Helpers.for_each
+unfolding DecOne.case_pats Helpers.for_each
 returns c = record { is = λ kinds. by-same (list-is c.list.ensures c.in-Is.is) (by-same (times-all _ _) (c.loop-i.invariant.1 kinds _ _ _ (times_none _ c.loop-i-test.false))) }

@@ -11,9 +11,9 @@ pub con_lines-requires : goal.con_lines-requires
 con_lines-requires c = omega (arith, c.requires)
 
 pub returns-then-n-gt1 : goal.returns-then-n-gt1
-unfolding DecOne.con-binds
+unfolding DecOne.con_binds
 returns-then-n-gt1 c = record { is = λ kinds. con-over (walks c.args.cfg.nesting) (cfg_of c.args.cfg) c.if-n-gt1.true (plain c.con_lines.ensures) }
 
 pub returns : goal.returns
-unfolding DecOne.con-binds
+unfolding DecOne.con_binds
 returns c = record { is = λ kinds. con-under (walks c.args.cfg.nesting) (cfg_of c.args.cfg) c.if-n-gt1.false (plain c.con_row.ensures) }

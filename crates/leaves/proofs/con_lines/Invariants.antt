@@ -10,7 +10,7 @@ use Rattle.leaves.proofs.con_lines.Given as goal
 
 abbrev pub invariant-loop-i : goal.invariant-loop-i
 invariant-loop-i l =
-    PlainTurn l.run l.text l.rec l.spans (from (Helpers.new_line (cfg_of l.cfg) "| ") (DecOne.con-bind (walks l.cfg.nesting))) l.n l.initial.s l.initial.mem l.initial.out l.i l.s l.mem l.out
+    PlainTurn l.run l.text l.rec l.spans (from (Helpers.new_line (cfg_of l.cfg) "| ") (DecOne.con_bind (walks l.cfg.nesting))) l.n l.initial.s l.initial.mem l.initial.out l.i l.s l.mem l.out
 
 abbrev pub decreases-loop-i : goal.decreases-loop-i
 decreases-loop-i l = l.n - l.i

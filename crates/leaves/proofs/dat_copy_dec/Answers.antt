@@ -8,12 +8,12 @@ pub shape_of-out-in_default : goal.shape_of-out-in_default
 shape_of-out-in_default c = c.text_of-r1.auto.out ∙ c.word.auto.out
 
 pub returns-in_default : goal.returns-in_default
-unfolding DecOne.dec-one
+unfolding DecOne.dec_one
 returns-in_default c = record { is = λ kinds. then-sure c.word.ensures (then-stop (plain c.text_of-r1.ensures) c.told.ensures c.in_default.is) }
 
 pub shape_of-out : goal.shape_of-out
 shape_of-out c = c.path.auto.out ∙ c.word-2.auto.out ∙ c.text_of-r1.auto.out ∙ c.word.auto.out
 
 pub returns : goal.returns
-unfolding DecOne.dec-one
+unfolding DecOne.dec_one
 returns c = record { is = λ kinds. then-sure c.word.ensures (then-done (plain c.text_of-r1.ensures) c.told.ensures c.in-Done.is (then-sure c.word-2.ensures (plain c.path.ensures))) }

@@ -8,5 +8,5 @@ pub shape_of-out : goal.shape_of-out
 shape_of-out c = c.get_ty.auto.out ∙ c.word.auto.out
 
 pub returns : goal.returns
-unfolding DecOne.ex-bind-of
+unfolding DecOne.ex_bind_of
 returns c = record { is = λ kinds. then-sure c.word.ensures (plain c.get_ty.ensures) }

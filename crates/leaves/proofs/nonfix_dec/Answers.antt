@@ -8,5 +8,5 @@ pub shape_of-out : goal.shape_of-out
 shape_of-out c = c.names_space.auto.out ∙ c.word.auto.out
 
 pub returns : goal.returns
-unfolding DecOne.dec-one
+unfolding DecOne.dec_one
 returns c = record { is = λ kinds. then-sure c.word.ensures (plain c.names_space.ensures) }

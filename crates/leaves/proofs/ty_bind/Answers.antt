@@ -5,37 +5,37 @@ use Rattle.layout.proofs.Steps.{plain, by-same, then-done, then-stop, then-sure,
 use Rattle.leaves.proofs.ty_bind.Goals as goal
 
 pub returns-in_default : goal.returns-in_default
-unfolding DecOne.ty-bind
+unfolding DecOne.ty_bind
 returns-in_default c = record { is = λ kinds. group-not c.group-r1.ensures c.told.ensures c.in_default.is }
 
 pub returns-in_default-told : goal.returns-in_default-told
-unfolding DecOne.ty-bind
+unfolding DecOne.ty_bind
 returns-in_default-told c = record { is = λ kinds. by-same (group-is c.group-r1.ensures c.told.ensures c.in-Done.is) (then-stop (plain c.ty_var_seq-r2.ensures) c.told-2.ensures c.in_default-told.is) }
 
 pub shape_of-out-in_default-told-2 : goal.shape_of-out-in_default-told-2
 shape_of-out-in_default-told-2 c = c.text_of-r3.auto.out ∙ c.ty_var_seq-r2.auto.out
 
 pub returns-in_default-told-2 : goal.returns-in_default-told-2
-unfolding DecOne.ty-bind
+unfolding DecOne.ty_bind
 returns-in_default-told-2 c = record { is = λ kinds. by-same (group-is c.group-r1.ensures c.told.ensures c.in-Done.is) (then-done (plain c.ty_var_seq-r2.ensures) c.told-2.ensures c.in-Done-told.is (then-stop (plain c.text_of-r3.ensures) c.told-3.ensures c.in_default-told-2.is)) }
 
 pub shape_of-out-in-Past : goal.shape_of-out-in-Past
 shape_of-out-in-Past c = c.text_of-r3.auto.out ∙ c.ty_var_seq-r2.auto.out
 
 pub returns-in-Past : goal.returns-in-Past
-unfolding DecOne.ty-bind
+unfolding DecOne.ty_bind
 returns-in-Past c = record { is = λ kinds. by-same (group-is c.group-r1.ensures c.told.ensures c.in-Done.is) (then-done (plain c.ty_var_seq-r2.ensures) c.told-2.ensures c.in-Done-told.is (then-done (plain c.text_of-r3.ensures) c.told-3.ensures c.in-Done-told-2.is (maybe-past c.absent.ensures c.in-Past.is))) }
 
 pub shape_of-out-in_default-told-3 : goal.shape_of-out-in_default-told-3
 shape_of-out-in_default-told-3 c = c.text_of-r3.auto.out ∙ c.ty_var_seq-r2.auto.out
 
 pub returns-in_default-told-3 : goal.returns-in_default-told-3
-unfolding DecOne.ty-bind
+unfolding DecOne.ty_bind
 returns-in_default-told-3 c = record { is = λ kinds. by-same (group-is c.group-r1.ensures c.told.ensures c.in-Done.is) (then-done (plain c.ty_var_seq-r2.ensures) c.told-2.ensures c.in-Done-told.is (then-done (plain c.text_of-r3.ensures) c.told-3.ensures c.in-Done-told-2.is (by-same (maybe-there c.absent.ensures c.in_default-absent.is) (group-not c.group-r5.ensures c.told-4.ensures c.in_default-told-3.is)))) }
 
 pub shape_of-out : goal.shape_of-out
 shape_of-out c = c.get_ty.auto.out ∙ c.word.auto.out ∙ c.text_of-r3.auto.out ∙ c.ty_var_seq-r2.auto.out
 
 pub returns : goal.returns
-unfolding DecOne.ty-bind
+unfolding DecOne.ty_bind
 returns c = record { is = λ kinds. by-same (group-is c.group-r1.ensures c.told.ensures c.in-Done.is) (then-done (plain c.ty_var_seq-r2.ensures) c.told-2.ensures c.in-Done-told.is (then-done (plain c.text_of-r3.ensures) c.told-3.ensures c.in-Done-told-2.is (by-same (maybe-there c.absent.ensures c.in_default-absent.is) (by-same (group-is c.group-r5.ensures c.told-4.ensures c.in-Done-told-3.is) (then-sure c.word.ensures (plain c.get_ty.ensures)))))) }

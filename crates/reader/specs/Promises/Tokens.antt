@@ -69,9 +69,9 @@ pub record Laid (rec kinds starts lens : List ℕ) (count sum : ℕ) : Type 0 wh
   pub few : count ≤ max_tokens
   pub whole : 4 * count ≤ length rec
   pub commands : (i : ℕ) → i < count → get_or rec (4 * i) 0 ≡ 0x05
-  pub kinds-are : (i : ℕ) → i < count → get_or kinds i 0 ≡ get_or rec (4 * i + 1) 0
-  pub starts-are : (i : ℕ) → i < count → get_or starts i 0 ≡ lengths_to rec i % 65536
-  pub lengths-are : (i : ℕ) → i < count → get_or lens i 0 ≡ u16 rec (4 * i + 2)
+  pub kinds_are : (i : ℕ) → i < count → get_or kinds i 0 ≡ get_or rec (4 * i + 1) 0
+  pub starts_are : (i : ℕ) → i < count → get_or starts i 0 ≡ lengths_to rec i % 65536
+  pub lengths_are : (i : ℕ) → i < count → get_or lens i 0 ≡ u16 rec (4 * i + 2)
   pub sums : sum ≡ lengths_to rec count
 
 -- Contract: the first entries of the tables have known kinds and no length of 0, and start and end between characters.

@@ -1,5 +1,3 @@
-use Prim.Native.Nat.{◌-◌, ◌≤◌}
-use native.Mathlib.Omega.{arith}
 use Rattle.replay.proofs.set_agrees.Goals as goal
 
 pub u64_at-requires : goal.u64_at-requires

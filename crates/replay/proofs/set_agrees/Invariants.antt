@@ -1,6 +1,5 @@
 -- `replay::set_agrees` is safe and ends. Assumes nothing.
 use Prim.Native.Nat.{◌-◌, ◌≤◌}
-use native.Mathlib.Omega.{arith}
 use Rattle.replay.proofs.set_agrees.Given as goal
 
 abbrev pub invariant-loop-k : goal.invariant-loop-k

@@ -7,7 +7,7 @@ use Rattle.scanner.proofs.keep.Goals as goal
 pub returns-else-count-lt-MAX_TOKENS : goal.returns-else-count-lt-MAX_TOKENS
 returns-else-count-lt-MAX_TOKENS c =
     record {
-      kind-in = sym (set_out _ _ _ (omega arith));
-      start-in = sym (set_out _ _ _ (omega arith));
-      len-in = sym (set_out _ _ _ (omega arith));
+      kind_in = sym (set_out _ _ _ (omega arith));
+      start_in = sym (set_out _ _ _ (omega arith));
+      len_in = sym (set_out _ _ _ (omega arith));
     }

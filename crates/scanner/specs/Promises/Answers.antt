@@ -19,9 +19,9 @@ counted (Table.Refused why) kinds starts lens = Unit {0}
 
 -- Contract: an entry of each table is set; past the tables' end nothing is.
 pub record Kept (kinds starts lens : List ℕ) (count kind start len : ℕ) (kinds' starts' lens' : List ℕ) : Type 0 where
-  pub kind-in : kinds' ≡ set kinds count kind
-  pub start-in : starts' ≡ set starts count start
-  pub len-in : lens' ≡ set lens count len
+  pub kind_in : kinds' ≡ set kinds count kind
+  pub start_in : starts' ≡ set starts count start
+  pub len_in : lens' ≡ set lens count len
 
 -- Contract: 10 to 12, then 1 for the tokens, which stand in the tables.
 pub record Fills (text kinds starts lens : List ℕ) (r : Tabled) : Type 0 where

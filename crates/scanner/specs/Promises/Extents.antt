@@ -1,6 +1,6 @@
 -- What contracts of the functions over string constants cite.
 use Rattle.std.specs.Prelude.{ℕ, ◌+◌, ◌≤◌, ◌≡◌, true, false, List, [], ◌∷◌, length, drop}
-use Rattle.scanner.specs.Strings.{Place, between-characters, wrong, to, character, next, is_closed}
+use Rattle.scanner.specs.Strings.{Place, between_characters, wrong, to, character, next, is_closed}
 use Rattle.scanner.specs.declared.strings.Quoted.{Quoted}
 use Rattle.scanner.specs.declared.strings.Quoted.TheVariants.{Ends, Endless}
 
@@ -21,7 +21,7 @@ extent place (b ∷ s) =
       | false ↦ elim (next place b) [
         | wrong ↦ endless
         | to after ↦ further 1 0 (extent after s)
-        | character ↦ further 1 1 (extent between-characters s)
+        | character ↦ further 1 1 (extent between_characters s)
       ]
     ]
 
@@ -32,7 +32,7 @@ extent_of Endless = endless
 
 -- An answer that ends between two characters, and what stands from there on.
 unfoldable pub on_from : List ℕ → Quoted → Extent
-on_from s (Ends end count) = further end count (extent between-characters (drop end s))
+on_from s (Ends end count) = further end count (extent between_characters (drop end s))
 on_from s Endless = endless
 
 -- A character takes a byte or more.

@@ -1,7 +1,6 @@
 -- `testing::diverplume_test_exp_end` meets its contract. Assumes nothing.
 use mathlib.Core.Path.{◌∙◌, ap}
 use Rattle.testing.specs.Numbers.{end_numbers}
-use borrow.Author.Rules.{rules}
 use Rattle.testing.proofs.diverplume_test_exp_end.Goals as goal
 
 pub returns : goal.returns

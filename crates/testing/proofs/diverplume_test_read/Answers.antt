@@ -1,6 +1,5 @@
 -- `testing::diverplume_test_read` meets its contract: each case of the record check. Assumes nothing.
 use Rattle.testing.proofs.Laws.{read-sheet, read-long, read-broken, read-malformed, read-deep}
-use borrow.Author.Rules.{rules}
 use Rattle.testing.proofs.diverplume_test_read.Goals as goal
 
 pub returns-in-Sheet : goal.returns-in-Sheet

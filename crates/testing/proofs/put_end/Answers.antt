@@ -2,7 +2,6 @@
 use mathlib.Core.Path.{◌∙◌}
 use Rattle.testing.specs.Numbers.{end_numbers}
 use Rattle.testing.proofs.Laws.{end_case}
-use borrow.Author.Rules.{rules}
 use Rattle.testing.proofs.put_end.Goals as goal
 
 pub returns-in-Ok : goal.returns-in-Ok

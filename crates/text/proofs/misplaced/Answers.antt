@@ -6,8 +6,8 @@ pub returns : goal.returns
 returns c = λ z.
     record {
       asked = c.unasked.ensures.1 (omega (arith, z));
-      overlong-two = c.overlong_two.ensures.1 (omega (arith, z));
-      overlong-three = (c.barred_three.ensures.1 (omega (arith, z))).0;
+      overlong_two = c.overlong_two.ensures.1 (omega (arith, z));
+      overlong_three = (c.barred_three.ensures.1 (omega (arith, z))).0;
       surrogate = (c.barred_three.ensures.1 (omega (arith, z))).1;
-      overlong-four = c.overlong_four.ensures.1 (omega (arith, z));
+      overlong_four = c.overlong_four.ensures.1 (omega (arith, z));
     }

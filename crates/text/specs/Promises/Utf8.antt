@@ -14,15 +14,15 @@ pub record Asked (a b c d : ℕ) : Type 0 where
   pub fourth : 0xF0 ≤ a → (0x80 ≤ d) × (d ≤ 0xBF)
   pub third : 0xE0 ≤ b → (0x80 ≤ d) × (d ≤ 0xBF)
   pub second : 0xC0 ≤ c → (0x80 ≤ d) × (d ≤ 0xBF)
-  pub none-asks : a < 0xF0 → b < 0xE0 → c < 0xC0 → 0x80 ≤ d → 0xC0 ≤ d
+  pub none_asks : a < 0xF0 → b < 0xE0 → c < 0xC0 → 0x80 ≤ d → 0xC0 ≤ d
 
 -- Contract: what is known of a byte d behind a, b and c in a text that is whole.
 pub record Follows (a b c d : ℕ) : Type 0 where
   pub asked : Asked a b c d
-  pub overlong-two : 0xC0 ≤ d → 0xC2 ≤ d
-  pub overlong-three : c ≡ 0xE0 → 0x80 ≤ d → 0xA0 ≤ d
+  pub overlong_two : 0xC0 ≤ d → 0xC2 ≤ d
+  pub overlong_three : c ≡ 0xE0 → 0x80 ≤ d → 0xA0 ≤ d
   pub surrogate : c ≡ 0xED → d ≤ 0x9F
-  pub overlong-four : c ≡ 0xF0 → 0x80 ≤ d → 0x90 ≤ d
+  pub overlong_four : c ≡ 0xF0 → 0x80 ≤ d → 0x90 ≤ d
 
 -- Contract: every byte behind three others.
 abbrev pub AllFollow : List ℕ → Type 0

@@ -4,7 +4,7 @@ use Rattle.reader.specs.Promises.Commands.{number_in}
 use Rattle.comments.specs.Above.{comment_in}
 use Rattle.comments.specs.Promises.Above.{found_of, comment_of}
 use Rattle.comments.proofs.Search.{comment-told}
-use Rattle.layout.specs.DecOne.{comment-line}
+use Rattle.layout.specs.DecOne.{comment_line}
 use Rattle.layout.proofs.DecLaws.{comment-skip, comment-none, comment-some}
 use Rattle.layout.proofs.helpers.comment_above.Goals as goal
 
@@ -20,7 +20,7 @@ returns-in_default-comment_above c =
     (ap comment_of c.in_default-comment_above.is)
 
 pub returns : goal.returns
-unfolding number_in comment_of found_of comment_in comment-line
+unfolding number_in comment_of found_of comment_in comment_line
 returns c =
     let written = c in
     let found = written in

@@ -4,5 +4,5 @@ use Rattle.layout.proofs.Steps.{sure_then, sure_formed}
 use Rattle.layout.proofs.helpers.indent_deeper.Goals as goal
 
 pub returns : goal.returns
-unfolding Helpers.indent-deeper Helpers.deepen
+unfolding Helpers.indent_deeper Helpers.deepen
 returns c = λ words. sure_then (sure_formed c.deepen.ensures) (c.indent_in.ensures words)

@@ -1,7 +1,7 @@
 use native.Mathlib.Omega.{arith}
 use mathlib.Core.Path.{refl, sym, ◌∙◌}
 use lib.ListN.{get_or}
-use Rattle.scanner.specs.Strings.{between-characters, escape}
+use Rattle.scanner.specs.Strings.{between_characters, escape}
 use Rattle.scanner.specs.Promises.Reach.{in_class, is_plain}
 use Rattle.scanner.specs.Promises.Extents.{extent_of, Inside}
 use Rattle.scanner.proofs.ReachLaws.{run_inside}
@@ -17,19 +17,19 @@ returns-then-b-eq34 c = let l = c.loop-at in sym (l.invariant.0 ∙ string-quote
 
 pub returns-in_default : goal.returns-in_default
 unfolding extent_of
-returns-in_default c = let a = c.args in let l = c.loop-at in sym (l.invariant.0 ∙ string-endless a.s.now l.at l.total _ (goes_to a.s.now l.at between-characters open-between c.loop-at-test.true escape (between-escape (get_or a.s.now l.at 0) c.if-b-eq92.true) c.escape.ensures) c.in_default.is)
+returns-in_default c = let a = c.args in let l = c.loop-at in sym (l.invariant.0 ∙ string-endless a.s.now l.at l.total _ (goes_to a.s.now l.at between_characters open-between c.loop-at-test.true escape (between-escape (get_or a.s.now l.at 0) c.if-b-eq92.true) c.escape.ensures) c.in_default.is)
 
 pub overflow_add-total : goal.overflow_add-total
 unfolding Inside
-overflow_add-total c = let a = c.args in let l = c.loop-at in omega (arith, l.invariant.1, string-inside a.s.now l.at l.total _ (goes_to a.s.now l.at between-characters open-between c.loop-at-test.true escape (between-escape (get_or a.s.now l.at 0) c.if-b-eq92.true) c.escape.ensures) _ _ c.in-Ends.is)
+overflow_add-total c = let a = c.args in let l = c.loop-at in omega (arith, l.invariant.1, string-inside a.s.now l.at l.total _ (goes_to a.s.now l.at between_characters open-between c.loop-at-test.true escape (between-escape (get_or a.s.now l.at 0) c.if-b-eq92.true) c.escape.ensures) _ _ c.in-Ends.is)
 
 pub loop-at-smaller-then-b-eq92 : goal.loop-at-smaller-then-b-eq92
 unfolding Inside
-loop-at-smaller-then-b-eq92 c = let a = c.args in let l = c.loop-at in omega (arith, string-inside a.s.now l.at l.total _ (goes_to a.s.now l.at between-characters open-between c.loop-at-test.true escape (between-escape (get_or a.s.now l.at 0) c.if-b-eq92.true) c.escape.ensures) _ _ c.in-Ends.is)
+loop-at-smaller-then-b-eq92 c = let a = c.args in let l = c.loop-at in omega (arith, string-inside a.s.now l.at l.total _ (goes_to a.s.now l.at between_characters open-between c.loop-at-test.true escape (between-escape (get_or a.s.now l.at 0) c.if-b-eq92.true) c.escape.ensures) _ _ c.in-Ends.is)
 
 pub loop-at-preserved-then-b-eq92 : goal.loop-at-preserved-then-b-eq92
 unfolding Inside
-loop-at-preserved-then-b-eq92 c = let a = c.args in let l = c.loop-at in let g = (goes_to a.s.now l.at between-characters open-between c.loop-at-test.true escape (between-escape (get_or a.s.now l.at 0) c.if-b-eq92.true) c.escape.ensures) in (l.invariant.0 ∙ string-more a.s.now l.at l.total _ g _ _ c.in-Ends.is, omega (arith, l.invariant.1, string-inside a.s.now l.at l.total _ g _ _ c.in-Ends.is))
+loop-at-preserved-then-b-eq92 c = let a = c.args in let l = c.loop-at in let g = (goes_to a.s.now l.at between_characters open-between c.loop-at-test.true escape (between-escape (get_or a.s.now l.at 0) c.if-b-eq92.true) c.escape.ensures) in (l.invariant.0 ∙ string-more a.s.now l.at l.total _ g _ _ c.in-Ends.is, omega (arith, l.invariant.1, string-inside a.s.now l.at l.total _ g _ _ c.in-Ends.is))
 
 pub returns-then-end-at : goal.returns-then-end-at
 unfolding extent_of in_class

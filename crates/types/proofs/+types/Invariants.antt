@@ -5,7 +5,7 @@ use Rattle.layout.specs.Walk.{walks}
 use Rattle.layout.specs.Helpers.{times}
 use Rattle.layout.proofs.Steps.{PlainTurn, from}
 use Rattle.layout.specs.Layout as Layout
-use Rattle.types.proofs.+con_ty_fn_ty_get_ty_one_arg_con_ty_paren_ty_record_ty_star_ty_star_tys_tuple_ty_ty_args_ty_row_ty_rows_ty_seq_ty_seq_there.Given as goal
+use Rattle.types.proofs.+types.Given as goal
 
 abbrev pub decreases-con_ty : goal.decreases-con_ty
 decreases-con_ty l = 16 * l.cfg.nesting + 4
@@ -51,14 +51,14 @@ decreases-ty_seq_there l = 16 * l.cfg.nesting + 2
 
 abbrev pub invariant-star_tys-loop-i : goal.invariant-star_tys-loop-i
 invariant-star_tys-loop-i l =
-    PlainTurn l.run l.text l.rec l.spans (λ i' k. times k (Ty.star-ty (walks l.cfg.nesting))) l.n l.initial.s l.initial.mem l.initial.out l.i l.s l.mem l.out
+    PlainTurn l.run l.text l.rec l.spans (λ i' k. times k (Ty.star_ty (walks l.cfg.nesting))) l.n l.initial.s l.initial.mem l.initial.out l.i l.s l.mem l.out
 
 abbrev pub decreases-star_tys-loop-i : goal.decreases-star_tys-loop-i
 decreases-star_tys-loop-i l = l.n - l.i
 
 abbrev pub invariant-ty_args-loop-i : goal.invariant-ty_args-loop-i
 invariant-ty_args-loop-i l =
-    PlainTurn l.run l.text l.rec l.spans (from (Layout.word ", ") (Layout.group (walks l.cfg.nesting).get-ty)) l.n l.initial.s l.initial.mem l.initial.out l.i l.s l.mem l.out
+    PlainTurn l.run l.text l.rec l.spans (from (Layout.word ", ") (Layout.group (walks l.cfg.nesting).get_ty)) l.n l.initial.s l.initial.mem l.initial.out l.i l.s l.mem l.out
 
 abbrev pub decreases-ty_args-loop-i : goal.decreases-ty_args-loop-i
 decreases-ty_args-loop-i l = l.n - l.i

@@ -7,7 +7,7 @@ use Rattle.layout.specs.Walk.{walks}
 use Rattle.layout.proofs.Knot.{past, beyond, form-key, pat-zero, pat-form, at_key}
 use Rattle.layout.specs.Helpers as Helpers
 use mathlib.Core.List.{[], ◌∷◌}
-use Rattle.patterns.proofs.+as_pat_as_tail_as_tail_there_con_arg_con_arg_there_con_pat_get_pat_infix_pat_lab_and_pat_lab_pat_list_pat_or_pat_paren_pat_pat_args_record_pat_row_row_inner_rows_tuple_pat_typed_pat_vector_pat.Goals as goal
+use Rattle.patterns.proofs.+patterns.Goals as goal
 
 pub as_pat-get_pat-r1-requires : goal.as_pat-get_pat-r1-requires
 as_pat-get_pat-r1-requires t c = omega (arith, c.decreases)
@@ -37,15 +37,15 @@ pub as_tail-as_tail_there-requires : goal.as_tail-as_tail_there-requires
 as_tail-as_tail_there-requires t c = omega (arith, c.decreases)
 
 pub as_tail-returns-in-Past : goal.as_tail-returns-in-Past
-unfolding Pat.as-tail
+unfolding Pat.as_tail
 as_tail-returns-in-Past t c = record { is = λ kinds. maybe-past c.absent-gone.ensures c.in-Past.is }
 
 pub as_tail-returns-in-There : goal.as_tail-returns-in-There
-unfolding Pat.as-tail
+unfolding Pat.as_tail
 as_tail-returns-in-There t c = record { is = λ kinds. by-same (maybe-there c.absent-gone.ensures c.in-There.is) (plain c.as_tail_there.ensures) }
 
 pub as_tail_there-returns-in_default : goal.as_tail_there-returns-in_default
-unfolding Pat.as-tail-there
+unfolding Pat.as_tail_there
 as_tail_there-returns-in_default t c = record { is = λ kinds. group-not c.group-r1.ensures c.told.ensures c.in_default.is }
 
 pub as_tail_there-get_pat-requires : goal.as_tail_there-get_pat-requires
@@ -55,18 +55,18 @@ pub as_tail_there-shape_of-out : goal.as_tail_there-shape_of-out
 as_tail_there-shape_of-out t c = c.get_pat.auto.out ∙ c.word.auto.out
 
 pub as_tail_there-returns : goal.as_tail_there-returns
-unfolding Pat.as-tail-there
+unfolding Pat.as_tail_there
 as_tail_there-returns t c = record { is = λ kinds. by-same (group-is c.group-r1.ensures c.told.ensures c.in-Done.is) (then-sure c.word.ensures (plain c.get_pat.ensures)) }
 
 pub con_arg-con_arg_there-requires : goal.con_arg-con_arg_there-requires
 con_arg-con_arg_there-requires t c = omega (arith, c.decreases)
 
 pub con_arg-returns-in-Past : goal.con_arg-returns-in-Past
-unfolding Pat.con-arg
+unfolding Pat.con_arg
 con_arg-returns-in-Past t c = record { is = λ kinds. maybe-past c.absent-gone.ensures c.in-Past.is }
 
 pub con_arg-returns-in-There : goal.con_arg-returns-in-There
-unfolding Pat.con-arg
+unfolding Pat.con_arg
 con_arg-returns-in-There t c = record { is = λ kinds. by-same (maybe-there c.absent-gone.ensures c.in-There.is) (plain c.con_arg_there.ensures) }
 
 pub con_arg_there-get_pat-requires : goal.con_arg_there-get_pat-requires
@@ -76,7 +76,7 @@ pub con_arg_there-shape_of-out : goal.con_arg_there-shape_of-out
 con_arg_there-shape_of-out t c = c.get_pat.auto.out ∙ c.word.auto.out
 
 pub con_arg_there-returns : goal.con_arg_there-returns
-unfolding Pat.con-arg-there
+unfolding Pat.con_arg_there
 con_arg_there-returns t c = record { is = λ kinds. then-sure c.word.ensures (plain c.get_pat.ensures) }
 
 pub con_pat-returns-in_default : goal.con_pat-returns-in_default
@@ -294,7 +294,7 @@ unfolding Pat.pat
 paren_pat-returns t c = record { is = λ kinds. then-sure c.word.ensures (then-done (plain c.get_pat-r1.ensures) c.told.ensures c.in-Done.is (last-sure c.word-2.ensures)) }
 
 pub pat_args-returns-in_default : goal.pat_args-returns-in_default
-unfolding Pat.pat-args Helpers.sep
+unfolding Pat.pat_args Helpers.sep
 pat_args-returns-in_default t c = record { is = λ kinds. list-not c.stop.ensures c.list.ensures c.in_default.is }
 
 pub pat_args-loop-i-init : goal.pat_args-loop-i-init
@@ -304,7 +304,7 @@ pub pat_args-shape_of-out-in_default-told : goal.pat_args-shape_of-out-in_defaul
 pat_args-shape_of-out-in_default-told t c = c.between.auto.out ∙ c.loop-i.invariant.2
 
 pub pat_args-returns-in_default-told : goal.pat_args-returns-in_default-told
-unfolding Pat.pat-args Helpers.sep
+unfolding Pat.pat_args Helpers.sep
 pat_args-returns-in_default-told t c = record { is = λ kinds. by-same (list-is c.list.ensures c.in-Is.is) (by-same (items-all _ _ _) (c.loop-i.invariant.1 kinds _ _ _ (from_more _ _ c.loop-i-test.true (then-sure c.between.ensures (then-stop (group-not c.group-r1.ensures c.told.ensures c.in_default-told.is) c.told.ensures c.in_default-told.is))))) }
 
 pub pat_args-get_pat-r2-requires : goal.pat_args-get_pat-r2-requires
@@ -314,21 +314,21 @@ pub pat_args-shape_of-out-in_default-told-2 : goal.pat_args-shape_of-out-in_defa
 pat_args-shape_of-out-in_default-told-2 t c = c.get_pat-r2.auto.out ∙ c.between.auto.out ∙ c.loop-i.invariant.2
 
 pub pat_args-returns-in_default-told-2 : goal.pat_args-returns-in_default-told-2
-unfolding Pat.pat-args Helpers.sep
+unfolding Pat.pat_args Helpers.sep
 pat_args-returns-in_default-told-2 t c = record { is = λ kinds. by-same (list-is c.list.ensures c.in-Is.is) (by-same (items-all _ _ _) (c.loop-i.invariant.1 kinds _ _ _ (from_more _ _ c.loop-i-test.true (then-sure c.between.ensures (by-same (first-same (group-is c.group-r1.ensures c.told.ensures c.in-Done.is)) (then-stop (plain c.get_pat-r2.ensures) c.told-in-loop-i.ensures c.in_default-told-2.is)))))) }
 
 pub pat_args-overflow_add-i : goal.pat_args-overflow_add-i
 pat_args-overflow_add-i t c = omega (arith, c.loop-i-test.true, c.in-Is.known_told-1-own)
 
 pub pat_args-loop-i-preserved : goal.pat_args-loop-i-preserved
-unfolding Pat.pat-args Helpers.sep
+unfolding Pat.pat_args Helpers.sep
 pat_args-loop-i-preserved t c = (omega (arith, c.loop-i.invariant.0), λ kinds r m o h. c.loop-i.invariant.1 kinds r m o (from_more _ _ c.loop-i-test.true (then-sure c.between.ensures (by-same (first-same (group-is c.group-r1.ensures c.told.ensures c.in-Done.is)) (then-done (plain c.get_pat-r2.ensures) c.told-in-loop-i.ensures c.in-Done-told.is h)))), c.get_pat-r2.auto.out ∙ c.between.auto.out ∙ c.loop-i.invariant.2)
 
 pub pat_args-shape_of-out : goal.pat_args-shape_of-out
 pat_args-shape_of-out t c = c.loop-i.invariant.2
 
 pub pat_args-returns : goal.pat_args-returns
-unfolding Pat.pat-args Helpers.sep
+unfolding Pat.pat_args Helpers.sep
 pat_args-returns t c = record { is = λ kinds. by-same (list-is c.list.ensures c.in-Is.is) (by-same (items-all _ _ _) (c.loop-i.invariant.1 kinds _ _ _ (from-none _ _ c.loop-i-test.false))) }
 
 pub record_pat-rows-r1-requires : goal.record_pat-rows-r1-requires
@@ -349,18 +349,18 @@ unfolding Pat.pat
 record_pat-returns t c = record { is = λ kinds. then-sure c.word.ensures (then-done (plain c.rows-r1.ensures) c.told.ensures c.in-Done.is (last-sure c.word-2.ensures)) }
 
 pub row-returns-in_default : goal.row-returns-in_default
-unfolding Pat.pat-row
+unfolding Pat.pat_row
 row-returns-in_default t c = record { is = λ kinds. group-not c.group-r1.ensures c.told.ensures c.in_default.is }
 
 pub row-returns-in_default-choice : goal.row-returns-in_default-choice
-unfolding Pat.pat-row
+unfolding Pat.pat_row
 row-returns-in_default-choice t c = record { is = λ kinds. by-same (group-is c.group-r1.ensures c.told.ensures c.in-Done.is) (choice-not c.stop.ensures c.choice.ensures c.in_default-choice.is) }
 
 pub row-row_inner-requires : goal.row-row_inner-requires
 row-row_inner-requires t c = omega (arith, c.decreases)
 
 pub row-returns : goal.row-returns
-unfolding Pat.pat-row
+unfolding Pat.pat_row
 row-returns t c = record { is = λ kinds. by-same (group-is c.group-r1.ensures c.told.ensures c.in-Done.is) (by-same (choice-is c.choice.ensures c.in-Is.is) (plain c.row_inner.ensures)) }
 
 pub row_inner-lab_and_pat-requires : goal.row_inner-lab_and_pat-requires
@@ -370,23 +370,23 @@ pub row_inner-lab_pat-requires : goal.row_inner-lab_pat-requires
 row_inner-lab_pat-requires t c = omega (arith, c.decreases)
 
 pub row_inner-returns-in-0 : goal.row_inner-returns-in-0
-unfolding Pat.pat-row-inner Pat.RestPatRow
-row_inner-returns-in-0 t c = record { is = λ kinds. at_key (Pat.pat-row-inner (walks c.args.cfg.nesting)) c.in-0.is (last-sure c.word.ensures) }
+unfolding Pat.pat_row_inner Pat.RestPatRow
+row_inner-returns-in-0 t c = record { is = λ kinds. at_key (Pat.pat_row_inner (walks c.args.cfg.nesting)) c.in-0.is (last-sure c.word.ensures) }
 
 pub row_inner-returns-in-1 : goal.row_inner-returns-in-1
-unfolding Pat.pat-row-inner Pat.RestPatRow
-row_inner-returns-in-1 t c = record { is = λ kinds. at_key (Pat.pat-row-inner (walks c.args.cfg.nesting)) c.in-1.is (plain c.lab_and_pat.ensures) }
+unfolding Pat.pat_row_inner Pat.RestPatRow
+row_inner-returns-in-1 t c = record { is = λ kinds. at_key (Pat.pat_row_inner (walks c.args.cfg.nesting)) c.in-1.is (plain c.lab_and_pat.ensures) }
 
 pub row_inner-returns-in-2 : goal.row_inner-returns-in-2
-unfolding Pat.pat-row-inner Pat.RestPatRow
-row_inner-returns-in-2 t c = record { is = λ kinds. at_key (Pat.pat-row-inner (walks c.args.cfg.nesting)) c.in-2.is (plain c.lab_pat.ensures) }
+unfolding Pat.pat_row_inner Pat.RestPatRow
+row_inner-returns-in-2 t c = record { is = λ kinds. at_key (Pat.pat_row_inner (walks c.args.cfg.nesting)) c.in-2.is (plain c.lab_pat.ensures) }
 
 pub row_inner-returns-in_default : goal.row_inner-returns-in_default
-unfolding Pat.pat-row-inner Pat.RestPatRow
+unfolding Pat.pat_row_inner Pat.RestPatRow
 row_inner-returns-in_default t c = record { is = λ kinds. beyond (Pat.RestPatRow (walks c.args.cfg.nesting) ∷ Pat.LabAndPatPatRow (walks c.args.cfg.nesting) ∷ Pat.LabPatRow (walks c.args.cfg.nesting) ∷ []) c.args.which 3 refl (past (past (past zero-le c.in_default.in_default-own.rest.0.0.1) c.in_default.in_default-own.rest.0.1) c.in_default.in_default-own.rest.1) c.stop.ensures }
 
 pub rows-returns-in_default : goal.rows-returns-in_default
-unfolding Pat.pat-rows Helpers.sep
+unfolding Pat.pat_rows Helpers.sep
 rows-returns-in_default t c = record { is = λ kinds. list-not c.stop.ensures c.list.ensures c.in_default.is }
 
 pub rows-loop-i-init : goal.rows-loop-i-init
@@ -399,21 +399,21 @@ pub rows-shape_of-out-in_default-told : goal.rows-shape_of-out-in_default-told
 rows-shape_of-out-in_default-told t c = c.row-r1.auto.out ∙ c.between.auto.out ∙ c.loop-i.invariant.2
 
 pub rows-returns-in_default-told : goal.rows-returns-in_default-told
-unfolding Pat.pat-rows Helpers.sep
+unfolding Pat.pat_rows Helpers.sep
 rows-returns-in_default-told t c = record { is = λ kinds. by-same (list-is c.list.ensures c.in-Is.is) (by-same (items-all _ _ _) (c.loop-i.invariant.1 kinds _ _ _ (from_more _ _ c.loop-i-test.true (then-sure c.between.ensures (then-stop (plain c.row-r1.ensures) c.told.ensures c.in_default-told.is))))) }
 
 pub rows-overflow_add-i : goal.rows-overflow_add-i
 rows-overflow_add-i t c = omega (arith, c.loop-i-test.true, c.in-Is.known_told-1-own)
 
 pub rows-loop-i-preserved : goal.rows-loop-i-preserved
-unfolding Pat.pat-rows Helpers.sep
+unfolding Pat.pat_rows Helpers.sep
 rows-loop-i-preserved t c = (omega (arith, c.loop-i.invariant.0), λ kinds r m o h. c.loop-i.invariant.1 kinds r m o (from_more _ _ c.loop-i-test.true (then-sure c.between.ensures (then-done (plain c.row-r1.ensures) c.told.ensures c.in-Done.is h))), c.row-r1.auto.out ∙ c.between.auto.out ∙ c.loop-i.invariant.2)
 
 pub rows-shape_of-out : goal.rows-shape_of-out
 rows-shape_of-out t c = c.loop-i.invariant.2
 
 pub rows-returns : goal.rows-returns
-unfolding Pat.pat-rows Helpers.sep
+unfolding Pat.pat_rows Helpers.sep
 rows-returns t c = record { is = λ kinds. by-same (list-is c.list.ensures c.in-Is.is) (by-same (items-all _ _ _) (c.loop-i.invariant.1 kinds _ _ _ (from-none _ _ c.loop-i-test.false))) }
 
 pub tuple_pat-pat_args-r1-requires : goal.tuple_pat-pat_args-r1-requires

@@ -15,7 +15,7 @@ use Rattle.layout.specs.GetDec as GetDec
 use Rattle.layout.specs.DecOne as DecOne
 use Rattle.layout.specs.StrExp as StrExp
 use Rattle.layout.proofs.Steps.{Turn, from}
-use Rattle.walk.proofs.+ab_ac_an_app_ar_arm_br_ca_cb_cd_da_dec_dp_ds_du_exp_fa_fb_fc_fd_fe_fs_fx_gd_ha_ic_ie_it_ld_lo_lx_ma_mo_nm_nu_one_pa_pr_qb_qs_rc_ro_rs_sa_sb_sd_seq_sg_sig_sl_sm_sp_sq_ss_str_ta_ty_vb_vd_ve_wh_wr_wt_xb_xd_xi.Given as goal
+use Rattle.walk.proofs.+walk.Given as goal
 
 abbrev pub decreases-ab : goal.decreases-ab
 decreases-ab l = 16 * l.cfg.nesting + 5
@@ -217,14 +217,14 @@ decreases-xi l = 16 * l.cfg.nesting + 2
 
 abbrev pub invariant-ar-loop-i : goal.invariant-ar-loop-i
 invariant-ar-loop-i l =
-    Turn l.run (page_at l.text l.rec l.kinds l.spans) (from (Layout.word ", ") (Layout.group ((walks l.cfg.nesting).get-exp (cfg_of l.cfg)))) l.n l.initial.s l.initial.mem l.initial.out l.i l.s l.mem l.out
+    Turn l.run (page_at l.text l.rec l.kinds l.spans) (from (Layout.word ", ") (Layout.group ((walks l.cfg.nesting).get_exp (cfg_of l.cfg)))) l.n l.initial.s l.initial.mem l.initial.out l.i l.s l.mem l.out
 
 abbrev pub decreases-ar-loop-i : goal.decreases-ar-loop-i
 decreases-ar-loop-i l = l.n - l.i
 
 abbrev pub invariant-cd-loop-i : goal.invariant-cd-loop-i
 invariant-cd-loop-i l =
-    Turn l.run (page_at l.text l.rec l.kinds l.spans) (from (Helpers.new_line (cfg_of l.cfg) "and ") (DecOne.functor-bind (walks l.cfg.nesting) (cfg_of l.cfg))) l.n l.initial.s l.initial.mem l.initial.out l.i l.s l.mem l.out
+    Turn l.run (page_at l.text l.rec l.kinds l.spans) (from (Helpers.new_line (cfg_of l.cfg) "and ") (DecOne.functor_bind (walks l.cfg.nesting) (cfg_of l.cfg))) l.n l.initial.s l.initial.mem l.initial.out l.i l.s l.mem l.out
 
 abbrev pub decreases-cd-loop-i : goal.decreases-cd-loop-i
 decreases-cd-loop-i l = l.n - l.i
@@ -238,98 +238,98 @@ decreases-ds-loop-i l = l.n - l.i
 
 abbrev pub invariant-fb-loop-i : goal.invariant-fb-loop-i
 invariant-fb-loop-i l =
-    Turn l.run (page_at l.text l.rec l.kinds l.spans) (from (Helpers.new_line (Helpers.deeper (cfg_of l.cfg)) "| ") (DecOne.fun-bind-case (walks l.cfg.nesting) (cfg_of l.cfg))) l.n l.initial.s l.initial.mem l.initial.out l.i l.s l.mem l.out
+    Turn l.run (page_at l.text l.rec l.kinds l.spans) (from (Helpers.new_line (Helpers.deeper (cfg_of l.cfg)) "| ") (DecOne.fun_bind_case (walks l.cfg.nesting) (cfg_of l.cfg))) l.n l.initial.s l.initial.mem l.initial.out l.i l.s l.mem l.out
 
 abbrev pub decreases-fb-loop-i : goal.decreases-fb-loop-i
 decreases-fb-loop-i l = l.n - l.i
 
 abbrev pub invariant-fd-loop-i : goal.invariant-fd-loop-i
 invariant-fd-loop-i l =
-    Turn l.run (page_at l.text l.rec l.kinds l.spans) (from (Helpers.new_line (cfg_of l.cfg) "and ") (DecOne.fun-bind (walks l.cfg.nesting) (cfg_of l.cfg))) l.n l.initial.s l.initial.mem l.initial.out l.i l.s l.mem l.out
+    Turn l.run (page_at l.text l.rec l.kinds l.spans) (from (Helpers.new_line (cfg_of l.cfg) "and ") (DecOne.fun_bind (walks l.cfg.nesting) (cfg_of l.cfg))) l.n l.initial.s l.initial.mem l.initial.out l.i l.s l.mem l.out
 
 abbrev pub decreases-fd-loop-i : goal.decreases-fd-loop-i
 decreases-fd-loop-i l = l.n - l.i
 
 abbrev pub invariant-fe-loop-i : goal.invariant-fe-loop-i
 invariant-fe-loop-i l =
-    Turn l.run (page_at l.text l.rec l.kinds l.spans) (from (Layout.word " | ") (Exp.get-matcher-arm (walks l.cfg.nesting) (cfg_of l.cfg))) l.n l.initial.s l.initial.mem l.initial.out l.i l.s l.mem l.out
+    Turn l.run (page_at l.text l.rec l.kinds l.spans) (from (Layout.word " | ") (Exp.get_matcher_arm (walks l.cfg.nesting) (cfg_of l.cfg))) l.n l.initial.s l.initial.mem l.initial.out l.i l.s l.mem l.out
 
 abbrev pub decreases-fe-loop-i : goal.decreases-fe-loop-i
 decreases-fe-loop-i l = l.n - l.i
 
 abbrev pub invariant-fs-loop-i : goal.invariant-fs-loop-i
 invariant-fs-loop-i l =
-    Turn l.run (page_at l.text l.rec l.kinds l.spans) (λ i' k. times k (Layout.choice (DecOne.functor-arg (walks l.cfg.nesting) (cfg_of l.cfg)))) l.n l.initial.s l.initial.mem l.initial.out l.i l.s l.mem l.out
+    Turn l.run (page_at l.text l.rec l.kinds l.spans) (λ i' k. times k (Layout.choice (DecOne.functor_arg (walks l.cfg.nesting) (cfg_of l.cfg)))) l.n l.initial.s l.initial.mem l.initial.out l.i l.s l.mem l.out
 
 abbrev pub decreases-fs-loop-i : goal.decreases-fs-loop-i
 decreases-fs-loop-i l = l.n - l.i
 
 abbrev pub invariant-gd-loop-i : goal.invariant-gd-loop-i
 invariant-gd-loop-i l =
-    Turn l.run (page_at l.text l.rec l.kinds l.spans) (from (Helpers.new_line (cfg_of l.cfg) "and ") (DecOne.sig-bind (walks l.cfg.nesting) (cfg_of l.cfg))) l.n l.initial.s l.initial.mem l.initial.out l.i l.s l.mem l.out
+    Turn l.run (page_at l.text l.rec l.kinds l.spans) (from (Helpers.new_line (cfg_of l.cfg) "and ") (DecOne.sig_bind (walks l.cfg.nesting) (cfg_of l.cfg))) l.n l.initial.s l.initial.mem l.initial.out l.i l.s l.mem l.out
 
 abbrev pub decreases-gd-loop-i : goal.decreases-gd-loop-i
 decreases-gd-loop-i l = l.n - l.i
 
 abbrev pub invariant-ic-loop-i : goal.invariant-ic-loop-i
 invariant-ic-loop-i l =
-    Turn l.run (page_at l.text l.rec l.kinds l.spans) (from (Layout.word " ") ((walks l.cfg.nesting).get-sig-exp (cfg_of l.cfg))) l.n l.initial.s l.initial.mem l.initial.out l.i l.s l.mem l.out
+    Turn l.run (page_at l.text l.rec l.kinds l.spans) (from (Layout.word " ") ((walks l.cfg.nesting).get_sig_exp (cfg_of l.cfg))) l.n l.initial.s l.initial.mem l.initial.out l.i l.s l.mem l.out
 
 abbrev pub decreases-ic-loop-i : goal.decreases-ic-loop-i
 decreases-ic-loop-i l = l.n - l.i
 
 abbrev pub invariant-ma-loop-i : goal.invariant-ma-loop-i
 invariant-ma-loop-i l =
-    Turn l.run (page_at l.text l.rec l.kinds l.spans) (from (Helpers.new_line (cfg_of l.cfg) "| ") (Exp.get-matcher-arm (walks l.cfg.nesting) (cfg_of l.cfg))) l.n l.initial.s l.initial.mem l.initial.out l.i l.s l.mem l.out
+    Turn l.run (page_at l.text l.rec l.kinds l.spans) (from (Helpers.new_line (cfg_of l.cfg) "| ") (Exp.get_matcher_arm (walks l.cfg.nesting) (cfg_of l.cfg))) l.n l.initial.s l.initial.mem l.initial.out l.i l.s l.mem l.out
 
 abbrev pub decreases-ma-loop-i : goal.decreases-ma-loop-i
 decreases-ma-loop-i l = l.n - l.i
 
 abbrev pub invariant-mo-loop-i : goal.invariant-mo-loop-i
 invariant-mo-loop-i l =
-    Turn l.run (page_at l.text l.rec l.kinds l.spans) (λ i' k. Exp.exp-semi-more (walks l.cfg.nesting) (cfg_of l.cfg) l.allow k) l.n l.initial.s l.initial.mem l.initial.out l.i l.s l.mem l.out
+    Turn l.run (page_at l.text l.rec l.kinds l.spans) (λ i' k. Exp.exp_semi_more (walks l.cfg.nesting) (cfg_of l.cfg) l.allow k) l.n l.initial.s l.initial.mem l.initial.out l.i l.s l.mem l.out
 
 abbrev pub decreases-mo-loop-i : goal.decreases-mo-loop-i
 decreases-mo-loop-i l = l.n - l.i
 
 abbrev pub invariant-qs-loop-i : goal.invariant-qs-loop-i
 invariant-qs-loop-i l =
-    Turn l.run (page_at l.text l.rec l.kinds l.spans) (from (Helpers.new_line (cfg_of l.cfg) "") (GetDec.dec-in-seq (walks l.cfg.nesting) (cfg_of l.cfg))) l.n l.initial.s l.initial.mem l.initial.out l.i l.s l.mem l.out
+    Turn l.run (page_at l.text l.rec l.kinds l.spans) (from (Helpers.new_line (cfg_of l.cfg) "") (GetDec.dec_in_seq (walks l.cfg.nesting) (cfg_of l.cfg))) l.n l.initial.s l.initial.mem l.initial.out l.i l.s l.mem l.out
 
 abbrev pub decreases-qs-loop-i : goal.decreases-qs-loop-i
 decreases-qs-loop-i l = l.n - l.i
 
 abbrev pub invariant-rs-loop-i : goal.invariant-rs-loop-i
 invariant-rs-loop-i l =
-    Turn l.run (page_at l.text l.rec l.kinds l.spans) (from (Layout.word ", ") (Exp.exp-row (walks l.cfg.nesting) (cfg_of l.cfg))) l.n l.initial.s l.initial.mem l.initial.out l.i l.s l.mem l.out
+    Turn l.run (page_at l.text l.rec l.kinds l.spans) (from (Layout.word ", ") (Exp.exp_row (walks l.cfg.nesting) (cfg_of l.cfg))) l.n l.initial.s l.initial.mem l.initial.out l.i l.s l.mem l.out
 
 abbrev pub decreases-rs-loop-i : goal.decreases-rs-loop-i
 decreases-rs-loop-i l = l.n - l.i
 
 abbrev pub invariant-sd-loop-i : goal.invariant-sd-loop-i
 invariant-sd-loop-i l =
-    Turn l.run (page_at l.text l.rec l.kinds l.spans) (from (Helpers.new_line (cfg_of l.cfg) "and ") (DecOne.str-bind (walks l.cfg.nesting) (cfg_of l.cfg))) l.n l.initial.s l.initial.mem l.initial.out l.i l.s l.mem l.out
+    Turn l.run (page_at l.text l.rec l.kinds l.spans) (from (Helpers.new_line (cfg_of l.cfg) "and ") (DecOne.str_bind (walks l.cfg.nesting) (cfg_of l.cfg))) l.n l.initial.s l.initial.mem l.initial.out l.i l.s l.mem l.out
 
 abbrev pub decreases-sd-loop-i : goal.decreases-sd-loop-i
 decreases-sd-loop-i l = l.n - l.i
 
 abbrev pub invariant-sp-loop-i : goal.invariant-sp-loop-i
 invariant-sp-loop-i l =
-    (l.i ≤ l.n) × ((r : ℕ) (m' o' : List ℕ) → Walked false l.run (page_at l.text l.rec l.kinds l.spans) (StrExp.app-args (walks l.cfg.nesting) (cfg_of l.cfg) l.needs (l.n - l.i)) (run_of l.s l.mem l.out) r m' o' → Walked false l.run (page_at l.text l.rec l.kinds l.spans) (StrExp.app-args (walks l.cfg.nesting) (cfg_of l.cfg) false (l.n - 0)) (run_of l.initial.s l.initial.mem l.initial.out) r m' o') × (length l.out ≡ length l.initial.out)
+    (l.i ≤ l.n) × ((r : ℕ) (m' o' : List ℕ) → Walked false l.run (page_at l.text l.rec l.kinds l.spans) (StrExp.app_args (walks l.cfg.nesting) (cfg_of l.cfg) l.needs (l.n - l.i)) (run_of l.s l.mem l.out) r m' o' → Walked false l.run (page_at l.text l.rec l.kinds l.spans) (StrExp.app_args (walks l.cfg.nesting) (cfg_of l.cfg) false (l.n - 0)) (run_of l.initial.s l.initial.mem l.initial.out) r m' o') × (length l.out ≡ length l.initial.out)
 
 abbrev pub decreases-sp-loop-i : goal.decreases-sp-loop-i
 decreases-sp-loop-i l = l.n - l.i
 
 abbrev pub invariant-vd-loop-i : goal.invariant-vd-loop-i
 invariant-vd-loop-i l =
-    Turn l.run (page_at l.text l.rec l.kinds l.spans) (from (Helpers.new_line (cfg_of l.cfg) "and ") (DecOne.val-bind (walks l.cfg.nesting) (cfg_of l.cfg))) l.n l.initial.s l.initial.mem l.initial.out l.i l.s l.mem l.out
+    Turn l.run (page_at l.text l.rec l.kinds l.spans) (from (Helpers.new_line (cfg_of l.cfg) "and ") (DecOne.val_bind (walks l.cfg.nesting) (cfg_of l.cfg))) l.n l.initial.s l.initial.mem l.initial.out l.i l.s l.mem l.out
 
 abbrev pub decreases-vd-loop-i : goal.decreases-vd-loop-i
 decreases-vd-loop-i l = l.n - l.i
 
 abbrev pub invariant-xd-loop-i : goal.invariant-xd-loop-i
 invariant-xd-loop-i l =
-    Turn l.run (page_at l.text l.rec l.kinds l.spans) (from (Helpers.new_line (cfg_of l.cfg) "and ") (DecOne.ex-bind (walks l.cfg.nesting) (cfg_of l.cfg))) l.n l.initial.s l.initial.mem l.initial.out l.i l.s l.mem l.out
+    Turn l.run (page_at l.text l.rec l.kinds l.spans) (from (Helpers.new_line (cfg_of l.cfg) "and ") (DecOne.ex_bind (walks l.cfg.nesting) (cfg_of l.cfg))) l.n l.initial.s l.initial.mem l.initial.out l.i l.s l.mem l.out
 
 abbrev pub decreases-xd-loop-i : goal.decreases-xd-loop-i
 decreases-xd-loop-i l = l.n - l.i

@@ -8,7 +8,7 @@ use Rattle.layout.proofs.Knot.{past, beyond, form-key, ty-zero, ty-form}
 use Rattle.layout.specs.Helpers.{times}
 use Rattle.layout.specs.Helpers as Helpers
 use Rattle.layout.proofs.Dropping.{dropped_by}
-use Rattle.types.proofs.+con_ty_fn_ty_get_ty_one_arg_con_ty_paren_ty_record_ty_star_ty_star_tys_tuple_ty_ty_args_ty_row_ty_rows_ty_seq_ty_seq_there.Goals as goal
+use Rattle.types.proofs.+types.Goals as goal
 
 pub con_ty-ty_seq-r1-requires : goal.con_ty-ty_seq-r1-requires
 con_ty-ty_seq-r1-requires t c = omega (arith, c.decreases)
@@ -156,7 +156,7 @@ unfolding Ty.ty
 record_ty-returns t c = record { is = λ kinds. then-sure c.word.ensures (then-done (plain c.ty_rows-r1.ensures) c.told.ensures c.in-Done.is (last-sure c.word-2.ensures)) }
 
 pub star_ty-returns-in_default : goal.star_ty-returns-in_default
-unfolding Ty.star-ty
+unfolding Ty.star_ty
 star_ty-returns-in_default t c = record { is = λ kinds. group-not c.group-r1.ensures c.told.ensures c.in_default.is }
 
 pub star_ty-get_ty-requires : goal.star_ty-get_ty-requires
@@ -166,11 +166,11 @@ pub star_ty-shape_of-out : goal.star_ty-shape_of-out
 star_ty-shape_of-out t c = c.get_ty.auto.out ∙ c.word.auto.out
 
 pub star_ty-returns : goal.star_ty-returns
-unfolding Ty.star-ty
+unfolding Ty.star_ty
 star_ty-returns t c = record { is = λ kinds. by-same (group-is c.group-r1.ensures c.told.ensures c.in-Done.is) (then-sure c.word.ensures (plain c.get_ty.ensures)) }
 
 pub star_tys-returns-in_default : goal.star_tys-returns-in_default
-unfolding Ty.star-tys Helpers.for_each
+unfolding Ty.star_tys Helpers.for_each
 star_tys-returns-in_default t c = record { is = λ kinds. list-not c.stop.ensures c.list.ensures c.in_default.is }
 
 pub star_tys-loop-i-init : goal.star_tys-loop-i-init
@@ -183,21 +183,21 @@ pub star_tys-shape_of-out-in_default-told : goal.star_tys-shape_of-out-in_defaul
 star_tys-shape_of-out-in_default-told t c = c.star_ty-r1.auto.out ∙ c.loop-i.invariant.2
 
 pub star_tys-returns-in_default-told : goal.star_tys-returns-in_default-told
-unfolding Ty.star-tys Helpers.for_each
+unfolding Ty.star_tys Helpers.for_each
 star_tys-returns-in_default-told t c = record { is = λ kinds. by-same (list-is c.list.ensures c.in-Is.is) (by-same (times-all _ _) (c.loop-i.invariant.1 kinds _ _ _ (times_more _ c.loop-i-test.true (then-stop (plain c.star_ty-r1.ensures) c.told.ensures c.in_default-told.is)))) }
 
 pub star_tys-overflow_add-i : goal.star_tys-overflow_add-i
 star_tys-overflow_add-i t c = omega (arith, c.loop-i-test.true, c.in-Is.known_told-1-own)
 
 pub star_tys-loop-i-preserved : goal.star_tys-loop-i-preserved
-unfolding Ty.star-tys Helpers.for_each
+unfolding Ty.star_tys Helpers.for_each
 star_tys-loop-i-preserved t c = (omega (arith, c.loop-i.invariant.0), λ kinds r m o h. c.loop-i.invariant.1 kinds r m o (times_more _ c.loop-i-test.true (then-done (plain c.star_ty-r1.ensures) c.told.ensures c.in-Done.is h)), c.star_ty-r1.auto.out ∙ c.loop-i.invariant.2)
 
 pub star_tys-shape_of-out : goal.star_tys-shape_of-out
 star_tys-shape_of-out t c = c.loop-i.invariant.2
 
 pub star_tys-returns : goal.star_tys-returns
-unfolding Ty.star-tys Helpers.for_each
+unfolding Ty.star_tys Helpers.for_each
 star_tys-returns t c = record { is = λ kinds. by-same (list-is c.list.ensures c.in-Is.is) (by-same (times-all _ _) (c.loop-i.invariant.1 kinds _ _ _ (times_none _ c.loop-i-test.false))) }
 
 pub tuple_ty-get_ty-r0-requires : goal.tuple_ty-get_ty-r0-requires
@@ -218,7 +218,7 @@ unfolding Ty.ty
 tuple_ty-returns t c = record { is = λ kinds. then-done (dropped_by (plain c.get_ty-r0.ensures) c.onwards-r1.ensures) c.told.ensures c.in-Done.is (plain c.star_tys.ensures) }
 
 pub ty_args-returns-in_default : goal.ty_args-returns-in_default
-unfolding Ty.ty-args Helpers.sep
+unfolding Ty.ty_args Helpers.sep
 ty_args-returns-in_default t c = record { is = λ kinds. list-not c.stop.ensures c.list.ensures c.in_default.is }
 
 pub ty_args-loop-i-init : goal.ty_args-loop-i-init
@@ -228,7 +228,7 @@ pub ty_args-shape_of-out-in_default-told : goal.ty_args-shape_of-out-in_default-
 ty_args-shape_of-out-in_default-told t c = c.between.auto.out ∙ c.loop-i.invariant.2
 
 pub ty_args-returns-in_default-told : goal.ty_args-returns-in_default-told
-unfolding Ty.ty-args Helpers.sep
+unfolding Ty.ty_args Helpers.sep
 ty_args-returns-in_default-told t c = record { is = λ kinds. by-same (list-is c.list.ensures c.in-Is.is) (by-same (items-all _ _ _) (c.loop-i.invariant.1 kinds _ _ _ (from_more _ _ c.loop-i-test.true (then-sure c.between.ensures (then-stop (group-not c.group-r1.ensures c.told.ensures c.in_default-told.is) c.told.ensures c.in_default-told.is))))) }
 
 pub ty_args-get_ty-r2-requires : goal.ty_args-get_ty-r2-requires
@@ -238,21 +238,21 @@ pub ty_args-shape_of-out-in_default-told-2 : goal.ty_args-shape_of-out-in_defaul
 ty_args-shape_of-out-in_default-told-2 t c = c.get_ty-r2.auto.out ∙ c.between.auto.out ∙ c.loop-i.invariant.2
 
 pub ty_args-returns-in_default-told-2 : goal.ty_args-returns-in_default-told-2
-unfolding Ty.ty-args Helpers.sep
+unfolding Ty.ty_args Helpers.sep
 ty_args-returns-in_default-told-2 t c = record { is = λ kinds. by-same (list-is c.list.ensures c.in-Is.is) (by-same (items-all _ _ _) (c.loop-i.invariant.1 kinds _ _ _ (from_more _ _ c.loop-i-test.true (then-sure c.between.ensures (by-same (first-same (group-is c.group-r1.ensures c.told.ensures c.in-Done.is)) (then-stop (plain c.get_ty-r2.ensures) c.told-in-loop-i.ensures c.in_default-told-2.is)))))) }
 
 pub ty_args-overflow_add-i : goal.ty_args-overflow_add-i
 ty_args-overflow_add-i t c = omega (arith, c.loop-i-test.true, c.in-Is.known_told-1-own)
 
 pub ty_args-loop-i-preserved : goal.ty_args-loop-i-preserved
-unfolding Ty.ty-args Helpers.sep
+unfolding Ty.ty_args Helpers.sep
 ty_args-loop-i-preserved t c = (omega (arith, c.loop-i.invariant.0), λ kinds r m o h. c.loop-i.invariant.1 kinds r m o (from_more _ _ c.loop-i-test.true (then-sure c.between.ensures (by-same (first-same (group-is c.group-r1.ensures c.told.ensures c.in-Done.is)) (then-done (plain c.get_ty-r2.ensures) c.told-in-loop-i.ensures c.in-Done-told.is h)))), c.get_ty-r2.auto.out ∙ c.between.auto.out ∙ c.loop-i.invariant.2)
 
 pub ty_args-shape_of-out : goal.ty_args-shape_of-out
 ty_args-shape_of-out t c = c.loop-i.invariant.2
 
 pub ty_args-returns : goal.ty_args-returns
-unfolding Ty.ty-args Helpers.sep
+unfolding Ty.ty_args Helpers.sep
 ty_args-returns t c = record { is = λ kinds. by-same (list-is c.list.ensures c.in-Is.is) (by-same (items-all _ _ _) (c.loop-i.invariant.1 kinds _ _ _ (from-none _ _ c.loop-i-test.false))) }
 
 pub ty_row-returns-in_default : goal.ty_row-returns-in_default
@@ -274,7 +274,7 @@ unfolding Ty.ty_row
 ty_row-returns t c = record { is = λ kinds. by-same (group-is c.group-r1.ensures c.told.ensures c.in-Done.is) (then-done (plain c.text_of-r2.ensures) c.told-2.ensures c.in-Done-told.is (then-sure c.word.ensures (plain c.get_ty.ensures))) }
 
 pub ty_rows-returns-in_default : goal.ty_rows-returns-in_default
-unfolding Ty.ty-rows Helpers.sep
+unfolding Ty.ty_rows Helpers.sep
 ty_rows-returns-in_default t c = record { is = λ kinds. list-not c.stop.ensures c.list.ensures c.in_default.is }
 
 pub ty_rows-loop-i-init : goal.ty_rows-loop-i-init
@@ -287,36 +287,36 @@ pub ty_rows-shape_of-out-in_default-told : goal.ty_rows-shape_of-out-in_default-
 ty_rows-shape_of-out-in_default-told t c = c.ty_row-r1.auto.out ∙ c.between.auto.out ∙ c.loop-i.invariant.2
 
 pub ty_rows-returns-in_default-told : goal.ty_rows-returns-in_default-told
-unfolding Ty.ty-rows Helpers.sep
+unfolding Ty.ty_rows Helpers.sep
 ty_rows-returns-in_default-told t c = record { is = λ kinds. by-same (list-is c.list.ensures c.in-Is.is) (by-same (items-all _ _ _) (c.loop-i.invariant.1 kinds _ _ _ (from_more _ _ c.loop-i-test.true (then-sure c.between.ensures (then-stop (plain c.ty_row-r1.ensures) c.told.ensures c.in_default-told.is))))) }
 
 pub ty_rows-overflow_add-i : goal.ty_rows-overflow_add-i
 ty_rows-overflow_add-i t c = omega (arith, c.loop-i-test.true, c.in-Is.known_told-1-own)
 
 pub ty_rows-loop-i-preserved : goal.ty_rows-loop-i-preserved
-unfolding Ty.ty-rows Helpers.sep
+unfolding Ty.ty_rows Helpers.sep
 ty_rows-loop-i-preserved t c = (omega (arith, c.loop-i.invariant.0), λ kinds r m o h. c.loop-i.invariant.1 kinds r m o (from_more _ _ c.loop-i-test.true (then-sure c.between.ensures (then-done (plain c.ty_row-r1.ensures) c.told.ensures c.in-Done.is h))), c.ty_row-r1.auto.out ∙ c.between.auto.out ∙ c.loop-i.invariant.2)
 
 pub ty_rows-shape_of-out : goal.ty_rows-shape_of-out
 ty_rows-shape_of-out t c = c.loop-i.invariant.2
 
 pub ty_rows-returns : goal.ty_rows-returns
-unfolding Ty.ty-rows Helpers.sep
+unfolding Ty.ty_rows Helpers.sep
 ty_rows-returns t c = record { is = λ kinds. by-same (list-is c.list.ensures c.in-Is.is) (by-same (items-all _ _ _) (c.loop-i.invariant.1 kinds _ _ _ (from-none _ _ c.loop-i-test.false))) }
 
 pub ty_seq-ty_seq_there-requires : goal.ty_seq-ty_seq_there-requires
 ty_seq-ty_seq_there-requires t c = omega (arith, c.decreases)
 
 pub ty_seq-returns-in-Past : goal.ty_seq-returns-in-Past
-unfolding Ty.ty-seq
+unfolding Ty.ty_seq
 ty_seq-returns-in-Past t c = record { is = λ kinds. maybe-past c.absent-gone.ensures c.in-Past.is }
 
 pub ty_seq-returns-in-There : goal.ty_seq-returns-in-There
-unfolding Ty.ty-seq
+unfolding Ty.ty_seq
 ty_seq-returns-in-There t c = record { is = λ kinds. by-same (maybe-there c.absent-gone.ensures c.in-There.is) (plain c.ty_seq_there.ensures) }
 
 pub ty_seq_there-returns-in_default : goal.ty_seq_there-returns-in_default
-unfolding Ty.ty-seq-there
+unfolding Ty.ty_seq_there
 ty_seq_there-returns-in_default t c = record { is = λ kinds. group-not c.group-r1.ensures c.told.ensures c.in_default.is }
 
 pub ty_seq_there-ty_args-r2-requires : goal.ty_seq_there-ty_args-r2-requires
@@ -326,12 +326,12 @@ pub ty_seq_there-shape_of-out-in_default-told : goal.ty_seq_there-shape_of-out-i
 ty_seq_there-shape_of-out-in_default-told t c = c.ty_args-r2.auto.out ∙ c.word.auto.out
 
 pub ty_seq_there-returns-in_default-told : goal.ty_seq_there-returns-in_default-told
-unfolding Ty.ty-seq-there
+unfolding Ty.ty_seq_there
 ty_seq_there-returns-in_default-told t c = record { is = λ kinds. by-same (group-is c.group-r1.ensures c.told.ensures c.in-Done.is) (then-sure c.word.ensures (then-stop (plain c.ty_args-r2.ensures) c.told-2.ensures c.in_default-told.is)) }
 
 pub ty_seq_there-shape_of-out : goal.ty_seq_there-shape_of-out
 ty_seq_there-shape_of-out t c = c.word-2.auto.out ∙ c.ty_args-r2.auto.out ∙ c.word.auto.out
 
 pub ty_seq_there-returns : goal.ty_seq_there-returns
-unfolding Ty.ty-seq-there
+unfolding Ty.ty_seq_there
 ty_seq_there-returns t c = record { is = λ kinds. by-same (group-is c.group-r1.ensures c.told.ensures c.in-Done.is) (then-sure c.word.ensures (then-done (plain c.ty_args-r2.ensures) c.told-2.ensures c.in-Done-told.is (last-sure c.word-2.ensures))) }

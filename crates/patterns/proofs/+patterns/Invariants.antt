@@ -4,7 +4,7 @@ use Prim.Native.Nat.{◌+◌, ◌*◌, ◌-◌}
 use Rattle.layout.specs.Walk.{walks}
 use Rattle.layout.proofs.Steps.{PlainTurn, from}
 use Rattle.layout.specs.Layout as Layout
-use Rattle.patterns.proofs.+as_pat_as_tail_as_tail_there_con_arg_con_arg_there_con_pat_get_pat_infix_pat_lab_and_pat_lab_pat_list_pat_or_pat_paren_pat_pat_args_record_pat_row_row_inner_rows_tuple_pat_typed_pat_vector_pat.Given as goal
+use Rattle.patterns.proofs.+patterns.Given as goal
 
 abbrev pub decreases-as_pat : goal.decreases-as_pat
 decreases-as_pat l = 16 * l.cfg.nesting + 1
@@ -71,14 +71,14 @@ decreases-vector_pat l = 16 * l.cfg.nesting + 2
 
 abbrev pub invariant-pat_args-loop-i : goal.invariant-pat_args-loop-i
 invariant-pat_args-loop-i l =
-    PlainTurn l.run l.text l.rec l.spans (from (Layout.word ", ") (Layout.group (walks l.cfg.nesting).get-pat)) l.n l.initial.s l.initial.mem l.initial.out l.i l.s l.mem l.out
+    PlainTurn l.run l.text l.rec l.spans (from (Layout.word ", ") (Layout.group (walks l.cfg.nesting).get_pat)) l.n l.initial.s l.initial.mem l.initial.out l.i l.s l.mem l.out
 
 abbrev pub decreases-pat_args-loop-i : goal.decreases-pat_args-loop-i
 decreases-pat_args-loop-i l = l.n - l.i
 
 abbrev pub invariant-rows-loop-i : goal.invariant-rows-loop-i
 invariant-rows-loop-i l =
-    PlainTurn l.run l.text l.rec l.spans (from (Layout.word ", ") (Pat.pat-row (walks l.cfg.nesting))) l.n l.initial.s l.initial.mem l.initial.out l.i l.s l.mem l.out
+    PlainTurn l.run l.text l.rec l.spans (from (Layout.word ", ") (Pat.pat_row (walks l.cfg.nesting))) l.n l.initial.s l.initial.mem l.initial.out l.i l.s l.mem l.out
 
 abbrev pub decreases-rows-loop-i : goal.decreases-rows-loop-i
 decreases-rows-loop-i l = l.n - l.i
