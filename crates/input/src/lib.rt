@@ -1,32 +1,25 @@
 // Reads a reader's bytes into a buffer.
 #![tactic(auto)]
 
-ghost use Rattle.std.specs.Prelude.{◌≤◌, length, take, IfOk};
-ghost use Rattle.std.specs.Io.KnownBytes.{Consumes};
+ghost use Rattle.std.specs.Prelude.{◌≤◌, ◌<◌, length, take, IfOk};
+ghost use Rattle.std.specs.Io.KnownBytes.{Consumes, IsAtEnd};
 
 use std::io;
-use std::io::{ErrorKind, Read};
+use std::io::Read;
 
-// Reads on until the buffer is full or the input ends: how many bytes it read, which stand at the buffer's start. The turns are
-// numbered only so that a reader which gives `Interrupted` for ever ends the loop too.
+// Reads on until the buffer is full or the input ends: how many bytes it read, which stand at the buffer's start.
 pub fn read_full<R: Read>(input: &mut R, buffer: &mut [u8]) -> io::Result<usize>
     ensures bound { IfOk result (λ n. n ≤ length buffer.new) }
     ensures bytes { IfOk result (λ n. Consumes (R.remaining input.old) (R.remaining input.new) (take n buffer.new)) }
+    ensures end { IfOk result (λ n. n < length buffer.new → IsAtEnd (R.remaining input.new)) }
 {
     let mut n = 0;
-    for _ in 0..u64::MAX {
-        if n == buffer.len() {
-            break;
+    while n < buffer.len() {
+        let k = input.read(&mut buffer[n..])?;
+        if k == 0 {
+            return Ok(n);
         }
-        match input.read(&mut buffer[n..]) {
-            Ok(0) => break,
-            Ok(k) => n += k,
-            Err(e) => {
-                if e.kind() != ErrorKind::Interrupted {
-                    return Err(e);
-                }
-            }
-        }
+        n += k;
     }
     Ok(n)
 }
