@@ -74,16 +74,19 @@ class Refusals(unittest.TestCase):
         count = 0
         for path in glob.glob(os.path.join(ROOT, "crates/*/specs/**/*.antt"), recursive=True):
             where = os.path.relpath(path, ROOT)
-            given = r"^ *(?:number_of|verdict_of|doc_said) \(?(?:Case\.)?(\w+)[^=]*= (?:plain |doc \(looked )?(\d+)\b"
-            for case, number in re.findall(given, read(where), re.M):
+            text = read(where)
+            # The error of a definition whose `Err` has one case, which its type names.
+            errors = dict(re.findall(r"^unfoldable pub (\w+) : Result (?:\([^)]*\)|\S+) (\w+) →", text, re.M))
+            given = r"^ *(number_of|verdict_of|doc_said) \(?(?:Err \(?)?(?:Case\.)?(\w+)[^=]*= (?:plain |doc \(looked )?(\d+)\b"
+            for definition, case, number in re.findall(given, text, re.M):
                 count += 1
-                self.holds(where, case, int(number))
+                self.holds(where, errors[definition] if case == "e" else case, int(number))
         self.assertGreater(count, 30)
 
     def test_numbers_in_the_code(self):
         count = 0
         for where in ("crates/diverplume/src/lib.rt", "crates/testing/src/lib.rt", "crates/formatter/src/numbers.rt"):
-            cases = re.findall(r"^ +(?:Answer|Lookup|Reading|Refusal|Scanned|Checked)::(\w+)(?:\([^)]*\))? => \w+\((?:\w+, )?(\d+),", read(where), re.M)
+            cases = re.findall(r"^ +(?:Answer|Lookup|Reading|Refusal|ScanError|Checked)::(\w+)(?:\([^)]*\))? => \w+\((?:\w+, )?(\d+),", read(where), re.M)
             count += len(cases)
             for case, number in cases:
                 self.holds(where, case, int(number))

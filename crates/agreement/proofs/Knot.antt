@@ -3,7 +3,7 @@ use native.Mathlib.Omega.{arith}
 use mathlib.Core.Path.{◌≡◌, refl, ap, ◌∙◌, subst}
 use mathlib.Core.List.{List}
 use mathlib.Core.Bool.{true}
-use mathlib.Core.Option.{Option, none, some}
+use Rattle.std.specs.Prelude.{Option, None, Some}
 use Prim.Native.Nat.{ℕ, zero, suc, ◌≤◌}
 use lib.ListN.{length, get_or}
 use lib.Dec.{eqb}
@@ -76,17 +76,17 @@ heads-behind p n low c func arg es e = go (form_at p.rec Exp func) refl
         subst (λ (o : Outcome). Agree p (ends p n true (Fields.form Exp) func) o) e (x.step.agrees func)
 
     go : (o : Option ℕ) → form_at p.rec Exp func ≡ o
-        → ◌≡◌ {A = Heads} (elim o [ some k ↦ heads_from p.rec k func arg | none ↦ missing func ])
+        → ◌≡◌ {A = Heads} (elim o [ Some k ↦ heads_from p.rec k func arg | None ↦ missing func ])
         (elim o [
-          | some k ↦ elim (field_end p.rec (count p) (Fields.form Exp) func)
+          | Some k ↦ elim (field_end p.rec (count p) (Fields.form Exp) func)
               [ ok next ↦ heads_from p.rec k func next | malformed place ↦ missing place | too_deep place ↦ missing place ]
-          | none ↦ missing func
+          | None ↦ missing func
         ])
-    go (some k) f =
+    go (Some k) f =
         let w = form-fits p.rec func Exp k f in
         let q : field_end p.rec (count p) (Fields.form Exp) func ≡ ok arg = (ends_more p.rec (count p) n 200 low true (Fields.form Exp) func (omega (arith, w)) arg passes).0 in
         rw q refl
-    go none f = refl
+    go None f = refl
 
 -- ---- the whole record
 module _ (p : Page) (tree : ℕ) where

@@ -3,7 +3,7 @@ use native.Mathlib.Omega.{arith}
 use mathlib.Core.Path.{◌≡◌, refl, sym, ap, ◌∙◌, subst}
 use mathlib.Core.List.{List, [], ◌∷◌}
 use mathlib.Core.Bool.{Bool, true, false, ◌&&◌}
-use mathlib.Core.Option.{Option, none, some}
+use Rattle.std.specs.Prelude.{Option, None, Some}
 use mathlib.Core.Logic.{◌⊎◌, inl, inr}
 use Prim.Native.Nat.{ℕ, zero, suc, ◌+◌, ◌≤◌, ◌<◌}
 use Prim.Native.String.{String}
@@ -112,79 +112,79 @@ module _ (p : Page) where
   there-is may at c e = or_is p.rec count may at c false (and_second may (absent_at p.rec at) e)
 
   -- Nothing is read where it is absent.
-  absent_none : (at : ℕ) (o : Option ℕ) → ((n : ℕ) → o ≡ some n → absent_at p.rec at ≡ false) → absent_at p.rec at ≡ true → o ≡ none
-  absent_none at none there e = refl
-  absent_none at (some n) there e = let f = there n refl in never (cc)
+  absent_none : (at : ℕ) (o : Option ℕ) → ((n : ℕ) → o ≡ Some n → absent_at p.rec at ≡ false) → absent_at p.rec at ≡ true → o ≡ None
+  absent_none at None there e = refl
+  absent_none at (Some n) there e = let f = there n refl in never (cc)
 
   -- ---- a number that is read at an offset, then what is behind it
   module _ (may : Bool) (at : ℕ) (c : ℕ → Checked) (l : ℕ → Outcome) where
     abbrev read_or : Option ℕ → Checked
-    read_or o = or_absent p.rec count may at (elim o as (λ o. Checked) [ none ↦ malformed at | some n ↦ c n ])
+    read_or o = or_absent p.rec count may at (elim o as (λ o. Checked) [ None ↦ malformed at | Some n ↦ c n ])
 
-    read-agrees : (o : Option ℕ) → ((n : ℕ) → o ≡ some n → absent_at p.rec at ≡ false) → ((n : ℕ) → o ≡ some n → Agree p (c n) (l n))
+    read-agrees : (o : Option ℕ) → ((n : ℕ) → o ≡ Some n → absent_at p.rec at ≡ false) → ((n : ℕ) → o ≡ Some n → Agree p (c n) (l n))
         → Agree p (read_or o) (or_stop o at l)
     unfolding or_stop
-    read-agrees none there f = λ end e. inl (gone may at end e)
-    read-agrees (some n) there f = subst (λ (x : Checked). Agree p x (l n)) (sym (there-is may at (c n) (there n refl))) (f n refl)
+    read-agrees None there f = λ end e. inl (gone may at end e)
+    read-agrees (Some n) there f = subst (λ (x : Checked). Agree p x (l n)) (sym (there-is may at (c n) (there n refl))) (f n refl)
 
     -- `o'` is what is read without the bound.
-    read-free : (l' : ℕ → Outcome) (o o' : Option ℕ) → ((n : ℕ) → o ≡ some n → o' ≡ some n) → ((n : ℕ) → o' ≡ some n → absent_at p.rec at ≡ false)
-        → ((n end : ℕ) → o ≡ some n → c n ≡ ok end → l' n ≡ l n) → (end : ℕ) → read_or o ≡ ok end → or_stop o' at l' ≡ or_stop o at l
+    read-free : (l' : ℕ → Outcome) (o o' : Option ℕ) → ((n : ℕ) → o ≡ Some n → o' ≡ Some n) → ((n : ℕ) → o' ≡ Some n → absent_at p.rec at ≡ false)
+        → ((n end : ℕ) → o ≡ Some n → c n ≡ ok end → l' n ≡ l n) → (end : ℕ) → read_or o ≡ ok end → or_stop o' at l' ≡ or_stop o at l
     unfolding or_stop
-    read-free l' none o' same there f end e = ap (λ (o : Option ℕ). or_stop o at l') (absent_none at o' there (gone may at end e))
-    read-free l' (some n) o' same there f end e =
+    read-free l' None o' same there f end e = ap (λ (o : Option ℕ). or_stop o at l') (absent_none at o' there (gone may at end e))
+    read-free l' (Some n) o' same there f end e =
         let s = same n refl in
         ap (λ (o : Option ℕ). or_stop o at l') s ∙ f n end refl (sym (there-is may at (c n) (there n s)) ∙ e)
 
   -- ---- a token, then what is behind it
   module _ (may : Bool) (at : ℕ) (k : ℕ → Checked) where
     abbrev token_then : Option ℕ → Checked
-    token_then o = and_then (or_absent p.rec count may at (elim o as (λ o. Checked) [ none ↦ malformed at | some n ↦ ok (at + 3) ])) k
+    token_then o = and_then (or_absent p.rec count may at (elim o as (λ o. Checked) [ None ↦ malformed at | Some n ↦ ok (at + 3) ])) k
 
-    token-gone : (end : ℕ) → token_then none ≡ ok end → absent_at p.rec at ≡ true
+    token-gone : (end : ℕ) → token_then None ≡ ok end → absent_at p.rec at ≡ true
     token-gone end e = let q = then_parts (or_absent p.rec count may at (malformed at)) k end e in gone may at q.0 q.1
 
-    token-on : (n : ℕ) → token_fits p.rec count at ≡ some n → token_then (some n) ≡ k (at + 3)
+    token-on : (n : ℕ) → token_fits p.rec count at ≡ Some n → token_then (Some n) ≡ k (at + 3)
     unfolding and_then
     token-on n e = ap (λ (c : Checked). and_then c k) (there-is may at (ok (at + 3)) (token-there p.rec at n (token-parts p.rec count at n e).0))
 
-    no-token : absent_at p.rec at ≡ true → token_at p.rec at ≡ none
+    no-token : absent_at p.rec at ≡ true → token_at p.rec at ≡ None
     no-token e = absent_none at (token_at p.rec at) (token-there p.rec at) e
 
     token-agrees : (l : ℕ → Outcome) (o : Option ℕ) → token_fits p.rec count at ≡ o → ((n : ℕ) → Agree p (k (at + 3)) (l n)) → Agree p (token_then o) (or_stop o at l)
     unfolding or_stop
-    token-agrees l none e f = λ end g. inl (token-gone end g)
-    token-agrees l (some n) e f = subst (λ (c : Checked). Agree p c (l n)) (sym (token-on n e)) (f n)
+    token-agrees l None e f = λ end g. inl (token-gone end g)
+    token-agrees l (Some n) e f = subst (λ (c : Checked). Agree p c (l n)) (sym (token-on n e)) (f n)
 
     token-free : (l l' : ℕ → Outcome) (end : ℕ) (o : Option ℕ) → token_fits p.rec count at ≡ o → ((n : ℕ) → k (at + 3) ≡ ok end → l' n ≡ l n)
         → token_then o ≡ ok end → or_stop (token_at p.rec at) at l' ≡ or_stop o at l
     unfolding or_stop
-    token-free l l' end none e f g = ap (λ (o : Option ℕ). or_stop o at l') (no-token (token-gone end g))
-    token-free l l' end (some n) e f g =
+    token-free l l' end None e f g = ap (λ (o : Option ℕ). or_stop o at l') (no-token (token-gone end g))
+    token-free l l' end (Some n) e f g =
         ap (λ (o : Option ℕ). or_stop o at l') (token-parts p.rec count at n e).0 ∙ f n (sym (token-on n e) ∙ g)
 
   -- One that may be absent.
   module _ (at : ℕ) (k : ℕ → Checked) where
     abbrev given_of : (ℕ → Outcome) → Outcome → Option ℕ → Bool → Outcome
-    given_of l m o b = elim o as (λ o. Outcome) [ some n ↦ l n | none ↦ elim b as (λ b. Outcome) [ true ↦ m | false ↦ stopped (absent at) [] ] ]
+    given_of l m o b = elim o as (λ o. Outcome) [ Some n ↦ l n | None ↦ elim b as (λ b. Outcome) [ true ↦ m | false ↦ stopped (absent at) [] ] ]
 
-    absent-on : absent_at p.rec at ≡ true → token_then true at k none ≡ k (at + 1)
+    absent-on : absent_at p.rec at ≡ true → token_then true at k None ≡ k (at + 1)
     unfolding and_then
     absent-on e = ap (λ (c : Checked). and_then c k) (or_is p.rec count true at (malformed at) true e)
 
     optional-agrees : (l : ℕ → Outcome) (m : Outcome) (o : Option ℕ) → token_fits p.rec count at ≡ o → (b : Bool) → absent_at p.rec at ≡ b
         → ((n : ℕ) → Agree p (k (at + 3)) (l n)) → Agree p (k (at + 1)) m → Agree p (token_then true at k o) (given_of l m o b)
-    optional-agrees l m (some n) e b a f g = subst (λ (c : Checked). Agree p c (l n)) (sym (token-on true at k n e)) (f n)
-    optional-agrees l m none e true a f g = subst (λ (c : Checked). Agree p c m) (sym (absent-on a)) g
-    optional-agrees l m none e false a f g = λ end h. let q = token-gone true at k end h in never (cc)
+    optional-agrees l m (Some n) e b a f g = subst (λ (c : Checked). Agree p c (l n)) (sym (token-on true at k n e)) (f n)
+    optional-agrees l m None e true a f g = subst (λ (c : Checked). Agree p c m) (sym (absent-on a)) g
+    optional-agrees l m None e false a f g = λ end h. let q = token-gone true at k end h in never (cc)
 
     optional-free : (l l' : ℕ → Outcome) (m m' : Outcome) (end : ℕ) (o : Option ℕ) → token_fits p.rec count at ≡ o → (b : Bool) → absent_at p.rec at ≡ b
         → ((n : ℕ) → k (at + 3) ≡ ok end → l' n ≡ l n) → (k (at + 1) ≡ ok end → m' ≡ m) → token_then true at k o ≡ ok end
         → given_of l' m' (token_at p.rec at) b ≡ given_of l m o b
-    optional-free l l' m m' end (some n) e b a f g h =
+    optional-free l l' m m' end (Some n) e b a f g h =
         ap (λ (o : Option ℕ). given_of l' m' o b) (token-parts p.rec count at n e).0 ∙ f n (sym (token-on true at k n e) ∙ h)
-    optional-free l l' m m' end none e true a f g h = ap (λ (o : Option ℕ). given_of l' m' o true) (no-token true at k a) ∙ g (sym (absent-on a) ∙ h)
-    optional-free l l' m m' end none e false a f g h = let q = token-gone true at k end h in never (cc)
+    optional-free l l' m m' end None e true a f g h = ap (λ (o : Option ℕ). given_of l' m' o true) (no-token true at k a) ∙ g (sym (absent-on a) ∙ h)
+    optional-free l l' m m' end None e false a f g h = let q = token-gone true at k end h in never (cc)
 
   -- ---- a group
   module _ (may : Bool) (at : ℕ) (c : Checked) where
@@ -272,8 +272,8 @@ module _ {p : Page} where
   -- A comment and what is behind it.
   commented-silent : (o : Option ℕ) {f g : ℕ → Outcome} → Keeps p ok f g → Keeps p ok (commented o f) (commented o g)
   unfolding commented bind
-  commented-silent (some k) x = silent-then (events-silent (Comment k ∷ [])) x
-  commented-silent none x = events-silent []
+  commented-silent (Some k) x = silent-then (events-silent (Comment k ∷ [])) x
+  commented-silent None x = events-silent []
 
 -- A field that may be absent.
 abbrev may_be : Fields → Bool
@@ -404,15 +404,15 @@ module _ {p : Page} {d : ℕ} {may : Bool} where
   lists {f} {k} x = record { step = record { agrees = λ at. agrees at (list_at p.rec at); free = λ at end e. free at end (list_at p.rec at) e } }
     where
       check : ℕ → Option ℕ → Checked
-      check at o = elim o [ none ↦ malformed at | some n ↦ Check.items n (λ next. ends p d false f next) (at + 3) ]
+      check at o = elim o [ None ↦ malformed at | Some n ↦ Check.items n (λ next. ends p d false f next) (at + 3) ]
 
       agrees : (at : ℕ) (o : Option ℕ) → Agree p (check at o) (or_stop o at (λ n. outcome p (k n) (at + 3)))
-      agrees at none = λ end e. never (cc)
-      agrees at (some n) = (x n).step.agrees (at + 3)
+      agrees at None = λ end e. never (cc)
+      agrees at (Some n) = (x n).step.agrees (at + 3)
 
       free : (at end : ℕ) (o : Option ℕ) → check at o ≡ ok end → or_stop o at (λ n. Unbounded.outcome p (k n) (at + 3)) ≡ or_stop o at (λ n. outcome p (k n) (at + 3))
-      free at end none e = refl
-      free at end (some n) e = (x n).step.free (at + 3) end e
+      free at end None e = refl
+      free at end (Some n) e = (x n).step.free (at + 3) end e
 
   pub choices : {fs : List Fields} {k : ℕ → Layout} → ((n : ℕ) → Arm p d fs n (k n))
       → Agrees p d may (chosen fs) (choice k)
@@ -434,9 +434,9 @@ module _ {p : Page} {d : ℕ} {may : Bool} where
 bind-given : (p : Page) (at : ℕ) (k : ℕ → Checked) (l m : Outcome) (u : ℕ → Outcome) (o : Option ℕ) (b : Bool)
     → bind (given_of p at k (λ n. l) m o b) u ≡ given_of p at k (λ n. bind l u) (bind m u) o b
 unfolding bind
-bind-given p at k l m u (some n) b = refl
-bind-given p at k l m u none true = refl
-bind-given p at k l m u none false = refl
+bind-given p at k l m u (Some n) b = refl
+bind-given p at k l m u None true = refl
+bind-given p at k l m u None false = refl
 
 module _ {p : Page} {d : ℕ} where
   pub presents : {g : Fields} {v w : Layout} → Agrees p d true g v → Agrees p d true g w → Agrees p d true (Fields.token ▸ g) (present v w)
@@ -547,23 +547,23 @@ module _ {p : Page} {d n : ℕ} {fs : List Fields} {v w : ℕ → Layout} where
       item at k = arm_or p at k (x k) (ltb k (length fs))
 
       check : ℕ → Option ℕ → Checked
-      check at o = or_absent p.rec (count p) false at (elim o [ none ↦ malformed at | some k ↦ item at k ])
+      check at o = or_absent p.rec (count p) false at (elim o [ None ↦ malformed at | Some k ↦ item at k ])
 
-      there : (at k : ℕ) → choice_at p.rec at ≡ some k → check at (some k) ≡ item at k
+      there : (at k : ℕ) → choice_at p.rec at ≡ Some k → check at (Some k) ≡ item at k
       there at k e = there-is p false at (item at k) (choice-there p.rec at k e)
 
       agrees : (at : ℕ) (o : Option ℕ) → choice_at p.rec at ≡ o
           → Agree p (and_then (check at o) rest) (or_stop o at (λ k. bind (outcome p (v k) (at + 2)) (λ next. outcome p (w k) next)))
-      agrees at none e = λ end g. let q = then_parts (check at none) rest end g in inl (gone p false at q.0 q.1)
-      agrees at (some k) e =
+      agrees at None e = λ end g. let q = then_parts (check at None) rest end g in inl (gone p false at q.0 q.1)
+      agrees at (Some k) e =
           subst (λ (c : Checked). Agree p (and_then c rest) (bind (outcome p (v k) (at + 2)) (λ next. outcome p (w k) next))) (sym (there at k e))
           (then_agrees p (item at k) rest (outcome p (v k) (at + 2)) (λ next. outcome p (w k) next) (arm-agrees p at k (x k) (ltb k (length fs)) refl) (y k).step.agrees)
 
       free : (at end : ℕ) (o : Option ℕ) → choice_at p.rec at ≡ o → and_then (check at o) rest ≡ ok end
           → or_stop o at (λ k. bind (Unbounded.outcome p (v k) (at + 2)) (λ next. Unbounded.outcome p (w k) next))
           ≡ or_stop o at (λ k. bind (outcome p (v k) (at + 2)) (λ next. outcome p (w k) next))
-      free at end none e g = refl
-      free at end (some k) e g =
+      free at end None e g = refl
+      free at end (Some k) e g =
           then-free p (item at k) rest (outcome p (v k) (at + 2)) (Unbounded.outcome p (v k) (at + 2)) (λ next. outcome p (w k) next) (λ next. Unbounded.outcome p (w k) next)
           (arm-agrees p at k (x k) (ltb k (length fs)) refl) (λ end h. arm-free p at k (x k) end (ltb k (length fs)) refl h) (y k).step.free end
           (ap (λ (c : Checked). and_then c rest) (sym (there at k e)) ∙ g)
@@ -604,10 +604,10 @@ module _ {p : Page} {may : Bool} where
       inner : ℕ → ℕ → Checked
       inner at n = ends p d true (get_or (forms family) n Fields.none) (at + form_width family)
 
-      found : (at n : ℕ) → form_fits p.rec (count p) family at ≡ some n → form_at p.rec family at ≡ some n
+      found : (at n : ℕ) → form_fits p.rec (count p) family at ≡ Some n → form_at p.rec family at ≡ Some n
       found at n e = (fits-parts p.rec (count p) family at n e).0
 
-      arm : (at n : ℕ) → form_at p.rec family at ≡ some n → Agrees p d true (get_or (forms family) n Fields.none) (k n)
+      arm : (at n : ℕ) → form_at p.rec family at ≡ Some n → Agrees p d true (get_or (forms family) n Fields.none) (k n)
       arm at n e = (x n).agrees (form-number p.rec at family n e)
 
 -- ---- declarations
@@ -624,13 +624,13 @@ declared_free p line arm first at =
 
 module _ (p : Page) where
   -- Behind an import's command the walk stops.
-  import-stop : (at : ℕ) → form_at p.rec DecOne at ≡ some (dec_number EsImportDec) → (end : ℕ) (o : Outcome) → Agree p (ok (at + form_width DecOne)) o
+  import-stop : (at : ℕ) → form_at p.rec DecOne at ≡ Some (dec_number EsImportDec) → (end : ℕ) (o : Outcome) → Agree p (ok (at + form_width DecOne)) o
       → Agree p (ok end) (bind o (λ next. stopped (imported next) []))
   unfolding bind after
   import-stop at found end (done next es) m = λ end e. (at, cc, found)
   import-stop at found end (stopped why es) m = λ end e. m (at + form_width DecOne) refl
 
-  found-form : (at n : ℕ) → form_fits p.rec (count p) DecOne at ≡ some n → form_at p.rec DecOne at ≡ some n
+  found-form : (at n : ℕ) → form_fits p.rec (count p) DecOne at ≡ Some n → form_at p.rec DecOne at ≡ Some n
   found-form at n e = (fits-parts p.rec (count p) DecOne at n e).0
 
 module _ {p : Page} {d : ℕ} {line : Layout} {arm : ℕ → Layout} (l : Agrees p d true Fields.none line) (i : arm (dec_number EsImportDec) ≡ import)
@@ -644,7 +644,7 @@ module _ {p : Page} {d : ℕ} {line : Layout} {arm : ℕ → Layout} (l : Agrees
   unfolding and_then
   other-keeps first n h o = keeps_then (above first) (keeps (x n h o).step)
 
-  import-agrees : (at : ℕ) → form_at p.rec DecOne at ≡ some (dec_number EsImportDec)
+  import-agrees : (at : ℕ) → form_at p.rec DecOne at ≡ Some (dec_number EsImportDec)
       → Agree p (arm-check p d (dec_number EsImportDec) (at + form_width DecOne)) (declared p line (arm (dec_number EsImportDec)) (first_token p.rec at) (at + form_width DecOne))
   unfolding outcome fields forms dec_number
   import-agrees at found =
@@ -657,16 +657,16 @@ module _ {p : Page} {d : ℕ} {line : Layout} {arm : ℕ → Layout} (l : Agrees
   unfolding outcome Unbounded.outcome fields forms dec_number
   import-free first at end e = rw i (ap (λ (o : Outcome). bind o (λ next. stopped (imported next) [])) ((above first).free at end e))
 
-  number-agrees : (at n : ℕ) → form_at p.rec DecOne at ≡ some n → (b : Bool) → eqb n (dec_number EsImportDec) ≡ b
+  number-agrees : (at n : ℕ) → form_at p.rec DecOne at ≡ Some n → (b : Bool) → eqb n (dec_number EsImportDec) ≡ b
       → Agree p (arm-check p d n (at + form_width DecOne)) (declared p line (arm n) (first_token p.rec at) (at + form_width DecOne))
   number-agrees at n found true e =
       let z = eqb-true n (dec_number EsImportDec) e in
       subst (λ (n : ℕ). Agree p (arm-check p d n (at + form_width DecOne)) (declared p line (arm n) (first_token p.rec at) (at + form_width DecOne))) (sym z)
-      (import-agrees at (found ∙ ap some z))
+      (import-agrees at (found ∙ ap Some z))
   number-agrees at n found false e =
       (other-keeps (first_token p.rec at) n (form-number p.rec at DecOne n found) (eqb-false n (dec_number EsImportDec) e)).agrees (at + form_width DecOne)
 
-  number-free : (at n end : ℕ) → form_at p.rec DecOne at ≡ some n → arm-check p d n (at + form_width DecOne) ≡ ok end → (b : Bool) → eqb n (dec_number EsImportDec) ≡ b
+  number-free : (at n end : ℕ) → form_at p.rec DecOne at ≡ Some n → arm-check p d n (at + form_width DecOne) ≡ ok end → (b : Bool) → eqb n (dec_number EsImportDec) ≡ b
       → declared_free p line (arm n) (first_token p.rec at) (at + form_width DecOne) ≡ declared p line (arm n) (first_token p.rec at) (at + form_width DecOne)
   number-free at n end found f true e =
       let z = eqb-true n (dec_number EsImportDec) e in
@@ -739,11 +739,11 @@ module _ {p : Page} {d : ℕ} {w : Layout} (low : d ≤ 200) (x : Agrees p d tru
       go : (o : Option ℕ)
           → Agree p (check at)
           (elim o as (λ o. Outcome) [
-            | some n ↦ elim (check at) [ ok next ↦ done next es | malformed place ↦ stopped (absent place) es | too_deep place ↦ stopped (absent place) es ]
-            | none ↦ stopped why es
+            | Some n ↦ elim (check at) [ ok next ↦ done next es | malformed place ↦ stopped (absent place) es | too_deep place ↦ stopped (absent place) es ]
+            | None ↦ stopped why es
           ])
-      go none = m
-      go (some n) = ended-agrees es (check at)
+      go None = m
+      go (Some n) = ended-agrees es (check at)
 
   -- The type's end is the same with 200 forms.
   onwards-free : (at end : ℕ) (o : Outcome) → check at ≡ ok end → Unbounded.onwards p at o ≡ onwards p d at o
@@ -755,10 +755,10 @@ module _ {p : Page} {d : ℕ} {w : Layout} (low : d ≤ 200) (x : Agrees p d tru
       end_of c = elim c [ ok next ↦ done next es | malformed place ↦ stopped (absent place) es | too_deep place ↦ stopped (absent place) es ]
 
       go : (o : Option ℕ) → form_at p.rec Ty at ≡ o
-          → ◌≡◌ {A = Outcome} (elim o [ some n ↦ end_of (field_end p.rec (count p) (Fields.form Ty) at) | none ↦ stopped why es ])
-          (elim o [ some n ↦ end_of (check at) | none ↦ stopped why es ])
-      go none h = refl
-      go (some n) h =
+          → ◌≡◌ {A = Outcome} (elim o [ Some n ↦ end_of (field_end p.rec (count p) (Fields.form Ty) at) | None ↦ stopped why es ])
+          (elim o [ Some n ↦ end_of (check at) | None ↦ stopped why es ])
+      go None h = refl
+      go (Some n) h =
           let l = form-fits p.rec at Ty n h in
           let q = (ends_more p.rec (count p) d 200 low true (Fields.form Ty) at (omega (arith, l)) end e).0 in
           ap end_of (q ∙ sym e)

@@ -4,7 +4,7 @@ use native.Mathlib.Omega.{arith}
 use mathlib.Core.Path.{◌≡◌, refl, sym, ap, ◌∙◌, subst}
 use mathlib.Core.List.{[]}
 use mathlib.Core.Bool.{Bool, true, false}
-use mathlib.Core.Option.{Option, none, some}
+use Rattle.std.specs.Prelude.{Option, None, Some}
 use mathlib.Core.Logic.{◌⊎◌, inl, inr}
 use Prim.Native.Nat.{ℕ, zero, suc, ◌+◌, ◌≤◌}
 use lib.ListN.{get_or}
@@ -28,7 +28,7 @@ use Rattle.agreement.proofs.Layouts.{ends, Agrees, count, gone, there-is}
 module _ (p : Page) where
   -- Where the check passes and no name is found, a field is absent or a list is empty at the place.
   abbrev Lacks : ℕ → Type 0
-  Lacks place = (absent_at p.rec place ≡ true) ⊎ (list_at p.rec place ≡ some 0)
+  Lacks place = (absent_at p.rec place ≡ true) ⊎ (list_at p.rec place ≡ Some 0)
 
   abbrev Finds : Checked → Name → Type 0
   Finds c (name k n) = Unit {0}
@@ -62,17 +62,17 @@ module _ (p : Page) where
     token_end at = ends p d true Fields.token at
 
     -- A field that passes and holds no token is absent.
-    none-absent : (at end : ℕ) → token_at p.rec at ≡ none → token_end at ≡ ok end → absent_at p.rec at ≡ true
+    none-absent : (at end : ℕ) → token_at p.rec at ≡ None → token_end at ≡ ok end → absent_at p.rec at ≡ true
     unfolding fields token_fits
     none-absent at end t e =
-        let f : token_fits p.rec (count p) at ≡ none = rw (t, token_fits) refl in
+        let f : token_fits p.rec (count p) at ≡ None = rw (t, token_fits) refl in
         gone p true at end (rw (f, fields) at e)
 
     -- One that holds a token ends behind it.
-    some_end : (at k end : ℕ) → token_at p.rec at ≡ some k → token_end at ≡ ok end → token_end at ≡ ok (at + 3)
+    some_end : (at k end : ℕ) → token_at p.rec at ≡ Some k → token_end at ≡ ok end → token_end at ≡ ok (at + 3)
     unfolding fields
     some_end at k end t e =
-        let s = there-is p true at (elim (token_fits p.rec (count p) at) as (λ o. Checked) [ none ↦ malformed at | some n ↦ ok (at + 3) ]) (token-there p.rec at k t) in
+        let s = there-is p true at (elim (token_fits p.rec (count p) at) as (λ o. Checked) [ None ↦ malformed at | Some n ↦ ok (at + 3) ]) (token-there p.rec at k t) in
         let q = some_parts (token_fits p.rec (count p) at) (λ n. ok (at + 3)) at end (sym s ∙ e) in
         let z : at + 3 ≡ end = cc in
         e ∙ ap ok (sym z)
@@ -81,23 +81,23 @@ module _ (p : Page) where
     unfolding fields
     absent-end at a = or_is p.rec (count p) true at _ true a
 
-    name-finds : (at n : ℕ) (o : Option ℕ) → token_at p.rec at ≡ o → Finds (token_end at) (elim o as (λ o. Name) [ some k ↦ name k n | none ↦ no_name at ])
-    name-finds at n (some k) t = tt
-    name-finds at n none t = λ end e. inl (none-absent at end t e)
+    name-finds : (at n : ℕ) (o : Option ℕ) → token_at p.rec at ≡ o → Finds (token_end at) (elim o as (λ o. Name) [ Some k ↦ name k n | None ↦ no_name at ])
+    name-finds at n (Some k) t = tt
+    name-finds at n None t = λ end e. inl (none-absent at end t e)
 
     dot-finds : (at n : ℕ) → Finds (ends p d false (Fields.group Fields.token) at) (dot_name p.rec n at)
     unfolding fields dot_name
     dot-finds at n =
-        group-finds false at (token_end (at + 1)) (elim (token_at p.rec (at + 1)) [ some k ↦ name k n | none ↦ no_name (at + 1) ])
+        group-finds false at (token_end (at + 1)) (elim (token_at p.rec (at + 1)) [ Some k ↦ name k n | None ↦ no_name (at + 1) ])
         (group_at p.rec at) refl (name-finds (at + 1) n (token_at p.rec (at + 1)) refl)
 
     list-finds : (at : ℕ) (o : Option ℕ) → list_at p.rec at ≡ o
-        → Finds (elim o as (λ o. Checked) [ none ↦ malformed at | some n ↦ Check.items n (λ next. ends p d false (Fields.group Fields.token) next) (at + 3) ])
-        (elim o as (λ o. Name) [ some n ↦ elim (eqb n 0) [ true ↦ no_name at | false ↦ dot_name p.rec n (at + 3) ] | none ↦ no_name at ])
+        → Finds (elim o as (λ o. Checked) [ None ↦ malformed at | Some n ↦ Check.items n (λ next. ends p d false (Fields.group Fields.token) next) (at + 3) ])
+        (elim o as (λ o. Name) [ Some n ↦ elim (eqb n 0) [ true ↦ no_name at | false ↦ dot_name p.rec n (at + 3) ] | None ↦ no_name at ])
     unfolding Check.items
-    list-finds at none e = λ end g. never (cc)
-    list-finds at (some zero) e = λ end g. inr e
-    list-finds at (some (suc n)) e =
+    list-finds at None e = λ end g. never (cc)
+    list-finds at (Some zero) e = λ end g. inr e
+    list-finds at (Some (suc n)) e =
         rw (ne_eqb (suc n) 0 (λ z. omega (arith, z)))
         (then-finds (ends p d false (Fields.group Fields.token) (at + 3)) (λ next. Check.items n (λ next. ends p d false (Fields.group Fields.token) next) next)
         (dot_name p.rec (suc n) (at + 3)) (dot-finds (at + 3) (suc n)))
@@ -115,12 +115,12 @@ module _ (p : Page) where
 
     op-finds : (at : ℕ) (o : Option ℕ) → token_at p.rec at ≡ o → (b : Bool) → absent_at p.rec at ≡ b
         → Finds (and_then (token_end at) (λ next. ends p d true Path next))
-        (elim o as (λ o. Name) [ some k ↦ path_name p.rec (at + 3) | none ↦ elim b as (λ b. Name) [ true ↦ path_name p.rec (at + 1) | false ↦ no_name at ] ])
-    op-finds at (some k) t b a =
+        (elim o as (λ o. Name) [ Some k ↦ path_name p.rec (at + 3) | None ↦ elim b as (λ b. Name) [ true ↦ path_name p.rec (at + 1) | false ↦ no_name at ] ])
+    op-finds at (Some k) t b a =
         passing (and_then (token_end at) (λ next. ends p d true Path next)) (path_name p.rec (at + 3))
         (λ end e. let q = then_parts (token_end at) (λ next. ends p d true Path next) end e in behind-finds at (at + 3) (some_end at k q.0 t q.1))
-    op-finds at none t true a = behind-finds at (at + 1) (absent-end at a)
-    op-finds at none t false a = λ end e. let q = then_parts (token_end at) (λ next. ends p d true Path next) end e in inl (none-absent at q.0 t q.1)
+    op-finds at None t true a = behind-finds at (at + 1) (absent-end at a)
+    op-finds at None t false a = λ end e. let q = then_parts (token_end at) (λ next. ends p d true Path next) end e in inl (none-absent at q.0 t q.1)
 
     named : (at : ℕ) → Finds (ends p d true (Fields.token ▸ Path) at) (op_path_name p.rec at)
     unfolding fields op_path_name
@@ -136,7 +136,7 @@ module _ (p : Page) where
   bad-sees c (seen h) b = tt
   bad-sees c (unseen place) b = λ end e. absurd (b end e)
 
-  name-sees : (c : Checked) (at : ℕ) → form_at p.rec Exp at ≡ some (exp_number PathExp) → (n : Name) → op_path_name p.rec (at + 1) ≡ n → Finds c n
+  name-sees : (c : Checked) (at : ℕ) → form_at p.rec Exp at ≡ Some (exp_number PathExp) → (n : Name) → op_path_name p.rec (at + 1) ≡ n → Finds c n
       → Sees c (elim n as (λ n. Seen) [ name t m ↦ seen (path_exp t m) | no_name place ↦ unseen place ])
   name-sees c at found (name t m) e f = tt
   name-sees c at found (no_name place) e f = λ end g. go (f end g)
@@ -146,7 +146,7 @@ module _ (p : Page) where
       go (inr h) = inr (at, found, e, h)
 
   -- The fields of an expression by its number.
-  head-sees : (d n at : ℕ) → form_at p.rec Exp at ≡ some n → (b : Bool) → eqb n (exp_number PathExp) ≡ b
+  head-sees : (d n at : ℕ) → form_at p.rec Exp at ≡ Some n → (b : Bool) → eqb n (exp_number PathExp) ≡ b
       → Sees (ends p d true (get_or (forms Exp) n Fields.none) (at + 1))
       (elim b as (λ b. Seen) [
         | true ↦ elim (op_path_name p.rec (at + 1)) [ name t m ↦ seen (path_exp t m) | no_name place ↦ unseen place ]
@@ -157,28 +157,28 @@ module _ (p : Page) where
   head-sees d n at found true e =
       let z : n ≡ exp_number PathExp = eqb-true n (exp_number PathExp) e in
       subst (λ (n : ℕ). Sees (ends p d true (get_or (forms Exp) n Fields.none) (at + 1)) (elim (op_path_name p.rec (at + 1)) as (λ n. Seen) [ name t m ↦ seen (path_exp t m) | no_name place ↦ unseen place ]))
-      (sym z) (name-sees (ends p d true (Fields.token ▸ Path) (at + 1)) at (found ∙ ap some z) (op_path_name p.rec (at + 1)) refl (named d (at + 1)))
+      (sym z) (name-sees (ends p d true (Fields.token ▸ Path) (at + 1)) at (found ∙ ap Some z) (op_path_name p.rec (at + 1)) refl (named d (at + 1)))
 
-  form-sees : (d n at : ℕ) → form_at p.rec Exp at ≡ some n → Sees (form_check p.rec (count p) d Exp at) (head_of p.rec n (at + 1))
+  form-sees : (d n at : ℕ) → form_at p.rec Exp at ≡ Some n → Sees (form_check p.rec (count p) d Exp at) (head_of p.rec n (at + 1))
   unfolding form_check head_of form_width operand_fits
   form-sees zero n at e = bad-sees (form_check p.rec (count p) zero Exp at) (head_of p.rec n (at + 1)) (zero-never p.rec (count p) Exp at)
   form-sees (suc d) n at e =
-      let f : form_fits p.rec (count p) Exp at ≡ some n = fits-yes p.rec (count p) Exp at refl ∙ e in
+      let f : form_fits p.rec (count p) Exp at ≡ Some n = fits-yes p.rec (count p) Exp at refl ∙ e in
       rw (f, form_check) (head-sees d n at e (eqb n (exp_number PathExp)) refl)
 
-  there-sees : (d n at : ℕ) → form_at p.rec Exp at ≡ some n → Sees (ends p d true (Fields.form Exp) at) (head_of p.rec n (at + 1))
+  there-sees : (d n at : ℕ) → form_at p.rec Exp at ≡ Some n → Sees (ends p d true (Fields.form Exp) at) (head_of p.rec n (at + 1))
   unfolding fields
   there-sees d n at e =
       subst (λ (c : Checked). Sees c (head_of p.rec n (at + 1))) (sym (there-is p true at (form_check p.rec (count p) d Exp at) (form-there p.rec at Exp n e)))
       (form-sees d n at e)
 
   -- No expression stands there.
-  none-check : (d at : ℕ) → form_at p.rec Exp at ≡ none → form_check p.rec (count p) d Exp at ≡ malformed at
+  none-check : (d at : ℕ) → form_at p.rec Exp at ≡ None → form_check p.rec (count p) d Exp at ≡ malformed at
   unfolding form_check operand_fits
-  none-check zero at e = let f : form_fits p.rec (count p) Exp at ≡ none = fits-yes p.rec (count p) Exp at refl ∙ e in rw (f, form_check) refl
-  none-check (suc d) at e = let f : form_fits p.rec (count p) Exp at ≡ none = fits-yes p.rec (count p) Exp at refl ∙ e in rw (f, form_check) refl
+  none-check zero at e = let f : form_fits p.rec (count p) Exp at ≡ None = fits-yes p.rec (count p) Exp at refl ∙ e in rw (f, form_check) refl
+  none-check (suc d) at e = let f : form_fits p.rec (count p) Exp at ≡ None = fits-yes p.rec (count p) Exp at refl ∙ e in rw (f, form_check) refl
 
-  none-agrees : (d : ℕ) (may : Bool) (at : ℕ) → form_at p.rec Exp at ≡ none → Agree p (ends p d may (Fields.form Exp) at) (stopped (absent at) [])
+  none-agrees : (d : ℕ) (may : Bool) (at : ℕ) → form_at p.rec Exp at ≡ None → Agree p (ends p d may (Fields.form Exp) at) (stopped (absent at) [])
   unfolding fields
   none-agrees d may at e = λ end g. inl (gone p may at end (ap (λ (c : Checked). or_absent p.rec (count p) may at c) (sym (none-check d at e)) ∙ g))
 
@@ -191,10 +191,10 @@ module _ (p : Page) where
 
   from-sees : (d n func arg : ℕ) → Sees (ok arg) (head_of p.rec n (func + 1)) → (o : Option ℕ) → form_at p.rec Exp arg ≡ o
       → SeesBoth (ends p d true (Fields.form Exp) arg)
-      (elim o as (λ o. Heads) [ some m ↦ both_seen (head_of p.rec n (func + 1)) (head_of p.rec m (arg + 1)) | none ↦ missing arg ])
-  from-sees d n func arg x (some m) e =
+      (elim o as (λ o. Heads) [ Some m ↦ both_seen (head_of p.rec n (func + 1)) (head_of p.rec m (arg + 1)) | None ↦ missing arg ])
+  from-sees d n func arg x (Some m) e =
       both-sees (ends p d true (Fields.form Exp) arg) arg (head_of p.rec n (func + 1)) (head_of p.rec m (arg + 1)) x (there-sees d m arg e)
-  from-sees d n func arg x none e = none-agrees d true arg e
+  from-sees d n func arg x None e = none-agrees d true arg e
 
   bad-both : (c : Checked) (h : Heads) → ((end : ℕ) → c ≡ ok end → ⊥) → SeesBoth c h
   bad-both c (both f a) b = tt
@@ -208,7 +208,7 @@ module _ (p : Page) where
     next-exp at = ends p d true (Fields.form Exp) at
 
     -- The first one's check, and that of the whole field where more forms may stand inside.
-    behind-sees : (n func : ℕ) (c e : Checked) → next-exp func ≡ c → field_end p.rec (count p) (Fields.form Exp) func ≡ e → form_at p.rec Exp func ≡ some n
+    behind-sees : (n func : ℕ) (c e : Checked) → next-exp func ≡ c → field_end p.rec (count p) (Fields.form Exp) func ≡ e → form_at p.rec Exp func ≡ Some n
         → SeesBoth (and_then c (λ next. next-exp next)) (headed n func e)
     unfolding and_then field_end heads_from
     behind-sees n func (ok arg) e g h f =
@@ -221,9 +221,9 @@ module _ (p : Page) where
 
     first-sees : (func : ℕ) (o : Option ℕ) → form_at p.rec Exp func ≡ o
         → SeesBoth (and_then (next-exp func) (λ next. next-exp next))
-        (elim o as (λ o. Heads) [ some n ↦ headed n func (field_end p.rec (count p) (Fields.form Exp) func) | none ↦ missing func ])
-    first-sees func (some n) e = behind-sees n func (next-exp func) (field_end p.rec (count p) (Fields.form Exp) func) refl refl e
-    first-sees func none e = λ end g. let q = then_parts (next-exp func) (λ next. next-exp next) end g in none-agrees d true func e q.0 q.1
+        (elim o as (λ o. Heads) [ Some n ↦ headed n func (field_end p.rec (count p) (Fields.form Exp) func) | None ↦ missing func ])
+    first-sees func (Some n) e = behind-sees n func (next-exp func) (field_end p.rec (count p) (Fields.form Exp) func) refl refl e
+    first-sees func None e = λ end g. let q = then_parts (next-exp func) (λ next. next-exp next) end g in none-agrees d true func e q.0 q.1
 
     sees-heads : (at : ℕ) → SeesBoth (ends p d true (Fields.form Exp ▸ Fields.form Exp) at) (heads_at p.rec (count p) at)
     unfolding fields heads_at
@@ -277,13 +277,13 @@ module _ {p : Page} {d : ℕ} {may : Bool} {v w : Layout} (x : Agrees p d may (F
 
       agrees : (at : ℕ) (o : Option ℕ) → form_at p.rec Exp at ≡ o
           → Agree p (ends p d may (Fields.form Exp) at) (or_stop o at (λ n. answer at))
-      agrees at (some n) e = either-agrees x y at (sees p l at)
-      agrees at none e = none-agrees p d may at e
+      agrees at (Some n) e = either-agrees x y at (sees p l at)
+      agrees at None e = none-agrees p d may at e
 
       free : (at end : ℕ) → ends p d may (Fields.form Exp) at ≡ ok end → (o : Option ℕ)
           → or_stop o at (λ n. elim (sees p l at) [ true ↦ Unbounded.outcome p v at | false ↦ Unbounded.outcome p w at ]) ≡ or_stop o at (λ n. answer at)
-      free at end e (some n) = either-free x y at end e (sees p l at)
-      free at end e none = refl
+      free at end e (Some n) = either-free x y at end e (sees p l at)
+      free at end e None = refl
 
 -- About the first name of the path at the cursor, which is walked next.
 module _ {p : Page} {d : ℕ} {may : Bool} {u v w : Layout} (z : Agrees p d may Path u) (x : Agrees p d may Path (v ⨾ u)) (y : Agrees p d may Path (w ⨾ u)) where

@@ -1,7 +1,6 @@
 -- The meaning of a layout without the bounds that the check sets: a token and a declaration's first token may have any number, and in
 -- a dropped type 200 forms may stand inside one another wherever it stands. All else is as in Meaning.
-use Rattle.std.specs.Prelude.{ℕ, ◌+◌, [], ◌∷◌, true, false}
-use Rattle.std.proofs.Math.Option.{none, some}
+use Rattle.std.specs.Prelude.{ℕ, ◌+◌, [], ◌∷◌, true, false, None, Some}
 use Rattle.reader.specs.Fields.{DecOne, Exp, Ty}
 use Rattle.reader.specs.Fields as Fields
 use Rattle.reader.specs.Commands.{absent_at, token_at, list_at, group_at, choice_at, form_at, form_width, first_token}
@@ -22,17 +21,17 @@ module _ (p : Page) where
   onwards at (done next es) = done next es
   onwards at (stopped why es) =
       elim (form_at p.rec Ty at) [
-        | some n ↦ elim (field_end p.rec count (Fields.form Ty) at)
+        | Some n ↦ elim (field_end p.rec count (Fields.form Ty) at)
             [ ok next ↦ done next es | malformed place ↦ stopped (absent place) es | too_deep place ↦ stopped (absent place) es ]
-        | none ↦ stopped why es
+        | None ↦ stopped why es
       ]
 
   unfoldable pub outcome : Layout → ℕ → Outcome
   outcome text at = or_stop (token_at p.rec at) at (λ k. done (at + 3) (Token k ∷ []))
   outcome (present v w) at =
       elim (token_at p.rec at) [
-        | some k ↦ outcome v (at + 3)
-        | none ↦ elim (absent_at p.rec at) [ true ↦ outcome w (at + 1) | false ↦ stopped (absent at) [] ]
+        | Some k ↦ outcome v (at + 3)
+        | None ↦ elim (absent_at p.rec at) [ true ↦ outcome w (at + 1) | false ↦ stopped (absent at) [] ]
       ]
   outcome (operator lhs pipe gap) at =
       or_stop (token_at p.rec at) at

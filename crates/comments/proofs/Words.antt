@@ -1,19 +1,26 @@
 -- Laws of the comment set: a word and its bits, the words and the set that they mean, counts and the first token. Assumes nothing.
 use Prim.Native.Nat.{ℕ, zero, suc, ◌+◌, ◌-◌, ◌*◌, ◌/◌, ◌%◌, ◌^◌, ◌≤◌, ◌<◌}
-use native.Mathlib.Nat.{pow-suc, div-one, add-zero, zero-add, suc-add, one-mul}
+use native.Mathlib.Nat.{pow-suc, div-one, add-zero, zero-add, suc-add}
 use native.Mathlib.Numerals.{one-add}
 use native.Mathlib.Omega.{arith}
 use mathlib.Core.Path.{◌≡◌, refl, sym, ap, ap₂, ◌∙◌}
 use mathlib.Core.Bool.{Bool, true, false, cond, not, ◌&&◌, and-true, and-false}
 use mathlib.Core.List.{List}
-use mathlib.Core.Option.{Option, none, some, none-ne-some, some-ne-none, some-injective}
+use Rattle.std.proofs.lemmas.Option.{none-some, none-some, same_Some}
+use Rattle.std.proofs.lemmas.Nat.{and_le_l}
+use Rattle.std.proofs.lemmas.Nat.Bits.{bit_at-lt, same_from_bits_below, bit_at_clear_same, bit_at_clear_other}
+use Rattle.std.specs.Int.{bit_at, bit_not}
+use Rattle.std.specs.Prelude.{Option, None, Some}
+use mir.Syntax.{w64}
+use lib.Bits.{bit_and}
 use mathlib.Core.Logic.{◌⊎◌, inl, inr, ⊎_elim}
 use lib.Dec.{eqb, ltb, eqb-suc-suc, lit<}
-use lib.Pow.{shr-shr, shl_exact, pow_mono}
+use lib.Pow.{shr-shr, pow_mono}
 use lib.Count.{ones, ones_in, ones_step, count_trailing_zeros}
-use lib.ListN.{length, get_or, set, length-set, get_or-eq_default}
-use lib.Seq.{ext_get_or, get_or-set_same, get_or-set_other}
-use borrow.Author.Count.{below_more}
+use lib.ListN.{length, get_or, set, take, length-set, get_or-eq_default}
+use Rattle.std.proofs.lemmas.List.Sums.{sum_by_more}
+use Rattle.std.specs.List.{sum_by}
+use lib.Seq.{take_all, ext_get_or, get_or-set_same, get_or-set_other}
 use borrow.Author.Tests.{eqb-true, eqb-false, eq-eqb, ne_eqb, ltb-true, ltb-false}
 use Rattle.comments.specs.Set.{bit, clear, bits, holds, words_from, words_of, room, without, count, first}
 
@@ -68,7 +75,7 @@ module _ (member : ℕ → Bool) where
     unfolding count
     count-out e = rw (count, e)
 
-    first-in : member k ≡ true → first member k (suc n) ≡ some k
+    first-in : member k ≡ true → first member k (suc n) ≡ Some k
     unfolding first
     first-in e = rw (first, e)
 
@@ -112,15 +119,15 @@ module _ (member : ℕ → Bool) where
       ⊎_elim (λ w. omega (arith, ih, ones_step x, count-in k n w.0, w.1)) (λ w. omega (arith, ih, ones_step x, count-out k n w.0, w.1)) (spells-cases n x k s)
 
   -- The trailing zeros stand before the first token.
-  pub first-trailing : (n x k : ℕ) → Spells member k n x → (x ≡ 0 → ⊥) → first member k n ≡ some (k + count_trailing_zeros n x)
+  pub first-trailing : (n x k : ℕ) → Spells member k n x → (x ≡ 0 → ⊥) → first member k n ≡ Some (k + count_trailing_zeros n x)
   first-trailing zero x k s h = absurd (h (spells-zero x k s))
   first-trailing (suc n) x k s h =
       let ih = first-trailing n (x / 2) (k + 1) (spells-tail n x k s) in
-      ⊎_elim (λ w. first-in k n w.0 ∙ ap some (omega (arith, trailing_odd n x w.1)))
-      (λ w. first_out k n w.0 ∙ ih (λ z. h (omega (arith, w.1))) ∙ ap some (omega (arith, trailing_even n x w.1)))
+      ⊎_elim (λ w. first-in k n w.0 ∙ ap Some (omega (arith, trailing_odd n x w.1)))
+      (λ w. first_out k n w.0 ∙ ih (λ z. h (omega (arith, w.1))) ∙ ap Some (omega (arith, trailing_even n x w.1)))
       (spells-cases n x k s)
 
-  pub first-zero : (n k : ℕ) → Spells member k n 0 → first member k n ≡ none
+  pub first-zero : (n k : ℕ) → Spells member k n 0 → first member k n ≡ None
   unfolding first
   first-zero zero k s = refl
   first-zero (suc n) k s = first_out k n (spells-head n 0 k s) ∙ first-zero n (k + 1) (spells-tail n 0 k s)
@@ -170,55 +177,62 @@ module _ (member : ℕ → Bool) where
       ap (λ (i : ℕ). count member k i) (suc-add n r)
       ∙ ⊎_elim (λ y. omega (arith, ih, f, count-in k n y, count-in k (n + r) y)) (λ z. omega (arith, ih, f, count-out k n z, count-out k (n + r) z)) (whether (member k))
 
-  pub first_some : (n r k j : ℕ) → first member k n ≡ some j → first member k (n + r) ≡ some j
+  pub count-le : (n k : ℕ) → count member k n ≤ n
+  unfolding count
+  count-le zero k = omega arith
+  count-le (suc n) k =
+      let ih = count-le n (k + 1) in
+      ⊎_elim (λ y. omega (arith, ih, count-in k n y)) (λ z. omega (arith, ih, count-out k n z)) (whether (member k))
+
+  pub first_some : (n r k j : ℕ) → first member k n ≡ Some j → first member k (n + r) ≡ Some j
   unfolding first
-  first_some zero r k j h = absurd (none-ne-some j h)
+  first_some zero r k j h = absurd (none-some j h)
   first_some (suc n) r k j h =
       let ih = first_some n r (k + 1) j in
       ap (λ (i : ℕ). first member k i) (suc-add n r)
       ∙ ⊎_elim (λ y. first-in k (n + r) y ∙ sym (first-in k n y) ∙ h) (λ z. first_out k (n + r) z ∙ ih (sym (first_out k n z) ∙ h)) (whether (member k))
 
-  pub first-none : (n r k : ℕ) → first member k n ≡ none → first member k (n + r) ≡ first member (k + n) r
+  pub first-none : (n r k : ℕ) → first member k n ≡ None → first member k (n + r) ≡ first member (k + n) r
   unfolding first
   first-none zero r k h = ap (λ (i : ℕ). first member k i) (zero-add r) ∙ ap (λ (i : ℕ). first member i r) (sym (add-zero k))
   first-none (suc n) r k h =
       let ih = first-none n r (k + 1) in
       let e : k + 1 + n ≡ k + suc n = omega arith in
       ap (λ (i : ℕ). first member k i) (suc-add n r)
-      ∙ ⊎_elim (λ y. absurd (some-ne-none k (sym (first-in k n y) ∙ h)))
+      ∙ ⊎_elim (λ y. absurd (none-some k (sym h ∙ first-in k n y)))
       (λ z. first_out k (n + r) z ∙ ih (sym (first_out k n z) ∙ h) ∙ ap (λ (i : ℕ). first member i r) e)
       (whether (member k))
 
   -- What is found is in the set.
-  pub first-is : (n k j : ℕ) → first member k n ≡ some j → (k ≤ j) × (j < k + n) × (member j ≡ true)
+  pub first-is : (n k j : ℕ) → first member k n ≡ Some j → (k ≤ j) × (j < k + n) × (member j ≡ true)
   unfolding first
-  first-is zero k j h = absurd (none-ne-some j h)
+  first-is zero k j h = absurd (none-some j h)
   first-is (suc n) k j h =
       let ih = first-is n (k + 1) j in
       ⊎_elim
-      (λ y. let e : k ≡ j = some-injective k j (sym (first-in k n y) ∙ h) in (omega (arith, e), omega (arith, e), ap member (sym e) ∙ y))
+      (λ y. let e : k ≡ j = same_Some k j (sym (first-in k n y) ∙ h) in (omega (arith, e), omega (arith, e), ap member (sym e) ∙ y))
       (λ z. let p = ih (sym (first_out k n z) ∙ h) in (omega (arith, p.0), omega (arith, p.1), p.2))
       (whether (member k))
 
   -- No token is in the set.
-  first-empty : (n k : ℕ) → ((i : ℕ) → k ≤ i → member i ≡ false) → first member k n ≡ none
+  first-empty : (n k : ℕ) → ((i : ℕ) → k ≤ i → member i ≡ false) → first member k n ≡ None
   unfolding first
   first-empty zero k h = refl
   first-empty (suc n) k h = first_out k n (h k (omega arith)) ∙ first-empty n (k + 1) (λ i l. h i (omega arith))
 
-  pub count_none : (n k : ℕ) → count member k n ≡ 0 → first member k n ≡ none
+  pub count_none : (n k : ℕ) → count member k n ≡ 0 → first member k n ≡ None
   unfolding first
   count_none zero k h = refl
   count_none (suc n) k h =
       let ih = count_none n (k + 1) in
       ⊎_elim (λ y. absurd (omega (arith, h, count-in k n y))) (λ z. first_out k n z ∙ ih (sym (count-out k n z) ∙ h)) (whether (member k))
 
-  pub none-count : (n k : ℕ) → first member k n ≡ none → count member k n ≡ 0
+  pub none-count : (n k : ℕ) → first member k n ≡ None → count member k n ≡ 0
   unfolding count
   none-count zero k h = refl
   none-count (suc n) k h =
       let ih = none-count n (k + 1) in
-      ⊎_elim (λ y. absurd (some-ne-none k (sym (first-in k n y) ∙ h))) (λ z. count-out k n z ∙ ih (sym (first_out k n z) ∙ h)) (whether (member k))
+      ⊎_elim (λ y. absurd (none-some k (sym h ∙ first-in k n y))) (λ z. count-out k n z ∙ ih (sym (first_out k n z) ∙ h)) (whether (member k))
 
 -- ---- two sets that agree
 
@@ -238,7 +252,7 @@ module _ (f g : ℕ → Bool) where
       let head : f k ≡ g k = ap f (sym (add-zero k)) ∙ h 0 (omega arith) ∙ ap g (add-zero k) in
       let tail : (i : ℕ) → i < n → f (k + 1 + i) ≡ g (k + 1 + i) = λ i l. let e : k + 1 + i ≡ k + suc i = omega arith in ap f e ∙ h (suc i) (omega arith) ∙ ap g (sym e) in
       let rest : first f (k + 1) n ≡ first g (k + 1) n = first-same n (k + 1) tail in
-      λ i. elim (head i) as (λ y. Option ℕ) [ true ↦ some k | false ↦ rest i ]
+      λ i. elim (head i) as (λ y. Option ℕ) [ true ↦ Some k | false ↦ rest i ]
 
 -- ---- the words and the set that they mean
 
@@ -321,8 +335,8 @@ first-among member n h z =
     ap (λ (i : ℕ). first member 0 i) e ∙ go (first member 0 n) refl
   where
     go : (o : Option ℕ) → first member 0 n ≡ o → first member 0 (n + (room - n)) ≡ first member 0 n
-    go none f = first-none member n (room - n) 0 f ∙ first-empty member (room - n) (0 + n) (λ i l. z i (omega arith)) ∙ sym f
-    go (some j) f = first_some member n (room - n) 0 j f ∙ sym f
+    go None f = first-none member n (room - n) 0 f ∙ first-empty member (room - n) (0 + n) (λ i l. z i (omega arith)) ∙ sym f
+    go (Some j) f = first_some member n (room - n) 0 j f ∙ sym f
 
 -- ---- a bit struck out of a word
 
@@ -445,15 +459,38 @@ module _ (words : List ℕ) (w : ℕ) (fit : get_or words w 0 < 2 ^ 64) where
       ∙ first-none (holds words) 64 (room - 64 * (w + 1)) (64 * w) (first-zero (holds words) 64 (64 * w) (rw e at (holds_spells words w fit)))
       ∙ ap (λ (k : ℕ). first (holds words) k (room - 64 * (w + 1))) next
 
-  pub first-here : w < 64 → (get_or words w 0 ≡ 0 → ⊥) → first (holds words) (64 * w) (room - 64 * w) ≡ some (64 * w + count_trailing_zeros 64 (get_or words w 0))
+  pub first-here : w < 64 → (get_or words w 0 ≡ 0 → ⊥) → first (holds words) (64 * w) (room - 64 * w) ≡ Some (64 * w + count_trailing_zeros 64 (get_or words w 0))
   first-here l ne =
       ap (λ (n : ℕ). first (holds words) (64 * w) n) (rest_of l)
       ∙ first_some (holds words) 64 (room - 64 * (w + 1)) (64 * w) (64 * w + count_trailing_zeros 64 (get_or words w 0))
       (first-trailing (holds words) 64 (get_or words w 0) (64 * w) (holds_spells words w fit) ne)
 
-pub first-behind : (words : List ℕ) (w : ℕ) → 64 ≤ w → first (holds words) (64 * w) (room - 64 * w) ≡ none
-unfolding first
-first-behind words w h = let e : room - 64 * w ≡ 0 = omega arith in ap (λ (n : ℕ). first (holds words) (64 * w) n) e
+-- The ones of the words are the tokens.
+module _ (words : List ℕ) (fit : (w : ℕ) → get_or words w 0 < 2 ^ 64) where
+  ones-so_far : (n : ℕ) → n ≤ length words → sum_by ones (take n words) ≡ count (holds words) 0 (64 * n)
+  unfolding count
+  ones-so_far zero h = refl
+  ones-so_far (suc n) h =
+      let e : suc n ≡ n + 1 = omega arith in
+      rw e (omega (arith, sum_by_more ones words n 0 h, ones-so_far n (omega arith), count_word words n (fit n)))
+
+  pub ones-all : length words ≡ 64 → sum_by ones words ≡ count (holds words) 0 room
+  ones-all long = ap (sum_by ones) (sym (take_all 64 words (omega (arith, long)))) ∙ ones-so_far 64 (omega (arith, long))
+
+-- The words before the first that is not 0 have no token.
+module _ (words : List ℕ) (fit : (w : ℕ) → get_or words w 0 < 2 ^ 64) where
+  first-skips : (n : ℕ) → n ≤ 64 → ((k : ℕ) → k < n → get_or words k 0 ≡ 0) → first (holds words) 0 room ≡ first (holds words) (64 * n) (room - 64 * n)
+  first-skips zero h z = refl
+  first-skips (suc n) h z =
+      let e : suc n ≡ n + 1 = omega arith in
+      rw e (first-skips n (omega arith) (λ k l. z k (omega arith)) ∙ first-later words n (fit n) (omega arith) (z n (omega arith)))
+
+  pub first-word : (w : ℕ) → w < 64 → (get_or words w 0 ≡ 0 → ⊥) → ((k : ℕ) → k < w → get_or words k 0 ≡ 0) → first (holds words) 0 room ≡ Some (64 * w + count_trailing_zeros 64 (get_or words w 0))
+  first-word w l ne z = first-skips w (omega arith) z ∙ first-here words w (fit w) l ne
+
+  pub first-nowhere : ((k : ℕ) → k < 64 → get_or words k 0 ≡ 0) → first (holds words) 0 room ≡ None
+  unfolding first
+  first-nowhere z = first-skips 64 (omega arith) z ∙ refl
 
 -- A word is made from its highest bit down.
 module _ (member : ℕ → Bool) (k b b' x : ℕ) (next : b ≡ suc b') (most : b ≤ 64) (made : x ≡ bits member (k + b) (64 - b)) where
@@ -474,42 +511,32 @@ module _ (member : ℕ → Bool) (k b b' x : ℕ) (next : b ≡ suc b') (most : 
   unfolding bits
   made-zero t = sym (made-next ∙ rw (bits, t) (omega (arith, rest)))
 
-set-bit : (b x : ℕ) → x / 2 ^ b % 2 ≡ 1 → bit x b ≡ true
+bits-agree : (x y i : ℕ) → bit x i ≡ bit y i → bit_at x i ≡ bit_at y i
 unfolding bit
-set-bit b x e = eq-eqb (x / 2 ^ b % 2) 1 e
+bits-agree x y i e =
+    ⊎_elim (λ t. eqb-true (bit_at x i) 1 t ∙ sym (eqb-true (bit_at y i) 1 (sym e ∙ t)))
+    (λ f. omega (arith, bit_at-lt x i, bit_at-lt y i, eqb-false (bit_at x i) 1 f, eqb-false (bit_at y i) 1 (sym e ∙ f))) (whether (bit x i))
 
-clear-bit : (b x : ℕ) → (x / 2 ^ b % 2 ≡ 1 → ⊥) → bit x b ≡ false
+bit-none : (x i : ℕ) → bit x i ≡ false → bit_at x i ≡ 0
 unfolding bit
-clear-bit b x h = ne_eqb (x / 2 ^ b % 2) 1 h
+bit-none x i f = omega (arith, bit_at-lt x i, eqb-false (bit_at x i) 1 f)
 
 -- The word less its bit b, as the code computes it.
-module _ (b x : ℕ) (h : b < 64) where
-  one_shifted : 1 * 2 ^ b % 2 ^ 64 ≡ 2 ^ b
-  one_shifted = shl_exact 1 b 64 (lit< tt) (omega arith) ∙ one-mul (2 ^ b)
-
-  pub cleared-fits : x / 2 ^ b % 2 ≡ 1 → 1 * 2 ^ b % 2 ^ 64 ≤ x
-  cleared-fits e = omega (arith, one_shifted, bit_le b x (set-bit b x e))
-
-  pub cleared-is : x / 2 ^ b % 2 ≡ 1 → x - 1 * 2 ^ b % 2 ^ 64 ≡ clear x b
-  unfolding clear
-  cleared-is e = rw (one_shifted, set-bit b x e) refl
-
-pub clear-already : (b x : ℕ) → (x / 2 ^ b % 2 ≡ 1 → ⊥) → x ≡ clear x b
-unfolding clear
-clear-already b x h = rw (clear-bit b x h) refl
+pub cleared-is : (x b : ℕ) → x < 2 ^ 64 → b < 64 → bit_and x (bit_not w64 (1 * 2 ^ b % 2 ^ 64)) ≡ clear x b
+cleared-is x b fit h =
+    same_from_bits_below 64 _ _ (omega (arith, and_le_l x (bit_not w64 (1 * 2 ^ b % 2 ^ 64)))) (omega (arith, clear-le x b)) (λ i l. go i l (eqb i b) refl)
+  where
+    go : (i : ℕ) → i < 64 → (t : Bool) → eqb i b ≡ t → bit_at (bit_and x (bit_not w64 (1 * 2 ^ b % 2 ^ 64))) i ≡ bit_at (clear x b) i
+    go i l true e =
+        rw (eqb-true i b e) (bit_at_clear_same w64 x b h ∙ sym (bit-none (clear x b) b (clear-bits x b b ∙ rw (eq-eqb b b refl) (and-false (bit x b)))))
+    go i l false e =
+        bit_at_clear_other w64 x b h i l (eqb-false i b e) ∙ bits-agree x (clear x b) i (sym (clear-bits x b i ∙ rw e (and-true (bit x i))))
 
 pub made_all : (member : ℕ → Bool) (k b x : ℕ) → b ≤ 0 → x ≡ bits member (k + b) (64 - b) → x ≡ bits member k 64
 made_all member k b x h e =
     let i : k + b ≡ k = omega arith in
     let n : 64 - b ≡ 64 = omega arith in
     e ∙ ap₂ (λ (i n : ℕ). bits member i n) i n
-
--- One word more of the words of a set.
-pub words_more : (member : ℕ → Bool) (words : List ℕ) (w x : ℕ) → w < length words → ((j : ℕ) → j < w → get_or words j 0 ≡ bits member (64 * j) 64) → x ≡ bits member (64 * w) 64 → (j : ℕ) → j < w + 1 → get_or (set words w x) j 0 ≡ bits member (64 * j) 64
-words_more member words w x l h e =
-    below_more (λ (j : ℕ). get_or (set words w x) j 0 ≡ bits member (64 * j) 64) w
-    (λ j b. get_or-set_other words w j x 0 (λ f. omega arith) ∙ h j b)
-    (get_or-set_same words w x 0 l ∙ e)
 
 -- The words of a set without one token.
 module _ (member : ℕ → Bool) (k : ℕ) where

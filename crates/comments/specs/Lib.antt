@@ -1,3 +1,2 @@
 pub mod Set
 pub mod Above
-pub mod Promises

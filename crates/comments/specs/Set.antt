@@ -1,8 +1,5 @@
 -- Document 01, module 2: the comment set, one bit a token, as 64 words of 64 bits.
-use Rattle.std.specs.Prelude.{ℕ, zero, suc, ◌+◌, ◌-◌, ◌*◌, ◌/◌, ◌%◌, ◌^◌, List, [], ◌∷◌, Bool, true, false, cond, not, ◌&&◌, get_or, eqb}
-use Rattle.std.proofs.Math.Option.{Option, none, some}
-use Rattle.comments.specs.declared.First.{First}
-use Rattle.comments.specs.declared.First.TheVariants.{At, Nowhere}
+use Rattle.std.specs.Prelude.{ℕ, zero, suc, ◌+◌, ◌-◌, ◌*◌, ◌/◌, ◌%◌, ◌^◌, List, [], ◌∷◌, Bool, true, false, cond, not, ◌&&◌, get_or, eqb, Option, None, Some}
 
 -- Kind 1: a block comment.
 abbrev pub block_comment : ℕ
@@ -53,10 +50,5 @@ count member k (suc n) = elim (member k) [ true ↦ 1 + count member (k + 1) n |
 
 -- The first of the n tokens from k on that is in the set.
 unfoldable pub first : (ℕ → Bool) → ℕ → ℕ → Option ℕ
-first member k zero = none
-first member k (suc n) = elim (member k) [ true ↦ some k | false ↦ first member (k + 1) n ]
-
--- The token that an answer of the code gives.
-unfoldable pub first_at : First → Option ℕ
-first_at (At k) = some k
-first_at Nowhere = none
+first member k zero = None
+first member k (suc n) = elim (member k) [ true ↦ Some k | false ↦ first member (k + 1) n ]

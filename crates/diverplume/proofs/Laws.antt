@@ -6,10 +6,9 @@ use mathlib.Core.List.{List, [], ◌∷◌, append-nil}
 use lib.ListN.{length, get_or, replicate}
 use lib.Seq.{paste, take_all}
 use Rattle.text.specs.Output.{Plain, Reply}
-use Rattle.comments.specs.declared.Passed.{Passed}
-use Rattle.comments.specs.Above.{passed_in}
 use Rattle.scanner.specs.declared.Refusal.{Refusal}
-use Rattle.scanner.specs.declared.Scanned.{Scanned}
+use Rattle.std.specs.Prelude as Std
+use Rattle.scanner.specs.declared.ScanError.{ScanError}
 use Rattle.scanner.specs.Scan.{scan}
 use Rattle.scanner.specs.Answers as Scanner
 use Rattle.formatter.specs.declared.Lookup.{Lookup}
@@ -26,7 +25,7 @@ pub looked-case : {f x : Lookup} → f ≡ x → comment_numbers (looked_of x) �
 looked-case e = ap (λ (y : Lookup). comment_numbers (looked_of y)) (sym e)
 
 -- A comment that is found, with the keyword's number.
-pub looked-found : {f : Lookup} {k : ℕ} {saw : Passed} {n : ℕ} {answer : List ℕ} → f ≡ Found k saw → n ≡ or_none (passed_in saw) → answer ≡ 0 ∷ 0 ∷ k ∷ n ∷ [] → answer ≡ comment_numbers (looked_of f)
+pub looked-found : {f : Lookup} {k : ℕ} {saw : Std.Option ℕ} {n : ℕ} {answer : List ℕ} → f ≡ Found k saw → n ≡ or_none saw → answer ≡ 0 ∷ 0 ∷ k ∷ n ∷ [] → answer ≡ comment_numbers (looked_of f)
 unfolding comment_numbers or_none looked_of lookup_number lookup_place answer_of keyword_of
 looked-found {k = k} e g h = h ∙ ap (λ (m : ℕ). 0 ∷ 0 ∷ k ∷ m ∷ []) g ∙ looked-case e
 
@@ -45,13 +44,16 @@ pub refusal_case : {f x : Refusal} → f ≡ x → ◌≡◌ {A = List ℕ} (Sca
 refusal_case e = ap (λ (y : Refusal). Scanner.number_of y ∷ Scanner.place_of y ∷ 0 ∷ []) (sym e)
 
 -- The numbers of the scanner's answer.
-abbrev pub scanned_numbers : Scanned → List ℕ
+abbrev pub scanned_numbers : Std.Result ℕ ScanError → List ℕ
 scanned_numbers a = (Scanner.verdict_of a).number ∷ (Scanner.verdict_of a).place ∷ Scanner.written_of a ∷ []
 
-pub scanned_case : {f x : Scanned} → f ≡ x → scanned_numbers x ≡ scanned_numbers f
+pub scanned_case : {f x : Std.Result ℕ ScanError} → f ≡ x → scanned_numbers x ≡ scanned_numbers f
 scanned_case e = ap scanned_numbers (sym e)
 
-pub scan-out : (text out out' answer : List ℕ) (a : Scanned) → Scanner.reply_of a out' ≡ scan text out → answer ≡ scanned_numbers a → ScanOut text out out' answer
+pub scan_error_case : {f x : ScanError} → f ≡ x → scanned_numbers (Std.Err x) ≡ scanned_numbers (Std.Err f)
+scan_error_case e = ap (λ (y : ScanError). scanned_numbers (Std.Err y)) (sym e)
+
+pub scan-out : (text out out' answer : List ℕ) (a : Std.Result ℕ ScanError) → Scanner.reply_of a out' ≡ scan text out → answer ≡ scanned_numbers a → ScanOut text out out' answer
 unfolding Scanner.reply_of reply_numbers
 scan-out text out out' answer a e f =
     record { numbers = f ∙ ap reply_numbers e; written = ap (λ (r : Reply Plain). r.out) e }

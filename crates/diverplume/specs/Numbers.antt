@@ -1,6 +1,5 @@
 -- The answers of the exported calls, as numbers.
-use Rattle.std.specs.Prelude.{ℕ, ◌≡◌, List, [], ◌∷◌}
-use Rattle.std.proofs.Math.Option.{Option, none, some}
+use Rattle.std.specs.Prelude.{ℕ, ◌≡◌, List, [], ◌∷◌, Option, None, Some}
 use Rattle.text.specs.Output.{Plain, Reply}
 use Rattle.scanner.specs.Scan.{scan}
 use Rattle.formatter.specs.Lookup.{Looked}
@@ -9,8 +8,8 @@ use Rattle.doc_comment.specs.Doc.{doc_lookup}
 
 -- None is the largest u64.
 unfoldable pub or_none : Option ℕ → ℕ
-or_none none = 0xFFFF_FFFF_FFFF_FFFF
-or_none (some k) = k
+or_none None = 0xFFFF_FFFF_FFFF_FFFF
+or_none (Some k) = k
 
 -- Number, place, the token numbers of the comment and of the keyword that was passed.
 unfoldable pub comment_numbers : Looked → List ℕ

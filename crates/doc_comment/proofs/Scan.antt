@@ -1,84 +1,32 @@
 -- Laws of the lines of a comment: how a scan over its bytes finds them. Assumes nothing.
-use Prim.Native.Nat.{ℕ, zero, suc, ◌+◌, ◌-◌, ◌≤◌, ◌<◌, zero-le, suc-le-suc}
-use native.Mathlib.Nat.{sub-zero, zero-sub, le_of_suc-le-suc}
+use Prim.Native.Nat.{ℕ, zero, suc, ◌+◌, ◌-◌, ◌≤◌, ◌<◌, zero-le}
 use native.Mathlib.Numerals.{add-one}
 use native.Mathlib.Omega.{arith}
-use mathlib.Core.Path.{◌≡◌, refl, sym, ap, ap₂, ◌∙◌}
-use mathlib.Core.Bool.{Bool, true, false}
-use mathlib.Core.Logic.{◌⊎◌, inl, inr, ⊎_elim}
+use mathlib.Core.Path.{◌≡◌, refl, sym, ap, ◌∙◌}
 use mathlib.Core.List.{List, [], ◌∷◌, reverse, reverse_aux, reverse-append, reverse-reverse}
-use mathlib.Core.Option.{none, some}
-use lib.Dec.{eqb}
-use lib.ListN.{length, get_or, take, drop, length-take, length-drop, length-reverse, drop_of_length-le}
-use lib.Seq.{drop-cons, drop-drop, take-nil, take-suc}
-use borrow.Author.Tests.{eq-eqb, ne_eqb, eqb-true, eqb-false}
-use Rattle.text.proofs.Laws.{take_rest}
+use Rattle.std.specs.List.{AllWithin, HoldsAt}
+use Rattle.std.specs.Prelude.{Option, None, Some, MatchOption}
+use lib.ListN.{length, get_or, take, drop, length-take, length-drop, length-reverse}
+use lib.Seq.{take-suc}
+use borrow.Author.Tests.{eq-eqb, ne_eqb}
 use Rattle.doc_comment.specs.Doc.{without_return, lines_from, after_asterisk, without_space, starred}
-use Rattle.doc_comment.specs.Promises.Lines.{before, Cuts, Starts, kept, FirstKept, Nexts}
-use Rattle.doc_comment.specs.declared.Start.{Start}
-use Rattle.doc_comment.specs.declared.Start.TheVariants.{At, Nowhere}
-use Rattle.doc_comment.specs.declared.Next.{Next}
-use Rattle.doc_comment.specs.declared.Next.TheVariants.{Line, End}
+use Rattle.doc_comment.specs.Promises.Lines.{Lacks, IsFirst, Cuts, Drops, Stands, kept, FirstKept}
 
 -- The text up to a byte, read backwards.
 reverse_take : (s : List ℕ) (k : ℕ) → k < length s → reverse (take (suc k) s) ≡ get_or s k 0 ∷ reverse (take k s)
 reverse_take s k h = rw (take-suc s k 0, reverse-append)
 
--- ---- the bytes before the first b
-
-module _ (b : ℕ) where
-  module _ (s : List ℕ) (i : ℕ) where
-    pub before_here : i < length s → get_or s i 0 ≡ b → before b (drop i s) ≡ []
-    unfolding before
-    before_here h e = rw (drop-cons s i 0, before, eq-eqb _ _ e)
-
-    pub before-later : i < length s → (get_or s i 0 ≡ b → ⊥) → length (before b (drop i s)) ≡ 1 + length (before b (drop (i + 1) s))
-    unfolding before
-    before-later h e = rw (add-one, drop-cons s i 0, before, ne_eqb _ _ e) (omega arith)
-
-    pub before-end : length s ≤ i → before b (drop i s) ≡ []
-    unfolding before
-    before-end h = rw (drop_of_length-le s h)
-
-  -- A first byte, which is b or stands before it.
-  cases : (c : ℕ) (cs : List ℕ) → ((c ≡ b) × (before b (c ∷ cs) ≡ [])) ⊎ ((c ≡ b → ⊥) × (before b (c ∷ cs) ≡ c ∷ before b cs))
-  unfolding before
-  cases c cs = go (eqb c b) refl
-    where
-      go : (t : Bool) → eqb c b ≡ t → ((c ≡ b) × (before b (c ∷ cs) ≡ [])) ⊎ ((c ≡ b → ⊥) × (before b (c ∷ cs) ≡ c ∷ before b cs))
-      go true e = inl (eqb-true c b e, rw (before, e))
-      go false e = inr (eqb-false c b e, rw (before, e))
-
-  before-nil : before b [] ≡ []
-  unfolding before
-  before-nil = refl
-
-  pub before-le : (s : List ℕ) → length (before b s) ≤ length s
-  before-le [] = rw before-nil zero-le
-  before-le (c ∷ cs) = let ih = before-le cs in ⊎_elim (λ w. rw w.1 zero-le) (λ w. rw w.1 (suc-le-suc ih)) (cases c cs)
-
-  pub before-take : (s : List ℕ) → before b s ≡ take (length (before b s)) s
-  before-take [] = rw before-nil
-  before-take (c ∷ cs) = let ih = before-take cs in ⊎_elim (λ w. rw w.1) (λ w. rw w.1 (ap (λ (l : List ℕ). c ∷ l) ih)) (cases c cs)
-
-  -- The first b stands behind them.
-  pub before-stop : (s : List ℕ) → length (before b s) < length s → drop (length (before b s)) s ≡ b ∷ drop (suc (length (before b s))) s
-  before-stop [] h = absurd (omega arith)
-  before-stop (c ∷ cs) h =
-      let ih = before-stop cs in
-      ⊎_elim (λ w. rw w.1 (ap (λ (x : ℕ). x ∷ cs) w.0)) (λ w. rw w.1 (ih (le_of_suc-le-suc (rw w.1 at h)))) (cases c cs)
+-- What `position` gives of the bytes that are b.
+pub first-is : (b : ℕ) (s : List ℕ) (r : Option ℕ) → MatchOption r (AllWithin (λ x. x ≡ b → ⊥) s 0 (length s)) (λ i. (i < length s) × HoldsAt (λ x. x ≡ b) s i × AllWithin (λ x. x ≡ b → ⊥) s 0 i)
+    → MatchOption r (Lacks b s) (λ n. IsFirst b s n)
+first-is b s None h = λ k l. h k 0 zero-le l
+first-is b s (Some n) h = record { within = h.0; here = h.1 0; before = λ k l. h.2 k 0 zero-le l }
 
 -- ---- the first line
 
 lines_other : (line bs : List ℕ) (b : ℕ) → (b ≡ 10 → ⊥) → lines_from line (b ∷ bs) ≡ lines_from (b ∷ line) bs
 unfolding lines_from
 lines_other line bs b h = rw (lines_from, ne_eqb b 10 h)
-
-lines-run : (s line : List ℕ) → lines_from line s ≡ lines_from (reverse_aux (before 10 s) line) (drop (length (before 10 s)) s)
-lines-run [] line = rw (before-nil 10)
-lines-run (b ∷ bs) line =
-    let ih = lines-run bs (b ∷ line) in
-    ⊎_elim (λ w. rw w.1) (λ w. rw w.1 (lines_other line bs b w.0 ∙ ih)) (cases 10 b bs)
 
 line-last : (u : List ℕ) → 0 < length u → lines_from (reverse u) [] ≡ u ∷ []
 unfolding lines_from
@@ -96,63 +44,66 @@ fed-line : (line rest : List ℕ) → lines_from line (10 ∷ rest) ≡ reverse 
 unfolding lines_from
 fed-line line rest = refl
 
-module _ (s : List ℕ) (n : ℕ) (e : n ≡ length (before 10 s)) where
-  run : lines_from [] s ≡ lines_from (reverse (take n s)) (drop n s)
-  run = rw e (lines-run s [] ∙ ap (λ (u : List ℕ). lines_from (reverse u) (drop (length (before 10 s)) s)) (before-take 10 s))
+-- No line feed is among the bytes.
+lines-rest : (s line : List ℕ) → ((k : ℕ) → k < length s → get_or s k 0 ≡ 10 → ⊥) → lines_from line s ≡ lines_from (reverse_aux s line) []
+lines-rest [] line h = refl
+lines-rest (b ∷ bs) line h = lines_other line bs b (h 0 (omega arith)) ∙ lines-rest bs (b ∷ line) (λ k l. h (suc k) (omega arith))
 
-  stop : n < length s → drop n s ≡ 10 ∷ drop (n + 1) s
-  stop h = rw (add-one, e) (before-stop 10 s (omega arith))
+-- The first line feed stands behind n bytes.
+lines-fed : (s line : List ℕ) (n : ℕ) → n < length s → get_or s n 0 ≡ 10 → ((k : ℕ) → k < n → get_or s k 0 ≡ 10 → ⊥)
+    → lines_from line s ≡ reverse (without_return (reverse_aux (take n s) line)) ∷ lines_from [] (drop (suc n) s)
+lines-fed [] line n h e z = absurd (omega arith)
+lines-fed (b ∷ bs) line zero h e z = rw e (fed-line line bs)
+lines-fed (b ∷ bs) line (suc n) h e z =
+    lines_other line bs b (z 0 (omega arith)) ∙ lines-fed bs (b ∷ line) n (omega arith) e (λ k l. z (suc k) (omega arith))
 
-  -- The text has no line feed.
-  pub cut-last : 0 < length s → length s ≤ n → Cuts s n n
-  cut-last h l =
-      record {
-        line = run
-            ∙ ap (λ (v : List ℕ). lines_from (reverse (take n s)) v) (drop_of_length-le s l)
-            ∙ line-last (take n s) (omega (arith, length-take n s))
-            ∙ ap (λ (v : List (List ℕ)). take n s ∷ v) (sym nil);
-        ordered = omega arith;
-        some = omega arith;
-        inside = omega (arith, before-le 10 s);
-      }
-    where
-      nil : lines_from [] (drop n s) ≡ []
-      nil = ap (λ (v : List ℕ). lines_from [] v) (drop_of_length-le s l) ∙ lines_nil
+-- The text has no line feed.
+pub cut-last : (s : List ℕ) → (length s ≡ 0 → ⊥) → Lacks 10 s → Cuts s s []
+cut-last s h z =
+    record {
+      line = lines-rest s [] z ∙ line-last s (omega arith) ∙ ap (λ (v : List (List ℕ)). s ∷ v) (sym lines_nil);
+      room = omega arith;
+      less = omega arith;
+    }
+
+module _ (s : List ℕ) (n : ℕ) (f : IsFirst 10 s n) where
+  h : n < length s
+  h = f.within
 
   -- The line is what stands before the line feed, less a carriage return.
-  cut_at : (m : ℕ) → m ≤ n → n < length s → reverse (without_return (reverse (take n s))) ≡ take m s → Cuts s m (n + 1)
-  cut_at m h l f =
+  cut_at : (line : List ℕ) → reverse (without_return (reverse (take n s))) ≡ line → length line ≤ n → Cuts s line (drop (n + 1) s)
+  cut_at line r l =
       record {
-        line = run ∙ ap (λ (v : List ℕ). lines_from (reverse (take n s)) v) (stop l) ∙ fed-line (reverse (take n s)) (drop (n + 1) s) ∙ ap (λ (u : List ℕ). u ∷ lines_from [] (drop (n + 1) s)) f;
-        ordered = omega arith;
-        some = omega arith;
-        inside = omega arith;
+        line = rw add-one (lines-fed s [] n f.within f.here f.before ∙ ap (λ (u : List ℕ). u ∷ lines_from [] (drop (suc n) s)) r);
+        room = omega (arith, length-drop (n + 1) s);
+        less = omega (arith, length-drop (n + 1) s);
       }
 
-  pub cut-empty : n < length s → n ≡ 0 → Cuts s 0 1
+  pub cut-return : 0 < n → get_or s (n - 1) 0 ≡ 13 → Cuts s (take (n - 1) s) (drop (n + 1) s)
   unfolding without_return
-  cut-empty l z = rw z at (cut_at n (omega arith) l (rw z))
-
-  pub cut-return : n < length s → (n ≡ 0 → ⊥) → get_or s (n - 1) 0 ≡ 13 → Cuts s (n - 1) (n + 1)
-  unfolding without_return
-  cut-return l z r =
+  cut-return l r =
       let k : n ≡ suc (n - 1) = omega arith in
-      cut_at (n - 1) (omega arith) l
-      (ap (λ (u : List ℕ). reverse (without_return u)) (ap (λ (i : ℕ). reverse (take i s)) k ∙ reverse_take s (n - 1) (omega arith))
+      cut_at (take (n - 1) s)
+      (ap (λ (i : ℕ). reverse (without_return (reverse (take i s)))) k
+      ∙ ap (λ (u : List ℕ). reverse (without_return u)) (reverse_take s (n - 1) (omega arith))
       ∙ rw (r, without_return) (reverse-reverse (take (n - 1) s)))
+      (omega (arith, length-take (n - 1) s))
 
-  pub cut-plain : n < length s → (n ≡ 0 → ⊥) → (get_or s (n - 1) 0 ≡ 13 → ⊥) → Cuts s n (n + 1)
+  pub cut-plain : (0 < n → get_or s (n - 1) 0 ≡ 13 → ⊥) → Cuts s (take n s) (drop (n + 1) s)
   unfolding without_return
-  cut-plain l z r =
-      let k : n ≡ suc (n - 1) = omega arith in
-      let f : reverse (take n s) ≡ get_or s (n - 1) 0 ∷ reverse (take (n - 1) s) = ap (λ (i : ℕ). reverse (take i s)) k ∙ reverse_take s (n - 1) (omega arith) in
-      cut_at n (omega arith) l
-      (ap (λ (u : List ℕ). reverse (without_return u)) f
-      ∙ rw (without_return, ne_eqb (get_or s (n - 1) 0) 13 r) (ap reverse (sym f) ∙ reverse-reverse (take n s)))
+  cut-plain r = cut_at (take n s) (go n refl) (omega (arith, length-take n s))
+    where
+      go : (i : ℕ) → n ≡ i → reverse (without_return (reverse (take i s))) ≡ take i s
+      go zero k = refl
+      go (suc m) k =
+          let f = reverse_take s m (omega arith) in
+          let q : n - 1 ≡ m = omega arith in
+          ap (λ (u : List ℕ). reverse (without_return u)) f
+          ∙ rw (without_return, ne_eqb (get_or s m 0) 13 (rw q at (r (omega arith)))) (ap reverse (sym f) ∙ reverse-reverse (take (suc m) s))
 
 -- ---- what stands of a line
 
-after-yes : (b : ℕ) (bs : List ℕ) → b ≡ 42 → after_asterisk (b ∷ bs) ≡ some bs
+after-yes : (b : ℕ) (bs : List ℕ) → b ≡ 42 → after_asterisk (b ∷ bs) ≡ Some bs
 unfolding after_asterisk
 after-yes b bs h = rw (after_asterisk, eq-eqb b 42 h)
 
@@ -160,115 +111,73 @@ after-no : (b : ℕ) (bs : List ℕ) → (b ≡ 42 → ⊥) → after_asterisk (
 unfolding after_asterisk
 after-no b bs h = rw (after_asterisk, ne_eqb b 42 h)
 
-after-nil : after_asterisk [] ≡ none
+after-nil : after_asterisk [] ≡ None
 unfolding after_asterisk
 after-nil = refl
 
-after_none : (line : List ℕ) → length line ≤ length (before 42 line) → after_asterisk line ≡ none
+after_none : (line : List ℕ) → ((k : ℕ) → k < length line → get_or line k 0 ≡ 42 → ⊥) → after_asterisk line ≡ None
 after_none [] h = after-nil
-after_none (b ∷ bs) h =
-    let ih = after_none bs in
-    ⊎_elim (λ w. absurd (omega (arith, rw w.1 at h))) (λ w. after-no b bs w.0 ∙ ih (le_of_suc-le-suc (rw w.1 at h))) (cases 42 b bs)
+after_none (b ∷ bs) h = after-no b bs (h 0 (omega arith)) ∙ after_none bs (λ k l. h (suc k) (omega arith))
 
-after-some : (line : List ℕ) → length (before 42 line) < length line → after_asterisk line ≡ some (drop (suc (length (before 42 line))) line)
-after-some [] h = absurd (omega arith)
-after-some (b ∷ bs) h =
-    let ih = after-some bs in
-    ⊎_elim (λ w. rw w.1 (after-yes b bs w.0)) (λ w. rw w.1 (after-no b bs w.0 ∙ ih (le_of_suc-le-suc (rw w.1 at h)))) (cases 42 b bs)
+after-some : (line : List ℕ) (n : ℕ) → n < length line → get_or line n 0 ≡ 42 → ((k : ℕ) → k < n → get_or line k 0 ≡ 42 → ⊥) → after_asterisk line ≡ Some (drop (suc n) line)
+after-some [] n h e z = absurd (omega arith)
+after-some (b ∷ bs) zero h e z = after-yes b bs e
+after-some (b ∷ bs) (suc n) h e z = after-no b bs (z 0 (omega arith)) ∙ after-some bs n (omega arith) e (λ k l. z (suc k) (omega arith))
 
-starred-none : (line : List ℕ) (more : List (List ℕ)) → after_asterisk line ≡ none → starred (line ∷ more) ≡ starred more
+starred-none : (line : List ℕ) (more : List (List ℕ)) → after_asterisk line ≡ None → starred (line ∷ more) ≡ starred more
 unfolding starred
 starred-none line more e = rw (starred, e)
 
-starred-some : (line rest : List ℕ) (more : List (List ℕ)) → after_asterisk line ≡ some rest → starred (line ∷ more) ≡ without_space rest ∷ starred more
+starred-some : (line rest : List ℕ) (more : List (List ℕ)) → after_asterisk line ≡ Some rest → starred (line ∷ more) ≡ without_space rest ∷ starred more
 unfolding starred
 starred-some line rest more e = rw (starred, e)
 
-module _ (line : List ℕ) (a : ℕ) (e : a ≡ length (before 42 line)) where
-  pub starts-nowhere : length line ≤ a → Starts line Nowhere
-  unfolding Starts
-  starts-nowhere h = λ more. starred-none line more (after_none line (omega arith))
+pub dropped : (line : List ℕ) → Lacks 42 line → Drops line
+dropped line h more = starred-none line more (after_none line h)
 
-  starts-at : (k : ℕ) → a < length line → a < k → k ≤ length line → without_space (drop (a + 1) line) ≡ drop k line → Starts line (At k)
-  unfolding Starts
-  starts-at k h l m f = (
-    omega arith,
-    m,
-    λ more.
-        starred-some line (drop (a + 1) line) more (rw (add-one, e) (after-some line (omega arith))) ∙ ap (λ (u : List ℕ). u ∷ starred more) f,
-  )
+-- What follows the asterisk, with a space or without.
+space-off : (l : List ℕ) → 0 < length l → get_or l 0 0 ≡ 32 → without_space l ≡ drop 1 l
+unfolding without_space
+space-off [] h e = absurd (omega arith)
+space-off (b ∷ bs) h e = rw (e, without_space)
 
-  pub starts-end : a < length line → length line ≤ a + 1 → Starts line (At (a + 1))
-  unfolding without_space
-  starts-end h l = starts-at (a + 1) h (omega arith) (omega arith) (rw (drop_of_length-le line l))
+space-none : (l : List ℕ) → (0 < length l → get_or l 0 0 ≡ 32 → ⊥) → without_space l ≡ l
+unfolding without_space
+space-none [] h = refl
+space-none (b ∷ bs) h = rw (without_space, ne_eqb b 32 (h (omega arith)))
 
-  pub starts-space : a + 1 < length line → get_or line (a + 1) 0 ≡ 32 → Starts line (At (a + 1 + 1))
-  unfolding without_space
-  starts-space h f = starts-at (a + 1 + 1) (omega arith) (omega arith) (omega arith) (rw (add-one (a + 1), drop-cons line (a + 1) 0, without_space, f))
+module _ (line : List ℕ) (n : ℕ) (f : IsFirst 42 line n) where
+  stands : (rest text : List ℕ) → rest ≡ drop (n + 1) line → without_space rest ≡ text → length text ≤ length rest → Stands line text
+  stands rest text d e l =
+      record {
+        row = λ more. starred-some line rest more (rw d (rw add-one (after-some line n f.within f.here f.before))) ∙ ap (λ (u : List ℕ). u ∷ starred more) e;
+        less = omega (arith, l, f.within, ap length d, length-drop (n + 1) line);
+      }
 
-  pub starts-plain : a + 1 < length line → (get_or line (a + 1) 0 ≡ 32 → ⊥) → Starts line (At (a + 1))
-  unfolding without_space
-  starts-plain h f = starts-at (a + 1) (omega arith) (omega arith) (omega arith) (rw (drop-cons line (a + 1) 0, without_space, ne_eqb _ _ f))
+  pub stands-space : (rest : List ℕ) → rest ≡ drop (n + 1) line → 0 < length rest → get_or rest 0 0 ≡ 32 → Stands line (drop 1 rest)
+  stands-space rest d h e = stands rest (drop 1 rest) d (space-off rest h e) (omega (arith, length-drop 1 rest))
+
+  pub stands-plain : (rest : List ℕ) → rest ≡ drop (n + 1) line → (0 < length rest → get_or rest 0 0 ≡ 32 → ⊥) → Stands line rest
+  stands-plain rest d h = stands rest rest d (space-none rest h) (omega arith)
 
 -- ---- the next line that stands
 
-drop_take : (k n : ℕ) (l : List ℕ) → drop k (take n l) ≡ take (n - k) (drop k l)
-drop_take zero n l = ap (λ (i : ℕ). take i l) (sym (sub-zero n))
-drop_take (suc k) zero l = ap (λ (i : ℕ). take i (drop (suc k) l)) (sym (zero-sub (suc k)))
-drop_take (suc k) (suc n) [] = sym (take-nil (suc n - suc k))
-drop_take (suc k) (suc n) (x ∷ xs) = drop_take k n xs ∙ ap (λ (i : ℕ). take i (drop k xs)) (let e : n - k ≡ suc n - suc k = omega arith in e)
+kept_line : {s line rest : List ℕ} → Cuts s line rest → kept s ≡ starred (line ∷ lines_from [] rest)
+unfolding kept
+kept_line c = ap starred c.line
 
--- What follows an offset, as the part from it to the end.
-pub rest_some : (comment : List ℕ) (at : ℕ) → at < length comment → 0 < length (take (length comment - at) (drop at comment))
-rest_some comment at h = rw (take_rest comment at) (omega (arith, length-drop at comment))
+pub line-dropped : {s line rest : List ℕ} → Cuts s line rest → Drops line → kept s ≡ kept rest
+unfolding kept
+line-dropped {s} {line} {rest} c d = kept_line c ∙ d (lines_from [] rest)
 
-module _ (comment rest : List ℕ) (at end next : ℕ) (is : rest ≡ drop at comment) (cut : Cuts rest end next) (r : Start) (starts : Starts (take end rest) r) where
-  kept_line : kept comment at ≡ starred (take end rest ∷ lines_from [] (drop (at + next) comment))
-  unfolding kept
-  kept_line =
-      ap (λ (u : List ℕ). starred (lines_from [] u)) (sym is)
-      ∙ ap starred
-      (cut.line
-      ∙ ap (λ (u : List ℕ). take end rest ∷ lines_from [] u) (ap (λ (u : List ℕ). drop next u) is ∙ drop-drop next at comment))
-
-  pub line-dropped : r ≡ Nowhere → kept comment at ≡ kept comment (at + next)
-  unfolding kept Starts
-  line-dropped e = let s : Starts (take end rest) Nowhere = rw e at starts in kept_line ∙ s (lines_from [] (drop (at + next) comment))
-
-  pub line-inside : at < length comment → (at < at + next) × (at + next ≤ length comment)
-  line-inside h = (omega (arith, cut.some), omega (arith, cut.inside, ap length is, length-drop at comment))
-
-  pub line_kept : (k : ℕ) → at < length comment → r ≡ At k → FirstKept comment at (at + k) (at + end) (at + next)
-  unfolding kept Starts
-  line_kept k h e =
-      let s : Starts (take end rest) (At k) = rw e at starts in
-      let d = ap length is ∙ length-drop at comment in
-      let t = length-take end rest in
-      let n : end - k ≡ at + end - (at + k) = omega arith in
-      record {
-        line = kept_line
-            ∙ s.2 (lines_from [] (drop (at + next) comment))
-            ∙ ap (λ (u : List ℕ). u ∷ kept comment (at + next))
-            (drop_take k end rest ∙ ap₂ (λ (i : ℕ) (u : List ℕ). take i u) n (ap (λ (u : List ℕ). drop k u) is ∙ drop-drop k at comment));
-        ordered = omega (arith, s.1, t);
-        inside = omega (arith, cut.ordered, cut.inside, d);
-        room = omega (arith, s.0, s.1, t, cut.ordered);
-        ends = omega (arith, cut.inside, d);
-      }
+pub line_kept : {s line rest text : List ℕ} → Cuts s line rest → Stands line text → FirstKept s text rest
+unfolding kept
+line_kept {s} {line} {rest} c t = record { line = kept_line c ∙ t.row (lines_from [] rest); room = omega (arith, c.room, t.less) }
 
 -- Lines that were dropped stand before the one that is kept.
-pub first-from : {comment : List ℕ} {at start end next : ℕ} (from : ℕ) → from ≤ at → kept comment from ≡ kept comment at → FirstKept comment at start end next → FirstKept comment from start end next
-first-from from h e f = record { line = e ∙ f.line; ordered = f.ordered; inside = f.inside; room = omega (arith, f.room); ends = f.ends }
+pub first-from : {comment at line rest : List ℕ} → kept comment ≡ kept at → length at ≤ length comment → FirstKept at line rest → FirstKept comment line rest
+first-from e h f = record { line = e ∙ f.line; room = omega (arith, f.room) }
 
-pub kept-end : (comment : List ℕ) (at : ℕ) → length comment ≤ at → kept comment at ≡ []
+pub kept-nil : kept [] ≡ []
 unfolding kept starred
-kept-end comment at h = rw (drop_of_length-le comment h, lines_nil)
-
--- What `next_line` gives, by cases.
-pub next-kept : {comment : List ℕ} {at start end next : ℕ} (r : Next) → Nexts comment at r → r ≡ Line start end next → FirstKept comment at start end next
-unfolding Nexts
-next-kept {comment} {at} r n e = rw e at n
-
-pub next-over : (comment : List ℕ) (at : ℕ) (r : Next) → Nexts comment at r → r ≡ End → kept comment at ≡ []
-unfolding Nexts
-next-over comment at r n e = rw e at n
+kept-nil = rw lines_nil

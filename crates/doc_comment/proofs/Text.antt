@@ -4,22 +4,18 @@ use native.Mathlib.Omega.{arith}
 use mathlib.Core.Path.{◌≡◌, refl, sym, ap, ap₂, ◌∙◌}
 use mathlib.Core.Bool.{Bool, true, false, false≢true}
 use mathlib.Core.List.{List, [], ◌∷◌, ◌++◌, append_assoc, append-nil, reverse, reverse_aux, reverse-append, reverse-reverse}
-use mathlib.Core.Option.{none, some}
-use lib.ListN.{length, get_or, take, drop, set, length-append, length-take, length-drop}
+use Rattle.std.specs.Prelude.{None, Some, Ok, Err, MatchOption}
+use Rattle.std.specs.Bool.{then_some}
+use lib.ListN.{length, get_or, take, drop, set, length-append}
 use lib.Seq.{paste, append_snoc, drop-cons, drop-drop, set_at, take_at, drop_at, take-length}
 use borrow.Author.Tests.{le-leb, lt-leb}
 use Rattle.text.specs.Bytes.{bytes, same_bytes}
 use Rattle.text.proofs.Laws.{never, same_true, same_refl}
 use Rattle.doc_comment.specs.Doc.{joined, closed, opened, doc_text, put, doc_of, doc_said}
-use Rattle.doc_comment.specs.Promises.Lines.{part, kept, FirstKept, size, Closes, Bodies, Joins, fed}
-use Rattle.doc_comment.specs.declared.Body.{Body}
-use Rattle.doc_comment.specs.declared.Body.TheVariants.{Lines, Open}
-use Rattle.doc_comment.specs.declared.DocText.TheVariants.{Found, OutputTooShort, Nothing}
+use Rattle.doc_comment.specs.Promises.Lines.{kept, FirstKept, size, Closes, IsOpen, Joins, Holds, fed}
+use Rattle.doc_comment.specs.declared.OutputTooShort.{OutputTooShort}
 
 -- ---- lists of lines
-
-pub length_part : (s : List ℕ) (start end : ℕ) → start ≤ end → end ≤ length s → length (part s start end) ≡ end - start
-length_part s start end h l = omega (arith, length-take (end - start) (drop start s), length-drop start s)
 
 head_of : {l m : List ℕ} {ls ms : List (List ℕ)} → ◌≡◌ {A = List (List ℕ)} (l ∷ ls) (m ∷ ms) → l ≡ m
 head_of e = cc
@@ -66,71 +62,53 @@ Pending [] last m = (last ≡ []) × (m ≡ 0)
 Pending (l ∷ ls) last m = (last ≡ l) × (m ≡ size ls)
 
 -- The lines read so far, the last first.
-pub record Seen (comment : List ℕ) (from at all most start end : ℕ) : Type 0 where
+pub record Seen (comment rest last : List ℕ) (total between : ℕ) : Type 0 where
   pub back : List (List ℕ)
-  pub rows : reverse (kept comment from) ≡ reverse_aux (kept comment at) back
-  pub total : all ≡ size back
-  pub last : Pending back (part comment start end) most
-  pub within : all ≤ at
-  pub ordered : start ≤ end
-  pub inside : end ≤ length comment
-  pub here : at ≤ length comment
+  pub rows : reverse (kept comment) ≡ reverse_aux (kept rest) back
+  pub all : total ≡ size back
+  pub pending : Pending back last between
+  pub within : total + length rest ≤ length comment
 
-pub seen_none : (comment : List ℕ) (from : ℕ) → from ≤ length comment → Seen comment from from 0 0 0 0
-seen_none comment from h =
-    record { back = []; rows = refl; total = sym size-nil; last = (refl, refl); within = omega arith; ordered = omega arith; inside = omega arith; here = h }
+pub seen_none : (comment : List ℕ) → Seen comment comment [] 0 0
+seen_none comment = record { back = []; rows = refl; all = sym size-nil; pending = (refl, refl); within = omega arith }
 
-pub seen_more : {comment : List ℕ} {from at all most start end s e next : ℕ} → Seen comment from at all most start end → FirstKept comment at s e next → Seen comment from next (all + (e - s + 1)) all s e
-seen_more {comment} {s = s} {e = e} seen first =
-    let n = length_part comment s e first.ordered first.inside in
+pub seen_more : {comment rest last line behind : List ℕ} {total between : ℕ} → Seen comment rest last total between → FirstKept rest line behind → Seen comment behind line (total + (length line + 1)) total
+seen_more {line = line} seen first =
     record {
-      back = part comment s e ∷ seen.back;
+      back = line ∷ seen.back;
       rows = seen.rows ∙ ap (λ (l : List (List ℕ)). reverse_aux l seen.back) first.line;
-      total = omega (arith, size-more (part comment s e) seen.back, n, seen.total);
-      last = (refl, seen.total);
+      all = omega (arith, size-more line seen.back, seen.all);
+      pending = (refl, seen.all);
       within = omega (arith, seen.within, first.room);
-      ordered = first.ordered;
-      inside = first.inside;
-      here = first.ends;
     }
 
-back_is : {comment : List ℕ} {from at all most start end : ℕ} (seen : Seen comment from at all most start end) → kept comment at ≡ [] → reverse (kept comment from) ≡ seen.back
-back_is seen over = seen.rows ∙ ap (λ (l : List (List ℕ)). reverse_aux l seen.back) over
+module _ {comment rest last : List ℕ} {total between : ℕ} (seen : Seen comment rest last total between) (over : kept rest ≡ []) where
+  back_is : reverse (kept comment) ≡ seen.back
+  back_is = seen.rows ∙ ap (λ (l : List (List ℕ)). reverse_aux l seen.back) over
 
-pub seen-closed : {comment : List ℕ} {from at all most start end : ℕ} → Seen comment from at all most start end → kept comment at ≡ [] → same_bytes (part comment start end) (bytes ")") ≡ true → Bodies (kept comment from) (Lines most)
-unfolding Bodies
-seen-closed {comment} {from} {most = most} {start = start} {end = end} seen over t =
-    go seen.back (back_is seen over) seen.last (same_true (part comment start end) (bytes ")") t)
-  where
-    go : (back : List (List ℕ)) → reverse (kept comment from) ≡ back → Pending back (part comment start end) most → part comment start end ≡ bytes ")" → Closes (kept comment from) most
-    go [] e p q = absurd (closing_some (sym q ∙ p.0))
-    go (l ∷ ls) e p q =
-        record {
-          between = reverse ls;
-          last = sym (reverse-reverse (kept comment from))
-              ∙ ap reverse e
-              ∙ reverse-append (l ∷ []) ls
-              ∙ ap (λ (u : List ℕ). reverse ls ++ (u ∷ [])) (sym p.0 ∙ q);
-          takes = size_back ls [] ∙ omega (arith, size-nil, p.1);
-        }
+  pub seen-closed : same_bytes last (bytes ")") ≡ true → Closes (kept comment) between
+  seen-closed t = go seen.back back_is seen.pending (same_true last (bytes ")") t)
+    where
+      go : (back : List (List ℕ)) → reverse (kept comment) ≡ back → Pending back last between → last ≡ bytes ")" → Closes (kept comment) between
+      go [] e p q = absurd (closing_some (sym q ∙ p.0))
+      go (l ∷ ls) e p q =
+          record {
+            between = reverse ls;
+            last = sym (reverse-reverse (kept comment)) ∙ ap reverse e ∙ reverse-append (l ∷ []) ls ∙ ap (λ (u : List ℕ). reverse ls ++ (u ∷ [])) (sym p.0 ∙ q);
+            takes = size_back ls [] ∙ omega (arith, size-nil, p.1);
+          }
 
-pub seen_open : {comment : List ℕ} {from at all most start end : ℕ} → Seen comment from at all most start end → kept comment at ≡ [] → same_bytes (part comment start end) (bytes ")") ≡ false → Bodies (kept comment from) Open
-unfolding Bodies
-seen_open {comment} {from} {most = most} {start = start} {end = end} seen over f = λ m c.
-    go seen.back (sym (back_is seen over) ∙ ap reverse c.last ∙ reverse-append c.between (bytes ")" ∷ [])) seen.last
-  where
-    go : {ls : List (List ℕ)} (back : List (List ℕ)) → back ≡ bytes ")" ∷ ls → Pending back (part comment start end) most → ⊥
-    go [] e p = never (cc)
-    go (l ∷ back) e p =
-        false≢true (sym f ∙ ap (λ (u : List ℕ). same_bytes u (bytes ")")) (p.0 ∙ head_of e) ∙ same_refl (bytes ")"))
+  pub seen_open : same_bytes last (bytes ")") ≡ false → IsOpen (kept comment)
+  seen_open f m c = go seen.back (sym back_is ∙ ap reverse c.last ∙ reverse-append c.between (bytes ")" ∷ [])) seen.pending
+    where
+      go : {ls : List (List ℕ)} (back : List (List ℕ)) → back ≡ bytes ")" ∷ ls → Pending back last between → ⊥
+      go [] e p = never (cc)
+      go (l ∷ back) e p =
+          false≢true (sym f ∙ ap (λ (u : List ℕ). same_bytes u (bytes ")")) (p.0 ∙ head_of e) ∙ same_refl (bytes ")"))
 
--- What `measure` gives, by cases.
-pub body-closes : (lines : List (List ℕ)) (m : ℕ) (r : Body) → Bodies lines r → r ≡ Lines m → Closes lines m
-unfolding Bodies
-body-closes lines m r b e = rw e at b
-
-pub body_open : (lines : List (List ℕ)) (r : Body) → Bodies lines r → r ≡ Open → Bodies lines Open
-body_open lines r b e = rw e at b
+  pub seen-then : (t : Bool) → t ≡ same_bytes last (bytes ")") → MatchOption (then_some t between) (IsOpen (kept comment)) (λ m. Closes (kept comment) m)
+  seen-then true e = seen-closed (sym e)
+  seen-then false e = seen_open (sym e)
 
 -- ---- the lines joined
 
@@ -192,42 +170,40 @@ line-written (d ∷ ds) l out out' (suc q) e w h =
     ∙ ap (λ (u : List ℕ). u ++ drop (suc q + length l) out) (sym (joined_snoc ds d l))
 
 -- The lines that are written, and those that are still to be.
-pub record Writing (comment : List ℕ) (from m : ℕ) (out : List ℕ) (at t : ℕ) (out' : List ℕ) : Type 0 where
+pub record Writing (comment : List ℕ) (m : ℕ) (out rest : List ℕ) (t : ℕ) (out' : List ℕ) : Type 0 where
   pub done : List (List ℕ)
   pub todo : List (List ℕ)
-  pub lines : kept comment from ≡ (done ++ todo) ++ (bytes ")" ∷ [])
-  pub rest : kept comment at ≡ todo ++ (bytes ")" ∷ [])
+  pub lines : kept comment ≡ (done ++ todo) ++ (bytes ")" ∷ [])
+  pub left : kept rest ≡ todo ++ (bytes ")" ∷ [])
   pub takes : size done + size todo ≡ m
   pub here : t ≡ size done
   pub written : out' ≡ joined done ++ drop (t - 1) out
   pub long : length out' ≡ length out
-  pub inside : at ≤ length comment
 
-pub writing_none : {comment : List ℕ} {from m : ℕ} (out : List ℕ) → from ≤ length comment → Closes (kept comment from) m → Writing comment from m out from 0 out
+pub writing_none : {comment : List ℕ} {m : ℕ} (out : List ℕ) → Closes (kept comment) m → Writing comment m out comment 0 out
 unfolding joined
-writing_none out h c =
+writing_none out c =
     record {
       done = [];
       todo = c.between;
       lines = c.last;
-      rest = c.last;
+      left = c.last;
       takes = omega (arith, size-nil, c.takes);
       here = sym size-nil;
       written = refl;
       long = refl;
-      inside = h;
     }
 
-module _ {comment : List ℕ} {from m : ℕ} {out : List ℕ} {at t : ℕ} {out' : List ℕ} (w : Writing comment from m out at t out') where
+module _ {comment : List ℕ} {m : ℕ} {out rest : List ℕ} {t : ℕ} {out' : List ℕ} (w : Writing comment m out rest t out') where
   -- A line is left.
-  pub writing-some : kept comment at ≡ [] → ⊥
-  writing-some e = go w.todo (sym w.rest ∙ e)
+  pub writing-some : kept rest ≡ [] → ⊥
+  writing-some e = go w.todo (sym w.left ∙ e)
     where
       go : (todo : List (List ℕ)) → todo ++ (bytes ")" ∷ []) ≡ [] → ⊥
       go [] f = never (cc)
       go (l ∷ todo) f = never (cc)
 
-  pub writing-all : m ≤ t → Joins (kept comment from) m out out'
+  pub writing-all : m ≤ t → Joins (kept comment) m out out'
   writing-all h =
       let z : w.todo ≡ [] = size_none w.todo (omega (arith, w.takes, w.here)) in
       let e : w.done ++ w.todo ≡ w.done = ap (λ (u : List (List ℕ)). w.done ++ u) z ∙ append-nil w.done in
@@ -236,56 +212,54 @@ module _ {comment : List ℕ} {from m : ℕ} {out : List ℕ} {at t : ℕ} {out'
         written = w.written ∙ ap (λ (i : ℕ). joined w.done ++ drop i out) (let n : t - 1 ≡ m - 1 = omega (arith, w.takes, w.here, ap size z, size-nil) in n);
       }
 
-  module _ {start end next : ℕ} (less : t < m) (first : FirstKept comment at start end next) where
+  module _ {line behind : List ℕ} (less : t < m) (first : FirstKept rest line behind) where
     -- The next line is the first of those to be written.
-    split : (more : List (List ℕ)) × (w.todo ≡ part comment start end ∷ more) × (kept comment next ≡ more ++ (bytes ")" ∷ []))
+    split : (more : List (List ℕ)) × (w.todo ≡ line ∷ more) × (kept behind ≡ more ++ (bytes ")" ∷ []))
     split = go w.todo refl
       where
-        go : (todo : List (List ℕ)) → w.todo ≡ todo → (more : List (List ℕ)) × (todo ≡ part comment start end ∷ more) × (kept comment next ≡ more ++ (bytes ")" ∷ []))
+        go : (todo : List (List ℕ)) → w.todo ≡ todo → (more : List (List ℕ)) × (todo ≡ line ∷ more) × (kept behind ≡ more ++ (bytes ")" ∷ []))
         go [] e = absurd (omega (arith, w.takes, w.here, ap size e, size-nil))
         go (l ∷ more) e =
-            let f : ◌≡◌ {A = List (List ℕ)} (l ∷ (more ++ (bytes ")" ∷ []))) (part comment start end ∷ kept comment next) = ap (λ (u : List (List ℕ)). u ++ (bytes ")" ∷ [])) (sym e) ∙ sym w.rest ∙ first.line in
+            let f : ◌≡◌ {A = List (List ℕ)} (l ∷ (more ++ (bytes ")" ∷ []))) (line ∷ kept behind) = ap (λ (u : List (List ℕ)). u ++ (bytes ")" ∷ [])) (sym e) ∙ sym w.left ∙ first.line in
             (more, ap (λ (u : List ℕ). u ∷ more) (head_of f), sym (tail_of f))
 
-    fits : size w.done + (length (part comment start end) + 1) + size split.0 ≡ m
-    fits = omega (arith, w.takes, ap size split.1, size-more (part comment start end) split.0)
+    fits : size w.done + (length line + 1) + size split.0 ≡ m
+    fits = omega (arith, w.takes, ap size split.1, size-more line split.0)
 
-    pub writing-room : m ≤ length out + 1 → t + length (part comment start end) ≤ length out'
+    pub writing-room : m ≤ length out + 1 → t + length line ≤ length out'
     writing-room h = omega (arith, fits, w.here, w.long)
 
-    pub writing_more : m ≤ length out + 1 → {fed' copied : List ℕ} → fed' ≡ fed out' t → copied ≡ paste fed' t (part comment start end) (length (part comment start end)) → length copied ≡ length out' → Writing comment from m out next (t + (end - start + 1)) copied
+    pub writing_more : m ≤ length out + 1 → {fed' copied : List ℕ} → fed' ≡ fed out' t → copied ≡ paste fed' t line (length line) → length copied ≡ length out' → Writing comment m out behind (t + (length line + 1)) copied
     writing_more h f c k =
-        let n = length_part comment start end first.ordered first.inside in
-        let s : size (w.done ++ (part comment start end ∷ [])) ≡ size w.done + (length (part comment start end) + 1) = size-append w.done (part comment start end ∷ []) ∙ ap (λ (i : ℕ). size w.done + i) (size-one (part comment start end)) in
-        let i : t + length (part comment start end) ≡ t + (end - start + 1) - 1 = omega (arith, n) in
+        let s : size (w.done ++ (line ∷ [])) ≡ size w.done + (length line + 1) = size-append w.done (line ∷ []) ∙ ap (λ (i : ℕ). size w.done + i) (size-one line) in
+        let i : t + length line ≡ t + (length line + 1) - 1 = omega arith in
         record {
-          done = w.done ++ (part comment start end ∷ []);
+          done = w.done ++ (line ∷ []);
           todo = split.0;
           lines = w.lines
               ∙ ap (λ (u : List (List ℕ)). u ++ (bytes ")" ∷ []))
-              (ap (λ (u : List (List ℕ)). w.done ++ u) split.1 ∙ sym (append_snoc w.done (part comment start end) split.0));
-          rest = split.2;
+              (ap (λ (u : List (List ℕ)). w.done ++ u) split.1 ∙ sym (append_snoc w.done line split.0));
+          left = split.2;
           takes = omega (arith, s, fits);
-          here = omega (arith, s, n, w.here);
+          here = omega (arith, s, w.here);
           written = c
-              ∙ ap (λ (o : List ℕ). paste o t (part comment start end) (length (part comment start end))) f
-              ∙ line-written w.done (part comment start end) out out' t w.here w.written (omega (arith, writing-room h, w.long))
-              ∙ ap (λ (i : ℕ). joined (w.done ++ (part comment start end ∷ [])) ++ drop i out) i;
+              ∙ ap (λ (o : List ℕ). paste o t line (length line)) f
+              ∙ line-written w.done line out out' t w.here w.written (omega (arith, writing-room h, w.long))
+              ∙ ap (λ (i : ℕ). joined (w.done ++ (line ∷ [])) ++ drop i out) i;
           long = k ∙ w.long;
-          inside = first.ends;
         }
 
 -- ---- the answer
 
-doc-kept : (comment : List ℕ) → doc_text comment ≡ opened (kept comment 0)
+doc-kept : (comment : List ℕ) → doc_text comment ≡ opened (kept comment)
 unfolding doc_text kept
 doc-kept comment = refl
 
-opened-nil : opened [] ≡ none
+opened-nil : opened [] ≡ None
 unfolding opened
 opened-nil = refl
 
-opened-no : (l : List ℕ) (ls : List (List ℕ)) → same_bytes l (bytes "!") ≡ false → opened (l ∷ ls) ≡ none
+opened-no : (l : List ℕ) (ls : List (List ℕ)) → same_bytes l (bytes "!") ≡ false → opened (l ∷ ls) ≡ None
 unfolding opened
 opened-no l ls e = rw (opened, e)
 
@@ -293,33 +267,33 @@ opened-yes : (l : List ℕ) (ls : List (List ℕ)) → same_bytes l (bytes "!") 
 unfolding opened
 opened-yes l ls e = rw (opened, e)
 
-closed-yes : (l : List ℕ) (ls : List (List ℕ)) → same_bytes l (bytes ")") ≡ true → closed (l ∷ ls) ≡ some (joined (reverse ls))
+closed-yes : (l : List ℕ) (ls : List (List ℕ)) → same_bytes l (bytes ")") ≡ true → closed (l ∷ ls) ≡ Some (joined (reverse ls))
 unfolding closed
 closed-yes l ls e = rw (closed, e)
 
-closed-no : (l : List ℕ) (ls : List (List ℕ)) → same_bytes l (bytes ")") ≡ false → closed (l ∷ ls) ≡ none
+closed-no : (l : List ℕ) (ls : List (List ℕ)) → same_bytes l (bytes ")") ≡ false → closed (l ∷ ls) ≡ None
 unfolding closed
 closed-no l ls e = rw (closed, e)
 
-closed-nil : closed [] ≡ none
+closed-nil : closed [] ≡ None
 unfolding closed
 closed-nil = refl
 
-closed_some : {ls : List (List ℕ)} {m : ℕ} (c : Closes ls m) → closed (reverse ls) ≡ some (joined c.between)
+closed_some : {ls : List (List ℕ)} {m : ℕ} (c : Closes ls m) → closed (reverse ls) ≡ Some (joined c.between)
 closed_some c =
     ap (λ (u : List (List ℕ)). closed (reverse u)) c.last
     ∙ ap closed (reverse-append c.between (bytes ")" ∷ []))
     ∙ closed-yes (bytes ")") (reverse c.between) (same_refl (bytes ")"))
-    ∙ ap (λ (u : List (List ℕ)). some (joined u)) (reverse-reverse c.between)
+    ∙ ap (λ (u : List (List ℕ)). Some (joined u)) (reverse-reverse c.between)
 
-closed_none : (ls : List (List ℕ)) → ((m : ℕ) → Closes ls m → ⊥) → closed (reverse ls) ≡ none
+closed_none : (ls : List (List ℕ)) → ((m : ℕ) → Closes ls m → ⊥) → closed (reverse ls) ≡ None
 closed_none ls h = go (reverse ls) refl
   where
-    go : (back : List (List ℕ)) → reverse ls ≡ back → closed back ≡ none
+    go : (back : List (List ℕ)) → reverse ls ≡ back → closed back ≡ None
     go [] e = closed-nil
     go (l ∷ back) e = by (same_bytes l (bytes ")")) refl
       where
-        by : (t : Bool) → same_bytes l (bytes ")") ≡ t → closed (l ∷ back) ≡ none
+        by : (t : Bool) → same_bytes l (bytes ")") ≡ t → closed (l ∷ back) ≡ None
         by true f =
             absurd
             (h (size (reverse back))
@@ -333,46 +307,46 @@ closed_none ls h = go (reverse ls) refl
             }))
         by false f = closed-no l back f
 
+module _ (comment : List ℕ) where
+  pub body-empty : kept comment ≡ [] → doc_text comment ≡ None
+  body-empty e = doc-kept comment ∙ ap opened e ∙ opened-nil
+
+  module _ {line rest : List ℕ} (first : FirstKept comment line rest) where
+    pub body-plain : same_bytes line (bytes "!") ≡ false → doc_text comment ≡ None
+    body-plain f = doc-kept comment ∙ ap opened first.line ∙ opened-no line (kept rest) f
+
+    module _ (t : same_bytes line (bytes "!") ≡ true) where
+      body : doc_text comment ≡ closed (reverse (kept rest))
+      body = doc-kept comment ∙ ap opened first.line ∙ opened-yes line (kept rest) t
+
+      pub body-open : IsOpen (kept rest) → doc_text comment ≡ None
+      body-open h = body ∙ closed_none (kept rest) h
+
+      pub body-holds : {m : ℕ} → Closes (kept rest) m → Holds comment rest m
+      body-holds c = record { closes = c; text = body }
+
 module _ (comment out : List ℕ) where
-  none_said : doc_text comment ≡ none → doc_said Nothing out ≡ doc_of comment out
+  pub said-none : doc_text comment ≡ None → doc_said (Ok None) out ≡ doc_of comment out
   unfolding doc_of doc_said
-  none_said e = rw (doc_of, e)
+  said-none e = rw (doc_of, e)
 
-  short-said : (text : List ℕ) → doc_text comment ≡ some text → length out < length text → doc_said OutputTooShort out ≡ doc_of comment out
+  short-said : (text : List ℕ) (e : OutputTooShort) → doc_text comment ≡ Some text → length out < length text → doc_said (Err e) out ≡ doc_of comment out
   unfolding doc_of doc_said put
-  short-said text e h = rw (doc_of, e, put, lt-leb _ _ h)
+  short-said text e t h = rw (doc_of, t, put, lt-leb _ _ h)
 
-  found-said : (text : List ℕ) → doc_text comment ≡ some text → length text ≤ length out → doc_said (Found (length text)) (text ++ drop (length text) out) ≡ doc_of comment out
+  found-said : (text : List ℕ) → doc_text comment ≡ Some text → length text ≤ length out → doc_said (Ok (Some (length text))) (text ++ drop (length text) out) ≡ doc_of comment out
   unfolding doc_of doc_said put
-  found-said text e h = rw (doc_of, e, put, le-leb _ _ h)
+  found-said text t h = rw (doc_of, t, put, le-leb _ _ h)
 
-  pub said-empty : kept comment 0 ≡ [] → doc_said Nothing out ≡ doc_of comment out
-  said-empty e = none_said (doc-kept comment ∙ ap opened e ∙ opened-nil)
+  module _ {lines : List ℕ} {m : ℕ} (h : Holds comment lines m) (n : ℕ) (less : n ≡ m - 1) where
+    is_long : (c : Closes (kept lines) m) → n ≡ length (joined c.between)
+    is_long c = omega (arith, length-joined c.between, c.takes)
 
-  module _ {start end next : ℕ} (first : FirstKept comment 0 start end next) where
-    pub said_plain : same_bytes (part comment start end) (bytes "!") ≡ false → doc_said Nothing out ≡ doc_of comment out
-    said_plain f = none_said (doc-kept comment ∙ ap opened first.line ∙ opened-no (part comment start end) (kept comment next) f)
+    pub said-short : (e : OutputTooShort) → length out < n → doc_said (Err e) out ≡ doc_of comment out
+    said-short e l = short-said (joined h.closes.between) e (h.text ∙ closed_some h.closes) (omega (arith, is_long h.closes))
 
-    module _ (t : same_bytes (part comment start end) (bytes "!") ≡ true) where
-      body : doc_text comment ≡ closed (reverse (kept comment next))
-      body = doc-kept comment ∙ ap opened first.line ∙ opened-yes (part comment start end) (kept comment next) t
-
-      pub said-open : Bodies (kept comment next) Open → doc_said Nothing out ≡ doc_of comment out
-      unfolding Bodies
-      said-open h = none_said (body ∙ closed_none (kept comment next) h)
-
-      pub said-short : {m : ℕ} → Closes (kept comment next) m → length out < m - 1 → doc_said OutputTooShort out ≡ doc_of comment out
-      said-short c h = short-said (joined c.between) (body ∙ closed_some c) (omega (arith, length-joined c.between, c.takes))
-
-      pub said-found : {m : ℕ} {out' : List ℕ} → Joins (kept comment next) m out out' → m - 1 ≤ length out → doc_said (Found (m - 1)) out' ≡ doc_of comment out
-      said-found {m} {out'} j h =
-          let c = j.closes in
-          let n : m - 1 ≡ length (joined c.between) = omega (arith, length-joined c.between, c.takes) in
-          ap₂ (λ (i : ℕ) (o : List ℕ). doc_said (Found i) o) n (j.written ∙ ap (λ (i : ℕ). joined c.between ++ drop i out) n)
-          ∙ found-said (joined c.between) (body ∙ closed_some c) (omega (arith, length-joined c.between, c.takes))
-
-      pub said-none : {m : ℕ} → Closes (kept comment next) m → m ≡ 0 → doc_said (Found 0) out ≡ doc_of comment out
-      unfolding joined
-      said-none c e =
-          let z : c.between ≡ [] = size_none c.between (c.takes ∙ e) in
-          found-said [] (body ∙ closed_some c ∙ ap (λ (u : List (List ℕ)). some (joined u)) z) (omega arith)
+    pub said-found : {out' : List ℕ} → Joins (kept lines) m out out' → n ≤ length out → doc_said (Ok (Some n)) out' ≡ doc_of comment out
+    said-found j l =
+        let e = is_long j.closes in
+        ap₂ (λ (i : ℕ) (o : List ℕ). doc_said (Ok (Some i)) o) e (j.written ∙ ap (λ (i : ℕ). joined j.closes.between ++ drop i out) (let k : m - 1 ≡ length (joined j.closes.between) = omega (arith, e) in k))
+        ∙ found-said (joined j.closes.between) (h.text ∙ closed_some j.closes) (omega (arith, e))

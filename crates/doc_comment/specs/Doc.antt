@@ -1,11 +1,9 @@
 -- `doc_comment_above` of 001: the doc text of the comment above a token.
-use Rattle.std.specs.Prelude.{ℕ, List, [], ◌∷◌, ◌++◌, reverse, true, false, length, drop, leb, eqb}
-use Rattle.std.proofs.Math.Option.{Option, none, some}
+use Rattle.std.specs.Prelude.{ℕ, List, [], ◌∷◌, ◌++◌, reverse, true, false, length, drop, leb, eqb, Option, None, Some, Result, Ok, Err}
 use Rattle.text.specs.Bytes.{bytes, same_bytes}
 use Rattle.reader.specs.Tokens.{text_of}
 use Rattle.comments.specs.Above.{comment_above}
-use Rattle.doc_comment.specs.declared.DocText.{DocText}
-use Rattle.doc_comment.specs.declared.DocText.TheVariants.{Found, OutputTooShort, Nothing}
+use Rattle.doc_comment.specs.declared.OutputTooShort.{OutputTooShort}
 use Rattle.formatter.specs.declared.Lookup.{Lookup}
 use Rattle.formatter.specs.Lookup.{Looked, looked, declined, asked, ask, looked_of}
 
@@ -24,8 +22,8 @@ lines_from line (b ∷ bs) =
 
 -- What follows the first asterisk of a line.
 unfoldable pub after_asterisk : List ℕ → Option (List ℕ)
-after_asterisk [] = none
-after_asterisk (b ∷ bs) = elim (eqb b 42) [ true ↦ some bs | false ↦ after_asterisk bs ]
+after_asterisk [] = None
+after_asterisk (b ∷ bs) = elim (eqb b 42) [ true ↦ Some bs | false ↦ after_asterisk bs ]
 
 -- A line less one leading space.
 unfoldable pub without_space : List ℕ → List ℕ
@@ -35,7 +33,7 @@ without_space (b ∷ bs) = elim (eqb b 32) [ true ↦ bs | false ↦ b ∷ bs ]
 -- Lines without an asterisk are dropped; of the others stands what follows it, less one leading space.
 unfoldable pub starred : List (List ℕ) → List (List ℕ)
 starred [] = []
-starred (line ∷ more) = elim (after_asterisk line) [ none ↦ starred more | some rest ↦ without_space rest ∷ starred more ]
+starred (line ∷ more) = elim (after_asterisk line) [ None ↦ starred more | Some rest ↦ without_space rest ∷ starred more ]
 
 -- Lines joined by line feeds.
 unfoldable pub joined : List (List ℕ) → List ℕ
@@ -45,13 +43,13 @@ joined (line ∷ next ∷ more) = line ++ 10 ∷ joined (next ∷ more)
 
 -- The lines before the last, where that is `)`; `back` has them in reverse.
 unfoldable pub closed : List (List ℕ) → Option (List ℕ)
-closed [] = none
-closed (last ∷ back) = elim (same_bytes last (bytes ")")) [ true ↦ some (joined (reverse back)) | false ↦ none ]
+closed [] = None
+closed (last ∷ back) = elim (same_bytes last (bytes ")")) [ true ↦ Some (joined (reverse back)) | false ↦ None ]
 
 -- At least two lines are left, the first is `!` and the last `)`: those between.
 unfoldable pub opened : List (List ℕ) → Option (List ℕ)
-opened [] = none
-opened (line ∷ more) = elim (same_bytes line (bytes "!")) [ true ↦ closed (reverse more) | false ↦ none ]
+opened [] = None
+opened (line ∷ more) = elim (same_bytes line (bytes "!")) [ true ↦ closed (reverse more) | false ↦ None ]
 
 -- The doc text of a comment's untrimmed text.
 unfoldable pub doc_text : List ℕ → Option (List ℕ)
@@ -69,17 +67,16 @@ doc l out = record { answer = l; out = out }
 unfoldable pub put : List ℕ → List ℕ → Doc
 put text out =
     elim (leb (length text) (length out))
-    [ true ↦ doc (looked 0 0 (some (length text))) (text ++ drop (length text) out) | false ↦ doc (looked 8 0 none) out ]
+    [ true ↦ doc (looked 0 0 (Some (length text))) (text ++ drop (length text) out) | false ↦ doc (looked 8 0 None) out ]
 
 -- The doc text of a comment in the output's first bytes; finding none, the output is unchanged.
 unfoldable pub doc_of : List ℕ → List ℕ → Doc
-doc_of comment out = elim (doc_text comment) [ none ↦ doc (looked 0 0 none) out | some found ↦ put found out ]
+doc_of comment out = elim (doc_text comment) [ None ↦ doc (looked 0 0 None) out | Some found ↦ put found out ]
 
 -- What an answer of `doc_text` and the final output stand for.
-unfoldable pub doc_said : DocText → List ℕ → Doc
-doc_said (Found n) out = doc (looked 0 0 (some n)) out
-doc_said OutputTooShort out = doc (looked 8 0 none) out
-doc_said Nothing out = doc (looked 0 0 none) out
+unfoldable pub doc_said : Result (Option ℕ) OutputTooShort → List ℕ → Doc
+doc_said (Ok answer) out = doc (looked 0 0 answer) out
+doc_said (Err e) out = doc (looked 8 0 None) out
 
 -- `doc_comment_above` of a token.
 unfoldable pub doc_lookup : List ℕ → List ℕ → ℕ → List ℕ → Doc
@@ -87,8 +84,8 @@ doc_lookup text rec token out =
     elim (ask text rec token) [
       | declined l ↦ doc l out
       | asked tokens ↦ elim (comment_above tokens.kinds token) [
-        | none ↦ doc (looked 0 0 none) out
-        | some k ↦ doc_of (text_of text tokens k) out
+        | None ↦ doc (looked 0 0 None) out
+        | Some k ↦ doc_of (text_of text tokens k) out
       ]
     ]
 

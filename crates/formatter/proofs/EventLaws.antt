@@ -2,10 +2,11 @@
 use Prim.Native.Nat.{ℕ, zero, suc, ◌+◌, ◌*◌, ◌≤◌, ◌<◌}
 use native.Mathlib.Nat.{mul-add, mul_comm, mul-zero}
 use native.Mathlib.Omega.{arith}
-use mathlib.Core.Path.{◌≡◌, refl, ap, ◌∙◌}
+use mathlib.Core.Path.{◌≡◌, refl, sym, ap, ◌∙◌}
 use mathlib.Core.Logic.{⊎_elim}
 use mathlib.Core.Bool.{Bool, true, false, not, ◌&&◌}
-use mathlib.Core.Option.{Option, none, some, some-ne-none}
+use Rattle.std.proofs.lemmas.Option.{none-some}
+use Rattle.std.specs.Prelude.{Option, None, Some}
 use mathlib.Core.List.{List, [], ◌∷◌}
 use lib.ListN.{length, length-append, length-replicate}
 use lib.Dec.{eqb, leb}
@@ -38,15 +39,15 @@ module _ (p : Page) where
 
 -- ---- the comments left
 -- A search that finds none has met none.
-none_met : (member : ℕ → Bool) (n k : ℕ) → first member k n ≡ none → (i : ℕ) → k ≤ i → i < k + n → member i ≡ false
+none_met : (member : ℕ → Bool) (n k : ℕ) → first member k n ≡ None → (i : ℕ) → k ≤ i → i < k + n → member i ≡ false
 unfolding first
 none_met member zero k h i l b = absurd (omega arith)
 none_met member (suc n) k h i l b =
     go (member k) refl h (λ rest l b. none_met member n (k + 1) rest i l b) (eqb i k) refl
   where
-    go : (t : Bool) → member k ≡ t → ◌≡◌ {A = Option ℕ} (elim t [ true ↦ some k | false ↦ first member (k + 1) n ]) none
-        → (first member (k + 1) n ≡ none → k + 1 ≤ i → i < k + 1 + n → member i ≡ false) → (s : Bool) → eqb i k ≡ s → member i ≡ false
-    go true e h ih s f = absurd (some-ne-none k h)
+    go : (t : Bool) → member k ≡ t → ◌≡◌ {A = Option ℕ} (elim t [ true ↦ Some k | false ↦ first member (k + 1) n ]) None
+        → (first member (k + 1) n ≡ None → k + 1 ≤ i → i < k + 1 + n → member i ≡ false) → (s : Bool) → eqb i k ≡ s → member i ≡ false
+    go true e h ih s f = absurd (none-some k (sym h))
     go false e h ih true f = ap member (eqb-true i k f) ∙ e
     go false e h ih false f = ih h (let ne = eqb-false i k f in omega arith) (omega arith)
 
@@ -56,7 +57,7 @@ module _ (kinds : List ℕ) (es : List Event) where
   unfolding is_left
   left-past k h = ap (λ t. t && not (written es k)) (no-comment kinds k h)
 
-  module _ (none_left : first (is_left kinds es) 0 (length kinds) ≡ none) where
+  module _ (none_left : first (is_left kinds es) 0 (length kinds) ≡ None) where
     pub not_left : (k : ℕ) → is_left kinds es k ≡ false
     not_left k =
         ⊎_elim (λ h. left-past k (leb-true (length kinds) k h))

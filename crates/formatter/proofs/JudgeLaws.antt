@@ -5,7 +5,7 @@ use native.Mathlib.Omega.{arith}
 use mathlib.Core.Path.{◌≡◌, refl, sym, ap, ap₂, ◌∙◌, subst}
 use mathlib.Core.Bool.{Bool, true, false, cond}
 use mathlib.Core.List.{List, ◌∷◌, ◌++◌}
-use mathlib.Core.Option.{none}
+use Rattle.std.specs.Prelude.{Option, None, Some}
 use lib.ListN.{length, get_or, take, drop, length-take}
 use lib.Seq.{paste, take-append_seam, take-length}
 use lib.Dec.{eqb, ltb}
@@ -13,9 +13,7 @@ use borrow.Author.Tests.{eq-eqb, ne_eqb, eqb-true, le-leb, lt-leb, lt-ltb, le-lt
 use Rattle.text.proofs.Laws.{never}
 use Rattle.reader.specs.Commands.{form_width}
 use Rattle.reader.specs.Check.{max_forms, tree_check}
-use Rattle.text.specs.declared.Broken.{Broken}
 use Rattle.text.specs.Utf8.{first_broken, boundary}
-use Rattle.text.specs.Promises.Utf8.{broken_at}
 use Rattle.reader.specs.Tokens.{count_of, max_tokens, tokens}
 use Rattle.reader.specs.Promises.Tokens.{starts_of, lengths_of, tokens_in, tiling_in, Tiles}
 use Rattle.reader.specs.Reading.{max_text, max_record}
@@ -23,9 +21,7 @@ use Rattle.reader.specs.Promises.Tree.{checked_in, TreeEnd}
 use Rattle.reader.specs.declared.tree.Checked as Tree
 use Rattle.reader.specs.declared.tokens.Tiled as Tokens
 use Rattle.reader.specs.declared.tokens.Tiled.TheVariants as Tiled
-use Rattle.comments.specs.declared.First.{First}
-use Rattle.comments.specs.declared.First.TheVariants as Seen
-use Rattle.comments.specs.Set.{is_comment, holds, words_of, room, count, first, first_at}
+use Rattle.comments.specs.Set.{is_comment, holds, words_of, room, count, first}
 use Rattle.layout.specs.Meaning.{Page, Event, Outcome, done, stopped, Stop, absent, imported}
 use Rattle.layout.specs.Promises.Words.{word_run}
 use Rattle.layout.specs.Walk.{walks, top, walk}
@@ -326,20 +322,19 @@ module _ {run· : List ℕ} {p : Page} {tree tab : ℕ} {words m o : List ℕ} {
     unfolding weight
     weigh-accepts long e a =
         let z : count (holds m') 0 room ≡ 0 = eqb-true (count (holds m') 0 room) 0 (sym h ∙ e) in
-        let gone : first (is_left p.tokens.kinds es) 0 (length p.tokens.kinds) ≡ none = (empty_left p.tokens.kinds es m' few words_are).0 z in
+        let gone : first (is_left p.tokens.kinds es) 0 (length p.tokens.kinds) ≡ None = (empty_left p.tokens.kinds es m' few words_are).0 z in
         let none_left = comments-none p es m' few words_are (first-left p.tokens.kinds es m' few words_are ∙ gone) in
         record { is = (refl, refl, record { weight = weight a; accepts = walked-is ∙ none_left.0; drafts = drafts long; empty = none_left.1 }) }
 
-    module _ {x : First} (i : first_at x ≡ first (holds m') 0 room) where
-      pub weigh-comments : {k place count : ℕ} {draft : List ℕ} → x ≡ Seen.At k → place ≡ get_or p.tokens.starts k 0
+    module _ {x : Option ℕ} (i : x ≡ first (holds m') 0 room) where
+      pub weigh-comments : {k place count : ℕ} {draft : List ℕ} → x ≡ Some k → place ≡ get_or p.tokens.starts k 0
           → Weighs p count tree tab draft m' (Says.Declined (Case.CommentsLeft place))
-      unfolding first_at verdict_of number_of place_of given_measures
-      weigh-comments {k} j q = record { is = rw q (walked-is ∙ comments-some p es m' few words_are (sym i ∙ ap first_at j)) }
+      unfolding verdict_of number_of place_of given_measures
+      weigh-comments {k} j q = record { is = rw q (walked-is ∙ comments-some p es m' few words_are (sym i ∙ j)) }
 
-      pub weigh-never : {A : Type 0} → b ≡ false → x ≡ Seen.Nowhere → A
-      unfolding first_at
+      pub weigh-never : {A : Type 0} → b ≡ false → x ≡ None → A
       weigh-never e j =
-          let gone : first (holds m') 0 room ≡ none = sym i ∙ ap first_at j in
+          let gone : first (holds m') 0 room ≡ None = sym i ∙ j in
           let z : count (holds m') 0 room ≡ 0 = (empty_left p.tokens.kinds es m' few words_are).1 (sym (first-left p.tokens.kinds es m' few words_are) ∙ gone) in
           never (ap (λ x. elim x [ true ↦ 0 | false ↦ 1 ]) (sym (eq-eqb _ _ z) ∙ sym h ∙ e))
 
@@ -443,15 +438,15 @@ module _ (text rec : List ℕ) where
       unfolding judge_walk_first
       text-first = walk_first text rec ∙ rw (le-leb (length text) max_text a, le-leb (length rec) max_record b, judge_walk_first) refl
 
-      module _ {w : Broken} (s : broken_at w ≡ first_broken text) where
-        pub not-utf8 : {place : ℕ} → w ≡ Broken.At place → judge text rec ≡ declined (verdict_of (Case.NotUtf8 place) empty_set)
-        unfolding text_first broken_at verdict_of number_of place_of given_measures
-        not-utf8 e = text-first ∙ rw (sym s ∙ ap broken_at e, text_first) refl
+      module _ {w : Option ℕ} (s : w ≡ first_broken text) where
+        pub not-utf8 : {place : ℕ} → w ≡ Some place → judge text rec ≡ declined (verdict_of (Case.NotUtf8 place) empty_set)
+        unfolding text_first verdict_of number_of place_of given_measures
+        not-utf8 e = text-first ∙ rw (sym s ∙ e, text_first) refl
 
-        module _ (e : w ≡ Broken.Nowhere) {kinds starts lens : List ℕ} {t : Tokens.Tiled} (u : Tiles (boundary text) (length text) rec kinds starts lens t) where
+        module _ (e : w ≡ None) {kinds starts lens : List ℕ} {t : Tokens.Tiled} (u : Tiles (boundary text) (length text) rec kinds starts lens t) where
           record-first : judge text rec ≡ record_first text rec
-          unfolding text_first broken_at
-          record-first = text-first ∙ rw (sym s ∙ ap broken_at e, text_first) refl
+          unfolding text_first
+          record-first = text-first ∙ rw (sym s ∙ e, text_first) refl
 
           tiling-is : {x : Tokens.Tiled} → t ≡ x → tokens (boundary text) (length text) rec ≡ tiling_in x kinds starts lens
           tiling-is f = sym u.is ∙ ap (λ x. tiling_in x kinds starts lens) f
@@ -461,7 +456,7 @@ module _ (text rec : List ℕ) where
           not-tiled f = record-first ∙ rw (tiling-is f, record_first) refl
 
         -- With the tokens in the tables.
-        module _ (e : w ≡ Broken.Nowhere) {kinds : List ℕ} (spans : List ℕ) {t : Tokens.Tiled}
+        module _ (e : w ≡ None) {kinds : List ℕ} (spans : List ℕ) {t : Tokens.Tiled}
             (u : Tiles (boundary text) (length text) rec kinds (starts_of spans) (lengths_of spans) t) {count tree : ℕ} (f : t ≡ Tiled.Tiled count tree) where
           abbrev sheet_page : Page
           sheet_page = page_in text rec count kinds spans

@@ -3,7 +3,8 @@ use Prim.Native.Nat.{ℕ, ◌≤◌, ◌<◌}
 use mathlib.Core.Path.{◌≡◌, refl, sym, ◌∙◌, ap, ap₂}
 use mathlib.Core.Bool.{Bool, true, false}
 use mathlib.Core.List.{List}
-use mathlib.Core.Option.{Option, none, some, none-ne-some, some-injective}
+use Rattle.std.proofs.lemmas.Option.{none-some, same_Some}
+use Rattle.std.specs.Prelude.{Option, None, Some}
 use native.Mathlib.Omega.{arith}
 use lib.Dec.{ltb}
 use lib.ListN.{length, get_or, take, length-take}
@@ -17,11 +18,7 @@ use Rattle.reader.specs.Promises.Reading.{Reads}
 use Rattle.reader.proofs.ReadingLaws.{reading-says, reading-counts}
 use Rattle.reader.proofs.KindLaws.{kinds_known}
 use Rattle.text.proofs.Laws.{never}
-use Rattle.comments.specs.declared.Above.{Above}
-use Rattle.comments.specs.declared.Above.TheVariants.{Comment, Nothing}
-use Rattle.comments.specs.declared.Passed.{Passed}
 use Rattle.comments.specs.Above.{Found, found_above, Reaches}
-use Rattle.comments.specs.Promises.Above.{found_of}
 use Rattle.comments.proofs.Search.{found-reaches}
 use Rattle.formatter.specs.declared.Lookup.{Lookup}
 use Rattle.formatter.specs.declared.Lookup.TheVariants as Case
@@ -46,7 +43,7 @@ module _ {text rec kinds starts lens : List ℕ} {r : Reading} (s : Reads text r
     ask-past h =
         record { is = rw (reading-says s e, ask, le-ltb token (length (take count kinds)) (rw counts.0 h)); counts = tt }
 
-  refusal : {number place : ℕ} → read text rec ≡ refused number place → declined (looked number place none) ≡ ask text rec token
+  refusal : {number place : ℕ} → read text rec ≡ refused number place → declined (looked number place None) ≡ ask text rec token
   unfolding ask
   refusal e = rw (e, ask)
 
@@ -82,18 +79,18 @@ module _ {text rec kinds starts lens : List ℕ} {token : ℕ} {r : Code.Asked} 
     pub asked-within : count ≤ length kinds
     asked-within = omega (arith, asked-counts.0, length-take count kinds)
 
-    module _ (a : Above) (f : found_of a ≡ found_above (take count kinds) token) where
-      lookup-is : {o : Option Found} → found_of a ≡ o → told o ≡ lookup text rec token
+    module _ (a : Option Found) (f : a ≡ found_above (take count kinds) token) where
+      lookup-is : {o : Option Found} → a ≡ o → told o ≡ lookup text rec token
       unfolding lookup
       lookup-is g = rw (asked-says e, lookup, ← f, g)
 
-      pub lookup-found : {k : ℕ} {saw : Passed} → a ≡ Comment k saw → looked_of (Case.Found k saw) ≡ lookup text rec token
-      unfolding found_of told looked_of number_of place_of answer_of keyword_of
-      lookup-found g = lookup-is (ap found_of g)
+      pub lookup-found : {x : Found} → a ≡ Some x → looked_of (Case.Found x.comment x.keyword) ≡ lookup text rec token
+      unfolding told looked_of number_of place_of answer_of keyword_of
+      lookup-found g = lookup-is g
 
-      pub lookup-nothing : a ≡ Nothing → looked_of Case.Nothing ≡ lookup text rec token
-      unfolding found_of told looked_of number_of place_of answer_of keyword_of
-      lookup-nothing g = lookup-is (ap found_of g)
+      pub lookup-nothing : a ≡ None → looked_of Case.Nothing ≡ lookup text rec token
+      unfolding told looked_of number_of place_of answer_of keyword_of
+      lookup-nothing g = lookup-is g
 
 -- ---- the keyword that is told
 -- The kinds of the tokens over which a lookup goes.
@@ -101,27 +98,27 @@ asked_kinds : (text rec : List ℕ) (token : ℕ) (ts : Read.Tokens) → ask tex
 unfolding ask
 asked_kinds text rec token ts e = go (read text rec) refl e
   where
-    within : (us : Read.Tokens) (tree : ℕ) (b : Bool) → read text rec ≡ sheet us tree → elim b as (λ z. Asked) [ true ↦ asked us | false ↦ declined (looked 9 0 none) ] ≡ asked ts → (k : ℕ) → get_or ts.kinds k 0 ≤ 20
+    within : (us : Read.Tokens) (tree : ℕ) (b : Bool) → read text rec ≡ sheet us tree → elim b as (λ z. Asked) [ true ↦ asked us | false ↦ declined (looked 9 0 None) ] ≡ asked ts → (k : ℕ) → get_or ts.kinds k 0 ≤ 20
     within us tree true f g = let h : us ≡ ts = cc in kinds_known text rec ts tree (f ∙ ap (λ (x : Read.Tokens). sheet x tree) h)
     within us tree false f g = never (cc)
 
     go : (r : Read) → read text rec ≡ r
-        → elim r as (λ z. Asked) [ refused number place ↦ declined (looked number place none) | sheet us tree ↦ elim (ltb token (length us.kinds)) as (λ z. Asked) [ true ↦ asked us | false ↦ declined (looked 9 0 none) ] ] ≡ asked ts
+        → elim r as (λ z. Asked) [ refused number place ↦ declined (looked number place None) | sheet us tree ↦ elim (ltb token (length us.kinds)) as (λ z. Asked) [ true ↦ asked us | false ↦ declined (looked 9 0 None) ] ] ≡ asked ts
         → (k : ℕ) → get_or ts.kinds k 0 ≤ 20
     go (refused number place) f g = never (cc)
     go (sheet us tree) f g = within us tree (ltb token (length us.kinds)) f g
 
-told-found : (o : Option Found) (f : Found) → told o ≡ told (some f) → o ≡ some f
+told-found : (o : Option Found) (f : Found) → told o ≡ told (Some f) → o ≡ Some f
 unfolding told
-told-found none f e = absurd (none-ne-some f.comment (ap (λ (l : Looked). l.answer) e))
-told-found (some g) f e =
-    ap₂ (λ (c : ℕ) (k : Option ℕ). some (record { comment = c; keyword = k }))
-    (some-injective g.comment f.comment (ap (λ (l : Looked). l.answer) e)) (ap (λ (l : Looked). l.keyword) e)
+told-found None f e = absurd (none-some f.comment (ap (λ (l : Looked). l.answer) e))
+told-found (Some g) f e =
+    ap₂ (λ (c : ℕ) (k : Option ℕ). Some (record { comment = c; keyword = k }))
+    (same_Some g.comment f.comment (ap (λ (l : Looked). l.answer) e)) (ap (λ (l : Looked). l.keyword) e)
 
 -- A keyword that is told is of kinds 2 to 20, behind the comment and not behind the token that is looked up; every other token between these two
 -- is of kind 0.
-pub lookup-reaches : (text rec : List ℕ) (token : ℕ) (ts : Read.Tokens) → ask text rec token ≡ asked ts → (f : Found) → lookup text rec token ≡ told (some f) → Reaches ts.kinds token f
+pub lookup-reaches : (text rec : List ℕ) (token : ℕ) (ts : Read.Tokens) → ask text rec token ≡ asked ts → (f : Found) → lookup text rec token ≡ told (Some f) → Reaches ts.kinds token f
 unfolding lookup
 lookup-reaches text rec token ts e f g =
-    let h : told (found_above ts.kinds token) ≡ told (some f) = rw (e, lookup) at g in
+    let h : told (found_above ts.kinds token) ≡ told (Some f) = rw (e, lookup) at g in
     found-reaches ts.kinds token f (asked_kinds text rec token ts e) (told-found (found_above ts.kinds token) f h)

@@ -7,7 +7,7 @@ use mathlib.Core.Path.{◌≡◌, refl, sym, ap, ap₂, ◌∙◌}
 use mathlib.Core.Bool.{Bool, true, false, not, ◌&&◌, ◌||◌, and-true}
 use mathlib.Core.Logic.{◌↔◌}
 use mathlib.Core.List.{List, [], ◌∷◌, ◌++◌, append_assoc}
-use mathlib.Core.Option.{none, some}
+use Rattle.std.specs.Prelude.{None, Some}
 use lib.ListN.{length, get_or, take, drop, length-append, replicate, length-replicate}
 use lib.Seq.{paste, paste-zero, length-paste, take-paste, drop-paste, take-length, drop-drop}
 use lib.Dec.{eqb, ltb}
@@ -142,22 +142,22 @@ module _ (kinds : List ℕ) (es : List Event) where
     first-left = words-first (is_left kinds es) words e ∙ first-among (is_left kinds es) (length kinds) few (left-past kinds es)
 
     -- The words hold no token exactly where no comment is left.
-    pub empty_left : (count (holds words) 0 room ≡ 0) ↔ (first (is_left kinds es) 0 (length kinds) ≡ none)
+    pub empty_left : (count (holds words) 0 room ≡ 0) ↔ (first (is_left kinds es) 0 (length kinds) ≡ None)
     empty_left = (λ h. sym first-left ∙ count_none (holds words) room 0 h, λ h. none-count (holds words) room 0 (first-left ∙ h))
 
   -- Where no comment is left the words are those of the empty set.
-  pub empty-words : first (is_left kinds es) 0 (length kinds) ≡ none → words_of (is_left kinds es) ≡ empty_set
+  pub empty-words : first (is_left kinds es) 0 (length kinds) ≡ None → words_of (is_left kinds es) ≡ empty_set
   unfolding words_of words_from bits
   empty-words h = ap words_of (λ i k. not_left kinds es h k i)
 
 -- 6 by the words that the walk leaves: the place is that of the first token that they hold.
 module _ (p : Page) (es : List Event) (words : List ℕ) (few : length p.tokens.kinds ≤ room) (e : words ≡ words_of (is_left p.tokens.kinds es)) where
-  pub comments-some : {k : ℕ} → first (holds words) 0 room ≡ some k
+  pub comments-some : {k : ℕ} → first (holds words) 0 room ≡ Some k
       → comments p es ≡ declined (record { number = 6; place = get_or p.tokens.starts k 0; measures = no_measures; left = words })
   unfolding comments
   comments-some h = rw (comments, ← first-left p.tokens.kinds es words few e, h, ← e)
 
-  pub comments-none : first (holds words) 0 room ≡ none → (comments p es ≡ accepted p es) × (words ≡ empty_set)
+  pub comments-none : first (holds words) 0 room ≡ None → (comments p es ≡ accepted p es) × (words ≡ empty_set)
   unfolding comments
   comments-none h =
       let none_left = sym (first-left p.tokens.kinds es words few e) ∙ h in

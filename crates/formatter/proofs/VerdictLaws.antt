@@ -5,7 +5,7 @@ use mathlib.Core.Path.{◌≡◌, refl, sym, ap, ◌∙◌}
 use mathlib.Core.Logic.{◌↔◌, ◌⊎◌, inl, inr, ⊎_elim}
 use mathlib.Core.Bool.{Bool, true, false}
 use mathlib.Core.List.{List, ◌++◌}
-use mathlib.Core.Option.{Option, none, some}
+use Rattle.std.specs.Prelude.{Option, None, Some}
 use lib.ListN.{length, drop}
 use lib.Dec.{leb}
 use borrow.Author.Tests.{le-leb, lt-leb, leb-true, leb-false}
@@ -38,8 +38,8 @@ module _ (p : Page) where
   comments-number es = go (first (is_left p.tokens.kinds es) 0 (length p.tokens.kinds)) refl
     where
       go : (o : Option ℕ) → first (is_left p.tokens.kinds es) 0 (length p.tokens.kinds) ≡ o → Declined (comments p es)
-      go (some k) f = rw (f, comments) (λ e. omega (arith, e))
-      go none f = rw (f, comments) tt
+      go (Some k) f = rw (f, comments) (λ e. omega (arith, e))
+      go None f = rw (f, comments) tt
 
   stop-number : (why : Stop) → (stop_verdict why).number ≡ 0 → ⊥
   unfolding stop_verdict
@@ -64,14 +64,14 @@ judge-number text rec = go (read text rec) refl
 
 -- ---- an accepted sheet
 comments-accepted : (p q : Page) (es fs : List Event) → comments p es ≡ accepted q fs
-    → (p ≡ q) × (es ≡ fs) × (first (is_left p.tokens.kinds es) 0 (length p.tokens.kinds) ≡ none)
+    → (p ≡ q) × (es ≡ fs) × (first (is_left p.tokens.kinds es) 0 (length p.tokens.kinds) ≡ None)
 unfolding comments
 comments-accepted p q es fs e = go (first (is_left p.tokens.kinds es) 0 (length p.tokens.kinds)) refl
   where
     go : (o : Option ℕ) → first (is_left p.tokens.kinds es) 0 (length p.tokens.kinds) ≡ o
-        → (p ≡ q) × (es ≡ fs) × (first (is_left p.tokens.kinds es) 0 (length p.tokens.kinds) ≡ none)
-    go (some k) f = let d = rw (f, comments) at e in never (cc)
-    go none f = let d : accepted p es ≡ accepted q fs = rw (f, comments) at e in (cc, cc, f)
+        → (p ≡ q) × (es ≡ fs) × (first (is_left p.tokens.kinds es) 0 (length p.tokens.kinds) ≡ None)
+    go (Some k) f = let d = rw (f, comments) at e in never (cc)
+    go None f = let d : accepted p es ≡ accepted q fs = rw (f, comments) at e in (cc, cc, f)
 
 module _ (text rec : List ℕ) (p : Page) (es : List Event) where
   walked-accepted : (q : Page) (tree : ℕ) → walked q tree ≡ accepted p es → q ≡ record { text = text; rec = rec; tokens = q.tokens }

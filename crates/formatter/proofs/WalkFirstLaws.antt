@@ -3,7 +3,7 @@ use Prim.Native.Nat.{ℕ}
 use mathlib.Core.Path.{◌≡◌, refl, ap, ◌∙◌, subst}
 use mathlib.Core.Bool.{Bool, true, false, ◌&&◌}
 use mathlib.Core.List.{List}
-use mathlib.Core.Option.{Option, none, some}
+use Rattle.std.specs.Prelude.{Option, None, Some}
 use lib.ListN.{length}
 use lib.Dec.{leb, eqb}
 use borrow.Author.Tests.{eqb-true, eqb-false}
@@ -78,8 +78,8 @@ module _ (text rec : List ℕ) where
 
   text-is : (o : Option ℕ) → first_broken text ≡ o → judge_of text rec (read_text text rec) ≡ text_first text rec
   unfolding read_text text_first
-  text-is none e = rw (e, read_text, text_first) (record_is (tokens (boundary text) (length text) rec) refl)
-  text-is (some place) e = rw (e, read_text, text_first) refl
+  text-is None e = rw (e, read_text, text_first) (record_is (tokens (boundary text) (length text) rec) refl)
+  text-is (Some place) e = rw (e, read_text, text_first) refl
 
   lengths_are : (b : Bool) → (leb (length text) max_text && leb (length rec) max_record) ≡ b → judge_of text rec (read text rec) ≡ judge_walk_first text rec
   unfolding read judge_walk_first

@@ -1,6 +1,5 @@
 -- What `check` and `get` accept.
-use Rattle.std.specs.Prelude.{ℕ, ◌+◌, ◌*◌, ◌≤◌, ◌≡◌, List, length}
-use Rattle.std.proofs.Math.Option.{none}
+use Rattle.std.specs.Prelude.{ℕ, ◌+◌, ◌*◌, ◌≤◌, ◌≡◌, List, length, None}
 use Rattle.reader.specs.Reading.{sheet, read}
 use Rattle.comments.specs.Set.{first}
 use Rattle.layout.specs.Meaning.{Page, Event, done}
@@ -15,7 +14,7 @@ pub record Sheet (text rec : List ℕ) (p : Page) (es : List Event) : Type 0 whe
   pub page : p ≡ record { text = text; rec = rec; tokens = p.tokens }
   pub reads : read text rec ≡ sheet p.tokens tree
   pub walks : walk p tree ≡ done end es
-  pub none_left : first (is_left p.tokens.kinds es) 0 (length p.tokens.kinds) ≡ none
+  pub none_left : first (is_left p.tokens.kinds es) 0 (length p.tokens.kinds) ≡ None
 
 -- The check accepts the sheet, and the two bounds hold.
 pub record Fits (text rec : List ℕ) (tab : ℕ) (out : List ℕ) : Type 0 where

@@ -1,10 +1,9 @@
 -- The lookups: 1 to 4, then 9, then 8; number, place, answer and final output for every input.
-use Rattle.std.specs.Prelude.{ℕ, List, true, false, length, ltb}
-use Rattle.std.proofs.Math.Option.{Option, none, some}
+use Rattle.std.specs.Prelude.{ℕ, List, true, false, length, ltb, Option, None, Some}
 use Rattle.reader.specs.Tokens.{Tokens}
 use Rattle.reader.specs.Reading.{refused, sheet, read}
 use Rattle.comments.specs.Above as Above
-use Rattle.comments.specs.Above.{found_above, passed_in}
+use Rattle.comments.specs.Above.{found_above}
 use Rattle.formatter.specs.declared.Lookup.{Lookup}
 use Rattle.formatter.specs.declared.Lookup.TheVariants.{Found, Nothing, TooLong, NotUtf8, Malformed, TooDeep, OutputTooShort, NoToken}
 
@@ -18,7 +17,7 @@ pub record Looked : Type 0 where
 
 -- An answer without a keyword.
 abbrev pub looked : ℕ → ℕ → Option ℕ → Looked
-looked number place a = record { number = number; place = place; answer = a; keyword = none }
+looked number place a = record { number = number; place = place; answer = a; keyword = None }
 
 -- The tokens of a sheet that passes 1 to 4 and has a token of this number; or the refusal.
 pub data Asked : Type 0 where
@@ -28,14 +27,14 @@ pub data Asked : Type 0 where
 unfoldable pub ask : List ℕ → List ℕ → ℕ → Asked
 ask text rec token =
     elim (read text rec) [
-      | refused number place ↦ declined (looked number place none)
-      | sheet tokens tree ↦ elim (ltb token (length tokens.kinds)) [ true ↦ asked tokens | false ↦ declined (looked 9 0 none) ]
+      | refused number place ↦ declined (looked number place None)
+      | sheet tokens tree ↦ elim (ltb token (length tokens.kinds)) [ true ↦ asked tokens | false ↦ declined (looked 9 0 None) ]
     ]
 
 -- What the search found.
 unfoldable pub told : Option Above.Found → Looked
-told none = looked 0 0 none
-told (some f) = record { number = 0; place = 0; answer = some f.comment; keyword = f.keyword }
+told None = looked 0 0 None
+told (Some f) = record { number = 0; place = 0; answer = Some f.comment; keyword = f.keyword }
 
 -- `comment_above` of a token.
 unfoldable pub lookup : List ℕ → List ℕ → ℕ → Looked
@@ -64,24 +63,24 @@ place_of OutputTooShort = 0
 place_of NoToken = 0
 
 unfoldable pub answer_of : Lookup → Option ℕ
-answer_of (Found k saw) = some k
-answer_of Nothing = none
-answer_of TooLong = none
-answer_of (NotUtf8 at) = none
-answer_of (Malformed at) = none
-answer_of (TooDeep at) = none
-answer_of OutputTooShort = none
-answer_of NoToken = none
+answer_of (Found k saw) = Some k
+answer_of Nothing = None
+answer_of TooLong = None
+answer_of (NotUtf8 at) = None
+answer_of (Malformed at) = None
+answer_of (TooDeep at) = None
+answer_of OutputTooShort = None
+answer_of NoToken = None
 
 unfoldable pub keyword_of : Lookup → Option ℕ
-keyword_of (Found k saw) = passed_in saw
-keyword_of Nothing = none
-keyword_of TooLong = none
-keyword_of (NotUtf8 at) = none
-keyword_of (Malformed at) = none
-keyword_of (TooDeep at) = none
-keyword_of OutputTooShort = none
-keyword_of NoToken = none
+keyword_of (Found k saw) = saw
+keyword_of Nothing = None
+keyword_of TooLong = None
+keyword_of (NotUtf8 at) = None
+keyword_of (Malformed at) = None
+keyword_of (TooDeep at) = None
+keyword_of OutputTooShort = None
+keyword_of NoToken = None
 
 -- What an answer stands for.
 unfoldable pub looked_of : Lookup → Looked

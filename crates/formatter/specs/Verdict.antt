@@ -1,6 +1,5 @@
 -- Document 01, module 6, and document 02, Ticket 4: the verdicts of `check` and `get` and the final output, for every input.
-use Rattle.std.specs.Prelude.{ℕ, ◌-◌, ◌*◌, List, ◌++◌, true, false, length, get_or, drop, replicate, leb}
-use Rattle.std.proofs.Math.Option.{none, some}
+use Rattle.std.specs.Prelude.{ℕ, ◌-◌, ◌*◌, List, ◌++◌, true, false, length, get_or, drop, replicate, leb, None, Some}
 use Rattle.reader.specs.Fields.{DecOne}
 use Rattle.reader.specs.Commands.{form_width}
 use Rattle.reader.specs.Reading.{refused, sheet, read}
@@ -42,9 +41,9 @@ pub data Judged : Type 0 where
 unfoldable pub comments : Page → List Event → Judged
 comments p es =
     elim (first (is_left p.tokens.kinds es) 0 (length p.tokens.kinds)) [
-      | some k ↦ declined
+      | Some k ↦ declined
           (record { number = 6; place = get_or p.tokens.starts k 0; measures = no_measures; left = words_of (is_left p.tokens.kinds es) })
-      | none ↦ accepted p es
+      | None ↦ accepted p es
     ]
 
 -- 13 at the part that is absent; 14 at the import's command, behind which the walk stops.

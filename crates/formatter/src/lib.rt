@@ -13,15 +13,15 @@ ghost use Rattle.formatter.specs.Verdict.{declined, empty_set, verdict_of, check
 ghost use Rattle.formatter.specs.Promises.WalkFirst.{by_check};
 ghost use Rattle.formatter.specs.Promises.Judging.{otherwise, BehindCommand, BehindWhere, Limits, page_in, Weighs, Drafted, Judges, Puts};
 
-use comments::{Above, First, Passed, Set};
+use comments::Set;
 use layout::{DEEPEST, POSITION, SET, STOP, TAB, UNITS, letters_at, span_at, words};
 use reader::tokens::{Tiled, read_tokens, start_of};
 use reader::tree::{Checked, tree_end};
 use reader::{MAX_RECORD, MAX_TEXT, Reading};
-use text::{Broken, copy, first_broken};
+use text::{copy, first_broken};
 
 // Deepest, letters and units of a walk (document 01, module 5).
-#[derive(Clone, Copy)]
+#[derive(Clone, Copy, Debug, PartialEq, Eq)]
 pub struct Measures {
     pub deepest: u64,
     pub letters: u64,
@@ -56,7 +56,7 @@ pub enum Answer {
 #[derive(Clone, Copy)]
 pub enum Lookup {
     // The token number of the comment and the keyword that the search passed; or the length of the doc text, and no keyword.
-    Found(usize, Passed),
+    Found(usize, Option<usize>),
     Nothing,
     // The text or the record is too long.
     TooLong,
@@ -211,7 +211,7 @@ fn weigh(
             measures,
         };
     }
-    let First::At(k) = set.first() else {
+    let Some(k) = set.first() else {
         return Judged::Declined(Answer::CommentsLeft(0));
     };
     Judged::Declined(Answer::CommentsLeft(start_of(span_at(spans, k))))
@@ -237,7 +237,7 @@ fn judge(
     if MAX_RECORD < rec.len() {
         return refused(left, Answer::TooLong);
     }
-    if let Broken::At(place) = first_broken(text) {
+    if let Some(place) = first_broken(text) {
         return refused(left, Answer::NotUtf8(place));
     }
     let tokens = read_tokens(text, text.len() as u16, rec, kinds, spans);
@@ -400,13 +400,10 @@ pub fn comment_above(text: &[u8], rec: &[u8], token: usize) -> Lookup
     let asked = ask(text, rec, token, &mut kinds, &mut spans);
     match asked {
         Asked::Tokens(count) => {
-            let Above::Comment { comment, keyword } = comments::comment_above(
-                &kinds[..count],
-                token,
-            ) else {
+            let Some(above) = comments::comment_above(&kinds[..count], token) else {
                 return Lookup::Nothing;
             };
-            Lookup::Found(comment, keyword)
+            Lookup::Found(above.comment, above.keyword)
         }
         Asked::Declined(why) => why,
     }

@@ -15,11 +15,10 @@ pub fn read_full<R: Read>(input: &mut R, buffer: &mut [u8]) -> io::Result<usize>
 {
     let mut n = 0;
     while n < buffer.len() {
-        let k = input.read(&mut buffer[n..])?;
-        if k == 0 {
-            return Ok(n);
+        match input.read(&mut buffer[n..])? {
+            0 => break,
+            k => n += k,
         }
-        n += k;
     }
     Ok(n)
 }

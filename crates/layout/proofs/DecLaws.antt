@@ -1,6 +1,6 @@
 -- Laws of a declaration's command.
 use Rattle.std.proofs.Common.{◌≡◌, ℕ, ◌+◌, Bool, List, [], ◌∷◌, length, sym, refl, ap, ◌∙◌, ap₂, arith}
-use mathlib.Core.Option.{Option, none, some}
+use Rattle.std.specs.Prelude.{Option, None, Some}
 use Rattle.text.proofs.Laws.{never}
 use Rattle.reader.specs.Fields.{DecOne}
 use Rattle.reader.specs.declared.commands.Declaration.{Declaration}
@@ -23,20 +23,20 @@ abbrev Read : Type 0
 Read = ℕ × Option ℕ × ℕ
 
 abbrev held : Read → Option Read → Read
-held other (some r) = r
-held other none = other
+held other (Some r) = r
+held other None = other
 
 is_there : (f : Option ℕ) (t : Option ℕ) (w n : ℕ) (first : Option ℕ) (next : ℕ)
-    → ◌≡◌ {A = Option Read} (some (n, first, next)) (elim f as (λ x. Option Read) [ none ↦ none | some k ↦ some (k, t, w) ])
-    → (f ≡ some n) × (first ≡ t) × (next ≡ w)
-is_there none t w n first next e = never (cc)
-is_there (some k) t w n first next e =
+    → ◌≡◌ {A = Option Read} (Some (n, first, next)) (elim f as (λ x. Option Read) [ None ↦ None | Some k ↦ Some (k, t, w) ])
+    → (f ≡ Some n) × (first ≡ t) × (next ≡ w)
+is_there None t w n first next e = never (cc)
+is_there (Some k) t w n first next e =
     let q : ◌≡◌ {A = Read} (n, first, next) (k, t, w) = ap (held (n, first, next)) e in
-    (ap (λ (r : Read). some r.0) (sym q), ap (λ (r : Read). r.1) q, ap (λ (r : Read). r.2) q)
+    (ap (λ (r : Read). Some r.0) (sym q), ap (λ (r : Read). r.1) q, ap (λ (r : Read). r.2) q)
 
-is_gone : (f : Option ℕ) (t : Option ℕ) (w : ℕ) → ◌≡◌ {A = Option Read} none (elim f as (λ x. Option Read) [ none ↦ none | some k ↦ some (k, t, w) ]) → f ≡ none
-is_gone none t w e = refl
-is_gone (some k) t w e = never (cc)
+is_gone : (f : Option ℕ) (t : Option ℕ) (w : ℕ) → ◌≡◌ {A = Option Read} None (elim f as (λ x. Option Read) [ None ↦ None | Some k ↦ Some (k, t, w) ]) → f ≡ None
+is_gone None t w e = refl
+is_gone (Some k) t w e = never (cc)
 
 -- The walk behind a command whose first token is known.
 abbrev declaring : Page → Layout → Layout → Option ℕ → ℕ → Outcome
@@ -69,22 +69,22 @@ module _ {words : List ℕ} {p : Page} {a : ℕ} {m o : List ℕ} {line : Layout
 
 -- ---- the comment above a declaration
 module _ {words x kinds starts lens : List ℕ} {line : Layout} {m o : List ℕ} where
-  pub comment-skip : {t : Option ℕ} → t ≡ none → CommentedAbove words x kinds starts lens t line m o m o
+  pub comment-skip : {t : Option ℕ} → t ≡ None → CommentedAbove words x kinds starts lens t line m o m o
   unfolding commented above_first run effects
   comment-skip e = rw e (record { is = λ h r a. refl })
 
-  module _ {t y : Option ℕ} {k : ℕ} (e : t ≡ some k) (f : y ≡ comment_above kinds k) where
-    pub comment-none : y ≡ none → CommentedAbove words x kinds starts lens t line m o m o
+  module _ {t y : Option ℕ} {k : ℕ} (e : t ≡ Some k) (f : y ≡ comment_above kinds k) where
+    pub comment-none : y ≡ None → CommentedAbove words x kinds starts lens t line m o m o
     unfolding commented above_first run effects
     comment-none g =
-        let q : comment_above kinds k ≡ none = sym f ∙ g in
+        let q : comment_above kinds k ≡ None = sym f ∙ g in
         rw e (record { is = λ h r a. rw (q, commented) refl })
 
-    pub comment-some : {j : ℕ} {m' o' m'' o'' : List ℕ} → y ≡ some j → Commented x starts lens j m o m' o' → Sure words line m' o' m'' o''
+    pub comment-some : {j : ℕ} {m' o' m'' o'' : List ℕ} → y ≡ Some j → Commented x starts lens j m o m' o' → Sure words line m' o' m'' o''
         → CommentedAbove words x kinds starts lens t line m o m'' o''
     unfolding commented above_first runs effects effect trimmed token_text text_of
     comment-some {j} g c w =
-        let q : comment_above kinds k ≡ some j = sym f ∙ g in
+        let q : comment_above kinds k ≡ Some j = sym f ∙ g in
         rw e
         (record {
           is = λ h r a.

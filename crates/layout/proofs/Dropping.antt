@@ -1,6 +1,6 @@
 -- Laws of a type whose answer is dropped.
 use Rattle.std.proofs.Common.{◌≡◌, ℕ, zero, suc, ◌<◌, ◌≤◌, Bool, true, false, ltb, List, length, sym, refl, ap, ◌∙◌, subst, arith, ltb-false, ltb-true, le-ltb, lt-ltb}
-use mathlib.Core.Option.{Option, none, some}
+use Rattle.std.specs.Prelude.{Option, None, Some}
 use Rattle.reader.specs.Promises.Tokens.{starts_of}
 use Rattle.reader.proofs.SpanLaws.{counted}
 use Rattle.text.proofs.Laws.{never}
@@ -74,17 +74,17 @@ module _ (p : Page) (left a : ℕ) (short : length p.rec < stop_no) where
 
   -- A type that stopped, by what the check says of it.
   fallen : (n : ℕ) (why : Stop) (es : List Event) (m o : List ℕ) (g : Run) → stop_no ≤ n → packed n m o ≡ run p (stopped why es) g
-      → (f : Option ℕ) → form_at p.rec Ty a ≡ f → (e : Checked) → ends ≡ e → ((k : ℕ) → f ≡ some k → Below stop_no e)
+      → (f : Option ℕ) → form_at p.rec Ty a ≡ f → (e : Checked) → ends ≡ e → ((k : ℕ) → f ≡ Some k → Below stop_no e)
       → packed (onwards_of p.rec (length p.tokens.starts) left a n) m o ≡ run p (onwards p left a (stopped why es)) g
   unfolding onwards_of onwards run
-  fallen n why es m o g i h none d e q b = rw (le-ltb n stop_no i, d, onwards) h
-  fallen n why es m o g i h (some k) d (ok next) q b =
+  fallen n why es m o g i h None d e q b = rw (le-ltb n stop_no i, d, onwards) h
+  fallen n why es m o g i h (Some k) d (ok next) q b =
       let u = sym (packed-stop n m o i) ∙ h in
       rw (le-ltb n stop_no i, d, q, onwards) (packed-done next m o (b k refl) ∙ ap (λ x. went (at next (under x))) u)
-  fallen n why es m o g i h (some k) d (malformed place) q b =
+  fallen n why es m o g i h (Some k) d (malformed place) q b =
       let u = sym (packed-stop n m o i) ∙ h in
       rw (le-ltb n stop_no i, d, q, onwards) (packed-absent place _ m o refl ∙ ap (λ x. fell (absent place) (under x)) u)
-  fallen n why es m o g i h (some k) d (too_deep place) q b =
+  fallen n why es m o g i h (Some k) d (too_deep place) q b =
       let u = sym (packed-stop n m o i) ∙ h in
       rw (le-ltb n stop_no i, d, q, onwards) (packed-absent place _ m o refl ∙ ap (λ x. fell (absent place) (under x)) u)
 

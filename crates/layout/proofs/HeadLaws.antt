@@ -1,6 +1,6 @@
 -- Laws of what AppExp sees of its expressions.
 use Rattle.std.proofs.Common.{◌≡◌, ℕ, zero, suc, ◌+◌, Bool, true, false, List, length, sym, refl, ap, ◌∙◌, eq-eqb, ne_eqb}
-use mathlib.Core.Option.{Option, none, some}
+use Rattle.std.specs.Prelude.{Option, None, Some}
 use Rattle.reader.specs.Promises.Tokens.{starts_of}
 use Rattle.reader.proofs.SpanLaws.{counted}
 use Rattle.reader.specs.Fields as Fields
@@ -72,16 +72,16 @@ refused_at at (malformed place) = place
 refused_at at (too_deep place) = place
 
 module _ (rec : List ℕ) (count func : ℕ) where
-  no-fit : (left : ℕ) → form_at rec Exp func ≡ none → form_check rec count left Exp func ≡ malformed func
+  no-fit : (left : ℕ) → form_at rec Exp func ≡ None → form_check rec count left Exp func ≡ malformed func
   unfolding form_check form_fits
-  no-fit zero e = let f : form_fits rec count Exp func ≡ none = rw (e, form_fits) refl in rw (f, form_check) refl
-  no-fit (suc left) e = let f : form_fits rec count Exp func ≡ none = rw (e, form_fits) refl in rw (f, form_check) refl
+  no-fit zero e = let f : form_fits rec count Exp func ≡ None = rw (e, form_fits) refl in rw (f, form_check) refl
+  no-fit (suc left) e = let f : form_fits rec count Exp func ≡ None = rw (e, form_fits) refl in rw (f, form_check) refl
 
   gone-or : (gone : Bool) (x : Checked) → x ≡ malformed func → refused_at func (elim gone as (λ y. Checked) [ true ↦ ok (func + 1) | false ↦ x ]) ≡ func
   gone-or true x e = refl
   gone-or false x e = ap (refused_at func) e
 
-  no-form : form_at rec Exp func ≡ none → refused_at func (field_end rec count (Fields.form Exp) func) ≡ func
+  no-form : form_at rec Exp func ≡ None → refused_at func (field_end rec count (Fields.form Exp) func) ≡ func
   unfolding field_end fields or_absent
   no-form e = gone-or (absent_at rec func) (form_check rec count max_forms Exp func) (no-fit max_forms e)
 
@@ -91,8 +91,8 @@ module _ {rec : List ℕ} {count func : ℕ} {y : Tree.Checked} (h : Ends rec co
   at-end {arg} i j = j ∙ go (form_at rec Exp func) refl
     where
       go : (o : Option ℕ) → form_at rec Exp func ≡ o → heads_behind rec func arg ≡ heads_at rec count func
-      go (some n) q = rw (q, heads_behind, heads_at, sym h.is ∙ ap checked_in i) refl
-      go none q = rw (q, heads_behind, heads_at) refl
+      go (Some n) q = rw (q, heads_behind, heads_at, sym h.is ∙ ap checked_in i) refl
+      go None q = rw (q, heads_behind, heads_at) refl
 
   refused : (x : Checked) → field_end rec count (Fields.form Exp) func ≡ x
       → ((n : ℕ) → missing (refused_at func x) ≡ elim x [ ok arg ↦ heads_from rec n func arg | malformed place ↦ missing place | too_deep place ↦ missing place ])
@@ -101,8 +101,8 @@ module _ {rec : List ℕ} {count func : ℕ} {y : Tree.Checked} (h : Ends rec co
   refused x e f = go (form_at rec Exp func) refl
     where
       go : (o : Option ℕ) → form_at rec Exp func ≡ o → missing (refused_at func x) ≡ heads_at rec count func
-      go (some n) q = rw (q, heads_at, e) (f n)
-      go none q = rw (q, heads_at) (ap missing (sym (ap (refused_at func) e) ∙ no-form rec count func q))
+      go (Some n) q = rw (q, heads_at, e) (f n)
+      go None q = rw (q, heads_at) (ap missing (sym (ap (refused_at func) e) ∙ no-form rec count func q))
 
   pub at-malformed : {place : ℕ} → y ≡ Tree.Checked.Malformed place → missing place ≡ heads_at rec count func
   at-malformed {place} i = refused (malformed place) (sym h.is ∙ ap checked_in i) (λ n. refl)

@@ -1,6 +1,6 @@
 -- From an offset below a bound that is over the record's length, the places of the parts that AppExp misses lie below it.
 use Rattle.std.proofs.Common.{◌≡◌, ℕ, ◌+◌, ◌<◌, Bool, true, false, eqb, List, length, refl, subst, arith}
-use mathlib.Core.Option.{Option, none, some}
+use Rattle.std.specs.Prelude.{Option, None, Some}
 use Rattle.reader.specs.Fields as Fields
 use Rattle.reader.specs.Fields.{Exp}
 use Rattle.reader.specs.Forms.{PathExp, exp_number}
@@ -27,15 +27,15 @@ module _ {A : Type 0} (P : A → Type 0) where
   if-either true x y f h = f refl
   if-either false x y f h = h
 
-  some-either : (o : Option ℕ) (f : ℕ → A) (y : A) → ((n : ℕ) → o ≡ some n → P (f n)) → P y → P (elim o [ some n ↦ f n | none ↦ y ])
-  some-either (some n) f y g h = g n refl
-  some-either none f y g h = h
+  some-either : (o : Option ℕ) (f : ℕ → A) (y : A) → ((n : ℕ) → o ≡ Some n → P (f n)) → P y → P (elim o [ Some n ↦ f n | None ↦ y ])
+  some-either (Some n) f y g h = g n refl
+  some-either None f y g h = h
 
 module _ (rec : List ℕ) (count bound : ℕ) (long : length rec < bound) where
   dot-below : (n at : ℕ) → at < bound → NameBelow bound (dot_name rec n at)
   unfolding dot_name
   dot-below n at h =
-      if-either (NameBelow bound) (group_at rec at) (elim (token_at rec (at + 1)) [ some k ↦ name k n | none ↦ no_name (at + 1) ]) (no_name at)
+      if-either (NameBelow bound) (group_at rec at) (elim (token_at rec (at + 1)) [ Some k ↦ name k n | None ↦ no_name (at + 1) ]) (no_name at)
       (λ e. some-either (NameBelow bound) (token_at rec (at + 1)) (λ k. name k n) (no_name (at + 1)) (λ k f. tt) (omega (arith, group-fits rec at e))) h
 
   list-below : (at : ℕ) → at < bound → NameBelow bound (list_name rec at)

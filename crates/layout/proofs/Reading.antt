@@ -1,6 +1,6 @@
 -- Laws of reading at the cursor.
 use Rattle.std.proofs.Common.{◌≡◌, ℕ, ◌+◌, ◌<◌, ◌≤◌, Bool, true, false, List, length, sym, refl, ap, ◌∙◌, le-ltb, lt-ltb}
-use mathlib.Core.Option.{Option, none, some}
+use Rattle.std.specs.Prelude.{Option, None, Some}
 use Rattle.reader.specs.Promises.Tokens.{starts_of}
 use Rattle.reader.proofs.SpanLaws.{counted}
 use Rattle.reader.specs.declared.commands.Family.{Family}
@@ -78,15 +78,15 @@ module _ {r : List ℕ} {a : ℕ} {b : Bool} where
 
 -- ---- a token that may be absent
 module _ {r : List ℕ} {a : ℕ} {x : Gone} where
-  pub none-absent : {c : ℕ} → GoneRead r a x → x ≡ Gone.Past c → Given.Absent c ≡ present_of a none (absent_at r a)
+  pub none-absent : {c : ℕ} → GoneRead r a x → x ≡ Gone.Past c → Given.Absent c ≡ present_of a None (absent_at r a)
   unfolding present_of
   none-absent {c} e f =
       let q = gone_true (absent_at r a) a c (sym f ∙ e.is) in
-      ap Given.Absent q.1 ∙ ap (present_of a none) (sym q.0)
+      ap Given.Absent q.1 ∙ ap (present_of a None) (sym q.0)
 
-  pub none-neither : GoneRead r a x → x ≡ Gone.There → Given.Neither ≡ present_of a none (absent_at r a)
+  pub none-neither : GoneRead r a x → x ≡ Gone.There → Given.Neither ≡ present_of a None (absent_at r a)
   unfolding present_of
-  none-neither e f = ap (present_of a none) (sym (gone_false (absent_at r a) a (sym f ∙ e.is)))
+  none-neither e f = ap (present_of a None) (sym (gone_false (absent_at r a) a (sym f ∙ e.is)))
 
 module _ {count : ℕ} {r : List ℕ} {a : ℕ} {x : Read} where
   pub present-token : {n c : ℕ} → ReadAt (λ bytes. token_fits bytes count) 3 r a x → x ≡ Read.Is n c → PresentRead count r a (Given.There c)
@@ -95,7 +95,7 @@ module _ {count : ℕ} {r : List ℕ} {a : ℕ} {x : Read} where
       let q = is_some (token_fits r count a) 3 n a c (sym f ∙ e.is) in
       record { is = ap Given.There q.1 ∙ ap (λ t. present_of a t (absent_at r a)) (sym q.0) }
 
-  pub present-none : {y : Given} → ReadAt (λ bytes. token_fits bytes count) 3 r a x → x ≡ Read.Not → y ≡ present_of a none (absent_at r a) → PresentRead count r a y
+  pub present-none : {y : Given} → ReadAt (λ bytes. token_fits bytes count) 3 r a x → x ≡ Read.Not → y ≡ present_of a None (absent_at r a) → PresentRead count r a y
   present-none e f g =
       record { is = g ∙ ap (λ t. present_of a t (absent_at r a)) (sym (not_none (token_fits r count a) 3 a (sym f ∙ e.is))) }
 
@@ -116,7 +116,7 @@ module _ (count : ℕ) {r : List ℕ} {a : ℕ} {x : Number} (e : NumberAt token
 
 -- ---- a declaration's command whose operand is in range
 abbrev whole : List ℕ → ℕ → Option ℕ → Option (ℕ × Option ℕ × ℕ)
-whole r at o = elim o [ none ↦ none | some n ↦ some (n, first_token r at, at + form_width DecOne) ]
+whole r at o = elim o [ None ↦ None | Some n ↦ Some (n, first_token r at, at + form_width DecOne) ]
 
 module _ {count : ℕ} {r : List ℕ} {at : ℕ} {x : Declaration} {b : Bool} (e : DeclarationAt r at x) (f : b ≡ operand_fits r count DecOne at) where
   pub declared-fits : b ≡ true → DeclaredAt count r at x

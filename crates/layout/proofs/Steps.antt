@@ -25,7 +25,7 @@ use Rattle.layout.specs.declared.fields.Read.{Read}
 use Rattle.layout.specs.declared.fields.Read.TheVariants.{Is}
 use Rattle.layout.specs.declared.fields.Gone.{Gone}
 use Rattle.layout.specs.declared.fields.Given.{Given}
-use mathlib.Core.Option.{Option, none, some}
+use Rattle.std.specs.Prelude.{Option, None, Some}
 use Rattle.layout.specs.Helpers as Helpers
 use Rattle.layout.specs.Helpers.{times, items, when}
 use Rattle.layout.specs.Walk.{walks}
@@ -279,25 +279,25 @@ pub moved-run : (p : Page) (b : ℕ) (w : Layout) (a c : ℕ) (m o : List ℕ) �
 unfolding runs
 moved-run p b w a c m o e = sym (run_at p (outcome p w b) c (run_of a m o)) ∙ ap (λ x. run p (outcome p w x) (run_of c m o)) (sym e)
 
-or_some : (x : Option ℕ) (a : ℕ) (f : ℕ → Outcome) (n : ℕ) → x ≡ some n → or_stop x a f ≡ f n
+or_some : (x : Option ℕ) (a : ℕ) (f : ℕ → Outcome) (n : ℕ) → x ≡ Some n → or_stop x a f ≡ f n
 unfolding or_stop
 or_some x a f n e = ap (λ y. or_stop y a f) e
 
-or_none : (x : Option ℕ) (a : ℕ) (f : ℕ → Outcome) → x ≡ none → or_stop x a f ≡ stopped (absent a) []
+or_none : (x : Option ℕ) (a : ℕ) (f : ℕ → Outcome) → x ≡ None → or_stop x a f ≡ stopped (absent a) []
 unfolding or_stop
 or_none x a f e = ap (λ y. or_stop y a f) e
 
-pub is_some : (x : Option ℕ) (width n a b : ℕ) → Is n b ≡ read_of width a x → (x ≡ some n) × (b ≡ a + width)
+pub is_some : (x : Option ℕ) (width n a b : ℕ) → Is n b ≡ read_of width a x → (x ≡ Some n) × (b ≡ a + width)
 unfolding read_of
-is_some (some k) width n a b e =
+is_some (Some k) width n a b e =
     let h : k ≡ n = cc in
-    (ap some h, cc)
-is_some none width n a b e = never (cc)
+    (ap Some h, cc)
+is_some None width n a b e = never (cc)
 
-pub not_none : (x : Option ℕ) (width a : ℕ) → Read.Not ≡ read_of width a x → x ≡ none
+pub not_none : (x : Option ℕ) (width a : ℕ) → Read.Not ≡ read_of width a x → x ≡ None
 unfolding read_of
-not_none (some k) width a e = never (cc)
-not_none none width a e = refl
+not_none (Some k) width a e = never (cc)
+not_none None width a e = refl
 
 -- What is read at the cursor and handed on.
 reads_end : (p : Page) (width : ℕ) (x : Option ℕ) (f : ℕ → ℕ → Outcome) (n a b : ℕ) (m o : List ℕ) → Is n b ≡ read_of width a x
@@ -321,7 +321,7 @@ reads_stop p width x f a r m o e h =
 
 -- A command that is read whole stands in the record.
 abbrev Whole : List ℕ → (List ℕ → ℕ → Option ℕ) → ℕ → Type 0
-Whole r reads width = (a n : ℕ) → reads r a ≡ some n → a + width ≤ length r
+Whole r reads width = (a n : ℕ) → reads r a ≡ Some n → a + width ≤ length r
 
 token_whole : (r : List ℕ) (count : ℕ) → Whole r (λ bytes. token_fits bytes count) 3
 token_whole r count a n e = token-fits r a n (token-parts r count a n e).0
@@ -551,23 +551,23 @@ module _ {words : List ℕ} {p : Page} (w : Layout) where
       rw q last-skip
 
 -- ---- a token that may be absent
-given_some : (t : Option ℕ) (b : Bool) (a s : ℕ) → Given.There s ≡ present_of a t b → (k : ℕ) × (t ≡ some k) × (s ≡ a + 3)
+given_some : (t : Option ℕ) (b : Bool) (a s : ℕ) → Given.There s ≡ present_of a t b → (k : ℕ) × (t ≡ Some k) × (s ≡ a + 3)
 unfolding present_of
-given_some (some k) b a s e = (k, refl, cc)
-given_some none true a s e = never (cc)
-given_some none false a s e = never (cc)
+given_some (Some k) b a s e = (k, refl, cc)
+given_some None true a s e = never (cc)
+given_some None false a s e = never (cc)
 
-given_none : (t : Option ℕ) (b : Bool) (a s : ℕ) → Given.Absent s ≡ present_of a t b → (t ≡ none) × (b ≡ true) × (s ≡ a + 1)
+given_none : (t : Option ℕ) (b : Bool) (a s : ℕ) → Given.Absent s ≡ present_of a t b → (t ≡ None) × (b ≡ true) × (s ≡ a + 1)
 unfolding present_of
-given_none (some j) b a s e = never (cc)
-given_none none true a s e = (refl, refl, cc)
-given_none none false a s e = never (cc)
+given_none (Some j) b a s e = never (cc)
+given_none None true a s e = (refl, refl, cc)
+given_none None false a s e = never (cc)
 
-given_neither : (t : Option ℕ) (b : Bool) (a : ℕ) → Given.Neither ≡ present_of a t b → (t ≡ none) × (b ≡ false)
+given_neither : (t : Option ℕ) (b : Bool) (a : ℕ) → Given.Neither ≡ present_of a t b → (t ≡ None) × (b ≡ false)
 unfolding present_of
-given_neither (some j) b a e = never (cc)
-given_neither none true a e = never (cc)
-given_neither none false a e = (refl, refl)
+given_neither (Some j) b a e = never (cc)
+given_neither None true a e = never (cc)
+given_neither None false a e = (refl, refl)
 
 module _ {words : List ℕ} {p : Page} {a : ℕ} {m o : List ℕ} {v w : Layout} {x : Given} where
   pub present-there : {s : ℕ} → PresentRead (length p.tokens.starts) p.rec a x → x ≡ Given.There s → Same words p (present v w) (run_of a m o) v (run_of s m o)

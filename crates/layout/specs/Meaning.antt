@@ -1,7 +1,6 @@
 -- What a layout means: from an offset in the record (the cursor) to a list of events and the next offset, or a stop.
-use Rattle.std.specs.Prelude.{ℕ, ◌+◌, Bool, true, false, not, ◌&&◌, ◌||◌, List, [], ◌∷◌, ◌++◌, drop, ◌==◌, slice_index}
+use Rattle.std.specs.Prelude.{ℕ, ◌+◌, Bool, true, false, not, ◌&&◌, ◌||◌, List, [], ◌∷◌, ◌++◌, drop, ◌==◌, slice_index, Option, None, Some}
 use Prim.Native.String.{String}
-use Rattle.std.proofs.Math.Option.{Option, none, some}
 use Rattle.text.specs.Bytes.{bytes, is_letter, is_digit, same_bytes, first_is}
 use Rattle.reader.specs.Forms.{ExpForm, PathExp, ParenExp, SeqExp, LetExp, HandleExp, IfExp, WhileExp, CaseExp, exp_number}
 use Rattle.reader.specs.Fields.{DecOne, Exp, Ty, first_form}
@@ -44,13 +43,13 @@ bind (stopped why es) k = stopped why es
 
 -- A comment and what is behind it, where there is one.
 unfoldable pub commented : Option ℕ → (ℕ → Outcome) → ℕ → Outcome
-commented (some k) line at = after (Comment k ∷ []) (line at)
-commented none line at = done at []
+commented (Some k) line at = after (Comment k ∷ []) (line at)
+commented None line at = done at []
 
 -- A field that 000 takes with `?`: what is read at the offset, or a stop there.
 unfoldable pub or_stop : Option ℕ → ℕ → (ℕ → Outcome) → Outcome
-or_stop (some n) at k = k n
-or_stop none at k = stopped (absent at) []
+or_stop (Some n) at k = k n
+or_stop None at k = stopped (absent at) []
 
 -- What every layout reads: the text, the record, its tokens.
 pub record Page : Type 0 where
@@ -105,13 +104,13 @@ module _ (rec : List ℕ) where
   unfoldable pub dot_name : ℕ → ℕ → Name
   dot_name n at =
       elim (group_at rec at)
-      [ true ↦ elim (token_at rec (at + 1)) [ some k ↦ name k n | none ↦ no_name (at + 1) ] | false ↦ no_name at ]
+      [ true ↦ elim (token_at rec (at + 1)) [ Some k ↦ name k n | None ↦ no_name (at + 1) ] | false ↦ no_name at ]
 
   -- A path without names counts as absent at its list.
   unfoldable pub list_name : ℕ → Name
   list_name at =
       elim (list_at rec at)
-      [ some n ↦ elim (n == 0) [ true ↦ no_name at | false ↦ dot_name n (at + 3) ] | none ↦ no_name at ]
+      [ Some n ↦ elim (n == 0) [ true ↦ no_name at | false ↦ dot_name n (at + 3) ] | None ↦ no_name at ]
 
   unfoldable pub path_name : ℕ → Name
   path_name at = elim (group_at rec at) [ true ↦ list_name (at + 1) | false ↦ no_name at ]
@@ -120,7 +119,7 @@ module _ (rec : List ℕ) where
   unfoldable pub op_path_name : ℕ → Name
   op_path_name at =
       elim (token_at rec at)
-      [ some k ↦ path_name (at + 3) | none ↦ elim (absent_at rec at) [ true ↦ path_name (at + 1) | false ↦ no_name at ] ]
+      [ Some k ↦ path_name (at + 3) | None ↦ elim (absent_at rec at) [ true ↦ path_name (at + 1) | false ↦ no_name at ] ]
 
 -- What is seen of one expression, or the offset of the first part that is not there.
 pub data Seen : Type 0 where
@@ -143,15 +142,15 @@ module _ (rec : List ℕ) where
   -- The second expression stands at `arg`. It is there before names are looked for.
   unfoldable pub heads_from : ℕ → ℕ → ℕ → Heads
   heads_from n func arg =
-      elim (form_at rec Exp arg) [ some m ↦ both_seen (head_of n (func + 1)) (head_of m (arg + 1)) | none ↦ missing arg ]
+      elim (form_at rec Exp arg) [ Some m ↦ both_seen (head_of n (func + 1)) (head_of m (arg + 1)) | None ↦ missing arg ]
 
 -- `func` stands at the offset and `arg` behind it.
 unfoldable pub heads_at : List ℕ → ℕ → ℕ → Heads
 heads_at rec count func =
     elim (form_at rec Exp func) [
-      | some n ↦ elim (field_end rec count (Fields.form Exp) func)
+      | Some n ↦ elim (field_end rec count (Fields.form Exp) func)
           [ ok arg ↦ heads_from rec n func arg | malformed place ↦ missing place | too_deep place ↦ missing place ]
-      | none ↦ missing func
+      | None ↦ missing func
     ]
 
 module _ (p : Page) where
@@ -174,8 +173,8 @@ module _ (p : Page) where
 
   -- The comment above a declaration's first token, where it has one.
   unfoldable pub above_first : Option ℕ → Option ℕ
-  above_first (some first) = comment_above p.tokens.kinds first
-  above_first none = none
+  above_first (Some first) = comment_above p.tokens.kinds first
+  above_first None = None
 
   -- An operator that was kept: in place of `|>` what `pipe` says, any other between two gaps.
   unfoldable pub operated : ℕ → (ℕ → Outcome) → (ℕ → Outcome) → ℕ → Outcome
@@ -188,9 +187,9 @@ module _ (p : Page) where
   onwards nesting at (done next es) = done next es
   onwards nesting at (stopped why es) =
       elim (form_at p.rec Ty at) [
-        | some n ↦ elim (end_within p.rec count nesting (Fields.form Ty) at)
+        | Some n ↦ elim (end_within p.rec count nesting (Fields.form Ty) at)
             [ ok next ↦ done next es | malformed place ↦ stopped (absent place) es | too_deep place ↦ stopped (absent place) es ]
-        | none ↦ stopped why es
+        | None ↦ stopped why es
       ]
 
   unfoldable pub outcome : Layout → ℕ → Outcome
@@ -207,8 +206,8 @@ module _ (p : Page) where
   outcome (maybe w) at = elim (absent_at p.rec at) [ true ↦ done (at + 1) [] | false ↦ outcome w at ]
   outcome (present v w) at =
       elim (token_fits p.rec count at) [
-        | some k ↦ outcome v (at + 3)
-        | none ↦ elim (absent_at p.rec at) [ true ↦ outcome w (at + 1) | false ↦ stopped (absent at) [] ]
+        | Some k ↦ outcome v (at + 3)
+        | None ↦ elim (absent_at p.rec at) [ true ↦ outcome w (at + 1) | false ↦ stopped (absent at) [] ]
       ]
   outcome (look l v w) at =
       or_stop (form_at p.rec Exp at) at (λ n. elim (sees p l at) [ true ↦ outcome v at | false ↦ outcome w at ])

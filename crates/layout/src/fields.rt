@@ -1,8 +1,7 @@
 // The fields of a record, each read at the cursor.
-ghost use Rattle.std.specs.Prelude.{◌≡◌};
+ghost use Rattle.std.specs.Prelude.{◌≡◌, None};
 ghost use Rattle.reader.specs.Commands.{absent_at, list_at, choice_at};
 ghost use Rattle.reader.specs.Check.{token_fits};
-ghost use Rattle.std.proofs.Math.Option.{none};
 ghost use Rattle.layout.specs.Promises.Lent.{count};
 ghost use Rattle.layout.specs.Promises.State.{Stops, Imports, ReadAt, FormRead, GroupRead, GoneRead, PresentRead, present_of, DeclaredAt, Onwards};
 
@@ -113,7 +112,7 @@ pub fn absent(rec: &[u8], at: usize) -> Gone
 
 // No token stands at the cursor: the field is absent, or something else stands there.
 fn no_token(rec: &[u8], at: usize) -> Given
-    ensures { result ≡ present_of at none (absent_at rec.now at) }
+    ensures { result ≡ present_of at None (absent_at rec.now at) }
 {
     let Gone::Past(s) = absent(rec, at) else {
         return Given::Neither;

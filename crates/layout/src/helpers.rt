@@ -13,7 +13,6 @@ use crate::fields::{Given, Gone, Read, absent, group, list, present, stop, token
 use crate::looks::alphanumeric;
 use crate::names::{Name, path_name};
 use crate::{Cfg, Status, comment, formed, indent_at, token, told, word, words};
-use comments::Above;
 use reader::commands::Number;
 
 // A fixed word before an item that is not the first.
@@ -440,13 +439,9 @@ pub fn comment_above<'a>(
     let Number::Is(k) = first else {
         return;
     };
-    let Above::Comment {
-        comment: found,
-        keyword: _,
-    } = comments::comment_above(*kinds, k)
-    else {
+    let Some(above) = comments::comment_above(*kinds, k) else {
         return;
     };
-    comment(text, spans, out, mem, found);
+    comment(text, spans, out, mem, above.comment);
     line(run, text, out, mem, cfg);
 }

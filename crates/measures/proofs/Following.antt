@@ -3,7 +3,7 @@ use native.Mathlib.Omega.{arith}
 use mathlib.Core.Path.{◌≡◌, refl, sym, ◌∙◌, subst}
 use mathlib.Core.List.{List, [], ◌∷◌}
 use mathlib.Core.Bool.{Bool, true, false}
-use mathlib.Core.Option.{Option, none, some}
+use Rattle.std.specs.Prelude.{Option, None, Some}
 use Prim.Native.Nat.{ℕ, zero, suc, ◌+◌, ◌-◌, ◌≤◌, min}
 use Prim.Native.String.{String}
 use lib.ListN.{length, get_or}
@@ -53,7 +53,7 @@ module _ (p : Page) where
 
   -- ---- commands
   module _ (d : ℕ) (may : Bool) (at lim : ℕ) where
-    token-ends : (n : ℕ) → token_fits p.rec (length p.tokens.starts) at ≡ some n → ends p d may Fields.token at ≡ ok lim → at + 3 ≡ lim
+    token-ends : (n : ℕ) → token_fits p.rec (length p.tokens.starts) at ≡ Some n → ends p d may Fields.token at ≡ ok lim → at + 3 ≡ lim
     unfolding fields
     token-ends n t e =
         let q = there may at _ lim (token-there p.rec at n (token-parts p.rec (length p.tokens.starts) at n t).0) e in
@@ -63,8 +63,8 @@ module _ (p : Page) where
     text-within : Short p → (o : Option ℕ) → token_fits p.rec (length p.tokens.starts) at ≡ o → ends p d may Fields.token at ≡ ok lim
         → Within p lim lim at 0 32 (or_stop o at (λ n. done (at + 3) (Token n ∷ [])))
     unfolding or_stop
-    text-within short none t e = stops lim at 0 (grows d may Fields.token at lim e)
-    text-within short (some n) t e =
+    text-within short None t e = stops lim at 0 (grows d may Fields.token at lim e)
+    text-within short (Some n) t e =
         let z = token-ends n t e in
         earned p lim lim lim at 3 64 0 (done (at + 3) (Token n ∷ [])) (omega arith) (token-within p short n lim lim (at + 3) (omega (arith, z)) (omega (arith, z)))
 
@@ -88,7 +88,7 @@ module _ (p : Page) where
     maybe-within f a r w x false t e =
         weaker p lim lim lim at a r a (min r (32 + a)) (outcome p w at) (omega arith) (omega arith) (omega arith) (x.is at lim e)
 
-    list-ends : (n : ℕ) (f : Fields) → list_at p.rec at ≡ some n → ends p d may (Fields.list f) at ≡ ok lim → Check.items n (λ next. ends p d false f next) (at + 3) ≡ ok lim
+    list-ends : (n : ℕ) (f : Fields) → list_at p.rec at ≡ Some n → ends p d may (Fields.list f) at ≡ ok lim → Check.items n (λ next. ends p d false f next) (at + 3) ≡ ok lim
     unfolding fields
     list-ends n f t e = rw (t, fields) at e
 
@@ -97,8 +97,8 @@ module _ (p : Page) where
         → (o : Option ℕ) → list_at p.rec at ≡ o → ends p d may (Fields.list f) at ≡ ok lim
         → Within p lim lim at (a - 96) (r + (96 - a)) (or_stop o at (λ n. outcome p (k n) (at + 3)))
     unfolding or_stop
-    list-within f a r k x none t e = stops lim at (a - 96) (grows d may (Fields.list f) at lim e)
-    list-within f a r k x (some n) t e = earned p lim lim lim at 3 a r (outcome p (k n) (at + 3)) (omega arith) (x n (at + 3) (list-ends n f t e))
+    list-within f a r k x None t e = stops lim at (a - 96) (grows d may (Fields.list f) at lim e)
+    list-within f a r k x (Some n) t e = earned p lim lim lim at 3 a r (outcome p (k n) (at + 3)) (omega arith) (x n (at + 3) (list-ends n f t e))
 
 -- ---- one after another
 module _ {p : Page} {d : ℕ} {may : Bool} where
@@ -198,19 +198,19 @@ module _ {p : Page} {d : ℕ} {may : Bool} {f : Fields} {a r : ℕ} {item : Layo
 
 -- ---- forms
 module _ (p : Page) (at lim : ℕ) where
-  form-fields : (d n : ℕ) → form_at p.rec Ty at ≡ some n → form_check p.rec (length p.tokens.starts) (suc d) Ty at ≡ ok lim
+  form-fields : (d n : ℕ) → form_at p.rec Ty at ≡ Some n → form_check p.rec (length p.tokens.starts) (suc d) Ty at ≡ ok lim
       → ends p d true (get_or (forms Ty) n Fields.none) (at + form_width Ty) ≡ ok lim
   unfolding form_check form_fits operand_fits
   form-fields d n t e =
-      let f : form_fits p.rec (length p.tokens.starts) Ty at ≡ some n = rw (t, form_fits) refl in
+      let f : form_fits p.rec (length p.tokens.starts) Ty at ≡ Some n = rw (t, form_fits) refl in
       rw (f, form_check) at e
 
-  form-ends : (d : ℕ) (may : Bool) (n : ℕ) → form_at p.rec Ty at ≡ some n → ends p d may (Fields.form Ty) at ≡ ok lim → form_check p.rec (length p.tokens.starts) d Ty at ≡ ok lim
+  form-ends : (d : ℕ) (may : Bool) (n : ℕ) → form_at p.rec Ty at ≡ Some n → ends p d may (Fields.form Ty) at ≡ ok lim → form_check p.rec (length p.tokens.starts) d Ty at ≡ ok lim
   unfolding fields
   form-ends d may n t e = there p may at _ lim (form-there p.rec at Ty n t) e
 
   module _ (a r : ℕ) (k : ℕ → Layout) (x : (d n : ℕ) → Follows p d true (get_or (forms Ty) n Fields.none) a r (k n)) (may : Bool) where
-    checked-within : (d n : ℕ) → form_at p.rec Ty at ≡ some n → form_check p.rec (length p.tokens.starts) d Ty at ≡ ok lim
+    checked-within : (d n : ℕ) → form_at p.rec Ty at ≡ Some n → form_check p.rec (length p.tokens.starts) d Ty at ≡ ok lim
         → Within p lim lim at (a - 32) (r + (32 - a)) (outcome p (k n) (at + form_width Ty))
     unfolding form_width
     checked-within zero n t e = zero-never p.rec (length p.tokens.starts) Ty at lim e
@@ -219,8 +219,8 @@ module _ (p : Page) (at lim : ℕ) where
     form-within : (d : ℕ) (o : Option ℕ) → form_at p.rec Ty at ≡ o → ends p d may (Fields.form Ty) at ≡ ok lim
         → Within p lim lim at (a - 32) (r + (32 - a)) (or_stop o at (λ n. outcome p (k n) (at + form_width Ty)))
     unfolding or_stop
-    form-within d none t e = stops p lim at (a - 32) (grows p d may (Fields.form Ty) at lim e)
-    form-within d (some n) t e = checked-within d n t (form-ends d may n t e)
+    form-within d None t e = stops p lim at (a - 32) (grows p d may (Fields.form Ty) at lim e)
+    form-within d (Some n) t e = checked-within d n t (form-ends d may n t e)
 
 pub families : {p : Page} {may : Bool} {a r : ℕ} {k : ℕ → Layout} → ((d n : ℕ) → Follows p d true (get_or (forms Ty) n Fields.none) a r (k n))
     → (d : ℕ) → Follows p d may (Fields.form Ty) (a - 32) (r + (32 - a)) (form Ty k)
@@ -271,17 +271,17 @@ module _ (p : Page) (left lo lim at r : ℕ) where
   ended-within why es x (too_deep place) e f = x
 
   found_within : (why : Stop) (es : List Event) → Within p lo lim at 0 r (stopped why es) → (o : Option ℕ) → form_at p.rec Ty at ≡ o
-      → ((n next : ℕ) → form_at p.rec Ty at ≡ some n → ends p left true (Fields.form Ty) at ≡ ok next → Whole next (stopped why es))
+      → ((n next : ℕ) → form_at p.rec Ty at ≡ Some n → ends p left true (Fields.form Ty) at ≡ ok next → Whole next (stopped why es))
       → Within p lo lim at 0 0 (elim o as (λ o. Outcome) [
-        | some n ↦ elim (ends p left true (Fields.form Ty) at)
+        | Some n ↦ elim (ends p left true (Fields.form Ty) at)
             [ ok next ↦ done next es | malformed place ↦ stopped (absent place) es | too_deep place ↦ stopped (absent place) es ]
-        | none ↦ stopped why es
+        | None ↦ stopped why es
       ])
-  found_within why es x (some n) t f = ended-within why es x (ends p left true (Fields.form Ty) at) refl (λ next e. f n next t e)
-  found_within why es x none t f = x
+  found_within why es x (Some n) t f = ended-within why es x (ends p left true (Fields.form Ty) at) refl (λ next e. f n next t e)
+  found_within why es x None t f = x
 
   onwards-within : (o : Outcome) → Within p lo lim at 0 r o
-      → ((n next : ℕ) → form_at p.rec Ty at ≡ some n → ends p left true (Fields.form Ty) at ≡ ok next → Whole next o)
+      → ((n next : ℕ) → form_at p.rec Ty at ≡ Some n → ends p left true (Fields.form Ty) at ≡ ok next → Whole next o)
       → Within p lo lim at 0 0 (onwards p left at o)
   unfolding onwards
   onwards-within (done next es) x f = weaker p lo lo lim at 0 r 0 0 (done next es) (omega arith) (omega arith) (omega arith) x

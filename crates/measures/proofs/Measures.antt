@@ -3,7 +3,7 @@ use native.Mathlib.Omega.{arith}
 use mathlib.Core.Path.{◌≡◌, refl, sym, subst}
 use mathlib.Core.List.{List, [], ◌∷◌}
 use mathlib.Core.Bool.{Bool, true, false, ◌&&◌}
-use mathlib.Core.Option.{Option, none, some}
+use Rattle.std.specs.Prelude.{Option, None, Some}
 use Prim.Native.Nat.{ℕ, zero, suc, ◌+◌, ◌-◌, ◌*◌, ◌≤◌, ◌<◌}
 use lib.ListN.{length}
 use lib.Dec.{leb}
@@ -92,8 +92,8 @@ within_small p at r (stopped why es) l w = let j = size_is p es in record { both
 module _ (p : Page) (tree : ℕ) (h : length p.rec < tree) where
   no_list : (k : ℕ → Outcome) (o : Option ℕ) → list_at p.rec tree ≡ o → Small p (events_of (or_stop o tree k))
   unfolding or_stop letters units sum_of deepest
-  no_list k (some n) e = let l = list-fits p.rec tree n e in absurd (omega (arith, l))
-  no_list k none e = record { both = omega arith; deep = omega arith }
+  no_list k (Some n) e = let l = list-fits p.rec tree n e in absurd (omega (arith, l))
+  no_list k None e = record { both = omega arith; deep = omega arith }
 
   past-small : (w : Layout) (k : ℕ → Layout) → w ≡ list k → Small p (events_of (outcome p w tree))
   unfolding outcome

@@ -3,7 +3,7 @@ use native.Mathlib.Omega.{arith}
 use mathlib.Core.Path.{◌≡◌, refl}
 use mathlib.Core.List.{List, [], ◌∷◌}
 use mathlib.Core.Bool.{Bool, true, false}
-use mathlib.Core.Option.{Option, none, some}
+use Rattle.std.specs.Prelude.{Option, None, Some}
 use Prim.Native.Nat.{ℕ, zero, suc, ◌+◌, ◌-◌, ◌*◌, ◌≤◌, max, min}
 use Prim.Native.String.{String}
 use lib.ListN.{length, get_or, drop, length-take, length-drop}
@@ -44,7 +44,7 @@ pub record Short (p : Page) : Type 0 where
   pub text : length p.text ≤ 32768
 
 -- A token whose number is below the count stands whole.
-token_whole : (rec : List ℕ) (count at k : ℕ) → token_fits rec count at ≡ some k → at + 3 ≤ length rec
+token_whole : (rec : List ℕ) (count at k : ℕ) → token_fits rec count at ≡ Some k → at + 3 ≤ length rec
 token_whole rec count at k e = token-fits rec at k (token-parts rec count at k e).0
 
 abbrev end : Page → ℕ
@@ -137,11 +137,11 @@ module _ {p : Page} where
   -- ---- commands
   -- What is read at the cursor, then the walk for it.
   module _ (width : ℕ) {a r : ℕ} (k : ℕ → ℕ → Outcome) (x : (n : ℕ) → Pays p a r (k n)) (at : ℕ) (h : at ≤ end p) where
-    read-within : (o : Option ℕ) → ((n : ℕ) → o ≡ some n → at + width ≤ end p)
+    read-within : (o : Option ℕ) → ((n : ℕ) → o ≡ Some n → at + width ≤ end p)
         → Within p at (end p) at (a - 32 * width) (r + (32 * width - a)) (or_stop o at (λ n. k n (at + width)))
     unfolding or_stop sum_of deepest
-    read-within (some n) f = earned p (at + width) at (end p) at width a r (k n (at + width)) (omega arith) ((x n).from (at + width) (f n refl))
-    read-within none f = (omega arith, omega arith)
+    read-within (Some n) f = earned p (at + width) at (end p) at width a r (k n (at + width)) (omega arith) ((x n).from (at + width) (f n refl))
+    read-within None f = (omega arith, omega arith)
 
   -- A token, then the walk for it.
   token-read : {a r : ℕ} (k : ℕ → ℕ → Outcome) → ((n : ℕ) → Pays p a r (k n)) → Pays p (a - 96) (r + (96 - a)) (λ at. or_stop (token_fits p.rec (length p.tokens.starts) at) at (λ n. k n (at + 3)))
@@ -168,8 +168,8 @@ module _ {p : Page} where
   module _ (short : Short p) {c : ℕ} {line : Layout} (x : Paid p c 0 line) where
     commented-pays : (o : Option ℕ) → Pays p (64 + c) 0 (commented o (λ next. outcome p line next))
     unfolding commented sum_of deepest bind
-    commented-pays (some k) = eased-pays (omega arith) (omega arith) (then-pays (comment-pays p short k) (walk x))
-    commented-pays none = record { from = λ at h. (omega arith, h, omega arith, omega arith) }
+    commented-pays (Some k) = eased-pays (omega arith) (omega arith) (then-pays (comment-pays p short k) (walk x))
+    commented-pays None = record { from = λ at h. (omega arith, h, omega arith, omega arith) }
 
     pub declarations : {b s : ℕ} {arm : ℕ → Layout} → ((n : ℕ) → Paid p b s (arm n)) → Paid p (64 + c + b - 96) (s + (96 - (64 + c + b))) (declaration line arm)
     unfolding outcome form_width
@@ -213,19 +213,19 @@ module _ {p : Page} where
     present-within : (at : ℕ) → at ≤ end p → (o : Option ℕ) → token_fits p.rec (length p.tokens.starts) at ≡ o → (c : Bool) → absent_at p.rec at ≡ c
         → Within p at (end p) at (max (a - 96) (b - 32)) (min (r + (96 - a)) (s + (32 - b)))
         (elim o as (λ o. Outcome) [
-          | some n ↦ outcome p v (at + 3)
-          | none ↦ elim c as (λ c. Outcome) [ true ↦ outcome p w (at + 1) | false ↦ stopped (absent at) [] ]
+          | Some n ↦ outcome p v (at + 3)
+          | None ↦ elim c as (λ c. Outcome) [ true ↦ outcome p w (at + 1) | false ↦ stopped (absent at) [] ]
         ])
     unfolding sum_of deepest
-    present-within at h (some n) e c f =
+    present-within at h (Some n) e c f =
         weaker p at at (end p) at (a - 96) (r + (96 - a)) (max (a - 96) (b - 32)) (min (r + (96 - a)) (s + (32 - b))) (outcome p v (at + 3))
         (omega arith) (omega arith) (omega arith)
         (earned p (at + 3) at (end p) at 3 a r (outcome p v (at + 3)) (omega arith) (x.is (at + 3) (token_whole p.rec _ at n e)))
-    present-within at h none e true f =
+    present-within at h None e true f =
         weaker p at at (end p) at (b - 32) (s + (32 - b)) (max (a - 96) (b - 32)) (min (r + (96 - a)) (s + (32 - b))) (outcome p w (at + 1))
         (omega arith) (omega arith) (omega arith)
         (earned p (at + 1) at (end p) at 1 b s (outcome p w (at + 1)) (omega arith) (y.is (at + 1) (absent-fits p.rec at f)))
-    present-within at h none e false f = (omega arith, omega arith)
+    present-within at h None e false f = (omega arith, omega arith)
 
     pub presents : Paid p (max (a - 96) (b - 32)) (min (r + (96 - a)) (s + (32 - b))) (present v w)
     unfolding outcome
@@ -239,8 +239,8 @@ module _ {p : Page} where
     look-within : (at : ℕ) → at ≤ end p → (c : Bool) (o : Option ℕ)
         → Within p at (end p) at (max a b) (min r s) (or_stop o at (λ n. elim c as (λ c. Outcome) [ true ↦ outcome p v at | false ↦ outcome p w at ]))
     unfolding or_stop sum_of deepest
-    look-within at h c (some n) = either at h c
-    look-within at h c none = (omega arith, omega arith)
+    look-within at h c (Some n) = either at h c
+    look-within at h c None = (omega arith, omega arith)
 
     pub looks : {l : Look} → Paid p (max a b) (min r s) (look l v w)
     unfolding outcome

@@ -4,11 +4,10 @@ use native.Mathlib.Omega.{arith}
 use mathlib.Core.Path.{◌≡◌, refl, sym, ap, ◌∙◌}
 use mathlib.Core.Bool.{Bool, true, false, ◌&&◌}
 use mathlib.Core.List.{List, [], ◌++◌, append-nil}
-use lib.ListN.{length, take, drop, get_or, replicate, length-drop, length-replicate}
-use lib.Seq.{take_all, take_at, drop-drop, length-take-le}
+use lib.ListN.{length, take, drop, replicate, length-drop, length-replicate}
+use lib.Seq.{take_all, take_at, length-take-le}
 use lib.Dec.{leb, eqb}
 use borrow.Author.Tests.{le-leb, lt-leb, leb-true, leb-false, eqb-true, ne_eqb}
-use Rattle.reader.specs.Commands.{u16}
 use Rattle.reader.specs.Reading.{read, refused, max_text, max_record}
 use Rattle.layout.specs.Events.{letters, units, formatted}
 use Rattle.formatter.specs.declared.Answer.{Answer}
@@ -19,15 +18,9 @@ use Rattle.program.specs.Program.{line, text_of, line_of, printed, room, head_le
 use Rattle.program.specs.Promises.Printing.{said_with, shown, TextWithin}
 
 -- ---- the head
--- A u16 of bytes.
-pub u16-below : (s : List ℕ) (at : ℕ) → get_or s at 0 < 256 → get_or s (at + 1) 0 < 256 → u16 s at < 65536
-unfolding u16
-u16-below s at h l = omega arith
-
 -- A part that ends where the whole does.
-pub to_the_end : (s : List ℕ) (head n : ℕ) → take (length s - (head + n)) (drop (head + n) s) ≡ drop n (drop head s)
-to_the_end s head n =
-    take_all (length s - (head + n)) (drop (head + n) s) (omega (arith, length-drop (head + n) s)) ∙ sym (drop-drop n head s)
+pub to_the_end : (head : ℕ) (s : List ℕ) → take (length s - head) (drop head s) ≡ drop head s
+to_the_end head s = take_all (length s - head) (drop head s) (omega (arith, length-drop head s))
 
 -- ---- what is printed
 

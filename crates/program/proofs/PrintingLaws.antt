@@ -1,74 +1,38 @@
 -- Laws of what is printed: the digits of a number, bytes written one after another, the line of a verdict. Assumes nothing.
-use Prim.Native.Nat.{ℕ, zero, suc, ◌+◌, ◌*◌, ◌/◌, ◌%◌, ◌^◌, ◌≤◌, ◌<◌}
-use native.Mathlib.Nat.{pow-suc}
-use native.Mathlib.Numerals.{add-one}
+use Prim.Native.Nat.{ℕ, suc, ◌+◌, ◌*◌, ◌/◌, ◌%◌, ◌^◌, ◌≤◌, ◌<◌}
 use native.Mathlib.Omega.{arith}
 use mathlib.Core.Path.{◌≡◌, refl, sym, ap, ap₂, ◌∙◌}
-use mathlib.Core.Bool.{Bool, true, false}
+use mathlib.Core.Bool.{false}
 use mathlib.Core.List.{List, [], ◌∷◌, ◌++◌, append_assoc, append-nil}
-use lib.ListN.{length, take, drop, set, length-append}
-use lib.Seq.{append_snoc, take_at, drop_at, drop-drop, set_split, length-take-le, take-length, paste}
-use lib.Dec.{ltb, eqb}
-use borrow.Author.Tests.{lt-ltb, le-ltb, ltb-true, ltb-false}
+use lib.ListN.{length, take, drop, length-append}
+use lib.Seq.{append_snoc, take_at, drop_at, drop-drop, length-take-le}
+use lib.Dec.{eqb}
+use borrow.Author.Tests.{lt-ltb, le-ltb}
 use Rattle.formatter.specs.declared.Measures.{Measures}
 use Rattle.formatter.specs.declared.Answer.{Answer}
 use Rattle.formatter.specs.declared.Answer.TheVariants.{Accepted, TooLong, NotUtf8, Malformed, TooDeep, Missing, Import, CommentsLeft, IndentTooWide, OutputTooShort}
 use Rattle.formatter.specs.Verdict.{Verdict, number_of, given_measures, verdict_of}
 use Rattle.formatter.specs.Promises.Numbers.{said}
+use Rattle.std.specs.Fmt as Fmt
+use Rattle.std.proofs.lemmas.Fmt.{decimal_from_appends, length-decimal-le_succ}
 use Rattle.program.specs.Program.{digits, decimal, line}
 use Rattle.program.specs.Printing.{Prints}
 use Rattle.program.specs.Promises.Printing.{said_with, shown, TextWithin, Puts}
 
 -- ---- digits
 
--- More digits than there are change nothing.
-digits-enough : (k m n : ℕ) → n < k → n < m → digits k n ≡ digits m n
-unfolding digits
-digits-enough zero m n h l = absurd (omega arith)
-digits-enough (suc k) zero n h l = absurd (omega arith)
-digits-enough (suc k) (suc m) n h l = go (ltb n 10) refl (λ more. digits-enough k m (n / 10) (omega arith) (omega arith))
-  where
-    go : (t : Bool) → ltb n 10 ≡ t → (10 ≤ n → digits k (n / 10) ≡ digits m (n / 10)) → digits (suc k) n ≡ digits (suc m) n
-    go true e same = rw (digits, e)
-    go false e same = rw (digits, e) (ap (λ (ds : List ℕ). ds ++ (48 + n % 10) ∷ []) (same (ltb-false _ _ e)))
-
-pub decimal-one : (n : ℕ) → n < 10 → decimal n ≡ (48 + n) ∷ []
+-- The digits of a u64 are those that std writes.
+pub decimal-is : (n : ℕ) → n < 2 ^ 64 → decimal n ≡ Fmt.decimal n
 unfolding decimal digits
-decimal-one n h = rw (decimal, digits, lt-ltb _ _ h)
-
-pub decimal-more : (n : ℕ) → 10 ≤ n → decimal n ≡ decimal (n / 10) ++ (48 + n % 10) ∷ []
-unfolding decimal digits
-decimal-more n h =
-    rw (decimal, digits, le-ltb _ _ h) (ap (λ (ds : List ℕ). ds ++ (48 + n % 10) ∷ []) (digits-enough n (suc (n / 10)) (n / 10) (omega arith) (omega arith)))
-
-pub length_one : (n : ℕ) → n < 10 → length (decimal n) ≡ 1
-length_one n h = rw (decimal-one n h) refl
-
-pub length_more : (n : ℕ) → 10 ≤ n → length (decimal n) ≡ length (decimal (n / 10)) + 1
-length_more n h = rw (decimal-more n h) (length-append (decimal (n / 10)) ((48 + n % 10) ∷ []))
-
-decimal-length : (k n : ℕ) → n < 10 ^ suc k → length (decimal n) ≤ suc k
-decimal-length zero n h = omega (arith, length_one n (omega (arith, h)))
-decimal-length (suc k) n h = go (ltb n 10) refl (decimal-length k (n / 10) (omega (arith, pow-suc 10 (suc k))))
+decimal-is n h = decimal_from_appends digits (record { one = one; more = more }) (suc n) n h (omega (arith, length-decimal-le_succ n h))
   where
-    go : (t : Bool) → ltb n 10 ≡ t → length (decimal (n / 10)) ≤ suc k → length (decimal n) ≤ suc (suc k)
-    go true e l = omega (arith, length_one n (ltb-true _ _ e))
-    go false e l = omega (arith, length_more n (ltb-false _ _ e))
+    one : (k m : ℕ) → m < 10 → digits (suc k) m ≡ (48 + m) ∷ []
+    one k m l = rw (digits, lt-ltb _ _ l) refl
 
--- A u64 has at most 20 digits.
-pub decimal-fits : (n : ℕ) → n < 2 ^ 64 → length (decimal n) ≤ 20
-decimal-fits n h = decimal-length 19 n (omega arith)
+    more : (k m : ℕ) → 10 ≤ m → digits (suc k) m ≡ digits k (m / 10) ++ (48 + m % 10) ∷ []
+    more k m l = rw (digits, le-ltb _ _ l) refl
 
 -- ---- bytes written one after another
-
-pub puts_byte : (out : List ℕ) (at b : ℕ) → at < length out → Puts out at (b ∷ []) (set out at b) (at + 1)
-puts_byte out at b h =
-    record {
-      next = refl;
-      written = set_split out at b h
-          ∙ sym (append_snoc (take at out) b (drop (suc at) out))
-          ∙ ap (λ (k : ℕ). take at out ++ (b ∷ []) ++ drop k out) (sym (add-one at));
-    }
 
 module _ {out mid out' a b : List ℕ} {at r s : ℕ} (p : Puts out at a mid r) (q : Puts mid r b out' s) (room : at ≤ length out) where
   head : length (take at out ++ a) ≡ r
@@ -141,13 +105,6 @@ module _ (tab : ℕ) (a : Answer) (page : List ℕ) where
     pub text-within : TextWithin tab a page → m.letters + tab * m.units ≤ length page
     unfolding number_of given_measures
     text-within h = (rw e at h) refl
-
-pub puts_copy : {out piece out' : List ℕ} {at n : ℕ} → out' ≡ paste out at piece (length piece) → n ≡ at + length piece → Puts out at piece out' n
-puts_copy {out} {piece} {out'} {at} e f =
-    record {
-      next = f;
-      written = rw f (e ∙ ap (λ (l : List ℕ). take at out ++ l ++ drop (at + length piece) out) (take-length piece));
-    }
 
 -- What is written from the start on is printed.
 pub puts_prints : {out new out' : List ℕ} {r : ℕ} → Puts out 0 new out' r → Prints new out out' r

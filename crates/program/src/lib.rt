@@ -1,46 +1,37 @@
 // The program's work, from input bytes to printed bytes (document 01, above its modules).
 #![tactic(auto)]
 
-ghost use Rattle.std.specs.Prelude.{◌≡◌, [], ◌∷◌, ◌++◌, ◌+◌, ◌≤◌, ◌<◌, length, take, drop};
+ghost use Rattle.std.specs.Prelude.{◌≡◌, [], ◌∷◌, ◌++◌, ◌+◌, ◌≤◌, length};
 ghost use Rattle.formatter.specs.Promises.Numbers.{said, numbered};
-ghost use Rattle.program.specs.Program.{decimal, head_length, tab_size, text_length, program};
+ghost use Rattle.program.specs.Program.{decimal, tab_size, text_length, program};
 ghost use Rattle.program.specs.Printing.{Prints};
 ghost use Rattle.program.specs.Promises.Printing.{max_line, said_with, shown, TextWithin, Puts, PutsLine};
 
 use formatter::Answer;
 use formatter::numbers::{Numbers, numbers_of};
-use text::at::{part, u16_at};
+use itoa::Buffer;
+use text::at::byte_at;
 
 // ---- the line
-// Writes a byte at an offset.
-fn put_byte(out: &mut [u8], at: usize, b: u8) -> usize
-    requires { at < length out.old }
-    ensures { Puts out.old at (b ∷ []) out.new result }
+// Writes a piece at an offset.
+fn put(out: &mut [u8], at: usize, piece: &[u8]) -> usize
+    requires { at + length piece.now ≤ length out.old }
+    ensures { Puts out.old at piece.now out.new result }
 {
-    out[at] = b;
-    at + 1
+    let end = at + piece.len();
+    out[at..end].copy_from_slice(piece);
+    end
 }
 
-// Writes a number in decimal.
-fn put_decimal(out: &mut [u8], at: usize, n: u64) -> usize
-    requires { at + length (decimal n) ≤ length out.old }
-    ensures { Puts out.old at (decimal n) out.new result }
-{
-    if n < 10 {
-        return put_byte(out, at, 48 + n as u8);
-    }
-    let last = put_decimal(out, at, n / 10);
-    put_byte(out, last, 48 + (n % 10) as u8)
-}
-
-// Writes a number and the byte behind it.
+// Writes a number in decimal and the byte behind it.
 fn put_number(out: &mut [u8], at: usize, n: u64, end: u8) -> usize
     requires { at + 21 ≤ length out.old }
     ensures puts { Puts out.old at (decimal n ++ end ∷ []) out.new result }
     ensures upper_bound { result ≤ at + 21 }
 {
-    let next = put_decimal(out, at, n);
-    put_byte(out, next, end)
+    let mut buffer = Buffer::new();
+    let next = put(out, at, buffer.format(n).as_bytes());
+    put(out, next, &[end])
 }
 
 // Writes number, place, deepest, letters and units of a verdict.
@@ -75,8 +66,7 @@ fn print(out: &mut [u8], answer: Answer, tab: u32, page: &[u8]) -> usize
         return n;
     };
     let len = (m.letters + tab as u64 * m.units) as usize;
-    text::copy(out, n, &page[..len]);
-    n + len
+    put(out, n, &page[..len])
 }
 
 // ---- the head of the input
@@ -84,48 +74,33 @@ fn print(out: &mut [u8], answer: Answer, tab: u32, page: &[u8]) -> usize
 pub fn tab_size(input: &[u8]) -> u32
     ensures { result ≡ tab_size input.now }
 {
-    (u16_at(input, 0) + 65536 * u16_at(input, 2)) as u32
+    u32::from_le_bytes([
+        byte_at(input, 0),
+        byte_at(input, 1),
+        byte_at(input, 2),
+        byte_at(input, 3),
+    ])
 }
 
-fn text_length(input: &[u8]) -> usize
-    ensures value { result ≡ text_length input.now }
-    ensures upper_bound { result < 65536 }
+// A u16, little-endian.
+fn text_length(input: &[u8]) -> u16
+    ensures { result ≡ text_length input.now }
 {
-    u16_at(input, 4)
-}
-
-// What follows the head: the text, then the record.
-fn text_in(input: &[u8], n: usize) -> &[u8]
-    ensures { result.now ≡ take n (drop head_length input.now) }
-{
-    part(input, 6, n)
-}
-
-fn record_in(input: &[u8], n: usize) -> &[u8]
-    requires { head_length + n ≤ length input.now }
-    ensures { result.now ≡ drop n (drop head_length input.now) }
-{
-    let start = 6 + n;
-    &input[start..]
+    u16::from_le_bytes([byte_at(input, 4), byte_at(input, 5)])
 }
 
 // From the bytes of standard input to the bytes printed; the rest of the output stays.
 pub fn process(input: &[u8], out: &mut [u8; 65641]) -> usize
     ensures { Prints (program input.now) out.old out.new result }
 {
-    let n = text_length(input);
+    let n = text_length(input) as usize;
     if input.len() < 6 + n {
         return put_line(out, Answer::TooLong);
     }
     let tab = tab_size(input);
     let mut page = [0u8; 65536];
     let mut left = [0u64; 64];
-    let answer = formatter::get(
-        text_in(input, n),
-        record_in(input, n),
-        tab,
-        &mut page,
-        &mut left,
-    );
+    let (text, rec) = input[6..].split_at(n);
+    let answer = formatter::get(text, rec, tab, &mut page, &mut left);
     print(out, answer, tab, &page)
 }

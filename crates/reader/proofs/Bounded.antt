@@ -3,7 +3,7 @@ use Prim.Native.Nat.{ℕ, zero, suc, ◌+◌, ◌<◌}
 use mathlib.Core.Path.{◌≡◌, refl}
 use mathlib.Core.List.{List}
 use mathlib.Core.Bool.{Bool, true, false, ◌&&◌}
-use mathlib.Core.Option.{Option, none, some}
+use Rattle.std.specs.Prelude.{Option, None, Some}
 use native.Mathlib.Omega.{arith}
 use lib.ListN.{length, get_or}
 use lib.Dec.{ltb}
@@ -25,10 +25,10 @@ module _ (bound : ℕ) where
   then-below (malformed place) k h f = h
   then-below (too_deep place) k h f = h
 
-  some_below : (o : Option ℕ) (k : ℕ → Checked) (at : ℕ) → at < bound → ((n : ℕ) → o ≡ some n → Below bound (k n))
-      → Below bound (elim o [ none ↦ malformed at | some n ↦ k n ])
-  some_below none k at h f = h
-  some_below (some n) k at h f = f n refl
+  some_below : (o : Option ℕ) (k : ℕ → Checked) (at : ℕ) → at < bound → ((n : ℕ) → o ≡ Some n → Below bound (k n))
+      → Below bound (elim o [ None ↦ malformed at | Some n ↦ k n ])
+  some_below None k at h f = h
+  some_below (Some n) k at h f = f n refl
 
   if-below : (b : Bool) (x : Checked) (at : ℕ) → at < bound → (b ≡ true → Below bound x) → Below bound (elim b [ true ↦ x | false ↦ malformed at ])
   if-below true x at h f = f refl

@@ -3,7 +3,7 @@ use Prim.Native.Nat.{ℕ, ◌+◌, ◌-◌, ◌≤◌, ◌<◌}
 use mathlib.Core.Path.{◌≡◌, refl, sym, ◌∙◌, ap}
 use mathlib.Core.List.{List}
 use mathlib.Core.Bool.{Bool, true, false, ◌&&◌}
-use mathlib.Core.Option.{Option, none, some}
+use Rattle.std.specs.Prelude.{Option, None, Some}
 use native.Mathlib.Omega.{arith}
 use lib.ListN.{length, get_or}
 use lib.Dec.{leb, ltb, eqb}
@@ -128,38 +128,38 @@ first_past {rec} {at} h = first-is (u16-past rec (at + 1) (omega arith)) (λ e. 
 
 -- What an answer says of the record.
 module _ {reads : List ℕ → ℕ → Option ℕ} {rec : List ℕ} {at : ℕ} {r : Number} where
-  pub read-not : NumberAt reads rec at r → r ≡ Not → reads rec at ≡ none
+  pub read-not : NumberAt reads rec at r → r ≡ Not → reads rec at ≡ None
   unfolding number_in
   read-not s e = sym s.is ∙ ap number_in e
 
-  pub read_is : {n : ℕ} → NumberAt reads rec at r → r ≡ Is n → reads rec at ≡ some n
+  pub read_is : {n : ℕ} → NumberAt reads rec at r → r ≡ Is n → reads rec at ≡ Some n
   unfolding number_in
   read_is s e = sym s.is ∙ ap number_in e
 
 module _ {family : Family} {rec : List ℕ} {at : ℕ} {r : Number} where
-  pub form-not : FormAt family rec at r → r ≡ Not → form_at rec (family_of family) at ≡ none
+  pub form-not : FormAt family rec at r → r ≡ Not → form_at rec (family_of family) at ≡ None
   unfolding number_in
   form-not s e = sym s.is ∙ ap number_in e
 
-  pub form-read : {n : ℕ} → FormAt family rec at r → r ≡ Is n → form_at rec (family_of family) at ≡ some n
+  pub form-read : {n : ℕ} → FormAt family rec at r → r ≡ Is n → form_at rec (family_of family) at ≡ Some n
   unfolding number_in
   form-read s e = sym s.is ∙ ap number_in e
 
 -- A number is read only where the test passes.
-pub some_true : (b : Bool) (x k : ℕ) → ◌≡◌ {A = Option ℕ} (elim b [ true ↦ some x | false ↦ none ]) (some k) → (b ≡ true) × (x ≡ k)
+pub some_true : (b : Bool) (x k : ℕ) → ◌≡◌ {A = Option ℕ} (elim b [ true ↦ Some x | false ↦ None ]) (Some k) → (b ≡ true) × (x ≡ k)
 some_true true x k e = (refl, cc)
 some_true false x k e = never (cc)
 
 module _ (rec : List ℕ) (at : ℕ) where
-  pub token-fits : (k : ℕ) → token_at rec at ≡ some k → at + 3 ≤ length rec
+  pub token-fits : (k : ℕ) → token_at rec at ≡ Some k → at + 3 ≤ length rec
   unfolding token_at
   token-fits k e = command-fits rec at 1 3 (some_true (command rec 1 3 at) (u16 rec (at + 1)) k e).0
 
-  pub list-fits : (k : ℕ) → list_at rec at ≡ some k → at + 3 ≤ length rec
+  pub list-fits : (k : ℕ) → list_at rec at ≡ Some k → at + 3 ≤ length rec
   unfolding list_at
   list-fits k e = command-fits rec at 2 3 (some_true (command rec 2 3 at) (u16 rec (at + 1)) k e).0
 
-  pub choice-fits : (k : ℕ) → choice_at rec at ≡ some k → at + 2 ≤ length rec
+  pub choice-fits : (k : ℕ) → choice_at rec at ≡ Some k → at + 2 ≤ length rec
   unfolding choice_at
   choice-fits k e = command-fits rec at 4 2 (some_true (command rec 4 2 at) (get_or rec (at + 1) 0) k e).0
 
@@ -171,7 +171,7 @@ module _ (rec : List ℕ) (at : ℕ) where
   unfolding group_at
   group-fits e = command-fits rec at 3 1 e
 
-  module _ (family : Fields.Family) (n : ℕ) (e : form_at rec family at ≡ some n) where
+  module _ (family : Fields.Family) (n : ℕ) (e : form_at rec family at ≡ Some n) where
     form-tests :
         (leb (at + form_width family) (length rec)
         && leb (first_form family) (get_or rec at 0)
@@ -208,7 +208,7 @@ module _ (rec : List ℕ) (at : ℕ) where
   command-there : (tag width : ℕ) → 1 ≤ tag → command rec tag width at ≡ true → absent_at rec at ≡ false
   command-there tag width h e = let b = command-byte tag width e in not-absent (omega (arith, b))
 
-  pub token-there : (k : ℕ) → token_at rec at ≡ some k → absent_at rec at ≡ false
+  pub token-there : (k : ℕ) → token_at rec at ≡ Some k → absent_at rec at ≡ false
   unfolding token_at
   token-there k e = command-there 1 3 (omega arith) (some_true (command rec 1 3 at) (u16 rec (at + 1)) k e).0
 
@@ -216,7 +216,7 @@ module _ (rec : List ℕ) (at : ℕ) where
   unfolding group_at
   group-there e = command-there 3 1 (omega arith) e
 
-  pub choice-there : (k : ℕ) → choice_at rec at ≡ some k → absent_at rec at ≡ false
+  pub choice-there : (k : ℕ) → choice_at rec at ≡ Some k → absent_at rec at ≡ false
   unfolding choice_at
   choice-there k e = command-there 4 2 (omega arith) (some_true (command rec 4 2 at) (get_or rec (at + 1) 0) k e).0
 
@@ -229,7 +229,7 @@ module _ (rec : List ℕ) (at : ℕ) where
   first-form Fields.Pat = omega arith
   first-form Fields.Ty = omega arith
 
-  pub form-there : (family : Fields.Family) (k : ℕ) → form_at rec family at ≡ some k → absent_at rec at ≡ false
+  pub form-there : (family : Fields.Family) (k : ℕ) → form_at rec family at ≡ Some k → absent_at rec at ≡ false
   form-there family k e = let f = first-form family in let b = form-first rec at family k e in not-absent (omega (arith, b, f))
 
 -- A form's command has a byte at least.

@@ -3,7 +3,7 @@ use Prim.Native.Nat.{ℕ, zero, suc, ◌+◌, ◌-◌, ◌*◌, ◌/◌, ◌%◌
 use mathlib.Core.Path.{◌≡◌, refl, sym, ◌∙◌, ap, subst}
 use mathlib.Core.List.{List}
 use mathlib.Core.Bool.{Bool, true, false, ◌&&◌}
-use mathlib.Core.Option.{Option, none, some}
+use Rattle.std.specs.Prelude.{Option, None, Some}
 use native.Mathlib.Omega.{arith}
 use lib.ListN.{length, get_or, replicate, get_or-map}
 use lib.Dec.{ltb, eqb}
@@ -37,10 +37,10 @@ if_parts true x at end e = (refl, e)
 if_parts false x at end e = never (cc)
 
 -- A number that is read, then a check.
-pub some_parts : (o : Option ℕ) (k : ℕ → Checked) (at end : ℕ) → ◌≡◌ {A = Checked} (elim o [ none ↦ malformed at | some n ↦ k n ]) (ok end)
-    → (n : ℕ) × (o ≡ some n) × (k n ≡ ok end)
-some_parts none k at end e = never (cc)
-some_parts (some n) k at end e = (n, refl, e)
+pub some_parts : (o : Option ℕ) (k : ℕ → Checked) (at end : ℕ) → ◌≡◌ {A = Checked} (elim o [ None ↦ malformed at | Some n ↦ k n ]) (ok end)
+    → (n : ℕ) × (o ≡ Some n) × (k n ≡ ok end)
+some_parts None k at end e = never (cc)
+some_parts (Some n) k at end e = (n, refl, e)
 
 -- ---- a check that passes never goes back
 abbrev pub Grows : (ℕ → Checked) → Type 0
@@ -101,42 +101,42 @@ module _ (rec : List ℕ) (count : ℕ) where
   fields-grow inner g may (form family) at end e = or-grows may at end _ (λ x. g family at end x) e
 
   -- A token that fits: its command, and its number below the count.
-  pub token-parts : (at k : ℕ) → token_fits rec count at ≡ some k → (token_at rec at ≡ some k) × (ltb k count ≡ true)
+  pub token-parts : (at k : ℕ) → token_fits rec count at ≡ Some k → (token_at rec at ≡ Some k) × (ltb k count ≡ true)
   unfolding token_fits
   token-parts at k e = go (token_at rec at) e
     where
-      go : (o : Option ℕ) → ◌≡◌ {A = Option ℕ} (elim o [ none ↦ none | some n ↦ elim (ltb n count) [ true ↦ some n | false ↦ none ] ]) (some k)
-          → (o ≡ some k) × (ltb k count ≡ true)
-      go none e = never (cc)
-      go (some n) e =
+      go : (o : Option ℕ) → ◌≡◌ {A = Option ℕ} (elim o [ None ↦ None | Some n ↦ elim (ltb n count) [ true ↦ Some n | false ↦ None ] ]) (Some k)
+          → (o ≡ Some k) × (ltb k count ≡ true)
+      go None e = never (cc)
+      go (Some n) e =
           let q = some_true (ltb n count) n k e in
-          (ap some q.1, subst (λ (i : ℕ). ltb i count ≡ true) q.1 q.0)
+          (ap Some q.1, subst (λ (i : ℕ). ltb i count ≡ true) q.1 q.0)
 
   -- A form that fits, from its command and its operand.
-  pub fits-parts : (family : Family) (at k : ℕ) → form_fits rec count family at ≡ some k → (form_at rec family at ≡ some k) × (operand_fits rec count family at ≡ true)
+  pub fits-parts : (family : Family) (at k : ℕ) → form_fits rec count family at ≡ Some k → (form_at rec family at ≡ Some k) × (operand_fits rec count family at ≡ true)
   unfolding form_fits
   fits-parts family at k e = go (form_at rec family at) e
     where
-      go : (o : Option ℕ) → ◌≡◌ {A = Option ℕ} (elim o [ none ↦ none | some n ↦ elim (operand_fits rec count family at) [ true ↦ some n | false ↦ none ] ]) (some k)
-          → (o ≡ some k) × (operand_fits rec count family at ≡ true)
-      go none e = never (cc)
-      go (some n) e = let p = some_true (operand_fits rec count family at) n k e in (ap some p.1, p.0)
+      go : (o : Option ℕ) → ◌≡◌ {A = Option ℕ} (elim o [ None ↦ None | Some n ↦ elim (operand_fits rec count family at) [ true ↦ Some n | false ↦ None ] ]) (Some k)
+          → (o ≡ Some k) × (operand_fits rec count family at ≡ true)
+      go None e = never (cc)
+      go (Some n) e = let p = some_true (operand_fits rec count family at) n k e in (ap Some p.1, p.0)
 
   pub fits-yes : (family : Family) (at : ℕ) → operand_fits rec count family at ≡ true → form_fits rec count family at ≡ form_at rec family at
   unfolding form_fits
   fits-yes family at e = go (form_at rec family at)
     where
-      go : (o : Option ℕ) → ◌≡◌ {A = Option ℕ} (elim o [ none ↦ none | some n ↦ elim (operand_fits rec count family at) [ true ↦ some n | false ↦ none ] ]) o
-      go none = refl
-      go (some n) = rw e refl
+      go : (o : Option ℕ) → ◌≡◌ {A = Option ℕ} (elim o [ None ↦ None | Some n ↦ elim (operand_fits rec count family at) [ true ↦ Some n | false ↦ None ] ]) o
+      go None = refl
+      go (Some n) = rw e refl
 
-  pub fits-no : (family : Family) (at : ℕ) → operand_fits rec count family at ≡ false → form_fits rec count family at ≡ none
+  pub fits-no : (family : Family) (at : ℕ) → operand_fits rec count family at ≡ false → form_fits rec count family at ≡ None
   unfolding form_fits
   fits-no family at e = go (form_at rec family at)
     where
-      go : (o : Option ℕ) → ◌≡◌ {A = Option ℕ} (elim o [ none ↦ none | some n ↦ elim (operand_fits rec count family at) [ true ↦ some n | false ↦ none ] ]) none
-      go none = refl
-      go (some n) = rw e refl
+      go : (o : Option ℕ) → ◌≡◌ {A = Option ℕ} (elim o [ None ↦ None | Some n ↦ elim (operand_fits rec count family at) [ true ↦ Some n | false ↦ None ] ]) None
+      go None = refl
+      go (Some n) = rw e refl
 
   -- Where no form may stand, none passes.
   pub zero-never : {P : Type 0} (family : Family) (at end : ℕ) → form_check rec count 0 family at ≡ ok end → P
@@ -144,8 +144,8 @@ module _ (rec : List ℕ) (count : ℕ) where
   zero-never {P} family at end e = go (form_fits rec count family at) refl
     where
       go : (o : Option ℕ) → form_fits rec count family at ≡ o → P
-      go none f = let d = rw (f, form_check) at e in never (cc)
-      go (some n) f = let d = rw (f, form_check) at e in never (cc)
+      go None f = let d = rw (f, form_check) at e in never (cc)
+      go (Some n) f = let d = rw (f, form_check) at e in never (cc)
 
   pub form-grows : (depth : ℕ) (family : Family) → Grows (form_check rec count depth family)
   unfolding form_check
@@ -218,11 +218,11 @@ then_ok (too_deep p) = refl
 
 -- ---- the nodes of a field, from its command
 module _ {rec : List ℕ} {code at : ℕ} where
-  pub list-none : 128 ≤ code → list_at rec at ≡ none → Runs rec code at Running.Malformed
+  pub list-none : 128 ≤ code → list_at rec at ≡ None → Runs rec code at Running.Malformed
   unfolding fields ran
   list-none h e = record { is = λ count left. rw (field_list code h) (rw (e, fields)); on = tt }
 
-  pub list-some : {n : ℕ} → 128 ≤ code → list_at rec at ≡ some n → Runs rec code at (Nodes (code - 128) n (at + 3))
+  pub list-some : {n : ℕ} → 128 ≤ code → list_at rec at ≡ Some n → Runs rec code at (Nodes (code - 128) n (at + 3))
   unfolding fields ran
   list-some h e = record { is = λ count left. rw (field_list code h) (rw (e, fields)); on = omega arith }
 

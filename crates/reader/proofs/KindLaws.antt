@@ -4,7 +4,7 @@ use native.Mathlib.Omega.{arith}
 use mathlib.Core.Path.{◌≡◌, refl}
 use mathlib.Core.List.{List, ◌∷◌}
 use mathlib.Core.Bool.{Bool, true, false, ◌&&◌}
-use mathlib.Core.Option.{Option, none, some}
+use Rattle.std.specs.Prelude.{Option, None, Some}
 use lib.Dec.{leb, eqb}
 use lib.ListN.{length, get_or}
 use borrow.Author.Tests.{leb-true}
@@ -88,9 +88,9 @@ known_text : (text rec : List ℕ) → KnownOf (read_text text rec)
 unfolding read_text
 known_text text rec = go (first_broken text)
   where
-    go : (w : Option ℕ) → KnownOf (elim w as (λ z. Read) [ none ↦ read_record rec (boundary text) (length text) | some place ↦ refused 2 place ])
-    go none = known-record rec (boundary text) (length text)
-    go (some place) = tt
+    go : (w : Option ℕ) → KnownOf (elim w as (λ z. Read) [ None ↦ read_record rec (boundary text) (length text) | Some place ↦ refused 2 place ])
+    go None = known-record rec (boundary text) (length text)
+    go (Some place) = tt
 
 known_read : (text rec : List ℕ) → KnownOf (read text rec)
 unfolding read

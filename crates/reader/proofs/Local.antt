@@ -3,7 +3,7 @@ use Prim.Native.Nat.{ℕ, zero, suc, ◌+◌, ◌-◌, ◌≤◌, ◌<◌}
 use mathlib.Core.Path.{◌≡◌, refl, sym, ◌∙◌, ap}
 use mathlib.Core.List.{List}
 use mathlib.Core.Bool.{Bool, true, false, ◌&&◌}
-use mathlib.Core.Option.{Option, none, some}
+use Rattle.std.specs.Prelude.{Option, None, Some}
 use native.Mathlib.Omega.{arith}
 use lib.ListN.{length, get_or, take, drop}
 use lib.Seq.{get_or-take, get_or-drop}
@@ -57,25 +57,25 @@ module _ (rec rec' : List ℕ) (base base' n : ℕ) (there : base' + n ≤ lengt
       and_second (leb (at' + 1) (length rec')) (eqb (get_or rec' at' 0) 0)
       (rw (← byte-same at at' m h) (rw (le-leb (at + 1) (length rec) (omega arith)) at e))
 
-  some-if : (b : Bool) (x k : ℕ) → b ≡ true → x ≡ k → ◌≡◌ {A = Option ℕ} (elim b [ true ↦ some x | false ↦ none ]) (some k)
-  some-if true x k e f = ap some f
+  some-if : (b : Bool) (x k : ℕ) → b ≡ true → x ≡ k → ◌≡◌ {A = Option ℕ} (elim b [ true ↦ Some x | false ↦ None ]) (Some k)
+  some-if true x k e f = ap Some f
   some-if false x k e f = never (cc)
 
-  token-same : (at at' k : ℕ) → Meets at at' → at + 3 ≤ base + n → token_at rec at ≡ some k → token_at rec' at' ≡ some k
+  token-same : (at at' k : ℕ) → Meets at at' → at + 3 ≤ base + n → token_at rec at ≡ Some k → token_at rec' at' ≡ Some k
   unfolding token_at
   token-same at at' k m h e =
       let p = some_true (command rec 1 3 at) (u16 rec (at + 1)) k e in
       some-if (command rec' 1 3 at') (u16 rec' (at' + 1)) k (command-same 1 3 at at' m h (omega arith) p.0)
       (sym (u16-same (at + 1) (at' + 1) (omega arith) (omega arith)) ∙ p.1)
 
-  list_same : (at at' k : ℕ) → Meets at at' → at + 3 ≤ base + n → list_at rec at ≡ some k → list_at rec' at' ≡ some k
+  list_same : (at at' k : ℕ) → Meets at at' → at + 3 ≤ base + n → list_at rec at ≡ Some k → list_at rec' at' ≡ Some k
   unfolding list_at
   list_same at at' k m h e =
       let p = some_true (command rec 2 3 at) (u16 rec (at + 1)) k e in
       some-if (command rec' 2 3 at') (u16 rec' (at' + 1)) k (command-same 2 3 at at' m h (omega arith) p.0)
       (sym (u16-same (at + 1) (at' + 1) (omega arith) (omega arith)) ∙ p.1)
 
-  choice_same : (at at' k : ℕ) → Meets at at' → at + 2 ≤ base + n → choice_at rec at ≡ some k → choice_at rec' at' ≡ some k
+  choice_same : (at at' k : ℕ) → Meets at at' → at + 2 ≤ base + n → choice_at rec at ≡ Some k → choice_at rec' at' ≡ Some k
   unfolding choice_at
   choice_same at at' k m h e =
       let p = some_true (command rec 4 2 at) (get_or rec (at + 1) 0) k e in
@@ -86,7 +86,7 @@ module _ (rec rec' : List ℕ) (base base' n : ℕ) (there : base' + n ≤ lengt
   unfolding group_at
   group-same at at' m h e = command-same 3 1 at at' m (omega arith) (omega arith) e
 
-  form-same : (family : Family) (at at' k : ℕ) → Meets at at' → at + form_width family ≤ base + n → form_at rec family at ≡ some k → form_at rec' family at' ≡ some k
+  form-same : (family : Family) (at at' k : ℕ) → Meets at at' → at + form_width family ≤ base + n → form_at rec family at ≡ Some k → form_at rec' family at' ≡ Some k
   unfolding form_at
   form-same family at at' k m h e =
       let w : 1 ≤ form_width family = form_wide family in
@@ -214,7 +214,7 @@ module _ (rec rec' : List ℕ) (base base' n : ℕ) (there : base' + n ≤ lengt
           may (may && absent_at rec at) refl e
 
     -- ---- forms, at each depth
-    fits-same : (family : Family) (at at' k : ℕ) → Meets at at' → at + form_width family ≤ base + n → form_fits rec count family at ≡ some k → form_fits rec' count family at' ≡ some k
+    fits-same : (family : Family) (at at' k : ℕ) → Meets at at' → at + form_width family ≤ base + n → form_fits rec count family at ≡ Some k → form_fits rec' count family at' ≡ Some k
     unfolding form_fits
     fits-same family at at' k meets h e =
         let p = fits-parts rec count family at k e in

@@ -3,14 +3,12 @@ use Prim.Native.Nat.{ℕ, ◌≤◌, ◌<◌}
 use mathlib.Core.Path.{◌≡◌, refl, sym, ◌∙◌, ap}
 use mathlib.Core.List.{List}
 use mathlib.Core.Bool.{Bool, true, false, ◌&&◌}
-use mathlib.Core.Option.{Option, none, some}
+use Rattle.std.specs.Prelude.{Option, None, Some}
 use native.Mathlib.Omega.{arith}
 use lib.ListN.{length, take}
 use lib.Dec.{leb}
 use borrow.Author.Tests.{le-leb, lt-leb}
-use Rattle.text.specs.declared.Broken.{Broken}
 use Rattle.text.specs.Utf8.{first_broken, boundary}
-use Rattle.text.specs.Promises.Utf8.{broken_at}
 use Rattle.reader.specs.declared.tokens.Tiled as Tiled
 use Rattle.reader.specs.declared.tokens.Tiled.TheVariants as Tokens
 use Rattle.reader.specs.declared.tree.Checked as Checked
@@ -72,25 +70,21 @@ module _ (text rec kinds starts lens : List ℕ) where
       unfolding read
       short = rw (le-leb (length text) 32768 a, le-leb (length rec) 65536 b, read)
 
-      text-broken : {place : ℕ} → first_broken text ≡ some place → refused 2 place ≡ read_text text rec
+      text-broken : {place : ℕ} → first_broken text ≡ Some place → refused 2 place ≡ read_text text rec
       unfolding read_text
       text-broken f = rw (f, read_text)
 
-      text-whole : first_broken text ≡ none → read_record rec (boundary text) (length text) ≡ read_text text rec
+      text-whole : first_broken text ≡ None → read_record rec (boundary text) (length text) ≡ read_text text rec
       unfolding read_text
       text-whole f = rw (f, read_text)
 
-      pub not-utf8 : {w : Broken} {place : ℕ} → broken_at w ≡ first_broken text → w ≡ Broken.At place → Reads text rec kinds starts lens (NotUtf8 place)
-      unfolding read_text broken_at number_of place_of
-      not-utf8 {w} {place} s e =
-          let f : first_broken text ≡ some place = sym s ∙ ap broken_at e in
-          record { is = text-broken f ∙ short; counts = tt }
+      pub not-utf8 : {place : ℕ} → first_broken text ≡ Some place → Reads text rec kinds starts lens (NotUtf8 place)
+      unfolding read_text number_of place_of
+      not-utf8 f = record { is = text-broken f ∙ short; counts = tt }
 
-      pub utf8 : {w : Broken} {r : Reading} → broken_at w ≡ first_broken text → w ≡ Broken.Nowhere → RecordReads (boundary text) (length text) rec kinds starts lens r → Reads text rec kinds starts lens r
-      unfolding read_text broken_at
-      utf8 {w} {r} s e u =
-          let f : first_broken text ≡ none = sym s ∙ ap broken_at e in
-          record { is = u.is ∙ text-whole f ∙ short; counts = u.counts }
+      pub utf8 : {r : Reading} → first_broken text ≡ None → RecordReads (boundary text) (length text) rec kinds starts lens r → Reads text rec kinds starts lens r
+      unfolding read_text
+      utf8 f u = record { is = u.is ∙ text-whole f ∙ short; counts = u.counts }
 
 -- What a case of the answer says of the sheet.
 module _ {text rec kinds starts lens : List ℕ} {r : Reading} (s : Reads text rec kinds starts lens r) where
@@ -116,8 +110,8 @@ module _ (P : Read → Type 0) (text rec : List ℕ) (refuses : (number place : 
 
   text-cases : (o : Option ℕ) → first_broken text ≡ o → P (read_text text rec)
   unfolding read_text
-  text-cases none e = rw (e, read_text) (record-cases (tokens (boundary text) (length text) rec) refl)
-  text-cases (some place) e = rw (e, read_text) (refuses 2 place (λ z. omega (arith, z)))
+  text-cases None e = rw (e, read_text) (record-cases (tokens (boundary text) (length text) rec) refl)
+  text-cases (Some place) e = rw (e, read_text) (refuses 2 place (λ z. omega (arith, z)))
 
   length-cases : (b : Bool) → (leb (length text) max_text && leb (length rec) max_record) ≡ b → P (read text rec)
   unfolding read

@@ -4,7 +4,7 @@ use Prim.Native.Nat.{ℕ, zero, suc, ◌+◌, ◌-◌, ◌≤◌}
 use mathlib.Core.Path.{◌≡◌, refl, sym, ◌∙◌, ap, ap₂}
 use mathlib.Core.List.{List}
 use mathlib.Core.Bool.{Bool, true, false, ◌&&◌}
-use mathlib.Core.Option.{Option, none, some}
+use Rattle.std.specs.Prelude.{Option, None, Some}
 use native.Mathlib.Omega.{arith}
 use lib.ListN.{length, get_or, drop, length-drop}
 use lib.Seq.{get_or-drop}
@@ -30,7 +30,7 @@ stands_on base at width n w = go (leb (base + at + width) n) refl
     go false e = e ∙ sym (lt-leb (at + width) (n - base) (let h = leb-false (base + at + width) n e in omega arith))
 
 abbrev some_if : Bool → ℕ → Option ℕ
-some_if b k = elim b [ true ↦ some k | false ↦ none ]
+some_if b k = elim b [ true ↦ Some k | false ↦ None ]
 
 -- A record, and the part of it from `base` on.
 module _ (rec : List ℕ) (count base : ℕ) where
@@ -86,7 +86,7 @@ module _ (rec : List ℕ) (count base : ℕ) where
 
   tokens-on : (at : ℕ) → token_fits rec count (base + at) ≡ token_fits part count at
   unfolding token_fits
-  tokens-on at = ap (λ (o : Option ℕ). elim o as (λ x. Option ℕ) [ none ↦ none | some k ↦ some_if (ltb k count) k ]) (token-on at)
+  tokens-on at = ap (λ (o : Option ℕ). elim o as (λ x. Option ℕ) [ None ↦ None | Some k ↦ some_if (ltb k count) k ]) (token-on at)
 
   operand_on : (family : Family) (at : ℕ) → operand_fits rec count family (base + at) ≡ operand_fits part count family at
   unfolding operand_fits
@@ -99,7 +99,7 @@ module _ (rec : List ℕ) (count base : ℕ) where
 
   fits_on : (family : Family) (at : ℕ) → form_fits rec count family (base + at) ≡ form_fits part count family at
   unfolding form_fits
-  fits_on family at = ap₂ (λ (o : Option ℕ) (b : Bool). elim o as (λ x. Option ℕ) [ none ↦ none | some n ↦ some_if b n ]) (form-on family at) (operand_on family at)
+  fits_on family at = ap₂ (λ (o : Option ℕ) (b : Bool). elim o as (λ x. Option ℕ) [ None ↦ None | Some n ↦ some_if b n ]) (form-on family at) (operand_on family at)
 
   -- ---- checks that say the same
   abbrev On : (ℕ → Checked) → (ℕ → Checked) → Type 0
@@ -127,9 +127,9 @@ module _ (rec : List ℕ) (count base : ℕ) where
   if-on false x' y' same e f = rw same f
 
   some-on : {o : Option ℕ} (o' : Option ℕ) (at : ℕ) (k k' : ℕ → Checked) → o ≡ o' → ((n : ℕ) → k n ≡ shift base (k' n))
-      → ◌≡◌ {A = Checked} (elim o [ none ↦ malformed (base + at) | some n ↦ k n ]) (shift base (elim o' [ none ↦ malformed at | some n ↦ k' n ]))
-  some-on none at k k' same on = rw same (refuses at)
-  some-on (some n) at k k' same on = rw same (on n)
+      → ◌≡◌ {A = Checked} (elim o [ None ↦ malformed (base + at) | Some n ↦ k n ]) (shift base (elim o' [ None ↦ malformed at | Some n ↦ k' n ]))
+  some-on None at k k' same on = rw same (refuses at)
+  some-on (Some n) at k k' same on = rw same (on n)
 
   or-on : (may : Bool) (at : ℕ) (x x' : Checked) → x ≡ shift base x' → or_absent rec count may (base + at) x ≡ shift base (or_absent part count may at x')
   unfolding or_absent

@@ -3,7 +3,7 @@ use Prim.Native.Nat.{ℕ, zero, suc, ◌+◌, ◌-◌, ◌≤◌, ◌<◌}
 use mathlib.Core.Path.{◌≡◌, refl, sym, ◌∙◌, ap}
 use mathlib.Core.List.{List}
 use mathlib.Core.Bool.{Bool, true, false, or-true, or-false}
-use mathlib.Core.Option.{Option, none, some}
+use Rattle.std.specs.Prelude.{Option, None, Some}
 use native.Mathlib.Omega.{arith}
 use lib.ListN.{length, get_or}
 use lib.Dec.{ltb, eqb}
@@ -73,7 +73,7 @@ module _ {rec : List ℕ} {count left at n : ℕ} {f : ℕ → Fields} {r : Numb
 
 -- A choice reads alike where its nodes below the number agree.
 module _ (rec : List ℕ) (count left at n : ℕ) (f g : ℕ → Fields) (same : (k : ℕ) → k < n → f k ≡ g k) where
-  choice-at : (k : ℕ) (b : Bool) → choice_at rec at ≡ some k → ltb k n ≡ b
+  choice-at : (k : ℕ) (b : Bool) → choice_at rec at ≡ Some k → ltb k n ≡ b
       → fields rec count (form_check rec count left) false (choice n f) at ≡ fields rec count (form_check rec count left) false (choice n g) at
   unfolding fields or_absent
   choice-at k true e t = rw (e, fields, t, same k (ltb-true k n t))
@@ -82,8 +82,8 @@ module _ (rec : List ℕ) (count left at n : ℕ) (f g : ℕ → Fields) (same :
   choice-alike : (w : Option ℕ) → choice_at rec at ≡ w
       → fields rec count (form_check rec count left) false (choice n f) at ≡ fields rec count (form_check rec count left) false (choice n g) at
   unfolding fields or_absent
-  choice-alike none e = rw (e, fields)
-  choice-alike (some k) e = choice-at k (ltb k n) e refl
+  choice-alike None e = rw (e, fields)
+  choice-alike (Some k) e = choice-at k (ltb k n) e refl
 
 pub choice_same :
     {rec : List ℕ} {count left at n : ℕ} {f g : ℕ → Fields} {r : Opened}
@@ -94,11 +94,11 @@ choice_same {rec} {count} {left} {at} {n} {f} {g} same o =
     record { is = o.is ∙ choice-alike rec count left at n f g same (choice_at rec at) refl; on = o.on }
 
 -- ---- the operand of a declaration
-none_true : (b : Bool) (x : ℕ) → ◌≡◌ {A = Option ℕ} (elim b [ true ↦ none | false ↦ some x ]) none → b ≡ true
+none_true : (b : Bool) (x : ℕ) → ◌≡◌ {A = Option ℕ} (elim b [ true ↦ None | false ↦ Some x ]) None → b ≡ true
 none_true true x e = refl
 none_true false x e = never (cc)
 
-some_false : (b : Bool) (x k : ℕ) → ◌≡◌ {A = Option ℕ} (elim b [ true ↦ none | false ↦ some x ]) (some k) → (b ≡ false) × (x ≡ k)
+some_false : (b : Bool) (x k : ℕ) → ◌≡◌ {A = Option ℕ} (elim b [ true ↦ None | false ↦ Some x ]) (Some k) → (b ≡ false) × (x ≡ k)
 some_false true x k e = never (cc)
 some_false false x k e = (refl, cc)
 
@@ -136,28 +136,28 @@ module _ (rec : List ℕ) (count at : ℕ) where
 
 -- ---- a form
 module _ (rec : List ℕ) (count : ℕ) (family : Fields.Family) (at : ℕ) where
-  fits-none : form_at rec family at ≡ none → form_fits rec count family at ≡ none
+  fits-none : form_at rec family at ≡ None → form_fits rec count family at ≡ None
   unfolding form_fits
   fits-none e = rw (e, form_fits)
 
-  fits_out : (n : ℕ) → form_at rec family at ≡ some n → operand_fits rec count family at ≡ false → form_fits rec count family at ≡ none
+  fits_out : (n : ℕ) → form_at rec family at ≡ Some n → operand_fits rec count family at ≡ false → form_fits rec count family at ≡ None
   unfolding form_fits
   fits_out n e t = rw (e, form_fits, t)
 
-  fits_in : (n : ℕ) → form_at rec family at ≡ some n → operand_fits rec count family at ≡ true → form_fits rec count family at ≡ some n
+  fits_in : (n : ℕ) → form_at rec family at ≡ Some n → operand_fits rec count family at ≡ true → form_fits rec count family at ≡ Some n
   unfolding form_fits
   fits_in n e t = rw (e, form_fits, t)
 
-  check-none : (left : ℕ) → form_fits rec count family at ≡ none → malformed at ≡ form_check rec count left family at
+  check-none : (left : ℕ) → form_fits rec count family at ≡ None → malformed at ≡ form_check rec count left family at
   unfolding form_check
   check-none zero e = rw (e, form_check)
   check-none (suc left) e = rw (e, form_check)
 
-  check-deep : (n : ℕ) → form_fits rec count family at ≡ some n → too_deep at ≡ form_check rec count 0 family at
+  check-deep : (n : ℕ) → form_fits rec count family at ≡ Some n → too_deep at ≡ form_check rec count 0 family at
   unfolding form_check
   check-deep n e = rw (e, form_check)
 
-  check-inside : (n left : ℕ) → form_fits rec count family at ≡ some n
+  check-inside : (n left : ℕ) → form_fits rec count family at ≡ Some n
       → fields rec count (form_check rec count left) true (get_or (forms family) n Fields.none) (at + form_width family)
       ≡ form_check rec count (suc left) family at
   unfolding form_check

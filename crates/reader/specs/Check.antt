@@ -1,6 +1,5 @@
 -- The record check behind the tokens: one forward pass that tells the first command that is malformed, or the 201st form inside.
-use Rattle.std.specs.Prelude.{ℕ, zero, suc, ◌+◌, List, Bool, true, false, ◌&&◌, ◌||◌, length, get_or, ltb, eqb}
-use Rattle.std.proofs.Math.Option.{Option, none, some}
+use Rattle.std.specs.Prelude.{ℕ, zero, suc, ◌+◌, List, Bool, true, false, ◌&&◌, ◌||◌, length, get_or, ltb, eqb, Option, None, Some}
 use Rattle.reader.specs.Fields.{Family, DecOne, StrExp, SigExp, Exp, Pat, Ty, Fields, ◌▸◌, token, list, group, choice, form, Dec, forms}
 use Rattle.reader.specs.Commands.{u16, absent_at, token_at, list_at, group_at, choice_at, form_at, form_width, no_token}
 
@@ -37,7 +36,7 @@ module _ (rec : List ℕ) (count : ℕ) where
 
   -- The command of a token fits: its number is below the count.
   unfoldable pub token_fits : ℕ → Option ℕ
-  token_fits at = elim (token_at rec at) [ none ↦ none | some k ↦ elim (ltb k count) [ true ↦ some k | false ↦ none ] ]
+  token_fits at = elim (token_at rec at) [ None ↦ None | Some k ↦ elim (ltb k count) [ true ↦ Some k | false ↦ None ] ]
 
   -- What may be absent where it may be absent, else the check of what is there.
   unfoldable pub or_absent : Bool → ℕ → Checked → Checked
@@ -48,30 +47,30 @@ module _ (rec : List ℕ) (count : ℕ) where
     unfoldable pub fields : Bool → Fields → ℕ → Checked
     fields may Fields.none at = ok at
     fields may (f ▸ g) at = and_then (fields may f at) (λ next. fields may g next)
-    fields may token at = or_absent may at (elim (token_fits at) [ none ↦ malformed at | some k ↦ ok (at + 3) ])
+    fields may token at = or_absent may at (elim (token_fits at) [ None ↦ malformed at | Some k ↦ ok (at + 3) ])
     fields may (list f) at =
-        elim (list_at rec at) [ none ↦ malformed at | some n ↦ items n (λ next. fields false f next) (at + 3) ]
+        elim (list_at rec at) [ None ↦ malformed at | Some n ↦ items n (λ next. fields false f next) (at + 3) ]
     fields may (group f) at =
         or_absent may at (elim (group_at rec at) [ true ↦ fields true f (at + 1) | false ↦ malformed at ])
     fields may (choice n f) at =
         or_absent may at
         (elim (choice_at rec at)
-        [ none ↦ malformed at | some which ↦ elim (ltb which n) [ true ↦ fields true (f which) (at + 2) | false ↦ malformed at ] ])
+        [ None ↦ malformed at | Some which ↦ elim (ltb which n) [ true ↦ fields true (f which) (at + 2) | false ↦ malformed at ] ])
     fields may (form family) at = or_absent may at (inner family at)
 
   -- The command of a form fits: it is of the family, and its operand is in range.
   unfoldable pub form_fits : Family → ℕ → Option ℕ
   form_fits family at =
       elim (form_at rec family at)
-      [ none ↦ none | some n ↦ elim (operand_fits family at) [ true ↦ some n | false ↦ none ] ]
+      [ None ↦ None | Some n ↦ elim (operand_fits family at) [ true ↦ Some n | false ↦ None ] ]
 
   -- A form with its fields, where at most this many more may stand inside one another. At one command malformation comes before depth.
   unfoldable pub form_check : ℕ → Family → ℕ → Checked
-  form_check zero family at = elim (form_fits family at) [ none ↦ malformed at | some n ↦ too_deep at ]
+  form_check zero family at = elim (form_fits family at) [ None ↦ malformed at | Some n ↦ too_deep at ]
   form_check (suc depth) family at =
       elim (form_fits family at) [
-        | none ↦ malformed at
-        | some n ↦ fields (λ f next. form_check depth f next) true (get_or (forms family) n Fields.none) (at + form_width family)
+        | None ↦ malformed at
+        | Some n ↦ fields (λ f next. form_check depth f next) true (get_or (forms family) n Fields.none) (at + form_width family)
       ]
 
   -- The end of a field, where at most this many more forms may stand inside one another.

@@ -1,6 +1,5 @@
 -- Refusals 1 to 4 of a text and a record, in this order, or what they are read as.
-use Rattle.std.specs.Prelude.{ℕ, List, Bool, true, false, ◌&&◌, length, leb}
-use Rattle.std.proofs.Math.Option.{none, some}
+use Rattle.std.specs.Prelude.{ℕ, List, Bool, true, false, ◌&&◌, length, leb, None, Some}
 use Rattle.text.specs.Utf8.{first_broken, boundary}
 use Rattle.reader.specs.Tokens.{Tokens, count_of, tiled, untiled, tokens}
 use Rattle.reader.specs.Check.{ok, malformed, too_deep, tree_check}
@@ -31,7 +30,7 @@ module _ (rec : List ℕ) where
 
 module _ (text : List ℕ) (rec : List ℕ) where
   unfoldable pub read_text : Read
-  read_text = elim (first_broken text) [ none ↦ read_record rec (boundary text) (length text) | some place ↦ refused 2 place ]
+  read_text = elim (first_broken text) [ None ↦ read_record rec (boundary text) (length text) | Some place ↦ refused 2 place ]
 
   unfoldable pub read : Read
   read = elim (leb (length text) max_text && leb (length rec) max_record) [ true ↦ read_text | false ↦ refused 1 0 ]

@@ -12,7 +12,7 @@ ghost use Rattle.reader.specs.Promises.Commands.{number_in};
 ghost use Rattle.reader.specs.Promises.Tokens.{starts_of, lengths_of};
 ghost use Rattle.reader.specs.Promises.Reading.{RecordReads, Reads};
 
-use text::{Broken, first_broken};
+use text::first_broken;
 use tokens::{Tiled, read_tokens};
 use tree::{Checked, tree_end};
 
@@ -70,7 +70,7 @@ pub fn check(text: &[u8], rec: &[u8], kinds: &mut [u8; 4096], spans: &mut [u32; 
     if MAX_RECORD < rec.len() {
         return Reading::TooLong;
     }
-    if let Broken::At(place) = first_broken(text) {
+    if let Some(place) = first_broken(text) {
         return Reading::NotUtf8(place);
     }
     read_record(text, text.len() as u16, rec, kinds, spans)

@@ -4,7 +4,7 @@ use native.Mathlib.Omega.{arith}
 use mathlib.Core.Path.{◌≡◌, refl, sym, ap, subst, ◌∙◌}
 use mathlib.Core.List.{List, ◌++◌}
 use mathlib.Core.Bool.{Bool, true, false}
-use mathlib.Core.Option.{Option, none, some}
+use Rattle.std.specs.Prelude.{Option, None, Some}
 use lib.ListN.{length, get_or, take, drop}
 use lib.Seq.{take_at}
 use lib.Dec.{leb, eqb}
@@ -50,11 +50,11 @@ module _ (text : List ℕ) where
   read_known = go (leb (length text) 32768) (first_broken text)
     where
       go : (t : Bool) (w : Option ℕ) → Known (elim t as (λ x. Scanned) [
-        | true ↦ elim w as (λ x. Scanned) [ none ↦ limited (scan_text text) | some place ↦ refused 2 place ]
+        | true ↦ elim w as (λ x. Scanned) [ None ↦ limited (scan_text text) | Some place ↦ refused 2 place ]
         | false ↦ refused 1 0
       ])
-      go true none = limited-known (scan_text text) refl
-      go true (some place) = omega arith
+      go true None = limited-known (scan_text text) refl
+      go true (Some place) = omega arith
       go false w = omega arith
 
 -- ---- the call

@@ -3,7 +3,7 @@ use Prim.Native.Nat.{ℕ}
 use mathlib.Core.Path.{◌≡◌, sym, ap, ◌∙◌}
 use mathlib.Core.Bool.{true, false}
 use mathlib.Core.List.{List}
-use mathlib.Core.Option.{Option, none, some}
+use Rattle.std.specs.Prelude.{Option, None, Some}
 use lib.Dec.{leb}
 use lib.ListN.{length}
 use Rattle.text.specs.WellFormed.{Ascii}
@@ -19,7 +19,7 @@ pub read-ascii : (text : List ℕ) → Ascii text → read text ≡ read_ascii t
 unfolding read read_ascii
 read-ascii text h =
     ap (λ (o : Option ℕ). elim (leb (length text) max_text) as (λ z. Scanned) [
-      | true ↦ elim o as (λ z. Scanned) [ none ↦ limited (scan_text text) | some place ↦ refused 2 place ]
+      | true ↦ elim o as (λ z. Scanned) [ None ↦ limited (scan_text text) | Some place ↦ refused 2 place ]
       | false ↦ refused 1 0
     ])
     (ascii_whole text h ∙ sym (none_wide 0 text h))

@@ -1,16 +1,14 @@
 -- Tests of bytes that are decided by computation over all of them, and the keys of a `match`. Assumes nothing.
 use Prim.Native.Nat.{ℕ, ◌-◌, ◌≤◌, ◌<◌}
-use native.Mathlib.Omega.{arith}
 use mathlib.Core.Path.{◌≡◌, refl, sym, ap, ap₂, ◌∙◌}
-use mathlib.Core.Bool.{Bool, true, false, not, ◌&&◌, ◌||◌, false≢true, or-false}
+use mathlib.Core.Bool.{Bool, true, false, not, ◌&&◌, ◌||◌, false≢true}
 use mathlib.Core.Logic.{inl, inr}
 use mathlib.Core.List.{List, [], ◌∷◌}
 use lib.Dec.{leb, ltb, eqb, T}
 use mir.Val.{has_key}
 use types.Run.{OneOf, hit}
 use borrow.Author.Tests.{eqb-true, leb-true, not-true, le-leb, lt-leb, lt-ltb, eq-eqb, ne_eqb}
-use lib.ListN.{get_or}
-use Rattle.text.specs.Bytes.{between, is_letter, is_digit, class_of, classes_from, class_table}
+use Rattle.text.specs.Bytes.{between, is_digit}
 use Rattle.text.proofs.Computed.{and_left, and_right, all_below, below, same, same_is}
 use Rattle.scanner.specs.Parts.{every, is_one_of}
 use Rattle.scanner.specs.Constants.{is_hex_digit}
@@ -100,27 +98,6 @@ module _ (lo hi b : ℕ) where
   pub within : lo ≤ b → b ≤ hi → between lo hi b ≡ true
   unfolding between
   within l h = rw (le-leb lo b l, le-leb b hi h)
-
--- The table's entry of a byte is that of a letter or a digit exactly where the byte is one.
-module _ (table : List ℕ) (b : ℕ) (f : b < 256) (e : table ≡ class_table) where
-  entry : not (eqb (get_or table b 0) 45) ≡ (is_letter b || is_digit b)
-  unfolding all_below same is_letter is_digit between class_of classes_from class_table
-  entry = ap (λ (t : List ℕ). not (eqb (get_or t b 0) 45)) e ∙ same_is _ _ (below 256 (λ b. same (not (eqb (get_or class_table b 0) 45)) (is_letter b || is_digit b)) refl b f)
-
-  pub one_entry : (get_or table b 0 ≡ 45 → ⊥) → (is_letter b || is_digit b) ≡ true
-  one_entry n = sym entry ∙ ap not (ne_eqb (get_or table b 0) 45 n)
-
-  pub no-entry : get_or table b 0 ≡ 45 → (is_letter b || is_digit b) ≡ false
-  no-entry h = sym entry ∙ ap not (eq-eqb (get_or table b 0) 45 h)
-
--- Below the letters a hexadecimal digit is a digit.
-pub hex_below : (b : ℕ) → b < 65 → is_digit b ≡ is_hex_digit b
-unfolding is_hex_digit
-hex_below b h =
-    sym
-    (ap₂ (λ (x y : Bool). is_digit b || x || y) (under 97 102 b (omega arith)) (under 65 70 b h)
-    ∙ or-false (is_digit b || false)
-    ∙ or-false (is_digit b))
 
 -- ---- digits of base 10 and 16
 

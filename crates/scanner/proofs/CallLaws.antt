@@ -7,9 +7,6 @@ use lib.ListN.{length, take, drop}
 use lib.Seq.{length-take-le}
 use borrow.Author.Tests.{le-leb, lt-leb}
 use Rattle.text.specs.Utf8.{first_broken}
-use Rattle.text.specs.Promises.Utf8.{broken_at}
-use Rattle.text.specs.declared.Broken.{Broken}
-use Rattle.text.specs.declared.Broken.TheVariants.{At, Nowhere}
 use Rattle.text.specs.Output.{plain, declined, fitted_plain}
 use Rattle.text.proofs.OutputLaws.{fitted-room, fitted_short}
 use Rattle.reader.specs.Tokens.{Tokens}
@@ -18,26 +15,26 @@ use Rattle.scanner.specs.Answers.{number_of, place_of, verdict_of, written_of, r
 use Rattle.scanner.specs.Promises.Answers.{Fills, Reads}
 use Rattle.scanner.specs.declared.Refusal.{Refusal}
 use Rattle.scanner.specs.declared.Refusal.TheVariants.{TooLong, NotUtf8}
-use Rattle.scanner.specs.declared.Tabled.{Tabled}
-use Rattle.scanner.specs.declared.Tabled.TheVariants.{Tokens as Counted, Refused}
-use Rattle.scanner.specs.declared.Scanned.TheVariants as Case
+use Rattle.std.specs.Result.{IsErrAnd}
+use Rattle.scanner.specs.declared.ScanError.{ScanError}
+use Rattle.scanner.specs.declared.ScanError.TheVariants.{Refused, OutputTooShort}
+use Rattle.std.specs.Prelude.{None, Some, Result, Ok, Err}
 use Rattle.scanner.proofs.WriteLaws.{length-commands}
 
 -- ---- the tables
 module _ {text kinds starts lens : List ℕ} where
-  pub reads-long : 32768 < length text → Reads text kinds starts lens (Refused TooLong)
+  pub reads-long : 32768 < length text → Reads text kinds starts lens (Err TooLong)
   unfolding read number_of place_of
   reads-long h = record { is = rw (lt-leb (length text) 32768 h, read); counts = tt }
 
   module _ (h : length text ≤ 32768) where
-    pub reads-broken : {w : Broken} {place : ℕ} → broken_at w ≡ first_broken text → w ≡ At place → Reads text kinds starts lens (Refused (NotUtf8 place))
-    unfolding read number_of place_of broken_at
-    reads-broken e f = let broken = rw f at e in record { is = rw (le-leb (length text) 32768 h, read, ← broken); counts = tt }
+    pub reads-broken : {place : ℕ} → first_broken text ≡ Some place → Reads text kinds starts lens (Err (NotUtf8 place))
+    unfolding read number_of place_of
+    reads-broken broken = record { is = rw (le-leb (length text) 32768 h, read, broken); counts = tt }
 
-    pub reads-filled : {w : Broken} {r : Tabled} → broken_at w ≡ first_broken text → w ≡ Nowhere → Fills text kinds starts lens r → Reads text kinds starts lens r
-    unfolding read broken_at
-    reads-filled e f s =
-        let whole = rw f at e in record { is = s.is ∙ rw (le-leb (length text) 32768 h, read, ← whole); counts = s.counts }
+    pub reads-filled : {r : Result ℕ Refusal} → first_broken text ≡ None → Fills text kinds starts lens r → Reads text kinds starts lens r
+    unfolding read
+    reads-filled whole s = record { is = s.is ∙ rw (le-leb (length text) 32768 h, read, whole); counts = s.counts }
 
 -- ---- the call
 pub scan-tokens : (text out : List ℕ) {ts : Tokens} → tokens ts ≡ read text → fitted_plain (commands ts.kinds ts.lengths) out ≡ scan text out
@@ -48,14 +45,19 @@ pub scan-declined : (text out : List ℕ) {number place : ℕ} → refused numbe
 unfolding scan
 scan-declined text out e = rw (← e, scan)
 
-module _ {text kinds starts lens : List ℕ} {r : Tabled} (s : Reads text kinds starts lens r) where
-  pub scan-refused : (out : List ℕ) {why : Refusal} → r ≡ Refused why → reply_of (Case.Refused why) out ≡ scan text out
+module _ {text kinds starts lens : List ℕ} {r : Result ℕ Refusal} (s : Reads text kinds starts lens r) where
+  pub scan-refused : (out : List ℕ) {why : Refusal} → r ≡ Err why → reply_of (Err (Refused why)) out ≡ scan text out
   unfolding reply_of verdict_of written_of
   scan-refused out e = scan-declined text out (rw e at s.is)
 
-  module _ {count : ℕ} (e : r ≡ Counted count) where
-    counts : Reads text kinds starts lens (Counted count)
-    counts = subst (λ (a : Tabled). Reads text kinds starts lens a) e s
+  -- The refusal that `scan` passes on.
+  pub scan-fails : (out : List ℕ) {why : Refusal} (a : Result ℕ ScanError) → r ≡ Err why → IsErrAnd a (λ e. e ≡ Refused why) → reply_of a out ≡ scan text out
+  scan-fails out (Ok n) e h = absurd h
+  scan-fails out (Err x) e h = ap (λ (y : ScanError). reply_of (Err y) out) h ∙ scan-refused out e
+
+  module _ {count : ℕ} (e : r ≡ Ok count) where
+    counts : Reads text kinds starts lens (Ok count)
+    counts = subst (λ (a : Result ℕ Refusal). Reads text kinds starts lens a) e s
 
     pub counted-few : count ≤ 4096
     counted-few = counts.counts.0
@@ -78,12 +80,12 @@ module _ {text kinds starts lens : List ℕ} {r : Tabled} (s : Reads text kinds 
     size : length bytes ≡ 4 * count
     size = length-commands (take count kinds) (take count lens) (counted-lens ∙ sym counted-kinds) ∙ ap (λ (n : ℕ). 4 * n) counted-kinds
 
-    pub scan-short : (out : List ℕ) → length out < 4 * count → reply_of Case.OutputTooShort out ≡ scan text out
+    pub scan-short : (out : List ℕ) → length out < 4 * count → reply_of (Err OutputTooShort) out ≡ scan text out
     unfolding reply_of verdict_of written_of
     scan-short out h = sym (fitted_short (plain 0 0) (plain 8 0) bytes out (rw size h)) ∙ scan-tokens text out counts.is
 
     pub scan-written : (out : List ℕ) {out' : List ℕ} → 4 * count ≤ length out → out' ≡ bytes ++ drop (4 * length (take count kinds)) out
-        → reply_of (Case.Written (4 * count)) out' ≡ scan text out
+        → reply_of (Ok (4 * count)) out' ≡ scan text out
     unfolding reply_of verdict_of written_of
     scan-written out h f =
         rw (f, counted-kinds, ← size)

@@ -5,13 +5,13 @@ use native.Mathlib.Numerals.{add-one}
 use mathlib.Core.Path.{◌≡◌, refl, sym, ap, ap₂, ◌∙◌}
 use mathlib.Core.Bool.{Bool, true, false, ◌&&◌}
 use mathlib.Core.List.{List, [], ◌∷◌}
-use mathlib.Core.Option.{none, some}
+use Rattle.std.specs.Prelude.{None, Some}
 use lib.Dec.{leb, eqb}
 use lib.ListN.{length, get_or, drop, drop_of_length-le}
 use lib.Seq.{drop-cons}
 use borrow.Author.Tests.{eq-eqb, ne_eqb, leb-true, leb-false}
 use Rattle.scanner.specs.Lexical.{closes}
-use Rattle.scanner.specs.Promises.Reach.{longer, reach, taken}
+use Rattle.scanner.specs.Promises.Reach.{longer, reach}
 use Rattle.scanner.proofs.ReachLaws.{longer-longer, empty, onward, reach-nil, reach-first, reach_step, reach_here}
 
 -- What closes this many comments.
@@ -62,12 +62,12 @@ two_steps depth b c s {after} e =
     ∙ ap (longer 1) (reach_step (λ t. closing (suc depth) (b ∷ t)) c s (closing_one depth b) e)
     ∙ longer-longer 1 1 (reach after s)
 
-reach-shut : (s : List ℕ) → reach (closing 0) s ≡ some 0
+reach-shut : (s : List ℕ) → reach (closing 0) s ≡ Some 0
 unfolding closes reach
 reach-shut [] = refl
 reach-shut (b ∷ s) = reach_here (closing 0) b s refl (λ t. refl)
 
-reach-closing_nil : (depth : ℕ) → reach (closing (suc depth)) [] ≡ none
+reach-closing_nil : (depth : ℕ) → reach (closing (suc depth)) [] ≡ None
 unfolding empty
 reach-closing_nil depth = reach-nil (closing (suc depth)) ∙ ap empty (closing_nil depth)
 
@@ -84,22 +84,22 @@ one_step depth b c t e f =
     (reach-first (λ u. closing (suc depth) (b ∷ u)) (closing (suc depth)) c t (closing_one depth b ∙ sym (closing_nil depth)) (λ u. step_other depth b c u e f))
 
 -- ---- at an offset
-pub comment_empty : (s : List ℕ) (at : ℕ) → length s ≡ 0 → 0 ≡ taken (longer at (reach (closing 1) (drop at s)))
-unfolding longer taken
+pub comment_empty : (s : List ℕ) (at : ℕ) → length s ≡ 0 → None ≡ longer at (reach (closing 1) (drop at s))
+unfolding longer
 comment_empty s at e =
     let h : length s ≤ at = omega (arith, e) in
-    ap taken (sym (ap (λ (u : List ℕ). longer at (reach (closing 1) u)) (drop_of_length-le s h) ∙ ap (longer at) (reach-closing_nil 0)))
+    sym (ap (λ (u : List ℕ). longer at (reach (closing 1) u)) (drop_of_length-le s h) ∙ ap (longer at) (reach-closing_nil 0))
 
 module _ (s : List ℕ) (at depth last : ℕ) (size : last + 1 ≡ length s) (some-open : 1 ≤ depth) where
   deep : depth ≡ suc (depth - 1)
   deep = omega arith
 
   -- A comment does not end at the last byte.
-  pub comment-over : last ≤ at → longer at (reach (closing depth) (drop at s)) ≡ none
+  pub comment-over : last ≤ at → longer at (reach (closing depth) (drop at s)) ≡ None
   unfolding longer
   comment-over h = ap (λ (d : ℕ). longer at (reach (closing d) (drop at s))) deep ∙ go (leb (length s) at) refl
     where
-      go : (x : Bool) → leb (length s) at ≡ x → longer at (reach (closing (suc (depth - 1))) (drop at s)) ≡ none
+      go : (x : Bool) → leb (length s) at ≡ x → longer at (reach (closing (suc (depth - 1))) (drop at s)) ≡ None
       go true e =
           ap (λ (u : List ℕ). longer at (reach (closing (suc (depth - 1))) u)) (drop_of_length-le s (leb-true (length s) at e))
           ∙ ap (longer at) (reach-closing_nil (depth - 1))
@@ -150,14 +150,14 @@ module _ (s : List ℕ) (at depth last : ℕ) (size : last + 1 ≡ length s) (so
         onward-two (depth - 1)
         (λ t. step-closes (depth - 1) b c t (rw (ne_eqb b 40 (λ g. absurd (omega (arith, e, g))))) (rw (eq-eqb b 42 e, eq-eqb c 41 f)))
 
-    pub comment-shut : b ≡ 42 → c ≡ 41 → depth - 1 ≡ 0 → at + 1 + 1 ≡ taken (longer at (reach (closing depth) (drop at s)))
-    unfolding longer taken
+    pub comment-shut : b ≡ 42 → c ≡ 41 → depth - 1 ≡ 0 → Some (at + 1 + 1) ≡ longer at (reach (closing depth) (drop at s))
+    unfolding longer
     comment-shut e f z =
-        let g : longer at (reach (closing depth) (drop at s)) ≡ some (at + 1 + 1 + 0) =
+        let g : longer at (reach (closing depth) (drop at s)) ≡ Some (at + 1 + 1 + 0) =
         comment-closes e f
         ∙ ap (λ (d : ℕ). longer (at + 1 + 1) (reach (closing d) (drop (at + 1 + 1) s))) z
         ∙ ap (longer (at + 1 + 1)) (reach-shut (drop (at + 1 + 1) s)) in
-        rw g (omega arith)
+        ap Some (omega arith) ∙ sym g
 
     onward-one : (eqb b 40 && eqb c 42) ≡ false → (eqb b 42 && eqb c 41) ≡ false → longer at (reach (closing depth) (drop at s)) ≡ longer (at + 1) (reach (closing depth) (drop (at + 1) s))
     onward-one e f =

@@ -1,21 +1,22 @@
 -- Laws of the longest number. Assumes nothing.
-use Prim.Native.Nat.{ℕ, zero, suc, ◌+◌, ◌≤◌, ◌<◌}
+use Prim.Native.Nat.{ℕ, zero, suc, ◌+◌, ◌<◌}
 use native.Mathlib.Omega.{arith}
-use native.Mathlib.Numerals.{add-one}
 use mathlib.Core.Path.{◌≡◌, refl, sym, ap, ap₂, ◌∙◌}
 use mathlib.Core.Logic.{◌⊎◌, inl, inr, ⊎_elim}
-use mathlib.Core.Bool.{Bool, true, false, ◌||◌, false≢true}
+use mathlib.Core.Bool.{Bool, true, false, ◌||◌, false≢true, and-true}
 use mathlib.Core.List.{List, [], ◌∷◌}
-use mathlib.Core.Option.{Option, none, some}
+use Rattle.std.specs.Prelude.{Option, None, Some}
 use lib.Dec.{eqb}
-use lib.ListN.{length, get_or, drop, drop_of_length-le}
-use lib.Seq.{drop-cons, drop-drop}
+use lib.Pointwise.{pointwise}
+use lib.ListN.{length, take, drop}
 use Rattle.text.specs.Bytes.{bytes, between, is_digit, first_is}
 use Rattle.scanner.specs.Parts.{is_empty, every, one_or_more, behind, is_one_of}
 use Rattle.scanner.specs.Constants.{is_hex_digit, unsigned, is_decimal, digits_then, is_exponent, is_fraction, is_word}
 use Rattle.scanner.specs.Promises.Reach.{longer, reach, taken, run, is_hexadecimal, is_magnitude}
+use borrow.Author.Tests.{eqb-true}
+use Rattle.text.proofs.Computed.{and_left}
 use Rattle.scanner.proofs.Bytes.{apart, apart_all}
-use Rattle.scanner.proofs.ReachLaws.{longer-longer, longer-zero, best, best_none, empty, reach-nil, reach-same, reach-first, reach-some, reach_step, reach-none, reach_here, reach-or, reach-positive, run-yes, run-no, positive, taken-positive, reach-more, behind-no, behind-two, starts, reach-behind-yes, reach-behind-no, reach-behind_all, reach-two, reach-two-no, wins, none-at, none_of}
+use Rattle.scanner.proofs.ReachLaws.{longer-longer, longer-zero, best, best_none, empty, reach-nil, reach-same, reach-first, reach-some, reach_step, reach-none, reach_here, reach-or, reach-positive, run-yes, run-no, positive, taken-positive, reach-more, behind-no, behind-two, starts, reach-behind-yes, reach-behind-no, strip_no, strip_yes, wins}
 
 -- ---- digits, then what refuses a digit
 
@@ -36,21 +37,38 @@ module _ (passes : List ℕ → Bool) where
   unfolding digits_then
   digits-nil = refl
 
-  pub reach-no-digits : (s : List ℕ) → run is_digit s ≡ 0 → reach (digits_then passes) s ≡ none
+  pub reach-no-digits : (s : List ℕ) → run is_digit s ≡ 0 → reach (digits_then passes) s ≡ None
   unfolding empty
   reach-no-digits [] h = reach-nil (digits_then passes) ∙ ap empty digits-nil
   reach-no-digits (b ∷ s) h = go (is_digit b) refl
     where
-      go : (t : Bool) → is_digit b ≡ t → reach (digits_then passes) (b ∷ s) ≡ none
+      go : (t : Bool) → is_digit b ≡ t → reach (digits_then passes) (b ∷ s) ≡ None
       go true e = absurd (omega (arith, run-yes is_digit b s e))
       go false e = reach-none (digits_then passes) b s digits-nil (digits-no b e)
 
-greater : (n k : ℕ) → best (some 0) (longer (suc n) (some k)) ≡ longer (suc n) (some k)
+greater : (n k : ℕ) → best (Some 0) (longer (suc n) (Some k)) ≡ longer (suc n) (Some k)
 unfolding best longer
-greater n k = ap some (omega arith)
+greater n k = ap Some (omega arith)
 
 one_add : (n : ℕ) → 1 + n ≡ suc n
 one_add n = omega arith
+
+None≢Some : {n : ℕ} → ◌≡◌ {A = Option ℕ} None (Some n) → ⊥
+unfolding taken
+None≢Some e = absurd (false≢true (ap is_some e))
+  where
+    is_some : Option ℕ → Bool
+    is_some None = false
+    is_some (Some n) = true
+
+some_is : {m n : ℕ} → ◌≡◌ {A = Option ℕ} (Some m) (Some n) → m ≡ n
+unfolding taken
+some_is e = ap taken e
+
+pub some_positive : (n : ℕ) → Some n ≡ positive (taken (Some n)) → 0 < n
+unfolding positive taken
+some_positive zero e = absurd (None≢Some (sym e))
+some_positive (suc n) e = omega arith
 
 -- All digits of a run are taken.
 abbrev All : (List ℕ → Bool) → List ℕ → ℕ → Type 0
@@ -85,6 +103,24 @@ module _ (passes : List ℕ → Bool) (here : passes [] ≡ true) (refuses : (b 
           ∙ ap (λ (n : ℕ). longer n (reach passes (drop n (b ∷ s)))) (sym (run-yes is_digit b s e))
       go false e ih = absurd (omega (arith, run-no is_digit b s e))
 
+no_run : (test : ℕ → Bool) (s : List ℕ) → reach (one_or_more test) s ≡ None → run test s ≡ 0
+unfolding taken
+no_run test s h = sym (taken-positive (run test s)) ∙ ap taken (sym (reach-more test s) ∙ h)
+
+a_run : (test : ℕ → Bool) (s : List ℕ) {n : ℕ} → reach (one_or_more test) s ≡ Some n → (run test s ≡ n) × (0 < n)
+unfolding positive
+a_run test s {n} h = go (run test s) (sym (reach-more test s) ∙ h)
+  where
+    go : (m : ℕ) → positive m ≡ Some n → (m ≡ n) × (0 < n)
+    go zero e = absurd (None≢Some e)
+    go (suc m) e = (some_is e, omega (arith, some_is e))
+
+-- What stands behind a run of digits.
+digits-behind : (passes : List ℕ → Bool) → passes [] ≡ true → ((b : ℕ) → is_digit b ≡ true → (t : List ℕ) → passes (b ∷ t) ≡ false) → (s : List ℕ) {n : ℕ} → reach (one_or_more is_digit) s ≡ Some n → reach (digits_then passes) s ≡ longer n (reach passes (drop n s))
+digits-behind passes here refuses s h =
+    let r = a_run is_digit s h in
+    reach-digits passes here refuses s (omega (arith, r.0, r.1)) ∙ ap (λ (m : ℕ). longer m (reach passes (drop m s))) r.0
+
 -- ---- an integer in decimal notation
 
 unsigned-yes : (b : ℕ) (t : List ℕ) → eqb b 126 ≡ true → unsigned (b ∷ t) ≡ t
@@ -99,17 +135,18 @@ decimal-nil : is_decimal [] ≡ false
 unfolding is_decimal unsigned one_or_more
 decimal-nil = refl
 
-signed : (s : List ℕ) → first_is (λ b. eqb b 126) s ≡ true → reach is_decimal s ≡ longer 1 (positive (run is_digit (drop 1 s)))
-unfolding first_is is_decimal
-signed [] h = absurd (false≢true h)
-signed (b ∷ s) h =
-    reach_step is_decimal b s decimal-nil (λ t. ap (one_or_more is_digit) (unsigned-yes b t h)) ∙ ap (longer 1) (reach-more is_digit s)
+pub decimal-signed : (s : List ℕ) {r : List ℕ} → pointwise eqb (take 1 s) (126 ∷ []) ≡ true → r ≡ drop 1 s → reach is_decimal s ≡ longer 1 (reach (one_or_more is_digit) r)
+unfolding is_decimal
+decimal-signed [] h e = absurd (false≢true h)
+decimal-signed (b ∷ s) h e =
+    reach_step is_decimal b s decimal-nil (λ t. ap (one_or_more is_digit) (unsigned-yes b t (and_left (eqb b 126) true h)))
+    ∙ ap (λ (u : List ℕ). longer 1 (reach (one_or_more is_digit) u)) (sym e)
 
-plain : (s : List ℕ) → first_is (λ b. eqb b 126) s ≡ false → reach is_decimal s ≡ positive (run is_digit s)
-unfolding first_is is_decimal unsigned one_or_more reach run positive
-plain [] h = refl
-plain (b ∷ s) h =
-    reach-first is_decimal (one_or_more is_digit) b s refl (λ t. ap (one_or_more is_digit) (unsigned-no b t h)) ∙ reach-more is_digit (b ∷ s)
+pub decimal-plain : (s : List ℕ) → pointwise eqb (take 1 s) (126 ∷ []) ≡ false → reach is_decimal s ≡ reach (one_or_more is_digit) s
+unfolding is_decimal unsigned one_or_more reach
+decimal-plain [] h = refl
+decimal-plain (b ∷ s) h =
+    reach-first is_decimal (one_or_more is_digit) b s refl (λ t. ap (one_or_more is_digit) (unsigned-no b t (sym (and-true (eqb b 126)) ∙ h)))
 
 -- ---- exponents
 
@@ -125,48 +162,37 @@ exponent_nil : is_exponent [] ≡ false
 unfolding is_exponent
 exponent_nil = refl
 
-reach-exponent_nil : reach is_exponent [] ≡ none
+reach-exponent_nil : reach is_exponent [] ≡ None
 unfolding empty
 reach-exponent_nil = reach-nil is_exponent ∙ ap empty exponent_nil
 
-module _ (s : List ℕ) (at : ℕ) where
-  pub decimal-signed : first_is (λ b. eqb b 126) (drop at s) ≡ true → reach is_decimal (drop at s) ≡ longer 1 (positive (run is_digit (drop (at + 1) s)))
-  decimal-signed h = signed (drop at s) h ∙ ap (λ (u : List ℕ). longer 1 (positive (run is_digit u))) (drop-drop 1 at s)
+pub exponent-end : (s : List ℕ) → length s ≡ 0 → reach is_exponent s ≡ None
+exponent-end [] h = reach-exponent_nil
+exponent-end (b ∷ s) h = absurd (omega arith)
 
-  pub decimal-plain : first_is (λ b. eqb b 126) (drop at s) ≡ false → at + run is_digit (drop at s) ≡ at + taken (reach is_decimal (drop at s))
-  decimal-plain h = ap (λ (n : ℕ). at + n) (sym (ap taken (plain (drop at s) h) ∙ taken-positive (run is_digit (drop at s))))
+pub exponent-other : (b : ℕ) (s : List ℕ) → is_one_of (bytes "Ee") b ≡ false → reach is_exponent (b ∷ s) ≡ None
+exponent-other b s e = reach-none is_exponent b s exponent_nil (exponent_no b e)
 
-  pub exponent-end : length s ≤ at → reach is_exponent (drop at s) ≡ none
-  exponent-end h = rw (drop_of_length-le s h) reach-exponent_nil
-
-  pub exponent-other : at < length s → is_one_of (bytes "Ee") (get_or s at 0) ≡ false → reach is_exponent (drop at s) ≡ none
-  exponent-other h e =
-      ap (reach is_exponent) (drop-cons s at 0 h) ∙ reach-none is_exponent (get_or s at 0) (drop (suc at) s) exponent_nil (exponent_no (get_or s at 0) e)
-
-  pub exponent-part : at < length s → is_one_of (bytes "Ee") (get_or s at 0) ≡ true → reach is_exponent (drop at s) ≡ longer 1 (positive (taken (reach is_decimal (drop (at + 1) s))))
-  exponent-part h e =
-      ap (reach is_exponent) (drop-cons s at 0 h)
-      ∙ reach_step is_exponent (get_or s at 0) (drop (suc at) s) exponent_nil (exponent_yes (get_or s at 0) e)
-      ∙ ap (longer 1) (reach-positive is_decimal (drop (suc at) s) decimal-nil)
-      ∙ ap (λ (n : ℕ). longer 1 (positive (taken (reach is_decimal (drop n s))))) (sym (add-one at))
+pub exponent-part : (b : ℕ) (s : List ℕ) → is_one_of (bytes "Ee") b ≡ true → reach is_exponent (b ∷ s) ≡ longer 1 (reach is_decimal s)
+exponent-part b s e = reach_step is_exponent b s exponent_nil (exponent_yes b e)
 
 -- ---- fractions
 
 abbrev or_exponent : List ℕ → Bool
 or_exponent r = is_empty r || is_exponent r
 
-pub reach-empty : (s : List ℕ) → reach is_empty s ≡ some 0
+pub reach-empty : (s : List ℕ) → reach is_empty s ≡ Some 0
 unfolding reach is_empty
 reach-empty [] = refl
 reach-empty (b ∷ s) = reach_here is_empty b s refl (λ t. refl)
 
-pub best_zero : (x : Option ℕ) → best (some 0) x ≡ some (taken x)
+pub best_zero : (x : Option ℕ) → best (Some 0) x ≡ Some (taken x)
 unfolding best taken
-best_zero none = refl
-best_zero (some n) = ap some (omega arith)
+best_zero None = refl
+best_zero (Some n) = ap Some (omega arith)
 
 -- Nothing, or what passes.
-pub reach-or_empty : (passes : List ℕ → Bool) (s : List ℕ) → reach (λ r. is_empty r || passes r) s ≡ some (taken (reach passes s))
+pub reach-or_empty : (passes : List ℕ → Bool) (s : List ℕ) → reach (λ r. is_empty r || passes r) s ≡ Some (taken (reach passes s))
 reach-or_empty passes s = reach-or is_empty passes s ∙ ap (λ (x : Option ℕ). best x (reach passes s)) (reach-empty s) ∙ best_zero (reach passes s)
 
 digit-no_exponent : (b : ℕ) → is_digit b ≡ true → (t : List ℕ) → is_exponent (b ∷ t) ≡ false
@@ -185,34 +211,25 @@ or_exponent_refuses : (b : ℕ) → is_digit b ≡ true → (t : List ℕ) → o
 unfolding is_empty
 or_exponent_refuses b e t = digit-no_exponent b e t
 
-pub fraction_other : (s : List ℕ) → first_is (λ b. eqb b 46) s ≡ false → reach is_fraction s ≡ none
+pub fraction_other : (s : List ℕ) → first_is (λ b. eqb b 46) s ≡ false → reach is_fraction s ≡ None
 unfolding is_fraction bytes
 fraction_other s h = reach-behind-no [] (digits_then or_exponent) 46 s h
 
-module _ (s : List ℕ) (at : ℕ) (dot : first_is (λ b. eqb b 46) (drop at s) ≡ true) where
-  fraction-digits : reach is_fraction (drop at s) ≡ longer 1 (reach (digits_then or_exponent) (drop (at + 1) s))
+module _ (s : List ℕ) {r : List ℕ} (dot : pointwise eqb (take 1 s) (46 ∷ []) ≡ true) (is : r ≡ drop 1 s) where
+  fraction-digits : reach is_fraction s ≡ longer 1 (reach (digits_then or_exponent) r)
   unfolding is_fraction bytes
-  fraction-digits =
-      reach-behind-yes [] (digits_then or_exponent) 46 (drop at s) dot
-      ∙ ap (longer 1) (reach-behind_all (digits_then or_exponent) (drop 1 (drop at s)) ∙ ap (reach (digits_then or_exponent)) (drop-drop 1 at s))
+  fraction-digits = strip_yes (digits_then or_exponent) (46 ∷ []) s dot ∙ ap (λ (u : List ℕ). longer 1 (reach (digits_then or_exponent) u)) (sym is)
 
-  module _ (end : ℕ) (ends : end ≡ at + 1 + run is_digit (drop (at + 1) s)) where
-    pub fraction-none : end ≡ at + 1 → reach is_fraction (drop at s) ≡ none
-    unfolding longer
-    fraction-none h = fraction-digits ∙ ap (longer 1) (reach-no-digits or_exponent (drop (at + 1) s) (omega arith))
+  pub fraction-none : reach (one_or_more is_digit) r ≡ None → reach is_fraction s ≡ None
+  unfolding longer
+  fraction-none h = fraction-digits ∙ ap (longer 1) (reach-no-digits or_exponent r (no_run is_digit r h))
 
-    pub fraction-some : (end ≡ at + 1 → ⊥) → end + taken (reach is_exponent (drop end s)) ≡ at + taken (reach is_fraction (drop at s))
-    unfolding longer taken
-    fraction-some h =
-        let n = run is_digit (drop (at + 1) s) in
-        let e : reach is_fraction (drop at s) ≡ longer 1 (longer n (some (taken (reach is_exponent (drop end s))))) =
-        fraction-digits
-        ∙ ap (longer 1)
-        (reach-digits or_exponent or_exponent_here or_exponent_refuses (drop (at + 1) s) (omega arith)
-        ∙ ap (longer n)
-        (reach-or_empty is_exponent (drop n (drop (at + 1) s))
-        ∙ ap (λ (u : List ℕ). some (taken (reach is_exponent u))) (drop-drop n (at + 1) s ∙ ap (λ (m : ℕ). drop m s) (sym ends)))) in
-        rw e (omega arith)
+  pub fraction-some : {n : ℕ} → reach (one_or_more is_digit) r ≡ Some n → reach is_fraction s ≡ Some (1 + n + taken (reach is_exponent (drop n r)))
+  unfolding longer
+  fraction-some {n} h =
+      fraction-digits
+      ∙ ap (longer 1) (digits-behind or_exponent or_exponent_here or_exponent_refuses r h ∙ ap (longer n) (reach-or_empty is_exponent (drop n r)))
+      ∙ ap Some (omega arith)
 
 -- ---- an integer or a real without a negation symbol
 
@@ -269,25 +286,30 @@ tail_refuses : (b : ℕ) → is_digit b ≡ true → (t : List ℕ) → tail (b 
 unfolding is_empty
 tail_refuses b e t = ap₂ (λ (x y : Bool). x || y) (digit-no_fraction b e t) (digit-no_exponent b e t)
 
-dot_no_exponent : (s : List ℕ) → first_is (λ b. eqb b 46) s ≡ true → reach is_exponent s ≡ none
+dot_no_exponent : (s : List ℕ) → first_is (λ b. eqb b 46) s ≡ true → reach is_exponent s ≡ None
 unfolding bytes is_one_of
 dot_no_exponent s h = ap (reach is_exponent) (starts 46 s h) ∙ reach-none is_exponent 46 (drop 1 s) exponent_nil (exponent_no 46 refl)
 
-tail_dot : (s : List ℕ) → first_is (λ b. eqb b 46) s ≡ true → reach tail s ≡ some (taken (reach is_fraction s))
-tail_dot s h =
-    reach-or_empty fraction_or_exponent s
-    ∙ ap (λ (x : Option ℕ). some (taken x))
-    (reach-or is_fraction is_exponent s ∙ ap (best (reach is_fraction s)) (dot_no_exponent s h) ∙ best_none (reach is_fraction s))
+-- A fraction behind the digits, or else an exponent.
+pub tail_fraction : (s : List ℕ) {n : ℕ} → reach is_fraction s ≡ Some n → reach tail s ≡ Some n
+unfolding taken first_is
+tail_fraction s {n} h = go (first_is (λ b. eqb b 46) s) refl
+  where
+    go : (t : Bool) → first_is (λ b. eqb b 46) s ≡ t → reach tail s ≡ Some n
+    go true d =
+        reach-or_empty fraction_or_exponent s
+        ∙ ap (λ (x : Option ℕ). Some (taken x))
+        (reach-or is_fraction is_exponent s ∙ ap (best (reach is_fraction s)) (dot_no_exponent s d) ∙ best_none (reach is_fraction s) ∙ h)
+    go false d = absurd (None≢Some (sym (fraction_other s d) ∙ h))
 
-tail_other : (s : List ℕ) → first_is (λ b. eqb b 46) s ≡ false → reach tail s ≡ some (taken (reach is_exponent s))
+pub tail_other : (s : List ℕ) → reach is_fraction s ≡ None → reach tail s ≡ Some (taken (reach is_exponent s))
 unfolding best
 tail_other s h =
     reach-or_empty fraction_or_exponent s
-    ∙ ap (λ (x : Option ℕ). some (taken x))
-    (reach-or is_fraction is_exponent s ∙ ap (λ (x : Option ℕ). best x (reach is_exponent s)) (fraction_other s h))
+    ∙ ap (λ (x : Option ℕ). Some (taken x)) (reach-or is_fraction is_exponent s ∙ ap (λ (x : Option ℕ). best x (reach is_exponent s)) h)
 
 -- A zero before a letter that ends the number.
-zero-first : (c : ℕ) (t : List ℕ) → is_digit c ≡ false → ((u : List ℕ) → tail (c ∷ u) ≡ false) → reach (digits_then tail) (48 ∷ c ∷ t) ≡ some 1
+zero-first : (c : ℕ) (t : List ℕ) → is_digit c ≡ false → ((u : List ℕ) → tail (c ∷ u) ≡ false) → reach (digits_then tail) (48 ∷ c ∷ t) ≡ Some 1
 unfolding is_digit between longer
 zero-first c t e f =
     let one : run is_digit (48 ∷ c ∷ t) ≡ 1 = run-yes is_digit 48 (c ∷ t) refl ∙ ap suc (run-no is_digit c t e) in
@@ -295,11 +317,11 @@ zero-first c t e f =
     ∙ ap (λ (n : ℕ). longer n (reach tail (drop n (48 ∷ c ∷ t)))) one
     ∙ ap (longer 1) (reach_here tail c t tail_here f)
 
-pub zero_x : (t : List ℕ) → reach (digits_then tail) (48 ∷ 120 ∷ t) ≡ some 1
+pub zero_x : (t : List ℕ) → reach (digits_then tail) (48 ∷ 120 ∷ t) ≡ Some 1
 unfolding is_digit between is_empty is_fraction is_exponent is_one_of bytes behind
 zero_x t = zero-first 120 t refl (λ u. refl)
 
-zero_w : (t : List ℕ) → reach (digits_then tail) (48 ∷ 119 ∷ t) ≡ some 1
+zero_w : (t : List ℕ) → reach (digits_then tail) (48 ∷ 119 ∷ t) ≡ Some 1
 unfolding is_digit between is_empty is_fraction is_exponent is_one_of bytes behind
 zero_w t = zero-first 119 t refl (λ u. refl)
 
@@ -307,60 +329,31 @@ hexadecimal_nil : is_hexadecimal [] ≡ false
 unfolding is_hexadecimal bytes behind
 hexadecimal_nil = refl
 
-module _ (s : List ℕ) (at : ℕ) where
-  pub hexadecimal-other : first_is (λ b. eqb b 48) (drop at s) ≡ false → reach is_hexadecimal (drop at s) ≡ none
-  unfolding is_hexadecimal bytes
-  hexadecimal-other h = reach-behind-no (120 ∷ []) (one_or_more is_hex_digit) 48 (drop at s) h
+pub hexadecimal-part : (s : List ℕ) {r : List ℕ} → pointwise eqb (take 2 s) (48 ∷ 120 ∷ []) ≡ true → r ≡ drop 2 s → reach is_hexadecimal s ≡ longer 2 (reach (one_or_more is_hex_digit) r)
+unfolding is_hexadecimal bytes
+hexadecimal-part s h e = strip_yes (one_or_more is_hex_digit) (48 ∷ 120 ∷ []) s h ∙ ap (λ (u : List ℕ). longer 2 (reach (one_or_more is_hex_digit) u)) (sym e)
 
-  pub hexadecimal-zero : first_is (λ b. eqb b 48) (drop at s) ≡ true → first_is (λ b. eqb b 120) (drop (at + 1) s) ≡ false → reach is_hexadecimal (drop at s) ≡ none
-  unfolding is_hexadecimal bytes
-  hexadecimal-zero g h = reach-two-no [] (one_or_more is_hex_digit) 48 120 s at g h
+pub magnitude-hex : (s : List ℕ) {n : ℕ} → reach is_hexadecimal s ≡ Some n → reach is_magnitude s ≡ Some n
+unfolding is_hexadecimal bytes taken
+magnitude-hex s {n} h =
+    let l : 0 < taken (reach is_hexadecimal s) = rw h (some_positive n (rw h at (reach-positive is_hexadecimal s hexadecimal_nil))) in
+    let e = behind-two 48 120 [] (one_or_more is_hex_digit) s l in
+    reach-magnitude s
+    ∙ ap (best (reach is_hexadecimal s)) (ap (reach (digits_then tail)) e ∙ zero_x (drop 2 s))
+    ∙ wins (reach is_hexadecimal s) l
+    ∙ h
 
-  pub hexadecimal-part : first_is (λ b. eqb b 48) (drop at s) ≡ true → first_is (λ b. eqb b 120) (drop (at + 1) s) ≡ true → reach is_hexadecimal (drop at s) ≡ longer 2 (positive (run is_hex_digit (drop (at + 2) s)))
-  unfolding is_hexadecimal bytes
-  hexadecimal-part g h =
-      reach-two [] (one_or_more is_hex_digit) 48 120 s at g h
-      ∙ ap (longer 2) (reach-behind_all (one_or_more is_hex_digit) (drop (at + 2) s) ∙ reach-more is_hex_digit (drop (at + 2) s))
+module _ (s : List ℕ) (hex : reach is_hexadecimal s ≡ None) where
+  no-hex : reach is_magnitude s ≡ reach (digits_then tail) s
+  unfolding best
+  no-hex = reach-magnitude s ∙ ap (λ (x : Option ℕ). best x (reach (digits_then tail) s)) hex
 
-  module _ (hex : ℕ) (is : hex ≡ at + taken (reach is_hexadecimal (drop at s))) where
-    pub magnitude-hex : (hex ≡ at → ⊥) → hex ≡ at + taken (reach is_magnitude (drop at s))
-    unfolding is_hexadecimal bytes
-    magnitude-hex h =
-        let l : 0 < taken (reach is_hexadecimal (drop at s)) = omega arith in
-        let e = behind-two 48 120 [] (one_or_more is_hex_digit) (drop at s) l in
-        let f : reach is_magnitude (drop at s) ≡ reach is_hexadecimal (drop at s) =
-        reach-magnitude (drop at s)
-        ∙ ap (best (reach is_hexadecimal (drop at s))) (ap (reach (digits_then tail)) e ∙ zero_x (drop 2 (drop at s)))
-        ∙ wins (reach is_hexadecimal (drop at s)) l in
-        is ∙ ap (λ (x : Option ℕ). at + taken x) (sym f)
+  pub magnitude-none : reach (one_or_more is_digit) s ≡ None → reach is_magnitude s ≡ None
+  magnitude-none h = no-hex ∙ reach-no-digits tail s (no_run is_digit s h)
 
-    no-hex : hex ≡ at → reach is_magnitude (drop at s) ≡ reach (digits_then tail) (drop at s)
-    unfolding best
-    no-hex h =
-        reach-magnitude (drop at s)
-        ∙ ap (λ (x : Option ℕ). best x (reach (digits_then tail) (drop at s)))
-        (none_of (reach is_hexadecimal (drop at s)) (reach-positive is_hexadecimal (drop at s) hexadecimal_nil) (omega arith))
-
-    module _ (end : ℕ) (ends : end ≡ at + run is_digit (drop at s)) where
-      pub magnitude-none : hex ≡ at → end ≡ at → at ≡ at + taken (reach is_magnitude (drop at s))
-      magnitude-none h z = none-at at (reach is_magnitude (drop at s)) (no-hex h ∙ reach-no-digits tail (drop at s) (omega arith))
-
-      -- Digits, and the part behind them.
-      magnitude-tail : (part : List ℕ → Bool) → reach tail (drop end s) ≡ some (taken (reach part (drop end s))) → hex ≡ at → (end ≡ at → ⊥) → end + taken (reach part (drop end s)) ≡ at + taken (reach is_magnitude (drop at s))
-      unfolding longer taken
-      magnitude-tail part p h z =
-          let n = run is_digit (drop at s) in
-          let e : reach is_magnitude (drop at s) ≡ longer n (some (taken (reach part (drop end s)))) =
-          no-hex h
-          ∙ reach-digits tail tail_here tail_refuses (drop at s) (omega arith)
-          ∙ ap (longer n) (ap (reach tail) (drop-drop n at s ∙ ap (λ (m : ℕ). drop m s) (sym ends)) ∙ p) in
-          rw e (omega arith)
-
-      pub magnitude-fraction : hex ≡ at → (end ≡ at → ⊥) → first_is (λ b. eqb b 46) (drop end s) ≡ true → end + taken (reach is_fraction (drop end s)) ≡ at + taken (reach is_magnitude (drop at s))
-      magnitude-fraction h z d = magnitude-tail is_fraction (tail_dot (drop end s) d) h z
-
-      pub magnitude-exponent : hex ≡ at → (end ≡ at → ⊥) → first_is (λ b. eqb b 46) (drop end s) ≡ false → end + taken (reach is_exponent (drop end s)) ≡ at + taken (reach is_magnitude (drop at s))
-      magnitude-exponent h z d = magnitude-tail is_exponent (tail_other (drop end s) d) h z
+  pub magnitude-tail : {n k : ℕ} → reach (one_or_more is_digit) s ≡ Some n → reach tail (drop n s) ≡ Some k → reach is_magnitude s ≡ Some (n + k)
+  unfolding longer
+  magnitude-tail {n} h t = no-hex ∙ digits-behind tail tail_here tail_refuses s h ∙ ap (longer n) t
 
 -- ---- words
 
@@ -374,62 +367,66 @@ reach-word : (s : List ℕ) → reach is_word s ≡ best (reach word_digits s) (
 unfolding is_word bytes
 reach-word s = reach-or word_digits word_hex s
 
-no_word : (s : List ℕ) → reach word_digits s ≡ none → reach word_hex s ≡ none → reach is_word s ≡ none
+word-behind : (s : List ℕ) {x : Option ℕ} → reach (behind (48 ∷ 119 ∷ []) (behind (120 ∷ []) (one_or_more is_hex_digit))) s ≡ x → reach word_hex s ≡ x
+unfolding behind
+word-behind s e = reach-same s same_word ∙ e
+  where
+    same_word : (t : List ℕ) → word_hex t ≡ behind (48 ∷ 119 ∷ []) (behind (120 ∷ []) (one_or_more is_hex_digit)) t
+    same_word [] = refl
+    same_word (b ∷ []) = refl
+    same_word (b ∷ c ∷ t) = refl
+
+no_word : (s : List ℕ) → reach word_digits s ≡ None → reach word_hex s ≡ None → reach is_word s ≡ None
 unfolding best
 no_word s d h = reach-word s ∙ ap₂ best d h
 
-pub word_other : (s : List ℕ) → first_is (λ b. eqb b 48) s ≡ false → reach is_word s ≡ none
-word_other s h =
-    no_word s (reach-behind-no (119 ∷ []) (one_or_more is_digit) 48 s h) (reach-behind-no (119 ∷ 120 ∷ []) (one_or_more is_hex_digit) 48 s h)
+pub word-other : (s : List ℕ) → pointwise eqb (take 2 s) (48 ∷ 119 ∷ []) ≡ false → reach is_word s ≡ None
+word-other s h =
+    no_word s (strip_no (one_or_more is_digit) (48 ∷ 119 ∷ []) s h) (word-behind s (strip_no (behind (120 ∷ []) (one_or_more is_hex_digit)) (48 ∷ 119 ∷ []) s h))
 
-module _ (s : List ℕ) (zero-at : first_is (λ b. eqb b 48) s ≡ true) where
-  pub word-zero : first_is (λ b. eqb b 119) (drop 1 s) ≡ false → reach is_word s ≡ none
-  word-zero h =
-      no_word s (reach-two-no [] (one_or_more is_digit) 48 119 s 0 zero-at h) (reach-two-no (120 ∷ []) (one_or_more is_hex_digit) 48 119 s 0 zero-at h)
+module _ (s : List ℕ) {r : List ℕ} (zero_w-at : pointwise eqb (take 2 s) (48 ∷ 119 ∷ []) ≡ true) (is : r ≡ drop 2 s) where
+  digits-part : reach word_digits s ≡ longer 2 (reach (one_or_more is_digit) r)
+  digits-part = strip_yes (one_or_more is_digit) (48 ∷ 119 ∷ []) s zero_w-at ∙ ap (λ (u : List ℕ). longer 2 (reach (one_or_more is_digit) u)) (sym is)
 
-  module _ (w_at : first_is (λ b. eqb b 119) (drop 1 s) ≡ true) where
-    digits-part : reach word_digits s ≡ longer 2 (positive (run is_digit (drop 2 s)))
-    digits-part =
-        reach-two [] (one_or_more is_digit) 48 119 s 0 zero-at w_at
-        ∙ ap (longer 2) (reach-behind_all (one_or_more is_digit) (drop 2 s) ∙ reach-more is_digit (drop 2 s))
+  hex-part : reach word_hex s ≡ longer 2 (reach (behind (120 ∷ []) (one_or_more is_hex_digit)) r)
+  hex-part =
+      word-behind s (strip_yes (behind (120 ∷ []) (one_or_more is_hex_digit)) (48 ∷ 119 ∷ []) s zero_w-at)
+      ∙ ap (λ (u : List ℕ). longer 2 (reach (behind (120 ∷ []) (one_or_more is_hex_digit)) u)) (sym is)
 
-    pub word-hex : first_is (λ b. eqb b 120) (drop 2 s) ≡ true → reach is_word s ≡ longer 3 (positive (run is_hex_digit (drop 3 s)))
-    unfolding best longer is_digit between positive
-    word-hex h =
-        reach-word s
-        ∙ ap₂ best
-        (digits-part ∙ ap (λ (n : ℕ). longer 2 (positive n)) (ap (run is_digit) (starts 120 (drop 2 s) h) ∙ run-no is_digit 120 (drop 1 (drop 2 s)) refl))
-        (reach-two (120 ∷ []) (one_or_more is_hex_digit) 48 119 s 0 zero-at w_at
-        ∙ ap (longer 2)
-        (reach-behind-yes [] (one_or_more is_hex_digit) 120 (drop 2 s) h
-        ∙ ap (longer 1)
-        (reach-behind_all (one_or_more is_hex_digit) (drop 1 (drop 2 s))
-        ∙ reach-more is_hex_digit (drop 1 (drop 2 s))
-        ∙ ap (λ (u : List ℕ). positive (run is_hex_digit u)) (drop-drop 1 2 s)))
-        ∙ longer-longer 2 1 (positive (run is_hex_digit (drop 3 s))))
+  pub word-hex : {t : List ℕ} → pointwise eqb (take 1 r) (120 ∷ []) ≡ true → t ≡ drop 1 r → reach is_word s ≡ longer 3 (reach (one_or_more is_hex_digit) t)
+  unfolding best longer is_digit between one_or_more
+  word-hex {t} x e =
+      reach-word s
+      ∙ ap₂ best
+      (digits-part ∙ ap (longer 2) (no-digit r x))
+      (hex-part
+      ∙ ap (longer 2) (strip_yes (one_or_more is_hex_digit) (120 ∷ []) r x ∙ ap (λ (u : List ℕ). longer 1 (reach (one_or_more is_hex_digit) u)) (sym e))
+      ∙ longer-longer 2 1 (reach (one_or_more is_hex_digit) t))
+    where
+      no-digit : (u : List ℕ) → pointwise eqb (take 1 u) (120 ∷ []) ≡ true → reach (one_or_more is_digit) u ≡ None
+      no-digit [] h = absurd (false≢true h)
+      no-digit (b ∷ u) h = ap (λ (c : ℕ). reach (one_or_more is_digit) (c ∷ u)) (eqb-true b 120 (and_left (eqb b 120) true h)) ∙ reach-none (one_or_more is_digit) 120 u refl (λ t. refl)
 
-    pub word-digits : first_is (λ b. eqb b 120) (drop 2 s) ≡ false → reach is_word s ≡ longer 2 (positive (run is_digit (drop 2 s)))
-    unfolding longer
-    word-digits h =
-        reach-word s
-        ∙ ap₂ best
-        digits-part
-        (reach-two (120 ∷ []) (one_or_more is_hex_digit) 48 119 s 0 zero-at w_at ∙ ap (longer 2) (reach-behind-no [] (one_or_more is_hex_digit) 120 (drop 2 s) h))
-        ∙ best_none (longer 2 (positive (run is_digit (drop 2 s))))
+  pub word-digits : pointwise eqb (take 1 r) (120 ∷ []) ≡ false → reach is_word s ≡ longer 2 (reach (one_or_more is_digit) r)
+  unfolding longer
+  word-digits x =
+      reach-word s
+      ∙ ap₂ best digits-part (hex-part ∙ ap (longer 2) (strip_no (one_or_more is_hex_digit) (120 ∷ []) r x))
+      ∙ best_none (longer 2 (reach (one_or_more is_digit) r))
 
 either-taken : (x y : Option ℕ) → 0 < taken (best x y) → (0 < taken x) ⊎ (0 < taken y)
 unfolding best taken
-either-taken none y h = inr h
-either-taken (some a) none h = inl h
-either-taken (some zero) (some b) h = inr (omega arith)
-either-taken (some (suc a)) (some b) h = inl (omega arith)
+either-taken None y h = inr h
+either-taken (Some a) None h = inl h
+either-taken (Some zero) (Some b) h = inr (omega arith)
+either-taken (Some (suc a)) (Some b) h = inl (omega arith)
 
 word_start : (s : List ℕ) → 0 < taken (reach is_word s) → s ≡ 48 ∷ 119 ∷ drop 2 s
 word_start s h =
     ⊎_elim (λ l. behind-two 48 119 [] (one_or_more is_digit) s l) (λ l. behind-two 48 119 (120 ∷ []) (one_or_more is_hex_digit) s l)
     (either-taken (reach word_digits s) (reach word_hex s) (rw (reach-word s) at h))
 
-zero_w_magnitude : (t : List ℕ) → reach is_magnitude (48 ∷ 119 ∷ t) ≡ some 1
+zero_w_magnitude : (t : List ℕ) → reach is_magnitude (48 ∷ 119 ∷ t) ≡ Some 1
 unfolding is_hexadecimal bytes first_is best longer
 zero_w_magnitude t =
     reach-magnitude (48 ∷ 119 ∷ t)
@@ -451,7 +448,7 @@ unfolding is_magnitude is_hexadecimal one_or_more behind bytes digits_then
 magnitude_nil = refl
 
 -- An integer or a real starts with a digit.
-pub magnitude_other : (b : ℕ) (s : List ℕ) → is_digit b ≡ false → eqb b 48 ≡ false → reach is_magnitude (b ∷ s) ≡ none
+pub magnitude_other : (b : ℕ) (s : List ℕ) → is_digit b ≡ false → eqb b 48 ≡ false → reach is_magnitude (b ∷ s) ≡ None
 unfolding best is_hexadecimal bytes
 magnitude_other b s d z =
     reach-magnitude (b ∷ s)

@@ -2,14 +2,17 @@
 use Prim.Native.Nat.{ℕ, zero, suc, ◌+◌, ◌-◌, ◌≤◌, ◌<◌, max}
 use native.Mathlib.Omega.{arith}
 use mathlib.Core.Path.{◌≡◌, refl, sym, ap, ap₂, ◌∙◌, fun_ext}
-use mathlib.Core.Bool.{Bool, true, false, ◌||◌, false≢true}
+use mathlib.Core.Bool.{Bool, true, false, ◌&&◌, ◌||◌, false≢true}
 use mathlib.Core.List.{List, [], ◌∷◌}
-use mathlib.Core.Option.{Option, none, some}
+use Rattle.std.specs.Prelude.{Option, None, Some}
+use Rattle.std.specs.Option.{unwrap_or}
 use lib.Dec.{eqb}
+use lib.Pointwise.{pointwise}
 use lib.ListN.{length, get_or, take, drop, length-drop, drop_of_length-le}
 use lib.Seq.{drop-cons, drop-drop}
 use native.Mathlib.Numerals.{add-one}
 use borrow.Author.Tests.{eqb-true}
+use Rattle.text.proofs.Laws.{take_rest}
 use Rattle.text.specs.Bytes.{first_is}
 use Rattle.scanner.specs.Parts.{every, one_or_more, behind}
 use Rattle.scanner.specs.Promises.Reach.{longer, reach, taken, run}
@@ -18,46 +21,46 @@ use Rattle.scanner.specs.Promises.Reach.{longer, reach, taken, run}
 
 pub longer-zero : (x : Option ℕ) → longer 0 x ≡ x
 unfolding longer
-longer-zero none = refl
-longer-zero (some n) = ap some (omega arith)
+longer-zero None = refl
+longer-zero (Some n) = ap Some (omega arith)
 
 pub longer-longer : (j k : ℕ) (x : Option ℕ) → longer j (longer k x) ≡ longer (j + k) x
 unfolding longer
-longer-longer j k none = refl
-longer-longer j k (some n) = ap some (omega arith)
+longer-longer j k None = refl
+longer-longer j k (Some n) = ap Some (omega arith)
 
 -- The greater of two lengths.
 unfoldable pub best : Option ℕ → Option ℕ → Option ℕ
-best none y = y
-best (some a) none = some a
-best (some a) (some b) = some (max a b)
+best None y = y
+best (Some a) None = Some a
+best (Some a) (Some b) = Some (max a b)
 
-pub best_none : (x : Option ℕ) → best x none ≡ x
+pub best_none : (x : Option ℕ) → best x None ≡ x
 unfolding best
-best_none none = refl
-best_none (some a) = refl
+best_none None = refl
+best_none (Some a) = refl
 
 -- ---- the first byte
 
 -- A text without bytes.
 unfoldable pub empty : Bool → Option ℕ
-empty true = some 0
-empty false = none
+empty true = Some 0
+empty false = None
 
-empty_true : empty true ≡ some 0
+empty_true : empty true ≡ Some 0
 unfolding empty
 empty_true = refl
 
 -- A byte, and what the rest reaches; or nothing, where that passes.
 unfoldable pub onward : Option ℕ → Bool → Option ℕ
-onward none t = empty t
-onward (some n) t = some (suc n)
+onward None t = empty t
+onward (Some n) t = Some (suc n)
 
 pub reach-nil : (passes : List ℕ → Bool) → reach passes [] ≡ empty (passes [])
 unfolding reach empty
 reach-nil passes = go (passes [])
   where
-    go : (t : Bool) → ◌≡◌ {A = Option ℕ} (elim t as (λ x. Option ℕ) [ true ↦ some 0 | false ↦ none ]) (empty t)
+    go : (t : Bool) → ◌≡◌ {A = Option ℕ} (elim t as (λ x. Option ℕ) [ true ↦ Some 0 | false ↦ None ]) (empty t)
     go true = refl
     go false = refl
 
@@ -65,54 +68,89 @@ pub reach-cons : (passes : List ℕ → Bool) (b : ℕ) (s : List ℕ) → reach
 unfolding reach empty onward
 reach-cons passes b s = go (reach (λ u. passes (b ∷ u)) s) (passes [])
   where
-    go : (x : Option ℕ) (t : Bool) → ◌≡◌ {A = Option ℕ} (elim x as (λ y. Option ℕ) [ some n ↦ some (suc n) | none ↦ elim t as (λ y. Option ℕ) [ true ↦ some 0 | false ↦ none ] ]) (onward x t)
-    go none true = refl
-    go none false = refl
-    go (some n) t = refl
+    go : (x : Option ℕ) (t : Bool) → ◌≡◌ {A = Option ℕ} (elim x as (λ y. Option ℕ) [ Some n ↦ Some (suc n) | None ↦ elim t as (λ y. Option ℕ) [ true ↦ Some 0 | false ↦ None ] ]) (onward x t)
+    go None true = refl
+    go None false = refl
+    go (Some n) t = refl
+
+-- A length is within the text.
+pub reach_length : (passes : List ℕ → Bool) (s : List ℕ) → taken (reach passes s) ≤ length s
+unfolding empty onward taken
+reach_length passes [] = rw (reach-nil passes) (go (passes []))
+  where
+    go : (t : Bool) → taken (empty t) ≤ 0
+    go true = omega arith
+    go false = omega arith
+reach_length passes (b ∷ s) = rw (reach-cons passes b s) (go (reach (λ u. passes (b ∷ u)) s) (passes []) (reach_length (λ u. passes (b ∷ u)) s))
+  where
+    go : (x : Option ℕ) (t : Bool) → taken x ≤ length s → taken (onward x t) ≤ suc (length s)
+    go None true h = omega arith
+    go None false h = omega arith
+    go (Some n) t h = omega (arith, h)
+
+pub value_or : (x : Option ℕ) {n : ℕ} → n ≡ unwrap_or x 0 → n ≡ taken x
+unfolding taken
+value_or None e = e
+value_or (Some n) e = e
+
+-- What is found in the text behind n bytes.
+module _ (passes : List ℕ → Bool) (s : List ℕ) (n : ℕ) {x : Option ℕ} (is : x ≡ reach passes (take (length s - n) (drop n s))) where
+  pub found-behind : {y : Option ℕ} → x ≡ y → reach passes (drop n s) ≡ y
+  found-behind e = rw (take_rest s n) at (sym is ∙ e)
+
+  pub taken-behind : {k : ℕ} → k ≡ unwrap_or x 0 → k ≡ taken (reach passes (drop n s))
+  taken-behind e = value_or x e ∙ ap taken (is ∙ ap (reach passes) (take_rest s n))
+
+  pub behind-within : {k : ℕ} → k ≡ unwrap_or x 0 → n ≤ length s → n + k ≤ length s
+  behind-within e h = omega (arith, taken-behind e, reach_length passes (drop n s), length-drop n s)
+
+pub reach-within : (passes : List ℕ → Bool) (s : List ℕ) {x : Option ℕ} {n : ℕ} → x ≡ reach passes s → x ≡ Some n → n ≤ length s
+unfolding taken
+reach-within passes s e f = rw (sym e ∙ f) at (reach_length passes s)
 
 pub reach-same : {passes other : List ℕ → Bool} (s : List ℕ) → ((t : List ℕ) → passes t ≡ other t) → reach passes s ≡ reach other s
 reach-same s e = ap (λ (p : List ℕ → Bool). reach p s) (fun_ext e)
 
 onward-longer : (x : Option ℕ) → onward x false ≡ longer 1 x
 unfolding onward empty longer
-onward-longer none = refl
-onward-longer (some n) = ap some (omega arith)
+onward-longer None = refl
+onward-longer (Some n) = ap Some (omega arith)
 
-onward_here : (x : Option ℕ) → x ≡ none → onward x true ≡ some 0
+onward_here : (x : Option ℕ) → x ≡ None → onward x true ≡ Some 0
 unfolding onward empty
 onward_here x e = rw e
 
-is_some : {n : ℕ} (x : Option ℕ) → x ≡ some n → x ≡ some (taken x)
+is_some : {n : ℕ} (x : Option ℕ) → x ≡ Some n → x ≡ Some (taken x)
 unfolding taken
 is_some x e = rw e
 
-some_onward : (x y : Option ℕ) → x ≡ onward y true → x ≡ some (taken x)
+some_onward : (x y : Option ℕ) → x ≡ onward y true → x ≡ Some (taken x)
 unfolding onward empty
-some_onward x none e = is_some x e
-some_onward x (some n) e = is_some x e
+some_onward x None e = is_some x e
+some_onward x (Some n) e = is_some x e
 
 -- A recognizer that takes no text without bytes, by what it takes behind the first.
 pub reach_step : (passes : List ℕ → Bool) {after : List ℕ → Bool} (b : ℕ) (s : List ℕ) → passes [] ≡ false → ((t : List ℕ) → passes (b ∷ t) ≡ after t) → reach passes (b ∷ s) ≡ longer 1 (reach after s)
 reach_step passes {after} b s n e = reach-cons passes b s ∙ ap₂ onward (reach-same s e) n ∙ onward-longer (reach after s)
 
 -- What takes a text without bytes takes some text.
-pub reach-some : (passes : List ℕ → Bool) (s : List ℕ) → passes [] ≡ true → reach passes s ≡ some (taken (reach passes s))
+pub reach-some : (passes : List ℕ → Bool) (s : List ℕ) → passes [] ≡ true → reach passes s ≡ Some (taken (reach passes s))
 reach-some passes [] h = is_some (reach passes []) (reach-nil passes ∙ ap empty h ∙ empty_true)
 reach-some passes (b ∷ s) h = some_onward (reach passes (b ∷ s)) (reach (λ u. passes (b ∷ u)) s) (reach-cons passes b s ∙ ap (onward (reach (λ u. passes (b ∷ u)) s)) h)
 
 -- What passes nothing.
-pub reach-never : {passes : List ℕ → Bool} (s : List ℕ) → ((t : List ℕ) → passes t ≡ false) → reach passes s ≡ none
+pub reach-never : {passes : List ℕ → Bool} (s : List ℕ) → ((t : List ℕ) → passes t ≡ false) → reach passes s ≡ None
 unfolding empty onward
 reach-never {passes} [] e = reach-nil passes ∙ ap empty (e [])
 reach-never {passes} (b ∷ s) e = reach-cons passes b s ∙ ap₂ onward (reach-never s (λ t. e (b ∷ t))) (e [])
 
 -- What passes nothing that starts with the first byte.
-pub reach-none : (passes : List ℕ → Bool) (b : ℕ) (s : List ℕ) → passes [] ≡ false → ((t : List ℕ) → passes (b ∷ t) ≡ false) → reach passes (b ∷ s) ≡ none
+pub reach-none : (passes : List ℕ → Bool) (b : ℕ) (s : List ℕ) → passes [] ≡ false → ((t : List ℕ) → passes (b ∷ t) ≡ false) → reach passes (b ∷ s) ≡ None
 unfolding empty onward
 reach-none passes b s n e = reach-cons passes b s ∙ ap₂ onward (reach-never s e) n
 
 -- The same, where it takes a text without bytes.
-pub reach_here : (passes : List ℕ → Bool) (b : ℕ) (s : List ℕ) → passes [] ≡ true → ((t : List ℕ) → passes (b ∷ t) ≡ false) → reach passes (b ∷ s) ≡ some 0
+pub reach_here : (passes : List ℕ → Bool) (b : ℕ) (s : List ℕ) → passes [] ≡ true → ((t : List ℕ) → passes (b ∷ t) ≡ false) → reach passes (b ∷ s) ≡ Some 0
 unfolding empty onward
 reach_here passes b s n e = reach-cons passes b s ∙ ap₂ onward (reach-never s e) n
 
@@ -126,12 +164,12 @@ or_empty false t = refl
 
 or_onward : (x y : Option ℕ) (s t : Bool) → onward (best x y) (s || t) ≡ best (onward x s) (onward y t)
 unfolding onward best empty
-or_onward none none s t = or_empty s t
-or_onward none (some n) true t = ap some (omega arith)
-or_onward none (some n) false t = refl
-or_onward (some m) none s true = ap some (omega arith)
-or_onward (some m) none s false = refl
-or_onward (some m) (some n) s t = ap some (omega arith)
+or_onward None None s t = or_empty s t
+or_onward None (Some n) true t = ap Some (omega arith)
+or_onward None (Some n) false t = refl
+or_onward (Some m) None s true = ap Some (omega arith)
+or_onward (Some m) None s false = refl
+or_onward (Some m) (Some n) s t = ap Some (omega arith)
 
 pub reach-or : (passes other : List ℕ → Bool) (s : List ℕ) → reach (λ t. passes t || other t) s ≡ best (reach passes s) (reach other s)
 reach-or passes other [] =
@@ -141,6 +179,9 @@ reach-or passes other (b ∷ s) =
     ∙ ap (λ (x : Option ℕ). onward x (passes [] || other [])) (reach-or (λ t. passes (b ∷ t)) (λ t. other (b ∷ t)) s)
     ∙ or_onward (reach (λ t. passes (b ∷ t)) s) (reach (λ t. other (b ∷ t)) s) (passes []) (other [])
     ∙ sym (ap₂ best (reach-cons passes b s) (reach-cons other b s))
+
+one_add : (n : ℕ) → 1 + n ≡ suc n
+one_add n = omega arith
 
 -- ---- runs
 
@@ -215,21 +256,26 @@ every-no : (test : ℕ → Bool) (b : ℕ) → test b ≡ false → (t : List �
 unfolding every
 every-no test b e t = rw (every, e)
 
-pub reach-every : (test : ℕ → Bool) (s : List ℕ) → reach (every test) s ≡ some (run test s)
+pub reach-every : (test : ℕ → Bool) (s : List ℕ) → reach (every test) s ≡ Some (run test s)
 unfolding reach every run onward empty
 reach-every test [] = refl
 reach-every test (b ∷ s) = go (test b) refl (reach-every test s)
   where
-    go : (t : Bool) → test b ≡ t → reach (every test) s ≡ some (run test s) → reach (every test) (b ∷ s) ≡ some (run test (b ∷ s))
-    go true e ih = reach-cons (every test) b s ∙ ap (λ (x : Option ℕ). onward x true) (reach-same s (every-yes test b e) ∙ ih) ∙ ap some (sym (run-yes test b s e))
-    go false e ih = reach_here (every test) b s refl (every-no test b e) ∙ ap some (sym (run-no test b s e))
+    go : (t : Bool) → test b ≡ t → reach (every test) s ≡ Some (run test s) → reach (every test) (b ∷ s) ≡ Some (run test (b ∷ s))
+    go true e ih = reach-cons (every test) b s ∙ ap (λ (x : Option ℕ). onward x true) (reach-same s (every-yes test b e) ∙ ih) ∙ ap Some (sym (run-yes test b s e))
+    go false e ih = reach_here (every test) b s refl (every-no test b e) ∙ ap Some (sym (run-no test b s e))
 
 -- ---- one byte or more
 
 -- A length, none for 0.
 unfoldable pub positive : ℕ → Option ℕ
-positive zero = none
-positive (suc n) = some (suc n)
+positive zero = None
+positive (suc n) = Some (suc n)
+
+pub positive-some : (n : ℕ) → (n ≡ 0 → ⊥) → positive n ≡ Some n
+unfolding positive
+positive-some zero h = absurd (h refl)
+positive-some (suc n) h = refl
 
 pub taken-positive : (n : ℕ) → taken (positive n) ≡ n
 unfolding positive taken
@@ -242,8 +288,8 @@ positive_none x e = rw e
 
 positive_onward : (x y : Option ℕ) → x ≡ onward y false → x ≡ positive (taken x)
 unfolding onward empty taken positive
-positive_onward x none e = rw e
-positive_onward x (some n) e = rw e
+positive_onward x None e = rw e
+positive_onward x (Some n) e = rw e
 
 pub more_yes : (test : ℕ → Bool) (b : ℕ) → test b ≡ true → (t : List ℕ) → one_or_more test (b ∷ t) ≡ every test t
 unfolding one_or_more
@@ -259,7 +305,7 @@ reach-more test [] = refl
 reach-more test (b ∷ s) = go (test b) refl
   where
     go : (t : Bool) → test b ≡ t → reach (one_or_more test) (b ∷ s) ≡ positive (run test (b ∷ s))
-    go true e = reach_step (one_or_more test) b s refl (more_yes test b e) ∙ ap (longer 1) (reach-every test s) ∙ ap some (omega arith) ∙ ap positive (sym (run-yes test b s e))
+    go true e = reach_step (one_or_more test) b s refl (more_yes test b e) ∙ ap (longer 1) (reach-every test s) ∙ ap Some (omega arith) ∙ ap positive (sym (run-yes test b s e))
     go false e = reach-none (one_or_more test) b s refl (more_no test b e) ∙ ap positive (sym (run-no test b s e))
 
 -- ---- a word in front
@@ -278,18 +324,18 @@ module _ (word : List ℕ) (passes : List ℕ → Bool) (c : ℕ) where
 -- The greatest of n to 0 that passes.
 unfoldable pub down : (ℕ → Bool) → ℕ → Option ℕ
 down test zero = empty (test 0)
-down test (suc n) = elim (test (suc n)) [ true ↦ some (suc n) | false ↦ down test n ]
+down test (suc n) = elim (test (suc n)) [ true ↦ Some (suc n) | false ↦ down test n ]
 
 down_shift : (test : ℕ → Bool) (n : ℕ) → down test (suc n) ≡ onward (down (λ m. test (suc m)) n) (test 0)
 unfolding down onward empty
 down_shift test zero = go (test 1)
   where
-    go : (t : Bool) → ◌≡◌ {A = Option ℕ} (elim t as (λ x. Option ℕ) [ true ↦ some 1 | false ↦ empty (test 0) ]) (onward (empty t) (test 0))
+    go : (t : Bool) → ◌≡◌ {A = Option ℕ} (elim t as (λ x. Option ℕ) [ true ↦ Some 1 | false ↦ empty (test 0) ]) (onward (empty t) (test 0))
     go true = refl
     go false = refl
 down_shift test (suc n) = go (test (suc (suc n))) (down_shift test n)
   where
-    go : (t : Bool) → down test (suc n) ≡ onward (down (λ m. test (suc m)) n) (test 0) → ◌≡◌ {A = Option ℕ} (elim t as (λ x. Option ℕ) [ true ↦ some (suc (suc n)) | false ↦ down test (suc n) ]) (onward (elim t as (λ x. Option ℕ) [ true ↦ some (suc n) | false ↦ down (λ m. test (suc m)) n ]) (test 0))
+    go : (t : Bool) → down test (suc n) ≡ onward (down (λ m. test (suc m)) n) (test 0) → ◌≡◌ {A = Option ℕ} (elim t as (λ x. Option ℕ) [ true ↦ Some (suc (suc n)) | false ↦ down test (suc n) ]) (onward (elim t as (λ x. Option ℕ) [ true ↦ Some (suc n) | false ↦ down (λ m. test (suc m)) n ]) (test 0))
     go true ih = refl
     go false ih = ih
 
@@ -326,7 +372,7 @@ module _ (word : List ℕ) (passes : List ℕ → Bool) (c : ℕ) where
   reach-behind-yes [] h = absurd (false≢true h)
   reach-behind-yes (b ∷ s) h = reach_step (behind (c ∷ word) passes) b s behind-nil (behind-yes word passes c b h)
 
-  pub reach-behind-no : (s : List ℕ) → first_is (λ b. eqb b c) s ≡ false → reach (behind (c ∷ word) passes) s ≡ none
+  pub reach-behind-no : (s : List ℕ) → first_is (λ b. eqb b c) s ≡ false → reach (behind (c ∷ word) passes) s ≡ None
   unfolding first_is empty
   reach-behind-no [] h = reach-nil (behind (c ∷ word) passes) ∙ ap empty behind-nil
   reach-behind-no (b ∷ s) h = reach-none (behind (c ∷ word) passes) b s behind-nil (behind-no word passes c b h)
@@ -334,6 +380,33 @@ module _ (word : List ℕ) (passes : List ℕ → Bool) (c : ℕ) where
 pub reach-behind_all : (passes : List ℕ → Bool) (s : List ℕ) → reach (behind [] passes) s ≡ reach passes s
 unfolding behind
 reach-behind_all passes s = refl
+
+-- A word that is stripped off, or isn't there.
+module _ (passes : List ℕ → Bool) where
+  pub strip_no : (word s : List ℕ) → pointwise eqb (take (length word) s) word ≡ false → reach (behind word passes) s ≡ None
+  unfolding empty longer
+  strip_no [] s h = absurd (false≢true (sym h))
+  strip_no (c ∷ word) [] h = reach-nil (behind (c ∷ word) passes) ∙ ap empty (behind-nil word passes c)
+  strip_no (c ∷ word) (b ∷ s) h = go (eqb b c) refl h (λ k. strip_no word s k)
+    where
+      go : (t : Bool) → eqb b c ≡ t → (t && pointwise eqb (take (length word) s) word) ≡ false → (pointwise eqb (take (length word) s) word ≡ false → reach (behind word passes) s ≡ None) → reach (behind (c ∷ word) passes) (b ∷ s) ≡ None
+      go true e k ih = reach_step (behind (c ∷ word) passes) b s (behind-nil word passes c) (behind-yes word passes c b e) ∙ ap (longer 1) (ih k)
+      go false e k ih = reach-none (behind (c ∷ word) passes) b s (behind-nil word passes c) (behind-no word passes c b e)
+
+  pub strip_yes : (word s : List ℕ) → pointwise eqb (take (length word) s) word ≡ true → reach (behind word passes) s ≡ longer (length word) (reach passes (drop (length word) s))
+  unfolding behind
+  strip_yes [] s h = sym (longer-zero (reach passes s))
+  strip_yes (c ∷ word) [] h = absurd (false≢true h)
+  strip_yes (c ∷ word) (b ∷ s) h = go (eqb b c) refl h (λ k. strip_yes word s k)
+    where
+      go : (t : Bool) → eqb b c ≡ t → (t && pointwise eqb (take (length word) s) word) ≡ true → (pointwise eqb (take (length word) s) word ≡ true → reach (behind word passes) s ≡ longer (length word) (reach passes (drop (length word) s)))
+          → reach (behind (c ∷ word) passes) (b ∷ s) ≡ longer (suc (length word)) (reach passes (drop (length word) s))
+      go true e k ih =
+          reach_step (behind (c ∷ word) passes) b s (behind-nil word passes c) (behind-yes word passes c b e)
+          ∙ ap (longer 1) (ih k)
+          ∙ longer-longer 1 (length word) (reach passes (drop (length word) s))
+          ∙ ap (λ (n : ℕ). longer n (reach passes (drop (length word) s))) (one_add (length word))
+      go false e k ih = absurd (false≢true k)
 
 -- Two recognizers that agree on what starts with the first byte.
 pub reach-first : (passes other : List ℕ → Bool) (b : ℕ) (s : List ℕ) → passes [] ≡ other [] → ((t : List ℕ) → passes (b ∷ t) ≡ other (b ∷ t)) → reach passes (b ∷ s) ≡ reach other (b ∷ s)
@@ -345,36 +418,18 @@ reach-positive passes [] h = positive_none (reach passes []) (reach-nil passes �
 reach-positive passes (b ∷ s) h =
     positive_onward (reach passes (b ∷ s)) (reach (λ u. passes (b ∷ u)) s) (reach-cons passes b s ∙ ap (onward (reach (λ u. passes (b ∷ u)) s)) h)
 
--- A part behind k bytes: it ends at e, or there is none.
-module _ (x : Option ℕ) (k n at e : ℕ) (is : x ≡ longer k (positive n)) (ends : e ≡ at + k + n) where
-  pub part_none : e ≡ at + k → at ≡ at + taken x
-  unfolding longer positive taken
-  part_none h = go n is (omega arith)
-    where
-      go : (m : ℕ) → x ≡ longer k (positive m) → m ≡ 0 → at ≡ at + taken x
-      go zero f z = rw f (omega arith)
-      go (suc m) f z = absurd (omega arith)
-
-  pub part-some : (e ≡ at + k → ⊥) → e ≡ at + taken x
-  unfolding longer positive taken
-  part-some h = go n is (omega arith)
-    where
-      go : (m : ℕ) → x ≡ longer k (positive m) → at + k + m ≡ e → e ≡ at + taken x
-      go zero f z = absurd (h (omega arith))
-      go (suc m) f z = rw f (omega arith)
-
 -- Of two lengths the second is 1.
-pub wins : (x : Option ℕ) → 0 < taken x → best x (some 1) ≡ x
+pub wins : (x : Option ℕ) → 0 < taken x → best x (Some 1) ≡ x
 unfolding best taken
-wins none h = absurd (omega arith)
-wins (some n) h = ap some (omega arith)
+wins None h = absurd (omega arith)
+wins (Some n) h = ap Some (omega arith)
 
 -- A text of which a recognizer behind two bytes takes some starts with these.
 pub behind-two : (c d : ℕ) (word : List ℕ) (passes : List ℕ → Bool) (s : List ℕ) → 0 < taken (reach (behind (c ∷ d ∷ word) passes) s) → s ≡ c ∷ d ∷ drop 2 s
 unfolding longer taken
 behind-two c d word passes s h = go (first_is (λ b. eqb b c) s) refl
   where
-    none-taken : (x : Option ℕ) → 0 < taken x → x ≡ none → ⊥
+    none-taken : (x : Option ℕ) → 0 < taken x → x ≡ None → ⊥
     none-taken x h e = omega (arith, rw e at h)
 
     second : (u : Bool) → first_is (λ b. eqb b d) (drop 1 s) ≡ u → first_is (λ b. eqb b c) s ≡ true → s ≡ c ∷ d ∷ drop 2 s
@@ -385,20 +440,12 @@ behind-two c d word passes s h = go (first_is (λ b. eqb b c) s) refl
     go true e = second (first_is (λ b. eqb b d) (drop 1 s)) refl e
     go false e = absurd (none-taken _ h (reach-behind-no (d ∷ word) passes c s e))
 
-pub none-at : (at : ℕ) (x : Option ℕ) → x ≡ none → at ≡ at + taken x
-unfolding taken
-none-at at x e = rw e (omega arith)
-
-pub none_of : (x : Option ℕ) → x ≡ positive (taken x) → taken x ≡ 0 → x ≡ none
-unfolding positive
-none_of x e z = e ∙ ap positive z
-
 two_more : (n : ℕ) → n + 1 + 1 ≡ n + 2
 two_more n = omega arith
 
 -- Two bytes in front, at an offset.
 module _ (word : List ℕ) (passes : List ℕ → Bool) (c d : ℕ) (s : List ℕ) (at : ℕ) where
-  pub reach-two-no : first_is (λ b. eqb b c) (drop at s) ≡ true → first_is (λ b. eqb b d) (drop (at + 1) s) ≡ false → reach (behind (c ∷ d ∷ word) passes) (drop at s) ≡ none
+  pub reach-two-no : first_is (λ b. eqb b c) (drop at s) ≡ true → first_is (λ b. eqb b d) (drop (at + 1) s) ≡ false → reach (behind (c ∷ d ∷ word) passes) (drop at s) ≡ None
   unfolding longer
   reach-two-no g h =
       reach-behind-yes (d ∷ word) passes c (drop at s) g

@@ -6,7 +6,7 @@ use native.Mathlib.Numerals.{add-one}
 use mathlib.Core.Path.{◌≡◌, refl, sym, ap, ap₂, ◌∙◌}
 use mathlib.Core.Bool.{Bool, true, false, ◌||◌, false≢true}
 use mathlib.Core.List.{List, [], ◌∷◌}
-use mathlib.Core.Option.{Option, none, some}
+use Rattle.std.specs.Prelude.{Option, None, Some}
 use lib.Dec.{leb, eqb}
 use lib.ListN.{length, get_or, drop, length-drop, drop_of_length-le}
 use lib.Seq.{drop-cons, drop-drop}
@@ -16,9 +16,8 @@ use Rattle.scanner.specs.Parts.{every, is_one_of}
 use Rattle.scanner.specs.Constants.{is_hex_digit}
 use Rattle.scanner.specs.Strings.{Place, between_characters, escape, control, number, gap, closed, Step, wrong, to, character, is_digit_of, value_of_digit, number_ends, digit, escaped, next, is_closed, characters}
 use Rattle.scanner.specs.Promises.Reach.{longer, reach, run, is_plain}
-use Rattle.scanner.specs.Promises.Extents.{Extent, ends, endless, further, extent, on_from, Inside, Goes}
+use Rattle.scanner.specs.Promises.Extents.{ends_at, Extent, ends, endless, further, extent, on_from, Inside, Goes}
 use Rattle.scanner.specs.declared.strings.Quoted.{Quoted}
-use Rattle.scanner.specs.declared.strings.Quoted.TheVariants.{Ends, Endless}
 use Rattle.text.proofs.Computed.{all_below, same}
 use Rattle.scanner.proofs.Bytes.{not_so, decides, by_bytes, apart, apart_all, of-ten, of_other, digit_value, hex-small, hex-positive}
 use Rattle.scanner.proofs.ReachLaws.{empty, onward, reach-nil, reach-cons, reach-never, reach-none, reach_step, run-yes, run-no, run_more, first-inside, first-here}
@@ -39,12 +38,12 @@ further-zero endless = refl
 
 -- The text denotes a number of characters that passes.
 unfoldable pub denotes : (ℕ → Bool) → Place → List ℕ → Bool
-denotes test place t = elim (characters place t) [ none ↦ false | some n ↦ test n ]
+denotes test place t = elim (characters place t) [ None ↦ false | Some n ↦ test n ]
 
 -- The bytes of a extent whose characters pass.
 unfoldable pub bytes_of : (ℕ → Bool) → Extent → Option ℕ
-bytes_of test (ends m n) = elim (test n) [ true ↦ some m | false ↦ none ]
-bytes_of test endless = none
+bytes_of test (ends m n) = elim (test n) [ true ↦ Some m | false ↦ None ]
+bytes_of test endless = None
 
 module _ (test : ℕ → Bool) (place : Place) (b : ℕ) where
   denotes-wrong : next place b ≡ wrong → (t : List ℕ) → denotes test place (b ∷ t) ≡ false
@@ -59,9 +58,9 @@ module _ (test : ℕ → Bool) (place : Place) (b : ℕ) where
   unfolding denotes characters
   denotes-character e t = rw (denotes, characters, e) (go (characters between_characters t))
     where
-      go : (x : Option ℕ) → ◌≡◌ {A = Bool} (elim (elim x as (λ y. Option ℕ) [ none ↦ none | some n ↦ some (suc n) ]) as (λ y. Bool) [ none ↦ false | some n ↦ test n ]) (elim x as (λ y. Bool) [ none ↦ false | some n ↦ test (suc n) ])
-      go none = refl
-      go (some n) = refl
+      go : (x : Option ℕ) → ◌≡◌ {A = Bool} (elim (elim x as (λ y. Option ℕ) [ None ↦ None | Some n ↦ Some (suc n) ]) as (λ y. Bool) [ None ↦ false | Some n ↦ test n ]) (elim x as (λ y. Bool) [ None ↦ false | Some n ↦ test (suc n) ])
+      go None = refl
+      go (Some n) = refl
 
 denotes_open : (test : ℕ → Bool) (place : Place) → is_closed place ≡ false → denotes test place [] ≡ false
 unfolding denotes characters
@@ -84,7 +83,7 @@ bytes-to : (test : ℕ → Bool) (x : Extent) → longer 1 (bytes_of test x) ≡
 unfolding bytes_of further longer
 bytes-to test (ends m n) = rw (zero-add n) (go (test n))
   where
-    go : (u : Bool) → ◌≡◌ {A = Option ℕ} (longer 1 (elim u as (λ y. Option ℕ) [ true ↦ some m | false ↦ none ])) (elim u as (λ y. Option ℕ) [ true ↦ some (1 + m) | false ↦ none ])
+    go : (u : Bool) → ◌≡◌ {A = Option ℕ} (longer 1 (elim u as (λ y. Option ℕ) [ true ↦ Some m | false ↦ None ])) (elim u as (λ y. Option ℕ) [ true ↦ Some (1 + m) | false ↦ None ])
     go true = refl
     go false = refl
 bytes-to test endless = refl
@@ -96,7 +95,7 @@ bytes-character test (ends m n) = rw (one_add n) (go (test (suc n)))
     one_add : (n : ℕ) → 1 + n ≡ suc n
     one_add n = omega arith
 
-    go : (u : Bool) → ◌≡◌ {A = Option ℕ} (longer 1 (elim u as (λ y. Option ℕ) [ true ↦ some m | false ↦ none ])) (elim u as (λ y. Option ℕ) [ true ↦ some (1 + m) | false ↦ none ])
+    go : (u : Bool) → ◌≡◌ {A = Option ℕ} (longer 1 (elim u as (λ y. Option ℕ) [ true ↦ Some m | false ↦ None ])) (elim u as (λ y. Option ℕ) [ true ↦ Some (1 + m) | false ↦ None ])
     go true = refl
     go false = refl
 bytes-character test endless = refl
@@ -105,7 +104,7 @@ bytes-closed : (test : ℕ → Bool) → empty (test 0) ≡ bytes_of test (ends 
 unfolding bytes_of empty
 bytes-closed test = go (test 0)
   where
-    go : (u : Bool) → empty u ≡ (elim u as (λ y. Option ℕ) [ true ↦ some 0 | false ↦ none ])
+    go : (u : Bool) → empty u ≡ (elim u as (λ y. Option ℕ) [ true ↦ Some 0 | false ↦ None ])
     go true = refl
     go false = refl
 
@@ -174,18 +173,18 @@ reach-denotes (b ∷ s) test place = go (is_closed place) refl (reach-denotes s)
 
 -- ---- from a place to the next one between two characters
 
-inside-before : (s : List ℕ) (at : ℕ) (r : Quoted) → Inside s (at + 1) r → Inside s at r
+inside-before : (s : List ℕ) (at : ℕ) (r : Option Quoted) → Inside s (at + 1) r → Inside s at r
 unfolding Inside
-inside-before s at (Ends end count) i = (omega (arith, i.0), omega (arith, i.1), i.2)
-inside-before s at Endless i = tt
+inside-before s at (Some q) i = (omega (arith, i.0), omega (arith, i.1), i.2)
+inside-before s at None i = tt
 
 module _ (s : List ℕ) (at : ℕ) (place : Place) (unclosed : is_closed place ≡ false) where
-  pub goes_end : length s ≤ at → Goes s place at Endless
+  pub goes_end : length s ≤ at → Goes s place at None
   unfolding on_from Inside further
   goes_end h = record { is = ap (further at 0) (ap (extent place) (drop_of_length-le s h) ∙ extent-nil place unclosed); inside = tt }
 
   module _ (h : at < length s) where
-    pub goes-wrong : next place (get_or s at 0) ≡ wrong → Goes s place at Endless
+    pub goes-wrong : next place (get_or s at 0) ≡ wrong → Goes s place at None
     unfolding on_from Inside further
     goes-wrong e =
         record {
@@ -194,7 +193,7 @@ module _ (s : List ℕ) (at : ℕ) (place : Place) (unclosed : is_closed place �
         }
 
     -- The byte ends what stands before the next character; it denotes one, or none.
-    lands : (count : ℕ) → count ≤ 1 → extent place (drop at s) ≡ further 1 count (extent between_characters (drop (suc at) s)) → Goes s place at (Ends (at + 1) count)
+    lands : (count : ℕ) → count ≤ 1 → extent place (drop at s) ≡ further 1 count (extent between_characters (drop (suc at) s)) → Goes s place at (ends_at (at + 1) count)
     unfolding on_from Inside
     lands count l e =
         record {
@@ -204,13 +203,13 @@ module _ (s : List ℕ) (at : ℕ) (place : Place) (unclosed : is_closed place �
           inside = (omega arith, omega arith, omega arith);
         }
 
-    pub goes-character : next place (get_or s at 0) ≡ character → Goes s place at (Ends (at + 1) 1)
+    pub goes-character : next place (get_or s at 0) ≡ character → Goes s place at (ends_at (at + 1) 1)
     goes-character e = lands 1 (omega arith) (ap (extent place) (drop-cons s at 0 h) ∙ extent-character place unclosed (get_or s at 0) (drop (suc at) s) e)
 
-    pub goes-between : next place (get_or s at 0) ≡ to between_characters → Goes s place at (Ends (at + 1) 0)
+    pub goes-between : next place (get_or s at 0) ≡ to between_characters → Goes s place at (ends_at (at + 1) 0)
     goes-between e = lands 0 (omega arith) (ap (extent place) (drop-cons s at 0 h) ∙ extent-to place unclosed (get_or s at 0) (drop (suc at) s) between_characters e)
 
-    pub goes_to : (after : Place) {r : Quoted} → next place (get_or s at 0) ≡ to after → Goes s after (at + 1) r → Goes s place at r
+    pub goes_to : (after : Place) {r : Option Quoted} → next place (get_or s at 0) ≡ to after → Goes s after (at + 1) r → Goes s place at r
     goes_to after {r} e g =
         record {
           is = ap (further at 0) (ap (extent place) (drop-cons s at 0 h) ∙ extent-to place unclosed (get_or s at 0) (drop (suc at) s) after e)
@@ -221,7 +220,7 @@ module _ (s : List ℕ) (at : ℕ) (place : Place) (unclosed : is_closed place �
         }
 
     -- Another place at which the byte does the same.
-    pub goes-as : (other : Place) {r : Quoted} → is_closed other ≡ false → next place (get_or s at 0) ≡ next other (get_or s at 0) → Goes s other at r → Goes s place at r
+    pub goes-as : (other : Place) {r : Option Quoted} → is_closed other ≡ false → next place (get_or s at 0) ≡ next other (get_or s at 0) → Goes s other at r → Goes s place at r
     goes-as other {r} o e g =
         record {
           is = ap (further at 0) (ap (extent place) (drop-cons s at 0 h) ∙ same_step (next other (get_or s at 0)) e refl ∙ sym (ap (extent other) (drop-cons s at 0 h))) ∙ g.is;
@@ -407,7 +406,7 @@ module _ (s : List ℕ) (from at : ℕ) (is : at ≡ from + run is_space (drop f
       ∙ ap (λ (u : List ℕ). further (from + n) 0 (extent gap u)) (drop-drop n from s)
       ∙ ap (λ (m : ℕ). further m 0 (extent gap (drop m s))) (sym is)
 
-  pub gap-shut : first_is (λ b. eqb b 92) (drop at s) ≡ true → Goes s gap from (Ends (at + 1) 0)
+  pub gap-shut : first_is (λ b. eqb b 92) (drop at s) ≡ true → Goes s gap from (ends_at (at + 1) 0)
   unfolding Inside
   gap-shut h =
       let l = first-inside (λ b. eqb b 92) s at h in
@@ -415,7 +414,7 @@ module _ (s : List ℕ) (from at : ℕ) (is : at ≡ from + run is_space (drop f
       let g = goes-between s at gap open_gap l (gap_back (get_or s at 0) e) in
       record { is = gap-extent ∙ g.is; inside = (omega arith, omega arith, omega arith) }
 
-  pub gap-open : first_is (λ b. eqb b 92) (drop at s) ≡ false → Goes s gap from Endless
+  pub gap-open : first_is (λ b. eqb b 92) (drop at s) ≡ false → Goes s gap from None
   unfolding on_from Inside further
   gap-open h =
       let r : run is_space (drop at s) ≡ 0 = ap (run is_space) (ap (λ (m : ℕ). drop m s) is ∙ sym (drop-drop (run is_space (drop from s)) from s)) ∙ run_past is_space (drop from s) in
@@ -483,15 +482,15 @@ pending_short base (suc left) value [] h = extent-nil (number base (suc left) va
 pending_short base (suc left) value (b ∷ u) h = digit-endless base left value b u (λ e l. pending_short base left (value * base + value_of_digit b) u (omega arith))
 
 module _ (s : List ℕ) (at base left : ℕ) (h : 1 ≤ left) where
-  pub digits-endless : pending base left 0 (drop at s) ≡ endless → Goes s (number base left 0) at Endless
+  pub digits-endless : pending base left 0 (drop at s) ≡ endless → Goes s (number base left 0) at None
   unfolding on_from Inside
   digits-endless e = record { is = ap (further at 0) (pending-first base left (drop at s) h ∙ e) ∙ further-endless at 0; inside = tt }
 
-  pub digits-short : at ≤ length s → length s - at < left → Goes s (number base left 0) at Endless
+  pub digits-short : at ≤ length s → length s - at < left → Goes s (number base left 0) at None
   digits-short w l = digits-endless (pending_short base left 0 (drop at s) (omega (arith, length-drop at s)))
 
   -- As many bytes as digits, which denote a character.
-  pub digits-read : at + left ≤ length s → pending base left 0 (drop at s) ≡ further left 1 (extent between_characters (drop (at + left) s)) → Goes s (number base left 0) at (Ends (at + left) 1)
+  pub digits-read : at + left ≤ length s → pending base left 0 (drop at s) ≡ further left 1 (extent between_characters (drop (at + left) s)) → Goes s (number base left 0) at (ends_at (at + left) 1)
   unfolding on_from Inside
   digits-read w e =
       record {
@@ -535,15 +534,15 @@ module _ (s : List ℕ) (at : ℕ) (h : at + 3 ≤ length s) where
   is-decimal : (b : ℕ) → is_digit_of 10 b ≡ is_digit b
   is-decimal b = of-ten 10 b refl
 
-  pub decimal-first : is_digit first ≡ false → Goes s (number 10 3 0) at Endless
+  pub decimal-first : is_digit first ≡ false → Goes s (number 10 3 0) at None
   decimal-first e = digits-endless s at 10 3 (omega arith) (decimals ∙ pending-other 10 2 0 first (second ∷ third ∷ rest) (is-decimal first ∙ e))
 
-  pub decimal-second : is_digit second ≡ false → Goes s (number 10 3 0) at Endless
+  pub decimal-second : is_digit second ≡ false → Goes s (number 10 3 0) at None
   decimal-second e =
       digits-endless s at 10 3 (omega arith)
       (decimals ∙ digit-endless 10 2 0 first (second ∷ third ∷ rest) (λ d l. pending-other 10 1 (0 * 10 + value_of_digit first) second (third ∷ rest) (is-decimal second ∙ e)))
 
-  pub decimal-third : is_digit third ≡ false → Goes s (number 10 3 0) at Endless
+  pub decimal-third : is_digit third ≡ false → Goes s (number 10 3 0) at None
   decimal-third e =
       digits-endless s at 10 3 (omega arith)
       (decimals
@@ -555,7 +554,7 @@ module _ (s : List ℕ) (at : ℕ) (h : at + 3 ≤ length s) where
     abbrev value : ℕ
     value = 100 * (first - 48) + 10 * (second - 48) + (third - 48)
 
-    pub decimal-over : 255 < value → Goes s (number 10 3 0) at Endless
+    pub decimal-over : 255 < value → Goes s (number 10 3 0) at None
     decimal-over o =
         digits-endless s at 10 3 (omega arith)
         (decimals
@@ -564,7 +563,7 @@ module _ (s : List ℕ) (at : ℕ) (h : at + 3 ≤ length s) where
         (λ d l. digit-endless 10 0 ((0 * 10 + value_of_digit first) * 10 + value_of_digit second) third rest
         (λ d l. absurd (omega (arith, o, l, digit_value first d₁, digit_value second d₂, digit_value third d₃))))))
 
-    pub decimal-read : value ≤ 255 → Goes s (number 10 3 0) at (Ends (at + 3) 1)
+    pub decimal-read : value ≤ 255 → Goes s (number 10 3 0) at (ends_at (at + 3) 1)
     unfolding pending
     decimal-read w =
         let v₁ = 0 * 10 + value_of_digit first in
@@ -616,7 +615,7 @@ module _ (s : List ℕ) (at : ℕ) (h : at + 4 ≤ length s) where
   is-hex : (b : ℕ) → is_digit_of 16 b ≡ is_hex_digit b
   is-hex b = of_other 16 b (λ e. absurd (omega (arith, e)))
 
-  pub hex-first : x₁ < 256 → (x₁ ≡ 48 → ⊥) → Goes s (number 16 4 0) at Endless
+  pub hex-first : x₁ < 256 → (x₁ ≡ 48 → ⊥) → Goes s (number 16 4 0) at None
   hex-first f n =
       digits-endless s at 16 4 (omega arith)
       (hexadecimals
@@ -625,7 +624,7 @@ module _ (s : List ℕ) (at : ℕ) (h : at + 4 ≤ length s) where
       (λ e l. digit-endless 16 1 ((0 * 16 + value_of_digit x₁) * 16 + value_of_digit x₂) x₃ (x₄ ∷ behind-four)
       (λ e l. absurd (omega (arith, l, hex-positive x₁ f (sym (is-hex x₁) ∙ d) n))))))
 
-  pub hex-second : x₂ < 256 → (x₂ ≡ 48 → ⊥) → Goes s (number 16 4 0) at Endless
+  pub hex-second : x₂ < 256 → (x₂ ≡ 48 → ⊥) → Goes s (number 16 4 0) at None
   hex-second f n =
       digits-endless s at 16 4 (omega arith)
       (hexadecimals
@@ -635,7 +634,7 @@ module _ (s : List ℕ) (at : ℕ) (h : at + 4 ≤ length s) where
       (λ e l. digit-endless 16 0 (((0 * 16 + value_of_digit x₁) * 16 + value_of_digit x₂) * 16 + value_of_digit x₃) x₄ behind-four
       (λ e l. absurd (omega (arith, l, hex-positive x₂ f (sym (is-hex x₂) ∙ d) n)))))))
 
-  pub hex-third : is_hex_digit x₃ ≡ false → Goes s (number 16 4 0) at Endless
+  pub hex-third : is_hex_digit x₃ ≡ false → Goes s (number 16 4 0) at None
   hex-third n =
       digits-endless s at 16 4 (omega arith)
       (hexadecimals
@@ -643,7 +642,7 @@ module _ (s : List ℕ) (at : ℕ) (h : at + 4 ≤ length s) where
       (λ e l. digit-endless 16 2 (0 * 16 + value_of_digit x₁) x₂ (x₃ ∷ x₄ ∷ behind-four)
       (λ e l. pending-other 16 1 ((0 * 16 + value_of_digit x₁) * 16 + value_of_digit x₂) x₃ (x₄ ∷ behind-four) (is-hex x₃ ∙ n))))
 
-  pub hex-fourth : is_hex_digit x₄ ≡ false → Goes s (number 16 4 0) at Endless
+  pub hex-fourth : is_hex_digit x₄ ≡ false → Goes s (number 16 4 0) at None
   hex-fourth n =
       digits-endless s at 16 4 (omega arith)
       (hexadecimals
@@ -652,7 +651,7 @@ module _ (s : List ℕ) (at : ℕ) (h : at + 4 ≤ length s) where
       (λ e l. digit-endless 16 1 ((0 * 16 + value_of_digit x₁) * 16 + value_of_digit x₂) x₃ (x₄ ∷ behind-four)
       (λ e l. pending-other 16 0 (((0 * 16 + value_of_digit x₁) * 16 + value_of_digit x₂) * 16 + value_of_digit x₃) x₄ behind-four (is-hex x₄ ∙ n)))))
 
-  pub hex-read : x₁ ≡ 48 → x₂ ≡ 48 → x₃ < 256 → is_hex_digit x₃ ≡ true → x₄ < 256 → is_hex_digit x₄ ≡ true → Goes s (number 16 4 0) at (Ends (at + 4) 1)
+  pub hex-read : x₁ ≡ 48 → x₂ ≡ 48 → x₃ < 256 → is_hex_digit x₃ ≡ true → x₄ < 256 → is_hex_digit x₄ ≡ true → Goes s (number 16 4 0) at (ends_at (at + 4) 1)
   unfolding pending
   hex-read e₁ e₂ f₃ d₃ f₄ d₄ =
       let v₃ = 0 * 16 + value_of_digit x₃ in
@@ -711,18 +710,18 @@ module _ (s : List ℕ) (at total : ℕ) where
       (ap (extent between_characters) (drop-cons s at 0 h)
       ∙ extent-wrong between_characters open-between b (drop (suc at) s) (between-wrong b quote backslash (sym (plain-is b quote backslash) ∙ other)))
 
-  module _ (r : Quoted) (g : Goes s between_characters at r) where
-    pub string-endless : r ≡ Endless → further at total (extent between_characters (drop at s)) ≡ endless
+  module _ (r : Option Quoted) (g : Goes s between_characters at r) where
+    pub string-endless : r ≡ None → further at total (extent between_characters (drop at s)) ≡ endless
     unfolding on_from further
     string-endless e = from-total (extent between_characters (drop at s)) ∙ ap (further 0 total) (g.is ∙ ap (on_from s) e)
 
-    pub string-more : (end count : ℕ) → r ≡ Ends end count → further at total (extent between_characters (drop at s)) ≡ further end (total + count) (extent between_characters (drop end s))
+    pub string-more : (q : Quoted) → r ≡ Some q → further at total (extent between_characters (drop at s)) ≡ further q.end (total + q.count) (extent between_characters (drop q.end s))
     unfolding on_from
-    string-more end count e =
+    string-more q e =
         from-total (extent between_characters (drop at s))
         ∙ ap (further 0 total) (g.is ∙ ap (on_from s) e)
-        ∙ further-further 0 total end count (extent between_characters (drop end s))
-        ∙ ap (λ (n : ℕ). further n (total + count) (extent between_characters (drop end s))) (zero-add end)
+        ∙ further-further 0 total q.end q.count (extent between_characters (drop q.end s))
+        ∙ ap (λ (n : ℕ). further n (total + q.count) (extent between_characters (drop q.end s))) (zero-add q.end)
 
-    pub string-inside : (end count : ℕ) → r ≡ Ends end count → Inside s at (Ends end count)
-    string-inside end count e = rw e at g.inside
+    pub string-inside : (q : Quoted) → r ≡ Some q → Inside s at (Some q)
+    string-inside q e = rw e at g.inside

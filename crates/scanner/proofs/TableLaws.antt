@@ -16,7 +16,7 @@ use Rattle.scanner.specs.Answers.{number_of, place_of}
 use Rattle.scanner.specs.Promises.Answers.{Kept, Fills}
 use Rattle.scanner.specs.declared.Refusal.{Refusal}
 use Rattle.scanner.specs.declared.Refusal.TheVariants.{TooLong}
-use Rattle.scanner.specs.declared.Tabled.TheVariants.{Tokens as Counted, Refused}
+use Rattle.std.specs.Prelude.{Ok, Err}
 use Rattle.scanner.proofs.ScanLaws.{scan-over, scan-none, scan-more}
 
 -- Tokens in front of those that are still to come.
@@ -85,7 +85,7 @@ module _ {text kinds starts lens : List ℕ} {count at : ℕ} (p : Filled text k
 
   -- No token begins at the offset.
   pub filled-refused : {why : Refusal} → at < length text → 0 ≡ longest (drop at text) → (number_of why ≡ number_at (get_or text at 0)) × (place_of why ≡ at)
-      → Fills text kinds starts lens (Refused why)
+      → Fills text kinds starts lens (Err why)
   unfolding limited
   filled-refused h e w =
       let first : get_or (drop at text) 0 0 ≡ get_or text at 0 = get_or-drop at text 0 0 ∙ ap (λ (i : ℕ). get_or text i 0) (add-zero at) in
@@ -102,11 +102,11 @@ module _ {text kinds starts lens : List ℕ} {count at : ℕ} (p : Filled text k
       ∙ ap (in_front p.done) (scan-over at)
       ∙ ap tokens (joined-none p.done)
 
-  pub filled-all : length text ≤ at → count ≤ 4096 → Fills text kinds starts lens (Counted count)
+  pub filled-all : length text ≤ at → count ≤ 4096 → Fills text kinds starts lens (Ok count)
   unfolding limited
   filled-all h l =
       record { is = ap tokens (p.held l) ∙ sym (ap limited (all h) ∙ rw (le-leb (length p.done.kinds) 4096 (rw p.counts l), limited)); counts = (l, p.long) }
 
-  pub filled-past : length text ≤ at → 4096 < count → Fills text kinds starts lens (Refused TooLong)
+  pub filled-past : length text ≤ at → 4096 < count → Fills text kinds starts lens (Err TooLong)
   unfolding limited number_of place_of
   filled-past h l = record { is = sym (ap limited (all h) ∙ rw (lt-leb (length p.done.kinds) 4096 (rw p.counts l), limited)); counts = tt }

@@ -6,7 +6,7 @@ use mathlib.Core.Path.{◌≡◌, refl, sym, ap, ap₂, ◌∙◌, fun_ext, subs
 use mathlib.Core.Bool.{Bool, true, false, not, ◌&&◌, ◌||◌, false≢true, or-true, or-false, or_comm}
 use mathlib.Core.Logic.{inl, inr}
 use mathlib.Core.List.{List, [], ◌∷◌, ◌++◌}
-use mathlib.Core.Option.{Option, none, some}
+use Rattle.std.specs.Prelude.{Option, None, Some}
 use lib.Dec.{eqb}
 use lib.ListN.{length, get_or, take, drop}
 use lib.Seq.{drop-drop}
@@ -22,11 +22,10 @@ use Rattle.scanner.specs.Lexical.{reserved_core, reserved_modules, is_reserved, 
 use Rattle.scanner.specs.Promises.Reach.{longer, reach, taken, run, is_hexadecimal, is_magnitude}
 use Rattle.scanner.specs.Promises.Extents.{Extent, ends, endless, further, extent, extent_of}
 use Rattle.scanner.specs.declared.strings.Quoted.{Quoted}
-use Rattle.scanner.specs.declared.strings.Quoted.TheVariants.{Ends, Endless}
 use Rattle.text.proofs.Computed.{and_left, and_right, all_below, same}
 use Rattle.scanner.proofs.Bytes.{absorb, not_so, apart_all, decides, by_bytes, among_keys}
-use Rattle.scanner.proofs.ReachLaws.{best, empty, down, down-reach, reach-never, reach_step, reach-first, reach-or, reach-every, reach-positive, run-no, more_yes, more_no, behind-no, starts, reach-behind-yes, reach-behind-no, reach-behind_all, reach-two, reach-two-no, none_of}
-use Rattle.scanner.proofs.NumberLaws.{unsigned-no, digits-no, best_zero, reach-empty, reach-or_empty, word_wins, word_nil, magnitude_nil, magnitude_other}
+use Rattle.scanner.proofs.ReachLaws.{best, empty, down, down-reach, reach-never, reach_step, reach-first, reach-or, reach-every, reach-positive, run-no, more_yes, more_no, behind-no, starts, reach-behind-yes, reach-behind-no, reach-behind_all, reach-two, reach-two-no}
+use Rattle.scanner.proofs.NumberLaws.{some_positive, unsigned-no, digits-no, best_zero, reach-empty, reach-or_empty, word_wins, word_nil, magnitude_nil, magnitude_other}
 use Rattle.scanner.proofs.StringLaws.{denotes, bytes_of, reach-denotes}
 
 -- ---- plain search
@@ -40,7 +39,7 @@ up_to-down rest zero = go (token_of rest 0)
     go false = refl
 up_to-down rest (suc n) = go (token_of rest (suc n)) (up_to-down rest n)
   where
-    go : (t : Bool) → longest_up_to rest n ≡ taken (down (token_of rest) n) → ◌≡◌ {A = ℕ} (elim t as (λ x. ℕ) [ true ↦ suc n | false ↦ longest_up_to rest n ]) (taken (elim t as (λ x. Option ℕ) [ true ↦ some (suc n) | false ↦ down (token_of rest) n ]))
+    go : (t : Bool) → longest_up_to rest n ≡ taken (down (token_of rest) n) → ◌≡◌ {A = ℕ} (elim t as (λ x. ℕ) [ true ↦ suc n | false ↦ longest_up_to rest n ]) (taken (elim t as (λ x. Option ℕ) [ true ↦ Some (suc n) | false ↦ down (token_of rest) n ]))
     go true ih = refl
     go false ih = ih
 
@@ -416,14 +415,13 @@ module _ (rest : List ℕ) (b : ℕ) (s : rest ≡ b ∷ drop 1 rest) where
         ∙ ap (reach (λ t. is_word t || is_magnitude t)) (sym s)
         ∙ reach-or is_word is_magnitude rest)
 
-    pub number-plain : is_digit b ≡ true → taken (reach is_word rest) ≡ 0 → longest rest ≡ taken (reach is_magnitude rest)
+    pub number-plain : is_digit b ≡ true → reach is_word rest ≡ None → longest rest ≡ taken (reach is_magnitude rest)
     unfolding best
-    number-plain e z =
-        longest-number e
-        ∙ ap (λ (x : Option ℕ). taken (best x (reach is_magnitude rest))) (none_of (reach is_word rest) (reach-positive is_word rest word_nil) z)
+    number-plain e z = longest-number e ∙ ap (λ (x : Option ℕ). taken (best x (reach is_magnitude rest))) z
 
-    pub number_word : is_digit b ≡ true → (taken (reach is_word rest) ≡ 0 → ⊥) → longest rest ≡ taken (reach is_word rest)
-    number_word e z = longest-number e ∙ ap taken (word_wins rest (omega arith))
+    pub number-word : is_digit b ≡ true → {n : ℕ} → reach is_word rest ≡ Some n → longest rest ≡ n
+    unfolding taken
+    number-word e {n} z = longest-number e ∙ ap taken (word_wins rest (rw z (some_positive n (rw z at (reach-positive is_word rest word_nil)))) ∙ z)
 
   pub longest-lone : OneOf lone_bytes b → eqb b 40 ≡ false → longest rest ≡ 1
   unfolding longer taken
@@ -452,57 +450,52 @@ magnitude-first (b ∷ s) h = go (is_digit b) refl
     go false e = absurd (omega (arith, rw (magnitude_other b s e (no_zero b s e)) at h))
 
 module _ (rest : List ℕ) (s : rest ≡ 126 ∷ drop 1 rest) where
-  longest-tilde : longest rest ≡ taken (longer 1 (best (some (run is_symbol (drop 1 rest))) (reach is_magnitude (drop 1 rest))))
+  longest-tilde : longest rest ≡ taken (longer 1 (best (Some (run is_symbol (drop 1 rest))) (reach is_magnitude (drop 1 rest))))
   longest-tilde =
       first_byte rest 126 (λ t. every is_symbol t || is_magnitude t) s (opens_not rest 126 s refl) token_tilde
       ∙ ap (λ (x : Option ℕ). taken (longer 1 x))
       (reach-or (every is_symbol) is_magnitude (drop 1 rest)
       ∙ ap (λ (x : Option ℕ). best x (reach is_magnitude (drop 1 rest))) (reach-every is_symbol (drop 1 rest)))
 
-  pub tilde-symbol : (end : ℕ) → end ≡ 1 + taken (reach is_magnitude (drop 1 rest)) → end ≡ 1 → longest rest ≡ 1 + run is_symbol (drop 1 rest)
+  pub tilde-symbol : reach is_magnitude (drop 1 rest) ≡ None → longest rest ≡ 1 + run is_symbol (drop 1 rest)
   unfolding longer taken best
-  tilde-symbol end e h =
-      longest-tilde
-      ∙ ap (λ (x : Option ℕ). taken (longer 1 (best (some (run is_symbol (drop 1 rest))) x)))
-      (none_of (reach is_magnitude (drop 1 rest)) (reach-positive is_magnitude (drop 1 rest) magnitude_nil) (omega arith))
+  tilde-symbol e = longest-tilde ∙ ap (λ (x : Option ℕ). taken (longer 1 (best (Some (run is_symbol (drop 1 rest))) x))) e
 
-  pub tilde-number : (end : ℕ) → end ≡ 1 + taken (reach is_magnitude (drop 1 rest)) → (end ≡ 1 → ⊥) → end ≡ longest rest
+  pub tilde-number : {n : ℕ} → reach is_magnitude (drop 1 rest) ≡ Some n → longest rest ≡ 1 + n
   unfolding longer taken
-  tilde-number end e h =
-      e
-      ∙ sym
-      (longest-tilde
-      ∙ ap (λ (n : ℕ). taken (longer 1 (best (some n) (reach is_magnitude (drop 1 rest))))) (magnitude-first (drop 1 rest) (omega arith))
-      ∙ ap (λ (x : Option ℕ). taken (longer 1 x)) (best_zero (reach is_magnitude (drop 1 rest))))
+  tilde-number {n} e =
+      longest-tilde
+      ∙ ap₂ (λ (k : ℕ) (x : Option ℕ). taken (longer 1 (best (Some k) x))) (magnitude-first (drop 1 rest) (rw e (some_positive n (rw e at (reach-positive is_magnitude (drop 1 rest) magnitude_nil))))) e
+      ∙ ap (λ (x : Option ℕ). taken (longer 1 x)) (best_zero (Some n))
 
 -- ---- strings
 
 -- What `string` read, against the extent behind the quote.
-module _ (test : ℕ → Bool) (k : ℕ) (x : Extent) (r : Quoted) (is : extent_of r ≡ further k 0 x) where
-  pub read-endless : r ≡ Endless → bytes_of test x ≡ none
+module _ (test : ℕ → Bool) (k : ℕ) (x : Extent) (r : Option Quoted) (is : extent_of r ≡ further k 0 x) where
+  pub read-endless : r ≡ None → bytes_of test x ≡ None
   unfolding extent_of further bytes_of
   read-endless e = go x (sym (ap extent_of e) ∙ is)
     where
-      go : (x : Extent) → endless ≡ further k 0 x → bytes_of test x ≡ none
+      go : (x : Extent) → endless ≡ further k 0 x → bytes_of test x ≡ None
       go (ends m n) f = never (cc)
       go endless f = refl
 
-  module _ (end count : ℕ) (e : r ≡ Ends end count) where
-    read-ends : (x : Extent) → ends end count ≡ further k 0 x → (m : ℕ) × (x ≡ ends m count) × (end ≡ k + m)
+  module _ (q : Quoted) (e : r ≡ Some q) where
+    read-ends : (x : Extent) → ends q.end q.count ≡ further k 0 x → (m : ℕ) × (x ≡ ends m q.count) × (q.end ≡ k + m)
     unfolding further
     read-ends (ends m n) f =
-        let c : count ≡ 0 + n = cc in
-        let d : end ≡ k + m = cc in
+        let c : q.count ≡ 0 + n = cc in
+        let d : q.end ≡ k + m = cc in
         (m, ap (ends m) (sym (c ∙ zero-add n)), d)
     read-ends endless f = never (cc)
 
-    pub read-yes : test count ≡ true → (m : ℕ) × (bytes_of test x ≡ some m) × (end ≡ k + m)
+    pub read-yes : test q.count ≡ true → (m : ℕ) × (bytes_of test x ≡ Some m) × (q.end ≡ k + m)
     unfolding extent_of bytes_of
     read-yes t =
         let p = read-ends x (sym (ap extent_of e) ∙ is) in
         (p.0, ap (bytes_of test) p.1 ∙ rw (bytes_of, t), p.2)
 
-    pub read_no : test count ≡ false → bytes_of test x ≡ none
+    pub read_no : test q.count ≡ false → bytes_of test x ≡ None
     unfolding extent_of bytes_of
     read_no t = let p = read-ends x (sym (ap extent_of e) ∙ is) in ap (bytes_of test) p.1 ∙ rw (bytes_of, t)
 
@@ -511,22 +504,22 @@ longest-quote rest s =
     first_byte rest 34 (denotes (λ n. true) between_characters) s (opens_not rest 34 s refl) token_quote
     ∙ ap (λ (x : Option ℕ). taken (longer 1 x)) (reach-denotes (drop 1 rest) (λ n. true) between_characters)
 
-module _ (rest : List ℕ) (s : rest ≡ 34 ∷ drop 1 rest) (r : Quoted) (is : extent_of r ≡ further 1 0 (extent between_characters (drop 1 rest))) where
-  pub quote-endless : r ≡ Endless → 0 ≡ longest rest
+module _ (rest : List ℕ) (s : rest ≡ 34 ∷ drop 1 rest) (r : Option Quoted) (is : extent_of r ≡ further 1 0 (extent between_characters (drop 1 rest))) where
+  pub quote-endless : r ≡ None → 0 ≡ longest rest
   unfolding longer taken
   quote-endless e =
       sym
       (longest-quote rest s
       ∙ ap (λ (x : Option ℕ). taken (longer 1 x)) (read-endless (λ n. true) 1 (extent between_characters (drop 1 rest)) r is e))
 
-  pub quote-ends : (end count : ℕ) → r ≡ Ends end count → end ≡ longest rest
+  pub quote-ends : (q : Quoted) → r ≡ Some q → q.end ≡ longest rest
   unfolding longer taken
-  quote-ends end count e =
-      let p = read-yes (λ n. true) 1 (extent between_characters (drop 1 rest)) r is end count e refl in
+  quote-ends q e =
+      let p = read-yes (λ n. true) 1 (extent between_characters (drop 1 rest)) r is q e refl in
       p.2 ∙ sym (longest-quote rest s ∙ ap (λ (x : Option ℕ). taken (longer 1 x)) p.1)
 
 module _ (rest : List ℕ) (s : rest ≡ 35 ∷ drop 1 rest) where
-  longest-hash : longest rest ≡ taken (longer 1 (best (some (run is_symbol (drop 1 rest))) (reach (behind (34 ∷ []) one_character) (drop 1 rest))))
+  longest-hash : longest rest ≡ taken (longer 1 (best (Some (run is_symbol (drop 1 rest))) (reach (behind (34 ∷ []) one_character) (drop 1 rest))))
   longest-hash =
       first_byte rest 35 (λ t. every is_symbol t || behind (34 ∷ []) one_character t) s (opens_not rest 35 s refl) token_hash
       ∙ ap (λ (x : Option ℕ). taken (longer 1 x))
@@ -537,14 +530,14 @@ module _ (rest : List ℕ) (s : rest ≡ 35 ∷ drop 1 rest) where
   unfolding longer taken best
   hash-symbol h =
       longest-hash
-      ∙ ap (λ (x : Option ℕ). taken (longer 1 (best (some (run is_symbol (drop 1 rest))) x))) (reach-behind-no [] one_character 34 (drop 1 rest) h)
+      ∙ ap (λ (x : Option ℕ). taken (longer 1 (best (Some (run is_symbol (drop 1 rest))) x))) (reach-behind-no [] one_character 34 (drop 1 rest) h)
 
   module _ (h : first_is (λ c. eqb c 34) (drop 1 rest) ≡ true) where
     pub hash-string : longest rest ≡ 1 + taken (longer 1 (bytes_of (λ n. eqb n 1) (extent between_characters (drop 2 rest))))
     unfolding longer taken is_symbol is_one_of bytes
     hash-string =
         longest-hash
-        ∙ ap₂ (λ (n : ℕ) (x : Option ℕ). taken (longer 1 (best (some n) x)))
+        ∙ ap₂ (λ (n : ℕ) (x : Option ℕ). taken (longer 1 (best (Some n) x)))
         (ap (run is_symbol) (starts 34 (drop 1 rest) h) ∙ run-no is_symbol 34 (drop 1 (drop 1 rest)) refl)
         (reach-behind-yes [] one_character 34 (drop 1 rest) h
         ∙ ap (longer 1)
@@ -553,24 +546,24 @@ module _ (rest : List ℕ) (s : rest ≡ 35 ∷ drop 1 rest) where
         ∙ reach-denotes (drop 2 rest) (λ n. eqb n 1) between_characters))
         ∙ ap (λ (x : Option ℕ). taken (longer 1 x)) (best_zero (longer 1 (bytes_of (λ n. eqb n 1) (extent between_characters (drop 2 rest)))))
 
-    module _ (r : Quoted) (is : extent_of r ≡ further 2 0 (extent between_characters (drop 2 rest))) where
-      nothing : bytes_of (λ n. eqb n 1) (extent between_characters (drop 2 rest)) ≡ none → 1 ≡ longest rest
+    module _ (r : Option Quoted) (is : extent_of r ≡ further 2 0 (extent between_characters (drop 2 rest))) where
+      nothing : bytes_of (λ n. eqb n 1) (extent between_characters (drop 2 rest)) ≡ None → 1 ≡ longest rest
       unfolding longer taken
       nothing e = sym (hash-string ∙ ap (λ (x : Option ℕ). 1 + taken (longer 1 x)) e)
 
-      pub hash-endless : r ≡ Endless → 1 ≡ longest rest
+      pub hash-endless : r ≡ None → 1 ≡ longest rest
       hash-endless e = nothing (read-endless (λ n. eqb n 1) 2 (extent between_characters (drop 2 rest)) r is e)
 
-      module _ (end count : ℕ) (e : r ≡ Ends end count) where
-        pub hash-one : eqb count 1 ≡ true → end ≡ longest rest
+      module _ (q : Quoted) (e : r ≡ Some q) where
+        pub hash-one : eqb q.count 1 ≡ true → q.end ≡ longest rest
         unfolding longer taken
         hash-one o =
-            let p = read-yes (λ n. eqb n 1) 2 (extent between_characters (drop 2 rest)) r is end count e o in
+            let p = read-yes (λ n. eqb n 1) 2 (extent between_characters (drop 2 rest)) r is q e o in
             let f : 2 + p.0 ≡ 1 + (1 + p.0) = omega arith in
             p.2 ∙ f ∙ sym (hash-string ∙ ap (λ (x : Option ℕ). 1 + taken (longer 1 x)) p.1)
 
-        pub hash-other : eqb count 1 ≡ false → 1 ≡ longest rest
-        hash-other o = nothing (read_no (λ n. eqb n 1) 2 (extent between_characters (drop 2 rest)) r is end count e o)
+        pub hash-other : eqb q.count 1 ≡ false → 1 ≡ longest rest
+        hash-other o = nothing (read_no (λ n. eqb n 1) 2 (extent between_characters (drop 2 rest)) r is q e o)
 
 -- ---- brackets and dots
 
@@ -594,17 +587,17 @@ module _ (rest : List ℕ) (s : rest ≡ 40 ∷ drop 1 rest) where
       first_byte rest 40 (λ t. is_empty t || behind (42 ∷ []) (λ r. closes r 1) t) s (ap opens_comment s ∙ opens-bracket (drop 1 rest) h) token_bracket
       ∙ ap (λ (x : Option ℕ). taken (longer 1 x))
       (reach-or_empty (behind (42 ∷ []) (λ r. closes r 1)) (drop 1 rest)
-      ∙ ap (λ (x : Option ℕ). some (taken x)) (reach-behind-no [] (λ r. closes r 1) 42 (drop 1 rest) h))
+      ∙ ap (λ (x : Option ℕ). Some (taken x)) (reach-behind-no [] (λ r. closes r 1) 42 (drop 1 rest) h))
 
 module _ (rest : List ℕ) (s : rest ≡ 46 ∷ drop 1 rest) where
-  longest-dots : longest rest ≡ taken (longer 1 (some (taken (reach (behind (46 ∷ 46 ∷ []) is_empty) (drop 1 rest)))))
+  longest-dots : longest rest ≡ taken (longer 1 (Some (taken (reach (behind (46 ∷ 46 ∷ []) is_empty) (drop 1 rest)))))
   longest-dots =
       first_byte rest 46 (λ t. is_empty t || behind (46 ∷ 46 ∷ []) is_empty t) s (opens_not rest 46 s refl) (λ t. token_dots t ∙ ap (λ (x : Bool). is_empty t || x) (same-behind (46 ∷ 46 ∷ []) t))
       ∙ ap (λ (x : Option ℕ). taken (longer 1 x)) (reach-or_empty (behind (46 ∷ 46 ∷ []) is_empty) (drop 1 rest))
 
-  one-dot : reach (behind (46 ∷ 46 ∷ []) is_empty) (drop 1 rest) ≡ none → longest rest ≡ 1
+  one-dot : reach (behind (46 ∷ 46 ∷ []) is_empty) (drop 1 rest) ≡ None → longest rest ≡ 1
   unfolding longer taken
-  one-dot e = longest-dots ∙ ap (λ (x : Option ℕ). taken (longer 1 (some (taken x)))) e
+  one-dot e = longest-dots ∙ ap (λ (x : Option ℕ). taken (longer 1 (Some (taken x)))) e
 
   pub dots-one : first_is (λ c. eqb c 46) (drop 1 rest) ≡ false → longest rest ≡ 1
   dots-one h = one-dot (reach-behind-no (46 ∷ []) is_empty 46 (drop 1 rest) h)
@@ -616,7 +609,7 @@ module _ (rest : List ℕ) (s : rest ≡ 46 ∷ drop 1 rest) where
   unfolding longer taken
   dots-three g h =
       longest-dots
-      ∙ ap (λ (x : Option ℕ). taken (longer 1 (some (taken x))))
+      ∙ ap (λ (x : Option ℕ). taken (longer 1 (Some (taken x))))
       (reach-two [] is_empty 46 46 rest 1 g h ∙ ap (longer 2) (reach-behind_all is_empty (drop 3 rest) ∙ reach-empty (drop 3 rest)))
 
 pub start : (rest : List ℕ) → (length rest ≡ 0 → ⊥) → rest ≡ get_or rest 0 0 ∷ drop 1 rest

@@ -1,10 +1,10 @@
 -- What the answers of the code stand for, and the contracts of its functions.
-use Rattle.std.specs.Prelude.{ℕ, List}
+use Rattle.std.specs.Prelude.{ℕ, List, Result, Ok, Err}
 use Rattle.text.specs.Output.{Plain, plain, Reply}
 use Rattle.scanner.specs.declared.Refusal.{Refusal}
 use Rattle.scanner.specs.declared.Refusal.TheVariants.{TooLong, NotUtf8, OpenComment, NoString, BeginsNoToken}
-use Rattle.scanner.specs.declared.Scanned as Code
-use Rattle.scanner.specs.declared.Scanned.TheVariants as Case
+use Rattle.scanner.specs.declared.ScanError.{ScanError}
+use Rattle.scanner.specs.declared.ScanError.TheVariants.{Refused, OutputTooShort}
 
 -- 02's number for each refusal.
 unfoldable pub number_of : Refusal → ℕ
@@ -22,17 +22,16 @@ place_of (NoString at) = at
 place_of (BeginsNoToken at) = at
 
 -- The verdict of each answer of `scan`.
-unfoldable pub verdict_of : Code.Scanned → Plain
-verdict_of (Case.Written n) = plain 0 0
-verdict_of (Case.Refused why) = plain (number_of why) (place_of why)
-verdict_of Case.OutputTooShort = plain 8 0
+unfoldable pub verdict_of : Result ℕ ScanError → Plain
+verdict_of (Ok n) = plain 0 0
+verdict_of (Err (Refused why)) = plain (number_of why) (place_of why)
+verdict_of (Err OutputTooShort) = plain 8 0
 
 -- The bytes that it wrote.
-unfoldable pub written_of : Code.Scanned → ℕ
-written_of (Case.Written n) = n
-written_of (Case.Refused why) = 0
-written_of Case.OutputTooShort = 0
+unfoldable pub written_of : Result ℕ ScanError → ℕ
+written_of (Ok n) = n
+written_of (Err why) = 0
 
 -- What an answer of `scan` and the final output stand for.
-unfoldable pub reply_of : Code.Scanned → List ℕ → Reply Plain
+unfoldable pub reply_of : Result ℕ ScanError → List ℕ → Reply Plain
 reply_of a out = record { verdict = verdict_of a; written = written_of a; out = out }

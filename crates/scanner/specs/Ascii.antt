@@ -1,6 +1,5 @@
 -- `scan` before document 02's Ticket 5: a byte of 128 or more is 2 wherever it stands. All else is as in Scan.
-use Rattle.std.specs.Prelude.{ℕ, List, true, false, length, leb}
-use Rattle.std.proofs.Math.Option.{none, some}
+use Rattle.std.specs.Prelude.{ℕ, List, true, false, length, leb, None, Some}
 use Rattle.text.specs.WellFormed.{first_not_ascii}
 use Rattle.text.specs.Output.{Plain, plain, Reply, declined, fitted_plain}
 use Rattle.reader.specs.Reading.{max_text}
@@ -9,7 +8,7 @@ use Rattle.scanner.specs.Scan.{Scanned, refused, tokens, scan_text, limited, com
 unfoldable pub read_ascii : List ℕ → Scanned
 read_ascii text =
     elim (leb (length text) max_text) [
-      | true ↦ elim (first_not_ascii 0 text) [ none ↦ limited (scan_text text) | some place ↦ refused 2 place ]
+      | true ↦ elim (first_not_ascii 0 text) [ None ↦ limited (scan_text text) | Some place ↦ refused 2 place ]
       | false ↦ refused 1 0
     ]
 

@@ -1,6 +1,5 @@
 -- Document 02, Ticket 2: from a text to its tokens, and the call that writes them as commands of a record.
-use Rattle.std.specs.Prelude.{ℕ, zero, suc, ◌/◌, ◌%◌, List, [], ◌∷◌, ◌++◌, true, false, length, take, leb, eqb}
-use Rattle.std.proofs.Math.Option.{none, some}
+use Rattle.std.specs.Prelude.{ℕ, zero, suc, ◌/◌, ◌%◌, List, [], ◌∷◌, ◌++◌, true, false, length, take, leb, eqb, None, Some}
 use Rattle.text.specs.Utf8.{first_broken}
 use Rattle.text.specs.Output.{Plain, plain, Reply, declined, fitted_plain}
 use Rattle.reader.specs.Tokens.{Tokens, no_tokens, token∷, max_tokens}
@@ -45,7 +44,7 @@ limited (tokens ts) = elim (leb (length ts.kinds) max_tokens) [ true ↦ tokens 
 unfoldable pub read : List ℕ → Scanned
 read text =
     elim (leb (length text) max_text) [
-      | true ↦ elim (first_broken text) [ none ↦ limited (scan_text text) | some place ↦ refused 2 place ]
+      | true ↦ elim (first_broken text) [ None ↦ limited (scan_text text) | Some place ↦ refused 2 place ]
       | false ↦ refused 1 0
     ]
 

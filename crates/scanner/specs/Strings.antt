@@ -1,6 +1,5 @@
 -- The Definition of Standard ML, 2.2: string and character constants. The alphabet has 256 characters; 32 to 126 are printable.
-use Rattle.std.specs.Prelude.{ℕ, zero, suc, ◌+◌, ◌-◌, ◌*◌, List, [], ◌∷◌, Bool, true, false, leb, eqb}
-use Rattle.std.proofs.Math.Option.{Option, none, some}
+use Rattle.std.specs.Prelude.{ℕ, zero, suc, ◌+◌, ◌-◌, ◌*◌, List, [], ◌∷◌, Bool, true, false, leb, eqb, Option, None, Some}
 use Rattle.text.specs.Bytes.{bytes, between, is_space, is_digit}
 use Rattle.scanner.specs.Parts.{behind, is_one_of}
 use Rattle.scanner.specs.Constants.{is_hex_digit}
@@ -83,18 +82,18 @@ is_closed closed = true
 
 -- How many characters the text denotes from a place on; none where it ends elsewhere than behind the closing quote.
 unfoldable pub characters : Place → List ℕ → Option ℕ
-characters place [] = elim (is_closed place) [ true ↦ some 0 | false ↦ none ]
+characters place [] = elim (is_closed place) [ true ↦ Some 0 | false ↦ None ]
 characters place (b ∷ t) =
     elim (next place b) [
-      | wrong ↦ none
+      | wrong ↦ None
       | to after ↦ characters after t
-      | character ↦ elim (characters between_characters t) [ none ↦ none | some n ↦ some (suc n) ]
+      | character ↦ elim (characters between_characters t) [ None ↦ None | Some n ↦ Some (suc n) ]
     ]
 
 -- A quote, printable characters and escapes, a quote.
 unfoldable pub is_string : List ℕ → Bool
-is_string t = behind (bytes "\"") (λ r. elim (characters between_characters r) [ none ↦ false | some n ↦ true ]) t
+is_string t = behind (bytes "\"") (λ r. elim (characters between_characters r) [ None ↦ false | Some n ↦ true ]) t
 
 -- `#` and a string constant that denotes one character.
 unfoldable pub is_character : List ℕ → Bool
-is_character t = behind (bytes "#\"") (λ r. elim (characters between_characters r) [ none ↦ false | some n ↦ eqb n 1 ]) t
+is_character t = behind (bytes "#\"") (λ r. elim (characters between_characters r) [ None ↦ false | Some n ↦ eqb n 1 ]) t

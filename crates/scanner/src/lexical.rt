@@ -1,19 +1,18 @@
 // The longest token at the start of a text, and the kind of a token.
 ghost use Rattle.std.specs.Prelude.{◌≡◌, ◌∷◌, true, false, drop};
-ghost use Rattle.text.specs.Bytes.{is_space, is_letter, is_digit, class_table};
+ghost use Rattle.text.specs.Bytes.{is_space, is_letter, is_digit};
 ghost use Rattle.scanner.specs.Lexical.{closes, longest, kind_of};
-ghost use Rattle.scanner.specs.Promises.Reach.{longer, reach, taken, kind_if, TellsSymbols};
+ghost use Rattle.scanner.specs.Promises.Reach.{longer, reach, kind_if};
 
-use crate::runs::Class;
-use crate::strings::Quoted;
-use crate::{numbers, runs, strings};
+use crate::runs::{is_alphanumeric, is_symbol, run, spaces, stands};
+use crate::{numbers, strings};
 
-// The end of a comment that starts with the two bytes before an offset; 0 where it has none.
-fn comment_end(s: &[u8], from: usize) -> usize
-    ensures { result ≡ taken (longer from (reach (λ t. closes t 1) (drop from s.now))) }
+// The end of a comment that starts with the two bytes before an offset.
+fn comment_end(s: &[u8], from: usize) -> Option<usize>
+    ensures { result ≡ longer from (reach (λ t. closes t 1) (drop from s.now)) }
 {
     if s.len() == 0 {
-        return 0;
+        return None;
     }
     let last = s.len() - 1;
     let mut at = from;
@@ -26,7 +25,7 @@ fn comment_end(s: &[u8], from: usize) -> usize
                 at += 1;
                 depth -= 1;
                 if depth == 0 {
-                    return at;
+                    return Some(at);
                 }
             }
             continue;
@@ -38,66 +37,58 @@ fn comment_end(s: &[u8], from: usize) -> usize
             }
         }
     }
-    0
+    None
 }
 
 // A token that starts with `~`.
-fn negation(table: &[u8; 256], symbols: &[u8; 256], rest: &[u8]) -> usize
-    requires rest_value { rest.now ≡ 126 ∷ drop 1 rest.now }
-    requires table_value { table.now ≡ class_table }
-    requires tells_symbols { TellsSymbols symbols.now }
+fn negation(rest: &[u8]) -> usize
+    requires { rest.now ≡ 126 ∷ drop 1 rest.now }
     ensures { result ≡ longest rest.now }
 {
-    let end = numbers::magnitude(table, rest, 1);
-    if end == 1 {
-        return runs::symbols(symbols, rest, 1);
+    if let Some(n) = numbers::magnitude(&rest[1..]) {
+        return 1 + n;
     }
-    end
+    run(rest, 1, is_symbol)
 }
 
 // A token that starts with `#`.
-fn hash(table: &[u8; 256], symbols: &[u8; 256], rest: &[u8]) -> usize
-    requires rest_value { rest.now ≡ 35 ∷ drop 1 rest.now }
-    requires table_value { table.now ≡ class_table }
-    requires tells_symbols { TellsSymbols symbols.now }
+fn hash(rest: &[u8]) -> usize
+    requires { rest.now ≡ 35 ∷ drop 1 rest.now }
     ensures { result ≡ longest rest.now }
 {
-    if !runs::stands(rest, 1, 34) {
-        return runs::symbols(symbols, rest, 1);
+    if !stands(rest, 1, b'"') {
+        return run(rest, 1, is_symbol);
     }
-    let Quoted::Ends { end, count } = strings::string(table, rest, 2) else {
+    let Some(string) = strings::string(rest, 2) else {
         return 1;
     };
-    if count == 1 {
-        return end;
+    if string.count == 1 {
+        return string.end;
     }
     1
 }
 
 // A token that starts with `"`.
-fn quoted(table: &[u8; 256], rest: &[u8]) -> usize
-    requires rest_value { rest.now ≡ 34 ∷ drop 1 rest.now }
-    requires table_value { table.now ≡ class_table }
+fn quoted(rest: &[u8]) -> usize
+    requires { rest.now ≡ 34 ∷ drop 1 rest.now }
     ensures { result ≡ longest rest.now }
 {
-    let Quoted::Ends { end, count: _ } = strings::string(table, rest, 1) else {
-        return 0;
-    };
-    end
+    match strings::string(rest, 1) {
+        Some(string) => string.end,
+        None => 0,
+    }
 }
 
 // A token that starts with a digit.
-fn number(table: &[u8; 256], rest: &[u8], b: u8) -> usize
+fn number(rest: &[u8], b: u8) -> usize
     requires rest_value { rest.now ≡ b ∷ drop 1 rest.now }
     requires b_value { is_digit b ≡ true }
-    requires table_value { table.now ≡ class_table }
     ensures { result ≡ longest rest.now }
 {
-    let end = numbers::word(table, rest);
-    if end == 0 {
-        return numbers::magnitude(table, rest, 0);
+    if let Some(n) = numbers::word(rest) {
+        return n;
     }
-    end
+    numbers::magnitude(rest).unwrap_or(0)
 }
 
 // A token that starts with `(`.
@@ -105,8 +96,8 @@ fn bracket(rest: &[u8]) -> usize
     requires { rest.now ≡ 40 ∷ drop 1 rest.now }
     ensures { result ≡ longest rest.now }
 {
-    if runs::stands(rest, 1, 42) {
-        return comment_end(rest, 2);
+    if stands(rest, 1, b'*') {
+        return comment_end(rest, 2).unwrap_or(0);
     }
     1
 }
@@ -116,8 +107,8 @@ fn dots(rest: &[u8]) -> usize
     requires { rest.now ≡ 46 ∷ drop 1 rest.now }
     ensures { result ≡ longest rest.now }
 {
-    if runs::stands(rest, 1, 46) {
-        if runs::stands(rest, 2, 46) {
+    if stands(rest, 1, b'.') {
+        if stands(rest, 2, b'.') {
             return 3;
         }
     }
@@ -125,23 +116,21 @@ fn dots(rest: &[u8]) -> usize
 }
 
 // A token that starts with none of letters, primes, digits, white space.
-fn other(table: &[u8; 256], symbols: &[u8; 256], rest: &[u8], b: u8) -> usize
+fn other(rest: &[u8], b: u8) -> usize
     requires rest_value { rest.now ≡ b ∷ drop 1 rest.now }
     requires b_value { (is_space b ≡ false) × (is_letter b ≡ false) × (b ≡ 39 → ⊥) × (is_digit b ≡ false) }
-    requires table_value { table.now ≡ class_table }
-    requires tells_symbols { TellsSymbols symbols.now }
     ensures { result ≡ longest rest.now }
 {
     match b {
-        34 => quoted(table, rest),
-        35 => hash(table, symbols, rest),
-        40 => bracket(rest),
-        46 => dots(rest),
-        126 => negation(table, symbols, rest),
-        41 | 44 | 59 | 91 | 93 | 95 | 123 | 125 => 1,
+        b'"' => quoted(rest),
+        b'#' => hash(rest),
+        b'(' => bracket(rest),
+        b'.' => dots(rest),
+        b'~' => negation(rest),
+        b')' | b',' | b';' | b'[' | b']' | b'_' | b'{' | b'}' => 1,
         _ => {
-            if runs::is_symbol(symbols, b) {
-                return runs::symbols(symbols, rest, 1);
+            if is_symbol(b) {
+                return run(rest, 1, is_symbol);
             }
             0
         }
@@ -149,28 +138,26 @@ fn other(table: &[u8; 256], symbols: &[u8; 256], rest: &[u8], b: u8) -> usize
 }
 
 // The length of the longest token at the start; 0 where none begins there.
-pub fn token_length(table: &[u8; 256], symbols: &[u8; 256], rest: &[u8]) -> usize
-    requires table_value { table.now ≡ class_table }
-    requires tells_symbols { TellsSymbols symbols.now }
+pub fn token_length(rest: &[u8]) -> usize
     ensures { result ≡ longest rest.now }
 {
     if rest.len() == 0 {
         return 0;
     }
     let b = rest[0];
-    if text::is_letter_in(table, b) {
-        return runs::run(table, rest, 1, Class::Alphanumeric);
+    if text::is_letter(b) {
+        return run(rest, 1, is_alphanumeric);
     }
-    if text::is_digit_in(table, b) {
-        return number(table, rest, b);
+    if text::is_digit(b) {
+        return number(rest, b);
     }
     if text::is_space(b) {
-        return runs::spaces(table, rest, 1);
+        return spaces(rest, 1);
     }
-    if b == 39 {
-        return runs::run(table, rest, 1, Class::Alphanumeric);
+    if b == b'\'' {
+        return run(rest, 1, is_alphanumeric);
     }
-    other(table, symbols, rest, b)
+    other(rest, b)
 }
 
 // The kind where the token is the word, else the other.
@@ -191,29 +178,29 @@ pub fn kind_of(token: &[u8]) -> u8
         return 0;
     }
     match token[0] {
-        40 => {
-            if runs::stands(token, 1, 42) {
+        b'(' => {
+            if stands(token, 1, b'*') {
                 return 1;
             }
             0
         }
-        46 => kind_if(token, b"...", 2, 0),
-        97 => kind_if(token, b"and", 3, kind_if(token, b"abstype", 9, 0)),
-        100 => kind_if(token, b"datatype", 8, kind_if(token, b"do", 15, 0)),
-        101 => kind_if(token, b"eqtype", 7, kind_if(token, b"exception", 10, 0)),
-        102 => kind_if(token, b"fun", 5, kind_if(token, b"functor", 19, 0)),
-        105 => kind_if(
+        b'.' => kind_if(token, b"...", 2, 0),
+        b'a' => kind_if(token, b"and", 3, kind_if(token, b"abstype", 9, 0)),
+        b'd' => kind_if(token, b"datatype", 8, kind_if(token, b"do", 15, 0)),
+        b'e' => kind_if(token, b"eqtype", 7, kind_if(token, b"exception", 10, 0)),
+        b'f' => kind_if(token, b"fun", 5, kind_if(token, b"functor", 19, 0)),
+        b'i' => kind_if(
             token,
             b"infix",
             12,
             kind_if(token, b"infixr", 13, kind_if(token, b"include", 20, 0)),
         ),
-        108 => kind_if(token, b"local", 16, 0),
-        110 => kind_if(token, b"nonfix", 14, 0),
-        111 => kind_if(token, b"open", 11, 0),
-        115 => kind_if(token, b"structure", 17, kind_if(token, b"signature", 18, 0)),
-        116 => kind_if(token, b"type", 6, 0),
-        118 => kind_if(token, b"val", 4, 0),
+        b'l' => kind_if(token, b"local", 16, 0),
+        b'n' => kind_if(token, b"nonfix", 14, 0),
+        b'o' => kind_if(token, b"open", 11, 0),
+        b's' => kind_if(token, b"structure", 17, kind_if(token, b"signature", 18, 0)),
+        b't' => kind_if(token, b"type", 6, 0),
+        b'v' => kind_if(token, b"val", 4, 0),
         _ => 0,
     }
 }

@@ -7,22 +7,20 @@ mod runs; // runs.rt: runs of bytes of a class
 mod strings; // strings.rt: string and character constants
 
 ghost use Rattle.std.specs.Prelude.{◌≡◌, ◌++◌, ℕ, ◌*◌, ◌≤◌, ◌<◌, length, get_or, drop};
-ghost use Rattle.text.specs.Bytes.{class_table};
 ghost use Rattle.reader.specs.Promises.Tokens.{Long};
 ghost use Rattle.reader.specs.Reading.{max_text};
-ghost use Rattle.scanner.specs.Promises.Reach.{TellsSymbols};
 ghost use Rattle.scanner.specs.Scan.{number_at, commands, scan as scan·};
+ghost use Rattle.scanner.specs.declared.ScanError.TheVariants.{Refused};
 ghost use Rattle.scanner.specs.Answers.{number_of, place_of, reply_of};
 ghost use Rattle.scanner.specs.Promises.Answers.{Kept, Fills, Reads};
 
 use lexical::{kind_of, token_length};
 use reader::MAX_TEXT;
 use reader::tokens::MAX_TOKENS;
-use runs::symbol_table;
-use text::{Broken, first_broken};
+use text::first_broken;
 
 // Why a text is refused.
-#[derive(Clone, Copy)]
+#[derive(Clone, Copy, Debug, PartialEq, Eq)]
 pub enum Refusal {
     // The text has too many bytes or too many tokens.
     TooLong,
@@ -36,22 +34,20 @@ pub enum Refusal {
     BeginsNoToken(usize),
 }
 
-// The answer of `tables`.
-#[derive(Clone, Copy)]
-pub enum Tabled {
-    // The number of tokens, which stand first in the tables.
-    Tokens(usize),
-    Refused(Refusal),
-}
-
-// The answer of `scan`.
-#[derive(Clone, Copy)]
-pub enum Scanned {
-    // How many bytes were written at the output's start.
-    Written(usize),
+// Why `scan` writes nothing.
+#[derive(Clone, Copy, Debug, PartialEq, Eq)]
+pub enum ScanError {
     Refused(Refusal),
     // The output is shorter than the commands.
     OutputTooShort,
+}
+
+impl From<Refusal> for ScanError {
+    ghost from_gives = { λ why e. e ≡ Refused why };
+
+    fn from(why: Refusal) -> ScanError {
+        ScanError::Refused(why)
+    }
 }
 
 // ---- tables of tokens
@@ -59,13 +55,11 @@ pub enum Scanned {
 fn refused_at(b: u8, at: usize) -> Refusal
     ensures { (number_of result ≡ number_at b) × (place_of result ≡ at) }
 {
-    if b == 40 {
-        return Refusal::OpenComment(at);
+    match b {
+        b'(' => Refusal::OpenComment(at),
+        b'"' => Refusal::NoString(at),
+        _ => Refusal::BeginsNoToken(at),
     }
-    if b == 34 {
-        return Refusal::NoString(at);
-    }
-    Refusal::BeginsNoToken(at)
 }
 
 // Puts a token into the tables, where they have an entry for it.
@@ -91,26 +85,22 @@ fn keep(
 
 // Fills the tables from the front. Tokens past their end are counted.
 fn fill(
-    table: &[u8; 256],
-    symbols: &[u8; 256],
     text: &[u8],
     kinds: &mut [u8],
     starts: &mut [u16],
     lens: &mut [u16],
-) -> Tabled
+) -> Result<usize, Refusal>
     requires text_len_bound { length text.now ≤ max_text }
     requires long { Long kinds.old starts.old lens.old }
-    requires table_value { table.now ≡ class_table }
-    requires tells_symbols { TellsSymbols symbols.now }
     ensures { Fills text.now kinds.new starts.new lens.new result }
 {
     let mut count: usize = 0;
     let mut at: usize = 0;
     while at < text.len() {
         let rest = &text[at..];
-        let len = token_length(table, symbols, rest);
+        let len = token_length(rest);
         if len == 0 {
-            return Tabled::Refused(refused_at(text[at], at));
+            return Err(refused_at(text[at], at));
         }
         let kind = kind_of(&rest[..len]);
         keep(kinds, starts, lens, count, kind, at as u16, len as u16);
@@ -118,9 +108,9 @@ fn fill(
         at += len;
     }
     if MAX_TOKENS < count {
-        return Tabled::Refused(Refusal::TooLong);
+        return Err(Refusal::TooLong);
     }
-    Tabled::Tokens(count)
+    Ok(count)
 }
 
 // The tokens of a text: 1 and 2, then 10 to 12, then 1 for the tokens. The tables hold them where none is told.
@@ -129,18 +119,16 @@ pub fn tables(
     kinds: &mut [u8; 4096],
     starts: &mut [u16; 4096],
     lens: &mut [u16; 4096],
-) -> Tabled
+) -> Result<usize, Refusal>
     ensures { Reads text.now kinds.new starts.new lens.new result }
 {
     if MAX_TEXT < text.len() {
-        return Tabled::Refused(Refusal::TooLong);
+        return Err(Refusal::TooLong);
     }
-    if let Broken::At(place) = first_broken(text) {
-        return Tabled::Refused(Refusal::NotUtf8(place));
+    if let Some(place) = first_broken(text) {
+        return Err(Refusal::NotUtf8(place));
     }
-    let table = text::classes();
-    let symbols = symbol_table();
-    fill(&table, &symbols, text, kinds, starts, lens)
+    fill(text, kinds, starts, lens)
 }
 
 // ---- commands of a record
@@ -163,22 +151,17 @@ fn write(kinds: &[u8], lens: &[u16], out: &mut [u8])
 }
 
 // The tokens of a text as commands at the output's start.
-pub fn scan(text: &[u8], out: &mut [u8]) -> Scanned
+pub fn scan(text: &[u8], out: &mut [u8]) -> Result<usize, ScanError>
     ensures { reply_of result out.new ≡ scan· text.now out.old }
 {
     let mut kinds = [0u8; 4096];
     let mut starts = [0u16; 4096];
     let mut lens = [0u16; 4096];
-    let found = tables(text, &mut kinds, &mut starts, &mut lens);
-    match found {
-        Tabled::Tokens(count) => {
-            let size = 4 * count;
-            if out.len() < size {
-                return Scanned::OutputTooShort;
-            }
-            write(&kinds[..count], &lens[..count], out);
-            Scanned::Written(size)
-        }
-        Tabled::Refused(why) => Scanned::Refused(why),
+    let count = tables(text, &mut kinds, &mut starts, &mut lens)?;
+    let size = 4 * count;
+    if out.len() < size {
+        return Err(ScanError::OutputTooShort);
     }
+    write(&kinds[..count], &lens[..count], out);
+    Ok(size)
 }

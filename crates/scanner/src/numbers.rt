@@ -1,125 +1,84 @@
-// Integer, word and real constants. Each function gives the end of what stands at an offset; the offset itself where nothing does.
-ghost use Rattle.std.specs.Prelude.{◌≡◌, ◌+◌, drop};
-ghost use Rattle.text.specs.Bytes.{bytes, class_table};
-ghost use Rattle.scanner.specs.Parts.{is_one_of};
+// Integer, word and real constants. Each function gives the length of what stands at the start.
+ghost use Rattle.std.specs.Prelude.{◌≡◌};
+ghost use Rattle.text.specs.Bytes.{bytes, is_digit};
+ghost use Rattle.scanner.specs.Parts.{one_or_more, is_one_of};
 ghost use Rattle.scanner.specs.Constants.{is_decimal, is_exponent, is_fraction, is_word};
-ghost use Rattle.scanner.specs.Promises.Reach.{reach, taken, is_hexadecimal, is_magnitude};
+ghost use Rattle.scanner.specs.Promises.Reach.{reach, is_hexadecimal, is_magnitude};
 
-use crate::runs;
-use crate::runs::Class;
+use crate::runs::{is_hex_digit, run_of_some};
+
+fn digits(s: &[u8]) -> Option<usize>
+    ensures { result ≡ reach (one_or_more is_digit) s.now }
+{
+    run_of_some(s, text::is_digit)
+}
 
 // An optional negation symbol, then digits.
-fn decimal(table: &[u8; 256], s: &[u8], at: usize) -> usize
-    requires { table.now ≡ class_table }
-    ensures { result ≡ at + taken (reach is_decimal (drop at s.now)) }
+fn decimal(s: &[u8]) -> Option<usize>
+    ensures { result ≡ reach is_decimal s.now }
 {
-    if runs::stands(s, at, 126) {
-        let end = runs::run(table, s, at + 1, Class::Digit);
-        if end == at + 1 {
-            return at;
-        }
-        return end;
+    match s.strip_prefix(b"~") {
+        Some(rest) => Some(1 + digits(rest)?),
+        None => digits(s),
     }
-    runs::run(table, s, at, Class::Digit)
 }
 
 fn is_exponent_symbol(b: u8) -> bool
     ensures { result ≡ is_one_of (bytes "Ee") b }
 {
-    b == 69 || b == 101
+    matches!(b, b'E' | b'e')
 }
 
 // `E` or `e`, then an integer.
-fn exponent(table: &[u8; 256], s: &[u8], at: usize) -> usize
-    requires { table.now ≡ class_table }
-    ensures { result ≡ at + taken (reach is_exponent (drop at s.now)) }
+fn exponent(s: &[u8]) -> Option<usize>
+    ensures { result ≡ reach is_exponent s.now }
 {
-    if s.len() <= at {
-        return at;
+    let (b, rest) = s.split_first()?;
+    if !is_exponent_symbol(*b) {
+        return None;
     }
-    if !is_exponent_symbol(s[at]) {
-        return at;
-    }
-    let end = decimal(table, s, at + 1);
-    if end == at + 1 {
-        return at;
-    }
-    end
+    Some(1 + decimal(rest)?)
 }
 
 // A point and digits, with the exponent behind them.
-fn fraction(table: &[u8; 256], s: &[u8], at: usize) -> usize
-    requires { table.now ≡ class_table }
-    ensures { result ≡ at + taken (reach is_fraction (drop at s.now)) }
+fn fraction(s: &[u8]) -> Option<usize>
+    ensures { result ≡ reach is_fraction s.now }
 {
-    if !runs::stands(s, at, 46) {
-        return at;
-    }
-    let end = runs::run(table, s, at + 1, Class::Digit);
-    if end == at + 1 {
-        return at;
-    }
-    exponent(table, s, end)
+    let rest = s.strip_prefix(b".")?;
+    let n = digits(rest)?;
+    Some(1 + n + exponent(&rest[n..]).unwrap_or(0))
 }
 
 // `0x` and hexadecimal digits.
-fn hexadecimal(table: &[u8; 256], s: &[u8], at: usize) -> usize
-    requires { table.now ≡ class_table }
-    ensures { result ≡ at + taken (reach is_hexadecimal (drop at s.now)) }
+fn hexadecimal(s: &[u8]) -> Option<usize>
+    ensures { result ≡ reach is_hexadecimal s.now }
 {
-    if !runs::stands(s, at, 48) {
-        return at;
-    }
-    if !runs::stands(s, at + 1, 120) {
-        return at;
-    }
-    let end = runs::run(table, s, at + 2, Class::HexDigit);
-    if end == at + 2 {
-        return at;
-    }
-    end
+    let rest = s.strip_prefix(b"0x")?;
+    Some(2 + run_of_some(rest, is_hex_digit)?)
 }
 
 // An integer or a real without a negation symbol.
-pub fn magnitude(table: &[u8; 256], s: &[u8], at: usize) -> usize
-    requires { table.now ≡ class_table }
-    ensures { result ≡ at + taken (reach is_magnitude (drop at s.now)) }
+pub fn magnitude(s: &[u8]) -> Option<usize>
+    ensures { result ≡ reach is_magnitude s.now }
 {
-    let hex = hexadecimal(table, s, at);
-    if hex != at {
-        return hex;
+    if let Some(n) = hexadecimal(s) {
+        return Some(n);
     }
-    let end = runs::run(table, s, at, Class::Digit);
-    if end == at {
-        return at;
+    let n = digits(s)?;
+    let rest = &s[n..];
+    if let Some(k) = fraction(rest) {
+        return Some(n + k);
     }
-    if runs::stands(s, end, 46) {
-        return fraction(table, s, end);
-    }
-    exponent(table, s, end)
+    Some(n + exponent(rest).unwrap_or(0))
 }
 
 // A word constant.
-pub fn word(table: &[u8; 256], s: &[u8]) -> usize
-    requires { table.now ≡ class_table }
-    ensures { result ≡ taken (reach is_word s.now) }
+pub fn word(s: &[u8]) -> Option<usize>
+    ensures { result ≡ reach is_word s.now }
 {
-    if !runs::stands(s, 0, 48) {
-        return 0;
+    let rest = s.strip_prefix(b"0w")?;
+    match rest.strip_prefix(b"x") {
+        Some(hex) => Some(3 + run_of_some(hex, is_hex_digit)?),
+        None => Some(2 + digits(rest)?),
     }
-    if !runs::stands(s, 1, 119) {
-        return 0;
-    }
-    if runs::stands(s, 2, 120) {
-        let hex = runs::run(table, s, 3, Class::HexDigit);
-        if hex == 3 {
-            return 0;
-        }
-        return hex;
-    }
-    let end = runs::run(table, s, 2, Class::Digit);
-    if end == 2 {
-        return 0;
-    }
-    end
 }

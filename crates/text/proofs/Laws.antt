@@ -6,9 +6,10 @@ use mathlib.Core.Path.{◌≡◌, refl, sym, ap, ◌∙◌}
 use mathlib.Core.Bool.{Bool, true, false, ◌&&◌, ◌||◌, and-false, false≢true}
 use mathlib.Core.List.{List, [], ◌∷◌, ◌++◌, map, reverse, reverse-append, reverse-reverse}
 use lib.Dec.{leb, eqb}
-use lib.ListN.{length, get_or, take, drop, set, length-take, length-drop, length-reverse, drop_of_length-le, take-append-drop}
-use lib.Seq.{drop-cons, drop-drop, take_all, take-take, length-take-le, drop_at, paste, paste-suc}
-use borrow.Author.Tests.{lt-leb, eq-eqb, ne_eqb, eqb-true, leb-true}
+use lib.Pointwise.{pointwise}
+use lib.ListN.{length, get_or, take, drop, set, length-take, length-drop, length-reverse, take-append-drop}
+use lib.Seq.{take_all, drop_at, paste, paste-suc}
+use borrow.Author.Tests.{lt-leb, eq-eqb, eqb-true, leb-true}
 use Rattle.text.proofs.Computed.{and_right}
 use Rattle.text.specs.Bytes.{between, is_letter, is_digit, letter_entry, digit_entry, other_entry, class_of, classes_from, class_table, same_bytes, first_is, white_space, starts_with, leading, strip_from, strip, trim_start, trim_end, trim}
 
@@ -63,11 +64,11 @@ class-digit b = go (is_letter b) (is_digit b) refl refl
     go false true e f = refl
     go false false e f = refl
 
-pub letter_entry_lem : (table : List ℕ) (b : ℕ) → b < 256 → table ≡ class_table → eqb (get_or table b 0) letter_entry ≡ is_letter b
-letter_entry_lem table b h e = ap (λ (t : List ℕ). eqb (get_or t b 0) letter_entry) e ∙ ap (λ (x : ℕ). eqb x letter_entry) (entry b h) ∙ class_letter b
+pub letter_at : (b : ℕ) → b < 256 → eqb (get_or class_table b 0) letter_entry ≡ is_letter b
+letter_at b h = ap (λ (x : ℕ). eqb x letter_entry) (entry b h) ∙ class_letter b
 
-pub digit-entry : (table : List ℕ) (b : ℕ) → b < 256 → table ≡ class_table → eqb (get_or table b 0) digit_entry ≡ is_digit b
-digit-entry table b h e = ap (λ (t : List ℕ). eqb (get_or t b 0) digit_entry) e ∙ ap (λ (x : ℕ). eqb x digit_entry) (entry b h) ∙ class-digit b
+pub digit_at : (b : ℕ) → b < 256 → eqb (get_or class_table b 0) digit_entry ≡ is_digit b
+digit_at b h = ap (λ (x : ℕ). eqb x digit_entry) (entry b h) ∙ class-digit b
 
 -- The first byte.
 pub first-none : (test : ℕ → Bool) (s : List ℕ) → length s ≡ 0 → first_is test s ≡ false
@@ -92,18 +93,13 @@ same_lengths (b ∷ bs) (c ∷ cs) h = go (eqb b c) (same_lengths bs cs (λ e. h
     go true f = f
     go false f = refl
 
-module _ (a b : List ℕ) (i : ℕ) where
-  pub same_end : length a ≤ i → length b ≤ i → same_bytes (drop i a) (drop i b) ≡ true
-  unfolding same_bytes
-  same_end g h = rw (drop_of_length-le a g, drop_of_length-le b h)
-
-  pub same_more : i < length a → i < length b → get_or a i 0 ≡ get_or b i 0 → same_bytes (drop i a) (drop i b) ≡ same_bytes (drop (i + 1) a) (drop (i + 1) b)
-  unfolding same_bytes
-  same_more g h e = rw (add-one, drop-cons a i 0, drop-cons b i 0, same_bytes, eq-eqb _ _ e)
-
-  pub same_not : i < length a → i < length b → (get_or a i 0 ≡ get_or b i 0 → ⊥) → same_bytes (drop i a) (drop i b) ≡ false
-  unfolding same_bytes
-  same_not g h e = rw (drop-cons a i 0, drop-cons b i 0, same_bytes, ne_eqb _ _ e)
+-- What `==` answers at two runs.
+pub same-is : (a b : List ℕ) → pointwise eqb a b ≡ same_bytes a b
+unfolding same_bytes
+same-is [] [] = refl
+same-is [] (c ∷ cs) = refl
+same-is (b ∷ bs) [] = refl
+same-is (b ∷ bs) (c ∷ cs) = ap (λ (t : Bool). eqb b c && t) (same-is bs cs)
 
 pub same_true : (a b : List ℕ) → same_bytes a b ≡ true → a ≡ b
 unfolding same_bytes
@@ -186,31 +182,29 @@ reverse_drop s a h =
     ap (drop a) e ∙ drop_at (reverse v) (reverse u) a (length-reverse v ∙ length-drop (length s - a) s ∙ omega arith)
 
 -- The two scans.
-module _ (s : List ℕ) (i : ℕ) {n : ℕ} where
-  pub start-within : i ≤ length s → n ≡ leading white_space (drop i s) → i + n ≤ length s
-  start-within h e = omega (arith, leading-within white_space (drop i s), length-drop i s)
+module _ (t : List ℕ) {n : ℕ} where
+  module _ (e : n ≡ leading white_space t) where
+    pub start-within : n ≤ length t
+    start-within = omega (arith, leading-within white_space t)
 
-  pub start-more : n ≡ leading white_space (drop i s) → (n ≡ 0 → ⊥) → strip white_space (drop i s) ≡ strip white_space (drop (i + n) s)
-  start-more e z = strip-some white_space (drop i s) n e z ∙ ap (strip white_space) (drop-drop n i s)
+    module _ (z : n ≡ 0 → ⊥) where
+      pub start-less : length (take (length t - n) (drop n t)) < length t
+      start-less = rw (take_rest t n) (omega (arith, z, start-within, length-drop n t))
 
-  module _ (h : i ≤ length s) (e : n ≡ leading (map reverse white_space) (reverse (take i s))) where
-    pub end-within : n ≤ i
-    end-within = omega (arith, leading-within (map reverse white_space) (reverse (take i s)), length-reverse (take i s), length-take-le i s h)
+      pub start-more : strip white_space t ≡ strip white_space (take (length t - n) (drop n t))
+      start-more = strip-some white_space t n e z ∙ ap (strip white_space) (sym (take_rest t n))
 
-    pub end_more : (n ≡ 0 → ⊥) → strip (map reverse white_space) (reverse (take i s)) ≡ strip (map reverse white_space) (reverse (take (i - n) s))
+  module _ (e : n ≡ leading (map reverse white_space) (reverse t)) where
+    pub end-within : n ≤ length t
+    end-within = omega (arith, leading-within (map reverse white_space) (reverse t), length-reverse t)
+
+    pub end_less : (n ≡ 0 → ⊥) → length (take (length t - n) t) < length t
+    end_less z = omega (arith, z, end-within, length-take (length t - n) t)
+
+    pub end_more : (n ≡ 0 → ⊥) → strip (map reverse white_space) (reverse t) ≡ strip (map reverse white_space) (reverse (take (length t - n) t))
     end_more z =
-        let l = length-take-le i s h in
-        let w = end-within in
-        strip-some (map reverse white_space) (reverse (take i s)) n e z
-        ∙ ap (strip (map reverse white_space))
-        (reverse_drop (take i s) n (rw l w)
-        ∙ ap (λ (k : ℕ). reverse (take (k - n) (take i s))) l
-        ∙ ap reverse (take-take (i - n) i s (omega arith)))
-
--- The two scans give the two ends of the trimmed part.
-pub trim-of : (s : List ℕ) (a e : ℕ) → trim_start s ≡ drop a s → trim_end (take (length s - a) (drop a s)) ≡ take e (take (length s - a) (drop a s)) → take e (take (length s - a) (drop a s)) ≡ trim s
-unfolding trim
-trim-of s a e f g = sym g ∙ ap trim_end (take_rest s a ∙ sym f)
+        strip-some (map reverse white_space) (reverse t) n e z
+        ∙ ap (strip (map reverse white_space)) (reverse_drop t n end-within)
 
 -- Trimming gives a part.
 trim-start_part : (s : List ℕ) → (a : ℕ) × (a ≤ length s) × (trim_start s ≡ drop a s)

@@ -1,5 +1,5 @@
 -- White space as words of one, two and three bytes, read forwards and backwards. Assumes nothing.
-use Prim.Native.Nat.{ℕ, zero, suc, ◌+◌, ◌-◌, ◌≤◌, ◌<◌}
+use Prim.Native.Nat.{ℕ, suc, ◌+◌, ◌-◌, ◌≤◌, ◌<◌}
 use native.Mathlib.Numerals.{add-one}
 use native.Mathlib.Omega.{arith}
 use mathlib.Core.Path.{◌≡◌, refl, sym, ap, ap₂, ◌∙◌}
@@ -7,7 +7,7 @@ use mathlib.Core.Bool.{Bool, true, false, ◌&&◌, ◌||◌, and-true, or-false
 use mathlib.Core.List.{List, [], ◌∷◌, ◌++◌, map, reverse, reverse-append, reverse-reverse}
 use lib.Dec.{eqb}
 use lib.ListN.{length, get_or, take, drop, drop_of_length-le, length-reverse}
-use lib.Seq.{drop-cons, take-suc}
+use lib.Seq.{drop-cons, take-suc, take-length}
 use borrow.Author.Tests.{eq-eqb, ne_eqb, eqb-true}
 use Rattle.text.specs.Utf8.{encode}
 use Rattle.text.specs.Bytes.{between, is_space, white_space_codes, white_space, starts_with, leading, same_bytes}
@@ -306,6 +306,9 @@ module _ (s : List ℕ) (at : ℕ) where
 last_byte : (s : List ℕ) (k : ℕ) → k < length s → reverse (take (suc k) s) ≡ get_or s k 0 ∷ reverse (take k s)
 last_byte s k h = ap reverse (take-suc s k 0 h) ∙ reverse-append (take k s) (get_or s k 0 ∷ [])
 
+pub whole : (s : List ℕ) → reverse s ≡ reverse (take (length s) s)
+whole s = ap reverse (sym (take-length s))
+
 module _ (s : List ℕ) (end : ℕ) (l : end ≤ length s) where
   pub last_one : 0 < end → reverse (take end s) ≡ get_or s (end - 1) 0 ∷ reverse (take (end - 1) s)
   last_one h =
@@ -338,7 +341,7 @@ pub past : (s : List ℕ) (at : ℕ) → length s ≤ at → 0 ≡ leading white
 unfolding leading starts_with white_space white_space_codes encode
 past s at h = rw (drop_of_length-le s h)
 
-pub before-all : (s : List ℕ) (end : ℕ) → end < 1 → 0 ≡ leading (map reverse white_space) (reverse (take end s))
+pub nothing_before : (s : List ℕ) → length s < 1 → 0 ≡ leading (map reverse white_space) (reverse s)
 unfolding leading starts_with white_space white_space_codes encode
-before-all s zero h = refl
-before-all s (suc end) h = absurd (omega arith)
+nothing_before [] h = refl
+nothing_before (b ∷ s) h = absurd (omega (arith, h))

@@ -5,7 +5,7 @@ use native.Mathlib.Omega.{arith}
 use mathlib.Core.Path.{◌≡◌, refl, sym, ap, ap₂, subst, ◌∙◌}
 use mathlib.Core.Bool.{Bool, true, false, not, ◌&&◌, ◌||◌, false≢true}
 use mathlib.Core.List.{List, [], ◌∷◌, ◌++◌, map, reverse, reverse-append, reverse-reverse, append_assoc, append-nil}
-use mathlib.Core.Option.{Option, none, some}
+use Rattle.std.specs.Prelude.{Option, None, Some}
 use lib.Dec.{leb, eqb}
 use lib.ListN.{length, take, drop, length-take, length-drop, length-append, length-reverse}
 use lib.Seq.{get_or-take, drop_at, take_at, drop-append-add}
@@ -24,7 +24,7 @@ broken_char : (at : ℕ) (u t : List ℕ) → 0 < length u → char_at (u ++ t) 
 broken_char at [] t h e = absurd (omega arith)
 broken_char at (b ∷ u) t h e = broken_cons at b (u ++ t) (length u) e ∙ ap (broken_from 0 (at + suc (length u))) (drop_at u t (length u) refl)
 
-encoded-whole : (at : ℕ) (cs : List ℕ) → All Scalar cs → broken_from 0 at (encoded cs) ≡ none
+encoded-whole : (at : ℕ) (cs : List ℕ) → All Scalar cs → broken_from 0 at (encoded cs) ≡ None
 unfolding encoded All broken_from
 encoded-whole at [] p = refl
 encoded-whole at (c ∷ cs) p =
@@ -37,21 +37,21 @@ unfolding encoded All
 encodes_more c rest s e r =
     record { codes = c ∷ r.codes; scalar = (s, r.scalar); is = e ∙ ap (λ (l : List ℕ). encode c ++ l) r.is }
 
-broken_not : (at b : ℕ) (t : List ℕ) → char_at (b ∷ t) ≡ 0 → broken_from 0 at (b ∷ t) ≡ none → ◌≡◌ {A = ℕ} 0 1
+broken_not : (at b : ℕ) (t : List ℕ) → char_at (b ∷ t) ≡ 0 → broken_from 0 at (b ∷ t) ≡ None → ◌≡◌ {A = ℕ} 0 1
 unfolding broken_from
 broken_not at b t f e = let g = rw (broken_from, f) at e in absurd (some-none g)
   where
-    some-none : ◌≡◌ {A = Option ℕ} (some at) none → ⊥
+    some-none : ◌≡◌ {A = Option ℕ} (Some at) None → ⊥
     some-none h = never (cc)
 
-whole_encodes : (n at : ℕ) (t : List ℕ) → length t ≤ n → broken_from 0 at t ≡ none → Encodes t
+whole_encodes : (n at : ℕ) (t : List ℕ) → length t ≤ n → broken_from 0 at t ≡ None → Encodes t
 unfolding encoded All
 whole_encodes zero at [] l e = record { codes = []; scalar = tt; is = refl }
 whole_encodes (suc n) at [] l e = record { codes = []; scalar = tt; is = refl }
 whole_encodes zero at (b ∷ t) l e = absurd (omega arith)
 whole_encodes (suc n) at (b ∷ t) l e = go (char_at (b ∷ t)) refl (λ at' t' l' e'. whole_encodes n at' t' l' e')
   where
-    go : (w : ℕ) → char_at (b ∷ t) ≡ w → ((at' : ℕ) (t' : List ℕ) → length t' ≤ n → broken_from 0 at' t' ≡ none → Encodes t') → Encodes (b ∷ t)
+    go : (w : ℕ) → char_at (b ∷ t) ≡ w → ((at' : ℕ) (t' : List ℕ) → length t' ≤ n → broken_from 0 at' t' ≡ None → Encodes t') → Encodes (b ∷ t)
     go zero f ih = never (broken_not at b t f e)
     go (suc m) f ih =
         let p = char-starts (b ∷ t) m f in
@@ -61,11 +61,11 @@ whole_encodes (suc n) at (b ∷ t) l e = go (char_at (b ∷ t)) refl (λ at' t' 
         (ap (broken_from 0 (at + suc m)) (sym d) ∙ sym (broken_cons at b t m f) ∙ e))
 
 -- A text passes 2 exactly when it is a list of encoded scalar values, joined.
-pub passes-encodes : (text : List ℕ) → first_broken text ≡ none → Encodes text
+pub passes-encodes : (text : List ℕ) → first_broken text ≡ None → Encodes text
 unfolding first_broken
 passes-encodes text e = whole_encodes (length text) 0 text (omega arith) e
 
-pub encodes-passes : (text : List ℕ) → Encodes text → first_broken text ≡ none
+pub encodes-passes : (text : List ℕ) → Encodes text → first_broken text ≡ None
 unfolding first_broken
 encodes-passes text e = ap (broken_from 0 0) e.is ∙ encoded-whole 0 e.codes e.scalar
 
@@ -426,7 +426,7 @@ trim-narrow t h =
     ∙ narrow-encoded (drop_ends is_white_space t) (all-ends Narrow is_white_space t p)
     ∙ narrow_ends t p
 
-pub none_wide : (i : ℕ) (t : List ℕ) → Ascii t → first_not_ascii i t ≡ none
+pub none_wide : (i : ℕ) (t : List ℕ) → Ascii t → first_not_ascii i t ≡ None
 unfolding first_not_ascii
 none_wide i [] h = refl
 none_wide i (b ∷ t) h = rw (first_not_ascii, lt-leb 128 b (h 0 (omega arith))) (none_wide (suc i) t (λ k l. h (suc k) (omega (arith, l))))

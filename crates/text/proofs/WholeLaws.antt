@@ -2,9 +2,9 @@
 use Prim.Native.Nat.{ℕ, zero, suc, ◌+◌, ◌-◌, ◌≤◌, ◌<◌}
 use native.Mathlib.Omega.{arith}
 use mathlib.Core.Path.{◌≡◌, refl, sym, ap, subst, ◌∙◌}
-use mathlib.Core.Bool.{Bool, true, false, ◌&&◌}
+use mathlib.Core.Bool.{Bool, true, false, not, beq, ◌&&◌, ◌||◌, false≢true}
 use mathlib.Core.List.{List, [], ◌∷◌, ◌++◌}
-use mathlib.Core.Option.{none}
+use Rattle.std.specs.Prelude.{None}
 use lib.Dec.{leb, eqb}
 use lib.ListN.{length, get_or, take, drop}
 use lib.Seq.{get_or-take, length-take-le}
@@ -31,24 +31,51 @@ module _ (lo hi b : ℕ) where
 abbrev Inside : ℕ → Type 0
 Inside b = (0x80 ≤ b) × (b ≤ 0xBF)
 
-module _ (a b c d n : ℕ) (p : (0xF0 ≤ a → 0 < n) × (0xE0 ≤ b → 0 < n) × (0xC0 ≤ c → 0 < n) × (a < 0xF0 → b < 0xE0 → c < 0xC0 → n ≡ 0)) where
-  pub asked-inside : (n ≡ 0 → ⊥) → Inside d → Asked a b c d
+not_from : (x k : ℕ) → (k ≤ x → ⊥) → x < k
+not_from x k h = omega (arith, h)
+
+module _ (a b c d : ℕ) {n : Bool} (p : (0xF0 ≤ a → n ≡ true) × (0xE0 ≤ b → n ≡ true) × (0xC0 ≤ c → n ≡ true) × (a < 0xF0 → b < 0xE0 → c < 0xC0 → n ≡ false)) where
+  asked-inside : n ≡ true → Inside d → Asked a b c d
   asked-inside e q =
       record {
         fourth = λ g. q;
         third = λ g. q;
         second = λ g. q;
-        none_asks = λ x y z g. absurd (e (p.3 x y z));
+        none_asks = λ x y z g. absurd (false≢true (sym (p.3 x y z) ∙ e));
       }
 
-  pub asked-outside : n ≡ 0 → (0x80 ≤ d → 0xBF < d) → Asked a b c d
+  asked-outside : n ≡ false → (0x80 ≤ d → 0xBF < d) → Asked a b c d
   asked-outside e q =
       record {
-        fourth = λ g. absurd (omega (arith, e, p.0 g));
-        third = λ g. absurd (omega (arith, e, p.1 g));
-        second = λ g. absurd (omega (arith, e, p.2 g));
+        fourth = λ g. absurd (false≢true (sym e ∙ p.0 g));
+        third = λ g. absurd (false≢true (sym e ∙ p.1 g));
+        second = λ g. absurd (false≢true (sym e ∙ p.2 g));
         none_asks = λ x y z g. q g;
       }
+
+  pub asked_is : (t : Bool) → t ≡ between 0x80 0xBF d → not (beq t n) ≡ false → Asked a b c d
+  asked_is true f z = go n refl z
+    where
+      go : (m : Bool) → n ≡ m → not (beq true m) ≡ false → Asked a b c d
+      go true e h = asked-inside e (inside 0x80 0xBF d (sym f))
+      go false e h = absurd (false≢true (sym h))
+  asked_is false f z = go n refl z
+    where
+      go : (m : Bool) → n ≡ m → not (beq false m) ≡ false → Asked a b c d
+      go false e h = asked-outside e (outside 0x80 0xBF d (sym f))
+      go true e h = absurd (false≢true (sym h))
+
+  pub none_asked : n ≡ false → (a < 0xF0) × (b < 0xE0) × (c < 0xC0)
+  none_asked e = (not_from a 0xF0 (λ g. false≢true (sym e ∙ p.0 g)), not_from b 0xE0 (λ g. false≢true (sym e ∙ p.1 g)), not_from c 0xC0 (λ g. false≢true (sym e ∙ p.2 g)))
+
+-- `a || b` and `a && b` are false.
+pub neither : (a b : Bool) → (a || b) ≡ false → (a ≡ false) × (b ≡ false)
+neither true b h = absurd (false≢true (sym h))
+neither false b h = (refl, h)
+
+pub not_both : (a b : Bool) → (a && b) ≡ false → b ≡ true → a ≡ false
+not_both true b h e = absurd (false≢true (sym h ∙ e))
+not_both false b h e = refl
 
 -- ---- a text of such bytes
 module _ (s : List ℕ) (known : (i : ℕ) → i < length s → get_or s i 0 ≤ 0xF3) (f : AllFollow s) (e1 : get_or s (length s - 1) 0 < 0xC0) (e2 : get_or s (length s - 2) 0 < 0xE0) (e3 : get_or s (length s - 3) 0 < 0xF0) where
@@ -258,11 +285,11 @@ module _ (s : List ℕ) (known : (i : ℕ) → i < length s → get_or s i 0 ≤
         go false q false r true t = let v = leb-false (at i) 0xDF r in threes (omega (arith, v)) (leb-true (at i) 0xEF t)
         go false q false r false t = let v = leb-false (at i) 0xEF t in fours (omega (arith, v)) (known i h)
 
-  whole_from : (n i : ℕ) → length s ≤ i + n → 3 ≤ i → i ≤ length s → Free i → broken_from 0 i (drop i s) ≡ none
+  whole_from : (n i : ℕ) → length s ≤ i + n → 3 ≤ i → i ≤ length s → Free i → broken_from 0 i (drop i s) ≡ None
   whole_from zero i l h m p = broken-none s i (omega arith)
   whole_from (suc n) i l h m p = go (leb (length s) i) refl (λ j a b c d. whole_from n j a b c d)
     where
-      go : (x : Bool) → leb (length s) i ≡ x → ((j : ℕ) → length s ≤ j + n → 3 ≤ j → j ≤ length s → Free j → broken_from 0 j (drop j s) ≡ none) → broken_from 0 i (drop i s) ≡ none
+      go : (x : Bool) → leb (length s) i ≡ x → ((j : ℕ) → length s ≤ j + n → 3 ≤ j → j ≤ length s → Free j → broken_from 0 j (drop j s) ≡ None) → broken_from 0 i (drop i s) ≡ None
       go true q ih = broken-none s i (leb-true (length s) i q)
       go false q ih =
           let v = leb-false (length s) i q in
@@ -276,7 +303,7 @@ module _ (s : List ℕ) (known : (i : ℕ) → i < length s → get_or s i 0 ≤
     first_step i h =
         broken-more s i (omega (arith, h)) 1 (sym (ap char_at (first_byte s i (omega (arith, h))) ∙ ascii_char (at i) (drop (i + 1) s) (a i h))) (λ z. absurd (omega (arith, z)))
 
-    pub follows-whole : first_broken s ≡ none
+    pub follows-whole : first_broken s ≡ None
     unfolding first_broken
     follows-whole =
         let x = a 0 (omega arith) in

@@ -1,6 +1,5 @@
 -- Document 02, Ticket 5: "Text shall be well-formed UTF-8, as the Rust takes it." Characters, by The Unicode Standard, chapter 3.
-use Rattle.std.specs.Prelude.{ℕ, zero, suc, ◌+◌, ◌/◌, ◌%◌, List, [], ◌∷◌, ◌++◌, Bool, true, false, not, ◌&&◌, ◌||◌, leb, length, drop}
-use Rattle.std.proofs.Math.Option.{Option, none, some}
+use Rattle.std.specs.Prelude.{ℕ, zero, suc, ◌+◌, ◌/◌, ◌%◌, List, [], ◌∷◌, ◌++◌, Bool, true, false, not, ◌&&◌, ◌||◌, leb, length, drop, Option, None, Some}
 
 -- A range, both ends included.
 pub record Range : Type 0 where
@@ -72,9 +71,9 @@ char_at t = width_in well_formed t
 
 -- What is left of a text, from the offset `at` on. Its first `inside` bytes belong to the character before.
 unfoldable pub broken_from : ℕ → ℕ → List ℕ → Option ℕ
-broken_from inside at [] = none
+broken_from inside at [] = None
 broken_from (suc inside) at (b ∷ t) = broken_from inside (suc at) t
-broken_from zero at (b ∷ t) = elim (char_at (b ∷ t)) [ zero ↦ some at | suc n ↦ broken_from n (suc at) t ]
+broken_from zero at (b ∷ t) = elim (char_at (b ∷ t)) [ zero ↦ Some at | suc n ↦ broken_from n (suc at) t ]
 
 -- Number 2: the offset of "the first byte of the broken character", `valid_up_to` of the Rust; none where the text is well-formed.
 unfoldable pub first_broken : List ℕ → Option ℕ

@@ -1,6 +1,5 @@
 -- Document 02, Ticket 5: what the definitions come to, said of characters.
-use Rattle.std.specs.Prelude.{ℕ, suc, ◌<◌, ◌≡◌, List, [], ◌∷◌, ◌++◌, reverse, Bool, true, false, ◌||◌, leb, eqb, length, get_or}
-use Rattle.std.proofs.Math.Option.{Option, none, some}
+use Rattle.std.specs.Prelude.{ℕ, suc, ◌<◌, ◌≡◌, List, [], ◌∷◌, ◌++◌, reverse, Bool, true, false, ◌||◌, leb, eqb, length, get_or, Option, None, Some}
 use Rattle.text.specs.Utf8.{is_scalar, encoded}
 use Rattle.text.specs.Bytes.{is_space, white_space_codes}
 
@@ -47,8 +46,8 @@ Ascii text = (i : ℕ) → i < length text → get_or text i 0 < 128
 
 -- Number 2 before Ticket 5: the offset of the first byte of 128 or more; i is the offset of the first byte of the list.
 unfoldable pub first_not_ascii : ℕ → List ℕ → Option ℕ
-first_not_ascii i [] = none
-first_not_ascii i (b ∷ bs) = elim (leb 128 b) [ true ↦ some i | false ↦ first_not_ascii (suc i) bs ]
+first_not_ascii i [] = None
+first_not_ascii i (b ∷ bs) = elim (leb 128 b) [ true ↦ Some i | false ↦ first_not_ascii (suc i) bs ]
 
 -- Trim before Ticket 5, document 01's: "Trim strips 9 to 13 and 32 at both ends."
 unfoldable pub trim_ascii : List ℕ → List ℕ

@@ -6,7 +6,7 @@ ghost use Rattle.text.specs.At.{u16};
 pub fn byte_at(s: &[u8], at: usize) -> u8
     ensures { result ≡ get_or s.now at 0 }
 {
-    if at < s.len() { s[at] } else { 0 }
+    s.get(at).copied().unwrap_or(0)
 }
 
 // The number of two bytes.
@@ -31,13 +31,6 @@ pub fn u16_at(s: &[u8], at: usize) -> usize
 pub fn part(s: &[u8], at: usize, n: usize) -> &[u8]
     ensures { result.now ≡ take n (drop at s.now) }
 {
-    let len = s.len();
-    if len <= at {
-        return &s[len..len];
-    }
-    if len - at < n {
-        return &s[at..len];
-    }
-    let end = at + n;
-    &s[at..end]
+    let rest = &s[at.min(s.len())..];
+    &rest[..n.min(rest.len())]
 }

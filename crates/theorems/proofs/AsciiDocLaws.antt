@@ -2,7 +2,7 @@
 use Prim.Native.Nat.{ℕ}
 use mathlib.Core.Path.{◌≡◌, ap}
 use mathlib.Core.List.{List}
-use mathlib.Core.Option.{none, some}
+use Rattle.std.specs.Prelude.{None, Some}
 use Rattle.text.specs.WellFormed.{Ascii}
 use Rattle.reader.specs.Tokens.{text_of}
 use Rattle.comments.specs.Above.{comment_above}
@@ -18,8 +18,8 @@ doc-lookup_ascii text rec h token out =
     ap (λ (a : Asked). elim a as (λ z. Doc) [
       | declined l ↦ record { answer = l; out = out }
       | asked tokens ↦ elim (comment_above tokens.kinds token) as (λ z. Doc) [
-        | none ↦ record { answer = looked 0 0 none; out = out }
-        | some k ↦ doc_of (text_of text tokens k) out
+        | None ↦ record { answer = looked 0 0 None; out = out }
+        | Some k ↦ doc_of (text_of text tokens k) out
       ]
     ])
     (ask-ascii text rec h token)

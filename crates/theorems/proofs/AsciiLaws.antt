@@ -2,7 +2,7 @@
 use Prim.Native.Nat.{ℕ, ◌+◌, ◌*◌}
 use mathlib.Core.Path.{◌≡◌, refl, sym, ap, ap₂, ◌∙◌}
 use mathlib.Core.Bool.{true, false}
-use mathlib.Core.Option.{none}
+use Rattle.std.specs.Prelude.{None}
 use mathlib.Core.List.{List, [], ◌∷◌, ◌++◌}
 use lib.Dec.{leb, ltb}
 use lib.ListN.{length, get_or, drop}
@@ -117,9 +117,9 @@ module _ (text rec : List ℕ) (h : Ascii text) where
     unfolding ask ask_ascii
     ask-ascii =
         ap (λ (r : Read). elim r as (λ z. Asked) [
-          | refused number place ↦ Lookup.declined (looked number place none)
+          | refused number place ↦ Lookup.declined (looked number place None)
           | sheet tokens tree ↦ elim (ltb token (length tokens.kinds)) as (λ z. Asked)
-              [ true ↦ asked tokens | false ↦ Lookup.declined (looked 9 0 none) ]
+              [ true ↦ asked tokens | false ↦ Lookup.declined (looked 9 0 None) ]
         ])
         (read-ascii text rec h)
 

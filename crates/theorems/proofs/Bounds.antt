@@ -2,7 +2,7 @@
 -- computation.
 use Prim.Native.Nat.{ℕ}
 use mathlib.Core.List.{List, ◌++◌}
-use mathlib.Core.Option.{Option, none, some}
+use Rattle.std.specs.Prelude.{Option, None, Some}
 use mathlib.Core.Path.{◌≡◌, refl}
 use lib.ListN.{length, replicate}
 use Rattle.text.specs.Utf8.{boundary}
@@ -19,13 +19,13 @@ unfoldable pub end_of : List ℕ → List ℕ → Option ℕ
 end_of text rec =
     elim (tokens (boundary text) (length text) rec) [
       | tiled ts tree ↦ elim (Unbounded.walk (record { text = text; rec = rec; tokens = ts }) tree)
-          [ done end es ↦ some end | stopped why es ↦ none ]
-      | untiled place ↦ none
+          [ done end es ↦ Some end | stopped why es ↦ None ]
+      | untiled place ↦ None
     ]
 
 -- The check refuses the record; the walk without bounds ends at its end.
 abbrev pub Astray : List ℕ → List ℕ → Verdict → Type 0
-Astray text rec v = (check text rec ≡ v) × (end_of text rec ≡ some (length rec))
+Astray text rec v = (check text rec ≡ v) × (end_of text rec ≡ Some (length rec))
 
 -- Sheet A with token 7 for its number, of seven tokens.
 pub token_bound : Astray text_a

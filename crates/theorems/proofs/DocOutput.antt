@@ -2,7 +2,7 @@
 use Prim.Native.Nat.{ℕ}
 use mathlib.Core.Path.{◌≡◌, refl}
 use mathlib.Core.Bool.{Bool, true, false}
-use mathlib.Core.Option.{Option, none, some}
+use Rattle.std.specs.Prelude.{Option, None, Some}
 use mathlib.Core.List.{List, ◌++◌}
 use lib.ListN.{length, drop}
 use lib.Dec.{leb}
@@ -14,7 +14,7 @@ use Rattle.doc_comment.specs.Doc.{Doc, doc_text, put, doc_of, doc_lookup}
 
 -- A lookup that gives no length leaves the output as it was, and so does one that is declined.
 abbrev Leaves : List ℕ → Doc → Type 0
-Leaves out d = (d.answer.answer ≡ none → d.out ≡ out) × ((d.answer.number ≡ 0 → ⊥) → d.out ≡ out)
+Leaves out d = (d.answer.answer ≡ None → d.out ≡ out) × ((d.answer.number ≡ 0 → ⊥) → d.out ≡ out)
 
 put-leaves : (text out : List ℕ) → Leaves out (put text out)
 unfolding put
@@ -22,8 +22,8 @@ put-leaves text out = go (leb (length text) (length out))
   where
     go : (b : Bool)
         → Leaves out (elim b as (λ b. Doc) [
-          | true ↦ record { answer = looked 0 0 (some (length text)); out = text ++ drop (length text) out }
-          | false ↦ record { answer = looked 8 0 none; out = out }
+          | true ↦ record { answer = looked 0 0 (Some (length text)); out = text ++ drop (length text) out }
+          | false ↦ record { answer = looked 8 0 None; out = out }
         ])
     go true = (λ e. never (cc), λ ne. absurd (ne refl))
     go false = (λ e. refl, λ ne. refl)
@@ -32,9 +32,9 @@ doc-leaves : (comment out : List ℕ) → Leaves out (doc_of comment out)
 unfolding doc_of
 doc-leaves comment out = go (doc_text comment)
   where
-    go : (o : Option (List ℕ)) → Leaves out (elim o as (λ o. Doc) [ none ↦ record { answer = looked 0 0 none; out = out } | some found ↦ put found out ])
-    go none = (λ e. refl, λ ne. refl)
-    go (some found) = put-leaves found out
+    go : (o : Option (List ℕ)) → Leaves out (elim o as (λ o. Doc) [ None ↦ record { answer = looked 0 0 None; out = out } | Some found ↦ put found out ])
+    go None = (λ e. refl, λ ne. refl)
+    go (Some found) = put-leaves found out
 
 module _ (text rec : List ℕ) (token : ℕ) (out : List ℕ) where
   lookup-leaves : Leaves out (doc_lookup text rec token out)
@@ -45,14 +45,14 @@ module _ (text rec : List ℕ) (token : ℕ) (out : List ℕ) where
       go (declined l) e = rw (e, doc_lookup) (λ h. refl, λ ne. refl)
       go (asked tokens) e = rw (e, doc_lookup) (above (comment_above tokens.kinds token))
         where
-          above : (o : Option ℕ) → Leaves out (elim o as (λ o. Doc) [ none ↦ record { answer = looked 0 0 none; out = out } | some k ↦ doc_of (text_of text tokens k) out ])
-          above none = (λ e. refl, λ ne. refl)
-          above (some k) = doc-leaves (text_of text tokens k) out
+          above : (o : Option ℕ) → Leaves out (elim o as (λ o. Doc) [ None ↦ record { answer = looked 0 0 None; out = out } | Some k ↦ doc_of (text_of text tokens k) out ])
+          above None = (λ e. refl, λ ne. refl)
+          above (Some k) = doc-leaves (text_of text tokens k) out
 
   -- "touches the output only when it accepts" (demand 1)
   pub output-untouched : ((doc_lookup text rec token out).answer.number ≡ 0 → ⊥) → (doc_lookup text rec token out).out ≡ out
   output-untouched ne = lookup-leaves.1 ne
 
   -- Finding none, too.
-  pub none-untouched : (doc_lookup text rec token out).answer.answer ≡ none → (doc_lookup text rec token out).out ≡ out
+  pub none-untouched : (doc_lookup text rec token out).answer.answer ≡ None → (doc_lookup text rec token out).out ≡ out
   none-untouched e = lookup-leaves.0 e

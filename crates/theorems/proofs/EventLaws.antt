@@ -6,7 +6,7 @@ use native.Mathlib.Omega.{arith}
 use mathlib.Core.Path.{◌≡◌, refl, sym, ap, ap₂, ◌∙◌}
 use mathlib.Core.Logic.{◌↔◌}
 use mathlib.Core.Bool.{Bool, true, false, not, ◌&&◌, ◌||◌, false≢true}
-use mathlib.Core.Option.{none}
+use Rattle.std.specs.Prelude.{None}
 use mathlib.Core.List.{List, [], ◌∷◌, ◌++◌, append_assoc}
 use lib.ListN.{length, replicate}
 use lib.Dec.{eqb}
@@ -102,6 +102,6 @@ module _ (p : Page) where
           }
 
 -- Where no comment is left, each block comment is written.
-pub all-written : (kinds : List ℕ) (es : List Event) → first (is_left kinds es) 0 (length kinds) ≡ none → (k : ℕ) → is_comment kinds k ≡ true → written es k ≡ true
+pub all-written : (kinds : List ℕ) (es : List Event) → first (is_left kinds es) 0 (length kinds) ≡ None → (k : ℕ) → is_comment kinds k ≡ true → written es k ≡ true
 unfolding is_left
 all-written kinds es none_left k c = not-false (written es k) (sym (ap (λ t. t && not (written es k)) c) ∙ not_left kinds es none_left k)

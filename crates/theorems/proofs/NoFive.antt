@@ -4,7 +4,7 @@ use native.Mathlib.Omega.{arith}
 use mathlib.Core.Path.{◌≡◌, refl, sym}
 use mathlib.Core.Bool.{Bool, true, false}
 use mathlib.Core.List.{List, [], ◌∷◌, ◌++◌, append-nil}
-use mathlib.Core.Option.{Option, none, some}
+use Rattle.std.specs.Prelude.{Option, None, Some}
 use lib.ListN.{length, drop, take, replicate}
 use lib.Dec.{leb, eqb}
 use Rattle.text.specs.Utf8.{first_broken}
@@ -34,8 +34,8 @@ unfolding doc_of
 doc_of_not_5 comment out = go (doc_text comment) refl
   where
     go : (o : Option (List ℕ)) → doc_text comment ≡ o → (doc_of comment out).answer.number ≡ 5 → ⊥
-    go none e = rw (e, doc_of) (λ f. omega (arith, f))
-    go (some found) e = rw (e, doc_of) (put_not_5 found out)
+    go None e = rw (e, doc_of) (λ f. omega (arith, f))
+    go (Some found) e = rw (e, doc_of) (put_not_5 found out)
 
 -- `doc_comment_above` never gives 5.
 pub doc_not_5 : (text rec : List ℕ) (token : ℕ) (out : List ℕ) → (doc_lookup text rec token out).answer.number ≡ 5 → ⊥
@@ -44,8 +44,8 @@ doc_not_5 text rec token out = go (ask text rec token) refl
   where
     found : (ts : Tokens) → ask text rec token ≡ asked ts → (o : Option ℕ) → comment_above ts.kinds token ≡ o
         → (doc_lookup text rec token out).answer.number ≡ 5 → ⊥
-    found ts e none f = rw (e, f, doc_lookup) (λ g. omega (arith, g))
-    found ts e (some k) f = rw (e, f, doc_lookup) (doc_of_not_5 (text_of text ts k) out)
+    found ts e None f = rw (e, f, doc_lookup) (λ g. omega (arith, g))
+    found ts e (Some k) f = rw (e, f, doc_lookup) (doc_of_not_5 (text_of text ts k) out)
 
     go : (a : Asked) → ask text rec token ≡ a → (doc_lookup text rec token out).answer.number ≡ 5 → ⊥
     go (declined l) e = rw (e, doc_lookup) (ask-not-5 text rec token e)
@@ -95,8 +95,8 @@ read_not_5 text = go (leb (length text) max_text) (first_broken text) refl refl
   where
     go : (b : Bool) (o : Option ℕ) → leb (length text) max_text ≡ b → first_broken text ≡ o → IsNot5 (read text)
     go false o e f = rw (e, read) (λ g. omega (arith, g))
-    go true none e f = rw (e, f, read) (limited_not_5 (scan_text text) (from_not_5 text 0 0))
-    go true (some place) e f = rw (e, f, read) (λ g. omega (arith, g))
+    go true None e f = rw (e, f, read) (limited_not_5 (scan_text text) (from_not_5 text 0 0))
+    go true (Some place) e f = rw (e, f, read) (λ g. omega (arith, g))
 
 -- The scanner never gives 5.
 pub scan_not_5 : (text out : List ℕ) → (scan text out).verdict.number ≡ 5 → ⊥

@@ -75,11 +75,11 @@ unfolding Reading.read_tree Reading.read_record Reading.read_text Reading.read R
 run_reading = tt
 
 unfoldable pub run_set : Unit {0}
-unfolding Set.is_comment Set.bit Set.clear Set.holds Set.bits Set.words_from Set.words_of Set.without Set.count Set.first Set.first_at
+unfolding Set.is_comment Set.bit Set.clear Set.holds Set.bits Set.words_from Set.words_of Set.without Set.count Set.first
 run_set = tt
 
 unfoldable pub run_above : Unit {0}
-unfolding Above.is_keyword Above.above Above.found_above Above.comment_in Above.comment_above Above.passed_in
+unfolding Above.is_keyword Above.above Above.found_above Above.comment_in Above.comment_above
 run_above = tt
 
 unfoldable pub run_meaning : Unit {0}

@@ -4,7 +4,7 @@ use Prim.Native.Nat.{ℕ, ◌+◌, ◌-◌, ◌*◌}
 use Prim.Native.String.{String}
 use mathlib.Core.List.{List, [], ◌∷◌, ◌++◌}
 use mathlib.Core.Bool.{Bool, true, false}
-use mathlib.Core.Option.{none, some}
+use Rattle.std.specs.Prelude.{None, Some}
 use mathlib.Core.Path.{◌≡◌, refl}
 use lib.ListN.{length, replicate, drop}
 use native.Mathlib.Omega.{arith}
@@ -195,9 +195,9 @@ F = (refl, refl)
 -- The comment above `val`, token 2, is token 0, across `val` itself; from the comment the search passes nothing, from `x`, token 4, it passes `val`.
 abbrev F-above-says : Type 0
 F-above-says =
-    (lookup text_f rec_f 0 ≡ told (some (record { comment = 0; keyword = none })))
-    × (lookup text_f rec_f 2 ≡ told (some (record { comment = 0; keyword = some 2 })))
-    × (lookup text_f rec_f 4 ≡ told (some (record { comment = 0; keyword = some 2 })))
+    (lookup text_f rec_f 0 ≡ told (Some (record { comment = 0; keyword = None })))
+    × (lookup text_f rec_f 2 ≡ told (Some (record { comment = 0; keyword = Some 2 })))
+    × (lookup text_f rec_f 4 ≡ told (Some (record { comment = 0; keyword = Some 2 })))
 
 F-above : F-above-says
 unfolding run hex pairs digit

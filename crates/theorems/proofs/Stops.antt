@@ -5,7 +5,7 @@ use mathlib.Core.Path.{◌≡◌, refl, ap, ◌∙◌, subst}
 use mathlib.Core.Logic.{◌⊎◌, inl, inr}
 use mathlib.Core.Bool.{Bool, true, false, ◌&&◌}
 use mathlib.Core.List.{List}
-use mathlib.Core.Option.{Option, none, some}
+use Rattle.std.specs.Prelude.{Option, None, Some}
 use lib.ListN.{length, get_or}
 use lib.Dec.{leb, ltb}
 use Rattle.text.specs.Utf8.{first_broken, boundary}
@@ -36,7 +36,7 @@ module _ (rec : List ℕ) (at : ℕ) where
   unfolding absent_at
   absent-byte e = record { within = omega (arith, absent-fits rec at e); is = command-byte rec at 0x00 1 e }
 
-  list-bytes : list_at rec at ≡ some 0 → Has rec at 0x02 × Has rec (at + 1) 0x00 × Has rec (at + 2) 0x00
+  list-bytes : list_at rec at ≡ Some 0 → Has rec at 0x02 × Has rec (at + 1) 0x00 × Has rec (at + 2) 0x00
   unfolding list_at u16
   list-bytes e =
       let fits : at + 3 ≤ length rec = list-fits rec at 0 e in
@@ -48,7 +48,7 @@ module _ (rec : List ℕ) (at : ℕ) where
         record { within = omega (arith, fits); is = ap (λ n. get_or rec n 0) next ∙ omega (arith, zeros) },
       )
 
-  import-byte : form_at rec DecOne at ≡ some (dec_number EsImportDec) → ImportAt rec at
+  import-byte : form_at rec DecOne at ≡ Some (dec_number EsImportDec) → ImportAt rec at
   unfolding form_at form_width first_form dec_number
   import-byte e =
       let fits : at + 3 ≤ length rec = form-fits rec at DecOne 19 e in
@@ -79,8 +79,8 @@ module _ (text rec : List ℕ) where
 
   text-low : (o : Option ℕ) → first_broken text ≡ o → Low (read_text text rec)
   unfolding read_text
-  text-low none e = rw (e, read_text) (record-low (tokens (boundary text) (length text) rec) refl)
-  text-low (some place) e = rw (e, read_text) (omega arith)
+  text-low None e = rw (e, read_text) (record-low (tokens (boundary text) (length text) rec) refl)
+  text-low (Some place) e = rw (e, read_text) (omega arith)
 
   lengths-low : (b : Bool) → (leb (length text) max_text && leb (length rec) max_record) ≡ b → Low (read text rec)
   unfolding read
@@ -126,8 +126,8 @@ unfolding comments
 comments-right rec p es = go (first (is_left p.tokens.kinds es) 0 (length p.tokens.kinds)) refl
   where
     go : (o : Option ℕ) → first (is_left p.tokens.kinds es) 0 (length p.tokens.kinds) ≡ o → JudgedRight rec (comments p es)
-    go (some k) f = rw (f, comments) (other _ (λ e. omega (arith, e)) (omega arith))
-    go none f = rw (f, comments) tt
+    go (Some k) f = rw (f, comments) (other _ (λ e. omega (arith, e)) (omega arith))
+    go None f = rw (f, comments) tt
 
 module _ (text rec : List ℕ) where
   walked-right : (ts : Tokens) (tree : ℕ) → read text rec ≡ sheet ts tree → (o : Outcome) → walk (page text rec ts) tree ≡ o
@@ -213,8 +213,8 @@ module _ (text rec : List ℕ) (token : ℕ) where
 
   told-not-5 : (o : Option Above.Found) → (told o).number ≡ 5 → ⊥
   unfolding told
-  told-not-5 none e = omega (arith, e)
-  told-not-5 (some f) e = omega (arith, e)
+  told-not-5 None e = omega (arith, e)
+  told-not-5 (Some f) e = omega (arith, e)
 
   -- `comment_above` never gives 5.
   pub lookup-not-5 : (lookup text rec token).number ≡ 5 → ⊥

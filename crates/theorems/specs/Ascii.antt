@@ -1,7 +1,6 @@
 -- `check`, `get` and `comment_above` before document 02's Ticket 5, when a text was ASCII: refusals 1 to 4 by `read_ascii`, comments trimmed by
 -- `trim_ascii`. All else is as in Verdict and Lookup.
-use Rattle.std.specs.Prelude.{ℕ, ◌*◌, List, [], ◌∷◌, ◌++◌, true, false, length, replicate, leb, ltb}
-use Rattle.std.proofs.Math.Option.{none}
+use Rattle.std.specs.Prelude.{ℕ, ◌*◌, List, [], ◌∷◌, ◌++◌, true, false, length, replicate, leb, ltb, None}
 use Rattle.text.specs.Bytes.{bytes}
 use Rattle.text.specs.WellFormed.{trim_ascii}
 use Rattle.reader.specs.Reading.{refused, sheet}
@@ -58,8 +57,8 @@ get_ascii text rec tab out =
 unfoldable pub ask_ascii : List ℕ → List ℕ → ℕ → Asked
 ask_ascii text rec token =
     elim (read_ascii text rec) [
-      | refused number place ↦ Lookup.declined (looked number place none)
-      | sheet tokens tree ↦ elim (ltb token (length tokens.kinds)) [ true ↦ asked tokens | false ↦ Lookup.declined (looked 9 0 none) ]
+      | refused number place ↦ Lookup.declined (looked number place None)
+      | sheet tokens tree ↦ elim (ltb token (length tokens.kinds)) [ true ↦ asked tokens | false ↦ Lookup.declined (looked 9 0 None) ]
     ]
 
 unfoldable pub lookup_ascii : List ℕ → List ℕ → ℕ → Looked

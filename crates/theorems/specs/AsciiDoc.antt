@@ -1,6 +1,5 @@
 -- `doc_comment_above` before document 02's Ticket 5, when a text was ASCII: refusals by `ask_ascii`. All else is as in Doc.
-use Rattle.std.specs.Prelude.{ℕ, List}
-use Rattle.std.proofs.Math.Option.{none, some}
+use Rattle.std.specs.Prelude.{ℕ, List, None, Some}
 use Rattle.reader.specs.Tokens.{text_of}
 use Rattle.comments.specs.Above.{comment_above}
 use Rattle.formatter.specs.Lookup.{looked, declined, asked}
@@ -12,7 +11,7 @@ doc_lookup_ascii text rec token out =
     elim (ask_ascii text rec token) [
       | declined l ↦ record { answer = l; out = out }
       | asked tokens ↦ elim (comment_above tokens.kinds token) [
-        | none ↦ record { answer = looked 0 0 none; out = out }
-        | some k ↦ doc_of (text_of text tokens k) out
+        | None ↦ record { answer = looked 0 0 None; out = out }
+        | Some k ↦ doc_of (text_of text tokens k) out
       ]
     ]

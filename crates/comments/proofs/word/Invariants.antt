@@ -6,6 +6,3 @@ use Rattle.comments.proofs.word.Given as goal
 
 abbrev pub invariant-loop-b : goal.invariant-loop-b
 invariant-loop-b l = (l.b ≤ 64) × (l.x ≡ bits (is_comment l.kinds) (l.k + l.b) (64 - l.b))
-
-abbrev pub decreases-loop-b : goal.decreases-loop-b
-decreases-loop-b l = l.b

@@ -1,13 +1,16 @@
 -- `diverplume::keyword_number` meets its contract. Assumes nothing.
-use Rattle.comments.specs.Above.{passed_in}
-use Rattle.diverplume.specs.Numbers.{or_none}
+use mathlib.Core.Path.{◌≡◌}
 use borrow.Author.Rules.{rules}
+use Prim.Native.Nat.{ℕ}
+use Rattle.std.specs.Prelude.{Option, None, Some, MatchOption}
+use Rattle.diverplume.specs.Numbers.{or_none}
 use Rattle.diverplume.proofs.keyword_number.Goals as goal
 
-pub returns-in-Keyword : goal.returns-in-Keyword
-unfolding or_none passed_in
-returns-in-Keyword c = search rules
+-- A number, or what stands for none.
+number-is : {r : ℕ} {Is : ℕ → Type 0} (o : Option ℕ) → ((k : ℕ) → Is k → r ≡ k) → MatchOption o (r ≡ 0xFFFF_FFFF_FFFF_FFFF) Is → r ≡ or_none o
+unfolding or_none
+number-is None f h = h
+number-is (Some k) f h = f k h
 
-pub returns-in-Nothing : goal.returns-in-Nothing
-unfolding or_none passed_in
-returns-in-Nothing c = search rules
+pub returns : goal.returns
+returns c = number-is c.args.keyword (λ k h. search rules) c.map_or.ensures

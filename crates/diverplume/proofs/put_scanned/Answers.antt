@@ -4,14 +4,10 @@ use Rattle.scanner.specs.Answers.{verdict_of, written_of}
 use Rattle.diverplume.proofs.Laws.{scanned_case}
 use Rattle.diverplume.proofs.put_scanned.Goals as goal
 
-pub returns-in-Written : goal.returns-in-Written
+pub returns-in-Ok : goal.returns-in-Ok
 unfolding verdict_of written_of
-returns-in-Written c = c.put_three.ensures ∙ scanned_case c.in-Written.is
+returns-in-Ok c = c.put_three.ensures ∙ scanned_case c.in-Ok.is
 
-pub returns-in-Refused : goal.returns-in-Refused
+pub returns-in-Err : goal.returns-in-Err
 unfolding verdict_of written_of
-returns-in-Refused c = c.put_refusal.ensures ∙ scanned_case c.in-Refused.is
-
-pub returns-in-OutputTooShort : goal.returns-in-OutputTooShort
-unfolding verdict_of written_of
-returns-in-OutputTooShort c = c.put_three-in-OutputTooShort.ensures ∙ scanned_case c.in-OutputTooShort.is
+returns-in-Err c = c.put_scan_error.ensures ∙ scanned_case c.in-Err.is

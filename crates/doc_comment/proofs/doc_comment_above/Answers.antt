@@ -14,14 +14,14 @@ slice_bounds-comment_above-end c = let at = c in sym (asked-counts at.ask-asked.
 pub returns-in_default : goal.returns-in_default
 returns-in_default c = let above = c in let at = above in doc-nothing at.ask-asked.ensures at.in-Tokens.is _ above.comment_above.ensures _ c.in_default.is
 
-pub offset_bounds-spans-comment : goal.offset_bounds-spans-comment
-offset_bounds-spans-comment c = omega (arith, found_below c.ask-asked.ensures c.in-Tokens.is _ c.comment_above.ensures c.in-Comment.is)
+pub offset_bounds-spans-above : goal.offset_bounds-spans-above
+offset_bounds-spans-above c = omega (arith, found_below c.ask-asked.ensures c.in-Tokens.is _ c.comment_above.ensures c.in-Some.is)
 
-pub bounds-spans-comment : goal.bounds-spans-comment
-bounds-spans-comment c = found_below c.ask-asked.ensures c.in-Tokens.is _ c.comment_above.ensures c.in-Comment.is
+pub bounds-spans-above : goal.bounds-spans-above
+bounds-spans-above c = found_below c.ask-asked.ensures c.in-Tokens.is _ c.comment_above.ensures c.in-Some.is
 
-pub returns-in-Comment : goal.returns-in-Comment
-returns-in-Comment c = c.doc_of.ensures ∙ doc-spanned c.ask-asked.new.spans c.ask-asked.ensures c.in-Tokens.is _ c.comment_above.ensures c.in-Comment.is _
+pub returns-in-Some : goal.returns-in-Some
+returns-in-Some c = c.doc_of.ensures ∙ doc-spanned c.ask-asked.new.spans c.ask-asked.ensures c.in-Tokens.is _ c.comment_above.ensures c.in-Some.is _
 
 pub returns-in-Declined : goal.returns-in-Declined
 returns-in-Declined c = let at = c in doc-declined at.ask-asked.ensures _ at.in-Declined.is

@@ -1,50 +1,41 @@
 -- What the functions of the code say of a comment's lines.
-use Rattle.std.specs.Prelude.{ℕ, zero, suc, ◌+◌, ◌-◌, ◌≤◌, ◌<◌, ◌≡◌, List, [], ◌∷◌, ◌++◌, true, false, length, take, drop, set, eqb}
+use Rattle.std.specs.Prelude.{ℕ, zero, suc, ◌+◌, ◌-◌, ◌≤◌, ◌<◌, ◌≡◌, List, [], ◌∷◌, ◌++◌, length, get_or, drop, set, reverse}
 use Rattle.text.specs.Bytes.{bytes}
-use Rattle.doc_comment.specs.Doc.{lines_from, starred, joined}
-use Rattle.doc_comment.specs.declared.Start.{Start}
-use Rattle.doc_comment.specs.declared.Start.TheVariants.{At, Nowhere}
-use Rattle.doc_comment.specs.declared.Next.{Next}
-use Rattle.doc_comment.specs.declared.Next.TheVariants.{Line, End}
-use Rattle.doc_comment.specs.declared.Body.{Body}
-use Rattle.doc_comment.specs.declared.Body.TheVariants.{Lines, Open}
+use Rattle.doc_comment.specs.Doc.{lines_from, starred, joined, closed, doc_text}
 
--- The bytes before the first b.
-unfoldable pub before : ℕ → List ℕ → List ℕ
-before b [] = []
-before b (c ∷ cs) = elim (eqb c b) [ true ↦ [] | false ↦ c ∷ before b cs ]
+-- A byte is not in the text.
+abbrev pub Lacks : ℕ → List ℕ → Type 0
+Lacks b s = (k : ℕ) → k < length s → get_or s k 0 ≡ b → ⊥
 
--- The bytes from an offset up to another.
-abbrev pub part : List ℕ → ℕ → ℕ → List ℕ
-part s start end = take (end - start) (drop start s)
+-- The first b of a text stands behind n bytes.
+pub record IsFirst (b : ℕ) (s : List ℕ) (n : ℕ) : Type 0 where
+  pub within : n < length s
+  pub here : get_or s n 0 ≡ b
+  pub before : (k : ℕ) → k < n → get_or s k 0 ≡ b → ⊥
 
--- The first line of a text ends at one offset, and the next line starts at the other.
-pub record Cuts (s : List ℕ) (end next : ℕ) : Type 0 where
-  pub line : lines_from [] s ≡ take end s ∷ lines_from [] (drop next s)
-  pub ordered : end ≤ next
-  pub some : 0 < next
-  pub inside : next ≤ length s
+-- The first line of a text, and the text behind it.
+pub record Cuts (s first rest : List ℕ) : Type 0 where
+  pub line : lines_from [] s ≡ first ∷ lines_from [] rest
+  pub room : length first + length rest ≤ length s
+  pub less : length rest < length s
 
--- What stands of a line starts at an offset, or nothing does.
-unfoldable pub Starts : List ℕ → Start → Type 0
-Starts line (At k) = (0 < k) × (k ≤ length line) × ((more : List (List ℕ)) → starred (line ∷ more) ≡ drop k line ∷ starred more)
-Starts line Nowhere = (more : List (List ℕ)) → starred (line ∷ more) ≡ starred more
+-- A line is dropped.
+abbrev pub Drops : List ℕ → Type 0
+Drops line = (more : List (List ℕ)) → starred (line ∷ more) ≡ starred more
 
--- The lines that stand of what follows an offset.
-unfoldable pub kept : List ℕ → ℕ → List (List ℕ)
-kept comment at = starred (lines_from [] (drop at comment))
+-- What stands of a line.
+pub record Stands (line text : List ℕ) : Type 0 where
+  pub row : (more : List (List ℕ)) → starred (line ∷ more) ≡ text ∷ starred more
+  pub less : length text < length line
 
--- The first of them, and the offset behind its line.
-pub record FirstKept (comment : List ℕ) (at start end next : ℕ) : Type 0 where
-  pub line : kept comment at ≡ part comment start end ∷ kept comment next
-  pub ordered : start ≤ end
-  pub inside : end ≤ length comment
-  pub room : at + (end - start) < next
-  pub ends : next ≤ length comment
+-- The lines that stand of a text.
+unfoldable pub kept : List ℕ → List (List ℕ)
+kept text = starred (lines_from [] text)
 
-unfoldable pub Nexts : List ℕ → ℕ → Next → Type 0
-Nexts comment at (Line start end next) = FirstKept comment at start end next
-Nexts comment at End = kept comment at ≡ []
+-- The first of them, and the text behind its line.
+pub record FirstKept (comment first rest : List ℕ) : Type 0 where
+  pub line : kept comment ≡ first ∷ kept rest
+  pub room : length first + length rest < length comment
 
 -- How many bytes lines take, each with a line feed behind it.
 unfoldable pub size : List (List ℕ) → ℕ
@@ -57,14 +48,19 @@ pub record Closes (lines : List (List ℕ)) (m : ℕ) : Type 0 where
   pub last : lines ≡ between ++ (bytes ")" ∷ [])
   pub takes : size between ≡ m
 
-unfoldable pub Bodies : List (List ℕ) → Body → Type 0
-Bodies lines (Lines m) = Closes lines m
-Bodies lines Open = (m : ℕ) → Closes lines m → ⊥
+-- The last line is not `)`.
+abbrev pub IsOpen : List (List ℕ) → Type 0
+IsOpen lines = (m : ℕ) → Closes lines m → ⊥
 
 -- The lines between are in the output's first bytes, joined by line feeds.
 pub record Joins (lines : List (List ℕ)) (m : ℕ) (out out' : List ℕ) : Type 0 where
   pub closes : Closes lines m
   pub written : out' ≡ joined closes.between ++ drop (m - 1) out
+
+-- The doc text of a comment is that of these lines, of which those before the last take m bytes.
+pub record Holds (comment lines : List ℕ) (m : ℕ) : Type 0 where
+  pub closes : Closes (kept lines) m
+  pub text : doc_text comment ≡ closed (reverse (kept lines))
 
 -- The output with a line feed before an offset, where that is not the start.
 unfoldable pub fed : List ℕ → ℕ → List ℕ

@@ -12,8 +12,8 @@ slice_bounds-comment_above-end c = let at = c in sym (asked-counts at.ask-asked.
 pub returns-in_default : goal.returns-in_default
 returns-in_default c = let at = c in let told = at in lookup-nothing told.ask-asked.ensures told.in-Tokens.is _ at.comment_above.ensures c.in_default.is
 
-pub returns-in-Comment : goal.returns-in-Comment
-returns-in-Comment c = let at = c in let told = at in lookup-found told.ask-asked.ensures told.in-Tokens.is _ at.comment_above.ensures c.in-Comment.is
+pub returns-in-Some : goal.returns-in-Some
+returns-in-Some c = let at = c in let told = at in lookup-found told.ask-asked.ensures told.in-Tokens.is _ at.comment_above.ensures c.in-Some.is
 
 pub returns-in-Declined : goal.returns-in-Declined
 returns-in-Declined c = let at = c in lookup-declined at.ask-asked.ensures at.in-Declined.is

@@ -8,8 +8,8 @@ returns-then-text-gt-MAX_TEXT c = judges-declined (text-long _ _ c.if-text-gt-MA
 pub returns-then-rec-gt-MAX_RECORD : goal.returns-then-rec-gt-MAX_RECORD
 returns-then-rec-gt-MAX_RECORD c = judges-declined (record-long _ _ c.if-text-gt-MAX_TEXT.false c.if-rec-gt-MAX_RECORD.true) c.refused-then-rec-gt-MAX_RECORD.ensures
 
-pub returns-in-At : goal.returns-in-At
-returns-in-At c = judges-declined (not-utf8 _ _ c.if-text-gt-MAX_TEXT.false c.if-rec-gt-MAX_RECORD.false c.first_broken.ensures c.in-At.is) c.refused-in-At.ensures
+pub returns-in-Some : goal.returns-in-Some
+returns-in-Some c = judges-declined (not-utf8 _ _ c.if-text-gt-MAX_TEXT.false c.if-rec-gt-MAX_RECORD.false c.first_broken.ensures c.in-Some.is) c.refused-in-Some.ensures
 
 pub weigh-requires : goal.weigh-requires
 weigh-requires c = sheet-limits _ _ c.if-text-gt-MAX_TEXT.false c.if-rec-gt-MAX_RECORD.false c.first_broken.ensures c.in_default.is _ c.read_tokens-tokens.ensures c.in-Tiled.is

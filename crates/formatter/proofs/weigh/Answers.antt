@@ -40,4 +40,4 @@ pub returns : goal.returns
 unfolding word_run bytes
 returns c =
     let a = c.args in
-    weigh-comments c.walk-walked.ensures (starts refl c.requires.rec_fits c.requires.near (omega arith) c.lent-mem.ensures) c.requires.text_fits c.requires.rec_fits (kinds_few c.requires) c.all.ensures c.if-walked-rec.false c.left_in-set.ensures c.is_empty.ensures c.first.ensures c.in-At.is (c.start_of.ensures ∙ ap start_of c.span_at.ensures ∙ sym (start-at (take a.count a.spans.now) _))
+    weigh-comments c.walk-walked.ensures (starts refl c.requires.rec_fits c.requires.near (omega arith) c.lent-mem.ensures) c.requires.text_fits c.requires.rec_fits (kinds_few c.requires) c.all.ensures c.if-walked-rec.false c.left_in-set.ensures c.is_empty.ensures c.first.ensures c.in-Some.is (c.start_of.ensures ∙ ap start_of c.span_at.ensures ∙ sym (start-at (take a.count a.spans.now) _))

@@ -1,6 +1,5 @@
 -- The judgement with the walk before the record check, which is run only where the walk did not end at the record's end.
-use Rattle.std.specs.Prelude.{ℕ, List, true, false, ◌&&◌, length, leb, eqb}
-use Rattle.std.proofs.Math.Option.{none, some}
+use Rattle.std.specs.Prelude.{ℕ, List, true, false, ◌&&◌, length, leb, eqb, None, Some}
 use Rattle.text.specs.Utf8.{first_broken, boundary}
 use Rattle.reader.specs.Tokens.{count_of, tiled, untiled, tokens}
 use Rattle.reader.specs.Check.{Checked, ok, malformed, too_deep, tree_check}
@@ -34,7 +33,7 @@ module _ (text rec : List ℕ) where
       [ tiled ts tree ↦ by_walk (record { text = text; rec = rec; tokens = ts }) tree | untiled place ↦ refused 3 place ]
 
   unfoldable pub text_first : Judged
-  text_first = elim (first_broken text) [ none ↦ record_first | some place ↦ refused 2 place ]
+  text_first = elim (first_broken text) [ None ↦ record_first | Some place ↦ refused 2 place ]
 
   -- 1 to 4, 13, 14 and 6.
   unfoldable pub judge_walk_first : Judged

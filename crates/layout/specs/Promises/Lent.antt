@@ -1,7 +1,6 @@
 -- The contracts of the walk's functions, said of what is lent to them: first the layout, then the function's parameters in their
 -- order, then its answer. Each is a record of State, of what the references hold at the function's entry and at its exit.
-use Rattle.std.specs.Prelude.{ℕ, false, List, length}
-use Rattle.std.proofs.Math.Option.{Option}
+use Rattle.std.specs.Prelude.{ℕ, false, List, length, Option}
 use Rattle.std.specs.Borrow.{Bor, MutBor}
 use denote.Triple.Both.{Both}
 use Rattle.reader.specs.Promises.Tokens.{starts_of, lengths_of}

@@ -1,6 +1,6 @@
 -- What the walk's functions do to what is lent to them, event by event.
 -- Their sums wrap; proofs/Exact says that below the limits they are the sums of Events.
-use Rattle.std.specs.Prelude.{◌≡◌, ℕ, ◌+◌, ◌-◌, ◌*◌, ◌/◌, ◌%◌, ◌<◌, max, Bool, true, false, cond, List, [], ◌∷◌, length, take, drop, replicate, ◌==◌, nat_le, nat_lt, slice_index, slice_set}
+use Rattle.std.specs.Prelude.{◌≡◌, ℕ, ◌+◌, ◌-◌, ◌*◌, ◌/◌, ◌%◌, ◌<◌, max, Bool, true, false, cond, List, [], ◌∷◌, length, take, drop, replicate, ◌==◌, nat_le, nat_lt, slice_index, slice_set, Option, None, Some}
 use Rattle.std.proofs.Math.Seq.{paste}
 use Rattle.text.specs.Bytes.{bytes, trim}
 use Rattle.comments.specs.Set.{clear}
@@ -24,7 +24,6 @@ use Rattle.reader.specs.Check.{ok, malformed, too_deep, token_fits, form_fits, e
 use Rattle.reader.specs.Commands.{absent_at, group_at, form_at, form_width, first_token}
 use Rattle.reader.specs.Promises.Commands.{family_of, declaration_in}
 use Rattle.reader.specs.declared.commands.Declaration.{Declaration}
-use Rattle.std.proofs.Math.Option.{Option, none, some}
 use Rattle.layout.specs.declared.Status.TheVariants.{Done, Stopped}
 use Rattle.layout.specs.Layout.{Layout, Look, Test, skip}
 use Rattle.layout.specs.Promises.Words.{word_run}
@@ -227,8 +226,8 @@ pub record Imports (a n : ℕ) : Type 0 where
 
 -- What is read at the cursor, with the cursor behind it.
 unfoldable pub read_of : ℕ → ℕ → Option ℕ → Read
-read_of width a (some n) = Is n (a + width)
-read_of width a none = Read.Not
+read_of width a (Some n) = Is n (a + width)
+read_of width a None = Read.Not
 
 pub record ReadAt (reads : List ℕ → ℕ → Option ℕ) (width : ℕ) (r : List ℕ) (a : ℕ) (x : Read) : Type 0 where
   pub is : x ≡ read_of width a (reads r a)
@@ -255,16 +254,16 @@ pub record GoneRead (r : List ℕ) (a : ℕ) (x : Gone) : Type 0 where
 
 -- Whether a token stands at the cursor or is absent, with the cursor behind it.
 unfoldable pub present_of : ℕ → Option ℕ → Bool → Given
-present_of a (some k) gone = There (a + 3)
-present_of a none true = Absent (a + 1)
-present_of a none false = Neither
+present_of a (Some k) gone = There (a + 3)
+present_of a None true = Absent (a + 1)
+present_of a None false = Neither
 
 pub record PresentRead (count : ℕ) (r : List ℕ) (a : ℕ) (x : Given) : Type 0 where
   pub is : x ≡ present_of a (token_fits r count a) (absent_at r a)
 
 -- A declaration's command whose operand is in range, read at an offset: the number of its form, its first token, the place of its fields.
 unfoldable pub declared_at : ℕ → List ℕ → ℕ → Option (ℕ × Option ℕ × ℕ)
-declared_at count r at = elim (form_fits r count DecOne at) [ none ↦ none | some n ↦ some (n, first_token r at, at + form_width DecOne) ]
+declared_at count r at = elim (form_fits r count DecOne at) [ None ↦ None | Some n ↦ Some (n, first_token r at, at + form_width DecOne) ]
 
 pub record DeclaredAt (count : ℕ) (r : List ℕ) (at : ℕ) (x : Declaration) : Type 0 where
   pub is : declaration_in x ≡ declared_at count r at
@@ -292,9 +291,9 @@ unfoldable pub onwards_of : List ℕ → ℕ → ℕ → ℕ → ℕ → ℕ
 onwards_of r count nesting a n =
     cond (nat_lt n stop_no) n
     (elim (form_at r Ty a) [
-      | some k ↦ elim (end_within r count nesting (Fields.form Ty) a)
+      | Some k ↦ elim (end_within r count nesting (Fields.form Ty) a)
           [ ok next ↦ next | malformed place ↦ stop_no + 2 * place | too_deep place ↦ stop_no + 2 * place ]
-      | none ↦ n
+      | None ↦ n
     ])
 
 pub record Onwards (r : List ℕ) (count nesting a n b : ℕ) : Type 0 where
@@ -328,7 +327,7 @@ head_in Looks.Head.OtherExp = other_exp
 
 -- What AppExp sees of its expressions, the first at an offset, where its walk ended at another.
 unfoldable pub heads_behind : List ℕ → ℕ → ℕ → Heads
-heads_behind r func arg = elim (form_at r Exp func) [ some n ↦ heads_from r n func arg | none ↦ missing func ]
+heads_behind r func arg = elim (form_at r Exp func) [ Some n ↦ heads_from r n func arg | None ↦ missing func ]
 
 -- Where AppExp stops whose first expression stopped: what it asks for before it walks into that goes first.
 unfoldable pub asked_first : List ℕ → ℕ → ℕ → ℕ → ℕ

@@ -1,6 +1,5 @@
 -- What the code's names and answers stand for when it reads a command.
-use Rattle.std.specs.Prelude.{ℕ, ◌+◌, List, Bool, true, false, length, ◌≡◌}
-use Rattle.std.proofs.Math.Option.{Option, none, some}
+use Rattle.std.specs.Prelude.{ℕ, ◌+◌, List, Bool, true, false, length, ◌≡◌, Option, None, Some}
 use Rattle.reader.specs.declared.commands.Family as Code
 use Rattle.reader.specs.declared.commands.Family.TheVariants as Case
 use Rattle.reader.specs.declared.commands.Number.{Number}
@@ -28,16 +27,16 @@ facts_of family =
 
 -- The operand of the command `tag`, which has one of two bytes.
 unfoldable pub operand_at : ℕ → List ℕ → ℕ → Option ℕ
-operand_at tag rec at = elim (command rec tag 3 at) [ true ↦ some (u16 rec (at + 1)) | false ↦ none ]
+operand_at tag rec at = elim (command rec tag 3 at) [ true ↦ Some (u16 rec (at + 1)) | false ↦ None ]
 
 -- The number that an answer holds.
 unfoldable pub number_in : Number → Option ℕ
-number_in (Is n) = some n
-number_in Not = none
+number_in (Is n) = Some n
+number_in Not = None
 
 unfoldable pub declaration_in : Declaration → Option (ℕ × Option ℕ × ℕ)
-declaration_in (Whole.Is number first next) = some (number, number_in first, next)
-declaration_in Whole.Not = none
+declaration_in (Whole.Is number first next) = Some (number, number_in first, next)
+declaration_in Whole.Not = None
 
 -- Contracts: an answer is what the definition reads at the offset.
 pub record CommandAt (tag width : ℕ) (rec : List ℕ) (at : ℕ) (r : Bool) : Type 0 where

@@ -1,28 +1,24 @@
 -- What contracts of functions below a token cite: the longest part at a text's start that a recognizer takes, and runs of bytes.
-use Rattle.std.specs.Prelude.{ℕ, suc, ◌+◌, ◌<◌, ◌≡◌, List, [], ◌∷◌, Bool, true, false, ◌||◌, eqb, get_or}
-use Rattle.std.proofs.Math.Option.{Option, none, some}
+use Rattle.std.specs.Prelude.{ℕ, suc, ◌+◌, ◌≡◌, List, [], ◌∷◌, Bool, true, false, ◌||◌, eqb, Option, None, Some}
 use Rattle.text.specs.Bytes.{bytes, between, same_bytes, is_digit}
 use Rattle.scanner.specs.Parts.{one_or_more, behind}
 use Rattle.scanner.specs.Constants.{is_hex_digit, digits_then, is_fraction, is_exponent}
-use Rattle.scanner.specs.Lexical.{is_alphanumeric_byte, is_symbol}
-use Rattle.scanner.specs.declared.runs.Class.{Class}
-use Rattle.scanner.specs.declared.runs.Class.TheVariants.{Blank, Alphanumeric, Digit, HexDigit, Plain}
 
 -- A length, some bytes more.
 unfoldable pub longer : ℕ → Option ℕ → Option ℕ
-longer k none = none
-longer k (some n) = some (k + n)
+longer k None = None
+longer k (Some n) = Some (k + n)
 
 -- The length of the longest part at the start that passes.
 unfoldable pub reach : (List ℕ → Bool) → List ℕ → Option ℕ
-reach passes [] = elim (passes []) [ true ↦ some 0 | false ↦ none ]
+reach passes [] = elim (passes []) [ true ↦ Some 0 | false ↦ None ]
 reach passes (b ∷ t) =
-    elim (reach (λ u. passes (b ∷ u)) t) [ some n ↦ some (suc n) | none ↦ elim (passes []) [ true ↦ some 0 | false ↦ none ] ]
+    elim (reach (λ u. passes (b ∷ u)) t) [ Some n ↦ Some (suc n) | None ↦ elim (passes []) [ true ↦ Some 0 | false ↦ None ] ]
 
 -- A length, 0 for none.
 unfoldable pub taken : Option ℕ → ℕ
-taken none = 0
-taken (some n) = n
+taken None = 0
+taken (Some n) = n
 
 -- How many bytes at the start pass the test.
 unfoldable pub run : (ℕ → Bool) → List ℕ → ℕ
@@ -33,17 +29,9 @@ run test (b ∷ t) = elim (test b) [ true ↦ suc (run test t) | false ↦ 0 ]
 unfoldable pub is_plain : ℕ → Bool
 is_plain b = elim (eqb b 34 || eqb b 92) [ true ↦ false | false ↦ between 32 126 b ]
 
--- The test of a class of bytes.
-unfoldable pub in_class : Class → ℕ → Bool
-in_class Blank = λ b. eqb b 32
-in_class Alphanumeric = is_alphanumeric_byte
-in_class Digit = is_digit
-in_class HexDigit = is_hex_digit
-in_class Plain = is_plain
-
--- A table that tells of each byte whether it is a symbol: its entry is `*` where it is.
-unfoldable pub TellsSymbols : List ℕ → Type 0
-TellsSymbols table = (b : ℕ) → b < 256 → eqb (get_or table b 0) 42 ≡ is_symbol b
+-- Each call at a byte answers as the test does.
+abbrev pub Decides : (ℕ → Bool → Type 0) → (ℕ → Bool) → Type 0
+Decides post test = (b : ℕ) (r : Bool) → post b r → r ≡ test b
 
 -- A hexadecimal integer, and any integer or real constant, without a negation symbol.
 unfoldable pub is_hexadecimal : List ℕ → Bool

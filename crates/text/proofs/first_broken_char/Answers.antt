@@ -1,7 +1,6 @@
 use native.Mathlib.Omega.{arith}
 use mathlib.Core.Path.{refl, sym, ◌∙◌}
 use Rattle.text.specs.Utf8.{first_broken}
-use Rattle.text.specs.Promises.Utf8.{broken_at}
 use Rattle.text.proofs.Utf8Laws.{char-here, char-ends, broken-none, broken-at, broken-more}
 use borrow.Author.Rules.{rules}
 use Rattle.text.proofs.first_broken_char.Goals as goal
@@ -11,7 +10,6 @@ unfolding first_broken
 loop-i-init c = (search rules, refl)
 
 pub returns-then-n-eq0 : goal.returns-then-n-eq0
-unfolding broken_at
 returns-then-n-eq0 c = sym (c.loop-i.invariant.1 ∙ broken-at _ _ c.loop-i-test.true (sym (char-here c.args.s.now c.loop-i.i c.char_width-n.ensures) ∙ c.if-n-eq0.true))
 
 pub overflow_add-i : goal.overflow_add-i
@@ -24,5 +22,4 @@ pub loop-i-preserved : goal.loop-i-preserved
 loop-i-preserved c = (char-ends c.args.s.now _ c.loop-i.invariant.0 (char-here c.args.s.now c.loop-i.i c.char_width-n.ensures), c.loop-i.invariant.1 ∙ broken-more _ _ c.loop-i-test.true _ (char-here c.args.s.now c.loop-i.i c.char_width-n.ensures) c.if-n-eq0.false)
 
 pub returns : goal.returns
-unfolding broken_at
 returns c = sym (c.loop-i.invariant.1 ∙ broken-none _ _ c.loop-i-test.false)

@@ -1,10 +1,11 @@
 -- `text::starts_with_letter` meets its contract, from what `is_letter` ensures of the first byte. Assumes nothing.
+use native.Mathlib.Omega.{arith}
 use mathlib.Core.Path.{sym, ◌∙◌}
 use Rattle.text.proofs.Laws.{first-none, first-at}
 use Rattle.text.proofs.starts_with_letter.Goals as goal
 
-pub returns-then-s-eq0 : goal.returns-then-s-eq0
-returns-then-s-eq0 c = sym (first-none _ _ c.if-s-eq0.true)
+pub returns-in-empty : goal.returns-in-empty
+returns-in-empty c = sym (first-none _ _ (omega arith))
 
-pub returns : goal.returns
-returns c = c.is_letter.ensures ∙ sym (first-at _ _ c.if-s-eq0.false)
+pub returns-in-len1-up : goal.returns-in-len1-up
+returns-in-len1-up c = c.is_letter.ensures ∙ sym (first-at _ _ (λ e. omega (arith, e)))

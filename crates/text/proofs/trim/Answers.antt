@@ -1,11 +1,8 @@
--- `text::trim` meets its contract: the two scans give the two ends of the part. Assumes nothing.
-use mathlib.Core.Path.{sym}
-use lib.Seq.{length-take-le}
-use Rattle.text.proofs.Laws.{trim-of}
+-- `text::trim` meets its contract: first the start, then the end. Assumes nothing.
+use mathlib.Core.Path.{ap, ◌∙◌}
+use Rattle.text.specs.Bytes.{trim_end, trim}
 use Rattle.text.proofs.trim.Goals as goal
 
-pub slice_bounds-result-end : goal.slice_bounds-result-end
-slice_bounds-result-end c = sym (length-take-le _ _ c.trimmed_end-e.ensures.0)
-
 pub returns : goal.returns
-returns c = trim-of _ c.trimmed_start-a.result c.trimmed_end-e.result c.trimmed_start-a.ensures.1 c.trimmed_end-e.ensures.1
+unfolding trim
+returns c = c.trimmed_end.ensures ∙ ap trim_end c.trimmed_start.ensures

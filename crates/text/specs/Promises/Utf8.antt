@@ -1,13 +1,10 @@
 -- Contracts of the tests for well-formed UTF-8.
-use Rattle.std.specs.Prelude.{ℕ, ◌-◌, ◌≤◌, ◌<◌, ◌≡◌, List, length, get_or}
-use Rattle.std.proofs.Math.Option.{Option, none, some}
-use Rattle.text.specs.declared.Broken.{Broken}
-use Rattle.text.specs.declared.Broken.TheVariants.{At, Nowhere}
+use Rattle.std.specs.Prelude.{ℕ, ◌-◌, ◌≤◌, ◌<◌, ◌≡◌, List, map, length, get_or}
+use Rattle.text.specs.Utf8.{Range, ◌‥◌}
 
--- The offset that an answer of the code gives.
-unfoldable pub broken_at : Broken → Option ℕ
-broken_at (At i) = some i
-broken_at Nowhere = none
+-- A row of table 3-7, as pairs of a first and a last byte.
+abbrev pub ranges : List (ℕ × ℕ) → List Range
+ranges row = map (λ r. r.0 ‥ r.1) row
 
 -- Contract: a byte d of 0x80 to 0xBF stands behind a, b and c exactly where one of them asks for it.
 pub record Asked (a b c d : ℕ) : Type 0 where

@@ -1,23 +1,30 @@
+-- `comments::Set::count` meets its contract: the words' ones are the tokens. Assumes nothing.
 use mir.Syntax.{w64}
 use mir.Val.{Fits}
-use lib.ListN.{get_or}
+use lib.Count.{ones}
+use lib.ListN.{length, get_or}
 use native.Mathlib.Omega.{arith}
-use Prim.Native.Nat.{ℕ, ◌*◌, ◌<◌, ◌^◌}
-use mathlib.Core.Path.{◌≡◌, refl, ap, ◌∙◌}
-use lib.Count.{ones-le}
-use Rattle.comments.specs.Set.{holds, count}
-use Rattle.comments.proofs.Words.{count_word}
+use Prim.Native.Nat.{ℕ, ◌<◌, ◌^◌}
+use mathlib.Core.Path.{◌≡◌, ◌∙◌}
+use Rattle.std.proofs.lemmas.Iterator.{YieldsList-from_slice, YieldsList-from_map}
+use Rattle.std.proofs.lemmas.Iterator.Consumers.{YieldsList-at, sum_by_from_yields_List, fits_by_from_yields_list}
+use Rattle.comments.specs.Set.{holds, room}
+use Rattle.comments.proofs.Words.{ones-all, count-le}
 use borrow.Author.Rules.{rules}
 use Rattle.comments.proofs.Set.count.Goals as goal
 
-pub loop-w-init : goal.loop-w-init
-unfolding count
-loop-w-init c = (search rules, refl, search rules)
-
-pub loop-w-preserved : goal.loop-w-preserved
-loop-w-preserved c =
+pub sum-requires-clause-fits : goal.sum-requires-clause-fits
+sum-requires-clause-fits c =
     let fit : (w : ℕ) → get_or c.args.self.words w 0 < 2 ^ 64 = λ w. (let f : Fits w64 (get_or c.args.self.words w 0) = search rules in f.fits) in
-    let at = c in let x = fit at.loop-w.w in (omega arith, omega (arith, c.wide-n.ensures.0, count_word at.args.self.words at.loop-w.w x), omega (arith, c.wide-n.ensures.0, ones-le 64 _ x))
+    let long : length c.args.self.words ≡ 64 = search rules in
+    fits_by_from_yields_list ones c.args.self.words _ _
+    (YieldsList-from_map _ ones (YieldsList-at c.map.ensures.source (YieldsList-from_slice c.args.self.words (cc))) c.map.ensures.closure (λ x r q k. search rules))
+    (omega (arith, ones-all c.args.self.words fit long, count-le (holds c.args.self.words) room 0))
 
 pub returns : goal.returns
-returns c = let full : c.loop-w.w ≡ 64 = omega arith in c.loop-w.invariant.1 ∙ ap (λ (w : ℕ). count (holds c.args.self.words) 0 (64 * w)) full
+returns c =
+    let fit : (w : ℕ) → get_or c.args.self.words w 0 < 2 ^ 64 = λ w. (let f : Fits w64 (get_or c.args.self.words w 0) = search rules in f.fits) in
+    let long : length c.args.self.words ≡ 64 = search rules in
+    sum_by_from_yields_List ones c.args.self.words _ _ c.sum.ensures.ran
+    (YieldsList-from_map _ ones (YieldsList-at c.map.ensures.source (YieldsList-from_slice c.args.self.words (cc))) c.map.ensures.closure (λ x r q k. search rules))
+    ∙ ones-all c.args.self.words fit long

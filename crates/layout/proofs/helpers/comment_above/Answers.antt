@@ -2,7 +2,6 @@
 use Rattle.std.proofs.Common.{ap}
 use Rattle.reader.specs.Promises.Commands.{number_in}
 use Rattle.comments.specs.Above.{comment_in}
-use Rattle.comments.specs.Promises.Above.{found_of, comment_of}
 use Rattle.comments.proofs.Search.{comment-told}
 use Rattle.layout.specs.DecOne.{comment_line}
 use Rattle.layout.proofs.DecLaws.{comment-skip, comment-none, comment-some}
@@ -13,16 +12,16 @@ unfolding number_in
 returns-in_default c = comment-skip (ap number_in c.in_default.is)
 
 pub returns-in_default-comment_above : goal.returns-in_default-comment_above
-unfolding number_in comment_of found_of comment_in
+unfolding number_in comment_in
 returns-in_default-comment_above c =
     let found = c in
     comment-none (ap number_in found.in-Is.is) (comment-told _ _ found.comment_above.result found.comment_above.ensures)
-    (ap comment_of c.in_default-comment_above.is)
+    (ap comment_in c.in_default-comment_above.is)
 
 pub returns : goal.returns
-unfolding number_in comment_of found_of comment_in comment_line
+unfolding number_in comment_in comment_line
 returns c =
     let written = c in
     let found = written in
     comment-some (ap number_in found.in-Is.is) (comment-told _ _ found.comment_above.result found.comment_above.ensures)
-    (ap comment_of written.in-Comment.is) written.comment.ensures c.line.ensures
+    (ap comment_in written.in-Some.is) written.comment.ensures c.line.ensures

@@ -1,6 +1,5 @@
 use native.Mathlib.Omega.{arith}
-use mathlib.Core.Path.{refl, sym, ap, ◌∙◌}
-use Rattle.scanner.specs.Promises.Reach.{taken}
+use mathlib.Core.Path.{refl, sym, ◌∙◌}
 use Rattle.scanner.proofs.CommentLaws.{comment_empty, comment-over, comment-opens, comment-closes, comment-shut, comment-star, comment-bracket, comment-plain}
 use Rattle.scanner.proofs.lexical.comment_end.Goals as goal
 
@@ -23,7 +22,7 @@ pub overflow_sub-depth : goal.overflow_sub-depth
 overflow_sub-depth c = omega (arith, c.loop-at.invariant.2)
 
 pub returns-then-depth-eq0 : goal.returns-then-depth-eq0
-returns-then-depth-eq0 c = let l = c.loop-at in comment-shut _ l.at l.depth _ l.invariant.0 l.invariant.2 c.loop-at-test.true c.if-b-eq42.true c.if-s-at-eq41.true c.if-depth-eq0.true ∙ ap taken (sym l.invariant.1)
+returns-then-depth-eq0 c = let l = c.loop-at in comment-shut _ l.at l.depth _ l.invariant.0 l.invariant.2 c.loop-at-test.true c.if-b-eq42.true c.if-s-at-eq41.true c.if-depth-eq0.true ∙ sym l.invariant.1
 
 pub loop-at-preserved-else-depth-eq0 : goal.loop-at-preserved-else-depth-eq0
 loop-at-preserved-else-depth-eq0 c = let l = c.loop-at in (l.invariant.0, l.invariant.1 ∙ comment-closes _ l.at l.depth _ l.invariant.0 l.invariant.2 c.loop-at-test.true c.if-b-eq42.true c.if-s-at-eq41.true, omega (arith, c.if-depth-eq0.false), omega (arith, l.invariant.3))
@@ -50,5 +49,4 @@ pub loop-at-preserved : goal.loop-at-preserved
 loop-at-preserved c = let l = c.loop-at in (l.invariant.0, l.invariant.1 ∙ comment-plain _ l.at l.depth _ l.invariant.0 l.invariant.2 c.loop-at-test.true c.if-b-eq42.false c.if-b-eq40.false, l.invariant.2, omega (arith, l.invariant.3))
 
 pub returns : goal.returns
-unfolding taken
-returns c = let l = c.loop-at in ap taken (sym (l.invariant.1 ∙ comment-over _ l.at l.depth _ l.invariant.0 l.invariant.2 c.loop-at-test.false))
+returns c = let l = c.loop-at in sym (l.invariant.1 ∙ comment-over _ l.at l.depth _ l.invariant.0 l.invariant.2 c.loop-at-test.false)

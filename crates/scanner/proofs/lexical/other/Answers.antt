@@ -5,15 +5,16 @@ use mathlib.Core.Path.{sym, ap, ◌∙◌}
 use mathlib.Core.List.{◌∷◌}
 use lib.ListN.{drop}
 use borrow.Author.Tests.{ne_eqb}
+use Rattle.scanner.specs.Lexical.{is_symbol}
 use Rattle.scanner.proofs.TokenLaws.{longest-symbol, longest-lone, longest-none, lone-other, no-mark, no_name}
 use borrow.Author.Rules.{rules}
 use Rattle.scanner.proofs.lexical.other.Goals as goal
 
 pub quoted-requires : goal.quoted-requires
-quoted-requires c = record { rest_value = c.requires.rest_value ∙ ap (λ (x : ℕ). x ∷ drop 1 c.args.rest.now) c.in-34.is; table_value = c.requires.table_value }
+quoted-requires c = c.requires.rest_value ∙ ap (λ (x : ℕ). x ∷ drop 1 c.args.rest.now) c.in-34.is
 
 pub hash-requires : goal.hash-requires
-hash-requires c = record { rest_value = c.requires.rest_value ∙ ap (λ (x : ℕ). x ∷ drop 1 c.args.rest.now) c.in-35.is; table_value = c.requires.table_value; tells_symbols = c.requires.tells_symbols }
+hash-requires c = c.requires.rest_value ∙ ap (λ (x : ℕ). x ∷ drop 1 c.args.rest.now) c.in-35.is
 
 pub bracket-requires : goal.bracket-requires
 bracket-requires c = c.requires.rest_value ∙ ap (λ (x : ℕ). x ∷ drop 1 c.args.rest.now) c.in-40.is
@@ -22,10 +23,10 @@ pub dots-requires : goal.dots-requires
 dots-requires c = c.requires.rest_value ∙ ap (λ (x : ℕ). x ∷ drop 1 c.args.rest.now) c.in-46.is
 
 pub negation-requires : goal.negation-requires
-negation-requires c = record { rest_value = c.requires.rest_value ∙ ap (λ (x : ℕ). x ∷ drop 1 c.args.rest.now) c.in-126.is; table_value = c.requires.table_value; tells_symbols = c.requires.tells_symbols }
+negation-requires c = c.requires.rest_value ∙ ap (λ (x : ℕ). x ∷ drop 1 c.args.rest.now) c.in-126.is
 
 pub returns-then-is_symbol : goal.returns-then-is_symbol
-returns-then-is_symbol c = let a = c.args in c.symbols.ensures ∙ sym (longest-symbol a.rest.now a.b c.requires.rest_value (omega arith) (sym c.is_symbol.ensures ∙ c.if-is_symbol.true) (ne_eqb a.b 35 (λ e. omega arith)) (ne_eqb a.b 126 (λ e. omega arith)))
+returns-then-is_symbol c = let a = c.args in c.run.ensures is_symbol (λ b r e. e) ∙ sym (longest-symbol a.rest.now a.b c.requires.rest_value (omega arith) (sym c.is_symbol.ensures ∙ c.if-is_symbol.true) (ne_eqb a.b 35 (λ e. omega arith)) (ne_eqb a.b 126 (λ e. omega arith)))
 
 pub returns-in-34 : goal.returns-in-34
 returns-in-34 c = c.quoted.ensures

@@ -1,24 +1,27 @@
 -- `decimal` meets its contract. Assumes nothing.
 use native.Mathlib.Omega.{arith}
-use mathlib.Core.Path.{sym, ◌∙◌}
-use lib.ListN.{drop}
-use Rattle.scanner.specs.Constants.{is_decimal}
-use Rattle.scanner.specs.Promises.Reach.{in_class, reach}
-use Rattle.scanner.proofs.ReachLaws.{first-inside, part_none, part-some}
+use mathlib.Core.Path.{sym, ap, ◌∙◌}
+use Rattle.text.specs.Bytes.{is_digit}
+use Rattle.scanner.specs.Parts.{one_or_more}
+use Rattle.scanner.specs.Promises.Reach.{longer}
+use Rattle.scanner.proofs.ReachLaws.{reach-within}
 use Rattle.scanner.proofs.NumberLaws.{decimal-signed, decimal-plain}
 use Rattle.scanner.proofs.numbers.decimal.Goals as goal
 
-pub overflow_add-at : goal.overflow_add-at
-overflow_add-at c = let a = c.args in omega (arith, first-inside _ a.s.now a.at (sym c.stands.ensures ∙ c.if-stands.true))
+pub returns-in_err-digits-in-Some : goal.returns-in_err-digits-in-Some
+unfolding longer
+returns-in_err-digits-in-Some c =
+    c.from_residual.ensures
+    ∙ sym (decimal-signed c.args.s.now c.in-Some.ensures.cases.0 c.in-Some.ensures.cases.1 ∙ ap (longer 1) (sym c.digits.ensures ∙ c.in_err-digits-in-Some.was))
 
-pub returns-then-end-at : goal.returns-then-end-at
-unfolding in_class
-returns-then-end-at c = let a = c.args in part_none (reach is_decimal (drop a.at a.s.now)) 1 _ a.at _ (decimal-signed a.s.now a.at (sym c.stands.ensures ∙ c.if-stands.true)) c.run-end.ensures c.if-end-at.true
+pub overflow_add-result : goal.overflow_add-result
+overflow_add-result c =
+    omega (arith, reach-within (one_or_more is_digit) _ c.digits.ensures c.in_ok-digits-in-Some.was, c.in-Some.ensures.cases.2)
 
-pub returns-then-stands : goal.returns-then-stands
-unfolding in_class
-returns-then-stands c = let a = c.args in part-some (reach is_decimal (drop a.at a.s.now)) 1 _ a.at _ (decimal-signed a.s.now a.at (sym c.stands.ensures ∙ c.if-stands.true)) c.run-end.ensures c.if-end-at.false
+pub returns-in_ok-digits-in-Some : goal.returns-in_ok-digits-in-Some
+unfolding longer
+returns-in_ok-digits-in-Some c =
+    sym (decimal-signed c.args.s.now c.in-Some.ensures.cases.0 c.in-Some.ensures.cases.1 ∙ ap (longer 1) (sym c.digits.ensures ∙ c.in_ok-digits-in-Some.was))
 
-pub returns : goal.returns
-unfolding in_class
-returns c = let a = c.args in c.run.ensures ∙ decimal-plain a.s.now a.at (sym c.stands.ensures ∙ c.if-stands.false)
+pub returns-in-None : goal.returns-in-None
+returns-in-None c = c.digits-in-None.ensures ∙ sym (decimal-plain c.args.s.now c.in-None.ensures.cases)

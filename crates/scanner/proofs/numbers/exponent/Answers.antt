@@ -1,20 +1,33 @@
 -- `exponent` meets its contract. Assumes nothing.
-use mathlib.Core.Path.{sym, ◌∙◌}
-use lib.ListN.{drop}
-use Rattle.scanner.specs.Constants.{is_exponent}
-use Rattle.scanner.specs.Promises.Reach.{reach}
-use Rattle.scanner.proofs.ReachLaws.{none-at, part_none, part-some}
+use native.Mathlib.Omega.{arith}
+use mathlib.Core.Path.{sym, ap, ◌∙◌}
+use Rattle.scanner.specs.Constants.{is_decimal, is_exponent}
+use Rattle.scanner.specs.Promises.Reach.{longer, reach}
+use Rattle.scanner.proofs.ReachLaws.{reach-within}
 use Rattle.scanner.proofs.NumberLaws.{exponent-end, exponent-other, exponent-part}
 use Rattle.scanner.proofs.numbers.exponent.Goals as goal
 
-pub returns-then-s-at : goal.returns-then-s-at
-returns-then-s-at c = let a = c.args in none-at _ _ (exponent-end a.s.now a.at c.if-s-at.true)
+pub returns-in_err-b : goal.returns-in_err-b
+returns-in_err-b c = c.from_residual.ensures ∙ sym (exponent-end c.args.s.now c.in_err-b.ensures.cases)
+
+pub returns-in_err-decimal : goal.returns-in_err-decimal
+unfolding longer
+returns-in_err-decimal c =
+    c.from_residual-in_err-decimal.ensures
+    ∙ sym (ap (reach is_exponent) c.in_ok-b.ensures.cases.0
+    ∙ exponent-part c.in_ok-b.b.now c.in_ok-b.rest.now (sym c.is_exponent_symbol.ensures ∙ c.if-not-is_exponent_symbol.false)
+    ∙ ap (longer 1) (sym c.decimal.ensures ∙ c.in_err-decimal.was))
+
+pub overflow_add-result : goal.overflow_add-result
+overflow_add-result c = omega (arith, reach-within is_decimal _ c.decimal.ensures c.in_ok-decimal.was, c.in_ok-b.ensures.cases.1)
 
 pub returns-then-not-is_exponent_symbol : goal.returns-then-not-is_exponent_symbol
-returns-then-not-is_exponent_symbol c = let a = c.args in none-at _ _ (exponent-other a.s.now a.at c.if-s-at.false (sym c.is_exponent_symbol.ensures ∙ c.if-not-is_exponent_symbol.true))
-
-pub returns-then-end-at : goal.returns-then-end-at
-returns-then-end-at c = let a = c.args in part_none (reach is_exponent (drop a.at a.s.now)) 1 _ a.at _ (exponent-part a.s.now a.at c.if-s-at.false (sym c.is_exponent_symbol.ensures ∙ c.if-not-is_exponent_symbol.false)) c.decimal-end.ensures c.if-end-at.true
+returns-then-not-is_exponent_symbol c =
+    sym (ap (reach is_exponent) c.in_ok-b.ensures.cases.0 ∙ exponent-other c.in_ok-b.b.now c.in_ok-b.rest.now (sym c.is_exponent_symbol.ensures ∙ c.if-not-is_exponent_symbol.true))
 
 pub returns : goal.returns
-returns c = let a = c.args in part-some (reach is_exponent (drop a.at a.s.now)) 1 _ a.at _ (exponent-part a.s.now a.at c.if-s-at.false (sym c.is_exponent_symbol.ensures ∙ c.if-not-is_exponent_symbol.false)) c.decimal-end.ensures c.if-end-at.false
+unfolding longer
+returns c =
+    sym (ap (reach is_exponent) c.in_ok-b.ensures.cases.0
+    ∙ exponent-part c.in_ok-b.b.now c.in_ok-b.rest.now (sym c.is_exponent_symbol.ensures ∙ c.if-not-is_exponent_symbol.false)
+    ∙ ap (longer 1) (sym c.decimal.ensures ∙ c.in_ok-decimal.was))

@@ -1,31 +1,32 @@
 -- `hexadecimal` meets its contract. Assumes nothing.
 use native.Mathlib.Omega.{arith}
-use mathlib.Core.Path.{sym, ◌∙◌}
-use lib.ListN.{drop}
-use Prim.Native.Nat.{◌+◌}
-use Rattle.scanner.specs.Promises.Reach.{in_class, reach, is_hexadecimal}
-use Rattle.scanner.proofs.ReachLaws.{first-inside, none-at, part_none, part-some}
-use Rattle.scanner.proofs.NumberLaws.{hexadecimal-other, hexadecimal-zero, hexadecimal-part}
+use mathlib.Core.Path.{sym, ap, ◌∙◌}
+use mathlib.Core.List.{[], ◌∷◌}
+use Rattle.text.specs.Bytes.{bytes}
+use Rattle.scanner.specs.Parts.{one_or_more}
+use Rattle.scanner.specs.Constants.{is_hex_digit}
+use Rattle.scanner.specs.Promises.Reach.{longer, is_hexadecimal}
+use Rattle.scanner.proofs.ReachLaws.{reach-within, strip_no}
+use Rattle.scanner.proofs.NumberLaws.{hexadecimal-part}
 use Rattle.scanner.proofs.numbers.hexadecimal.Goals as goal
 
-pub returns-then-not-stands : goal.returns-then-not-stands
-unfolding in_class
-returns-then-not-stands c = let a = c.args in none-at _ _ (hexadecimal-other a.s.now a.at (sym c.stands.ensures ∙ c.if-not-stands.true))
+pub returns-in_err-rest : goal.returns-in_err-rest
+unfolding is_hexadecimal bytes
+returns-in_err-rest c = c.from_residual.ensures ∙ sym (strip_no (one_or_more is_hex_digit) (48 ∷ 120 ∷ []) c.args.s.now c.in_err-rest.ensures.cases)
 
-pub overflow_add-at : goal.overflow_add-at
-overflow_add-at c = let a = c.args in omega (arith, first-inside _ a.s.now a.at (sym c.stands.ensures ∙ c.if-not-stands.false))
+pub returns-in_err-run_of_some : goal.returns-in_err-run_of_some
+unfolding longer
+returns-in_err-run_of_some c =
+    c.from_residual-in_err-run_of_some.ensures
+    ∙ sym (hexadecimal-part c.args.s.now c.in_ok-rest.ensures.cases.0 c.in_ok-rest.ensures.cases.1 ∙ ap (longer 2) (sym (c.run_of_some.ensures is_hex_digit (λ b r e. e)) ∙ c.in_err-run_of_some.was))
 
-pub returns-then-not-stands-2 : goal.returns-then-not-stands-2
-unfolding in_class
-returns-then-not-stands-2 c = let a = c.args in none-at _ _ (hexadecimal-zero a.s.now a.at (sym c.stands.ensures ∙ c.if-not-stands.false) (sym c.stands-2.ensures ∙ c.if-not-stands-2.true))
-
-pub overflow_add-at-2 : goal.overflow_add-at-2
-overflow_add-at-2 c = let a = c.args in omega (arith, first-inside _ a.s.now (a.at + 1) (sym c.stands-2.ensures ∙ c.if-not-stands-2.false))
-
-pub returns-then-end-at : goal.returns-then-end-at
-unfolding in_class
-returns-then-end-at c = let a = c.args in part_none (reach is_hexadecimal (drop a.at a.s.now)) 2 _ a.at _ (hexadecimal-part a.s.now a.at (sym c.stands.ensures ∙ c.if-not-stands.false) (sym c.stands-2.ensures ∙ c.if-not-stands-2.false)) c.run-end.ensures c.if-end-at.true
+pub overflow_add-result : goal.overflow_add-result
+overflow_add-result c =
+    let rest = c.in_ok-rest.ensures.cases.2 in
+    let n = reach-within (one_or_more is_hex_digit) c.in_ok-rest.rest.now (c.run_of_some.ensures is_hex_digit (λ b r e. e)) (c.in_ok-run_of_some.was) in
+    omega (arith, rest, n)
 
 pub returns : goal.returns
-unfolding in_class
-returns c = let a = c.args in part-some (reach is_hexadecimal (drop a.at a.s.now)) 2 _ a.at _ (hexadecimal-part a.s.now a.at (sym c.stands.ensures ∙ c.if-not-stands.false) (sym c.stands-2.ensures ∙ c.if-not-stands-2.false)) c.run-end.ensures c.if-end-at.false
+unfolding longer
+returns c =
+    sym (hexadecimal-part c.args.s.now c.in_ok-rest.ensures.cases.0 c.in_ok-rest.ensures.cases.1 ∙ ap (longer 2) (sym (c.run_of_some.ensures is_hex_digit (λ b r e. e)) ∙ c.in_ok-run_of_some.was))

@@ -1,32 +1,44 @@
 -- `word` meets its contract. Assumes nothing.
 use native.Mathlib.Omega.{arith}
-use mathlib.Core.Path.{sym, ◌∙◌}
-use Rattle.scanner.specs.Constants.{is_word}
-use Rattle.scanner.specs.Promises.Reach.{in_class, reach}
-use Rattle.scanner.proofs.ReachLaws.{none-at, part_none, part-some}
-use Rattle.scanner.proofs.NumberLaws.{word_other, word-zero, word-hex, word-digits}
+use mathlib.Core.Path.{sym, ap, ◌∙◌}
+use Rattle.text.specs.Bytes.{is_digit}
+use Rattle.scanner.specs.Parts.{one_or_more}
+use Rattle.scanner.specs.Constants.{is_hex_digit}
+use Rattle.scanner.specs.Promises.Reach.{longer}
+use Rattle.scanner.proofs.ReachLaws.{reach-within}
+use Rattle.scanner.proofs.NumberLaws.{word-other, word-hex, word-digits}
 use Rattle.scanner.proofs.numbers.word.Goals as goal
 
-pub returns-then-not-stands : goal.returns-then-not-stands
-unfolding in_class
-returns-then-not-stands c = let a = c.args in omega (arith, none-at 0 (reach is_word a.s.now) (word_other a.s.now (sym c.stands.ensures ∙ c.if-not-stands.true)))
+pub returns-in_err-rest : goal.returns-in_err-rest
+returns-in_err-rest c = c.from_residual.ensures ∙ sym (word-other c.args.s.now c.in_err-rest.ensures.cases)
 
-pub returns-then-not-stands-2 : goal.returns-then-not-stands-2
-unfolding in_class
-returns-then-not-stands-2 c = let a = c.args in omega (arith, none-at 0 (reach is_word a.s.now) (word-zero a.s.now (sym c.stands.ensures ∙ c.if-not-stands.false) (sym c.stands-2.ensures ∙ c.if-not-stands-2.true)))
+pub returns-in_err-run_of_some-in-Some : goal.returns-in_err-run_of_some-in-Some
+unfolding longer
+returns-in_err-run_of_some-in-Some c =
+    c.from_residual-in_err-run_of_some-in-Some.ensures
+    ∙ sym (word-hex c.args.s.now c.in_ok-rest.ensures.cases.0 c.in_ok-rest.ensures.cases.1 c.in-Some.ensures.cases.0 c.in-Some.ensures.cases.1 ∙ ap (longer 3) (sym (c.run_of_some.ensures is_hex_digit (λ b r e. e)) ∙ c.in_err-run_of_some-in-Some.was))
 
-pub returns-then-hex-eq3 : goal.returns-then-hex-eq3
-unfolding in_class
-returns-then-hex-eq3 c = let a = c.args in omega (arith, part_none (reach is_word a.s.now) 3 _ 0 _ (word-hex a.s.now (sym c.stands.ensures ∙ c.if-not-stands.false) (sym c.stands-2.ensures ∙ c.if-not-stands-2.false) (sym c.stands-3.ensures ∙ c.if-stands.true)) c.run-hex.ensures c.if-hex-eq3.true)
+pub overflow_add-result : goal.overflow_add-result
+overflow_add-result c =
+    let n = reach-within (one_or_more is_hex_digit) _ (c.run_of_some.ensures is_hex_digit (λ b r e. e)) c.in_ok-run_of_some-in-Some.was in
+    omega (arith, n, c.in_ok-rest.ensures.cases.2, c.in-Some.ensures.cases.2)
 
-pub returns-then-stands : goal.returns-then-stands
-unfolding in_class
-returns-then-stands c = let a = c.args in omega (arith, part-some (reach is_word a.s.now) 3 _ 0 _ (word-hex a.s.now (sym c.stands.ensures ∙ c.if-not-stands.false) (sym c.stands-2.ensures ∙ c.if-not-stands-2.false) (sym c.stands-3.ensures ∙ c.if-stands.true)) c.run-hex.ensures c.if-hex-eq3.false)
+pub returns-in_err-digits-in-None : goal.returns-in_err-digits-in-None
+unfolding longer
+returns-in_err-digits-in-None c =
+    c.from_residual-in_err-digits-in-None.ensures
+    ∙ sym (word-digits c.args.s.now c.in_ok-rest.ensures.cases.0 c.in_ok-rest.ensures.cases.1 c.in-None.ensures.cases ∙ ap (longer 2) (sym c.digits.ensures ∙ c.in_err-digits-in-None.was))
 
-pub returns-then-end-eq2 : goal.returns-then-end-eq2
-unfolding in_class
-returns-then-end-eq2 c = let a = c.args in omega (arith, part_none (reach is_word a.s.now) 2 _ 0 _ (word-digits a.s.now (sym c.stands.ensures ∙ c.if-not-stands.false) (sym c.stands-2.ensures ∙ c.if-not-stands-2.false) (sym c.stands-3.ensures ∙ c.if-stands.false)) c.run-end.ensures c.if-end-eq2.true)
+pub overflow_add-result-in-None : goal.overflow_add-result-in-None
+overflow_add-result-in-None c =
+    omega (arith, reach-within (one_or_more is_digit) _ c.digits.ensures c.in_ok-digits-in-None.was, c.in_ok-rest.ensures.cases.2)
 
-pub returns : goal.returns
-unfolding in_class
-returns c = let a = c.args in omega (arith, part-some (reach is_word a.s.now) 2 _ 0 _ (word-digits a.s.now (sym c.stands.ensures ∙ c.if-not-stands.false) (sym c.stands-2.ensures ∙ c.if-not-stands-2.false) (sym c.stands-3.ensures ∙ c.if-stands.false)) c.run-end.ensures c.if-end-eq2.false)
+pub returns-in_ok-run_of_some-in-Some : goal.returns-in_ok-run_of_some-in-Some
+unfolding longer
+returns-in_ok-run_of_some-in-Some c =
+    sym (word-hex c.args.s.now c.in_ok-rest.ensures.cases.0 c.in_ok-rest.ensures.cases.1 c.in-Some.ensures.cases.0 c.in-Some.ensures.cases.1 ∙ ap (longer 3) (sym (c.run_of_some.ensures is_hex_digit (λ b r e. e)) ∙ c.in_ok-run_of_some-in-Some.was))
+
+pub returns-in_ok-digits-in-None : goal.returns-in_ok-digits-in-None
+unfolding longer
+returns-in_ok-digits-in-None c =
+    sym (word-digits c.args.s.now c.in_ok-rest.ensures.cases.0 c.in_ok-rest.ensures.cases.1 c.in-None.ensures.cases ∙ ap (longer 2) (sym c.digits.ensures ∙ c.in_ok-digits-in-None.was))

@@ -1,24 +1,26 @@
--- `is_alphanumeric` meets its contract, by the rule of the table. Assumes nothing.
+-- `is_alphanumeric` meets its contract. Assumes nothing.
 use native.Mathlib.Omega.{arith}
-use mathlib.Core.Path.{sym}
-use mathlib.Core.Bool.{or-false}
-use borrow.Author.Tests.{ne_eqb}
+use mathlib.Core.Path.{refl, sym, ◌∙◌}
+use mathlib.Core.Bool.{false, or-false}
+use mathlib.Core.List.{[], ◌∷◌}
+use borrow.Author.Rules.{rules}
 use Rattle.text.specs.Bytes.{bytes, between, is_letter, is_digit}
-use Rattle.scanner.specs.Parts.{is_one_of}
+use Rattle.scanner.specs.Parts.{every, is_one_of}
 use Rattle.scanner.specs.Lexical.{is_alphanumeric_byte}
-use Rattle.scanner.proofs.Bytes.{one_entry, no-entry}
+use Rattle.text.proofs.Computed.{all_below, same}
+use Rattle.scanner.proofs.Bytes.{decides, between-keys, by-range, among_keys}
 use Rattle.scanner.proofs.runs.is_alphanumeric.Goals as goal
 
-pub returns-then-table-b-ne-NEITHER : goal.returns-then-table-b-ne-NEITHER
+pub returns-in-39 : goal.returns-in-39
+unfolding is_alphanumeric_byte is_one_of bytes every is_letter is_digit between
+returns-in-39 c = sym (among_keys (39 ∷ 95 ∷ []) is_alphanumeric_byte _ refl c.in-39.is)
+
+pub returns-then-is_letter : goal.returns-then-is_letter
 unfolding is_alphanumeric_byte
-returns-then-table-b-ne-NEITHER c = rw (one_entry _ c.args.b (omega arith) c.requires c.if-table-b-ne-NEITHER.true)
+returns-then-is_letter c = rw (sym c.is_letter.ensures ∙ c.if-is_letter.true) c.if-is_letter.true
 
-pub returns-then-b-eq39 : goal.returns-then-b-eq39
-unfolding is_alphanumeric_byte is_one_of bytes is_letter is_digit between
-returns-then-b-eq39 c = rw c.if-b-eq39.true
-
-pub returns-else-b-eq39 : goal.returns-else-b-eq39
-unfolding is_alphanumeric_byte is_one_of bytes
-returns-else-b-eq39 c =
-    rw (no-entry _ c.args.b (omega arith) c.requires c.if-table-b-ne-NEITHER.false, ne_eqb _ 39 c.if-b-eq39.false)
-    (sym (or-false _))
+pub returns-else-is_letter : goal.returns-else-is_letter
+unfolding is_alphanumeric_byte is_one_of bytes all_below same decides between-keys every
+returns-else-is_letter c =
+    rw (sym c.is_letter.ensures ∙ c.if-is_letter.false, ← by-range (39 ∷ 95 ∷ []) 0 256 (is_one_of (bytes "'_")) false refl c.args.b (omega arith) (omega arith) (omega arith) (search rules))
+    (c.is_digit.ensures ∙ sym (or-false _))

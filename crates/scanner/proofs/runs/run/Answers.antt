@@ -1,17 +1,18 @@
+-- `run` meets its contract. Assumes nothing.
 use native.Mathlib.Omega.{arith}
-use mathlib.Core.Path.{refl, sym, ◌∙◌}
-use Rattle.scanner.specs.Promises.Reach.{in_class}
-use Rattle.scanner.proofs.ReachLaws.{run_end, run_more, run-stop}
+use mathlib.Core.Path.{ap, ◌∙◌}
+use Prim.Native.Nat.{ℕ, ◌+◌}
+use lib.ListN.{length-drop}
+use Rattle.text.proofs.Laws.{take_rest}
+use Rattle.scanner.specs.Promises.Reach.{run}
+use Rattle.scanner.proofs.ReachLaws.{run_end}
 use Rattle.scanner.proofs.runs.run.Goals as goal
 
-pub loop-at-init : goal.loop-at-init
-loop-at-init c = refl
+pub returns-then-s-from : goal.returns-then-s-from
+returns-then-s-from g c = λ test d. omega (arith, run_end test c.args.s.now c.args.from c.if-s-from.true)
 
-pub returns-then-not-is_in : goal.returns-then-not-is_in
-returns-then-not-is_in c = let at = c in omega (arith, at.loop-at.invariant, run-stop (in_class at.args.class) at.args.s.now at.loop-at.at c.loop-at-test.true (sym c.is_in.ensures ∙ c.if-not-is_in.true))
-
-pub loop-at-preserved : goal.loop-at-preserved
-loop-at-preserved c = let at = c in omega (arith, at.loop-at.invariant, run_more (in_class at.args.class) at.args.s.now at.loop-at.at c.loop-at-test.true (sym c.is_in.ensures ∙ c.if-not-is_in.false))
+pub overflow_add-result : goal.overflow_add-result
+overflow_add-result g c = omega (arith, c.run_length.ensures.within, length-drop c.args.from c.args.s.now, c.if-s-from.false)
 
 pub returns : goal.returns
-returns c = let a = c.args in omega (arith, c.loop-at.invariant, run_end (in_class a.class) a.s.now c.loop-at.at c.loop-at-test.false)
+returns g c = λ test d. ap (λ (n : ℕ). c.args.from + n) (c.run_length.ensures.counts test d ∙ ap (run test) (take_rest c.args.s.now c.args.from))
