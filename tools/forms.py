@@ -4,6 +4,7 @@
 enums       enums of the repository's own
 structs     structs of the repository's own
 sentinels   functions that answer a number where one of its values says that there is none, or a number for a refusal
+twins       groups of functions of one shape: equal but for names of functions and types, constants and numbers
 loops       loops by `while` and `loop`
 steps       lines that count an index by hand: `i += 1` and the like
 prints      comparisons, copies and conversions written as functions: same, larger, greater, copy, .._of with one match
@@ -17,7 +18,7 @@ import glob
 import re
 import sys
 
-FUNCTION = re.compile(r"^ *(?:pub )?(?:extern \"C\" )?(?:const )?fn (\w+)(?:<[^>]*>)?\((.*?)\)(?: -> ([^{]*?))?(?=\n? *(?:requires|ensures|\{|where))", re.M | re.S)
+FUNCTION = re.compile(r"^ *(?:pub )?(?:extern \"C\" )?(?:const )?fn (\w+)(?:<(?:[^<>]|->)*>)?\((.*?)\)(?: -> ([^{]*?))?(?=\n? *(?:requires|ensures|\{|where))", re.M | re.S)
 NONE = re.compile(r"\bnone\b|no \w+ (?:does|begins|stands)|where it has none|else (?:a stop|0)|0 where|itself where|a stop", re.I)
 
 
@@ -57,7 +58,7 @@ def sentinels():
 def clauses():
     where = collections.defaultdict(list)
     for path, line, name, _, _, _, rest in functions():
-        for clause in re.findall(r"requires(?: \w+)? \{ (.*?) \}\n", rest):
+        for clause in dict.fromkeys(re.findall(r"requires(?: \w+)? \{ (.*?) \}\n", rest)):
             where[clause].append(f"{path}:{line} {name}")
     for clause, places in sorted(where.items(), key=lambda item: -len(item[1])):
         if len(places) >= 3:
@@ -77,6 +78,21 @@ def together():
             yield f"{len(who)} functions: {', '.join(group)}"
 
 
+def twins():
+    """Functions of eight words or more in the body that are equal but for names of functions and types, constants and numbers."""
+    where = collections.defaultdict(list)
+    for path, line, name, parameters, result, _, rest in functions():
+        body = re.split(r"\n *(?:#\[|//|\})[^\n]*\n\n|\n\n(?=//|#|pub|fn|const|impl)", rest)[0]
+        body = re.sub(r"(?:requires|ensures)(?: \w+)? \{.*?\}\n|//[^\n]*", "", body, flags=re.S)
+        words = re.findall(r"b?\"(?:[^\"\\\\]|\\\\.)*\"|b?'(?:[^'\\\\]|\\\\.)'|\w+|[^\w\s]", body)
+        shape = " ".join("K" if re.match(r"b?[\"']|\d|[A-Z]", w) else "f" if following == "(" and re.match(r"[a-z_]\w+$", w) else w for w, following in zip(words, words[1:] + [""]))
+        if len(words) > 8:
+            where[(re.sub(r"\b[A-Z]\w*|\d+", "K", ", ".join(parameters)), re.sub(r"\d+", "K", result), shape)].append(f"{path}:{line} {name}")
+    for who in sorted(where.values(), key=lambda who: -len(who)):
+        if len(who) >= 2:
+            yield f"{len(who)} functions: {', '.join(who)}"
+
+
 def switches():
     plain = {name for _, text in sources() for name, body in re.findall(r"enum (\w+) \{(.*?)\n\}", text, re.S) if not re.search(r"[({]", re.sub(r"//[^\n]*", "", body))}
     for path, line, name, parameters, _, _, _ in functions():
@@ -89,12 +105,13 @@ POINTS = {
     "enums": lambda: lines(r"^(pub )?enum \w"),
     "structs": lambda: lines(r"^(pub )?struct \w"),
     "sentinels": sentinels,
+    "twins": twins,
     "loops": lambda: lines(r"^\s*(while\b|loop\b)"),
     "steps": lambda: lines(r"^\s*\w+ [+-]= \w+;$"),
     "prints": lambda: lines(r"\bfn (same|larger|greater|excess|copy|eight|four|pair|whole|is_passed|numbers_of|put_\w+|wide|cleared)\("),
     "clauses": clauses,
     "together": together,
-    "arrays": lambda: lines(r"(kinds|spans|starts|lens|mem|words): (&(mut )?)?\[u\d+(; \d+)?\]"),
+    "arrays": lambda: lines(r"(kinds|spans|starts|lens|mem|words): (&(mut )?)?\[\w+(; \w+)?\]"),
     "switches": switches,
 }
 

@@ -25,6 +25,8 @@ ORIGINAL = "reference/crates/sml-naive-fmt/src/lib.rs"
 FAMILIES = {"DecOne": "DecForm", "StrExp": "StrExpForm", "SigExp": "SigExpForm", "Exp": "ExpForm", "Pat": "PatForm", "Ty": "TyForm"}
 # An arm whose code calls one of these crates' functions alone has no function of its own.
 BELOW = {"layout", "reader", "text", "comments"}
+# The crates of the walk above these.
+WALK = {"types", "patterns", "leaves", "walk"}
 MARK = re.compile(r"(<!-- tables: (.*?) -->\n).*?(<!-- end -->)", re.S)
 
 Row = collections.namedtuple("Row", "crate names sentence lines")
@@ -222,9 +224,8 @@ def code_of(sources, crate, module, dispatch, code):
 def arm_code(family, names):
     """Where the code of each arm stands, by the one function of the walk's crates that goes by cases of the forms."""
     sources, found = modules(), []
-    walk = {path.split("/")[1] for path in glob.glob("crates/*/arms.json")} - BELOW
     for (crate, module), text in sources.items():
-        for function, body in functions(text).items() if crate in walk else ():
+        for function, body in functions(text).items() if crate in WALK else ():
             code = cases(body, names)
             if code:
                 found.append([code_of(sources, crate, module, function, one) for one in code])

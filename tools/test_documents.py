@@ -1,12 +1,11 @@
 """Tests of the documents: what they name is there, and what tools write is marked as such."""
-import glob
-import json
 import os
 import re
 import unittest
 
 ROOT = os.path.join(os.path.dirname(os.path.abspath(__file__)), "..")
-MOVED = "docs/landings/"
+# Records of what was: they name files that were there then.
+RECORDS = ("docs/landings/", "docs/PORT.md", "docs/DESIGN-PASS.md")
 
 
 def read(path):
@@ -44,18 +43,6 @@ def anchors(path):
     return {re.sub(r"[^a-z0-9 _-]", "", head.lower()).replace(" ", "-") for head in heads}
 
 
-def written():
-    """The proofs that tools/arms.py records."""
-    for answers in glob.glob(os.path.join(ROOT, "crates/*/arms.json")):
-        folder = os.path.relpath(os.path.dirname(answers), ROOT)
-        with open(answers, encoding="utf-8") as file:
-            functions = set(json.load(file)["functions"])
-        for path in files(folder + "/proofs"):
-            *module, cycle = os.path.relpath(os.path.dirname(path), folder + "/proofs").split("/")
-            if functions.issuperset("/".join(module + [member]) for member in cycle.lstrip("+").split("+")):
-                yield path
-
-
 class Documents(unittest.TestCase):
     def test_notice_names_what_is_there(self):
         own = read("NOTICE").split("Both licence texts")[0]
@@ -66,8 +53,7 @@ class Documents(unittest.TestCase):
             self.assertTrue(os.path.exists(os.path.join(ROOT, name)), "NOTICE names %s" % name)
 
     def test_notice_names_the_crates_of_the_walk(self):
-        for path in glob.glob(os.path.join(ROOT, "crates/*/arms.json")):
-            crate = os.path.basename(os.path.dirname(path))
+        for crate in ("layout", "types", "patterns", "leaves", "walk"):
             self.assertRegex(read("NOTICE"), r"\bcrates/%s\b" % crate)
 
     def test_links_lead_somewhere(self):
@@ -83,7 +69,7 @@ class Documents(unittest.TestCase):
 
     def test_tools_that_documents_name_are_there(self):
         for path in files("", ".md"):
-            if path.startswith(MOVED):
+            if path.startswith(RECORDS):
                 continue
             for name in re.findall(r"\btools/\w+\.py\b", read(path)):
                 self.assertTrue(os.path.exists(os.path.join(ROOT, name)), "%s: %s" % (path, name))
@@ -94,12 +80,12 @@ class Documents(unittest.TestCase):
                 self.assertIn(licence, read("LICENSE"), path)
 
     def test_what_tools_write_is_marked(self):
-        paths = list(written())
-        paths += [path for path in files("crates", ".antt") if re.search(r"^-- (.*\. )?Written by tools/", read(path)[:2000], re.M)]
-        self.assertGreater(len(paths), 10)
+        paths = [path for path in files("crates", ".antt") if re.search(r"^-- (.*\. )?Written by (`python3 )?tools/", read(path)[:2000], re.M)]
+        self.assertGreater(len(paths), 3)
         for path in paths:
             self.assertTrue(is_generated(path), "%s is written by a tool; .gitattributes does not say so" % path)
-        for path in ("tools/arms.py", "crates/leaves/proofs/word_when/Answers.antt", "crates/walk/proofs/Laws.antt"):
+        for path in ("tools/credits.py", "crates/leaves/proofs/int_lit/Answers.antt", "crates/layout/proofs/Steps.antt"):
+            self.assertTrue(os.path.exists(os.path.join(ROOT, path)), path)
             self.assertFalse(is_generated(path), path)
 
 

@@ -66,31 +66,35 @@ class Refusals(unittest.TestCase):
         found = [(name, int(number)) for name, number in re.findall(r"pub const (\w+): u8 = (\d+);", body)]
         self.assertEqual(found, [(constant(refusal.name), refusal.number) for refusal in REFUSALS])
 
-    def holds(self, where, case, number):
-        """A case that the table does not name is no refusal."""
-        self.assertEqual(NUMBERS.get(case, 0), number, "%s: %s is %d" % (where, case, number))
+    def holds(self, where, pattern, number, error=None):
+        """A case that the table does not name is no refusal. The walk's stop at a part that is absent is what the table names Missing."""
+        case = re.findall(r"[A-Z]\w*", pattern)[-1]
+        name = {"Absent": "Missing", "Err": error}.get(case, case)
+        self.assertEqual(NUMBERS.get(name, 0), number, "%s: %s is %d" % (where, pattern, number))
+        return number
 
     def test_definitions(self):
-        count = 0
+        told = []
         for path in glob.glob(os.path.join(ROOT, "crates/*/specs/**/*.antt"), recursive=True):
             where = os.path.relpath(path, ROOT)
             text = read(where)
             # The error of a definition whose `Err` has one case, which its type names.
             errors = dict(re.findall(r"^unfoldable pub (\w+) : Result (?:\([^)]*\)|\S+) (\w+) →", text, re.M))
-            given = r"^ *(number_of|verdict_of|doc_said) \(?(?:Err \(?)?(?:Case\.)?(\w+)[^=]*= (?:plain |doc \(looked )?(\d+)\b"
-            for definition, case, number in re.findall(given, text, re.M):
-                count += 1
-                self.holds(where, errors[definition] if case == "e" else case, int(number))
-        self.assertGreater(count, 30)
+            given = r"^ *(number_of|verdict_of|doc_said) ([^=]*?) = (?:plain |doc \(looked )?(\d+)\b"
+            for definition, pattern, number in re.findall(given, text, re.M):
+                told.append(self.holds(where, pattern, int(number), errors.get(definition)))
+        self.assertEqual(set(told) - {0}, set(NUMBERS.values()) - {0})
 
     def test_numbers_in_the_code(self):
-        count = 0
-        for where in ("crates/diverplume/src/lib.rt", "crates/testing/src/lib.rt", "crates/formatter/src/numbers.rt"):
-            cases = re.findall(r"^ +(?:Answer|Lookup|Reading|Refusal|ScanError|Checked)::(\w+)(?:\([^)]*\))? => \w+\((?:\w+, )?(\d+),", read(where), re.M)
-            count += len(cases)
-            for case, number in cases:
-                self.holds(where, case, int(number))
-        self.assertGreater(count, 25)
+        told = []
+        for path in glob.glob(os.path.join(ROOT, "crates/*/src/*.rt")):
+            where = os.path.relpath(path, ROOT)
+            text = read(where)
+            # The cases of the methods `number`, and those with a row of numbers that starts with it.
+            numbered = "".join(re.findall(r"^    pub fn number\(self\).*?^    \}$", text, re.M | re.S))
+            cases = re.findall(r"^ +([A-Z][\w:]*(?:\(.*\))?) => (\d+),$", numbered, re.M) + re.findall(r"^ +([A-Z].*?) => \[(\d+),", text, re.M)
+            told += [self.holds(where, pattern, int(number)) for pattern, number in cases]
+        self.assertEqual(set(told) - {0}, set(NUMBERS.values()) - {0})
 
     def test_format_explains_what_the_program_prints(self):
         body = re.search(r"^explain\(\) \{\n(.*?)^\}", read("format"), re.M | re.S).group(1)

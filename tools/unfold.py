@@ -1,15 +1,15 @@
 #!/usr/bin/env python3
 """unfold.py [--check]: writes crates/theorems/proofs/Run.antt, whose name `run` opens every definition of specs/.
 
-A theorem about a sheet is closed by computation under `unfolding run`. Definitions that speak of the code's
-own state or of the answers before Ticket 5 are left out: no sheet's answer is computed by them.
+A theorem about a sheet is closed by computation under `unfolding run`. Definitions of specs/Promises, which speak of
+the code, and of the answers before Ticket 5 are left out: no sheet's answer is computed by them.
 With --check nothing is written: the exit status says whether the file is what the definitions give, spaces aside.
 """
 import os
 import re
 import sys
 
-LEFT_OUT = {"State", "Words", "Grammar", "Tree", "Answers", "Wide", "Tables", "Ascii", "AsciiDoc", "AsciiProgram"}
+LEFT_OUT = {"Ascii", "AsciiDoc", "AsciiProgram"}
 FILE = "crates/theorems/proofs/Run.antt"
 CRATES = ["text", "reader", "comments", "layout", "agreement", "formatter", "program", "theorems"]
 

@@ -2,8 +2,8 @@
 use native.Mathlib.Omega.{arith}
 use mathlib.Core.Path.{◌≡◌, refl, ap, ◌∙◌, subst}
 use mathlib.Core.List.{List}
-use mathlib.Core.Bool.{true}
-use Rattle.std.specs.Prelude.{Option, None, Some}
+use mathlib.Core.Bool.{true, false}
+use Rattle.std.specs.Prelude.{Result, Ok}
 use Prim.Native.Nat.{ℕ, zero, suc, ◌≤◌}
 use lib.ListN.{length, get_or}
 use lib.Dec.{eqb}
@@ -11,13 +11,16 @@ use borrow.Author.Tests.{eq-eqb, eqb-true}
 use Rattle.reader.specs.Fields as Fields
 use Rattle.reader.specs.Fields.{StrExp, SigExp, Exp, Pat, Ty, Dec}
 use Rattle.reader.specs.Forms.{EsImportDec, dec_number}
-use Rattle.reader.specs.Commands.{form_at}
-use Rattle.reader.specs.Check.{Checked, ok, malformed, too_deep, and_then, max_forms, operand_fits, end_within, field_end, tree_check}
+use Rattle.reader.specs.Check.{Checked, ok, and_then, max_forms, operand_fits, end_within, field_end, tree_check}
 use Rattle.reader.proofs.CommandLaws.{form-fits}
 use Rattle.reader.proofs.Ends.{ends_more}
 use Rattle.reader.proofs.FieldLaws.{then_parts, if_parts}
-use Rattle.layout.specs.Meaning.{Page, Event, Outcome, done, stopped, outcome, Heads, missing, heads_from, heads_at}
-use Rattle.layout.specs.Promises.State.{heads_behind}
+use Rattle.layout.specs.Meaning.{Page, Event, Outcome, done, stopped}
+use Rattle.layout.specs.declared.Ink.{Ink}
+use Rattle.layout.specs.declared.Stop.{Stop}
+use Rattle.layout.specs.Promises.State.{run_of, Walked}
+use Rattle.layout.specs.Promises.Looks.{heads_behind, heads_at}
+use Rattle.layout.proofs.HeadLaws.{leads, behind_end}
 use Rattle.layout.specs.Layout.{halt, import}
 use Rattle.layout.specs.Helpers.{Cfg, Walkers}
 use Rattle.layout.specs.GetDec.{get_dec}
@@ -65,28 +68,18 @@ walks-agree {p} (suc n) h =
 
 -- ---- AppExp
 -- Where the walk of the first expression ended stands the second: what is seen before that walk is seen behind it.
-pub heads-behind : (p : Page) (n : ℕ) → n ≤ 200 → (c : Cfg) (func arg : ℕ) (es : List Event) → outcome p ((walks n).get_exp c) func ≡ done arg es
-    → heads_behind p.rec func arg ≡ heads_at p.rec (count p) func
-unfolding heads_at heads_behind field_end
-heads-behind p n low c func arg es e = go (form_at p.rec Exp func) refl
-  where
-    passes : ends p n true (Fields.form Exp) func ≡ ok arg
-    passes =
-        let x : Agrees p n true (Fields.form Exp) ((walks n).get_exp c) = (walks-agree n low).exp c in
-        subst (λ (o : Outcome). Agree p (ends p n true (Fields.form Exp) func) o) e (x.step.agrees func)
-
-    go : (o : Option ℕ) → form_at p.rec Exp func ≡ o
-        → ◌≡◌ {A = Heads} (elim o [ Some k ↦ heads_from p.rec k func arg | None ↦ missing func ])
-        (elim o [
-          | Some k ↦ elim (field_end p.rec (count p) (Fields.form Exp) func)
-              [ ok next ↦ heads_from p.rec k func next | malformed place ↦ missing place | too_deep place ↦ missing place ]
-          | None ↦ missing func
-        ])
-    go (Some k) f =
-        let w = form-fits p.rec func Exp k f in
-        let q : field_end p.rec (count p) (Fields.form Exp) func ≡ ok arg = (ends_more p.rec (count p) n 200 low true (Fields.form Exp) func (omega (arith, w)) arg passes).0 in
-        rw q refl
-    go None f = refl
+pub heads_seen : {p : Page} (n : ℕ) (c : Cfg) {func arg : ℕ} {i i' : Ink} {o o' : List ℕ} {x : Result ℕ Stop} → n ≤ 200
+    → Walked false p ((walks n).get_exp c) (run_of func i o) x i' o' → x ≡ Ok arg → heads_behind p.rec func arg ≡ heads_at p.rec (count p) func
+unfolding field_end
+heads_seen {p} n c {func} {arg} low w t =
+    let walked = leads w t in
+    let x : Agrees p n true (Fields.form Exp) ((walks n).get_exp c) = (walks-agree n low).exp c in
+    let passes : ends p n true (Fields.form Exp) func ≡ ok arg =
+    subst (λ (o : Outcome). Agree p (ends p n true (Fields.form Exp) func) o) walked.1 (x.step.agrees func) in
+    behind_end p.rec (count p) func arg
+    (λ k f.
+    let fits = form-fits p.rec func Exp k f in
+    (ends_more p.rec (count p) n max_forms low true (Fields.form Exp) func (omega (arith, fits)) arg passes).0)
 
 -- ---- the whole record
 module _ (p : Page) (tree : ℕ) where

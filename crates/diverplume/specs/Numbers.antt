@@ -7,24 +7,24 @@ use Rattle.formatter.specs.Verdict.{Verdict, get}
 use Rattle.doc_comment.specs.Doc.{doc_lookup}
 
 -- None is the largest u64.
-unfoldable pub or_none : Option ℕ → ℕ
+abbrev pub or_none : Option ℕ → ℕ
 or_none None = 0xFFFF_FFFF_FFFF_FFFF
 or_none (Some k) = k
 
 -- Number, place, the token numbers of the comment and of the keyword that was passed.
-unfoldable pub comment_numbers : Looked → List ℕ
+abbrev pub comment_numbers : Looked → List ℕ
 comment_numbers l = l.number ∷ l.place ∷ or_none l.answer ∷ or_none l.keyword ∷ []
 
 -- Number, place, and the length of the doc text.
-unfoldable pub doc_numbers : Looked → List ℕ
+abbrev pub doc_numbers : Looked → List ℕ
 doc_numbers l = l.number ∷ l.place ∷ or_none l.answer ∷ []
 
 -- Number, place, deepest, letters, units, then the words of the set of comments left.
-unfoldable pub verdict_numbers : Verdict → List ℕ
+abbrev pub verdict_numbers : Verdict → List ℕ
 verdict_numbers v = v.number ∷ v.place ∷ v.measures.deepest ∷ v.measures.letters ∷ v.measures.units ∷ v.left
 
 -- Number, place, and the bytes written.
-unfoldable pub reply_numbers : Reply Plain → List ℕ
+abbrev pub reply_numbers : Reply Plain → List ℕ
 reply_numbers r = r.verdict.number ∷ r.verdict.place ∷ r.written ∷ []
 
 -- Contract: the doc lookup's answer and the final output.

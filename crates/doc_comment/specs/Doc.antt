@@ -3,9 +3,11 @@ use Rattle.std.specs.Prelude.{ℕ, List, [], ◌∷◌, ◌++◌, reverse, true,
 use Rattle.text.specs.Bytes.{bytes, same_bytes}
 use Rattle.reader.specs.Tokens.{text_of}
 use Rattle.comments.specs.Above.{comment_above}
+use Rattle.formatter.specs.Lookup as Lookup
+use Rattle.formatter.specs.Lookup.{Looked, looked, declined, asked, ask}
 use Rattle.doc_comment.specs.declared.OutputTooShort.{OutputTooShort}
-use Rattle.formatter.specs.declared.Lookup.{Lookup}
-use Rattle.formatter.specs.Lookup.{Looked, looked, declined, asked, ask, looked_of}
+use Rattle.doc_comment.specs.declared.DocError.{DocError}
+use Rattle.doc_comment.specs.declared.DocError.TheVariants as Why
 
 -- A line, read backwards, without the carriage return at its end.
 unfoldable pub without_return : List ℕ → List ℕ
@@ -89,6 +91,20 @@ doc_lookup text rec token out =
       ]
     ]
 
--- What an answer of `doc_comment_above` and the final output stand for.
-unfoldable pub doc_looked : Lookup → List ℕ → Doc
-doc_looked l out = doc (looked_of l) out
+-- The number of the documents for each error.
+abbrev pub number_of : DocError → ℕ
+number_of (Why.Lookup why) = Lookup.number_of why
+number_of Why.OutputTooShort = 8
+
+-- The place of each error.
+abbrev pub place_of : DocError → ℕ
+place_of (Why.Lookup why) = Lookup.place_of why
+place_of Why.OutputTooShort = 0
+
+-- What an answer of `doc_comment_above` stands for; with the final output.
+abbrev pub looked_of : Result (Option ℕ) DocError → Looked
+looked_of (Ok answer) = looked 0 0 answer
+looked_of (Err why) = looked (number_of why) (place_of why) None
+
+abbrev pub doc_looked : Result (Option ℕ) DocError → List ℕ → Doc
+doc_looked r out = doc (looked_of r) out

@@ -1,342 +1,247 @@
 -- From what the walk's code leaves to the verdicts of `check` and `get`. Assumes nothing.
-use Prim.Native.Nat.{ℕ, ◌+◌, ◌-◌, ◌*◌, ◌/◌, ◌%◌, ◌≤◌, ◌<◌}
-use native.Mathlib.Nat.{mul_comm, mul-le-mul, mul-zero, zero-add}
+use Prim.Native.Nat.{ℕ, ◌+◌, ◌-◌, ◌*◌, ◌≤◌, ◌<◌}
+use native.Mathlib.Nat.{mul_comm, mul-le-mul, zero-add}
 use native.Mathlib.Omega.{arith}
 use mathlib.Core.Path.{◌≡◌, refl, sym, ap, ap₂, ◌∙◌, subst}
-use mathlib.Core.Bool.{Bool, true, false, cond}
-use mathlib.Core.List.{List, ◌∷◌, ◌++◌}
-use Rattle.std.specs.Prelude.{Option, None, Some}
+use mathlib.Core.Bool.{false}
+use mathlib.Core.List.{List, ◌++◌}
+use Rattle.std.specs.Prelude.{Option, None, Some, Ok, Err}
+use Rattle.std.specs.Prelude as Std
 use lib.ListN.{length, get_or, take, drop, length-take}
 use lib.Seq.{paste, take-append_seam, take-length}
-use lib.Dec.{eqb, ltb}
-use borrow.Author.Tests.{eq-eqb, ne_eqb, eqb-true, le-leb, lt-leb, lt-ltb, le-ltb, ltb-true, ltb-false}
+use borrow.Author.Tests.{eq-eqb, ne_eqb}
 use Rattle.text.proofs.Laws.{never}
+use Rattle.text.specs.Utf8.{boundary}
 use Rattle.reader.specs.Commands.{form_width}
-use Rattle.reader.specs.Check.{max_forms, tree_check}
-use Rattle.text.specs.Utf8.{first_broken, boundary}
-use Rattle.reader.specs.Tokens.{count_of, max_tokens, tokens}
-use Rattle.reader.specs.Promises.Tokens.{starts_of, lengths_of, tokens_in, tiling_in, Tiles}
-use Rattle.reader.specs.Reading.{max_text, max_record}
-use Rattle.reader.specs.Promises.Tree.{checked_in, TreeEnd}
-use Rattle.reader.specs.declared.tree.Checked as Tree
-use Rattle.reader.specs.declared.tokens.Tiled as Tokens
-use Rattle.reader.specs.declared.tokens.Tiled.TheVariants as Tiled
-use Rattle.comments.specs.Set.{is_comment, holds, words_of, room, count, first}
+use Rattle.reader.specs.Check.{Checked, ok, malformed, too_deep, max_forms, tree_check}
+use Rattle.reader.specs.Tokens.{Tokens, count_of}
+use Rattle.reader.specs.Promises.Tokens.{Tiles}
+use Rattle.reader.specs.Promises.Reading.{TextReads}
+use Rattle.reader.specs.Promises.Tree.{told}
+use Rattle.reader.specs.declared.Refusal.{Refusal}
+use Rattle.reader.specs.declared.Refusal.TheVariants.{Malformed, TooDeep}
+use Rattle.comments.specs.declared.Set.{Set}
+use Rattle.comments.specs.Set.{is_comment, holds, words_of, room, first}
+use Rattle.layout.specs.declared.Ink.{Ink}
+use Rattle.layout.specs.declared.Stop as Code
+use Rattle.layout.specs.declared.Stop.TheVariants as Why
 use Rattle.layout.specs.Meaning.{Page, Event, Outcome, done, stopped, Stop, absent, imported}
-use Rattle.layout.specs.Promises.Words.{word_run}
 use Rattle.layout.specs.Walk.{walks, top, walk}
 use Rattle.layout.specs.GetDec.{get_dec}
 use Rattle.layout.specs.Events.{deepest, letters, units, formatted, is_left}
-use Rattle.layout.specs.Promises.State.{Run, run_of, at, sum_of, width_of, Ran, went, fell, run, runs, packed, shown, stop_no, stop_of, Fair, Walked, page}
-use Rattle.layout.proofs.Exact.{cap, Sums, position, lent, letters-is, steps, exact, exact-letters, exact-units, exact-deepest}
-use Rattle.layout.proofs.Steps.{shown-went}
+use Rattle.layout.specs.Promises.State.{Run, run_of, sum_of, width_of, effects, went, fell, run, runs, why_of, ended, shown, Walked}
+use Rattle.layout.proofs.Exact.{begin, length_formatted, deepest_is, units_is, letters_is, left_is, out_is}
 use Rattle.agreement.specs.Agreement.{EndsAt}
 use Rattle.agreement.proofs.Knot.{passes-walks}
 use Rattle.measures.specs.Small.{Small}
 use Rattle.measures.proofs.Measures.{small-done}
 use Rattle.formatter.specs.declared.Measures.{Measures}
-use Rattle.formatter.specs.declared.Answer.{Answer}
-use Rattle.formatter.specs.declared.Answer.TheVariants as Case
-use Rattle.formatter.specs.declared.Judged as Code
-use Rattle.formatter.specs.declared.Judged.TheVariants as Says
-use Rattle.formatter.specs.Verdict.{Verdict, Result, Judged, judge, check, get, declined, stop_verdict, comments, measures_of, empty_set, verdict_of, number_of, place_of, given_measures, format, max_width}
-use Rattle.formatter.specs.Promises.WalkFirst.{by_check, by_walk, record_first, text_first, judge_walk_first}
-use Rattle.formatter.specs.Promises.Judging.{otherwise, BehindCommand, BehindWhere, Limits, Weight, Drafts, Accepts, Weighs, Within, page_in, Judges, Puts}
-use Rattle.formatter.proofs.EventLaws.{length-formatted}
-use Rattle.formatter.proofs.RunLaws.{out-is, left-comments, empty_left, first-left, comments-some, comments-none}
+use Rattle.formatter.specs.declared.FormatError.{FormatError}
+use Rattle.formatter.specs.declared.FormatError.TheVariants as Case
+use Rattle.formatter.specs.declared.Judged as Says
+use Rattle.formatter.specs.Verdict.{Verdict, Result, Judged, judge, check, get, declined, stop_verdict, comments, measures_of, empty_set, verdict_of, format, max_width}
+use Rattle.formatter.specs.Promises.WalkFirst.{by_check, by_walk, record_first}
+use Rattle.formatter.specs.Promises.Judging.{otherwise, BehindCommand, BehindWhere, page_of, Limits, Weight, Drafts, Weighs, Judges, Puts}
+use Rattle.formatter.proofs.SetLaws.{comments-some, comments-none}
+use Rattle.formatter.proofs.FewLaws.{tiled-few}
 use Rattle.formatter.proofs.VerdictLaws.{format-wide, format-short, format-fits, check-declined, get-declined, check-accepted, get-accepted}
-use Rattle.formatter.proofs.WalkFirstLaws.{walk_first}
-use Rattle.reader.proofs.SpanLaws.{starts-long, counted, starts-take, lengths_take}
-use Rattle.reader.proofs.EvenLaws.{tiled_even}
-use Rattle.reader.proofs.TreePlace.{tree_near}
+use Rattle.formatter.proofs.WalkFirstLaws.{judge-refused, judge-record}
 
 measures_same : {d d' l l' u u' : ℕ} → d ≡ d' → l ≡ l' → u ≡ u'
     → ◌≡◌ {A = Measures} (record { deepest = d; letters = l; units = u }) (record { deepest = d'; letters = l'; units = u' })
 measures_same e f g = rw (e, f, g) refl
 
--- ---- what a run leaves
-abbrev out_of : Ran → List ℕ
-out_of (went g) = g.out
-out_of (fell why g) = g.out
+-- ---- the record check
+pub passes : (x : Checked) {end : ℕ} → Ok end ≡ told x → x ≡ ok end
+unfolding told
+passes (ok at) e = ap ok (cc)
+passes (malformed place) e = never (cc)
+passes (too_deep place) e = never (cc)
 
-abbrev mem_of : Ran → List ℕ
-mem_of (went g) = g.mem
-mem_of (fell why g) = g.mem
+pub check-ok : {v w : Verdict} (x : Checked) {end : ℕ} → v ≡ w → Ok end ≡ told x → declined v ≡ by_check w x
+unfolding by_check
+check-ok x e f = rw (passes x f) (ap declined e)
 
-abbrev at_of : Ran → ℕ
-at_of (went g) = g.at
-at_of (fell why g) = g.at
+pub check-err : (v : Verdict) (x : Checked) {why : Refusal} → Err why ≡ told x → declined (verdict_of (Err (Case.Refused why)) empty_set) ≡ by_check v x
+unfolding told by_check
+check-err v (ok at) e = never (cc)
+check-err v (malformed place) {why} e = let w : why ≡ Malformed place = cc in rw w refl
+check-err v (too_deep place) {why} e = let w : why ≡ TooDeep place = cc in rw w refl
 
-abbrev falls : Ran → ℕ
-falls (went g) = 0
-falls (fell why g) = 1
+-- ---- where the walk ended
+module _ {walked : Std.Result ℕ Code.Stop} where
+  pub behind-command : {next : ℕ} → walked ≡ Err (Why.Import next) → BehindCommand walked → 3 ≤ next
+  unfolding form_width
+  behind-command e b = b.is _ e
 
--- Where a run fell.
-abbrev stop_in : Ran → Stop
-stop_in (went g) = absent 0
-stop_in (fell why g) = why
+  pub told-absent : {place : ℕ} → walked ≡ Err (Why.Absent place) → verdict_of (Err (Case.Stopped (Why.Absent place))) empty_set ≡ otherwise walked
+  unfolding stop_verdict why_of
+  told-absent e = rw e refl
 
-abbrev packing : Bool → ℕ → List ℕ → List ℕ → Ran
-packing b r m o = cond b (went (run_of r m o)) (fell (stop_of (r - stop_no)) (run_of 0 m o))
-
-packed-out : (r : ℕ) (m o : List ℕ) → out_of (packed r m o) ≡ o
-unfolding packed
-packed-out r m o = go (ltb r stop_no)
-  where
-    go : (b : Bool) → out_of (packing b r m o) ≡ o
-    go true = refl
-    go false = refl
-
-packed-mem : (r : ℕ) (m o : List ℕ) → mem_of (packed r m o) ≡ m
-unfolding packed
-packed-mem r m o = go (ltb r stop_no)
-  where
-    go : (b : Bool) → mem_of (packing b r m o) ≡ m
-    go true = refl
-    go false = refl
-
--- The number of a walk that ended is its cursor, that of one that fell says why.
-packed-at : (r : ℕ) (m o : List ℕ) (g : Run) → shown false (packed r m o) ≡ shown false (went g) → (r ≡ g.at) × (r < stop_no)
-unfolding packed shown
-packed-at r m o g e = go (ltb r stop_no) refl e
-  where
-    go : (b : Bool) → ltb r stop_no ≡ b → shown false (packing b r m o) ≡ went g → (r ≡ g.at) × (r < stop_no)
-    go true f e = (ap at_of e, ltb-true r stop_no f)
-    go false f e = never (sym (ap falls e))
-
-packed-why : (r : ℕ) (m o : List ℕ) (why : Stop) (g : Run) → shown false (packed r m o) ≡ shown false (fell why g) → (stop_no ≤ r) × (stop_of (r - stop_no) ≡ why)
-unfolding packed shown
-packed-why r m o why g e = go (ltb r stop_no) refl e
-  where
-    go : (b : Bool) → ltb r stop_no ≡ b → shown false (packing b r m o) ≡ shown false (fell why g) → (stop_no ≤ r) × (stop_of (r - stop_no) ≡ why)
-    go true f e = never (ap falls e)
-    go false f e = (ltb-false r stop_no f, ap stop_in e)
-
--- The sort of a stop and its offset.
-abbrev sort : Stop → ℕ
-sort (absent place) = 0
-sort (imported place) = 1
-
-abbrev offset : Stop → ℕ
-offset (absent place) = place
-offset (imported place) = place
-
--- What the record check decides, where it passes by the verdict of the walk.
-abbrev checked : ℕ → Page → ℕ → Judged
-checked r p tree = by_check (otherwise r) (tree_check p.rec (count_of p.tokens) tree)
-
-pub weigh_checked : {p : Page} {count tree tab : ℕ} {draft left : List ℕ} {j : Code.Judged} {a : Answer} {x : Judged} → by_walk p tree ≡ x
-    → declined (verdict_of a empty_set) ≡ x → (j ≡ Says.Declined a) × (left ≡ empty_set) → Weighs p count tree tab draft left j
-weigh_checked e q h = record { is = rw (h.0, h.1) (e ∙ sym q) }
+  pub told-import : {next : ℕ} → walked ≡ Err (Why.Import next) → verdict_of (Err (Case.Stopped (Why.Import (next - 3)))) empty_set ≡ otherwise walked
+  unfolding stop_verdict why_of form_width
+  told-import e = rw e refl
 
 -- ---- the walk over a sheet, from its start
-abbrev begin : List ℕ → List ℕ → Sums
-begin words o = record { letters = 0; units = 0; deepest = 0; left = words; out = o }
+abbrev Whole : Page → ℕ → Ink → List ℕ → Std.Result ℕ Code.Stop → Ink → List ℕ → Type 0
+Whole p tree i o r i' o' = Walked false p (get_dec (walks max_forms) top) (run_of tree i o) r i' o'
 
--- What a walk is lent: the fixed words, a record that is short, a cursor that is no stop; no measures yet.
-pub record Starts (run : List ℕ) (p : Page) (tree tab : ℕ) (words m : List ℕ) : Type 0 where
-  pub fair : Fair run p tree
-  pub tab-fits : tab < 0x1_0000_0000
-  pub mem : m ≡ 0 ∷ 0 ∷ 0 ∷ tab ∷ words
+pub ends-elsewhere : {r : Std.Result ℕ Code.Stop} {end n : ℕ} → r ≡ Ok end → (end ≡ n → ⊥) → r ≡ Ok n → ⊥
+ends-elsewhere e ne h = ne (cc)
 
-pub starts : {run· : List ℕ} {p : Page} {tree tab : ℕ} {words m : List ℕ} → run· ≡ word_run → length p.rec ≤ max_record → tree < stop_no → tab ≤ 0xFFFF_FFFF
-    → m ≡ 0 ∷ 0 ∷ 0 ∷ tab ∷ words → Starts run· p tree tab words m
-starts e short near t m =
-    record { fair = record { words_are = e; short = omega (arith, short); cursor = near }; tab-fits = omega (arith, t); mem = m }
+-- What a walk left that ended, and one that stopped.
+went-is : (r : Std.Result ℕ Code.Stop) {i : Ink} {o : List ℕ} {g : Run} → shown false (ended r i o) ≡ went g → (r ≡ Ok g.at) × (i ≡ g.ink) × (o ≡ g.out)
+unfolding shown ended
+went-is (Ok a) {i} {o} {g} e = let q : run_of a i o ≡ g = cc in (ap (λ x. Ok x.at) q, ap (λ x. x.ink) q, ap (λ x. x.out) q)
+went-is (Err why) e = never (cc)
 
-abbrev Whole : List ℕ → Page → ℕ → List ℕ → List ℕ → ℕ → List ℕ → List ℕ → Type 0
-Whole run p tree m o r m' o' = Walked false run p (get_dec (walks max_forms) top) (run_of tree m o) r m' o'
+fell-is : (r : Std.Result ℕ Code.Stop) (i i' : Ink) (o o' : List ℕ) {why : Stop} → shown false (ended r i o) ≡ shown false (fell why i' o')
+    → (s : Code.Stop) × (r ≡ Err s) × (why_of s ≡ why)
+unfolding shown ended
+fell-is (Ok a) i i' o o' e = never (cc)
+fell-is (Err s) i i' o o' {why} e = let q : why_of s ≡ why = cc in (s, refl, q)
 
-module _ {run· : List ℕ} {p : Page} {tree tab : ℕ} {words m o : List ℕ} {r : ℕ} {m' o' : List ℕ} (w : Whole run· p tree m o r m' o') (s : Starts run· p tree tab words m) where
+no-stop : {end : ℕ} {s : Code.Stop} {A : Type 0} {r : Std.Result ℕ Code.Stop} → r ≡ Ok end → r ≡ Err s → A
+no-stop e f = never (cc)
+
+module _ {p : Page} {tree tab : ℕ} {left : Set} {o : List ℕ} {r : Std.Result ℕ Code.Stop} {i' : Ink} {o' : List ℕ} (w : Whole p tree (begin tab left) o r i' o') where
   abbrev start : Run
-  start = run_of tree (lent tab (begin words o)) o
+  start = run_of tree (begin tab left) o
 
-  whole : shown false (packed r m' o') ≡ shown false (run p (walk p tree) start)
+  whole : shown false (ended r i' o') ≡ shown false (run p (walk p tree) start)
   unfolding runs walk
-  whole = w.is s.fair ∙ ap (λ x. shown false (run p (walk p tree) (run_of tree x o))) (s.mem ∙ ap (λ z. z ∷ 0 ∷ 0 ∷ tab ∷ words) (omega (arith, mul-zero tab)))
+  whole = w.is
 
-  module _ {end : ℕ} {es : List Event} (e : walk p tree ≡ done end es) (few : letters p es ≤ cap) (low : units es ≤ cap) where
-    abbrev sums : Sums
-    sums = steps p tab es (begin words o)
+  done-is : {end : ℕ} {es : List Event} → walk p tree ≡ done end es → (r ≡ Ok end) × (i' ≡ (effects p es start).ink) × (o' ≡ (effects p es start).out)
+  unfolding run shown
+  done-is e = went-is r (whole ∙ ap (λ x. shown false (run p x start)) e)
 
-    whole-done : packed r m' o' ≡ went (run_of end (lent tab sums) sums.out)
-    unfolding run
-    whole-done =
-        shown-went false (packed r m' o')
-        (sym (whole ∙ ap (shown false)
-        (ap (λ x. run p x start) e ∙ ap (λ g. went (at end g)) (exact p tab tree s.tab-fits es (begin words o) (omega (arith, few)) (omega (arith, low))))))
-
-    whole_out : o' ≡ sums.out
-    whole_out = sym (packed-out r m' o') ∙ ap out_of whole-done
-
-    whole_mem : m' ≡ lent tab sums
-    whole_mem = sym (packed-mem r m' o') ∙ ap mem_of whole-done
-
-  -- Where the walk's number says that it ended.
-  falling : (x : Outcome) → shown false (packed r m' o') ≡ shown false (run p x start) → r < stop_no → (es : List Event) × (x ≡ done r es)
+  stopped-is : {why : Stop} {es : List Event} → walk p tree ≡ stopped why es → (s : Code.Stop) × (r ≡ Err s) × (why_of s ≡ why)
   unfolding run
-  falling (done end es) e h = (es, ap (λ n. done n es) (sym (packed-at r m' o' _ e).0))
-  falling (stopped why es) e h = absurd (omega (arith, (packed-why r m' o' why _ e).0))
+  stopped-is {why} {es} e = fell-is r i' _ o' _ (whole ∙ ap (λ x. shown false (run p x start)) e)
 
-  whole-ends : r < stop_no → (es : List Event) × (walk p tree ≡ done r es)
-  whole-ends h = falling (walk p tree) whole h
+  -- Where the walk's answer says that it ended.
+  walked-to : {end : ℕ} → r ≡ Ok end → (es : List Event) × (walk p tree ≡ done end es)
+  walked-to {end} h = go (walk p tree) refl
+    where
+      go : (x : Outcome) → walk p tree ≡ x → (es : List Event) × (walk p tree ≡ done end es)
+      go (done at es) e =
+          let f = (done-is e).0 in
+          let q : at ≡ end = cc in
+          (es, e ∙ ap (λ n. done n es) q)
+      go (stopped why es) e = no-stop h (stopped-is e).1
 
   -- ---- 3, 4, 13 and 14
-  -- A walk that did not end at the record's end.
-  elsewhere : (x : Outcome) → walk p tree ≡ x → shown false (packed r m' o') ≡ shown false (run p x start) → (r ≡ length p.rec → ⊥) → by_walk p tree ≡ checked r p tree
-  unfolding run by_walk otherwise
-  elsewhere (done end es) d e ne =
-      let q = packed-at r m' o' _ e in
-      let d' : walk p tree ≡ done r es = d ∙ ap (λ n. done n es) (sym q.0) in
-      rw (d', by_walk, ne_eqb r (length p.rec) ne, lt-ltb r stop_no q.1) refl
-  elsewhere (stopped why es) d e ne =
-      let q = packed-why r m' o' why _ e in
-      rw (d, by_walk, le-ltb r stop_no q.0, q.1) refl
+  abbrev checked : Judged
+  checked = by_check (otherwise r) (tree_check p.rec (count_of p.tokens) tree)
 
-  pub other-checked : (r ≡ length p.rec → ⊥) → by_walk p tree ≡ checked r p tree
-  other-checked ne = elsewhere (walk p tree) refl whole ne
+  stopped_at : {why : Stop} {es : List Event} (s : Code.Stop) → walk p tree ≡ stopped why es → r ≡ Err s → why_of s ≡ why → by_walk p tree ≡ checked
+  unfolding by_walk
+  stopped_at s e f g = rw (by_walk, e, f, ← g) refl
+
+  -- A walk that did not end at the record's end.
+  elsewhere : (r ≡ Ok (length p.rec) → ⊥) → by_walk p tree ≡ checked
+  unfolding by_walk
+  elsewhere ne = go (walk p tree) refl
+    where
+      go : (x : Outcome) → walk p tree ≡ x → by_walk p tree ≡ checked
+      go (done end es) e =
+          let q = (done-is e).0 in
+          rw (by_walk, e, ne_eqb end (length p.rec) (λ h. ne (q ∙ ap Ok h)), q) refl
+      go (stopped why es) e =
+          let q = stopped-is e in
+          stopped_at q.0 e q.1 q.2
+
+  pub weigh-other : {why : FormatError} {draft words : List ℕ} → (r ≡ Ok (length p.rec) → ⊥) → declined (verdict_of (Err why) empty_set) ≡ checked → words ≡ empty_set
+      → Weighs p tree tab draft words (Err why)
+  weigh-other ne e h = record { is = rw h (elsewhere ne ∙ sym e) }
 
   -- On a record that passes, an import stops the walk behind its command.
-  importing : (x : Outcome) → EndsAt p (length p.rec) x → shown false (packed r m' o') ≡ shown false (run p x start) → BehindCommand r
-  unfolding run stop_of form_width
-  importing (done end es) a e = record { is = λ h i. absurd (omega (arith, (packed-at r m' o' _ e).1)) }
-  importing (stopped (absent place) es) a e =
-      record {
-        is = λ h i.
-            let odd : stop_of (r - stop_no) ≡ imported ((r - stop_no) / 2) = rw i refl in
-            never (ap sort (sym (packed-why r m' o' (absent place) _ e).1 ∙ odd));
-      }
-  importing (stopped (imported place) es) a e =
-      record {
-        is = λ h i.
-            let odd : stop_of (r - stop_no) ≡ imported ((r - stop_no) / 2) = rw i refl in
-            let at_place : (r - stop_no) / 2 ≡ place = ap offset (sym odd ∙ (packed-why r m' o' (imported place) _ e).1) in
-            omega (arith, a.1, at_place);
-      }
-
   pub behind : BehindWhere (tree_check p.rec (count_of p.tokens) tree) r
-  behind = record { is = λ end e. importing (walk p tree) (passes-walks p tree end e) whole }
+  unfolding why_of form_width
+  behind = record { is = λ end e. record { is = λ next i. go next i (walk p tree) refl (passes-walks p tree end e) } }
+    where
+      go : (next : ℕ) → r ≡ Err (Why.Import next) → (x : Outcome) → walk p tree ≡ x → EndsAt p (length p.rec) x → 3 ≤ next
+      go next i (done end es) e a = no-stop (done-is e).0 i
+      go next i (stopped (absent place) es) e a =
+          let q = stopped-is e in
+          never (cc)
+      go next i (stopped (imported place) es) e a =
+          let q = stopped-is e in
+          let h : place ≡ next = cc in
+          omega (arith, a.1, h)
 
--- With the count of a table of spans.
-module _ (rec spans : List ℕ) (tree : ℕ) where
-  pub behind-by : {r : ℕ} → BehindWhere (tree_check rec (length (starts_of spans)) tree) r → BehindWhere (tree_check rec (length spans) tree) r
-  behind-by {r} h = subst (λ n. BehindWhere (tree_check rec n tree) r) (starts-long spans) h
+  -- ---- 6, and what is accepted
+  module _ (tab_fits : tab < 0x1_0000_0000) (limits : Limits p) where
+    -- The text stands in the output, where it fits.
+    drafts : length o' ≡ length o → Drafts p tree tab o'
+    drafts long =
+        record {
+          is = λ end es e fits.
+              let small : Small p es = small-done p tree limits.text_fits limits.rec_fits e in
+              rw ((done-is e).2 ∙ out_is p tab tree left o tab_fits es (omega (arith, small.both)) (omega (arith, small.both)) (omega (arith, long)))
+              (take-append_seam (formatted p tab es) (drop (length (formatted p tab es)) o));
+        }
 
-  pub checked-by : (r : ℕ) {j : Judged} → j ≡ by_check (otherwise r) (tree_check rec (length spans) tree)
-      → j ≡ by_check (otherwise r) (tree_check rec (length (starts_of spans)) tree)
-  checked-by r {j} h = counted (λ n. j ≡ by_check (otherwise r) (tree_check rec n tree)) spans h
+    module _ (all : left.words ≡ words_of (is_comment p.tokens.kinds)) (to_end : r ≡ Ok (length p.rec)) where
+      abbrev es : List Event
+      es = (walked-to to_end).0
 
--- The verdict of the walk's number.
-module _ {n : ℕ} where
-  pub told-ended : n < stop_no → verdict_of (Case.Malformed n) empty_set ≡ otherwise n
-  unfolding otherwise verdict_of number_of place_of given_measures
-  told-ended h = rw (lt-ltb n stop_no h) refl
+      walk_is : walk p tree ≡ done (length p.rec) es
+      walk_is = (walked-to to_end).1
 
-  module _ (h : stop_no ≤ n) where
-    pub told-missing : (n - stop_no) % 2 ≡ 0 → verdict_of (Case.Missing ((n - stop_no) / 2)) empty_set ≡ otherwise n
-    unfolding otherwise stop_of stop_verdict verdict_of number_of place_of given_measures
-    told-missing e = rw (le-ltb n stop_no h, e) refl
+      small : Small p es
+      small = small-done p tree limits.text_fits limits.rec_fits walk_is
 
-    odd : ((n - stop_no) % 2 ≡ 0 → ⊥) → (n - stop_no) % 2 ≡ 1
-    odd e = omega (arith, e)
+      ink_is : i' ≡ (effects p es start).ink
+      ink_is = (done-is walk_is).1
 
-    pub told-import : ((n - stop_no) % 2 ≡ 0 → ⊥) → verdict_of (Case.Import ((n - stop_no) / 2 - 3)) empty_set ≡ otherwise n
-    unfolding otherwise stop_of stop_verdict form_width verdict_of number_of place_of given_measures
-    told-import e = rw (le-ltb n stop_no h, odd e) refl
+      words_are : i'.left.words ≡ words_of (is_left p.tokens.kinds es)
+      words_are =
+          ap (λ i. i.left.words) ink_is
+          ∙ left_is p tab tree left o tab_fits es (omega (arith, small.both)) (omega (arith, small.both)) all
 
-    pub command-before : BehindCommand n → ((n - stop_no) % 2 ≡ 0 → ⊥) → 3 ≤ (n - stop_no) / 2
-    unfolding form_width
-    command-before b e = b.is h (odd e)
+      walked-is : by_walk p tree ≡ comments p es
+      unfolding by_walk
+      walked-is = rw (by_walk, walk_is, eq-eqb (length p.rec) (length p.rec) refl) refl
 
--- ---- 6, and what is accepted
-module _ {run· : List ℕ} {p : Page} {tree tab : ℕ} {words m o : List ℕ} {r : ℕ} {m₁ o' : List ℕ} (w : Whole run· p tree m o r m₁ o') (s : Starts run· p tree tab words m)
-    (text_fits : length p.text ≤ 32768) (rec_fits : length p.rec ≤ 65536) (few : length p.tokens.kinds ≤ room)
-    (all : words ≡ words_of (is_comment p.tokens.kinds)) (whole-read : r ≡ length p.rec) {m' : List ℕ} (kept : m' ≡ drop 4 m₁) where
-  no_stop : r < stop_no
-  no_stop = omega (arith, whole-read, rec_fits)
+      pub weigh-comments : {k place : ℕ} {draft : List ℕ} → first (holds i'.left.words) 0 room ≡ Some k → place ≡ get_or p.tokens.starts k 0
+          → Weighs p tree tab draft i'.left.words (Err (Case.CommentsLeft place))
+      weigh-comments h q = record { is = rw q (walked-is ∙ comments-some p es i'.left.words limits.few words_are h) }
 
-  abbrev es : List Event
-  es = (whole-ends w s no_stop).0
+      -- The letters are what the position leaves without the indents.
+      module _ {n : ℕ} (h : n < 0x1_0000_0000_0000_0000) (a : sum_of n (width_of i'.tab i'.units) ≡ i'.position) where
+        abbrev counted : Measures
+        counted = record { deepest = i'.deepest; letters = n; units = i'.units }
 
-  walk_is : walk p tree ≡ done r es
-  walk_is = (whole-ends w s no_stop).1
+        counted-is : counted ≡ measures_of p es
+        unfolding measures_of
+        counted-is =
+            let f : letters p es ≤ 0x8000_0000 = omega (arith, small.both) in
+            let k : units es ≤ 0x8000_0000 = omega (arith, small.both) in
+            let d : i'.deepest ≡ deepest es = ap (λ i. i.deepest) ink_is ∙ deepest_is p tab tree left o tab_fits es f k in
+            let u : i'.units ≡ units es = ap (λ i. i.units) ink_is ∙ units_is p tab tree left o tab_fits es f k in
+            let l : n ≡ letters p es =
+            letters_is p tab tree left o tab_fits es f k h (subst (λ i. sum_of n (width_of i.tab i.units) ≡ i.position) ink_is a) in
+            measures_same d l u
 
-  is-small : Small p es
-  is-small = small-done p tree text_fits rec_fits walk_is
+        weight : Weight p tree counted
+        weight =
+            record {
+              events = es;
+              end = length p.rec;
+              walks = walk_is;
+              measures = counted-is;
+              deep = small.deep;
+              few = omega (arith, small.both);
+              low = omega (arith, small.both);
+            }
 
-  abbrev all-sums : Sums
-  all-sums = steps p tab es (begin words o)
-
-  mem_is : m₁ ≡ lent tab all-sums
-  mem_is = whole_mem w s walk_is (omega (arith, is-small.both)) (omega (arith, is-small.both))
-
-  words_are : m' ≡ words_of (is_left p.tokens.kinds es)
-  words_are = kept ∙ ap (drop 4) mem_is ∙ left-comments p tab p.tokens.kinds es (begin words o) all
-
-  -- The text stands in the output, where it fits.
-  drafts : length o' ≡ length o → Drafts p tree tab o'
-  drafts long =
-      record {
-        is = λ end fs e fits.
-            let small : Small p fs = small-done p tree text_fits rec_fits e in
-            let room : letters p fs + tab * units fs ≤ length o = omega (arith, length-formatted p tab fs) in
-            rw (whole_out w s e (omega (arith, small.both)) (omega (arith, small.both)) ∙ out-is p tab fs (begin words o) refl refl room)
-            (take-append_seam (formatted p tab fs) (drop (length (formatted p tab fs)) o));
-      }
-
-  -- The letters are what the position leaves without the indents.
-  abbrev LettersAre : ℕ → Type 0
-  LettersAre n = (n < 0x1_0000_0000_0000_0000) × (sum_of n (width_of tab (get_or m₁ 1 0)) ≡ get_or m₁ 0 0)
-
-  weight : {n : ℕ} → LettersAre n → Weight p tree (record { deepest = get_or m₁ 2 0; letters = n; units = get_or m₁ 1 0 })
-  unfolding measures_of
-  weight {n} a =
-      let small : Small p es = is-small in
-      let l' : all-sums.letters ≡ letters p es = exact-letters p tab es (begin words o) ∙ omega arith in
-      let u' : all-sums.units ≡ units es = exact-units p tab es (begin words o) ∙ omega arith in
-      let u : get_or m₁ 1 0 ≡ units es = ap (λ x. get_or x 1 0) mem_is ∙ u' in
-      let q : sum_of n (width_of tab all-sums.units) ≡ position tab all-sums =
-      ap (λ x. sum_of n (width_of tab (get_or x 1 0))) (sym mem_is) ∙ a.1 ∙ ap (λ x. get_or x 0 0) mem_is in
-      let l : n ≡ letters p es =
-      letters-is tab all-sums.letters all-sums.units n s.tab-fits (omega (arith, l', small.both)) (omega (arith, u', small.both)) a.0 q ∙ l' in
-      let d : get_or m₁ 2 0 ≡ deepest es = ap (λ x. get_or x 2 0) mem_is ∙ exact-deepest p tab es (begin words o) ∙ omega arith in
-      record {
-        short = rec_fits;
-        near = s.fair.cursor;
-        events = es;
-        end = r;
-        walks = walk_is;
-        measures = measures_same d l u;
-        deep = small.deep;
-        few = omega (arith, small.both);
-        low = omega (arith, small.both);
-      }
-
-  walked-is : by_walk p tree ≡ comments p es
-  unfolding by_walk
-  walked-is = rw (walk_is, by_walk, eq-eqb r (length p.rec) whole-read) refl
-
-  module _ {b : Bool} (h : b ≡ eqb (count (holds m') 0 room) 0) where
-    pub weigh-accepts : {count n : ℕ} → length o' ≡ length o → b ≡ true → LettersAre n
-        → Weighs p count tree tab o' m' (Says.Accepted count tree (record { deepest = get_or m₁ 2 0; letters = n; units = get_or m₁ 1 0 }))
-    unfolding weight
-    weigh-accepts long e a =
-        let z : count (holds m') 0 room ≡ 0 = eqb-true (count (holds m') 0 room) 0 (sym h ∙ e) in
-        let gone : first (is_left p.tokens.kinds es) 0 (length p.tokens.kinds) ≡ None = (empty_left p.tokens.kinds es m' few words_are).0 z in
-        let none_left = comments-none p es m' few words_are (first-left p.tokens.kinds es m' few words_are ∙ gone) in
-        record { is = (refl, refl, record { weight = weight a; accepts = walked-is ∙ none_left.0; drafts = drafts long; empty = none_left.1 }) }
-
-    module _ {x : Option ℕ} (i : x ≡ first (holds m') 0 room) where
-      pub weigh-comments : {k place count : ℕ} {draft : List ℕ} → x ≡ Some k → place ≡ get_or p.tokens.starts k 0
-          → Weighs p count tree tab draft m' (Says.Declined (Case.CommentsLeft place))
-      unfolding verdict_of number_of place_of given_measures
-      weigh-comments {k} j q = record { is = rw q (walked-is ∙ comments-some p es m' few words_are (sym i ∙ j)) }
-
-      pub weigh-never : {A : Type 0} → b ≡ false → x ≡ None → A
-      weigh-never e j =
-          let gone : first (holds m') 0 room ≡ None = sym i ∙ j in
-          let z : count (holds m') 0 room ≡ 0 = (empty_left p.tokens.kinds es m' few words_are).1 (sym (first-left p.tokens.kinds es m' few words_are) ∙ gone) in
-          never (ap (λ x. elim x [ true ↦ 0 | false ↦ 1 ]) (sym (eq-eqb _ _ z) ∙ sym h ∙ e))
+        pub weigh-accepts : length o' ≡ length o → first (holds i'.left.words) 0 room ≡ None → Weighs p tree tab o' i'.left.words (Ok counted)
+        unfolding weight
+        weigh-accepts long e =
+            let none_left = comments-none p es i'.left.words limits.few words_are e in
+            record { is = record { weight = weight; accepts = walked-is ∙ none_left.0; drafts = drafts long; empty = none_left.1 } }
 
 -- ---- 7, 8 and the text
 abbrev events_in : Outcome → List Event
@@ -364,17 +269,16 @@ module _ {p : Page} {tree : ℕ} {m : Measures} (w : Weight p tree m) where
 
 module _ {p : Page} {tree : ℕ} (tab : ℕ) {m : Measures} (w : Weight p tree m) (out : List ℕ) {width : ℕ} (i : width ≡ m.deepest * tab) where
   -- It is enough to look at the events that are known.
-  puts : {a : Answer} {out' : List ℕ} → ◌≡◌ {A = Result} (record { verdict = verdict_of a empty_set; out = out' }) (format tab p w.events out)
-      → Puts p tree tab out a out'
-  puts {a} {out'} q =
-      record { is = λ end es e. subst (λ fs. ◌≡◌ {A = Result} (record { verdict = verdict_of a empty_set; out = out' }) (format tab p fs out)) (same_events (walk p tree) w.walks e) q }
+  puts : {r : Std.Result Measures FormatError} {out' : List ℕ} → ◌≡◌ {A = Result} (record { verdict = verdict_of r empty_set; out = out' }) (format tab p w.events out)
+      → Puts p tree tab out r out'
+  puts {r} {out'} q =
+      record { is = λ end es e. subst (λ fs. ◌≡◌ {A = Result} (record { verdict = verdict_of r empty_set; out = out' }) (format tab p fs out)) (same_events (walk p tree) w.walks e) q }
 
   deepest-is : width ≡ deepest w.events * tab
   unfolding measures_of
   deepest-is = i ∙ ap (λ x. x.deepest * tab) w.measures
 
-  pub put-wide : max_width < width → Puts p tree tab out (Case.IndentTooWide m) out
-  unfolding verdict_of number_of place_of given_measures
+  pub put-wide : max_width < width → Puts p tree tab out (Err (Case.IndentTooWide m)) out
   put-wide h = puts (rw (← w.measures) at (sym (format-wide tab p w.events out (rw (← deepest-is) h))))
 
   module _ (narrow : width ≤ max_width) {spaces size : ℕ} (j : spaces ≡ m.units * tab) (k : size ≡ m.letters + spaces) where
@@ -383,162 +287,89 @@ module _ {p : Page} {tree : ℕ} (tab : ℕ) {m : Measures} (w : Weight p tree m
     size_is =
         k ∙ ap₂ (λ x y. x + y) (ap (λ x. x.letters) w.measures) (j ∙ ap (λ x. x.units * tab) w.measures ∙ mul_comm (units w.events) tab)
 
-    pub put-short : length out < size → Puts p tree tab out (Case.OutputTooShort m) out
-    unfolding verdict_of number_of place_of given_measures
+    pub put-short : length out < size → Puts p tree tab out (Err (Case.OutputTooShort m)) out
     put-short h = puts (rw (← w.measures) at (sym (format-short tab p w.events out (rw (← deepest-is) narrow) (rw (← size_is) h))))
 
     module _ (fits : size ≤ length out) where
       abbrev text : List ℕ
       text = formatted p tab w.events
 
-      put-text : {out' : List ℕ} → out' ≡ text ++ drop (length text) out → Puts p tree tab out (Case.Accepted m) out'
-      unfolding verdict_of number_of place_of given_measures
+      long : size ≡ length text
+      long = size_is ∙ sym (length_formatted p tab w.events)
+
+      put-text : {out' : List ℕ} → out' ≡ text ++ drop (length text) out → Puts p tree tab out (Ok m) out'
       put-text e = puts (rw (e, w.measures) (sym (format-fits tab p w.events out (rw (← deepest-is) narrow) (rw (← size_is) fits))))
 
       -- From the draft.
       pub put-copied : {draft out' : List ℕ} → Drafts p tree tab draft → size ≤ length draft → out' ≡ paste out 0 (take size draft) (length (take size draft))
-          → Puts p tree tab out (Case.Accepted m) out'
+          → Puts p tree tab out (Ok m) out'
       put-copied {draft} d h e =
-          let long : size ≡ length text = size_is ∙ sym (length-formatted p tab w.events) in
-          let piece : take size draft ≡ text = rw long (d.is w.end w.events w.walks (omega arith)) in
+          let piece : take size draft ≡ text = rw long (d.is w.end w.events w.walks (omega (arith, long))) in
           put-text
           (e ∙ ap (λ l. paste out 0 l (length l)) piece ∙ ap₂ (λ x n. x ++ drop n out) (take-length text) (zero-add (length text)))
 
       -- By a second walk.
-      pub put-walked : {run· spent mem : List ℕ} {r : ℕ} {mem' out' : List ℕ} → Whole run· p tree mem out r mem' out' → Starts run· p tree tab spent mem
-          → Puts p tree tab out (Case.Accepted m) out'
-      put-walked {spent = spent} x s =
+      pub put-walked : {left : Set} {r : Std.Result ℕ Code.Stop} {i' : Ink} {out' : List ℕ} → tab < 0x1_0000_0000 → Whole p tree (begin tab left) out r i' out'
+          → Puts p tree tab out (Ok m) out'
+      put-walked {left} t x =
           put-text
-          (whole_out x s w.walks (omega (arith, w.few)) (omega (arith, w.low)) ∙ out-is p tab w.events (begin spent out) refl refl (rw (← size_is) fits))
+          ((done-is x w.walks).2 ∙ out_is p tab tree left out t w.events (omega (arith, w.few)) (omega (arith, w.low)) (omega (arith, long)))
 
 -- ---- the calls
--- The first entries of a table.
-pub taken : (n : ℕ) (l : List ℕ) → n ≤ length l → n ≡ length (take n l)
-taken n l h = omega (arith, length-take n l)
-
+-- The first entries of a slice.
 pub taken-fits : {n k : ℕ} (l : List ℕ) → n ≤ length l → n ≤ k → 0 + length (take n l) ≤ k
 taken-fits {n} l h k = omega (arith, length-take n l)
 
-pub kinds_few : {text rec kinds spans : List ℕ} {count tree : ℕ} → Limits text rec kinds spans count tree → length (take count kinds) ≤ room
-kinds_few {kinds = kinds} {count = count} f = omega (arith, length-take count kinds, f.few)
+module _ {text rec : List ℕ} where
+  judge-is : TextReads text rec (Ok tt) → judge text rec ≡ record_first text rec
+  judge-is s = judge-record text rec s.is.2
 
--- 1 to 3, with the walk before the record check.
-module _ (text rec : List ℕ) where
-  pub text-long : max_text < length text → judge text rec ≡ declined (verdict_of Case.TooLong empty_set)
-  unfolding judge_walk_first verdict_of number_of place_of given_measures
-  text-long h = walk_first text rec ∙ rw (lt-leb (length text) max_text h, judge_walk_first) refl
+module _ {text rec : List ℕ} (s : TextReads text rec (Ok tt)) {ts : Tokens} {tree : ℕ} (u : Tiles (boundary text) (length text) rec ts (Ok tree)) where
+  pub sheet-limits : Limits (page_of text rec ts)
+  sheet-limits = record { text_fits = s.is.0; rec_fits = s.is.1; few = tiled-few (boundary text) (length text) rec u.is }
 
-  module _ (a : length text ≤ max_text) where
-    pub record-long : max_record < length rec → judge text rec ≡ declined (verdict_of Case.TooLong empty_set)
-    unfolding judge_walk_first verdict_of number_of place_of given_measures
-    record-long h = walk_first text rec ∙ rw (le-leb (length text) max_text a, lt-leb (length rec) max_record h, judge_walk_first) refl
+  walks-first : judge text rec ≡ by_walk (page_of text rec ts) tree
+  unfolding record_first
+  walks-first = judge-is s ∙ rw (record_first, u.is) refl
 
-    module _ (b : length rec ≤ max_record) where
-      text-first : judge text rec ≡ text_first text rec
-      unfolding judge_walk_first
-      text-first = walk_first text rec ∙ rw (le-leb (length text) max_text a, le-leb (length rec) max_record b, judge_walk_first) refl
+  pub judges-weighed : {tab : ℕ} {draft left : List ℕ} {why : FormatError} → Weighs (page_of text rec ts) tree tab draft left (Err why)
+      → Judges text rec ts tab draft left (Err why)
+  judges-weighed x = record { is = walks-first ∙ x.is }
 
-      module _ {w : Option ℕ} (s : w ≡ first_broken text) where
-        pub not-utf8 : {place : ℕ} → w ≡ Some place → judge text rec ≡ declined (verdict_of (Case.NotUtf8 place) empty_set)
-        unfolding text_first verdict_of number_of place_of given_measures
-        not-utf8 e = text-first ∙ rw (sym s ∙ e, text_first) refl
+  pub judges-accepted : {tab : ℕ} {draft left : List ℕ} {m : Measures} → Weighs (page_of text rec ts) tree tab draft left (Ok m)
+      → Judges text rec ts tab draft left (Ok (record { tree = tree; measures = m }))
+  judges-accepted x =
+      let a = x.is in
+      record { is = record { weight = a.weight; accepts = walks-first ∙ a.accepts; drafts = a.drafts; empty = a.empty } }
 
-        module _ (e : w ≡ None) {kinds starts lens : List ℕ} {t : Tokens.Tiled} (u : Tiles (boundary text) (length text) rec kinds starts lens t) where
-          record-first : judge text rec ≡ record_first text rec
-          unfolding text_first
-          record-first = text-first ∙ rw (sym s ∙ e, text_first) refl
+module _ {text rec : List ℕ} {ts : Tokens} {tab : ℕ} {draft left : List ℕ} where
+  -- 1 and 2.
+  pub judges-unread : {why : Refusal} → TextReads text rec (Err why) → left ≡ empty_set → Judges text rec ts tab draft left (Err (Case.Refused why))
+  judges-unread s h = record { is = rw h (judge-refused text rec s.is) }
 
-          tiling-is : {x : Tokens.Tiled} → t ≡ x → tokens (boundary text) (length text) rec ≡ tiling_in x kinds starts lens
-          tiling-is f = sym u.is ∙ ap (λ x. tiling_in x kinds starts lens) f
+  -- 3, of the tokens.
+  pub judges-untiled : {why : Refusal} → TextReads text rec (Ok tt) → Tiles (boundary text) (length text) rec ts (Err why) → left ≡ empty_set
+      → Judges text rec ts tab draft left (Err (Case.Refused why))
+  unfolding record_first
+  judges-untiled s u h = record { is = rw (h, u.is.1) (judge-is s ∙ rw (record_first, u.is.2) refl) }
 
-          pub not-tiled : {place : ℕ} → t ≡ Tiled.Untiled place → judge text rec ≡ declined (verdict_of (Case.Malformed place) empty_set)
-          unfolding record_first verdict_of number_of place_of given_measures
-          not-tiled f = record-first ∙ rw (tiling-is f, record_first) refl
+  -- ---- by what is judged
+  module _ {why : FormatError} (s : Judges text rec ts tab draft left (Err why)) where
+    pub check-refuses : verdict_of (Err why) left ≡ check text rec
+    check-refuses = sym (check-declined text rec s.is)
 
-        -- With the tokens in the tables.
-        module _ (e : w ≡ None) {kinds : List ℕ} (spans : List ℕ) {t : Tokens.Tiled}
-            (u : Tiles (boundary text) (length text) rec kinds (starts_of spans) (lengths_of spans) t) {count tree : ℕ} (f : t ≡ Tiled.Tiled count tree) where
-          abbrev sheet_page : Page
-          sheet_page = page_in text rec count kinds spans
+    pub get-refuses : (out : List ℕ) → ◌≡◌ {A = Result} (record { verdict = verdict_of (Err why) left; out = out }) (get text rec tab out)
+    get-refuses out = sym (get-declined text rec s.is tab out)
 
-          -- The first of the starts are the starts of the first spans; and so the lengths.
-          page-is : page text rec (take count kinds) (take count (starts_of spans)) (take count (lengths_of spans)) ≡ sheet_page
-          page-is = ap₂ (λ s l. page text rec (take count kinds) s l) (sym (starts-take count spans)) (sym (lengths_take count spans))
-
-          pub sheet-limits : Limits text rec kinds spans count tree
-          sheet-limits =
-              let tokens = tokens_in count kinds (starts_of spans) (lengths_of spans) in
-              let c : (length (take count kinds) ≡ count) × (count ≤ max_tokens) = rw f at u.counts in
-              let even = tiled_even (boundary text) (length text) rec tokens tree (tiling-is e u f) in
-              let long : Within count kinds spans = (
-                omega (arith, c.0, length-take count kinds),
-                omega (arith, c.0, even.0, length-take count (starts_of spans), starts-long spans),
-              ) in
-              let near = tree_near (boundary text) (length text) rec tokens tree (tiling-is e u f) in
-              record { text_fits = a; rec_fits = b; few = c.1; near = omega (arith, near); within = long }
-
-          judge-is : judge text rec ≡ by_walk sheet_page tree
-          unfolding record_first
-          judge-is = record-first e u ∙ rw (tiling-is e u f, record_first) (ap (λ p. by_walk p tree) page-is)
-
-          pub judges-sheet : {tab : ℕ} {draft left : List ℕ} {j : Code.Judged} → Weighs sheet_page count tree tab draft left j
-              → Judges text rec tab kinds spans draft left j
-          judges-sheet {j = Says.Accepted n at m} x =
-              let d = x.is.2 in
-              record {
-                is = rw (x.is.0, x.is.1)
-                    (sheet-limits.within, record { weight = d.weight; accepts = judge-is ∙ d.accepts; drafts = d.drafts; empty = d.empty });
-              }
-          judges-sheet {j = Says.Declined a} x = record { is = judge-is ∙ x.is }
-
-pub tree_end_is : {rec : List ℕ} {count tree : ℕ} {r x : Tree.Checked} → TreeEnd rec count tree r → r ≡ x → checked_in x ≡ tree_check rec count tree
-tree_end_is u e = ap checked_in (sym e) ∙ u.is
-
-pub checks : (v : Verdict) {rec : List ℕ} {count tree : ℕ} {r x : Tree.Checked} → TreeEnd rec count tree r → r ≡ x
-    → by_check v (checked_in x) ≡ by_check v (tree_check rec count tree)
-checks v u e = ap (by_check v) (tree_end_is u e)
-
-pub judges-declined : {text rec : List ℕ} {tab : ℕ} {kinds spans draft left : List ℕ} {j : Code.Judged} {a : Answer}
-    → judge text rec ≡ declined (verdict_of a empty_set) → (j ≡ Says.Declined a) × (left ≡ empty_set) → Judges text rec tab kinds spans draft left j
-judges-declined e h = record { is = rw (h.0, h.1) e }
-
--- The public calls by what is judged.
-module _ {text rec : List ℕ} {tab : ℕ} {kinds spans draft left : List ℕ} {j : Code.Judged} (s : Judges text rec tab kinds spans draft left j) where
-  module _ {a : Answer} (e : j ≡ Says.Declined a) where
-    judge-declined : judge text rec ≡ declined (verdict_of a left)
-    judge-declined = rw e at s.is
-
-    pub check-refuses : verdict_of a left ≡ check text rec
-    check-refuses = sym (check-declined text rec judge-declined)
-
-    pub get-refuses : (out : List ℕ) → ◌≡◌ {A = Result} (record { verdict = verdict_of a left; out = out }) (get text rec tab out)
-    get-refuses out = sym (get-declined text rec judge-declined tab out)
-
-  module _ {count tree : ℕ} {m : Measures} (e : j ≡ Says.Accepted count tree m) where
-    abbrev sheet_of : Page
-    sheet_of = page_in text rec count kinds spans
-
-    pub within : Within count kinds spans
-    within = (rw e at s.is).0
-
-    accepts : Accepts (judge text rec) sheet_of tree tab m draft left
-    accepts = (rw e at s.is).1
-
-    pub weight_is : Weight sheet_of tree m
-    weight_is = accepts.weight
-
-    pub draft-is : Drafts sheet_of tree tab draft
-    draft-is = accepts.drafts
-
-    pub check-accepts : verdict_of (Case.Accepted m) left ≡ check text rec
-    unfolding verdict_of number_of place_of given_measures
+  module _ {j : Says.Judged} (s : Judges text rec ts tab draft left (Ok j)) where
+    pub check-accepts : verdict_of (Ok j.measures) left ≡ check text rec
     check-accepts =
-        ap₂ (λ x y. record { number = 0; place = 0; measures = x; left = y }) accepts.weight.measures accepts.empty
-        ∙ sym (check-accepted text rec accepts.accepts)
+        ap₂ (λ x y. record { number = 0; place = 0; measures = x; left = y }) s.is.weight.measures s.is.empty
+        ∙ sym (check-accepted text rec s.is.accepts)
 
-    pub get-puts : {out out' : List ℕ} {a : Answer} → Puts sheet_of tree tab out a out'
-        → ◌≡◌ {A = Result} (record { verdict = verdict_of a left; out = out' }) (get text rec tab out)
-    get-puts {out} {out'} {a} q =
-        ap (λ x. record { verdict = verdict_of a x; out = out' }) accepts.empty
-        ∙ q.is accepts.weight.end accepts.weight.events accepts.weight.walks
-        ∙ sym (get-accepted text rec accepts.accepts tab out)
+    pub get-puts : {out out' : List ℕ} {r : Std.Result Measures FormatError} → Puts (page_of text rec ts) j.tree tab out r out'
+        → ◌≡◌ {A = Result} (record { verdict = verdict_of r left; out = out' }) (get text rec tab out)
+    get-puts {out} {out'} {r} q =
+        ap (λ x. record { verdict = verdict_of r x; out = out' }) s.is.empty
+        ∙ q.is s.is.weight.end s.is.weight.events s.is.weight.walks
+        ∙ sym (get-accepted text rec s.is.accepts tab out)

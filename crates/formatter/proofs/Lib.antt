@@ -1,7 +1,6 @@
 pub mod LookupLaws
-pub mod EventLaws
-pub mod RunLaws
-pub mod LentLaws
+pub mod SetLaws
+pub mod FewLaws
 pub mod JudgeLaws
 pub mod VerdictLaws
 pub mod WalkFirstLaws

@@ -1,105 +1,57 @@
 -- Laws of the lookups: from what the record check says to what a lookup gives. Assumes nothing.
 use Prim.Native.Nat.{ℕ, ◌≤◌, ◌<◌}
-use mathlib.Core.Path.{◌≡◌, refl, sym, ◌∙◌, ap, ap₂}
+use mathlib.Core.Path.{◌≡◌, refl, ◌∙◌, ap, ap₂}
 use mathlib.Core.Bool.{Bool, true, false}
 use mathlib.Core.List.{List}
 use Rattle.std.proofs.lemmas.Option.{none-some, same_Some}
-use Rattle.std.specs.Prelude.{Option, None, Some}
-use native.Mathlib.Omega.{arith}
+use Rattle.std.specs.Prelude.{Option, None, Some, Ok, Err}
 use lib.Dec.{ltb}
-use lib.ListN.{length, get_or, take, length-take}
+use lib.ListN.{length, get_or}
 use borrow.Author.Tests.{lt-ltb, le-ltb}
-use Rattle.reader.specs.declared.Reading.{Reading}
-use Rattle.reader.specs.declared.Reading.TheVariants as Says
-use Rattle.reader.specs.Reading as Reading
-use Rattle.reader.specs.Tokens as Read
+use Rattle.reader.specs.declared.Refusal.{Refusal}
+use Rattle.reader.specs.Tokens.{Tokens}
 use Rattle.reader.specs.Reading.{Read, refused, sheet, read}
 use Rattle.reader.specs.Promises.Reading.{Reads}
-use Rattle.reader.proofs.ReadingLaws.{reading-says, reading-counts}
 use Rattle.reader.proofs.KindLaws.{kinds_known}
 use Rattle.text.proofs.Laws.{never}
 use Rattle.comments.specs.Above.{Found, found_above, Reaches}
 use Rattle.comments.proofs.Search.{found-reaches}
-use Rattle.formatter.specs.declared.Lookup.{Lookup}
-use Rattle.formatter.specs.declared.Lookup.TheVariants as Case
-use Rattle.formatter.specs.declared.Asked as Code
-use Rattle.formatter.specs.declared.Asked.TheVariants.{Tokens, Declined}
-use Rattle.formatter.specs.Lookup.{Looked, Asked, looked, declined, asked, ask, lookup, told, number_of, place_of, answer_of, keyword_of, looked_of}
-use Rattle.formatter.specs.Promises.Lookup.{asked_in, Asks}
+use Rattle.formatter.specs.declared.LookupError.{LookupError}
+use Rattle.formatter.specs.declared.LookupError.TheVariants.{Refused, NoToken}
+use Rattle.formatter.specs.Lookup.{Looked, Asked, looked, declined, asked, ask, lookup, told, looked_of}
+use Rattle.formatter.specs.Promises.Lookup.{Asks}
 
--- ---- 1 to 4, then 9
-module _ {text rec kinds starts lens : List ℕ} {r : Reading} (s : Reads text rec kinds starts lens r) (token : ℕ) where
-  module _ {count tree : ℕ} (e : r ≡ Says.Sheet count tree) where
-    counts : (length (take count kinds) ≡ count) × (count ≤ 4096)
-    counts = reading-counts s e
-
-    pub ask-tokens : token < count → Asks text rec token kinds starts lens (Tokens count)
-    unfolding ask
-    ask-tokens h =
-        record { is = rw (reading-says s e, ask, lt-ltb token (length (take count kinds)) (rw counts.0 h)); counts = counts }
-
-    pub ask-past : count ≤ token → Asks text rec token kinds starts lens (Declined Case.NoToken)
-    unfolding ask looked_of number_of place_of answer_of keyword_of
-    ask-past h =
-        record { is = rw (reading-says s e, ask, le-ltb token (length (take count kinds)) (rw counts.0 h)); counts = tt }
-
-  refusal : {number place : ℕ} → read text rec ≡ refused number place → declined (looked number place None) ≡ ask text rec token
+module _ {text rec : List ℕ} {token : ℕ} {ts : Tokens} where
+  -- ---- 1 to 4, then 9
+  pub ask-tokens : {tree : ℕ} → Reads text rec ts (Ok tree) → token < length ts.kinds → Asks text rec token ts (Ok tt)
   unfolding ask
-  refusal e = rw (e, ask)
+  ask-tokens s h = record { is = rw (ask, ← s.is, lt-ltb token (length ts.kinds) h) refl }
 
-  pub ask-long : r ≡ Says.TooLong → Asks text rec token kinds starts lens (Declined Case.TooLong)
-  unfolding looked_of number_of place_of answer_of keyword_of Reading.number_of Reading.place_of
-  ask-long e = record { is = refusal (reading-says s e); counts = tt }
+  pub ask-past : {tree : ℕ} → Reads text rec ts (Ok tree) → length ts.kinds ≤ token → Asks text rec token ts (Err NoToken)
+  unfolding ask
+  ask-past s h = record { is = rw (ask, ← s.is, le-ltb token (length ts.kinds) h) refl }
 
-  pub ask-broken : {place : ℕ} → r ≡ Says.NotUtf8 place → Asks text rec token kinds starts lens (Declined (Case.NotUtf8 place))
-  unfolding looked_of number_of place_of answer_of keyword_of Reading.number_of Reading.place_of
-  ask-broken e = record { is = refusal (reading-says s e); counts = tt }
+  pub ask-refused : {why : Refusal} → Reads text rec ts (Err why) → Asks text rec token ts (Err (Refused why))
+  unfolding ask
+  ask-refused s = record { is = rw (ask, ← s.is) refl }
 
-  pub ask-malformed : {place : ℕ} → r ≡ Says.Malformed place → Asks text rec token kinds starts lens (Declined (Case.Malformed place))
-  unfolding looked_of number_of place_of answer_of keyword_of Reading.number_of Reading.place_of
-  ask-malformed e = record { is = refusal (reading-says s e); counts = tt }
-
-  pub ask-deep : {place : ℕ} → r ≡ Says.TooDeep place → Asks text rec token kinds starts lens (Declined (Case.TooDeep place))
-  unfolding looked_of number_of place_of answer_of keyword_of Reading.number_of Reading.place_of
-  ask-deep e = record { is = refusal (reading-says s e); counts = tt }
-
--- ---- the comment above a token
-module _ {text rec kinds starts lens : List ℕ} {token : ℕ} {r : Code.Asked} (s : Asks text rec token kinds starts lens r) where
-  pub asked-says : {x : Code.Asked} → r ≡ x → ask text rec token ≡ asked_in x kinds starts lens
-  asked-says e = sym s.is ∙ ap (λ (y : Code.Asked). asked_in y kinds starts lens) e
-
-  pub lookup-declined : {l : Lookup} → r ≡ Declined l → looked_of l ≡ lookup text rec token
+  -- ---- the comment above a token
+  pub lookup-declined : {why : LookupError} → Asks text rec token ts (Err why) → looked_of (Err why) ≡ lookup text rec token
   unfolding lookup
-  lookup-declined e = rw (asked-says e, lookup)
+  lookup-declined s = rw (lookup, ← s.is) refl
 
-  module _ {count : ℕ} (e : r ≡ Tokens count) where
-    pub asked-counts : (length (take count kinds) ≡ count) × (count ≤ 4096)
-    asked-counts = rw e at s.counts
-
-    pub asked-within : count ≤ length kinds
-    asked-within = omega (arith, asked-counts.0, length-take count kinds)
-
-    module _ (a : Option Found) (f : a ≡ found_above (take count kinds) token) where
-      lookup-is : {o : Option Found} → a ≡ o → told o ≡ lookup text rec token
-      unfolding lookup
-      lookup-is g = rw (asked-says e, lookup, ← f, g)
-
-      pub lookup-found : {x : Found} → a ≡ Some x → looked_of (Case.Found x.comment x.keyword) ≡ lookup text rec token
-      unfolding told looked_of number_of place_of answer_of keyword_of
-      lookup-found g = lookup-is g
-
-      pub lookup-nothing : a ≡ None → looked_of Case.Nothing ≡ lookup text rec token
-      unfolding told looked_of number_of place_of answer_of keyword_of
-      lookup-nothing g = lookup-is g
+  pub lookup-told : {found : Option Found} → Asks text rec token ts (Ok tt) → found ≡ found_above ts.kinds token → looked_of (Ok found) ≡ lookup text rec token
+  unfolding lookup
+  lookup-told s e = rw (lookup, ← s.is, e) refl
 
 -- ---- the keyword that is told
 -- The kinds of the tokens over which a lookup goes.
-asked_kinds : (text rec : List ℕ) (token : ℕ) (ts : Read.Tokens) → ask text rec token ≡ asked ts → (k : ℕ) → get_or ts.kinds k 0 ≤ 20
+asked_kinds : (text rec : List ℕ) (token : ℕ) (ts : Tokens) → ask text rec token ≡ asked ts → (k : ℕ) → get_or ts.kinds k 0 ≤ 20
 unfolding ask
 asked_kinds text rec token ts e = go (read text rec) refl e
   where
-    within : (us : Read.Tokens) (tree : ℕ) (b : Bool) → read text rec ≡ sheet us tree → elim b as (λ z. Asked) [ true ↦ asked us | false ↦ declined (looked 9 0 None) ] ≡ asked ts → (k : ℕ) → get_or ts.kinds k 0 ≤ 20
-    within us tree true f g = let h : us ≡ ts = cc in kinds_known text rec ts tree (f ∙ ap (λ (x : Read.Tokens). sheet x tree) h)
+    within : (us : Tokens) (tree : ℕ) (b : Bool) → read text rec ≡ sheet us tree → elim b as (λ z. Asked) [ true ↦ asked us | false ↦ declined (looked 9 0 None) ] ≡ asked ts → (k : ℕ) → get_or ts.kinds k 0 ≤ 20
+    within us tree true f g = let h : us ≡ ts = cc in kinds_known text rec ts tree (f ∙ ap (λ (x : Tokens). sheet x tree) h)
     within us tree false f g = never (cc)
 
     go : (r : Read) → read text rec ≡ r
@@ -117,7 +69,7 @@ told-found (Some g) f e =
 
 -- A keyword that is told is of kinds 2 to 20, behind the comment and not behind the token that is looked up; every other token between these two
 -- is of kind 0.
-pub lookup-reaches : (text rec : List ℕ) (token : ℕ) (ts : Read.Tokens) → ask text rec token ≡ asked ts → (f : Found) → lookup text rec token ≡ told (Some f) → Reaches ts.kinds token f
+pub lookup-reaches : (text rec : List ℕ) (token : ℕ) (ts : Tokens) → ask text rec token ≡ asked ts → (f : Found) → lookup text rec token ≡ told (Some f) → Reaches ts.kinds token f
 unfolding lookup
 lookup-reaches text rec token ts e f g =
     let h : told (found_above ts.kinds token) ≡ told (Some f) = rw (e, lookup) at g in

@@ -18,7 +18,7 @@ use Rattle.layout.specs.Walk.{walk}
 use Rattle.layout.specs.Events.{deepest, letters, units, formatted, is_left}
 use Rattle.formatter.specs.Verdict.{Verdict, verdict, measures_of, Judged, declined, accepted, comments, stop_verdict, walked, judge, check, Result, max_width, put, format, get}
 use Rattle.formatter.specs.Accepted.{Sheet, Fits}
-use Rattle.formatter.proofs.EventLaws.{length-formatted}
+use Rattle.layout.proofs.Exact.{length_formatted}
 
 -- ---- a refusal's number is never 0
 abbrev Refused : Read → Type 0
@@ -144,14 +144,14 @@ module _ (tab : ℕ) (p : Page) (es : List Event) (out : List ℕ) where
     pub format-short : length out < letters p es + tab * units es → format tab p es out ≡ record { verdict = verdict 8 0 (measures_of p es); out = out }
     unfolding put
     format-short h =
-        let l : length out < length (formatted p tab es) = omega (arith, length-formatted p tab es) in
+        let l : length out < length (formatted p tab es) = omega (arith, length_formatted p tab es) in
         format-put ∙ rw (put, lt-leb _ _ l)
 
     pub format-fits : letters p es + tab * units es ≤ length out
         → format tab p es out ≡ record { verdict = verdict 0 0 (measures_of p es); out = formatted p tab es ++ drop (length (formatted p tab es)) out }
     unfolding put
     format-fits h =
-        let l : length (formatted p tab es) ≤ length out = omega (arith, length-formatted p tab es) in
+        let l : length (formatted p tab es) ≤ length out = omega (arith, length_formatted p tab es) in
         format-put ∙ rw (put, le-leb _ _ l)
 
 -- ---- what formatting accepts

@@ -90,3 +90,12 @@ module _ (text rec : List ℕ) where
   pub walk_first : judge text rec ≡ judge_walk_first text rec
   unfolding judge
   walk_first = lengths_are (leb (length text) max_text && leb (length rec) max_record) refl
+
+  -- ---- by what is said of the lengths and the text
+  pub judge-refused : {number place : ℕ} → read text rec ≡ refused number place → judge text rec ≡ declined (verdict number place no_measures)
+  unfolding judge
+  judge-refused e = ap (judge_of text rec) e
+
+  pub judge-record : read text rec ≡ read_record rec (boundary text) (length text) → judge text rec ≡ record_first text rec
+  unfolding judge
+  judge-record e = ap (judge_of text rec) e ∙ record_is (tokens (boundary text) (length text) rec) refl

@@ -1,11 +1,12 @@
 -- The lookups: 1 to 4, then 9, then 8; number, place, answer and final output for every input.
-use Rattle.std.specs.Prelude.{ℕ, List, true, false, length, ltb, Option, None, Some}
+use Rattle.std.specs.Prelude.{ℕ, List, true, false, length, ltb, Option, None, Some, Result, Ok, Err}
 use Rattle.reader.specs.Tokens.{Tokens}
 use Rattle.reader.specs.Reading.{refused, sheet, read}
+use Rattle.reader.specs.Reading as Reading
 use Rattle.comments.specs.Above as Above
 use Rattle.comments.specs.Above.{found_above}
-use Rattle.formatter.specs.declared.Lookup.{Lookup}
-use Rattle.formatter.specs.declared.Lookup.TheVariants.{Found, Nothing, TooLong, NotUtf8, Malformed, TooDeep, OutputTooShort, NoToken}
+use Rattle.formatter.specs.declared.LookupError.{LookupError}
+use Rattle.formatter.specs.declared.LookupError.TheVariants.{Refused, NoToken}
 
 -- What a lookup gives: number, place, the comment's token number or the length of the doc text; and the token number of the keyword that
 -- `comment_above` passed, none where it passed none, found no comment or is declined, and for a doc text.
@@ -41,47 +42,17 @@ unfoldable pub lookup : List ℕ → List ℕ → ℕ → Looked
 lookup text rec token =
     elim (ask text rec token) [ declined l ↦ l | asked tokens ↦ told (found_above tokens.kinds token) ]
 
--- 01's number for each case of the answer.
-unfoldable pub number_of : Lookup → ℕ
-number_of (Found k saw) = 0
-number_of Nothing = 0
-number_of TooLong = 1
-number_of (NotUtf8 at) = 2
-number_of (Malformed at) = 3
-number_of (TooDeep at) = 4
-number_of OutputTooShort = 8
+-- The number of the documents for each error.
+abbrev pub number_of : LookupError → ℕ
+number_of (Refused why) = Reading.number_of why
 number_of NoToken = 9
 
-unfoldable pub place_of : Lookup → ℕ
-place_of (Found k saw) = 0
-place_of Nothing = 0
-place_of TooLong = 0
-place_of (NotUtf8 at) = at
-place_of (Malformed at) = at
-place_of (TooDeep at) = at
-place_of OutputTooShort = 0
+-- The place of each error.
+abbrev pub place_of : LookupError → ℕ
+place_of (Refused why) = Reading.place_of why
 place_of NoToken = 0
 
-unfoldable pub answer_of : Lookup → Option ℕ
-answer_of (Found k saw) = Some k
-answer_of Nothing = None
-answer_of TooLong = None
-answer_of (NotUtf8 at) = None
-answer_of (Malformed at) = None
-answer_of (TooDeep at) = None
-answer_of OutputTooShort = None
-answer_of NoToken = None
-
-unfoldable pub keyword_of : Lookup → Option ℕ
-keyword_of (Found k saw) = saw
-keyword_of Nothing = None
-keyword_of TooLong = None
-keyword_of (NotUtf8 at) = None
-keyword_of (Malformed at) = None
-keyword_of (TooDeep at) = None
-keyword_of OutputTooShort = None
-keyword_of NoToken = None
-
--- What an answer stands for.
-unfoldable pub looked_of : Lookup → Looked
-looked_of l = record { number = number_of l; place = place_of l; answer = answer_of l; keyword = keyword_of l }
+-- What an answer of `comment_above` stands for.
+abbrev pub looked_of : Result (Option Above.Found) LookupError → Looked
+looked_of (Ok found) = told found
+looked_of (Err why) = looked (number_of why) (place_of why) None

@@ -2,15 +2,17 @@
 use Rattle.std.specs.Prelude.{ℕ, ◌-◌, ◌*◌, List, ◌++◌, true, false, length, get_or, drop, replicate, leb, None, Some}
 use Rattle.reader.specs.Fields.{DecOne}
 use Rattle.reader.specs.Commands.{form_width}
+use Rattle.std.specs.Prelude as Std
 use Rattle.reader.specs.Reading.{refused, sheet, read}
+use Rattle.reader.specs.Reading as Reading
 use Rattle.comments.specs.Set.{words_of, first}
 use Rattle.layout.specs.Meaning.{Page, Event, Stop, absent, imported, done, stopped}
 use Rattle.layout.specs.Walk.{walk}
 use Rattle.layout.specs.Events.{deepest, letters, units, formatted, is_left}
+use Rattle.layout.specs.declared.Stop.TheVariants.{Absent, Import}
 use Rattle.formatter.specs.declared.Measures.{Measures}
-use Rattle.formatter.specs.declared.Answer.{Answer}
-use Rattle.formatter.specs.declared.Answer.TheVariants.{Accepted, TooLong, NotUtf8, Malformed, TooDeep}
-use Rattle.formatter.specs.declared.Answer.TheVariants.{Missing, Import, CommentsLeft, IndentTooWide, OutputTooShort}
+use Rattle.formatter.specs.declared.FormatError.{FormatError}
+use Rattle.formatter.specs.declared.FormatError.TheVariants.{Refused, Stopped, CommentsLeft, IndentTooWide, OutputTooShort}
 
 -- A verdict (document 01): number, place, measures, and the words of the set of comments left.
 pub record Verdict : Type 0 where
@@ -94,43 +96,34 @@ format tab p es out =
 unfoldable pub get : List ℕ → List ℕ → ℕ → List ℕ → Result
 get text rec tab out = elim (judge text rec) [ declined v ↦ result v out | accepted p es ↦ format tab p es out ]
 
--- The number of the documents for each case of the answer.
-unfoldable pub number_of : Answer → ℕ
-number_of (Accepted m) = 0
-number_of TooLong = 1
-number_of (NotUtf8 at) = 2
-number_of (Malformed at) = 3
-number_of (TooDeep at) = 4
-number_of (Missing at) = 13
-number_of (Import at) = 14
+-- The number of the documents for each error.
+abbrev pub number_of : FormatError → ℕ
+number_of (Refused why) = Reading.number_of why
+number_of (Stopped (Absent at)) = 13
+number_of (Stopped (Import at)) = 14
 number_of (CommentsLeft at) = 6
 number_of (IndentTooWide m) = 7
 number_of (OutputTooShort m) = 8
 
-unfoldable pub place_of : Answer → ℕ
-place_of (Accepted m) = 0
-place_of TooLong = 0
-place_of (NotUtf8 at) = at
-place_of (Malformed at) = at
-place_of (TooDeep at) = at
-place_of (Missing at) = at
-place_of (Import at) = at
+-- The place of each error.
+abbrev pub place_of : FormatError → ℕ
+place_of (Refused why) = Reading.place_of why
+place_of (Stopped (Absent at)) = at
+place_of (Stopped (Import at)) = at
 place_of (CommentsLeft at) = at
 place_of (IndentTooWide m) = 0
 place_of (OutputTooShort m) = 0
 
-unfoldable pub given_measures : Answer → Measures
-given_measures (Accepted m) = m
-given_measures TooLong = no_measures
-given_measures (NotUtf8 at) = no_measures
-given_measures (Malformed at) = no_measures
-given_measures (TooDeep at) = no_measures
-given_measures (Missing at) = no_measures
-given_measures (Import at) = no_measures
+-- The measures that an error gives.
+abbrev pub given_measures : FormatError → Measures
+given_measures (Refused why) = no_measures
+given_measures (Stopped why) = no_measures
 given_measures (CommentsLeft at) = no_measures
 given_measures (IndentTooWide m) = m
 given_measures (OutputTooShort m) = m
 
 -- The verdict that an answer and the words beside it stand for.
-unfoldable pub verdict_of : Answer → List ℕ → Verdict
-verdict_of a words = record { number = number_of a; place = place_of a; measures = given_measures a; left = words }
+abbrev pub verdict_of : Std.Result Measures FormatError → List ℕ → Verdict
+verdict_of (Std.Ok m) words = record { number = 0; place = 0; measures = m; left = words }
+verdict_of (Std.Err why) words =
+    record { number = number_of why; place = place_of why; measures = given_measures why; left = words }

@@ -1,24 +1,24 @@
 // The public calls `check`, `get` and the lookup `comment_above` (document 01, module 6).
 #![tactic(auto)]
 
-pub mod numbers; // numbers.rt: the numbers of an answer
-
-ghost use Rattle.std.specs.Prelude.{◌≡◌, ◌*◌, ◌≤◌, ◌∷◌, length, drop};
+ghost use Rattle.std.specs.Prelude.{◌≡◌, ◌*◌, ◌≤◌, Err};
 ghost use Rattle.reader.specs.Check.{tree_check};
-ghost use Rattle.reader.specs.Promises.Tokens.{starts_of, lengths_of};
-ghost use Rattle.layout.specs.Promises.Lent.{page_by};
-ghost use Rattle.formatter.specs.Lookup.{looked_of, lookup};
+ghost use Rattle.reader.specs.Tokens.{count_of};
+ghost use Rattle.layout.specs.Promises.Lent.{page_in};
+ghost use Rattle.formatter.specs.declared.FormatError.TheVariants.{Refused};
+ghost use Rattle.formatter.specs.declared.LookupError.TheVariants.{Refused as NotRead};
+ghost use Rattle.formatter.specs.Lookup.{number_of as lookup_number, place_of as lookup_place, looked_of, lookup};
 ghost use Rattle.formatter.specs.Promises.Lookup.{Asks};
-ghost use Rattle.formatter.specs.Verdict.{declined, empty_set, verdict_of, check as check·, get as get·};
+ghost use Rattle.formatter.specs.Verdict.{number_of, place_of, given_measures, declined, empty_set, verdict_of, check as check·, get as get·};
 ghost use Rattle.formatter.specs.Promises.WalkFirst.{by_check};
-ghost use Rattle.formatter.specs.Promises.Judging.{otherwise, BehindCommand, BehindWhere, Limits, page_in, Weighs, Drafted, Judges, Puts};
+ghost use Rattle.formatter.specs.Promises.Judging.{otherwise, BehindCommand, BehindWhere, Limits, Weighs, Drafted, Judges, Puts};
 
-use comments::Set;
-use layout::{DEEPEST, POSITION, SET, STOP, TAB, UNITS, letters_at, span_at, words};
-use reader::tokens::{Tiled, read_tokens, start_of};
-use reader::tree::{Checked, tree_end};
-use reader::{MAX_RECORD, MAX_TEXT, Reading};
-use text::{copy, first_broken};
+use comments::{Above, Set};
+use layout::{Ink, Page, Status, Stop};
+use reader::tokens::{Tokens, read_tokens};
+use reader::tree::tree_end;
+use reader::{Refusal, check_text};
+use text::copy;
 
 // Deepest, letters and units of a walk (document 01, module 5).
 #[derive(Clone, Copy, Debug, PartialEq, Eq)]
@@ -28,22 +28,13 @@ pub struct Measures {
     pub units: u64,
 }
 
-// The answer of `check` and `get`. The set of comments left stands beside it.
-#[derive(Clone, Copy)]
-pub enum Answer {
-    Accepted(Measures),
-    // The text or the record is too long.
-    TooLong,
-    // The offset in the text of the first byte of the first broken character.
-    NotUtf8(usize),
-    // The offset in the record of the first command that is malformed.
-    Malformed(usize),
-    // The offset in the record of the 201st form inside one another.
-    TooDeep(usize),
-    // The offset in the record of the part that is absent.
-    Missing(usize),
-    // The offset in the record of the import's command.
-    Import(usize),
+// Why `check` or `get` refuses a sheet. The set of comments left stands beside it.
+#[derive(Clone, Copy, Debug, PartialEq, Eq)]
+pub enum FormatError {
+    // The sheet cannot be read.
+    Refused(Refusal),
+    // The walk stops: the offset in the record of the part that is absent, or of the import's command.
+    Stopped(Stop),
     // The offset in the text of the first comment left.
     CommentsLeft(usize),
     // Deepest × tab size is over 4,294,967,295.
@@ -52,44 +43,58 @@ pub enum Answer {
     OutputTooShort(Measures),
 }
 
-// The answer of a lookup.
-#[derive(Clone, Copy)]
-pub enum Lookup {
-    // The token number of the comment and the keyword that the search passed; or the length of the doc text, and no keyword.
-    Found(usize, Option<usize>),
-    Nothing,
-    // The text or the record is too long.
-    TooLong,
-    // The offset in the text of the first byte of the first broken character.
-    NotUtf8(usize),
-    // The offset in the record of the first command that is malformed.
-    Malformed(usize),
-    // The offset in the record of the 201st form inside one another.
-    TooDeep(usize),
-    // The output is shorter than the doc text.
-    OutputTooShort,
-    // The token number is not below the count.
-    NoToken,
+impl FormatError {
+    // The number of the documents.
+    pub fn number(self) -> u64
+        ensures { result ≡ number_of self }
+    {
+        match self {
+            FormatError::Refused(why) => why.number(),
+            FormatError::Stopped(Stop::Absent(_)) => 13,
+            FormatError::Stopped(Stop::Import(_)) => 14,
+            FormatError::CommentsLeft(_) => 6,
+            FormatError::IndentTooWide(_) => 7,
+            FormatError::OutputTooShort(_) => 8,
+        }
+    }
+
+    // The place.
+    pub fn place(self) -> usize
+        ensures { result ≡ place_of self }
+    {
+        match self {
+            FormatError::Refused(why) => why.place(),
+            FormatError::Stopped(Stop::Absent(place) | Stop::Import(place))
+            | FormatError::CommentsLeft(place) => place,
+            FormatError::IndentTooWide(_) | FormatError::OutputTooShort(_) => 0,
+        }
+    }
+
+    // The measures; all 0 where it gives none.
+    pub fn measures(self) -> Measures
+        ensures { result ≡ given_measures self }
+    {
+        match self {
+            FormatError::IndentTooWide(measures) | FormatError::OutputTooShort(measures) => {
+                measures
+            }
+            FormatError::Refused(_) | FormatError::Stopped(_) | FormatError::CommentsLeft(_) => {
+                Measures {
+                    deepest: 0,
+                    letters: 0,
+                    units: 0,
+                }
+            }
+        }
+    }
 }
 
-// The sheet of a lookup.
-#[derive(Clone, Copy)]
-pub enum Asked {
-    // The number of tokens, which stand in the tables.
-    Tokens(usize),
-    Declined(Lookup),
-}
+impl From<Refusal> for FormatError {
+    ghost from_gives = { λ why e. e ≡ Refused why };
 
-// What the sheet alone decides.
-#[derive(Clone, Copy)]
-pub enum Judged {
-    // The number of tokens, which stand in the tables, and the offset in the record of the list of declarations.
-    Accepted {
-        count: usize,
-        tree: usize,
-        measures: Measures,
-    },
-    Declined(Answer),
+    fn from(why: Refusal) -> FormatError {
+        FormatError::Refused(why)
+    }
 }
 
 // ---- check and get
@@ -105,166 +110,101 @@ const DRAFT: usize = 65536;
 // A declaration's command, with its operand.
 const DECLARATION: usize = 3;
 
-// A refusal because of the sheet other than 6: its set is empty.
-fn refused(left: &mut [u64; 64], answer: Answer) -> Judged
-    ensures { (result ≡ Judged.Declined answer) × (left.new ≡ empty_set) }
-{
-    *left = [0u64; 64];
-    Judged::Declined(answer)
+// What the sheet alone decides: where in the record the list of declarations starts, and the measures of the walk.
+#[derive(Clone, Copy)]
+struct Judged {
+    tree: usize,
+    measures: Measures,
 }
 
-// 13 and 14, by the number of a walk over a record that passes the check. An import stops it behind its command.
+// 13 and 14, by the answer of a walk over a record that passes the check. An import stops it behind its command.
 // One that ended elsewhere than at the record's end left bytes over, which no record that passes has.
-fn stop(walked: usize) -> Answer
+fn stop(walked: Status) -> FormatError
     requires { BehindCommand walked }
-    ensures { verdict_of result empty_set ≡ otherwise walked }
+    ensures { verdict_of (Err result) empty_set ≡ otherwise walked }
 {
-    if walked < STOP {
-        return Answer::Malformed(walked);
+    match walked {
+        Ok(end) => FormatError::Refused(Refusal::Malformed(end)),
+        Err(why) => match why {
+            Stop::Absent(place) => FormatError::Stopped(Stop::Absent(place)),
+            Stop::Import(next) => FormatError::Stopped(Stop::Import(next - DECLARATION)),
+        },
     }
-    let place = (walked - STOP) / 2;
-    if (walked - STOP) % 2 == 0 {
-        return Answer::Missing(place);
-    }
-    Answer::Import(place - DECLARATION)
 }
 
 // 3 and 4 of a record whose walk did not end at its end; where the check passes, 13 and 14.
-fn by_check(rec: &[u8], count: usize, tree: usize, walked: usize) -> Answer
-    requires { BehindWhere (tree_check rec.now count tree) walked }
-    ensures { declined (verdict_of result empty_set) ≡ by_check (otherwise walked) (tree_check rec.now count tree) }
+fn by_check(page: &Page, tree: usize, walked: Status) -> FormatError
+    requires { BehindWhere (tree_check page.now.rec.now (count_of page.now.tokens.now) tree) walked }
+    ensures { declined (verdict_of (Err result) empty_set)
+        ≡ by_check (otherwise walked) (tree_check page.now.rec.now (count_of page.now.tokens.now) tree) }
 {
-    let found = tree_end(rec, count, tree);
-    match found {
-        Checked::Ok(_) => stop(walked),
-        Checked::Malformed(place) => Answer::Malformed(place),
-        Checked::TooDeep(place) => Answer::TooDeep(place),
+    match tree_end(page.rec, page.tokens.count(), tree) {
+        Ok(_) => stop(walked),
+        Err(why) => FormatError::Refused(why),
     }
 }
 
-// The words that are lent to the walk: no measures yet, the tab size, and the words of a set.
-fn lent(tab: u32, set: Set) -> [u64; 68]
-    ensures { result ≡ 0 ∷ 0 ∷ 0 ∷ tab ∷ set.words }
-{
-    let words = set.words;
-    let mut mem = [0u64; 68];
-    mem[TAB] = tab as u64;
-    let mut i = 0;
-    while i < 64 {
-        mem[SET + i] = words[i];
-        i += 1;
-    }
-    mem
-}
-
-// The set of the comments left, by the words that were lent.
-fn left_in(mem: [u64; 68]) -> Set
-    ensures { result.words ≡ drop 4 mem }
-{
-    let mut words = [0u64; 64];
-    let mut i = 0;
-    while i < 64 {
-        words[i] = mem[SET + i];
-        i += 1;
-    }
-    Set { words }
-}
-
-// 3, 4, 13, 14 and 6 of a sheet whose tokens stand in the tables: the walk at a tab size over a draft of the output.
-// The words become those of the comments left.
+// 3, 4, 13, 14 and 6 of a sheet that is read to its tokens: the walk at a tab size over a draft of the output.
+// The set becomes that of the comments left.
 fn weigh(
-    text: &[u8],
-    rec: &[u8],
-    kinds: &[u8],
-    spans: &[u32],
-    draft: &mut [u8],
-    left: &mut [u64; 64],
-    count: usize,
+    page: &Page,
     tree: usize,
     tab: u32,
-) -> Judged
-    requires { Limits text.now rec.now kinds.now spans.now count tree }
-    ensures { Weighs (page_in text.now rec.now count kinds.now spans.now)
-        count tree tab draft.new left.new result }
+    draft: &mut [u8],
+    left: &mut Set,
+) -> Result<Measures, FormatError>
+    requires limits { Limits (page_in page.now) }
+    requires none_left { left.old.words ≡ empty_set }
+    ensures { Weighs (page_in page.now) tree tab draft.new left.new.words result }
 {
-    let kinds = &kinds[..count];
-    let spans = &spans[..count];
-    let run = words::RUN;
-    let mut mem = lent(tab, Set::all(kinds));
-    let walked = walk::walk(&run, text, rec, kinds, spans, draft, &mut mem, tree);
-    if walked != rec.len() {
-        return refused(left, by_check(rec, spans.len(), tree, walked));
-    }
-    let set = left_in(mem);
-    let unwritten = set.words;
-    *left = unwritten;
-    if set.is_empty() {
-        let units = mem[UNITS];
-        let measures = Measures {
-            deepest: mem[DEEPEST],
-            letters: letters_at(tab as u64, mem[POSITION], units),
-            units,
-        };
-        return Judged::Accepted {
-            count,
-            tree,
-            measures,
-        };
-    }
-    let Some(k) = set.first() else {
-        return Judged::Declined(Answer::CommentsLeft(0));
+    let mut ink = Ink {
+        position: 0,
+        units: 0,
+        deepest: 0,
+        tab,
+        left: Set::all(page.tokens.kinds()),
     };
-    Judged::Declined(Answer::CommentsLeft(start_of(span_at(spans, k))))
+    let walked = walk::walk(page, draft, &mut ink, tree);
+    match walked {
+        Ok(end) if end == page.rec.len() => {}
+        _ => return Err(by_check(page, tree, walked)),
+    }
+    *left = ink.left;
+    if let Some(k) = ink.left.first() {
+        return Err(FormatError::CommentsLeft(page.tokens.start(k)));
+    }
+    Ok(Measures {
+        deepest: ink.deepest,
+        letters: ink.letters(),
+        units: ink.units,
+    })
 }
 
 // 1 to 4, 13, 14 and 6. The record check is run only where the walk did not end at the record's end.
-// The words become those of the comments left, which are none but for 6.
+// The set becomes that of the comments left, which are none but for 6.
 fn judge(
     text: &[u8],
     rec: &[u8],
-    kinds: &mut [u8; 4096],
-    spans: &mut [u32; 4096],
-    draft: &mut [u8],
-    left: &mut [u64; 64],
+    tokens: &mut Tokens,
     tab: u32,
-) -> Judged
-    ensures { Judges text.now rec.now tab
-        kinds.new spans.new draft.new left.new result }
+    draft: &mut [u8],
+    left: &mut Set,
+) -> Result<Judged, FormatError>
+    ensures { Judges text.now rec.now tokens.new tab draft.new left.new.words result }
 {
-    if MAX_TEXT < text.len() {
-        return refused(left, Answer::TooLong);
-    }
-    if MAX_RECORD < rec.len() {
-        return refused(left, Answer::TooLong);
-    }
-    if let Some(place) = first_broken(text) {
-        return refused(left, Answer::NotUtf8(place));
-    }
-    let tokens = read_tokens(text, text.len() as u16, rec, kinds, spans);
-    match tokens {
-        Tiled::Tiled { count, tree } => weigh(
-            text, rec, kinds, spans, draft, left, count, tree, tab,
-        ),
-        Tiled::Untiled(place) => refused(left, Answer::Malformed(place)),
-    }
+    *left = Set::new();
+    check_text(text, rec)?;
+    let tree = read_tokens(text, text.len() as u16, rec, tokens)?;
+    let measures = weigh(&Page { text, rec, tokens }, tree, tab, draft, left)?;
+    Ok(Judged { tree, measures })
 }
 
-// Whether the sheet can be formatted. The words become those of the comments left, which are none but for 6.
-pub fn check(text: &[u8], rec: &[u8], left: &mut [u64; 64]) -> Answer
-    ensures { verdict_of result left.new ≡ check· text.now rec.now }
+// Whether the sheet can be formatted. The set becomes that of the comments left, which are none but for 6.
+pub fn check(text: &[u8], rec: &[u8], left: &mut Set) -> Result<Measures, FormatError>
+    ensures { verdict_of result left.new.words ≡ check· text.now rec.now }
 {
-    let mut kinds = [0u8; 4096];
-    let mut spans = [0u32; 4096];
-    let mut none = [0u8; 1];
-    let judged = judge(text, rec, &mut kinds, &mut spans, &mut none[..0], left, 0);
-    match judged {
-        Judged::Accepted {
-            count: _,
-            tree: _,
-            measures,
-        } => Answer::Accepted(measures),
-        Judged::Declined(answer) => answer,
-    }
+    let judged = judge(text, rec, &mut Tokens::new(), 0, &mut [], left)?;
+    Ok(judged.measures)
 }
 
 // A measure times the tab size.
@@ -272,139 +212,142 @@ fn scaled(n: u64, tab: u32) -> u64
     requires { n ≤ 0x4000_0000 }
     ensures { (result ≡ n * tab) × (result ≤ 0x3FFF_FFFF_C000_0000) }
 {
-    n * (tab as u64)
+    n * u64::from(tab)
 }
 
 // 7, then 8; or the formatted text in the output's first bytes: from the draft, or by a second walk where it is longer.
 fn put(
-    text: &[u8],
-    rec: &[u8],
-    kinds: &[u8],
-    spans: &[u32],
+    page: &Page,
+    judged: Judged,
+    tab: u32,
     draft: &[u8],
     out: &mut [u8],
-    tree: usize,
-    tab: u32,
-    measures: Measures,
-) -> Answer
-    requires { Drafted (page_by text.now rec.now kinds.now spans.now) tree tab measures draft.now }
-    ensures { Puts (page_by text.now rec.now kinds.now spans.now)
-        tree tab out.old result out.new }
+) -> Result<Measures, FormatError>
+    requires { Drafted (page_in page.now) judged tab draft.now }
+    ensures { Puts (page_in page.now) judged.tree tab out.old result out.new }
 {
-    let deepest = measures.deepest;
-    let letters = measures.letters;
-    let units = measures.units;
-    let width = scaled(deepest, tab);
-    if MAX_WIDTH < width {
-        return Answer::IndentTooWide(measures);
+    let measures = judged.measures;
+    if MAX_WIDTH < scaled(measures.deepest, tab) {
+        return Err(FormatError::IndentTooWide(measures));
     }
-    let spaces = scaled(units, tab);
-    let size = letters + spaces;
+    let size = measures.letters + scaled(measures.units, tab);
     if (out.len() as u64) < size {
-        return Answer::OutputTooShort(measures);
+        return Err(FormatError::OutputTooShort(measures));
     }
     if size <= draft.len() as u64 {
         copy(out, 0, &draft[..size as usize]);
-        return Answer::Accepted(measures);
+        return Ok(measures);
     }
-    let run = words::RUN;
-    let mut mem = lent(tab, Set { words: [0u64; 64] });
-    let _walked = walk::walk(&run, text, rec, kinds, spans, out, &mut mem, tree);
-    Answer::Accepted(measures)
+    let mut ink = Ink {
+        position: 0,
+        units: 0,
+        deepest: 0,
+        tab,
+        left: Set::new(),
+    };
+    let _walked = walk::walk(page, out, &mut ink, judged.tree);
+    Ok(measures)
 }
 
-// Formats the sheet at a tab size over a draft, whatever its length.
-fn drafted(
+// Formats the sheet at a tab size over a draft of N bytes.
+fn drafted<const N: usize>(
     text: &[u8],
     rec: &[u8],
     tab: u32,
-    draft: &mut [u8],
     out: &mut [u8],
-    left: &mut [u64; 64],
-) -> Answer
-    ensures { record { verdict = verdict_of result left.new; out = out.new }
+    left: &mut Set,
+) -> Result<Measures, FormatError>
+    requires { N ≤ 0x1_0000 }
+    ensures { record { verdict = verdict_of result left.new.words; out = out.new }
         ≡ get· text.now rec.now tab out.old }
 {
-    let mut kinds = [0u8; 4096];
-    let mut spans = [0u32; 4096];
-    let judged = judge(text, rec, &mut kinds, &mut spans, draft, left, tab);
-    match judged {
-        Judged::Accepted {
-            count,
-            tree,
-            measures,
-        } => put(
-            text,
-            rec,
-            &kinds[..count],
-            &spans[..count],
-            draft,
-            out,
-            tree,
-            tab,
-            measures,
-        ),
-        Judged::Declined(answer) => answer,
-    }
+    let mut tokens = Tokens::new();
+    let mut draft = [0; N];
+    let judged = judge(text, rec, &mut tokens, tab, &mut draft, left)?;
+    let page = Page {
+        text,
+        rec,
+        tokens: &tokens,
+    };
+    put(&page, judged, tab, &draft, out)
 }
 
-// Formats the sheet at a tab size into the output's first bytes. Unless the answer is `Accepted`, the output is as it was.
-pub fn get(text: &[u8], rec: &[u8], tab: u32, out: &mut [u8], left: &mut [u64; 64]) -> Answer
-    ensures { record { verdict = verdict_of result left.new; out = out.new }
+// Formats the sheet at a tab size into the output's first bytes; at an error the output is as it was.
+// The set becomes that of the comments left, which are none but for 6.
+pub fn get(
+    text: &[u8],
+    rec: &[u8],
+    tab: u32,
+    out: &mut [u8],
+    left: &mut Set,
+) -> Result<Measures, FormatError>
+    ensures { record { verdict = verdict_of result left.new.words; out = out.new }
         ≡ get· text.now rec.now tab out.old }
 {
-    if rec.len() <= SHORT_DRAFT {
-        let mut draft = [0u8; SHORT_DRAFT];
-        return drafted(text, rec, tab, &mut draft, out, left);
+    match rec.len() {
+        0..=SHORT_DRAFT => drafted::<SHORT_DRAFT>(text, rec, tab, out, left),
+        ..=MIDDLE_DRAFT => drafted::<MIDDLE_DRAFT>(text, rec, tab, out, left),
+        _ => drafted::<DRAFT>(text, rec, tab, out, left),
     }
-    if rec.len() <= MIDDLE_DRAFT {
-        let mut draft = [0u8; MIDDLE_DRAFT];
-        return drafted(text, rec, tab, &mut draft, out, left);
-    }
-    let mut draft = [0u8; DRAFT];
-    drafted(text, rec, tab, &mut draft, out, left)
 }
 
 // ---- lookups
-// Refusals 1 to 4, then 9; or the tokens.
-pub fn ask(
-    text: &[u8],
-    rec: &[u8],
-    token: usize,
-    kinds: &mut [u8; 4096],
-    spans: &mut [u32; 4096],
-) -> Asked
-    ensures { Asks text.now rec.now token kinds.new (starts_of spans.new) (lengths_of spans.new) result }
-{
-    let reading = reader::check(text, rec, kinds, spans);
-    match reading {
-        Reading::Sheet { count, tree: _ } => {
-            if token < count {
-                return Asked::Tokens(count);
-            }
-            Asked::Declined(Lookup::NoToken)
+// Why a lookup looks for nothing.
+#[derive(Clone, Copy, Debug, PartialEq, Eq)]
+pub enum LookupError {
+    // The sheet cannot be read.
+    Refused(Refusal),
+    // The token number is not below the count.
+    NoToken,
+}
+
+impl LookupError {
+    // The number of the documents.
+    pub fn number(self) -> u64
+        ensures { result ≡ lookup_number self }
+    {
+        match self {
+            LookupError::Refused(why) => why.number(),
+            LookupError::NoToken => 9,
         }
-        Reading::TooLong => Asked::Declined(Lookup::TooLong),
-        Reading::NotUtf8(place) => Asked::Declined(Lookup::NotUtf8(place)),
-        Reading::Malformed(place) => Asked::Declined(Lookup::Malformed(place)),
-        Reading::TooDeep(place) => Asked::Declined(Lookup::TooDeep(place)),
+    }
+
+    // The place.
+    pub fn place(self) -> usize
+        ensures { result ≡ lookup_place self }
+    {
+        match self {
+            LookupError::Refused(why) => why.place(),
+            LookupError::NoToken => 0,
+        }
+    }
+}
+
+impl From<Refusal> for LookupError {
+    ghost from_gives = { λ why e. e ≡ NotRead why };
+
+    fn from(why: Refusal) -> LookupError {
+        LookupError::Refused(why)
+    }
+}
+
+// Refusals 1 to 4, then 9; or the tokens.
+pub fn ask(text: &[u8], rec: &[u8], token: usize, tokens: &mut Tokens) -> Result<(), LookupError>
+    ensures { Asks text.now rec.now token tokens.new result }
+{
+    reader::check(text, rec, tokens)?;
+    if token < tokens.count() {
+        Ok(())
+    } else {
+        Err(LookupError::NoToken)
     }
 }
 
 // The comment above a token, and the keyword that the search passed.
-pub fn comment_above(text: &[u8], rec: &[u8], token: usize) -> Lookup
+pub fn comment_above(text: &[u8], rec: &[u8], token: usize) -> Result<Option<Above>, LookupError>
     ensures { looked_of result ≡ lookup text.now rec.now token }
 {
-    let mut kinds = [0u8; 4096];
-    let mut spans = [0u32; 4096];
-    let asked = ask(text, rec, token, &mut kinds, &mut spans);
-    match asked {
-        Asked::Tokens(count) => {
-            let Some(above) = comments::comment_above(&kinds[..count], token) else {
-                return Lookup::Nothing;
-            };
-            Lookup::Found(above.comment, above.keyword)
-        }
-        Asked::Declined(why) => why,
-    }
+    let mut tokens = Tokens::new();
+    ask(text, rec, token, &mut tokens)?;
+    Ok(comments::comment_above(tokens.kinds(), token))
 }

@@ -1,170 +1,167 @@
--- Laws of what AppExp sees of its expressions.
-use Rattle.std.proofs.Common.{◌≡◌, ℕ, zero, suc, ◌+◌, Bool, true, false, List, length, sym, refl, ap, ◌∙◌, eq-eqb, ne_eqb}
-use Rattle.std.specs.Prelude.{Option, None, Some}
-use Rattle.reader.specs.Promises.Tokens.{starts_of}
-use Rattle.reader.proofs.SpanLaws.{counted}
+-- Laws of what AppExp sees of its expressions, and of InfixExp's operator; steps for both.
+use Rattle.std.proofs.Common.{◌≡◌, ℕ, ◌+◌, Bool, true, false, List, [], ◌∷◌, sym, refl, ap, ap₂, ◌∙◌}
+use Rattle.std.specs.Prelude.{Option, None, Some, Result, Ok, Err}
+use Rattle.text.proofs.Laws.{never}
 use Rattle.reader.specs.Fields as Fields
 use Rattle.reader.specs.Fields.{Exp}
-use Rattle.reader.specs.Forms.{exp_number}
-use Rattle.reader.specs.declared.commands.Family.TheVariants as Case
-use Rattle.reader.specs.declared.commands.Number.{Number}
-use Rattle.reader.specs.declared.tree.Checked as Tree
-use Rattle.reader.specs.Commands.{absent_at, form_at}
-use Rattle.reader.specs.Promises.Commands.{FormAt}
-use Rattle.reader.specs.Check.{Checked, ok, malformed, too_deep, max_forms, fields, or_absent, form_check, form_fits, field_end}
-use Rattle.reader.specs.Promises.Tree.{checked_in, Ends}
-use Rattle.reader.proofs.CommandLaws.{form-not, form-read}
-use Rattle.layout.specs.declared.Status.{Status}
-use Rattle.layout.specs.declared.Status.TheVariants.{Stopped}
-use Rattle.layout.specs.declared.names.Name as Code
-use Rattle.layout.specs.declared.looks.Head as Looks
-use Rattle.layout.specs.declared.looks.BothSeen as Both
-use Rattle.layout.specs.Layout.{Layout, ◌⨾◌, application}
-use Rattle.layout.specs.Meaning.{Page, op_path_name, path_exp, other_exp, Seen, seen, unseen, head_of, Heads, both, missing, both_seen, heads_from, heads_at, func_is_bang, arg_is_symbolic, outcome}
-use Rattle.layout.specs.Promises.State.{run_of, run, runs, effects, page, packed, shown, told_of, Fair, Walked, Stops, name_in, head_in, heads_in, heads_behind, asked_first, AskedFirst, BangIs, SymbolicIs}
-use Rattle.layout.proofs.Steps.{Same, packed-absent, then-stop}
-use Rattle.layout.proofs.HeadPlaces.{missing_below}
+use Rattle.reader.specs.Tokens.{count_of}
+use Rattle.reader.specs.Check.{ok, field_end, token_fits}
+use Rattle.reader.specs.Commands.{form_at}
+use Rattle.layout.specs.declared.Ink.{Ink}
+use Rattle.layout.specs.declared.Stop as Code
+use Rattle.layout.specs.declared.Stop.TheVariants as Why
+use Rattle.layout.specs.declared.names.Name as Names
+use Rattle.layout.specs.Layout.{Layout, ◌⨾◌, application, operator, is_pipe}
+use Rattle.layout.specs.Meaning as Meaning
+use Rattle.layout.specs.Meaning.{Page, Event, Token, Outcome, done, stopped, Stop, after, bind, or_stop, outcome, Head, path_exp, other_exp, Heads, both, missing, passes, func_is_bang, arg_is_symbolic, operated}
+use Rattle.layout.specs.Promises.State.{Run, run_of, effect, effects, Ran, went, fell, run, runs, why_of, ended, shown, Walked, Sure, Operated, read_of}
+use Rattle.layout.specs.Promises.Looks.{seen_as, head, heads_of, heads_behind, heads_at, asked_first}
+use Rattle.layout.proofs.Steps.{and_then, run_at, run_after, run_bind, runs_then, Handed, handed_on, shown_went, shown_fell, some_of, none_of}
 
--- ---- one expression
-module _ (rec : List ℕ) (n fields : ℕ) where
-  pub head-other : (n ≡ 5 → ⊥) → seen other_exp ≡ head_of rec n fields
-  unfolding head_of exp_number
-  head-other h = rw (ne_eqb n 5 h, head_of) refl
+-- ---- what a walk's answer says of the run
+module _ {p : Page} {keep : Bool} {w : Layout} {g : Run} {x : Result ℕ Code.Stop} {i : Ink} {o : List ℕ} (e : Walked keep p w g x i o) where
+  went_on : {s : ℕ} → x ≡ Ok s → runs p w g ≡ went (run_of s i o)
+  unfolding ended
+  went_on {s} f = shown_went keep (runs p w g) (run_of s i o) (ap (λ x. shown keep (ended x i o)) (sym f) ∙ e.is)
 
-  pub head-named : {x : Code.Name} {k m : ℕ} → n ≡ 5 → name_in x ≡ op_path_name rec fields → x ≡ Code.Name.Is k m → seen (path_exp k m) ≡ head_of rec n fields
-  unfolding head_of exp_number
-  head-named h e f =
-      let q = sym e ∙ ap name_in f in
-      rw (eq-eqb n 5 h, head_of, q) refl
+  fell_at : {why : Code.Stop} → x ≡ Err why → shown keep (fell (why_of why) i o) ≡ shown keep (runs p w g)
+  unfolding ended
+  fell_at f = ap (λ x. shown keep (ended x i o)) (sym f) ∙ e.is
 
-  pub head-missing : {x : Code.Name} {place : ℕ} → n ≡ 5 → name_in x ≡ op_path_name rec fields → x ≡ Code.Name.Not place → unseen place ≡ head_of rec n fields
-  unfolding head_of exp_number
-  head-missing h e f =
-      let q = sym e ∙ ap name_in f in
-      rw (eq-eqb n 5 h, head_of, q) refl
+-- Where the layout leads from the cursor.
+done_by : (p : Page) (x : Outcome) (g h : Run) → run p x g ≡ went h → (es : List Event) × (x ≡ done h.at es)
+unfolding run
+done_by p (done a es) g h e = let q : run_of a (effects p es g).ink (effects p es g).out ≡ h = cc in (es, ap (λ (h : Run). done h.at es) q)
+done_by p (stopped why es) g h e = never (cc)
 
--- ---- both
-module _ {rec : List ℕ} {arg : ℕ} {x : Number} (e : FormAt Case.Exp rec arg x) (n func : ℕ) where
-  pub from-missing : x ≡ Number.Not → missing arg ≡ heads_from rec n func arg
-  unfolding heads_from
-  from-missing f = rw (form-not e f, heads_from) refl
+pub leads : {p : Page} {keep : Bool} {w : Layout} {a s : ℕ} {i i' : Ink} {o o' : List ℕ} {x : Result ℕ Code.Stop} → Walked keep p w (run_of a i o) x i' o' → x ≡ Ok s
+    → (es : List Event) × (outcome p w a ≡ done s es)
+unfolding runs
+leads {p} {w = w} {a} {s} {i} {i'} {o} {o'} e f = done_by p (outcome p w a) (run_of a i o) (run_of s i' o') (went_on e f)
 
-  pub from-both : {m fields : ℕ} {y : Heads} {f a : Seen} → x ≡ Number.Is m → fields ≡ func + 1 → f ≡ head_of rec n fields → a ≡ head_of rec m (arg + 1)
-      → y ≡ both_seen f a → y ≡ heads_from rec n func arg
-  unfolding heads_from
-  from-both h i p r s = rw (form-read e h, heads_from, ← i, ← p, ← r) s
+-- ---- what AppExp sees of its expressions
+-- Behind the first expression's end.
+pub behind_end : (rec : List ℕ) (count func arg : ℕ) → ((n : ℕ) → form_at rec Exp func ≡ Some n → field_end rec count (Fields.form Exp) func ≡ ok arg)
+    → heads_behind rec func arg ≡ heads_at rec count func
+unfolding heads_behind heads_of Meaning.heads_at
+behind_end rec count func arg h = go (form_at rec Exp func) refl
+  where
+    go : (o : Option ℕ) → form_at rec Exp func ≡ o → heads_behind rec func arg ≡ heads_at rec count func
+    go (Some n) q = rw (q, heads_behind, Meaning.heads_at, h n q) refl
+    go None q = rw (q, heads_behind, Meaning.heads_at, heads_of) refl
 
--- ---- where the first one's walk ended
-module _ {rec : List ℕ} {func : ℕ} (arg : ℕ) {x : Number} (e : FormAt Case.Exp rec func x) where
-  pub behind-missing : x ≡ Number.Not → missing func ≡ heads_behind rec func arg
-  unfolding heads_behind
-  behind-missing f = rw (form-not e f, heads_behind) refl
+abbrev Seen : Type 0
+Seen = Option Names.Name × Option Names.Name
 
-  pub behind-both : {n : ℕ} {z : Heads} → x ≡ Number.Is n → z ≡ heads_from rec n func arg → z ≡ heads_behind rec func arg
-  unfolding heads_behind
-  behind-both f j = rw (form-read e f, heads_behind) j
+seen_head : (h : Head) → seen_as (head h) ≡ h
+unfolding seen_as head
+seen_head (path_exp k n) = refl
+seen_head other_exp = refl
 
--- ---- where its end is looked for
--- Where a check refuses.
-abbrev refused_at : ℕ → Checked → ℕ
-refused_at at (ok next) = at
-refused_at at (malformed place) = place
-refused_at at (too_deep place) = place
+are_both : (x : Heads) (f g : Option Names.Name) → heads_of x ≡ Ok (f, g) → x ≡ both (seen_as f) (seen_as g)
+unfolding heads_of
+are_both (both h k) f g e =
+    let q : ◌≡◌ {A = Seen} (head h, head k) (f, g) = cc in
+    ap₂ both (sym (seen_head h) ∙ ap (λ (x : Seen). seen_as x.0) q) (sym (seen_head k) ∙ ap (λ (x : Seen). seen_as x.1) q)
+are_both (missing place) f g e = never (cc)
 
-module _ (rec : List ℕ) (count func : ℕ) where
-  no-fit : (left : ℕ) → form_at rec Exp func ≡ None → form_check rec count left Exp func ≡ malformed func
-  unfolding form_check form_fits
-  no-fit zero e = let f : form_fits rec count Exp func ≡ None = rw (e, form_fits) refl in rw (f, form_check) refl
-  no-fit (suc left) e = let f : form_fits rec count Exp func ≡ None = rw (e, form_fits) refl in rw (f, form_check) refl
+module _ {p : Page} {a : ℕ} {i i' : Ink} {o o' : List ℕ} where
+  module _ {r : Result ℕ Code.Stop} {k : Bool → Bool → Layout} {x : Result Seen Code.Stop} (e : x ≡ heads_at p.rec (count_of p.tokens) a) where
+    pub application_is : {keep : Bool} {f g : Option Names.Name} {b c : Bool} → x ≡ Ok (f, g) → b ≡ func_is_bang p (seen_as f) → c ≡ arg_is_symbolic p (seen_as g)
+        → Walked keep p (k b c) (run_of a i o) r i' o' → Walked keep p (application k) (run_of a i o) r i' o'
+    unfolding runs outcome
+    application_is {f = f} {g} d t u h = let q = are_both (Meaning.heads_at p.rec (count_of p.tokens) a) f g (sym e ∙ d) in record { is = rw (q, outcome, ← t, ← u) h.is }
 
-  gone-or : (gone : Bool) (x : Checked) → x ≡ malformed func → refused_at func (elim gone as (λ y. Checked) [ true ↦ ok (func + 1) | false ↦ x ]) ≡ func
-  gone-or true x e = refl
-  gone-or false x e = ap (refused_at func) e
+    -- What was written before the names were looked for does not count.
+    pub application_not : {why : Code.Stop} → x ≡ Err why → Handed r why → Walked false p (application k) (run_of a i o) r i' o'
+    unfolding runs outcome run effects shown ended why_of heads_of
+    application_not {why} d h = rw (handed_on r h) (record { is = go (Meaning.heads_at p.rec (count_of p.tokens) a) refl (sym e ∙ d) })
+      where
+        go : (z : Heads) → Meaning.heads_at p.rec (count_of p.tokens) a ≡ z → heads_of z ≡ Err why
+            → shown false (ended (Err why) i' o') ≡ shown false (runs p (application k) (run_of a i o))
+        go (both f g) q s = never (cc)
+        go (missing place) q s = let t : why ≡ Why.Absent place = cc in ap (λ z. shown false (fell (why_of z) i' o')) t ∙ rw (q, outcome) refl
 
-  no-form : form_at rec Exp func ≡ None → refused_at func (field_end rec count (Fields.form Exp) func) ≡ func
-  unfolding field_end fields or_absent
-  no-form e = gone-or (absent_at rec func) (form_check rec count max_forms Exp func) (no-fit max_forms e)
-
-module _ {rec : List ℕ} {count func : ℕ} {y : Tree.Checked} (h : Ends rec count (Fields.form Exp) func y) where
-  pub at-end : {arg : ℕ} {z : Heads} → y ≡ Tree.Checked.Ok arg → z ≡ heads_behind rec func arg → z ≡ heads_at rec count func
-  unfolding heads_at heads_behind
-  at-end {arg} i j = j ∙ go (form_at rec Exp func) refl
+  -- The first expression stopped.
+  pub application_stop : {v : Layout} {w : Bool → Bool → Layout} {x : Result ℕ Code.Stop} {why b : Code.Stop} → Walked false p v (run_of a i o) x i' o' → x ≡ Err why
+      → b ≡ asked_first p.rec (count_of p.tokens) a why → Walked false p (application (λ b c. v ⨾ w b c)) (run_of a i o) (Err b) i' o'
+  unfolding runs outcome run effects shown ended why_of asked_first heads_of
+  application_stop {v} {w} {why = why} {b} e f h = record { is = go (Meaning.heads_at p.rec (count_of p.tokens) a) refl }
     where
-      go : (o : Option ℕ) → form_at rec Exp func ≡ o → heads_behind rec func arg ≡ heads_at rec count func
-      go (Some n) q = rw (q, heads_behind, heads_at, sym h.is ∙ ap checked_in i) refl
-      go None q = rw (q, heads_behind, heads_at) refl
-
-  refused : (x : Checked) → field_end rec count (Fields.form Exp) func ≡ x
-      → ((n : ℕ) → missing (refused_at func x) ≡ elim x [ ok arg ↦ heads_from rec n func arg | malformed place ↦ missing place | too_deep place ↦ missing place ])
-      → missing (refused_at func x) ≡ heads_at rec count func
-  unfolding heads_at
-  refused x e f = go (form_at rec Exp func) refl
-    where
-      go : (o : Option ℕ) → form_at rec Exp func ≡ o → missing (refused_at func x) ≡ heads_at rec count func
-      go (Some n) q = rw (q, heads_at, e) (f n)
-      go None q = rw (q, heads_at) (ap missing (sym (ap (refused_at func) e) ∙ no-form rec count func q))
-
-  pub at-malformed : {place : ℕ} → y ≡ Tree.Checked.Malformed place → missing place ≡ heads_at rec count func
-  at-malformed {place} i = refused (malformed place) (sym h.is ∙ ap checked_in i) (λ n. refl)
-
-  pub at-deep : {place : ℕ} → y ≡ Tree.Checked.TooDeep place → missing place ≡ heads_at rec count func
-  at-deep {place} i = refused (too_deep place) (sym h.is ∙ ap checked_in i) (λ n. refl)
-
--- ---- where it stopped
-module _ {rec : List ℕ} {count func n : ℕ} {y : Both.BothSeen} (e : heads_in y ≡ heads_at rec count func) where
-  pub asked-both : {f a : Looks.Head} → y ≡ Both.BothSeen.Are f a → AskedFirst rec count func n n
-  unfolding asked_first
-  asked-both f = record { is = λ short near. let q = sym e ∙ ap heads_in f in sym (rw (q, asked_first) refl) }
-
-  pub asked-missing : {place b : ℕ} → y ≡ Both.BothSeen.Missing place → Stops place b → AskedFirst rec count func n b
-  unfolding asked_first
-  asked-missing f h =
-      record {
-        is = λ short near.
-            let q = sym e ∙ ap heads_in f in
-            h.is (missing_below rec count short near q) ∙ sym (rw (q, asked_first) refl);
-      }
-
--- With the count of a table of spans.
-pub asked_by : {r : List ℕ} {func n b : ℕ} (spans : List ℕ) → AskedFirst r (length spans) func n b → AskedFirst r (length (starts_of spans)) func n b
-asked_by {r} {func} {n} {b} spans h = counted (λ count. AskedFirst r count func n b) spans h
-
--- ---- the walk
-module _ {words x r kinds starts lens : List ℕ} {a : ℕ} {m o : List ℕ} {k : Bool → Bool → Layout} {y : Both.BothSeen}
-    (e : Fair words (page x r kinds starts lens) a → heads_in y ≡ heads_at r (length starts) a) where
-  pub application-is : {f g : Looks.Head} {b c : Bool} → y ≡ Both.BothSeen.Are f g → BangIs x starts lens (head_in f) b → SymbolicIs x starts lens (head_in g) c
-      → Same words (page x r kinds starts lens) (application k) (run_of a m o) (k b c) (run_of a m o)
-  unfolding runs outcome
-  application-is {f} {g} {b} {c} h i j =
-      record {
-        on = λ fair. fair.cursor;
-        is = λ fair.
-            let q = sym (e fair) ∙ ap heads_in h in
-            rw (q, outcome, ← i.is r kinds, ← j.is r kinds) refl;
-      }
-
-  pub application-missing : {place n : ℕ} {m' o' : List ℕ} → y ≡ Both.BothSeen.Missing place → Stops place n
-      → Walked false words (page x r kinds starts lens) (application k) (run_of a m o) n m' o'
-  unfolding runs outcome run effects shown
-  application-missing {place} {n} {m'} {o'} f h =
-      record {
-        is = λ fair.
-            let q = sym (e fair) ∙ ap heads_in f in
-            ap (shown false) (packed-absent place n m' o' (h.is (missing_below r (length starts) fair.short fair.cursor q))) ∙ rw (q, outcome) refl;
-      }
-
--- The first expression stopped.
-module _ {words : List ℕ} {p : Page} {a n r : ℕ} {m o m' o' : List ℕ} {v : Layout} {w : Bool → Bool → Layout} {y : Status} where
-  pub application-stop : Walked false words p v (run_of a m o) n m' o' → y ≡ told_of n → y ≡ Stopped → AskedFirst p.rec (length p.tokens.starts) a n r
-      → Walked false words p (application (λ b c. v ⨾ w b c)) (run_of a m o) r m' o'
-  unfolding runs outcome run effects shown asked_first
-  application-stop e t f h = record { is = λ fair. go fair (heads_at p.rec (length p.tokens.starts) a) refl }
-    where
-      go : Fair words p a → (x : Heads) → heads_at p.rec (length p.tokens.starts) a ≡ x
-          → shown false (packed r m' o') ≡ shown false (runs p (application (λ b c. v ⨾ w b c)) (run_of a m o))
-      go fair (both func arg) q =
-          ap (λ z. shown false (packed z m' o')) (h.is fair.short fair.cursor ∙ rw (q, asked_first) refl)
-          ∙ (then-stop {w = w (func_is_bang p func) (arg_is_symbolic p arg)} e t f).is fair
+      go : (z : Heads) → Meaning.heads_at p.rec (count_of p.tokens) a ≡ z
+          → shown false (ended (Err b) i' o') ≡ shown false (runs p (application (λ b c. v ⨾ w b c)) (run_of a i o))
+      go (both f' g') q =
+          let u : Layout = w (func_is_bang p f') (arg_is_symbolic p g') in
+          let d : b ≡ why = h ∙ rw (q, asked_first, heads_of) refl in
+          ap (λ z. shown false (fell (why_of z) i' o')) d
+          ∙ shown_fell false (runs p v (run_of a i o)) (runs p u) (why_of why) i' o' (fell_at e f)
+          ∙ ap (shown false) (sym (runs_then p v u (run_of a i o)))
           ∙ rw (q, outcome) refl
-      go fair (missing place) q =
-          ap (shown false) (packed-absent place r m' o' (h.is fair.short fair.cursor ∙ rw (q, asked_first) refl)) ∙ rw (q, outcome) refl
+      go (missing place) q =
+          let d : b ≡ Why.Absent place = h ∙ rw (q, asked_first, heads_of) refl in
+          ap (λ z. shown false (fell (why_of z) i' o')) d ∙ rw (q, outcome) refl
+
+-- ---- an operator that is kept, and the right side behind it
+abbrev kept : Page → Layout → Layout → ℕ → Run → Ran
+kept p pipe gap k h = run p (operated p k (λ next. outcome p pipe next) (λ next. outcome p gap next) h.at) h
+
+module _ (p : Page) (a : ℕ) (i : Ink) (o : List ℕ) (lhs pipe gap rhs : Layout) where
+  leads_on : (k s : ℕ) → read_of 3 a (token_fits p.rec (count_of p.tokens) a) ≡ Ok (k, s)
+      → runs p (operator lhs pipe gap ⨾ rhs) (run_of a i o) ≡ and_then (and_then (runs p lhs (run_of s i o)) (kept p pipe gap k)) (runs p rhs)
+  unfolding runs outcome or_stop
+  leads_on k s e =
+      let q = some_of 3 a k s (token_fits p.rec (count_of p.tokens) a) e in
+      let d : runs p (operator lhs pipe gap) (run_of a i o) ≡ and_then (runs p lhs (run_of s i o)) (kept p pipe gap k) =
+      rw (q.0, q.1, outcome, or_stop)
+      (run_bind p (outcome p lhs (a + 3)) (operated p k (λ next. outcome p pipe next) (λ next. outcome p gap next)) (run_of a i o)
+      ∙ ap (λ x. and_then x (kept p pipe gap k)) (sym (run_at p (outcome p lhs (a + 3)) (a + 3) (run_of a i o)))) in
+      runs_then p (operator lhs pipe gap) rhs (run_of a i o) ∙ ap (λ x. and_then x (runs p rhs)) d
+
+module _ {p : Page} {keep : Bool} {a : ℕ} {i : Ink} {o : List ℕ} {lhs pipe gap rhs : Layout} {x : Result (ℕ × ℕ) Code.Stop} (e : x ≡ read_of 3 a (token_fits p.rec (count_of p.tokens) a)) where
+  pub operator_not : {r : Result ℕ Code.Stop} {why : Code.Stop} → x ≡ Err why → Handed r why → Walked keep p (operator lhs pipe gap ⨾ rhs) (run_of a i o) r i o
+  unfolding runs outcome or_stop bind run effects ended why_of
+  operator_not {r} {why} f h =
+      rw (handed_on r h)
+      (let q = none_of 3 a why (token_fits p.rec (count_of p.tokens) a) (sym e ∙ f) in record { is = rw (q.0, q.1, outcome, or_stop, bind, ended, why_of) refl })
+
+  pub operator_stop : {k s : ℕ} {y r : Result ℕ Code.Stop} {i' : Ink} {o' : List ℕ} {why : Code.Stop} → x ≡ Ok (k, s) → Walked keep p lhs (run_of s i o) y i' o' → y ≡ Err why
+      → Handed r why → Walked keep p (operator lhs pipe gap ⨾ rhs) (run_of a i o) r i' o'
+  unfolding ended
+  operator_stop {k} {s} {r = r} {i'} {o'} {why} f l g h =
+      rw (handed_on r h)
+      (record {
+        is = shown_fell keep (and_then (runs p lhs (run_of s i o)) (kept p pipe gap k)) (runs p rhs) (why_of why) i' o'
+            (shown_fell keep (runs p lhs (run_of s i o)) (kept p pipe gap k) (why_of why) i' o' (fell_at l g))
+            ∙ ap (shown keep) (sym (leads_on p a i o lhs pipe gap rhs k s (sym e ∙ f)));
+      })
+
+  pub operator_is : {k s u : ℕ} {y r : Result ℕ Code.Stop} {i₁ i₂ i₃ : Ink} {o₁ o₂ o₃ : List ℕ} → x ≡ Ok (k, s) → Walked keep p lhs (run_of s i o) y i₁ o₁ → y ≡ Ok u
+      → Operated p k pipe gap i₁ o₁ i₂ o₂ → Walked keep p rhs (run_of u i₂ o₂) r i₃ o₃ → Walked keep p (operator lhs pipe gap ⨾ rhs) (run_of a i o) r i₃ o₃
+  operator_is {k} {s} {u} f l g t w =
+      record {
+        is = w.is
+            ∙ ap (shown keep) (sym (leads_on p a i o lhs pipe gap rhs k s (sym e ∙ f)
+            ∙ ap (λ x. and_then (and_then x (kept p pipe gap k)) (runs p rhs)) (went_on l g)
+            ∙ ap (λ x. and_then x (runs p rhs)) (sym (t.is u))));
+      }
+
+-- What is written in place of an operator, by its text.
+module _ {p : Page} {k : ℕ} {pipe gap : Layout} {b : Bool} {i : Ink} {o : List ℕ} (e : b ≡ passes p is_pipe k) where
+  pub operated_pipe : {i' : Ink} {o' : List ℕ} → b ≡ true → Sure pipe i o i' o' → Operated p k pipe gap i o i' o'
+  unfolding operated runs
+  operated_pipe h w = let q = sym e ∙ h in record { is = λ a. rw (q, operated) (w.is p a) }
+
+  pub operated_gap : {i₁ i₂ i₃ : Ink} {o₁ o₂ o₃ : List ℕ} → b ≡ false → Sure gap i o i₁ o₁ → ((a : ℕ) → run_of a i₂ o₂ ≡ effect p (Token k) (run_of a i₁ o₁))
+      → Sure gap i₂ o₂ i₃ o₃ → Operated p k pipe gap i o i₃ o₃
+  unfolding operated runs effects
+  operated_gap {i₁} {o₁ = o₁} h v t w =
+      let q = sym e ∙ h in
+      record {
+        is = λ a.
+            rw (q, operated)
+            (w.is p a
+            ∙ ap (run p (outcome p gap a)) (t a)
+            ∙ sym (run_bind p (outcome p gap a) (λ next. after (Token k ∷ []) (outcome p gap next)) (run_of a i o)
+            ∙ ap (λ x. and_then x (λ h. run p (after (Token k ∷ []) (outcome p gap h.at)) h)) (sym (v.is p a))
+            ∙ run_after p (Token k ∷ []) (outcome p gap a) (run_of a i₁ o₁)));
+      }

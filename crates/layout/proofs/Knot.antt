@@ -1,15 +1,16 @@
 -- The walks of the families, by how many forms may still stand inside one another.
-use Rattle.std.proofs.Common.{◌≡◌, ℕ, suc, ◌-◌, ◌≤◌, Bool, List, length, get_or, sym, subst, arith}
+use Rattle.std.proofs.Common.{◌≡◌, ℕ, suc, ◌-◌, ◌≤◌, Bool, List, length, get_or, sym, refl, ap, ◌∙◌, subst, arith}
+use Rattle.std.specs.Prelude.{Result, Ok, Err}
 use lib.ListN.{get_or-eq_default}
-use Rattle.reader.specs.Fields.{Ty, Pat, Exp, StrExp, SigExp}
-use Rattle.reader.specs.Promises.Commands.{family_of}
-use Rattle.reader.specs.declared.commands.Family as Code
-use Rattle.layout.specs.declared.fields.Read.{Read}
-use Rattle.layout.specs.declared.fields.Read.TheVariants.{Is}
+use Rattle.reader.specs.Fields.{Family, Ty, Pat, Exp, StrExp, SigExp}
+use Rattle.reader.specs.Commands.{form_at, form_width}
+use Rattle.layout.specs.declared.Ink.{Ink}
+use Rattle.layout.specs.declared.Stop as Code
+use Rattle.layout.specs.declared.Stop.TheVariants as Why
 use Rattle.layout.specs.Layout.{Layout, form, declaration, halt}
-use Rattle.layout.specs.Helpers.{Cfg}
+use Rattle.layout.specs.Helpers.{Cfg, Walkers}
 use Rattle.layout.specs.Meaning.{Page}
-use Rattle.layout.specs.Promises.State.{Run, run_of, Walked, Stops, FormRead}
+use Rattle.layout.specs.Promises.State.{Run, run_of, Walked, read_of}
 use Rattle.layout.specs.Walk.{walks}
 use Rattle.layout.specs.Ty.{tys}
 use Rattle.layout.specs.Pat.{pats}
@@ -17,85 +18,68 @@ use Rattle.layout.specs.Exp.{exps}
 use Rattle.layout.specs.StrExp.{str_exps}
 use Rattle.layout.specs.SigExp.{sig_exps}
 use Rattle.layout.specs.DecOne.{comment_line, decs}
-use Rattle.layout.proofs.Steps.{by-same, form-is, last-halt}
+use Rattle.layout.proofs.Steps.{form_is, last_halt}
 
--- A number that is at least k and not k.
-pub past : {k n : ℕ} → k ≤ n → (n ≡ k → ⊥) → suc k ≤ n
-past h e = omega (arith, e)
+-- The walk of a family: a stop where no form may stand, else the arm of the number behind the form's command.
+pub record Knotted (get : Walkers → Layout) (arms : Walkers → List Layout) (enter : (ℕ → Layout) → Layout) : Type 0 where
+  pub none : get (walks 0) ≡ halt
+  pub some : (n : ℕ) → get (walks (suc n)) ≡ enter (λ k. get_or (arms (walks n)) k halt)
 
-module _ {words : List ℕ} {p : Page} where
-  -- No arm has the number.
-  pub beyond : (arms : List Layout) (n k : ℕ) {a r : ℕ} {m o : List ℕ} {keep : Bool} → length arms ≡ k → k ≤ n → Stops a r
-      → Walked keep words p (get_or arms n halt) (run_of a m o) r m o
-  beyond arms n k {a} {r} {m} {o} {keep} l h e =
-      subst (λ w. Walked keep words p w (run_of a m o) r m o) (sym (get_or-eq_default arms halt (omega (arith, l)))) (last-halt e)
+pub ty : Knotted (λ ws. ws.get_ty) (λ ws. tys ws) (form Ty)
+unfolding walks
+ty = record { none = refl; some = λ n. refl }
 
+pub pat : Knotted (λ ws. ws.get_pat) (λ ws. pats ws) (form Pat)
+unfolding walks
+pat = record { none = refl; some = λ n. refl }
+
+module _ (c : Cfg) where
+  pub exp : Knotted (λ ws. ws.get_exp c) (λ ws. exps ws c) (form Exp)
+  unfolding walks
+  exp = record { none = refl; some = λ n. refl }
+
+  pub str_exp : Knotted (λ ws. ws.get_str_exp c) (λ ws. str_exps ws c) (form StrExp)
+  unfolding walks
+  str_exp = record { none = refl; some = λ n. refl }
+
+  pub sig_exp : Knotted (λ ws. ws.get_sig_exp c) (λ ws. sig_exps ws c) (form SigExp)
+  unfolding walks
+  sig_exp = record { none = refl; some = λ n. refl }
+
+  pub dec_one : Knotted (λ ws. ws.get_dec_one c) (λ ws. decs ws c) (declaration (comment_line c))
+  unfolding walks
+  dec_one = record { none = refl; some = λ n. refl }
+
+module _ {p : Page} {keep : Bool} where
   -- The layout of the number that was matched.
-  pub at_key : (f : ℕ → Layout) {n key : ℕ} {g : Run} {r : ℕ} {m o : List ℕ} {keep : Bool} → n ≡ key → Walked keep words p (f key) g r m o → Walked keep words p (f n) g r m o
-  at_key f {g = g} {r = r} {m = m} {o = o} {keep = keep} h w = subst (λ i. Walked keep words p (f i) g r m o) (sym h) w
+  pub at_key : (f : ℕ → Layout) {n key : ℕ} {g : Run} {r : Result ℕ Code.Stop} {i : Ink} {o : List ℕ} → n ≡ key → Walked keep p (f key) g r i o
+      → Walked keep p (f n) g r i o
+  at_key f {g = g} {r} {i} {o} h w = subst (λ n. Walked keep p (f n) g r i o) (sym h) w
 
-  -- The arm of the number that was read.
-  pub form-key : {family : Code.Family} {k : ℕ → Layout} {n key a b r : ℕ} {m o m' o' : List ℕ} {x : Read} {keep : Bool} → FormRead family p.rec a x
-      → x ≡ Is n b → n ≡ key → Walked keep words p (k key) (run_of b m o) r m' o' → Walked keep words p (form (family_of family) k) (run_of a m o) r m' o'
-  form-key {k = k} {b = b} {r = r} {m = m} {o = o} {m' = m'} {o' = o'} {keep = keep} e f h w =
-      by-same (form-is e f) (subst (λ i. Walked keep words p (k i) (run_of b m o) r m' o') (sym h) w)
+  -- No arm has the number.
+  pub beyond : (arms : List Layout) {n a m : ℕ} {i : Ink} {o : List ℕ} → length arms ≡ m → m ≤ n → Walked keep p (get_or arms n halt) (run_of a i o) (Err (Why.Absent a)) i o
+  beyond arms {n} {a} {i = i} {o} l h =
+      subst (λ w. Walked keep p w (run_of a i o) (Err (Why.Absent a)) i o) (sym (get_or-eq_default arms halt (omega (arith, l)))) last_halt
 
-  pub ty-zero : (n : ℕ) {a r : ℕ} {m o : List ℕ} {keep : Bool} → n ≡ 0 → Stops a r → Walked keep words p (walks n).get_ty (run_of a m o) r m o
-  unfolding walks
-  ty-zero n {a} {r} {m} {o} {keep} e f = subst (λ n. Walked keep words p (walks n).get_ty (run_of a m o) r m o) (sym e) (last-halt f)
+  module _ {get : Walkers → Layout} {arms : Walkers → List Layout} where
+    module _ {enter : (ℕ → Layout) → Layout} (k : Knotted get arms enter) {n : ℕ} where
+      -- No form may stand here.
+      pub form_none : {a : ℕ} {i : Ink} {o : List ℕ} → n ≡ 0 → Walked keep p (get (walks n)) (run_of a i o) (Err (Why.Absent a)) i o
+      form_none {a} {i} {o} e =
+          subst (λ w. Walked keep p w (run_of a i o) (Err (Why.Absent a)) i o) (sym (ap (λ m. get (walks m)) e ∙ k.none)) last_halt
 
-  pub ty-form : (n : ℕ) {g : Run} {r : ℕ} {m o : List ℕ} {keep : Bool} → (n ≡ 0 → ⊥) → Walked keep words p (form Ty (λ k. get_or (tys (walks (n - 1))) k halt)) g r m o → Walked keep words p (walks n).get_ty g r m o
-  unfolding walks
-  ty-form n {g} {r} {m} {o} {keep} e w =
-      let q : n ≡ suc (n - 1) = omega arith in
-      subst (λ n. Walked keep words p (walks n).get_ty g r m o) (sym q) w
+      pub form_some : {g : Run} {r : Result ℕ Code.Stop} {i : Ink} {o : List ℕ} → (n ≡ 0 → ⊥) → Walked keep p (enter (λ j. get_or (arms (walks (n - 1))) j halt)) g r i o
+          → Walked keep p (get (walks n)) g r i o
+      form_some {g} {r} {i} {o} e w =
+          let q : n ≡ suc (n - 1) = omega arith in
+          subst (λ w. Walked keep p w g r i o) (sym (ap (λ m. get (walks m)) q ∙ k.some (n - 1))) w
 
-  pub pat-zero : (n : ℕ) {a r : ℕ} {m o : List ℕ} {keep : Bool} → n ≡ 0 → Stops a r → Walked keep words p (walks n).get_pat (run_of a m o) r m o
-  unfolding walks
-  pat-zero n {a} {r} {m} {o} {keep} e f = subst (λ n. Walked keep words p (walks n).get_pat (run_of a m o) r m o) (sym e) (last-halt f)
+    -- A number was read: its arm; or none has it.
+    module _ {family : Family} (k : Knotted get arms (form family)) {n j a s : ℕ} {x : Result (ℕ × ℕ) Code.Stop} {i : Ink} {o : List ℕ} (some : n ≡ 0 → ⊥)
+        (e : x ≡ read_of (form_width family) a (form_at p.rec family a)) (f : x ≡ Ok (j, s)) where
+      pub form_key : {key : ℕ} {r : Result ℕ Code.Stop} {i' : Ink} {o' : List ℕ} → j ≡ key → Walked keep p (get_or (arms (walks (n - 1))) key halt) (run_of s i o) r i' o'
+          → Walked keep p (get (walks n)) (run_of a i o) r i' o'
+      form_key h w = form_some k some (form_is e f (at_key (λ j. get_or (arms (walks (n - 1))) j halt) h w))
 
-  pub pat-form : (n : ℕ) {g : Run} {r : ℕ} {m o : List ℕ} {keep : Bool} → (n ≡ 0 → ⊥) → Walked keep words p (form Pat (λ k. get_or (pats (walks (n - 1))) k halt)) g r m o → Walked keep words p (walks n).get_pat g r m o
-  unfolding walks
-  pat-form n {g} {r} {m} {o} {keep} e w =
-      let q : n ≡ suc (n - 1) = omega arith in
-      subst (λ n. Walked keep words p (walks n).get_pat g r m o) (sym q) w
-
-  pub exp-zero : (n : ℕ) (c : Cfg) {a r : ℕ} {m o : List ℕ} {keep : Bool} → n ≡ 0 → Stops a r → Walked keep words p ((walks n).get_exp c) (run_of a m o) r m o
-  unfolding walks
-  exp-zero n c {a} {r} {m} {o} {keep} e f = subst (λ n. Walked keep words p ((walks n).get_exp c) (run_of a m o) r m o) (sym e) (last-halt f)
-
-  pub exp-form : (n : ℕ) (c : Cfg) {g : Run} {r : ℕ} {m o : List ℕ} {keep : Bool} → (n ≡ 0 → ⊥) → Walked keep words p (form Exp (λ k. get_or (exps (walks (n - 1)) c) k halt)) g r m o → Walked keep words p ((walks n).get_exp c) g r m o
-  unfolding walks
-  exp-form n c {g} {r} {m} {o} {keep} e w =
-      let q : n ≡ suc (n - 1) = omega arith in
-      subst (λ n. Walked keep words p ((walks n).get_exp c) g r m o) (sym q) w
-
-  pub str-zero : (n : ℕ) (c : Cfg) {a r : ℕ} {m o : List ℕ} {keep : Bool} → n ≡ 0 → Stops a r → Walked keep words p ((walks n).get_str_exp c) (run_of a m o) r m o
-  unfolding walks
-  str-zero n c {a} {r} {m} {o} {keep} e f = subst (λ n. Walked keep words p ((walks n).get_str_exp c) (run_of a m o) r m o) (sym e) (last-halt f)
-
-  pub str-form : (n : ℕ) (c : Cfg) {g : Run} {r : ℕ} {m o : List ℕ} {keep : Bool} → (n ≡ 0 → ⊥) → Walked keep words p (form StrExp (λ k. get_or (str_exps (walks (n - 1)) c) k halt)) g r m o → Walked keep words p ((walks n).get_str_exp c) g r m o
-  unfolding walks
-  str-form n c {g} {r} {m} {o} {keep} e w =
-      let q : n ≡ suc (n - 1) = omega arith in
-      subst (λ n. Walked keep words p ((walks n).get_str_exp c) g r m o) (sym q) w
-
-  pub sig-zero : (n : ℕ) (c : Cfg) {a r : ℕ} {m o : List ℕ} {keep : Bool} → n ≡ 0 → Stops a r → Walked keep words p ((walks n).get_sig_exp c) (run_of a m o) r m o
-  unfolding walks
-  sig-zero n c {a} {r} {m} {o} {keep} e f = subst (λ n. Walked keep words p ((walks n).get_sig_exp c) (run_of a m o) r m o) (sym e) (last-halt f)
-
-  pub sig-form : (n : ℕ) (c : Cfg) {g : Run} {r : ℕ} {m o : List ℕ} {keep : Bool} → (n ≡ 0 → ⊥) → Walked keep words p (form SigExp (λ k. get_or (sig_exps (walks (n - 1)) c) k halt)) g r m o → Walked keep words p ((walks n).get_sig_exp c) g r m o
-  unfolding walks
-  sig-form n c {g} {r} {m} {o} {keep} e w =
-      let q : n ≡ suc (n - 1) = omega arith in
-      subst (λ n. Walked keep words p ((walks n).get_sig_exp c) g r m o) (sym q) w
-
-  pub dec-zero : (n : ℕ) (c : Cfg) {a r : ℕ} {m o : List ℕ} {keep : Bool} → n ≡ 0 → Stops a r → Walked keep words p ((walks n).get_dec_one c) (run_of a m o) r m o
-  unfolding walks
-  dec-zero n c {a} {r} {m} {o} {keep} e f = subst (λ n. Walked keep words p ((walks n).get_dec_one c) (run_of a m o) r m o) (sym e) (last-halt f)
-
-  pub dec-form : (n : ℕ) (c : Cfg) {g : Run} {r : ℕ} {m o : List ℕ} {keep : Bool} → (n ≡ 0 → ⊥) → Walked keep words p (declaration (comment_line c) (λ k. get_or (decs (walks (n - 1)) c) k halt)) g r m o → Walked keep words p ((walks n).get_dec_one c) g r m o
-  unfolding walks
-  dec-form n c {g} {r} {m} {o} {keep} e w =
-      let q : n ≡ suc (n - 1) = omega arith in
-      subst (λ n. Walked keep words p ((walks n).get_dec_one c) g r m o) (sym q) w
+      pub form_beyond : {m : ℕ} → length (arms (walks (n - 1))) ≡ m → m ≤ j → Walked keep p (get (walks n)) (run_of a i o) (Err (Why.Absent s)) i o
+      form_beyond l h = form_some k some (form_is e f (beyond (arms (walks (n - 1))) l h))

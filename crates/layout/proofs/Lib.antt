@@ -1,11 +1,4 @@
-pub mod Placing
-pub mod CopyLaws
-pub mod Pieces
-pub mod Reading
-pub mod NameLaws
-pub mod LookLaws
 pub mod Steps
-pub mod HeadPlaces
 pub mod HeadLaws
 pub mod DecLaws
 pub mod Dropping

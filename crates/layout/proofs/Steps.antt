@@ -1,767 +1,520 @@
 -- The law of one layout after another, and a step for each kind of statement of the walk.
-use native.Mathlib.Nat.{sub-zero}
-use Rattle.std.proofs.Common.{◌≡◌, ℕ, zero, suc, ◌+◌, ◌-◌, ◌*◌, ◌/◌, ◌%◌, ◌<◌, ◌≤◌, Bool, true, false, cond, ltb, List, [], ◌∷◌, ◌++◌, length, sym, refl, ap, ◌∙◌, subst, ap₂, arith, Bor, ltb-false, ltb-true, le-ltb, lt-ltb}
+use Rattle.std.proofs.Common.{◌≡◌, ℕ, zero, suc, ◌+◌, ◌-◌, ◌<◌, ◌≤◌, max, Bool, true, false, List, [], ◌∷◌, ◌++◌, sym, refl, ap, ◌∙◌, subst, arith}
+use Rattle.std.specs.Prelude.{Option, None, Some, Result, Ok, Err, IsErr, IsErrAnd}
+use Rattle.std.proofs.lemmas.Result.{err_from_is_err_and}
 use Prim.Native.String.{String}
-use Rattle.text.specs.Bytes.{bytes}
+use Rattle.text.specs.Bytes.{bytes, trim}
+use Rattle.comments.specs.Set.{holds, words_of, without}
+use Rattle.comments.specs.Above.{found_above, comment_above, comment_in}
+use Rattle.comments.specs.declared.Above.{Above}
+use Rattle.comments.specs.declared.Set.{Set}
+use Rattle.reader.specs.Tokens.{text_of}
+use Rattle.layout.specs.Events.{trimmed}
+use Rattle.layout.specs.Meaning.{token_text}
 use Rattle.text.proofs.Laws.{never}
 use Rattle.layout.specs.declared.Cfg.{Cfg}
-use Rattle.layout.specs.declared.Status.{Status}
-use Rattle.layout.specs.declared.Status.TheVariants.{Done, Stopped}
-use Rattle.layout.specs.Layout.{Layout, skip, ◌⨾◌, word, output_indent, formed, text, group, choice, form, list, maybe, present, Look, look, Test, is_pipe, first_name, operator, halt}
-use Rattle.layout.specs.Meaning.{Page, Event, Word, Token, Comment, Formed, Indent, Outcome, done, stopped, Stop, absent, imported, after, bind, or_stop, outcome, operated, token_text, sees}
-use Rattle.layout.specs.Promises.Words.{word_run}
-use Rattle.layout.specs.Promises.State.{Run, run_of, at, effect, effects, Ran, went, fell, run, runs, stop_no, stop_of, told_of, packed, shown, page, Fair, Walked, Ended, Plain, Put, Sure, Texted, Indented, deepened, Stops, read_of, ReadAt, FormRead, group_of, GroupRead, gone_of, GoneRead, present_of, PresentRead, joint, TestedText, TestedName, Looked, Operated, cfg_of, Deeper, Does}
-use Rattle.reader.specs.Tokens.{text_of}
-use Rattle.reader.specs.Promises.Tokens.{starts_of, lengths_of}
-use Rattle.reader.specs.declared.commands.Family as Code
-use Rattle.reader.specs.declared.commands.Family.TheVariants as Case
-use Rattle.reader.specs.Fields.{Exp}
+use Rattle.layout.specs.declared.Ink.{Ink}
+use Rattle.layout.specs.declared.Stop as Code
+use Rattle.layout.specs.declared.Stop.TheVariants as Why
+use Rattle.layout.specs.Layout.{Layout, skip, ◌⨾◌, word, output_indent, formed, text, group, choice, form, list, maybe, present, Look, look, Test, first_name, halt, import}
+use Rattle.layout.specs.Meaning.{Page, Event, Word, Token, Comment, Formed, Indent, Outcome, done, stopped, Stop, after, bind, or_stop, outcome, sees, name_passes, commented, above_first}
+use Rattle.layout.specs.Promises.State.{Run, run_of, at, effect, effects, Ran, went, fell, run, runs, why_of, ended, shown, Walked, Does, cfg_of, Deeper, Put, Sure, CommentedAbove, read_of, group_of, gone_of, present_of, spaced, sum_of, width_of}
+use Rattle.layout.specs.Helpers as Helpers
+use Rattle.layout.specs.Helpers.{times, items, for_each, when}
+use Rattle.layout.specs.Walk.{walks}
+use Rattle.reader.specs.Fields.{Family, Exp}
+use Rattle.reader.specs.Tokens.{count_of}
 use Rattle.reader.specs.Check.{token_fits}
 use Rattle.reader.specs.Commands.{absent_at, list_at, group_at, choice_at, form_at, form_width}
-use Rattle.reader.specs.Promises.Commands.{family_of}
-use Rattle.reader.proofs.CommandLaws.{token-fits, list-fits, choice-fits, form-fits, absent-fits, group-fits}
-use Rattle.reader.proofs.FieldLaws.{token-parts}
-use Rattle.layout.specs.declared.fields.Read.{Read}
-use Rattle.layout.specs.declared.fields.Read.TheVariants.{Is}
-use Rattle.layout.specs.declared.fields.Gone.{Gone}
-use Rattle.layout.specs.declared.fields.Given.{Given}
-use Rattle.std.specs.Prelude.{Option, None, Some}
-use Rattle.layout.specs.Helpers as Helpers
-use Rattle.layout.specs.Helpers.{times, items, when}
-use Rattle.layout.specs.Walk.{walks}
 
+-- ---- one run after another
 abbrev pub and_then : Ran → (Run → Ran) → Ran
 and_then (went g) k = k g
-and_then (fell why g) k = fell why g
+and_then (fell why i o) k = fell why i o
 
-and_then-assoc : (r : Ran) (f g : Run → Ran) → and_then (and_then r f) g ≡ and_then r (λ x. and_then (f x) g)
-and_then-assoc (went x) f g = refl
-and_then-assoc (fell why x) f g = refl
+and_then_assoc : (r : Ran) (f g : Run → Ran) → and_then (and_then r f) g ≡ and_then r (λ x. and_then (f x) g)
+and_then_assoc (went x) f g = refl
+and_then_assoc (fell why i o) f g = refl
 
-and_then-same : (r : Ran) (f g : Run → Ran) → ((x : Run) → f x ≡ g x) → and_then r f ≡ and_then r g
-and_then-same (went x) f g h = h x
-and_then-same (fell why x) f g h = refl
+and_then_same : (r : Ran) (f g : Run → Ran) → ((x : Run) → f x ≡ g x) → and_then r f ≡ and_then r g
+and_then_same (went x) f g h = h x
+and_then_same (fell why i o) f g h = refl
 
 module _ (p : Page) where
   -- No event looks at the cursor.
-  effect-at : (e : Event) (a : ℕ) (g : Run) → effect p e (at a g) ≡ at a (effect p e g)
+  effect_at : (e : Event) (a : ℕ) (g : Run) → effect p e (at a g) ≡ at a (effect p e g)
   unfolding effect
-  effect-at (Word w) a g = refl
-  effect-at (Token k) a g = refl
-  effect-at (Comment k) a g = refl
-  effect-at (Formed d) a g = refl
-  effect-at (Indent d) a g = refl
+  effect_at (Word w) a g = refl
+  effect_at (Token k) a g = refl
+  effect_at (Comment k) a g = refl
+  effect_at (Formed d) a g = refl
+  effect_at (Indent d) a g = refl
 
-  effects-at : (es : List Event) (a : ℕ) (g : Run) → effects p es (at a g) ≡ at a (effects p es g)
+  effects_at : (es : List Event) (a : ℕ) (g : Run) → effects p es (at a g) ≡ at a (effects p es g)
   unfolding effects
-  effects-at [] a g = refl
-  effects-at (e ∷ es) a g = ap (effects p es) (effect-at e a g) ∙ effects-at es a (effect p e g)
+  effects_at [] a g = refl
+  effects_at (e ∷ es) a g = ap (effects p es) (effect_at e a g) ∙ effects_at es a (effect p e g)
 
-  effects-append : (es fs : List Event) (g : Run) → effects p (es ++ fs) g ≡ effects p fs (effects p es g)
+  effects_append : (es fs : List Event) (g : Run) → effects p (es ++ fs) g ≡ effects p fs (effects p es g)
   unfolding effects
-  effects-append [] fs g = refl
-  effects-append (e ∷ es) fs g = effects-append es fs (effect p e g)
+  effects_append [] fs g = refl
+  effects_append (e ∷ es) fs g = effects_append es fs (effect p e g)
 
   pub run_at : (x : Outcome) (a : ℕ) (g : Run) → run p x (at a g) ≡ run p x g
   unfolding run
-  run_at (done b es) a g = ap (λ h. went (at b h)) (effects-at es a g)
-  run_at (stopped why es) a g = ap (λ h. fell why (at 0 h)) (effects-at es a g)
+  run_at (done b es) a g = ap (λ h. went (at b h)) (effects_at es a g)
+  run_at (stopped why es) a g = ap (λ (h : Run). fell (why) h.ink h.out) (effects_at es a g)
 
-  run-after : (es : List Event) (x : Outcome) (g : Run) → run p (after es x) g ≡ run p x (effects p es g)
+  pub run_after : (es : List Event) (x : Outcome) (g : Run) → run p (after es x) g ≡ run p x (effects p es g)
   unfolding run after
-  run-after es (done a fs) g = ap (λ h. went (at a h)) (effects-append es fs g)
-  run-after es (stopped why fs) g = ap (λ h. fell why (at 0 h)) (effects-append es fs g)
+  run_after es (done a fs) g = ap (λ h. went (at a h)) (effects_append es fs g)
+  run_after es (stopped why fs) g = ap (λ (h : Run). fell why h.ink h.out) (effects_append es fs g)
 
-  run_bind : (x : Outcome) (k : ℕ → Outcome) (g : Run) → run p (bind x k) g ≡ and_then (run p x g) (λ h. run p (k h.at) h)
+  pub run_bind : (x : Outcome) (k : ℕ → Outcome) (g : Run) → run p (bind x k) g ≡ and_then (run p x g) (λ h. run p (k h.at) h)
   unfolding run bind
-  run_bind (done a es) k g = run-after es (k a) g ∙ sym (run_at (k a) a (effects p es g))
+  run_bind (done a es) k g = run_after es (k a) g ∙ sym (run_at (k a) a (effects p es g))
   run_bind (stopped why es) k g = refl
 
-  pub runs_seq : (v w : Layout) (g : Run) → runs p (v ⨾ w) g ≡ and_then (runs p v g) (runs p w)
+  pub runs_then : (v w : Layout) (g : Run) → runs p (v ⨾ w) g ≡ and_then (runs p v g) (runs p w)
   unfolding runs outcome
-  runs_seq v w g = run_bind (outcome p v g.at) (λ next. outcome p w next) g
+  runs_then v w g = run_bind (outcome p v g.at) (λ next. outcome p w next) g
 
   regrouped : (g : Run) (u v w : Layout) → runs p (u ⨾ v ⨾ w) g ≡ runs p ((u ⨾ v) ⨾ w) g
   regrouped g u v w =
-      runs_seq u (v ⨾ w) g
-      ∙ and_then-same (runs p u g) (runs p (v ⨾ w)) (λ x. and_then (runs p v x) (runs p w)) (runs_seq v w)
-      ∙ sym (runs_seq (u ⨾ v) w g ∙ ap (λ x. and_then x (runs p w)) (runs_seq u v g)
-      ∙ and_then-assoc (runs p u g) (runs p v) (runs p w))
-
--- ---- a walk's number
-pub packed-done : (r : ℕ) (m o : List ℕ) → r < stop_no → packed r m o ≡ went (run_of r m o)
-unfolding packed
-packed-done r m o h = rw (lt-ltb r stop_no h) refl
-
-pub packed-stop : (r : ℕ) (m o : List ℕ) → stop_no ≤ r → packed r m o ≡ fell (stop_of (r - stop_no)) (run_of 0 m o)
-unfolding packed
-packed-stop r m o h = rw (le-ltb r stop_no h) refl
-
--- A stop at a part that is absent.
-pub packed-absent : (a r : ℕ) (m o : List ℕ) → r ≡ stop_no + 2 * a → packed r m o ≡ fell (absent a) (run_of 0 m o)
-unfolding stop_of
-packed-absent a r m o e =
-    let i : stop_no ≤ r = omega (arith, e) in
-    let d : (r - stop_no) % 2 ≡ 0 = omega (arith, e) in
-    let q : (r - stop_no) / 2 ≡ a = omega (arith, e) in
-    packed-stop r m o i ∙ ap (λ x. fell x (run_of 0 m o)) (rw (d, q) refl)
-
--- A stop at an import.
-pub packed-imported : (a r : ℕ) (m o : List ℕ) → r ≡ stop_no + 2 * a + 1 → packed r m o ≡ fell (imported a) (run_of 0 m o)
-unfolding stop_of
-packed-imported a r m o e =
-    let i : stop_no ≤ r = omega (arith, e) in
-    let d : (r - stop_no) % 2 ≡ 1 = omega (arith, e) in
-    let q : (r - stop_no) / 2 ≡ a = omega (arith, e) in
-    packed-stop r m o i ∙ ap (λ x. fell x (run_of 0 m o)) (rw (d, q) refl)
-
--- What `told` says of it.
-pub told-done : (r s : ℕ) → told_of r ≡ Done s → (r ≡ s) × (r < stop_no)
-told-done r s e = go (ltb r stop_no) refl e
-  where
-    go : (b : Bool) → ltb r stop_no ≡ b → cond b (Done r) Stopped ≡ Done s → (r ≡ s) × (r < stop_no)
-    go true f e = (cc, ltb-true r stop_no f)
-    go false f e = never (cc)
-
-pub told-stop : (r : ℕ) → told_of r ≡ Stopped → stop_no ≤ r
-told-stop r e = go (ltb r stop_no) refl e
-  where
-    go : (b : Bool) → ltb r stop_no ≡ b → cond b (Done r) Stopped ≡ Stopped → stop_no ≤ r
-    go true f e = never (cc)
-    go false f e = ltb-false r stop_no f
+      runs_then u (v ⨾ w) g
+      ∙ and_then_same (runs p u g) (runs p (v ⨾ w)) (λ x. and_then (runs p v x) (runs p w)) (runs_then v w)
+      ∙ sym (runs_then (u ⨾ v) w g ∙ ap (λ x. and_then x (runs p w)) (runs_then u v g)
+      ∙ and_then_assoc (runs p u g) (runs p v) (runs p w))
 
 -- ---- what counts of a run
-pub shown-went : (keep : Bool) (x : Ran) {g : Run} → shown keep (went g) ≡ shown keep x → x ≡ went g
+pub shown_went : (keep : Bool) (x : Ran) (g : Run) → shown keep (went g) ≡ shown keep x → x ≡ went g
 unfolding shown
-shown-went keep (went h) e = sym e
-shown-went keep (fell why h) e = never (cc)
+shown_went keep (went h) g e = sym e
+shown_went true (fell why i o) g e = never (cc)
+shown_went false (fell why i o) g e = never (cc)
 
-shown-fell : (keep : Bool) (x : Ran) (k : Run → Ran) (why : Stop) (g : Run) → shown keep (fell why g) ≡ shown keep x → shown keep (fell why g) ≡ shown keep (and_then x k)
+pub shown_fell : (keep : Bool) (x : Ran) (k : Run → Ran) (why : Stop) (i : Ink) (o : List ℕ) → shown keep (fell why i o) ≡ shown keep x
+    → shown keep (fell why i o) ≡ shown keep (and_then x k)
 unfolding shown
-shown-fell keep (went h) k why g e = never (cc)
-shown-fell keep (fell why' h) k why g e = e
+shown_fell true (went h) k why i o e = never (cc)
+shown_fell false (went h) k why i o e = never (cc)
+shown_fell keep (fell why' i' o') k why i o e = e
 
 -- Where all is kept, all counts.
-pub shown-all : (x : Ran) → shown true x ≡ x
+shown_all : (x : Ran) → shown true x ≡ x
 unfolding shown
-shown-all (went g) = refl
-shown-all (fell why g) = refl
+shown_all (went g) = refl
+shown_all (fell why i o) = refl
 
-pub exactly : {words : List ℕ} {p : Page} {w : Layout} {g : Run} {r : ℕ} {m o : List ℕ} {keep : Bool} → (Fair words p g.at → packed r m o ≡ runs p w g) → Walked keep words p w g r m o
-exactly {keep = keep} e = record { is = λ fair. ap (shown keep) (e fair) }
-
--- A run that ended, by its number.
-pub ended_at : (keep : Bool) {x : Ran} (r : ℕ) {s : ℕ} {m o : List ℕ} {a : Status} → shown keep (packed r m o) ≡ shown keep x → a ≡ told_of r → a ≡ Done s → x ≡ went (run_of s m o)
-ended_at keep {x} r {s} {m} {o} e t f =
-    let q = told-done r s (sym t ∙ f) in
-    let d : packed r m o ≡ went (run_of s m o) = packed-done r m o q.1 ∙ ap (λ a. went (run_of a m o)) q.0 in
-    shown-went keep x (ap (shown keep) (sym d) ∙ e)
-
--- A run that stopped, and whatever stands behind it.
-stopped-at : (keep : Bool) (x : Ran) (k : Run → Ran) (r : ℕ) (m o : List ℕ) → shown keep (packed r m o) ≡ shown keep x → stop_no ≤ r → shown keep (packed r m o) ≡ shown keep (and_then x k)
-stopped-at keep x k r m o e h =
-    let q = packed-stop r m o h in
-    ap (shown keep) q ∙ shown-fell keep x k _ _ (ap (shown keep) (sym q) ∙ e)
-
-fair_on : {words : List ℕ} {p : Page} {a b : ℕ} → Fair words p a → b < stop_no → Fair words p b
-fair_on f h = record { words_are = f.words_are; short = f.short; cursor = h }
-
--- ---- what an outcome leaves, from the cursor on
-module _ {words : List ℕ} {p : Page} where
-  pub ended : {w : Layout} {g : Run} {r : ℕ} {m o : List ℕ} {keep : Bool} → Walked keep words p w g r m o → Ended keep words p (outcome p w) g r m o
-  unfolding runs
-  ended e = record { is = e.is }
-
-  pub ended-done : {f k : ℕ → Outcome} {g : Run} {s' : ℕ} {m' o' m'' o'' : List ℕ} {r r' : ℕ} {x : Status} {keep : Bool} → Ended keep words p f g r' m' o' → x ≡ told_of r' → x ≡ Done s'
-      → Ended keep words p k (run_of s' m' o') r m'' o'' → Ended keep words p (λ a. bind (f a) k) g r m'' o''
-  ended-done {f} {k} {g} {s'} {r' = r'} {keep = keep} e t h i =
-      let q = told-done r' s' (sym t ∙ h) in
-      let n : s' < stop_no = omega (arith, q.0, q.1) in
-      record {
-        is = λ fair. i.is (fair_on fair n)
-            ∙ ap (shown keep) (sym (run_bind p (f g.at) k g ∙ ap (λ x. and_then x (λ x. run p (k x.at) x)) (ended_at keep r' (e.is fair) t h)));
-      }
-
-  pub ended-stop : {f : ℕ → Outcome} (k : ℕ → Outcome) {g : Run} {m' o' : List ℕ} {r' : ℕ} {x : Status} {keep : Bool} → Ended keep words p f g r' m' o' → x ≡ told_of r'
-      → x ≡ Stopped → Ended keep words p (λ a. bind (f a) k) g r' m' o'
-  ended-stop {f} k {g} {m'} {o'} {r'} {keep = keep} e t h =
-      record {
-        is = λ fair. stopped-at keep (run p (f g.at) g) (λ x. run p (k x.at) x) r' m' o' (e.is fair) (told-stop r' (sym t ∙ h)) ∙ ap (shown keep) (sym (run_bind p (f g.at) k g));
-      }
-
--- What is only written stays at the cursor.
-module _ (p : Page) (f : ℕ → Outcome) (a : ℕ) (m o : List ℕ) {m' o' : List ℕ} {x : Ran} where
-  -- Behind events, which leave the cursor where it is.
-  pub wrote_after : (es : List Event) → run_of a m' o' ≡ effects p es (run_of a m o) → x ≡ run p (f a) (run_of a m' o')
-      → x ≡ run p (after es (f a)) (run_of a m o)
-  wrote_after es e i = i ∙ ap (run p (f a)) e ∙ sym (run-after p es (f a) (run_of a m o))
-
-  pub wrote_then : (k : ℕ → Outcome) → went (run_of a m' o') ≡ run p (f a) (run_of a m o) → x ≡ run p (k a) (run_of a m' o')
-      → x ≡ run p (bind (f a) k) (run_of a m o)
-  wrote_then k e i = i ∙ sym (run_bind p (f a) k (run_of a m o) ∙ ap (λ x. and_then x (λ x. run p (k x.at) x)) (sym e))
+-- A function that keeps all at a stop, used in one that does not.
+pub plain : {p : Page} {w : Layout} {g : Run} {r : Result ℕ Code.Stop} {i : Ink} {o : List ℕ} {keep : Bool} → Walked true p w g r i o → Walked keep p w g r i o
+plain {keep = keep} e = record { is = ap (shown keep) (sym (shown_all _) ∙ e.is ∙ shown_all _) }
 
 -- ---- a step for each kind of statement
-module _ {words : List ℕ} {p : Page} where
-  pub then-done : {g : Run} {m' o' m'' o'' : List ℕ} {v w : Layout} {s' r r' : ℕ} {x : Status} {keep : Bool} → Walked keep words p v g r' m' o' → x ≡ told_of r' → x ≡ Done s'
-      → Walked keep words p w (run_of s' m' o') r m'' o'' → Walked keep words p (v ⨾ w) g r m'' o''
-  then-done {g} {v = v} {w} {s'} {r} {r'} {keep = keep} e t f h =
-      let q = told-done r' s' (sym t ∙ f) in
-      let n : s' < stop_no = omega (arith, q.0, q.1) in
-      record { is = λ fair. h.is (fair_on fair n) ∙ ap (shown keep) (sym (runs_seq p v w g ∙ ap (λ x. and_then x (runs p w)) (ended_at keep r' (e.is fair) t f))) }
+-- What `?` hands on.
+abbrev pub Handed : Result ℕ Code.Stop → Code.Stop → Type 0
+Handed r why = IsErrAnd r (λ y. y ≡ why)
+
+pub handed_on : (r : Result ℕ Code.Stop) {why : Code.Stop} → Handed r why → r ≡ Err why
+handed_on r h = let p = err_from_is_err_and r h in p.1 ∙ ap Err p.2
+
+module _ {p : Page} {keep : Bool} where
+  pub then_done : {g : Run} {v w : Layout} {x r : Result ℕ Code.Stop} {i i' : Ink} {o o' : List ℕ} {s : ℕ}
+      → Walked keep p v g x i o → x ≡ Ok s → Walked keep p w (run_of s i o) r i' o' → Walked keep p (v ⨾ w) g r i' o'
+  unfolding ended
+  then_done {g} {v} {w} {x} {r} {i} {i'} {o} {o'} {s} e f h =
+      let q : runs p v g ≡ went (run_of s i o) = shown_went keep (runs p v g) (run_of s i o) (ap (λ x. shown keep (ended x i o)) (sym f) ∙ e.is) in
+      record { is = h.is ∙ ap (shown keep) (sym (runs_then p v w g ∙ ap (λ x. and_then x (runs p w)) q)) }
 
   -- A walk that stopped, whatever stands behind it.
-  pub then-fell : {g : Run} {m' o' : List ℕ} {v w : Layout} {r' : ℕ} {keep : Bool} → Walked keep words p v g r' m' o' → (Fair words p g.at → stop_no ≤ r') → Walked keep words p (v ⨾ w) g r' m' o'
-  then-fell {g} {m'} {o'} {v} {w} {r'} {keep = keep} e f =
-      record { is = λ fair. stopped-at keep (runs p v g) (runs p w) r' m' o' (e.is fair) (f fair) ∙ ap (shown keep) (sym (runs_seq p v w g)) }
+  pub then_stop : {g : Run} {v w : Layout} {x r : Result ℕ Code.Stop} {i : Ink} {o : List ℕ} {why : Code.Stop}
+      → Walked keep p v g x i o → x ≡ Err why → Handed r why → Walked keep p (v ⨾ w) g r i o
+  unfolding ended
+  then_stop {g} {v} {w} {x} {r} {i} {o} {why} e f h =
+      rw (handed_on r h)
+      (record { is = shown_fell keep (runs p v g) (runs p w) (why_of why) i o (ap (λ x. shown keep (ended x i o)) (sym f) ∙ e.is) ∙ ap (shown keep) (sym (runs_then p v w g)) })
 
-  pub then-stop : {g : Run} {m' o' : List ℕ} {v w : Layout} {r' : ℕ} {x : Status} {keep : Bool} → Walked keep words p v g r' m' o' → x ≡ told_of r' → x ≡ Stopped
-      → Walked keep words p (v ⨾ w) g r' m' o'
-  then-stop {r' = r'} e t f = then-fell e (λ fair. told-stop r' (sym t ∙ f))
+  -- A part whose stop is the answer, whatever stands behind it.
+  pub then_handed : {g : Run} {v w : Layout} {r : Result ℕ Code.Stop} {i : Ink} {o : List ℕ} → Walked keep p v g r i o → IsErr r → Walked keep p (v ⨾ w) g r i o
+  unfolding ended
+  then_handed {r = Ok s} e h = never (cc)
+  then_handed {g} {v} {w} {r = Err why} {i} {o} e h =
+      record { is = shown_fell keep (runs p v g) (runs p w) (why_of why) i o e.is ∙ ap (shown keep) (sym (runs_then p v w g)) }
 
-  -- A stop at the cursor, whatever stands behind it.
-  pub then-halt : {a r' : ℕ} {m o m' o' : List ℕ} {v w : Layout} {keep : Bool} → Walked keep words p v (run_of a m o) r' m' o' → Stops a r' → Walked keep words p (v ⨾ w) (run_of a m o) r' m' o'
-  then-halt e f = then-fell e (λ fair. omega (arith, f.is fair.cursor))
+  pub last_done : {v : Layout} {g : Run} {x : Result ℕ Code.Stop} {i : Ink} {o : List ℕ} {s : ℕ} → Walked keep p v g x i o → x ≡ Ok s → Walked keep p v g (Ok s) i o
+  last_done {v} {g} {i = i} {o} e f = subst (λ r. Walked keep p v g r i o) f e
 
-  pub last-sure : {a : ℕ} {m o m' o' : List ℕ} {v : Layout} {keep : Bool} → Sure words v m o m' o' → Walked keep words p v (run_of a m o) a m' o'
-  last-sure {a} {m' = m'} {o'} e = exactly (λ fair. packed-done a m' o' fair.cursor ∙ e.is fair.words_are p a)
+  pub last_stop : {v : Layout} {g : Run} {x r : Result ℕ Code.Stop} {i : Ink} {o : List ℕ} {why : Code.Stop} → Walked keep p v g x i o → x ≡ Err why → Handed r why
+      → Walked keep p v g r i o
+  last_stop {v} {g} {r = r} {i} {o} e f h = rw (handed_on r h) (subst (λ r. Walked keep p v g r i o) f e)
 
-  pub then-sure : {a r : ℕ} {m o m' o' m'' o'' : List ℕ} {v w : Layout} {keep : Bool} → Sure words v m o m' o'
-      → Walked keep words p w (run_of a m' o') r m'' o'' → Walked keep words p (v ⨾ w) (run_of a m o) r m'' o''
-  then-sure {a} {m = m} {o} {v = v} {w} {keep = keep} e h =
-      record { is = λ fair. h.is fair ∙ ap (shown keep) (sym (runs_seq p v w (run_of a m o) ∙ ap (λ x. and_then x (runs p w)) (sym (e.is fair.words_are p a)))) }
+  pub last_sure : {v : Layout} {a : ℕ} {i i' : Ink} {o o' : List ℕ} → Sure v i o i' o' → Walked keep p v (run_of a i o) (Ok a) i' o'
+  unfolding ended
+  last_sure {v} {a} e = record { is = ap (shown keep) (e.is p a) }
 
-  pub last-skip : {a : ℕ} {m o : List ℕ} {keep : Bool} → Walked keep words p skip (run_of a m o) a m o
-  unfolding runs outcome run effects
-  last-skip {a} {m} {o} = exactly (λ fair. packed-done a m o fair.cursor)
+  pub then_sure : {v w : Layout} {a : ℕ} {r : Result ℕ Code.Stop} {i i' i'' : Ink} {o o' o'' : List ℕ}
+      → Sure v i o i' o' → Walked keep p w (run_of a i' o') r i'' o'' → Walked keep p (v ⨾ w) (run_of a i o) r i'' o''
+  then_sure {v} {w} {a} {r} {i} {i'} {i''} {o} e h =
+      record { is = h.is ∙ ap (shown keep) (sym (runs_then p v w (run_of a i o) ∙ ap (λ x. and_then x (runs p w)) (sym (e.is p a)))) }
 
-  pub last-halt : {a r : ℕ} {m o : List ℕ} {keep : Bool} → Stops a r → Walked keep words p halt (run_of a m o) r m o
-  unfolding runs outcome run effects
-  last-halt {a} {r} {m} {o} e = exactly (λ fair. packed-absent a r m o (e.is fair.cursor))
+  -- Two layouts that one function writes.
+  pub then_both : {u v w : Layout} {a : ℕ} {r : Result ℕ Code.Stop} {i i' i'' : Ink} {o o' o'' : List ℕ}
+      → Sure (u ⨾ v) i o i' o' → Walked keep p w (run_of a i' o') r i'' o'' → Walked keep p (u ⨾ v ⨾ w) (run_of a i o) r i'' o''
+  then_both {u} {v} {w} {a} {r} {i} {o = o} e h =
+      let f : Walked keep p ((u ⨾ v) ⨾ w) (run_of a i o) r _ _ = then_sure e h in
+      record { is = f.is ∙ ap (shown keep) (sym (regrouped p (run_of a i o) u v w)) }
 
-  pub regroup : {g : Run} {m o : List ℕ} {u v w : Layout} {r : ℕ} {keep : Bool} → Walked keep words p (u ⨾ v ⨾ w) g r m o → Walked keep words p ((u ⨾ v) ⨾ w) g r m o
-  regroup {g} {u = u} {v} {w} {keep = keep} f = record { is = λ fair. f.is fair ∙ ap (shown keep) (regrouped p g u v w) }
+  pub last_skip : {a : ℕ} {i : Ink} {o : List ℕ} → Walked keep p skip (run_of a i o) (Ok a) i o
+  unfolding ended runs outcome run effects
+  last_skip = record { is = refl }
 
--- A token's text by number.
-module _ (p : Page) where
-  text-effects : {a k : ℕ} {m o m' o' : List ℕ} → Texted p.text p.tokens.starts p.tokens.lengths k m o m' o'
-      → run_of a m' o' ≡ effects p (Token k ∷ []) (run_of a m o)
-  unfolding effects effect token_text text_of
-  text-effects {a} e = ap₂ (λ x y. run_of a x y) e.is.mem e.is.out
+  pub last_halt : {a : ℕ} {i : Ink} {o : List ℕ} → Walked keep p halt (run_of a i o) (Err (Why.Absent a)) i o
+  unfolding ended runs outcome run effects why_of
+  last_halt = record { is = refl }
 
--- ---- two layouts that run alike
-pub record Same (words : List ℕ) (p : Page) (v : Layout) (g : Run) (w : Layout) (h : Run) : Type 0 where
-  pub on : Fair words p g.at → h.at < stop_no
-  pub is : Fair words p g.at → runs p v g ≡ runs p w h
+  pub last_import : {a : ℕ} {i : Ink} {o : List ℕ} → Walked keep p import (run_of a i o) (Err (Why.Import a)) i o
+  unfolding ended runs outcome run effects why_of
+  last_import = record { is = refl }
 
-module _ {words : List ℕ} {p : Page} where
-  pub by-same : {v w : Layout} {g h : Run} {r : ℕ} {m o : List ℕ} {keep : Bool} → Same words p v g w h → Walked keep words p w h r m o → Walked keep words p v g r m o
-  by-same {keep = keep} e f = record { is = λ fair. f.is (fair_on fair (e.on fair)) ∙ ap (shown keep) (sym (e.is fair)) }
-
-  -- With the same behind both.
-  pub first-same : {v w u : Layout} {g h : Run} → Same words p v g w h → Same words p (v ⨾ u) g (w ⨾ u) h
-  first-same {v} {w} {u} {g} {h} e =
-      record { on = e.on; is = λ fair. runs_seq p v u g ∙ ap (λ x. and_then x (runs p u)) (e.is fair) ∙ sym (runs_seq p w u h) }
-
-  -- From one cursor.
-  pub here : {v w : Layout} {g : Run} → runs p v g ≡ runs p w g → Same words p v g w g
-  here e = record { on = λ fair. fair.cursor; is = λ fair. e }
-
-  pub skip-same : {w : Layout} {g : Run} → Same words p (skip ⨾ w) g w g
-  unfolding runs outcome run effects
-  skip-same {w} {g} = here (runs_seq p skip w g)
+  pub regroup : {g : Run} {u v w : Layout} {r : Result ℕ Code.Stop} {i : Ink} {o : List ℕ} → Walked keep p (u ⨾ v ⨾ w) g r i o → Walked keep p ((u ⨾ v) ⨾ w) g r i o
+  regroup {g} {u} {v} {w} e = record { is = e.is ∙ ap (shown keep) (regrouped p g u v w) }
 
 -- ---- fields
--- The cursor behind what was read is no stop.
-behind : {words : List ℕ} {p : Page} {a b : ℕ} (width : ℕ) → Fair words p a → a + width ≤ length p.rec → b ≡ a + width → b < stop_no
-behind width fair h e = omega (arith, h, e, fair.short)
-
-pub moved-run : (p : Page) (b : ℕ) (w : Layout) (a c : ℕ) (m o : List ℕ) → c ≡ b → run p (outcome p w b) (run_of a m o) ≡ runs p w (run_of c m o)
-unfolding runs
-moved-run p b w a c m o e = sym (run_at p (outcome p w b) c (run_of a m o)) ∙ ap (λ x. run p (outcome p w x) (run_of c m o)) (sym e)
-
-or_some : (x : Option ℕ) (a : ℕ) (f : ℕ → Outcome) (n : ℕ) → x ≡ Some n → or_stop x a f ≡ f n
-unfolding or_stop
-or_some x a f n e = ap (λ y. or_stop y a f) e
-
-or_none : (x : Option ℕ) (a : ℕ) (f : ℕ → Outcome) → x ≡ None → or_stop x a f ≡ stopped (absent a) []
-unfolding or_stop
-or_none x a f e = ap (λ y. or_stop y a f) e
-
-pub is_some : (x : Option ℕ) (width n a b : ℕ) → Is n b ≡ read_of width a x → (x ≡ Some n) × (b ≡ a + width)
+-- What is read at the cursor.
+pub some_of : (width a n s : ℕ) (x : Option ℕ) → read_of width a x ≡ Ok (n, s) → (x ≡ Some n) × (s ≡ a + width)
 unfolding read_of
-is_some (Some k) width n a b e =
-    let h : k ≡ n = cc in
-    (ap Some h, cc)
-is_some None width n a b e = never (cc)
+some_of width a n s (Some k) e =
+    let q : ◌≡◌ {A = ℕ × ℕ} (k, a + width) (n, s) = cc in
+    (ap (λ (x : ℕ × ℕ). Some x.0) q, sym (ap (λ (x : ℕ × ℕ). x.1) q))
+some_of width a n s None e = never (cc)
 
-pub not_none : (x : Option ℕ) (width a : ℕ) → Read.Not ≡ read_of width a x → x ≡ None
+pub none_of : (width a : ℕ) (why : Code.Stop) (x : Option ℕ) → read_of width a x ≡ Err why → (x ≡ None) × (why ≡ Why.Absent a)
 unfolding read_of
-not_none (Some k) width a e = never (cc)
-not_none None width a e = refl
+none_of width a why (Some k) e = never (cc)
+none_of width a why None e = (refl, cc)
 
--- What is read at the cursor and handed on.
-reads_end : (p : Page) (width : ℕ) (x : Option ℕ) (f : ℕ → ℕ → Outcome) (n a b : ℕ) (m o : List ℕ) → Is n b ≡ read_of width a x
-    → run p (or_stop x a (λ i. f i (a + width))) (run_of a m o) ≡ run p (f n b) (run_of b m o)
-reads_end p width x f n a b m o e =
-    let q = is_some x width n a b e in
-    ap (λ y. run p y (run_of a m o)) (or_some x a (λ i. f i (a + width)) n q.0)
-    ∙ ap (λ c. run p (f n c) (run_of a m o)) (sym q.1)
-    ∙ sym (run_at p (f n b) b (run_of a m o))
-
-reads_same : (p : Page) (width : ℕ) (x : Option ℕ) (k : ℕ → Layout) (n a b : ℕ) (m o : List ℕ) → Is n b ≡ read_of width a x
-    → run p (or_stop x a (λ i. outcome p (k i) (a + width))) (run_of a m o) ≡ runs p (k n) (run_of b m o)
+-- From another cursor.
+moved : {p : Page} {keep : Bool} {w : Layout} (a : ℕ) {b s : ℕ} {i i' : Ink} {o o' : List ℕ} {r : Result ℕ Code.Stop} → s ≡ b → Walked keep p w (run_of s i o) r i' o'
+    → shown keep (ended r i' o') ≡ shown keep (run p (outcome p w b) (run_of a i o))
 unfolding runs
-reads_same p width x k n a b m o e = reads_end p width x (λ i next. outcome p (k i) next) n a b m o e
+moved {p} {keep} {w} a {b} {s} {i} {o = o} e h = h.is ∙ ap (shown keep) (ap (λ c. run p (outcome p w c) (run_of s i o)) e ∙ run_at p (outcome p w b) s (run_of a i o))
 
-reads_stop : (p : Page) (width : ℕ) (x : Option ℕ) (f : ℕ → Outcome) (a r : ℕ) (m o : List ℕ) → Read.Not ≡ read_of width a x → r ≡ stop_no + 2 * a
-    → packed r m o ≡ run p (or_stop x a f) (run_of a m o)
-unfolding run effects
-reads_stop p width x f a r m o e h =
-    packed-absent a r m o h ∙ sym (ap (λ y. run p y (run_of a m o)) (or_none x a f (not_none x width a e)))
+group_true : (b : Bool) (a s : ℕ) → ◌≡◌ {A = Result ℕ Code.Stop} (elim b [ true ↦ Ok (a + 1) | false ↦ Err (Why.Absent a) ]) (Ok s) → (b ≡ true) × (s ≡ a + 1)
+group_true true a s e = (refl, cc)
+group_true false a s e = never (cc)
 
--- A command that is read whole stands in the record.
-abbrev Whole : List ℕ → (List ℕ → ℕ → Option ℕ) → ℕ → Type 0
-Whole r reads width = (a n : ℕ) → reads r a ≡ Some n → a + width ≤ length r
+group_false : (b : Bool) (a : ℕ) (why : Code.Stop) → ◌≡◌ {A = Result ℕ Code.Stop} (elim b [ true ↦ Ok (a + 1) | false ↦ Err (Why.Absent a) ]) (Err why) → (b ≡ false) × (why ≡ Why.Absent a)
+group_false true a why e = never (cc)
+group_false false a why e = (refl, cc)
 
-token_whole : (r : List ℕ) (count : ℕ) → Whole r (λ bytes. token_fits bytes count) 3
-token_whole r count a n e = token-fits r a n (token-parts r count a n e).0
+module _ {p : Page} {keep : Bool} {a : ℕ} {i : Ink} {o : List ℕ} where
+  module _ {k : ℕ → Layout} {x : Result (ℕ × ℕ) Code.Stop} {r : Result ℕ Code.Stop} {i' : Ink} {o' : List ℕ} {n s : ℕ} where
+    pub list_is : x ≡ read_of 3 a (list_at p.rec a) → x ≡ Ok (n, s) → Walked keep p (k n) (run_of s i o) r i' o' → Walked keep p (list k) (run_of a i o) r i' o'
+    unfolding runs outcome or_stop
+    list_is e f h = let q = some_of 3 a n s (list_at p.rec a) (sym e ∙ f) in record { is = rw (q.0, outcome, or_stop) (moved a q.1 h) }
 
-module _ {words : List ℕ} {p : Page} {a : ℕ} {m o : List ℕ} {x : Read} where
-  read_same : (reads : List ℕ → ℕ → Option ℕ) (width : ℕ) {n b : ℕ} (w : Layout) (k : ℕ → Layout) → Whole p.rec reads width
-      → runs p w (run_of a m o) ≡ run p (or_stop (reads p.rec a) a (λ i. outcome p (k i) (a + width))) (run_of a m o)
-      → x ≡ read_of width a (reads p.rec a) → x ≡ Is n b → Same words p w (run_of a m o) (k n) (run_of b m o)
-  read_same reads width {n} {b} w k fits d e f =
-      let h = sym f ∙ e in
-      let q = is_some (reads p.rec a) width n a b h in
-      record { on = λ fair. behind width fair (fits a n q.0) q.1; is = λ fair. d ∙ reads_same p width (reads p.rec a) k n a b m o h }
+    pub choice_is : x ≡ read_of 2 a (choice_at p.rec a) → x ≡ Ok (n, s) → Walked keep p (k n) (run_of s i o) r i' o' → Walked keep p (choice k) (run_of a i o) r i' o'
+    unfolding runs outcome or_stop
+    choice_is e f h = let q = some_of 2 a n s (choice_at p.rec a) (sym e ∙ f) in record { is = rw (q.0, outcome, or_stop) (moved a q.1 h) }
 
-  module _ {k : ℕ → Layout} where
-    pub list-is : {n b : ℕ} → ReadAt list_at 3 p.rec a x → x ≡ Is n b → Same words p (list k) (run_of a m o) (k n) (run_of b m o)
-    unfolding runs outcome
-    list-is e f = read_same list_at 3 (list k) k (list-fits p.rec) refl e.is f
+    pub form_is : {family : Family} → x ≡ read_of (form_width family) a (form_at p.rec family a) → x ≡ Ok (n, s) → Walked keep p (k n) (run_of s i o) r i' o'
+        → Walked keep p (form family k) (run_of a i o) r i' o'
+    unfolding runs outcome or_stop
+    form_is {family} e f h = let q = some_of (form_width family) a n s (form_at p.rec family a) (sym e ∙ f) in record { is = rw (q.0, outcome, or_stop) (moved a q.1 h) }
 
-    pub choice-is : {n b : ℕ} → ReadAt choice_at 2 p.rec a x → x ≡ Is n b → Same words p (choice k) (run_of a m o) (k n) (run_of b m o)
-    unfolding runs outcome
-    choice-is e f = read_same choice_at 2 (choice k) k (choice-fits p.rec) refl e.is f
+  module _ {k : ℕ → Layout} {x : Result (ℕ × ℕ) Code.Stop} {r : Result ℕ Code.Stop} {why : Code.Stop} where
+    pub list_not : x ≡ read_of 3 a (list_at p.rec a) → x ≡ Err why → Handed r why → Walked keep p (list k) (run_of a i o) r i o
+    unfolding runs outcome or_stop run effects ended why_of
+    list_not e f h = rw (handed_on r h) (let q = none_of 3 a why (list_at p.rec a) (sym e ∙ f) in record { is = rw (q.0, q.1, outcome, or_stop, ended, why_of) refl })
 
-    pub form-is : {family : Code.Family} {n b : ℕ} → FormRead family p.rec a x → x ≡ Is n b
-        → Same words p (form (family_of family) k) (run_of a m o) (k n) (run_of b m o)
-    unfolding runs outcome
-    form-is {family} e f =
-        read_same (λ r i. form_at r (family_of family) i) (form_width (family_of family)) (form (family_of family) k) k (λ i n h. form-fits p.rec i (family_of family) n h) refl e.is f
+    pub choice_not : x ≡ read_of 2 a (choice_at p.rec a) → x ≡ Err why → Handed r why → Walked keep p (choice k) (run_of a i o) r i o
+    unfolding runs outcome or_stop run effects ended why_of
+    choice_not e f h = rw (handed_on r h) (let q = none_of 2 a why (choice_at p.rec a) (sym e ∙ f) in record { is = rw (q.0, q.1, outcome, or_stop, ended, why_of) refl })
 
-    module _ {r : ℕ} (h : Stops a r) where
-      pub list-not : {keep : Bool} → ReadAt list_at 3 p.rec a x → x ≡ Read.Not → Walked keep words p (list k) (run_of a m o) r m o
-      unfolding runs outcome
-      list-not e f = exactly (λ fair. reads_stop p 3 (list_at p.rec a) (λ i. outcome p (k i) (a + 3)) a r m o (sym f ∙ e.is) (h.is fair.cursor))
+    pub form_not : {family : Family} → x ≡ read_of (form_width family) a (form_at p.rec family a) → x ≡ Err why → Handed r why → Walked keep p (form family k) (run_of a i o) r i o
+    unfolding runs outcome or_stop run effects ended why_of
+    form_not {family} e f h = rw (handed_on r h) (let q = none_of (form_width family) a why (form_at p.rec family a) (sym e ∙ f) in record { is = rw (q.0, q.1, outcome, or_stop, ended, why_of) refl })
 
-      pub choice-not : {keep : Bool} → ReadAt choice_at 2 p.rec a x → x ≡ Read.Not → Walked keep words p (choice k) (run_of a m o) r m o
-      unfolding runs outcome
-      choice-not e f = exactly (λ fair. reads_stop p 2 (choice_at p.rec a) (λ i. outcome p (k i) (a + 2)) a r m o (sym f ∙ e.is) (h.is fair.cursor))
+  -- A group.
+  pub group_is : {w : Layout} {x r : Result ℕ Code.Stop} {i' : Ink} {o' : List ℕ} {s : ℕ} → x ≡ group_of p.rec a → x ≡ Ok s
+      → Walked keep p w (run_of s i o) r i' o' → Walked keep p (group w) (run_of a i o) r i' o'
+  unfolding runs outcome group_of
+  group_is {w} {r = r} {i'} {o'} {s} e f h = let q = group_true (group_at p.rec a) a s (sym e ∙ f) in record { is = rw (q.0, outcome) (moved a q.1 h) }
 
-      pub form-not : {family : Code.Family} {keep : Bool} → FormRead family p.rec a x → x ≡ Read.Not → Walked keep words p (form (family_of family) k) (run_of a m o) r m o
-      unfolding runs outcome
-      form-not {family} e f =
-          exactly (λ fair. reads_stop p (form_width (family_of family)) (form_at p.rec (family_of family) a)
-          (λ i. outcome p (k i) (a + form_width (family_of family))) a r m o (sym f ∙ e.is) (h.is fair.cursor))
+  pub group_not : {w : Layout} {x r : Result ℕ Code.Stop} {why : Code.Stop} → x ≡ group_of p.rec a → x ≡ Err why → Handed r why
+      → Walked keep p (group w) (run_of a i o) r i o
+  unfolding runs outcome run effects ended why_of group_of
+  group_not {r = r} {why} e f h =
+      rw (handed_on r h) (let q = group_false (group_at p.rec a) a why (sym e ∙ f) in record { is = rw (q.0, q.1, outcome, ended, why_of) refl })
 
--- ---- a token
-abbrev pub TokenRead : Page → ℕ → Read → Type 0
-TokenRead p a x = ReadAt (λ bytes. token_fits bytes (length p.tokens.starts)) 3 p.rec a x
-
-abbrev reads_token : Page → ℕ → Option ℕ
-reads_token p a = token_fits p.rec (length p.tokens.starts) a
-
--- An operator that is kept: the walk behind it.
-abbrev kept : Page → Layout → Layout → Layout → ℕ → ℕ → Outcome
-kept p lhs pipe gap k a = bind (outcome p lhs a) (operated p k (λ next. outcome p pipe next) (λ next. outcome p gap next))
-
--- The cursor behind a token is no stop.
-token-behind : {words : List ℕ} {p : Page} {a k b : ℕ} {x : Read} → Fair words p a → TokenRead p a x → x ≡ Is k b → b < stop_no
-token-behind {p = p} {a} {k} {b} fair e f =
-    let q = is_some (reads_token p a) 3 k a b (sym f ∙ e.is) in
-    behind 3 fair (token_whole p.rec (length p.tokens.starts) a k q.0) q.1
-
-module _ {words : List ℕ} {p : Page} {a : ℕ} {m o : List ℕ} {x : Read} where
-  pub text-is : {k b : ℕ} {m' o' : List ℕ} {keep : Bool} → TokenRead p a x → x ≡ Is k b → Texted p.text p.tokens.starts p.tokens.lengths k m o m' o'
-      → Walked keep words p text (run_of a m o) b m' o'
-  unfolding runs outcome run effects effect
-  text-is {k} {b} {m'} {o'} e f t =
-      exactly (λ fair. packed-done b m' o' (token-behind fair e f)
-      ∙ ap went (text-effects p t)
-      ∙ sym (reads_end p 3 (reads_token p a) (λ k next. done next (Token k ∷ [])) k a b m o (sym f ∙ e.is)))
-
-  pub text-not : {r : ℕ} {keep : Bool} → Stops a r → TokenRead p a x → x ≡ Read.Not → Walked keep words p text (run_of a m o) r m o
-  unfolding runs outcome
-  text-not {r} h e f = exactly (λ fair. reads_stop p 3 (reads_token p a) (λ k. done (a + 3) (Token k ∷ [])) a r m o (sym f ∙ e.is) (h.is fair.cursor))
-
-  -- An operator that is kept.
-  module _ {lhs pipe gap : Layout} where
-    pub operator-not : {r : ℕ} {keep : Bool} → Stops a r → TokenRead p a x → x ≡ Read.Not → Walked keep words p (operator lhs pipe gap) (run_of a m o) r m o
-    unfolding runs outcome
-    operator-not {r} h e f =
-        exactly (λ fair. reads_stop p 3 (reads_token p a) (λ k. kept p lhs pipe gap k (a + 3)) a r m o (sym f ∙ e.is) (h.is fair.cursor))
-
-    operator-ends : {k b r : ℕ} {m' o' : List ℕ} {keep : Bool} → TokenRead p a x → x ≡ Is k b → Ended keep words p (kept p lhs pipe gap k) (run_of b m o) r m' o'
-        → Walked keep words p (operator lhs pipe gap) (run_of a m o) r m' o'
-    unfolding runs outcome
-    operator-ends {k} {b} {keep = keep} e f h =
-        record {
-          is = λ fair. h.is (fair_on fair (token-behind fair e f)) ∙ ap (shown keep) (sym (reads_end p 3 (reads_token p a) (kept p lhs pipe gap) k a b m o (sym f ∙ e.is)));
-        }
-
-    pub operator-stop : {k b r : ℕ} {m' o' : List ℕ} {y : Status} {keep : Bool} → TokenRead p a x → x ≡ Is k b
-        → Walked keep words p lhs (run_of b m o) r m' o' → y ≡ told_of r → y ≡ Stopped → Walked keep words p (operator lhs pipe gap) (run_of a m o) r m' o'
-    operator-stop e f h t i = operator-ends e f (ended-stop (operated p _ (λ next. outcome p pipe next) (λ next. outcome p gap next)) (ended h) t i)
-
-    pub operator-done : {k b c r r' : ℕ} {m' o' m'' o'' : List ℕ} {y : Status} {keep : Bool} → TokenRead p a x → x ≡ Is k b
-        → Walked keep words p lhs (run_of b m o) r' m' o' → y ≡ told_of r' → y ≡ Done c
-        → Ended keep words p (operated p k (λ next. outcome p pipe next) (λ next. outcome p gap next)) (run_of c m' o') r m'' o''
-        → Walked keep words p (operator lhs pipe gap) (run_of a m o) r m'' o''
-    operator-done e f h t i j = operator-ends e f (ended-done (ended h) t i j)
-
--- ---- a group
-group_true : (b : Bool) (a n s : ℕ) {x : Status} → a < stop_no → n ≡ group_of a b → x ≡ told_of n → x ≡ Done s → (b ≡ true) × (s ≡ a + 1)
-unfolding group_of
-group_true true a n s h e t f = (refl, sym (told-done n s (sym t ∙ f)).0 ∙ e)
-group_true false a n s h e t f = absurd (omega (arith, e, (told-done n s (sym t ∙ f)).1))
-
-group_false : (b : Bool) (a n : ℕ) {x : Status} → (b ≡ true → a + 1 < stop_no) → n ≡ group_of a b → x ≡ told_of n → x ≡ Stopped → (b ≡ false) × (n ≡ stop_no + 2 * a)
-unfolding group_of
-group_false true a n h e t f = absurd (omega (arith, h refl, e, told-stop n (sym t ∙ f)))
-group_false false a n h e t f = (refl, e)
-
-module _ {words : List ℕ} {p : Page} {a n : ℕ} {m o : List ℕ} {w : Layout} {x : Status} where
-  pub group-is : {s : ℕ} → GroupRead p.rec a n → x ≡ told_of n → x ≡ Done s → Same words p (group w) (run_of a m o) w (run_of s m o)
-  unfolding runs outcome
-  group-is {s} e t f =
-      record {
-        on = λ fair.
-            let q = group_true (group_at p.rec a) a n s fair.cursor (e.is fair.cursor) t f in
-            behind 1 fair (group-fits p.rec a q.0) q.1;
-        is = λ fair.
-            let q = group_true (group_at p.rec a) a n s fair.cursor (e.is fair.cursor) t f in
-            rw (q.0, outcome) (moved-run p (a + 1) w a s m o q.1);
-      }
-
-  pub group-not : {keep : Bool} → GroupRead p.rec a n → x ≡ told_of n → x ≡ Stopped → Walked keep words p (group w) (run_of a m o) n m o
-  unfolding runs outcome run effects
-  group-not e t f =
-      exactly (λ fair.
-      let q = group_false (group_at p.rec a) a n (λ h. omega (arith, group-fits p.rec a h, fair.short)) (e.is fair.cursor) t f in
-      packed-absent a n m o q.1 ∙ rw (q.0, outcome) refl)
-
--- ---- a field that may be absent
-pub gone_true : (b : Bool) (a s : ℕ) → Gone.Past s ≡ gone_of a b → (b ≡ true) × (s ≡ a + 1)
-unfolding gone_of
+-- A field that may be absent.
+gone_true : (b : Bool) (a s : ℕ) → ◌≡◌ {A = Option ℕ} (elim b [ true ↦ Some (a + 1) | false ↦ None ]) (Some s) → (b ≡ true) × (s ≡ a + 1)
 gone_true true a s e = (refl, cc)
 gone_true false a s e = never (cc)
 
-pub gone_false : (b : Bool) (a : ℕ) → Gone.There ≡ gone_of a b → b ≡ false
-unfolding gone_of
+gone_false : (b : Bool) (a : ℕ) → ◌≡◌ {A = Option ℕ} (elim b [ true ↦ Some (a + 1) | false ↦ None ]) None → b ≡ false
 gone_false true a e = never (cc)
 gone_false false a e = refl
 
-module _ {words : List ℕ} {p : Page} {a : ℕ} {m o : List ℕ} {w : Layout} {x : Gone} where
-  pub maybe-past : {s : ℕ} {keep : Bool} → GoneRead p.rec a x → x ≡ Gone.Past s → Walked keep words p (maybe w) (run_of a m o) s m o
-  unfolding runs outcome run effects
-  maybe-past {s} e f =
-      let q = gone_true (absent_at p.rec a) a s (sym f ∙ e.is) in
-      exactly (λ fair. packed-done s m o (behind 1 fair (absent-fits p.rec a q.0) q.1) ∙ ap (λ y. went (run_of y m o)) q.1 ∙ rw (q.0, outcome) refl)
+-- A token that may be absent.
+abbrev given : Option ℕ → Bool → ℕ → Result (Bool × ℕ) Code.Stop
+given t b a = elim t [ Some k ↦ Ok (true, a + 3) | None ↦ elim b [ true ↦ Ok (false, a + 1) | false ↦ Err (Why.Absent a) ] ]
 
-  pub maybe-there : GoneRead p.rec a x → x ≡ Gone.There → Same words p (maybe w) (run_of a m o) w (run_of a m o)
-  unfolding runs outcome
-  maybe-there e f =
-      let q = gone_false (absent_at p.rec a) a (sym f ∙ e.is) in
-      here (rw (q, outcome) refl)
+paired : {b c : Bool} {s u : ℕ} → ◌≡◌ {A = Result (Bool × ℕ) Code.Stop} (Ok (b, s)) (Ok (c, u)) → (b ≡ c) × (s ≡ u)
+paired {b} {c} {s} {u} e =
+    let q : ◌≡◌ {A = Bool × ℕ} (b, s) (c, u) = cc in
+    (ap (λ (x : Bool × ℕ). x.0) q, ap (λ (x : Bool × ℕ). x.1) q)
 
--- ---- lists
--- k items from the i-th on, with u before each but the first.
-unfoldable pub from : Layout → Layout → ℕ → ℕ → Layout
-from u w i zero = skip
-from u w i (suc k) = (joint u i ⨾ w) ⨾ from u w (i + 1) k
-
-joint-first : (u : Layout) → joint u 0 ≡ skip
-unfolding joint
-joint-first u = refl
-
-joint-later : (u : Layout) (i : ℕ) → joint u (i + 1) ≡ u
-unfolding joint
-joint-later u i =
-    let h : 0 < i + 1 = omega arith in
-    rw (lt-ltb 0 (i + 1) h) refl
-
-module _ (p : Page) (u w : Layout) where
-  times-from : (k i : ℕ) (g : Run) → runs p (times k (u ⨾ w)) g ≡ runs p (from u w (i + 1) k) g
-  unfolding times from
-  times-from zero i g = refl
-  times-from (suc k) i g =
-      runs_seq p (u ⨾ w) (times k (u ⨾ w)) g
-      ∙ and_then-same (runs p (u ⨾ w) g) (runs p (times k (u ⨾ w))) (runs p (from u w (i + 1 + 1) k)) (times-from k (i + 1))
-      ∙ ap (λ v. and_then (runs p (v ⨾ w) g) (runs p (from u w (i + 1 + 1) k))) (sym (joint-later u i))
-      ∙ sym (runs_seq p (joint u (i + 1) ⨾ w) (from u w (i + 1 + 1) k) g)
-
-  skipped : (g : Run) → runs p (skip ⨾ w) g ≡ runs p w g
-  unfolding runs outcome run effects
-  skipped g = runs_seq p skip w g
-
-  items-from : (n : ℕ) (g : Run) → runs p (items n w (u ⨾ w)) g ≡ runs p (from u w 0 n) g
-  unfolding items from
-  items-from zero g = refl
-  items-from (suc n) g =
-      runs_seq p w (times n (u ⨾ w)) g
-      ∙ and_then-same (runs p w g) (runs p (times n (u ⨾ w))) (runs p (from u w (0 + 1) n)) (times-from n 0)
-      ∙ ap (λ x. and_then x (runs p (from u w (0 + 1) n))) (sym (skipped g))
-      ∙ ap (λ v. and_then (runs p (v ⨾ w) g) (runs p (from u w (0 + 1) n))) (sym (joint-first u))
-      ∙ sym (runs_seq p (joint u 0 ⨾ w) (from u w (0 + 1) n) g)
-
-module _ {words : List ℕ} {p : Page} (w : Layout) where
-  -- With a joint before each item but the first: before the loop, in a turn, after the last.
-  pub items-all : (u : Layout) (n : ℕ) {g : Run} → Same words p (items n w (u ⨾ w)) g (from u w 0 (n - 0)) g
-  items-all u n {g} = here (items-from p u w n g ∙ ap (λ k. runs p (from u w 0 k) g) (sym (sub-zero n)))
-
-  pub from_more : (u : Layout) {i n : ℕ} {g : Run} {r : ℕ} {m o : List ℕ} {keep : Bool} → i < n
-      → Walked keep words p (joint u i ⨾ w ⨾ from u w (i + 1) (n - (i + 1))) g r m o → Walked keep words p (from u w i (n - i)) g r m o
-  unfolding from
-  from_more u {i} {n} e h =
-      let q : n - i ≡ suc (n - (i + 1)) = omega arith in
-      rw q (regroup h)
-
-  pub from-none : (u : Layout) {i n a : ℕ} {m o : List ℕ} {keep : Bool} → n ≤ i → Walked keep words p (from u w i (n - i)) (run_of a m o) a m o
-  unfolding from
-  from-none u {i} {n} e =
-      let q : n - i ≡ 0 = omega arith in
-      rw q last-skip
-
-  -- Without a joint.
-  pub times-all : (n : ℕ) {g : Run} → Same words p (times n w) g (times (n - 0) w) g
-  times-all n {g} = here (ap (λ k. runs p (times k w) g) (sym (sub-zero n)))
-
-  pub times_more : {i n : ℕ} {g : Run} {r : ℕ} {m o : List ℕ} {keep : Bool} → i < n
-      → Walked keep words p (w ⨾ times (n - (i + 1)) w) g r m o → Walked keep words p (times (n - i) w) g r m o
-  unfolding times
-  times_more {i} {n} e h =
-      let q : n - i ≡ suc (n - (i + 1)) = omega arith in
-      rw q h
-
-  pub times_none : {i n a : ℕ} {m o : List ℕ} {keep : Bool} → n ≤ i → Walked keep words p (times (n - i) w) (run_of a m o) a m o
-  unfolding times
-  times_none {i} {n} e =
-      let q : n - i ≡ 0 = omega arith in
-      rw q last-skip
-
--- ---- a token that may be absent
-given_some : (t : Option ℕ) (b : Bool) (a s : ℕ) → Given.There s ≡ present_of a t b → (k : ℕ) × (t ≡ Some k) × (s ≡ a + 3)
-unfolding present_of
-given_some (Some k) b a s e = (k, refl, cc)
-given_some None true a s e = never (cc)
+given_some : (t : Option ℕ) (b : Bool) (a s : ℕ) → given t b a ≡ Ok (true, s) → (k : ℕ) × (t ≡ Some k) × (s ≡ a + 3)
+given_some (Some k) b a s e = (k, refl, sym (paired e).1)
+given_some None true a s e = never (let q : false ≡ true = (paired e).0 in cc)
 given_some None false a s e = never (cc)
 
-given_none : (t : Option ℕ) (b : Bool) (a s : ℕ) → Given.Absent s ≡ present_of a t b → (t ≡ None) × (b ≡ true) × (s ≡ a + 1)
-unfolding present_of
-given_none (Some j) b a s e = never (cc)
-given_none None true a s e = (refl, refl, cc)
+given_none : (t : Option ℕ) (b : Bool) (a s : ℕ) → given t b a ≡ Ok (false, s) → (t ≡ None) × (b ≡ true) × (s ≡ a + 1)
+given_none (Some j) b a s e = never (let q : true ≡ false = (paired e).0 in cc)
+given_none None true a s e = (refl, refl, sym (paired e).1)
 given_none None false a s e = never (cc)
 
-given_neither : (t : Option ℕ) (b : Bool) (a : ℕ) → Given.Neither ≡ present_of a t b → (t ≡ None) × (b ≡ false)
-unfolding present_of
-given_neither (Some j) b a e = never (cc)
-given_neither None true a e = never (cc)
-given_neither None false a e = (refl, refl)
+given_not : (t : Option ℕ) (b : Bool) (a : ℕ) (why : Code.Stop) → given t b a ≡ Err why → (t ≡ None) × (b ≡ false) × (why ≡ Why.Absent a)
+given_not (Some j) b a why e = never (cc)
+given_not None true a why e = never (cc)
+given_not None false a why e = (refl, refl, cc)
 
-module _ {words : List ℕ} {p : Page} {a : ℕ} {m o : List ℕ} {v w : Layout} {x : Given} where
-  pub present-there : {s : ℕ} → PresentRead (length p.tokens.starts) p.rec a x → x ≡ Given.There s → Same words p (present v w) (run_of a m o) v (run_of s m o)
-  unfolding runs outcome
-  present-there {s} e f =
-      let q = given_some (reads_token p a) (absent_at p.rec a) a s (sym f ∙ e.is) in
-      record {
-        on = λ fair. behind 3 fair (token_whole p.rec (length p.tokens.starts) a q.0 q.1) q.2;
-        is = λ fair. rw (q.1, outcome) (moved-run p (a + 3) v a s m o q.2);
-      }
+module _ {p : Page} {keep : Bool} {a : ℕ} {i : Ink} {o : List ℕ} where
+  -- Where it is absent it is passed over.
+  module _ {w : Layout} {x : Option ℕ} where
+    pub maybe_past : {s : ℕ} → x ≡ gone_of p.rec a → x ≡ Some s → Walked keep p (maybe w) (run_of a i o) (Ok s) i o
+    unfolding runs outcome run effects ended gone_of
+    maybe_past {s} e f = let q = gone_true (absent_at p.rec a) a s (sym e ∙ f) in record { is = rw (q.0, q.1, outcome, ended) refl }
 
-  pub present-gone : {s : ℕ} → PresentRead (length p.tokens.starts) p.rec a x → x ≡ Given.Absent s → Same words p (present v w) (run_of a m o) w (run_of s m o)
-  unfolding runs outcome
-  present-gone {s} e f =
-      let q = given_none (reads_token p a) (absent_at p.rec a) a s (sym f ∙ e.is) in
-      record {
-        on = λ fair. behind 1 fair (absent-fits p.rec a q.1) q.2;
-        is = λ fair. rw (q.0, q.1, outcome) (moved-run p (a + 1) w a s m o q.2);
-      }
+    pub maybe_there : {r : Result ℕ Code.Stop} {i' : Ink} {o' : List ℕ} → x ≡ gone_of p.rec a → x ≡ None → Walked keep p w (run_of a i o) r i' o'
+        → Walked keep p (maybe w) (run_of a i o) r i' o'
+    unfolding runs outcome gone_of
+    maybe_there e f h = let q = gone_false (absent_at p.rec a) a (sym e ∙ f) in record { is = rw (q, outcome) h.is }
 
-  pub present-not : {r : ℕ} {keep : Bool} → Stops a r → PresentRead (length p.tokens.starts) p.rec a x → x ≡ Given.Neither → Walked keep words p (present v w) (run_of a m o) r m o
+  -- A token of which only its presence counts.
+  module _ {v w : Layout} {x : Result (Bool × ℕ) Code.Stop} {r : Result ℕ Code.Stop} where
+    module _ {b : Bool} {s : ℕ} {i' : Ink} {o' : List ℕ} where
+      pub present_there : x ≡ present_of p.rec (count_of p.tokens) a → x ≡ Ok (b, s) → b ≡ true → Walked keep p v (run_of s i o) r i' o'
+          → Walked keep p (present v w) (run_of a i o) r i' o'
+      unfolding runs outcome present_of
+      present_there e f g h =
+          let q = given_some (token_fits p.rec (count_of p.tokens) a) (absent_at p.rec a) a s (sym e ∙ f ∙ ap (λ c. Ok (c, s)) g) in
+          record { is = rw (q.1, outcome) (moved a q.2 h) }
+
+      pub present_gone : x ≡ present_of p.rec (count_of p.tokens) a → x ≡ Ok (b, s) → b ≡ false → Walked keep p w (run_of s i o) r i' o'
+          → Walked keep p (present v w) (run_of a i o) r i' o'
+      unfolding runs outcome present_of
+      present_gone e f g h =
+          let q = given_none (token_fits p.rec (count_of p.tokens) a) (absent_at p.rec a) a s (sym e ∙ f ∙ ap (λ c. Ok (c, s)) g) in
+          record { is = rw (q.0, q.1, outcome) (moved a q.2 h) }
+
+    pub present_not : {why : Code.Stop} → x ≡ present_of p.rec (count_of p.tokens) a → x ≡ Err why → Handed r why → Walked keep p (present v w) (run_of a i o) r i o
+    unfolding runs outcome run effects ended why_of present_of
+    present_not {why} e f h =
+        rw (handed_on r h)
+        (let q = given_not (token_fits p.rec (count_of p.tokens) a) (absent_at p.rec a) a why (sym e ∙ f) in record { is = rw (q.0, q.1, q.2, outcome, ended, why_of) refl })
+
+  -- A token, whose text is written.
+  module _ {x : Result (ℕ × ℕ) Code.Stop} where
+    pub text_is : {k s : ℕ} {i' : Ink} {o' : List ℕ} → x ≡ read_of 3 a (token_fits p.rec (count_of p.tokens) a) → x ≡ Ok (k, s)
+        → ((b : ℕ) → run_of b i' o' ≡ effect p (Token k) (run_of b i o)) → Walked keep p text (run_of a i o) (Ok s) i' o'
+    unfolding runs outcome or_stop run effects ended
+    text_is {k} {s} {i'} {o'} e f h =
+        let q = some_of 3 a k s (token_fits p.rec (count_of p.tokens) a) (sym e ∙ f) in
+        record { is = rw (q.0, outcome, or_stop, q.1, ended) (ap (λ g. shown keep (went (at (a + 3) g))) (h a)) }
+
+    pub text_not : {r : Result ℕ Code.Stop} {why : Code.Stop} → x ≡ read_of 3 a (token_fits p.rec (count_of p.tokens) a) → x ≡ Err why → Handed r why
+        → Walked keep p text (run_of a i o) r i o
+    unfolding runs outcome or_stop run effects ended why_of
+    text_not {r} {why} e f h =
+        rw (handed_on r h)
+        (let q = none_of 3 a why (token_fits p.rec (count_of p.tokens) a) (sym e ∙ f) in record { is = rw (q.0, q.1, outcome, or_stop, ended, why_of) refl })
+
+-- ---- questions, at whose answers the cursor stays
+module _ {p : Page} {keep : Bool} {a : ℕ} {i : Ink} {o : List ℕ} {v w : Layout} {r : Result ℕ Code.Stop} where
+  -- About the first name of the path at the cursor.
+  module _ {t : Test} {x : Result ℕ Code.Stop} where
+    module _ {b : Bool} {s : ℕ} {i' : Ink} {o' : List ℕ} where
+      pub name_yes : x ≡ group_of p.rec a → x ≡ Ok s → b ≡ name_passes p t a → b ≡ true → Walked keep p v (run_of a i o) r i' o'
+          → Walked keep p (first_name t v w) (run_of a i o) r i' o'
+      unfolding runs outcome group_of
+      name_yes e f n g h = let q = group_true (group_at p.rec a) a s (sym e ∙ f) in record { is = rw (q.0, outcome, sym n ∙ g) h.is }
+
+      pub name_no : x ≡ group_of p.rec a → x ≡ Ok s → b ≡ name_passes p t a → b ≡ false → Walked keep p w (run_of a i o) r i' o'
+          → Walked keep p (first_name t v w) (run_of a i o) r i' o'
+      unfolding runs outcome group_of
+      name_no e f n g h = let q = group_true (group_at p.rec a) a s (sym e ∙ f) in record { is = rw (q.0, outcome, sym n ∙ g) h.is }
+
+    pub name_not : {why : Code.Stop} → x ≡ group_of p.rec a → x ≡ Err why → Handed r why → Walked keep p (first_name t v w) (run_of a i o) r i o
+    unfolding runs outcome run effects ended why_of group_of
+    name_not {why} e f h =
+        rw (handed_on r h) (let q = group_false (group_at p.rec a) a why (sym e ∙ f) in record { is = rw (q.0, q.1, outcome, ended, why_of) refl })
+
+  -- About the expression at the cursor.
+  module _ {l : Look} {x : Result (ℕ × ℕ) Code.Stop} where
+    module _ {b : Bool} {n s : ℕ} {i' : Ink} {o' : List ℕ} where
+      pub look_yes : x ≡ read_of (form_width Exp) a (form_at p.rec Exp a) → x ≡ Ok (n, s) → b ≡ sees p l a → b ≡ true → Walked keep p v (run_of a i o) r i' o'
+          → Walked keep p (look l v w) (run_of a i o) r i' o'
+      unfolding runs outcome or_stop
+      look_yes e f n g h = let q = some_of (form_width Exp) a _ s (form_at p.rec Exp a) (sym e ∙ f) in record { is = rw (q.0, outcome, or_stop, sym n ∙ g) h.is }
+
+      pub look_no : x ≡ read_of (form_width Exp) a (form_at p.rec Exp a) → x ≡ Ok (n, s) → b ≡ sees p l a → b ≡ false → Walked keep p w (run_of a i o) r i' o'
+          → Walked keep p (look l v w) (run_of a i o) r i' o'
+      unfolding runs outcome or_stop
+      look_no e f n g h = let q = some_of (form_width Exp) a _ s (form_at p.rec Exp a) (sym e ∙ f) in record { is = rw (q.0, outcome, or_stop, sym n ∙ g) h.is }
+
+    pub look_not : {why : Code.Stop} → x ≡ read_of (form_width Exp) a (form_at p.rec Exp a) → x ≡ Err why → Handed r why → Walked keep p (look l v w) (run_of a i o) r i o
+    unfolding runs outcome or_stop run effects ended why_of
+    look_not {why} e f h =
+        rw (handed_on r h)
+        (let q = none_of (form_width Exp) a why (form_at p.rec Exp a) (sym e ∙ f) in record { is = rw (q.0, q.1, outcome, or_stop, ended, why_of) refl })
+
+-- ---- the items of a list
+module _ {p : Page} {keep : Bool} where
+  -- A further item; none.
+  pub times_more : (u w : Layout) {j n : ℕ} {g : Run} {r : Result ℕ Code.Stop} {i : Ink} {o : List ℕ} → j < n
+      → Walked keep p (u ⨾ w ⨾ times (n - (j + 1)) (u ⨾ w)) g r i o → Walked keep p (times (n - j) (u ⨾ w)) g r i o
+  unfolding times
+  times_more u w {j} {n} e h =
+      let q : n - j ≡ suc (n - (j + 1)) = omega arith in
+      rw q (regroup h)
+
+  pub times_none : (w : Layout) {j n a : ℕ} {i : Ink} {o : List ℕ} → n ≤ j → Walked keep p (times (n - j) w) (run_of a i o) (Ok a) i o
+  unfolding times
+  times_none w {j} {n} e =
+      let q : n - j ≡ 0 = omega arith in
+      rw q last_skip
+
+  -- The first item and those behind it; no item.
+  pub items_some : (w more : Layout) {n : ℕ} {g : Run} {r : Result ℕ Code.Stop} {i : Ink} {o : List ℕ} → (n ≡ 0 → ⊥)
+      → Walked keep p (w ⨾ times (n - 1) more) g r i o → Walked keep p (items n w more) g r i o
+  unfolding items
+  items_some w more {n} e h =
+      let q : n ≡ suc (n - 1) = omega arith in
+      rw q h
+
+  pub items_none : (w more : Layout) {n a : ℕ} {i : Ink} {o : List ℕ} → n ≡ 0 → Walked keep p (items n w more) (run_of a i o) (Ok a) i o
+  unfolding items
+  items_none w more e = rw e last_skip
+
+-- Items without a joint are items with one that writes nothing.
+module _ (p : Page) (w : Layout) where
+  skipped : (g : Run) → runs p (skip ⨾ w) g ≡ runs p w g
   unfolding runs outcome run effects
-  present-not {r} h e f =
-      let q = given_neither (reads_token p a) (absent_at p.rec a) a (sym f ∙ e.is) in
-      exactly (λ fair. packed-absent a r m o (h.is fair.cursor) ∙ rw (q.0, q.1, outcome) refl)
+  skipped g = runs_then p skip w g
 
--- A function that asks no kinds, used in one that may.
-pub plain : {words x r kinds starts lens : List ℕ} {w : Layout} {a n : ℕ} {m o m' o' : List ℕ} {keep : Bool} → Plain words x r starts lens w a m o n m' o'
-    → Walked keep words (page x r kinds starts lens) w (run_of a m o) n m' o'
-plain {kinds = kinds} {keep = keep} e = record { is = λ fair. ap (shown keep) (sym (shown-all _) ∙ (e.is kinds).is fair ∙ shown-all _) }
+  times_skip : (n : ℕ) (g : Run) → runs p (times n w) g ≡ runs p (times n (skip ⨾ w)) g
+  unfolding times
+  times_skip zero g = refl
+  times_skip (suc n) g =
+      runs_then p w (times n w) g
+      ∙ and_then_same (runs p w g) (runs p (times n w)) (runs p (times n (skip ⨾ w))) (times_skip n)
+      ∙ ap (λ x. and_then x (runs p (times n (skip ⨾ w)))) (sym (skipped g))
+      ∙ sym (runs_then p (skip ⨾ w) (times n (skip ⨾ w)) g)
+
+  times_items : (n : ℕ) (g : Run) → runs p (times n w) g ≡ runs p (items n w (skip ⨾ w)) g
+  unfolding times items
+  times_items zero g = refl
+  times_items (suc n) g =
+      runs_then p w (times n w) g
+      ∙ and_then_same (runs p w g) (runs p (times n w)) (runs p (times n (skip ⨾ w))) (times_skip n)
+      ∙ sym (runs_then p w (times n (skip ⨾ w)) g)
+
+  -- So in a list.
+  pub each_items : {keep : Bool} {a : ℕ} {i : Ink} {o : List ℕ} {r : Result ℕ Code.Stop} {i' : Ink} {o' : List ℕ} → Walked keep p (list (λ n. items n w (skip ⨾ w))) (run_of a i o) r i' o'
+      → Walked keep p (for_each w) (run_of a i o) r i' o'
+  unfolding for_each runs outcome or_stop
+  each_items {keep} {a} {i} {o} e = record { is = e.is ∙ ap (shown keep) (sym (same (list_at p.rec a))) }
+    where
+      same : (x : Option ℕ) → run p (or_stop x a (λ n. outcome p (times n w) (a + 3))) (run_of a i o) ≡ run p (or_stop x a (λ n. outcome p (items n w (skip ⨾ w)) (a + 3))) (run_of a i o)
+      same None = refl
+      same (Some n) = sym (run_at p (outcome p (times n w) (a + 3)) (a + 3) (run_of a i o)) ∙ times_items n (run_of (a + 3) i o) ∙ run_at p (outcome p (items n w (skip ⨾ w)) (a + 3)) (a + 3) (run_of a i o)
 
 -- ---- functions that only write
-pub sure_word : {words : List ℕ} {u : String} {m o m' o' : List ℕ} → (words ≡ word_run → Put (bytes u) m o m' o') → Sure words (word u) m o m' o'
+pub sure_word : {u : String} {w : List ℕ} {i i' : Ink} {o o' : List ℕ} → Put w i o i' o' → bytes u ≡ w → Sure (word u) i o i' o'
 unfolding runs outcome run effects effect
-sure_word e = record { is = λ h p a. ap₂ (λ x y. went (run_of a x y)) (e h).mem (e h).out }
+sure_word h e = record { is = λ p a. rw (e, h.ink, h.out) refl }
 
-pub sure-indent : {words : List ℕ} {d : ℕ} {m o m' o' : List ℕ} → Indented d m o m' o' → Sure words (output_indent d) m o m' o'
+pub sure_indent : {d w x y : ℕ} (i : Ink) {o o' : List ℕ} → w ≡ width_of i.tab d → x ≡ sum_of i.position w → y ≡ sum_of i.units d → o' ≡ spaced o i.position x
+    → Sure (output_indent d) i o (record i { position = x; units = y }) o'
 unfolding runs outcome run effects effect
-sure-indent e = record { is = λ h p a. ap₂ (λ x y. went (run_of a x y)) e.mem e.out }
+sure_indent i e f g h = record { is = λ p a. rw (h, f, g, e) refl }
 
-pub sure_formed : {words : List ℕ} {d : ℕ} {m m' o : List ℕ} → m' ≡ deepened d m → Sure words (formed d) m o m' o
+pub sure_formed : {d m : ℕ} (i : Ink) {o : List ℕ} → m ≡ max i.deepest d → Sure (formed d) i o (record i { deepest = m }) o
 unfolding runs outcome run effects effect
-sure_formed {o = o} e = record { is = λ h p a. ap (λ x. went (run_of a x o)) e }
+sure_formed i e = record { is = λ p a. rw e refl }
 
-pub sure_then : {words : List ℕ} {v w : Layout} {m o m' o' m'' o'' : List ℕ} → Sure words v m o m' o' → Sure words w m' o' m'' o'' → Sure words (v ⨾ w) m o m'' o''
-sure_then {v = v} {w} {m} {o} e f =
-    record { is = λ h p a. f.is h p a ∙ sym (runs_seq p v w (run_of a m o) ∙ ap (λ x. and_then x (runs p w)) (sym (e.is h p a))) }
+pub sure_then : {v w : Layout} {i i' i'' : Ink} {o o' o'' : List ℕ} → Sure v i o i' o' → Sure w i' o' i'' o'' → Sure (v ⨾ w) i o i'' o''
+sure_then {v} {w} {i} {o = o} e f = record { is = λ p a. f.is p a ∙ sym (runs_then p v w (run_of a i o) ∙ ap (λ x. and_then x (runs p w)) (sym (e.is p a))) }
 
-pub sure_skip : {words m o : List ℕ} → Sure words skip m o m o
+pub sure_skip : {i : Ink} {o : List ℕ} → Sure skip i o i o
 unfolding runs outcome run effects
-sure_skip = record { is = λ h p a. refl }
+sure_skip = record { is = λ p a. refl }
 
--- The invariant of a loop over the n items of a list: what is left to run leads on from what was to run.
-abbrev pub PlainTurn : List ℕ → List ℕ → List ℕ → Bor (List ℕ) → (ℕ → ℕ → Layout) → ℕ → ℕ → List ℕ → List ℕ → ℕ → ℕ → List ℕ → List ℕ → Type 0
-PlainTurn words x r spans left n a₀ m₀ o₀ i a m o =
-    (i ≤ n)
-    × ((kinds : List ℕ) (b : ℕ) (m' o' : List ℕ)
-    → Walked true words (page x r kinds (starts_of spans.now) (lengths_of spans.now)) (left i (n - i)) (run_of a m o) b m' o'
-    → Walked true words (page x r kinds (starts_of spans.now) (lengths_of spans.now)) (left 0 (n - 0)) (run_of a₀ m₀ o₀) b m' o')
-    × (length o ≡ length o₀)
-
--- ---- a joint
-pub sure-joint : {words : List ℕ} {u : Layout} {m o m' o' : List ℕ} {i : ℕ} → 0 < i → Sure words u m o m' o' → Sure words (joint u i) m o m' o'
-unfolding joint
-sure-joint {i = i} h e = rw (lt-ltb 0 i h) e
-
-pub sure_no-joint : {words : List ℕ} (u : Layout) {m o : List ℕ} {i : ℕ} → i ≤ 0 → Sure words (joint u i) m o m o
-unfolding joint
-sure_no-joint u {i = i} h = rw (le-ltb 0 i h) sure_skip
-
--- ---- what a condition decides
-pub sure-when : {words : List ℕ} {w : Layout} {m o m' o' : List ℕ} {b : Bool} → b ≡ true → Sure words w m o m' o' → Sure words (when b w) m o m' o'
+-- What a condition decides.
+pub sure_when : {w : Layout} {i i' : Ink} {o o' : List ℕ} {b : Bool} → b ≡ true → Sure w i o i' o' → Sure (when b w) i o i' o'
 unfolding when
-sure-when e f = rw (e, when) f
+sure_when e f = rw (e, when) f
 
-pub sure_unless : {words : List ℕ} (w : Layout) {m o : List ℕ} {b : Bool} → b ≡ false → Sure words (when b w) m o m o
+pub sure_unless : (w : Layout) {i : Ink} {o : List ℕ} {b : Bool} → b ≡ false → Sure (when b w) i o i o
 unfolding when
 sure_unless w e = rw (e, when) sure_skip
 
--- ---- questions
--- About the expression at the cursor.
-abbrev either : Page → Layout → Layout → ℕ → Bool → Outcome
-either p v w a b = elim b [ true ↦ outcome p v a | false ↦ outcome p w a ]
+-- A token's text; a comment's trimmed text, which is then not left any more.
+module _ (p : Page) (k : ℕ) {a : ℕ} {i' : Ink} {o o' t : List ℕ} where
+  pub put_token : {i : Ink} → t ≡ text_of p.text p.tokens k → Put t i o i' o' → run_of a i' o' ≡ effect p (Token k) (run_of a i o)
+  unfolding effect token_text
+  put_token e h = rw (h.ink, h.out, e) refl
 
-module _ {words : List ℕ} {p : Page} {a : ℕ} {m o : List ℕ} {l : Look} {v w : Layout} {x : Read} where
-  pub look-yes : {n c : ℕ} {b : Bool} → FormRead Case.Exp p.rec a x → x ≡ Is n c → Looked p.rec l a b → b ≡ true
-      → Same words p (look l v w) (run_of a m o) v (run_of a m o)
-  unfolding runs outcome or_stop
-  look-yes {n} {c} e f g h =
-      let q = (is_some (form_at p.rec Exp a) (form_width Exp) n a c (sym f ∙ e.is)).0 in
-      let y = sym (g.is p.text p.tokens.kinds p.tokens.starts p.tokens.lengths) ∙ h in
-      here (rw (q, y, or_stop) refl)
+  pub put_comment : (i : Ink) {left : Set} {w : List ℕ} → left.words ≡ words_of (without (holds i.left.words) k) → t ≡ text_of p.text p.tokens k → w ≡ trim t
+      → Put w (record i { left = left }) o i' o' → run_of a i' o' ≡ effect p (Comment k) (run_of a i o)
+  unfolding effect trimmed token_text
+  put_comment i e f g h = rw (h.ink, h.out, g, f, e) refl
 
-  pub look-no : {n c : ℕ} {b : Bool} → FormRead Case.Exp p.rec a x → x ≡ Is n c → Looked p.rec l a b → b ≡ false
-      → Same words p (look l v w) (run_of a m o) w (run_of a m o)
-  unfolding runs outcome or_stop
-  look-no {n} {c} e f g h =
-      let q = (is_some (form_at p.rec Exp a) (form_width Exp) n a c (sym f ∙ e.is)).0 in
-      let y = sym (g.is p.text p.tokens.kinds p.tokens.starts p.tokens.lengths) ∙ h in
-      here (rw (q, y, or_stop) refl)
+module _ {p : Page} {keep : Bool} {u : String} {x : List ℕ} {a : ℕ} {i i' : Ink} {o o' : List ℕ} where
+  pub then_word : {w : Layout} {r : Result ℕ Code.Stop} {i'' : Ink} {o'' : List ℕ} → Put x i o i' o' → bytes u ≡ x → Walked keep p w (run_of a i' o') r i'' o''
+      → Walked keep p (word u ⨾ w) (run_of a i o) r i'' o''
+  then_word h e f = then_sure (sure_word h e) f
 
-  pub look-not : {r : ℕ} {keep : Bool} → Stops a r → FormRead Case.Exp p.rec a x → x ≡ Read.Not → Walked keep words p (look l v w) (run_of a m o) r m o
-  unfolding runs outcome
-  look-not {r} h e f =
-      exactly (λ fair. reads_stop p (form_width Exp) (form_at p.rec Exp a) (λ k. either p v w a (sees p l a)) a r m o (sym f ∙ e.is) (h.is fair.cursor))
+  pub last_word : Put x i o i' o' → bytes u ≡ x → Walked keep p (word u) (run_of a i o) (Ok a) i' o'
+  last_word h e = last_sure (sure_word h e)
 
--- About the first name of the path at the cursor.
-module _ {words x r kinds starts lens : List ℕ} {a n : ℕ} {m o : List ℕ} {t : Test} {v w : Layout} {y : Status} where
-  pub name_yes : {s : ℕ} {b : Bool} → GroupRead r a n → y ≡ told_of n → y ≡ Done s → TestedName x r starts lens t a b → b ≡ true
-      → Same words (page x r kinds starts lens) (first_name t v w) (run_of a m o) v (run_of a m o)
-  unfolding runs outcome
-  name_yes {s} e u f g h =
-      let z = sym (g.is kinds) ∙ h in
-      record {
-        on = λ fair. fair.cursor;
-        is = λ fair. let q = (group_true (group_at r a) a n s fair.cursor (e.is fair.cursor) u f).0 in rw (q, z, outcome) refl;
-      }
+-- ---- the comment above a declaration
+module _ {p : Page} {line : Layout} {first : Option ℕ} {i : Ink} {o : List ℕ} where
+  pub above_skip : first ≡ None → CommentedAbove p first line i o i o
+  unfolding commented above_first run effects
+  above_skip e = rw e (record { is = λ a. refl })
 
-  pub name-no : {s : ℕ} {b : Bool} → GroupRead r a n → y ≡ told_of n → y ≡ Done s → TestedName x r starts lens t a b → b ≡ false
-      → Same words (page x r kinds starts lens) (first_name t v w) (run_of a m o) w (run_of a m o)
-  unfolding runs outcome
-  name-no {s} e u f g h =
-      let z = sym (g.is kinds) ∙ h in
-      record {
-        on = λ fair. fair.cursor;
-        is = λ fair. let q = (group_true (group_at r a) a n s fair.cursor (e.is fair.cursor) u f).0 in rw (q, z, outcome) refl;
-      }
+  module _ {k : ℕ} {kinds : List ℕ} {x : Option Above} (e : first ≡ Some k) (h : kinds ≡ p.tokens.kinds) (f : x ≡ found_above kinds k) where
+    pub above_none : x ≡ None → CommentedAbove p first line i o i o
+    unfolding commented above_first comment_above comment_in run effects
+    above_none g = rw e (record { is = λ a. let q = ap (λ z. found_above z k) (sym h) ∙ sym f ∙ g in rw (comment_above, q, commented) refl })
 
-  pub name-not : {keep : Bool} → GroupRead r a n → y ≡ told_of n → y ≡ Stopped → Walked keep words (page x r kinds starts lens) (first_name t v w) (run_of a m o) n m o
-  unfolding runs outcome run effects
-  name-not e u f =
-      exactly (λ fair.
-      let q = group_false (group_at r a) a n (λ h. omega (arith, group-fits r a h, fair.short)) (e.is fair.cursor) u f in
-      packed-absent a n m o q.1 ∙ rw (q.0, outcome) refl)
-
--- An operator that was kept, by its text.
-module _ {words x r starts lens : List ℕ} {k : ℕ} {pipe gap : Layout} {b : Bool} (e : TestedText x starts lens is_pipe k b) where
-  pub operated-pipe : {m o m' o' : List ℕ} → b ≡ true → Sure words pipe m o m' o' → Operated words x r starts lens k pipe gap m o m' o'
-  unfolding operated runs
-  operated-pipe h w =
-      record {
-        is = λ d kinds a.
-            let q = sym (e.is r kinds) ∙ h in
-            rw (q, operated) (w.is d (page x r kinds starts lens) a);
-      }
-
-  pub operated-gap : {m o m₁ o₁ m₂ o₂ m₃ o₃ : List ℕ} → b ≡ false → Sure words gap m o m₁ o₁ → Texted x starts lens k m₁ o₁ m₂ o₂ → Sure words gap m₂ o₂ m₃ o₃
-      → Operated words x r starts lens k pipe gap m o m₃ o₃
-  unfolding operated runs
-  operated-gap h v t w =
-      record {
-        is = λ d kinds a.
-            let p : Page = page x r kinds starts lens in
-            let q = sym (e.is r kinds) ∙ h in
-            rw (q, operated)
-            (wrote_then p (outcome p gap) a _ _ (λ next. after (Token k ∷ []) (outcome p gap next)) (v.is d p a)
-            (wrote_after p (outcome p gap) a _ _ (Token k ∷ []) (text-effects p t) (w.is d p a)));
-      }
-
--- What was only written, as an outcome at the cursor.
-pub operated_ended : {words x r kinds starts lens : List ℕ} {k a : ℕ} {pipe gap : Layout} {m o m' o' : List ℕ} {keep : Bool} → Operated words x r starts lens k pipe gap m o m' o'
-    → Ended keep words (page x r kinds starts lens)
-    (operated (page x r kinds starts lens) k (outcome (page x r kinds starts lens) pipe) (outcome (page x r kinds starts lens) gap)) (run_of a m o) a m' o'
-operated_ended {kinds = kinds} {a = a} {m' = m'} {o'} {keep = keep} e =
-    record { is = λ fair. ap (shown keep) (packed-done a m' o' fair.cursor ∙ e.is fair.words_are kinds a) }
-
--- ---- two writes in one call
-module _ {words : List ℕ} {p : Page} where
-  ungroup : {g : Run} {m o : List ℕ} {u v w : Layout} {r : ℕ} {keep : Bool} → Walked keep words p ((u ⨾ v) ⨾ w) g r m o → Walked keep words p (u ⨾ v ⨾ w) g r m o
-  ungroup {g} {u = u} {v} {w} {keep = keep} f = record { is = λ fair. f.is fair ∙ ap (shown keep) (sym (regrouped p g u v w)) }
-
-  pub then-both : {a r : ℕ} {m o m' o' m'' o'' : List ℕ} {u v w : Layout} {keep : Bool} → Sure words (u ⨾ v) m o m' o'
-      → Walked keep words p w (run_of a m' o') r m'' o'' → Walked keep words p (u ⨾ v ⨾ w) (run_of a m o) r m'' o''
-  then-both e h = ungroup (then-sure e h)
-
--- The same invariant where comments may be struck out.
-abbrev pub Turn : List ℕ → Page → (ℕ → ℕ → Layout) → ℕ → ℕ → List ℕ → List ℕ → ℕ → ℕ → List ℕ → List ℕ → Type 0
-Turn words p left n a₀ m₀ o₀ i a m o =
-    (i ≤ n)
-    × ((b : ℕ) (m' o' : List ℕ) → Walked false words p (left i (n - i)) (run_of a m o) b m' o' → Walked false words p (left 0 (n - 0)) (run_of a₀ m₀ o₀) b m' o')
-    × (length o ≡ length o₀)
+    pub above_some : {found : Above} {i' i'' : Ink} {o' o'' : List ℕ} → x ≡ Some found → ((a : ℕ) → run_of a i' o' ≡ effect p (Comment found.comment) (run_of a i o))
+        → Sure line i' o' i'' o'' → CommentedAbove p first line i o i'' o''
+    unfolding commented above_first comment_above comment_in runs effects
+    above_some {found} g t w =
+        rw e
+        (record {
+          is = λ a.
+              let q = ap (λ z. found_above z k) (sym h) ∙ sym f ∙ g in
+              rw (comment_above, q, commented)
+              (w.is p a ∙ ap (run p (outcome p line a)) (t a) ∙ sym (run_after p (Comment found.comment ∷ []) (outcome p line a) (run_of a i o)));
+        })
 
 -- ---- a deeper configuration
 module _ {c new : Cfg} (e : Deeper c new) where
-  pub deep-depth : new.depth ≡ c.depth + 1
-  deep-depth = ap (λ x. x.depth) e.is
+  pub deep_depth : new.depth ≡ c.depth + 1
+  deep_depth = ap (λ (x : Cfg). x.depth) e.is
 
-  pub deep-left : new.nesting ≡ c.nesting
-  deep-left = ap (λ x. x.nesting) e.is
+  pub deep_left : new.nesting ≡ c.nesting
+  deep_left = ap (λ (x : Cfg). x.nesting) e.is
 
-  pub sure_in : (w : Helpers.Cfg → Layout) {words m o m' o' : List ℕ} → Sure words (w (cfg_of new)) m o m' o' → Sure words (w (Helpers.deeper (cfg_of c))) m o m' o'
-  sure_in w {words} {m} {o} {m'} {o'} f = subst (λ x. Sure words (w (cfg_of x)) m o m' o') e.is f
+  pub sure_in : (w : Helpers.Cfg → Layout) {i i' : Ink} {o o' : List ℕ} → Sure (w (cfg_of new)) i o i' o' → Sure (w (Helpers.deeper (cfg_of c))) i o i' o'
+  sure_in w {i} {i'} {o} {o'} f = subst (λ x. Sure (w (cfg_of x)) i o i' o') e.is f
 
   -- A function that is called with the deeper configuration.
-  pub along : {words : List ℕ} {p : Page} {w : Helpers.Walkers → Helpers.Cfg → Layout} {g : Run} {r : ℕ} {m o : List ℕ} → Does words p new w g r m o
-      → Walked false words p (w (walks c.nesting) (Helpers.deeper (cfg_of c))) g r m o
-  along {words} {p} {w} {g} {r} {m} {o} f = subst (λ x. Walked false words p (w (walks x.nesting) (cfg_of x)) g r m o) e.is f.is
+  pub along : {p : Page} (w : Helpers.Walkers → Helpers.Cfg → Layout) {g : Run} {r : Result ℕ Code.Stop} {i : Ink} {o : List ℕ} → Does p new w g r i o
+      → Walked false p (w (walks c.nesting) (Helpers.deeper (cfg_of c))) g r i o
+  along {p} w {g} {r} {i} {o} f = subst (λ x. Walked false p (w (walks x.nesting) (cfg_of x)) g r i o) e.is f

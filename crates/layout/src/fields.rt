@@ -1,159 +1,109 @@
 // The fields of a record, each read at the cursor.
-ghost use Rattle.std.specs.Prelude.{◌≡◌, None};
-ghost use Rattle.reader.specs.Commands.{absent_at, list_at, choice_at};
+#![tactic(auto, unfolding(crate::specs::Promises::State::read_of, crate::specs::Promises::State::group_of, crate::specs::Promises::State::gone_of, crate::specs::Promises::State::present_of, crate::specs::Promises::State::declared_of, crate::specs::Promises::State::onwards_of, crate::specs::Promises::State::behind, reader::specs::Check::token_fits, reader::specs::Check::form_fits, reader::specs::Commands::command, reader::specs::Commands::absent_at, reader::specs::Commands::token_at, reader::specs::Commands::list_at, reader::specs::Commands::group_at, reader::specs::Commands::choice_at, reader::specs::Commands::form_at, reader::specs::Commands::declaration_at, reader::specs::Promises::Commands::declaration_in))]
+
+ghost use Rattle.std.specs.Prelude.{◌≡◌};
+ghost use Rattle.reader.specs.Commands.{absent_at, list_at, choice_at, form_at, form_width};
 ghost use Rattle.reader.specs.Check.{token_fits};
-ghost use Rattle.layout.specs.Promises.Lent.{count};
-ghost use Rattle.layout.specs.Promises.State.{Stops, Imports, ReadAt, FormRead, GroupRead, GoneRead, PresentRead, present_of, DeclaredAt, Onwards};
+ghost use Rattle.reader.specs.Promises.Commands.{family_of};
+ghost use Rattle.layout.specs.Promises.Lent.{rec_of, count_of};
+ghost use Rattle.layout.specs.Promises.State.{read_of, group_of, gone_of, present_of, declared_of, onwards_of};
 
-use crate::STOP;
-use reader::commands::{Declaration, Family, Number};
-use reader::tree::Checked;
+use crate::{Page, Status, Stop};
+use reader::commands::{self, Declaration, Family};
+use reader::tree::{first_fits, ty_end_within};
 
-// What is read at the cursor, with the cursor behind it.
-#[derive(Clone, Copy)]
-pub enum Read {
-    Is(usize, usize),
-    Not,
-}
-
-// Whether the field at the cursor is absent, with the cursor behind it.
-#[derive(Clone, Copy)]
-pub enum Gone {
-    Past(usize),
-    There,
-}
-
-// Whether a token that may be absent stands at the cursor, with the cursor behind it.
-#[derive(Clone, Copy)]
-pub enum Given {
-    There(usize),
-    Absent(usize),
-    Neither,
-}
-
-// A stop at an offset: the part there is absent.
-pub fn stop(at: usize) -> usize
-    ensures { Stops at result }
+// A token, whose number is below the count, with the cursor behind it.
+pub fn token_no(page: &Page, at: usize) -> Result<(usize, usize), Stop>
+    ensures { result ≡ read_of 3 at (token_fits (rec_of page) (count_of page) at) }
 {
-    if at < STOP {
-        return STOP + 2 * at;
+    match commands::token_at(page.rec, at) {
+        Some(k) if k < page.tokens.count() => Ok((k, at + 3)),
+        _ => Err(Stop::Absent(at)),
     }
-    STOP
 }
 
-// A stop at an import, behind its command.
-pub fn import(at: usize) -> usize
-    ensures { Imports at result }
+// How many items a list has, with the cursor behind its command.
+pub fn list(page: &Page, at: usize) -> Result<(usize, usize), Stop>
+    ensures { result ≡ read_of 3 at (list_at (rec_of page) at) }
 {
-    if at < STOP {
-        return STOP + 2 * at + 1;
+    match commands::list_at(page.rec, at) {
+        Some(n) => Ok((n, at + 3)),
+        None => Err(Stop::Absent(at)),
     }
-    STOP
 }
 
-// A token, whose number is below the count.
-pub fn token_no(rec: &[u8], spans: &&[u32], at: usize) -> Read
-    ensures { ReadAt (λ bytes. token_fits bytes (count spans)) 3 rec.now at result }
+// Which alternative a choice takes, with the cursor behind its command.
+pub fn choice(page: &Page, at: usize) -> Result<(usize, usize), Stop>
+    ensures { result ≡ read_of 2 at (choice_at (rec_of page) at) }
 {
-    let Number::Is(n) = reader::commands::token_at(rec, at) else {
-        return Read::Not;
-    };
-    if n < spans.len() {
-        return Read::Is(n, at + 3);
+    match commands::choice_at(page.rec, at) {
+        Some(which) => Ok((which, at + 2)),
+        None => Err(Stop::Absent(at)),
     }
-    Read::Not
 }
 
-pub fn list(rec: &[u8], at: usize) -> Read
-    ensures { ReadAt list_at 3 rec.now at result }
+// The number of a form of the family, with the cursor behind its command.
+pub fn form(page: &Page, at: usize, family: Family) -> Result<(usize, usize), Stop>
+    ensures { result ≡ read_of (form_width (family_of family)) at (form_at (rec_of page) (family_of family) at) }
 {
-    let Number::Is(n) = reader::commands::list_at(rec, at) else {
-        return Read::Not;
-    };
-    Read::Is(n, at + 3)
-}
-
-pub fn choice(rec: &[u8], at: usize) -> Read
-    ensures { ReadAt choice_at 2 rec.now at result }
-{
-    let Number::Is(n) = reader::commands::choice_at(rec, at) else {
-        return Read::Not;
-    };
-    Read::Is(n, at + 2)
-}
-
-pub fn form(rec: &[u8], at: usize, family: Family) -> Read
-    ensures { FormRead family rec.now at result }
-{
-    let Number::Is(n) = reader::commands::form_at(rec, family, at) else {
-        return Read::Not;
-    };
-    Read::Is(n, at + reader::commands::form_width(family))
-}
-
-// A group, answered as a walk does.
-pub fn group(rec: &[u8], at: usize) -> usize
-    ensures { GroupRead rec.now at result }
-{
-    if reader::commands::group_at(rec, at) {
-        return at + 1;
+    match commands::form_at(page.rec, family, at) {
+        Some(n) => Ok((n, at + commands::form_width(family))),
+        None => Err(Stop::Absent(at)),
     }
-    stop(at)
 }
 
-pub fn absent(rec: &[u8], at: usize) -> Gone
-    ensures { GoneRead rec.now at result }
+// The cursor behind the command of a group.
+pub fn group(page: &Page, at: usize) -> Status
+    ensures { result ≡ group_of (rec_of page) at }
 {
-    if reader::commands::absent_at(rec, at) {
-        return Gone::Past(at + 1);
+    if commands::group_at(page.rec, at) {
+        Ok(at + 1)
+    } else {
+        Err(Stop::Absent(at))
     }
-    Gone::There
 }
 
-// No token stands at the cursor: the field is absent, or something else stands there.
-fn no_token(rec: &[u8], at: usize) -> Given
-    ensures { result ≡ present_of at None (absent_at rec.now at) }
+// Where the field is absent, the cursor behind it.
+pub fn absent(page: &Page, at: usize) -> Option<usize>
+    ensures { result ≡ gone_of (rec_of page) at }
 {
-    let Gone::Past(s) = absent(rec, at) else {
-        return Given::Neither;
-    };
-    Given::Absent(s)
-}
-
-pub fn present(rec: &[u8], spans: &&[u32], at: usize) -> Given
-    ensures { PresentRead (count spans) rec.now at result }
-{
-    let Read::Is(_n, s) = token_no(rec, spans, at) else {
-        return no_token(rec, at);
-    };
-    Given::There(s)
-}
-
-// A declaration's command at an offset. Its first token's number is below the count, or it has none.
-pub fn declared(rec: &[u8], spans: &&[u32], at: usize) -> Declaration
-    ensures { DeclaredAt (count spans) rec.now at result }
-{
-    let found = reader::commands::declaration_at(rec, at);
-    if reader::tree::first_fits(rec, spans.len(), at) {
-        return found;
+    if commands::absent_at(page.rec, at) {
+        Some(at + 1)
+    } else {
+        None
     }
-    Declaration::Not
+}
+
+// Whether the token is there that may be absent, with the cursor behind it.
+pub fn present(page: &Page, at: usize) -> Result<(bool, usize), Stop>
+    ensures { result ≡ present_of (rec_of page) (count_of page) at }
+{
+    if let Some(next) = absent(page, at) {
+        return Ok((false, next));
+    }
+    let (_, next) = token_no(page, at)?;
+    Ok((true, next))
+}
+
+// The command of a declaration. Its first token's number is below the count, or it has none.
+pub fn declared(page: &Page, at: usize) -> Result<Declaration, Stop>
+    ensures { result ≡ declared_of (rec_of page) (count_of page) at }
+{
+    match commands::declaration_at(page.rec, at) {
+        Some(found) if first_fits(page.rec, page.tokens.count(), at) => Ok(found),
+        _ => Err(Stop::Absent(at)),
+    }
 }
 
 // Where the walk goes on after a type at an offset whose answer is dropped: behind the whole of it.
-pub fn onwards(rec: &[u8], spans: &&[u32], nesting: usize, at: usize, r: usize) -> usize
-    ensures { Onwards rec.now (count spans) nesting at r result }
+pub fn onwards(page: &Page, nesting: usize, at: usize, answer: Status) -> Status
+    ensures { result ≡ onwards_of (rec_of page) (count_of page) nesting at answer }
 {
-    if r < STOP {
-        return r;
+    if answer.is_ok() || commands::form_at(page.rec, Family::Ty, at).is_none() {
+        return answer;
     }
-    let Number::Is(_k) = reader::commands::form_at(rec, Family::Ty, at) else {
-        return r;
-    };
-    let end = reader::tree::ty_end_within(rec, spans.len(), nesting, at);
-    match end {
-        Checked::Ok(next) => next,
-        Checked::Malformed(place) => stop(place),
-        Checked::TooDeep(place) => stop(place),
+    match ty_end_within(page.rec, page.tokens.count(), nesting, at) {
+        Ok(next) => Ok(next),
+        Err(why) => Err(Stop::Absent(why.place())),
     }
 }

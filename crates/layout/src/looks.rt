@@ -1,15 +1,17 @@
 // Questions about the form at an offset and about a token's text; what `AppExp` sees of its expressions.
-ghost use Rattle.std.specs.Prelude.{◌≡◌, ℕ, ◌+◌};
-ghost use Rattle.layout.specs.Layout.{is_bang, is_pipe, is_alphabetic, is_alphanumeric, is_if_exp, body_exp_needs_newline};
-ghost use Rattle.layout.specs.Meaning.{on_new_line, head_of, both_seen, heads_from, heads_at};
-ghost use Rattle.layout.specs.Promises.Lent.{starts, lens, count};
-ghost use Rattle.layout.specs.Promises.State.{TestedText, FormRead, Looked, seen_in, heads_in, heads_behind, AskedFirst};
+#![tactic(auto, unfolding(crate::specs::Promises::Looks::head, crate::specs::Promises::Looks::seen_of, crate::specs::Promises::Looks::heads_of, crate::specs::Promises::Looks::heads_from, crate::specs::Promises::Looks::heads_behind, crate::specs::Promises::Looks::asked_first, crate::specs::Promises::Looks::named, crate::specs::Promises::State::read_of, crate::specs::Meaning::passes, crate::specs::Meaning::token_text, crate::specs::Meaning::is_command, crate::specs::Meaning::on_new_line, crate::specs::Meaning::needs_newline, crate::specs::Meaning::sees, crate::specs::Meaning::both_seen, crate::specs::Meaning::head_of, crate::specs::Meaning::heads_from, crate::specs::Meaning::heads_at, reader::specs::Forms::exp_number, reader::specs::Fields::first_form, text::specs::Bytes::bytes, reader::specs::Commands::form_width, reader::specs::Promises::Tree::told))]
 
-use crate::fields::{Read, form, stop};
+ghost use Rattle.std.specs.Prelude.{◌≡◌};
+ghost use Rattle.layout.specs.Layout.{is_bang, is_pipe, is_alphabetic, is_alphanumeric, is_if_exp, body_exp_needs_newline};
+ghost use Rattle.layout.specs.Promises.Lent.{page_of, rec_of, count_of};
+ghost use Rattle.layout.specs.Meaning.{on_new_line, passes, sees};
+ghost use Rattle.layout.specs.Promises.Looks.{head_of, heads_from, heads_behind, heads_at, asked_first};
+
+use crate::fields::form;
 use crate::names::{Name, op_path_name};
-use crate::token_text;
-use reader::commands::{Family, Number, form_at};
-use reader::tree::{Checked, exp_end};
+use crate::{Page, Stop};
+use reader::commands::Family;
+use reader::tree::exp_end;
 use text::at::byte_at;
 use text::{same, starts_alphanumeric, starts_with_letter};
 
@@ -32,171 +34,115 @@ const WHILE_EXP: u8 = 0x56;
 const CASE_EXP: u8 = 0x57;
 
 // ---- a token's text
-pub fn is_bang(text: &[u8], spans: &&[u32], k: usize) -> bool
-    ensures { TestedText text.now (starts spans) (lens spans) is_bang k result }
+pub fn is_bang(page: &Page, k: usize) -> bool
+    ensures { result ≡ passes (page_of page) is_bang k }
 {
-    same(token_text(text, spans, k), b"!")
+    same(page.tokens.text_of(page.text, k), b"!")
 }
 
-pub fn is_pipe(text: &[u8], spans: &&[u32], k: usize) -> bool
-    ensures { TestedText text.now (starts spans) (lens spans) is_pipe k result }
+pub fn is_pipe(page: &Page, k: usize) -> bool
+    ensures { result ≡ passes (page_of page) is_pipe k }
 {
-    same(token_text(text, spans, k), b"|>")
+    same(page.tokens.text_of(page.text, k), b"|>")
 }
 
-pub fn alphabetic(text: &[u8], spans: &&[u32], k: usize) -> bool
-    ensures { TestedText text.now (starts spans) (lens spans) is_alphabetic k result }
+pub fn alphabetic(page: &Page, k: usize) -> bool
+    ensures { result ≡ passes (page_of page) is_alphabetic k }
 {
-    starts_with_letter(token_text(text, spans, k))
+    starts_with_letter(page.tokens.text_of(page.text, k))
 }
 
-pub fn alphanumeric(text: &[u8], spans: &&[u32], k: usize) -> bool
-    ensures { TestedText text.now (starts spans) (lens spans) is_alphanumeric k result }
+pub fn alphanumeric(page: &Page, k: usize) -> bool
+    ensures { result ≡ passes (page_of page) is_alphanumeric k }
 {
-    starts_alphanumeric(token_text(text, spans, k))
+    starts_alphanumeric(page.tokens.text_of(page.text, k))
 }
 
 // ---- the form at an offset
-// The expression at the cursor, which is asked about before it is walked into.
-pub fn expression(rec: &[u8], at: usize) -> Read
-    ensures { FormRead Family.Exp rec.now at result }
+pub fn is_if_exp(page: &Page, at: usize) -> bool
+    ensures { result ≡ sees (page_of page) is_if_exp at }
 {
-    form(rec, at, Family::Exp)
-}
-
-pub fn is_if_exp(rec: &[u8], at: usize) -> bool
-    ensures { Looked rec.now is_if_exp at result }
-{
-    byte_at(rec, at) == IF_EXP
+    byte_at(page.rec, at) == IF_EXP
 }
 
 // The expressions whose body stands on a new line.
-fn on_new_line(b: u8) -> bool
-    ensures { result ≡ on_new_line b }
+fn on_new_line(command: u8) -> bool
+    ensures { result ≡ on_new_line command }
 {
-    if b == SEQ_EXP {
-        return true;
-    }
-    if b == LET_EXP {
-        return true;
-    }
-    if b == HANDLE_EXP {
-        return true;
-    }
-    if b == IF_EXP {
-        return true;
-    }
-    if b == WHILE_EXP {
-        return true;
-    }
-    b == CASE_EXP
+    matches!(
+        command,
+        SEQ_EXP | LET_EXP | HANDLE_EXP | IF_EXP | WHILE_EXP | CASE_EXP
+    )
 }
 
 // `body_exp_needs_newline`, which looks through `ParenExp`.
-pub fn body_exp_needs_newline(rec: &[u8], at: usize) -> bool
-    ensures { Looked rec.now body_exp_needs_newline at result }
+pub fn body_exp_needs_newline(page: &Page, at: usize) -> bool
+    ensures { result ≡ sees (page_of page) body_exp_needs_newline at }
 {
-    let mut i = at;
-    while i < rec.len() {
-        let b = rec[i];
-        if b != PAREN_EXP {
-            return on_new_line(b);
+    for i in at..page.rec.len() {
+        let command = page.rec[i];
+        if command != PAREN_EXP {
+            return on_new_line(command);
         }
-        i += 1;
     }
     false
 }
 
 // ---- what `AppExp` sees of its expressions
-// The first name of a `PathExp` and the number of its names, or any other form.
-#[derive(Clone, Copy)]
-pub enum Head {
-    PathExp(usize, usize),
-    OtherExp,
-}
-
-// What is seen of one expression, or the offset of the first part that is not there.
-#[derive(Clone, Copy)]
-pub enum Seen {
-    Is(Head),
-    Missing(usize),
-}
-
-// What is seen of both.
-#[derive(Clone, Copy)]
-pub enum BothSeen {
-    Are(Head, Head),
-    Missing(usize),
-}
-
-// The expression of a form's number, whose fields stand at the offset.
-fn head_of(rec: &[u8], number: usize, fields: usize) -> Seen
-    ensures { seen_in result ≡ head_of rec.now number fields }
+// What is seen of the expression of a form's number, whose fields stand at the offset: the name of a `PathExp`.
+fn head_of(page: &Page, number: usize, fields: usize) -> Result<Option<Name>, Stop>
+    ensures { result ≡ head_of (rec_of page) number fields }
 {
     if number != PATH_EXP {
-        return Seen::Is(Head::OtherExp);
+        return Ok(None);
     }
-    let name = op_path_name(rec, fields);
-    match name {
-        Name::Is(k, n) => Seen::Is(Head::PathExp(k, n)),
-        Name::Not(place) => Seen::Missing(place),
-    }
+    Ok(Some(op_path_name(page, fields)?))
 }
 
-// Of two expressions, the first one's parts come first.
-fn both_seen(func: Seen, arg: Seen) -> BothSeen
-    ensures { heads_in result ≡ both_seen (seen_in func) (seen_in arg) }
+// What is seen of both; the second expression stands at `arg`. It is there before names are looked for.
+fn heads_from(
+    page: &Page,
+    number: usize,
+    fields: usize,
+    arg: usize,
+) -> Result<(Option<Name>, Option<Name>), Stop>
+    ensures { result ≡ heads_from (rec_of page) number fields arg }
 {
-    match func {
-        Seen::Missing(place) => BothSeen::Missing(place),
-        Seen::Is(f) => match arg {
-            Seen::Missing(place) => BothSeen::Missing(place),
-            Seen::Is(a) => BothSeen::Are(f, a),
-        },
-    }
-}
-
-// The second expression stands at `arg`. It is there before names are looked for.
-fn heads_from(rec: &[u8], number: usize, fields: usize, arg: usize) -> BothSeen
-    ensures { (func : ℕ) → fields ≡ func + 1 → heads_in result ≡ heads_from rec.now number func arg }
-{
-    let Number::Is(other) = form_at(rec, Family::Exp, arg) else {
-        return BothSeen::Missing(arg);
-    };
-    let f = head_of(rec, number, fields);
-    let a = head_of(rec, other, arg + 1);
-    both_seen(f, a)
+    let (other, behind) = form(page, arg, Family::Exp)?;
+    let func = head_of(page, number, fields)?;
+    let arg = head_of(page, other, behind)?;
+    Ok((func, arg))
 }
 
 // What `AppExp` sees of `func`, at the offset, and of `arg`, where `func` ends.
-pub fn heads_behind(rec: &[u8], func: usize, arg: usize) -> BothSeen
-    ensures { heads_in result ≡ heads_behind rec.now func arg }
+pub fn heads_behind(
+    page: &Page,
+    func: usize,
+    arg: usize,
+) -> Result<(Option<Name>, Option<Name>), Stop>
+    ensures { result ≡ heads_behind (rec_of page) func arg }
 {
-    let Number::Is(number) = form_at(rec, Family::Exp, func) else {
-        return BothSeen::Missing(func);
-    };
-    heads_from(rec, number, func + 1, arg)
+    let (number, fields) = form(page, func, Family::Exp)?;
+    heads_from(page, number, fields, arg)
 }
 
 // The same where `func` was not walked to its end: the end is looked for.
-fn heads(rec: &[u8], count: usize, func: usize) -> BothSeen
-    ensures { heads_in result ≡ heads_at rec.now count func }
+fn heads(page: &Page, func: usize) -> Result<(Option<Name>, Option<Name>), Stop>
+    ensures { result ≡ heads_at (rec_of page) (count_of page) func }
 {
-    let end = exp_end(rec, count, func);
-    match end {
-        Checked::Ok(arg) => heads_behind(rec, func, arg),
-        Checked::Malformed(place) => BothSeen::Missing(place),
-        Checked::TooDeep(place) => BothSeen::Missing(place),
+    let (number, fields) = form(page, func, Family::Exp)?;
+    match exp_end(page.rec, page.tokens.count(), func) {
+        Ok(arg) => heads_from(page, number, fields, arg),
+        Err(why) => Err(Stop::Absent(why.place())),
     }
 }
 
-// Where `AppExp` stops whose `func` stopped with this number: 000 asks for both expressions and their names before it walks.
-pub fn asked_first(rec: &[u8], spans: &&[u32], func: usize, stopped: usize) -> usize
-    ensures { AskedFirst rec.now (count spans) func stopped result }
+// Where `AppExp` stops whose `func` stopped: 000 asks for both expressions and their names before it walks.
+pub fn asked_first(page: &Page, func: usize, stopped: Stop) -> Stop
+    ensures { result ≡ asked_first (rec_of page) (count_of page) func stopped }
 {
-    let seen = heads(rec, spans.len(), func);
-    match seen {
-        BothSeen::Are(_f, _a) => stopped,
-        BothSeen::Missing(place) => stop(place),
+    match heads(page, func) {
+        Ok(_) => stopped,
+        Err(why) => why,
     }
 }

@@ -1,61 +1,57 @@
 // The first name of a path, looked at from the path's offset.
+#![tactic(auto, unfolding(crate::specs::Promises::Looks::named, crate::specs::Promises::State::read_of, crate::specs::Promises::State::group_of, crate::specs::Promises::State::gone_of, crate::specs::Meaning::dot_name, crate::specs::Meaning::list_name, crate::specs::Meaning::path_name, crate::specs::Meaning::op_path_name, reader::specs::Commands::token_at, reader::specs::Commands::command))]
+
 ghost use Rattle.std.specs.Prelude.{◌≡◌};
-ghost use Rattle.layout.specs.Meaning.{dot_name, list_name, path_name, op_path_name};
-ghost use Rattle.layout.specs.Promises.State.{name_in};
+ghost use Rattle.layout.specs.Promises.Lent.{rec_of};
+ghost use Rattle.layout.specs.Promises.Looks.{name_of, dot_name_of, list_name_of, op_name_of};
 
-use reader::commands::{Number, absent_at, group_at, list_at, token_at};
+use crate::fields::{absent, group, list};
+use crate::{Page, Stop};
+use reader::commands::token_at;
 
-// The first name's token and the number of names; or the offset of the part that is not there.
-#[derive(Clone, Copy)]
-pub enum Name {
-    Is(usize, usize),
-    Not(usize),
+// The first name's token, and how many names a path has.
+#[derive(Clone, Copy, Debug, PartialEq, Eq)]
+pub struct Name {
+    pub token: usize,
+    pub names: usize,
 }
 
-// The name in the first of n groups.
-fn dot_name(rec: &[u8], n: usize, at: usize) -> Name
-    ensures { name_in result ≡ dot_name rec.now n at }
+// The name in the first of so many groups.
+fn dot_name(page: &Page, names: usize, at: usize) -> Result<Name, Stop>
+    ensures { result ≡ dot_name_of (rec_of page) names at }
 {
-    if group_at(rec, at) {
-        let Number::Is(k) = token_at(rec, at + 1) else {
-            return Name::Not(at + 1);
-        };
-        return Name::Is(k, n);
+    let next = group(page, at)?;
+    match token_at(page.rec, next) {
+        Some(token) => Ok(Name { token, names }),
+        None => Err(Stop::Absent(next)),
     }
-    Name::Not(at)
 }
 
 // A path without names counts as absent at its list.
-fn list_name(rec: &[u8], at: usize) -> Name
-    ensures { name_in result ≡ list_name rec.now at }
+fn list_name(page: &Page, at: usize) -> Result<Name, Stop>
+    ensures { result ≡ list_name_of (rec_of page) at }
 {
-    let Number::Is(n) = list_at(rec, at) else {
-        return Name::Not(at);
-    };
-    if n == 0 {
-        return Name::Not(at);
+    let (names, next) = list(page, at)?;
+    if names == 0 {
+        return Err(Stop::Absent(at));
     }
-    dot_name(rec, n, at + 3)
+    dot_name(page, names, next)
 }
 
-pub fn path_name(rec: &[u8], at: usize) -> Name
-    ensures { name_in result ≡ path_name rec.now at }
+pub fn path_name(page: &Page, at: usize) -> Result<Name, Stop>
+    ensures { result ≡ name_of (rec_of page) at }
 {
-    if group_at(rec, at) {
-        return list_name(rec, at + 1);
-    }
-    Name::Not(at)
+    let next = group(page, at)?;
+    list_name(page, next)
 }
 
 // The name of the `PathExp` whose fields stand at the offset: `op_kw`, which plays no part, and the path.
-pub fn op_path_name(rec: &[u8], at: usize) -> Name
-    ensures { name_in result ≡ op_path_name rec.now at }
+pub fn op_path_name(page: &Page, at: usize) -> Result<Name, Stop>
+    ensures { result ≡ op_name_of (rec_of page) at }
 {
-    let Number::Is(_k) = token_at(rec, at) else {
-        if absent_at(rec, at) {
-            return path_name(rec, at + 1);
-        }
-        return Name::Not(at);
+    let path = match token_at(page.rec, at) {
+        Some(_) => at + 3,
+        None => absent(page, at).ok_or(Stop::Absent(at))?,
     };
-    path_name(rec, at + 3)
+    path_name(page, path)
 }

@@ -17,13 +17,12 @@ use Rattle.reader.specs.Tokens.{Tokens}
 use Rattle.reader.specs.Reading.{refused, sheet, read}
 use Rattle.reader.proofs.CommandLaws.{and_left, and_right, list-fits}
 use Rattle.layout.specs.Layout.{Layout, list}
-use Rattle.layout.specs.Meaning.{Page, Event, Outcome, done, stopped, Stop, outcome, or_stop}
+use Rattle.layout.specs.Meaning.{Page, Event, Outcome, done, stopped, outcome, or_stop}
 use Rattle.layout.specs.Events.{sum_of, deepest, units, letters}
 use Rattle.layout.specs.Helpers.{Cfg, sep_with_lines}
 use Rattle.layout.specs.GetDec.{get_dec}
 use Rattle.layout.specs.DecOne.{comment_line}
 use Rattle.layout.specs.Walk.{walks, top, walk}
-use Rattle.layout.proofs.Exact.{cap}
 use Rattle.measures.specs.Small.{events_of, Small}
 use Rattle.measures.proofs.Credit.{size, Within}
 use Rattle.measures.proofs.Paying.{Paid, Short, eased, halts, fixed, ◌then◌, families, declarations}
@@ -111,17 +110,9 @@ small p tree t l = go (leb tree (length p.rec)) refl
         ((top-paid {p = p} (record { text = t })).is tree (leb-true tree (length p.rec) e))
     go false e = past-small p tree (leb-false tree (length p.rec) e) (get_dec (walks 200) top) _ refl
 
--- The two outcomes.
-module _ (p : Page) (tree : ℕ) (t : length p.text ≤ 32768) (l : length p.rec ≤ 65536) {es : List Event} where
-  pub small-done : {end : ℕ} → walk p tree ≡ done end es → Small p es
-  small-done e = subst (λ (o : Outcome). Small p (events_of o)) e (small p tree t l)
-
-  pub small-stopped : {why : Stop} → walk p tree ≡ stopped why es → Small p es
-  small-stopped e = subst (λ (o : Outcome). Small p (events_of o)) e (small p tree t l)
-
--- No measure meets the cap.
-pub below_cap : {p : Page} {es : List Event} → Small p es → (letters p es < cap) × (units es < cap)
-below_cap s = (omega (arith, s.both), omega (arith, s.both))
+-- The walk that ends.
+pub small-done : (p : Page) (tree : ℕ) → length p.text ≤ 32768 → length p.rec ≤ 65536 → {es : List Event} {end : ℕ} → walk p tree ≡ done end es → Small p es
+small-done p tree t l e = subst (λ (o : Outcome). Small p (events_of o)) e (small p tree t l)
 
 -- ---- a sheet that passes 1 to 4
 pub sheet_lengths : (text rec : List ℕ) (tokens : Tokens) (tree : ℕ) → read text rec ≡ sheet tokens tree → (length text ≤ 32768) × (length rec ≤ 65536)
@@ -131,9 +122,3 @@ sheet_lengths text rec tokens tree e = go (leb (length text) 32768 && leb (lengt
     go : (b : Bool) → (leb (length text) 32768 && leb (length rec) 65536) ≡ b → (length text ≤ 32768) × (length rec ≤ 65536)
     go true t = (leb-true _ _ (and_left _ (leb (length rec) 65536) t), leb-true _ _ (and_right (leb (length text) 32768) _ t))
     go false t = let d : refused 1 0 ≡ sheet tokens tree = rw (t, read) at e in never (cc)
-
-pub sheet_small : (text rec : List ℕ) (tokens : Tokens) (tree : ℕ) → read text rec ≡ sheet tokens tree
-    → Small (record { text = text; rec = rec; tokens = tokens }) (events_of (walk (record { text = text; rec = rec; tokens = tokens }) tree))
-sheet_small text rec tokens tree e =
-    let h = sheet_lengths text rec tokens tree e in
-    small (record { text = text; rec = rec; tokens = tokens }) tree h.0 h.1

@@ -1,7 +1,7 @@
 -- Laws of the program's input: its head, its answer, a length that suffices. Assumes nothing.
 use Prim.Native.Nat.{ℕ, ◌+◌, ◌*◌, ◌-◌, ◌≤◌, ◌<◌}
 use native.Mathlib.Omega.{arith}
-use mathlib.Core.Path.{◌≡◌, refl, sym, ap, ◌∙◌}
+use mathlib.Core.Path.{◌≡◌, refl, sym, ap, ◌∙◌, subst}
 use mathlib.Core.Bool.{Bool, true, false, ◌&&◌}
 use mathlib.Core.List.{List, [], ◌++◌, append-nil}
 use lib.ListN.{length, take, drop, replicate, length-drop, length-replicate}
@@ -10,12 +10,13 @@ use lib.Dec.{leb, eqb}
 use borrow.Author.Tests.{le-leb, lt-leb, leb-true, leb-false, eqb-true, ne_eqb}
 use Rattle.reader.specs.Reading.{read, refused, max_text, max_record}
 use Rattle.layout.specs.Events.{letters, units, formatted}
-use Rattle.formatter.specs.declared.Answer.{Answer}
+use Rattle.std.specs.Prelude.{Ok, Err}
+use Rattle.formatter.specs.declared.Measures.{Measures}
 use Rattle.formatter.specs.Verdict.{Result, verdict, no_measures, measures_of, declined, judge, get, verdict_of}
-use Rattle.formatter.proofs.EventLaws.{length-formatted}
+use Rattle.layout.proofs.Exact.{length_formatted}
 use Rattle.formatter.proofs.VerdictLaws.{get-declined, get-accepted, format-fits, get-accepts}
 use Rattle.program.specs.Program.{line, text_of, line_of, printed, room, head_length, tab_size, text_length, format_input, program}
-use Rattle.program.specs.Promises.Printing.{said_with, shown, TextWithin}
+use Rattle.program.specs.Promises.Printing.{Answer, said_with, shown, TextWithin}
 
 -- ---- the head
 -- A part that ends where the whole does.
@@ -66,7 +67,7 @@ module _ (text rec : List ℕ) (tab : ℕ) where
       let f = (get-accepts text rec tab (replicate room 0)).0 z in
       let g = get-accepted text rec f.accepts tab (replicate room 0) ∙ format-fits tab f.page f.events (replicate room 0) f.width f.room in
       ap (λ (r : Result). take (r.verdict.measures.letters + tab * r.verdict.measures.units) r.out) g
-      ∙ take_at (formatted f.page tab f.events) _ (letters f.page f.events + tab * units f.events) (length-formatted f.page tab f.events)
+      ∙ take_at (formatted f.page tab f.events) _ (letters f.page f.events + tab * units f.events) (length_formatted f.page tab f.events)
       ∙ sym (ap (text_of tab) f.accepts)
 
   shown-is : shown tab given ≡ printed tab text rec
@@ -85,18 +86,21 @@ module _ (text rec : List ℕ) (tab : ℕ) where
   unfolding printed
   refusal-prints ne = rw (printed, ne_eqb given.verdict.number 0 ne) (append-nil (line_of tab text rec))
 
--- An answer and an output that say what `get` says of the text and the record.
-module _ (text rec : List ℕ) (tab : ℕ) (a : Answer) (words page : List ℕ)
-    (is : ◌≡◌ {A = Result} (record { verdict = verdict_of a words; out = page }) (get text rec tab (replicate room 0))) where
-  pub answer-prints : {input : List ℕ} {n : ℕ} → Split input tab n text rec → shown tab (said_with a page) ≡ program input
-  unfolding shown line verdict_of
-  answer-prints {input} s =
-      ap (shown tab) is ∙ shown-is text rec tab ∙ split_prints s ∙ sym (whole-prints input (omega (arith, s.size, s.whole)))
+-- The set is not printed.
+shown_without : (tab : ℕ) (a : Answer) (words page : List ℕ) → shown tab (said_with a page) ≡ shown tab (record { verdict = verdict_of a words; out = page })
+unfolding shown line
+shown_without tab (Ok m) words page = refl
+shown_without tab (Err why) words page = refl
 
-  pub answer-within : length page ≡ room → TextWithin tab a page
-  unfolding verdict_of measures_of
-  answer-within l z =
-      let f = (get-accepts text rec tab (replicate room 0)).0 (ap (λ r. r.verdict.number) (sym is) ∙ z) in
+-- An answer and an output that say what `get` says of the text and the record.
+module _ (text rec : List ℕ) (tab : ℕ) where
+  abbrev Says : Answer → List ℕ → List ℕ → Type 0
+  Says a words page = ◌≡◌ {A = Result} (record { verdict = verdict_of a words; out = page }) (get text rec tab (replicate room 0))
+
+  within : (m : Measures) (words page : List ℕ) → Says (Ok m) words page → length page ≡ room → m.letters + tab * m.units ≤ length page
+  unfolding measures_of
+  within m words page is l =
+      let f = (get-accepts text rec tab (replicate room 0)).0 (ap (λ r. r.verdict.number) (sym is)) in
       let e = is ∙ get-accepted text rec f.accepts tab (replicate room 0) ∙ format-fits tab f.page f.events (replicate room 0) f.width f.room in
       omega (
         arith,
@@ -105,6 +109,18 @@ module _ (text rec : List ℕ) (tab : ℕ) (a : Answer) (words page : List ℕ)
         ap (λ r. tab * r.verdict.measures.units) e,
         length-replicate {A = ℕ} room 0,
       )
+
+  module _ (a : Answer) (words page : List ℕ) (is : Says a words page) where
+    pub answer-prints : {input : List ℕ} {n : ℕ} → Split input tab n text rec → shown tab (said_with a page) ≡ program input
+    answer-prints {input} s =
+        shown_without tab a words page
+        ∙ ap (shown tab) is
+        ∙ shown-is text rec tab
+        ∙ split_prints s
+        ∙ sym (whole-prints input (omega (arith, s.size, s.whole)))
+
+    pub answer-within : length page ≡ room → TextWithin tab a page
+    answer-within l m h = within m words page (subst (λ x. Says x words page) h is) l
 
 -- ---- a length that suffices
 

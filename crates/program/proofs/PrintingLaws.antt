@@ -9,15 +9,17 @@ use lib.Seq.{append_snoc, take_at, drop_at, drop-drop, length-take-le}
 use lib.Dec.{eqb}
 use borrow.Author.Tests.{lt-ltb, le-ltb}
 use Rattle.formatter.specs.declared.Measures.{Measures}
-use Rattle.formatter.specs.declared.Answer.{Answer}
-use Rattle.formatter.specs.declared.Answer.TheVariants.{Accepted, TooLong, NotUtf8, Malformed, TooDeep, Missing, Import, CommentsLeft, IndentTooWide, OutputTooShort}
-use Rattle.formatter.specs.Verdict.{Verdict, number_of, given_measures, verdict_of}
-use Rattle.formatter.specs.Promises.Numbers.{said}
+use Rattle.std.specs.Prelude.{Ok, Err}
+use Rattle.reader.specs.declared.Refusal.TheVariants.{TooLong, NotUtf8, Malformed, TooDeep}
+use Rattle.layout.specs.declared.Stop.TheVariants.{Absent, Import}
+use Rattle.formatter.specs.declared.FormatError.{FormatError}
+use Rattle.formatter.specs.declared.FormatError.TheVariants.{Refused, Stopped, CommentsLeft, IndentTooWide, OutputTooShort}
+use Rattle.formatter.specs.Verdict.{Verdict, number_of}
 use Rattle.std.specs.Fmt as Fmt
 use Rattle.std.proofs.lemmas.Fmt.{decimal_from_appends, length-decimal-le_succ}
 use Rattle.program.specs.Program.{digits, decimal, line}
 use Rattle.program.specs.Printing.{Prints}
-use Rattle.program.specs.Promises.Printing.{said_with, shown, TextWithin, Puts}
+use Rattle.program.specs.Promises.Printing.{Answer, said, said_with, shown, Puts}
 
 -- ---- digits
 
@@ -74,37 +76,26 @@ line-parts v = rw (behind, behind, behind, behind)
 
 -- ---- the line and the text
 
--- An answer that does not accept.
-abbrev pub Declines : Answer → Type 0
-Declines a = (m : Measures) → a ≡ Accepted m → ⊥
+-- An error's number is not 0.
+error_number : (why : FormatError) → eqb (number_of why) 0 ≡ false
+error_number (Refused TooLong) = refl
+error_number (Refused (NotUtf8 at)) = refl
+error_number (Refused (Malformed at)) = refl
+error_number (Refused (TooDeep at)) = refl
+error_number (Stopped (Absent at)) = refl
+error_number (Stopped (Import at)) = refl
+error_number (CommentsLeft at) = refl
+error_number (IndentTooWide m) = refl
+error_number (OutputTooShort m) = refl
 
-declines_number : (a : Answer) → Declines a → eqb (number_of a) 0 ≡ false
-unfolding number_of
-declines_number (Accepted m) d = absurd (d m refl)
-declines_number TooLong d = refl
-declines_number (NotUtf8 at) d = refl
-declines_number (Malformed at) d = refl
-declines_number (TooDeep at) d = refl
-declines_number (Missing at) d = refl
-declines_number (Import at) d = refl
-declines_number (CommentsLeft at) d = refl
-declines_number (IndentTooWide m) d = refl
-declines_number (OutputTooShort m) d = refl
+module _ (tab : ℕ) {a : Answer} (page : List ℕ) where
+  pub shown-declined : {why : FormatError} → a ≡ Err why → shown tab (said_with a page) ≡ line (said a)
+  unfolding shown
+  shown-declined {why} e = rw e (rw (shown, error_number why) (append-nil (line (said (Err why)))))
 
-module _ (tab : ℕ) (a : Answer) (page : List ℕ) where
-  pub shown-declined : Declines a → shown tab (said_with a page) ≡ line (said a)
-  unfolding shown verdict_of
-  shown-declined d = rw (shown, declines_number a d) (append-nil (line (said a)))
-
-  module _ {m : Measures} (e : a ≡ Accepted m) where
-    pub shown-accepted : shown tab (said_with a page) ≡ line (said a) ++ take (m.letters + tab * m.units) page
-    unfolding shown verdict_of number_of given_measures
-    shown-accepted =
-        ap (λ (x : Answer). shown tab (said_with x page)) e ∙ ap (λ (x : Answer). line (said x) ++ take (m.letters + tab * m.units) page) (sym e)
-
-    pub text-within : TextWithin tab a page → m.letters + tab * m.units ≤ length page
-    unfolding number_of given_measures
-    text-within h = (rw e at h) refl
+  pub shown-accepted : {m : Measures} → a ≡ Ok m → shown tab (said_with a page) ≡ line (said a) ++ take (m.letters + tab * m.units) page
+  unfolding shown
+  shown-accepted {m} e = ap (λ x. shown tab (said_with x page)) e ∙ ap (λ x. line (said x) ++ take (m.letters + tab * m.units) page) (sym e)
 
 -- What is written from the start on is printed.
 pub puts_prints : {out new out' : List ℕ} {r : ℕ} → Puts out 0 new out' r → Prints new out out' r

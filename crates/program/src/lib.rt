@@ -2,14 +2,15 @@
 #![tactic(auto)]
 
 ghost use Rattle.std.specs.Prelude.{◌≡◌, [], ◌∷◌, ◌++◌, ◌+◌, ◌≤◌, length};
-ghost use Rattle.formatter.specs.Promises.Numbers.{said, numbered};
+ghost use Rattle.formatter.specs.Verdict.{verdict};
 ghost use Rattle.program.specs.Program.{decimal, tab_size, text_length, program};
 ghost use Rattle.program.specs.Printing.{Prints};
-ghost use Rattle.program.specs.Promises.Printing.{max_line, said_with, shown, TextWithin, Puts, PutsLine};
+ghost use Rattle.program.specs.Promises.Printing.{max_line, said, said_with, shown, TextWithin, Puts, PutsLine};
 
-use formatter::Answer;
-use formatter::numbers::{Numbers, numbers_of};
+use comments::Set;
+use formatter::{FormatError, Measures};
 use itoa::Buffer;
+use reader::Refusal;
 use text::at::byte_at;
 
 // ---- the line
@@ -34,38 +35,40 @@ fn put_number(out: &mut [u8], at: usize, n: u64, end: u8) -> usize
     put(out, next, &[end])
 }
 
-// Writes number, place, deepest, letters and units of a verdict.
-fn put_numbers(out: &mut [u8], v: Numbers) -> usize
+// Writes number, place, deepest, letters and units.
+fn put_numbers(out: &mut [u8], number: u64, place: usize, measures: Measures) -> usize
     requires { max_line ≤ length out.old }
-    ensures { PutsLine out.old (numbered v) out.new result }
+    ensures { PutsLine out.old (verdict number place measures) out.new result }
 {
-    let m = v.measures;
-    let a = put_number(out, 0, v.number, b' ');
-    let b = put_number(out, a, v.place as u64, b' ');
-    let c = put_number(out, b, m.deepest, b' ');
-    let d = put_number(out, c, m.letters, b' ');
-    put_number(out, d, m.units, b'\n')
+    let a = put_number(out, 0, number, b' ');
+    let b = put_number(out, a, place as u64, b' ');
+    let c = put_number(out, b, measures.deepest, b' ');
+    let d = put_number(out, c, measures.letters, b' ');
+    put_number(out, d, measures.units, b'\n')
 }
 
 // Writes the line of an answer.
-fn put_line(out: &mut [u8], answer: Answer) -> usize
+fn put_line(out: &mut [u8], answer: Result<Measures, FormatError>) -> usize
     requires { max_line ≤ length out.old }
     ensures { PutsLine out.old (said answer) out.new result }
 {
-    put_numbers(out, numbers_of(answer))
+    match answer {
+        Ok(measures) => put_numbers(out, 0, 0, measures),
+        Err(why) => put_numbers(out, why.number(), why.place(), why.measures()),
+    }
 }
 
 // Writes the line, then the text if accepted.
-fn print(out: &mut [u8], answer: Answer, tab: u32, page: &[u8]) -> usize
+fn print(out: &mut [u8], answer: Result<Measures, FormatError>, tab: u32, page: &[u8]) -> usize
     requires text_within { TextWithin tab answer page.now }
     requires page_in_bounds { max_line + length page.now ≤ length out.old }
     ensures { Puts out.old 0 (shown tab (said_with answer page.now)) out.new result }
 {
     let n = put_line(out, answer);
-    let Answer::Accepted(m) = answer else {
+    let Ok(measures) = answer else {
         return n;
     };
-    let len = (m.letters + tab as u64 * m.units) as usize;
+    let len = (measures.letters + u64::from(tab) * measures.units) as usize;
     put(out, n, &page[..len])
 }
 
@@ -95,11 +98,11 @@ pub fn process(input: &[u8], out: &mut [u8; 65641]) -> usize
 {
     let n = text_length(input) as usize;
     if input.len() < 6 + n {
-        return put_line(out, Answer::TooLong);
+        return put_line(out, Err(FormatError::Refused(Refusal::TooLong)));
     }
     let tab = tab_size(input);
     let mut page = [0u8; 65536];
-    let mut left = [0u64; 64];
+    let mut left = Set::new();
     let (text, rec) = input[6..].split_at(n);
     let answer = formatter::get(text, rec, tab, &mut page, &mut left);
     print(out, answer, tab, &page)

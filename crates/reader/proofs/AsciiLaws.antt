@@ -22,9 +22,9 @@ unfolding is_inside is_in
 outside [] h = refl
 outside (b ∷ t) h = rw (lt-leb 0x80 b (h 0 (omega arith)))
 
-pub ascii-boundary : (t : List ℕ) (i : ℕ) → Ascii t → boundary t i ≡ true
+pub ascii_boundary : (t : List ℕ) (i : ℕ) → Ascii t → boundary t i ≡ true
 unfolding boundary
-ascii-boundary t i h = ap not (outside (drop i t) (ascii_drop i t h))
+ascii_boundary t i h = ap not (outside (drop i t) (ascii_drop i t h))
 
 -- The tokens, where no offset is inside a character.
 module _ (boundary : ℕ → Bool) (free : (i : ℕ) → boundary i ≡ true) (size : ℕ) (rec : List ℕ) where
@@ -55,4 +55,4 @@ pub read-ascii : (text rec : List ℕ) → Ascii text → read text rec ≡ read
 unfolding read read_text read_ascii
 read-ascii text rec h =
     ap (λ (r : Read). elim (leb (length text) max_text && leb (length rec) max_record) as (λ z. Read) [ true ↦ r | false ↦ refused 1 0 ])
-    (rw (ascii_whole text h, none_wide 0 text h, read_text) (free-record (boundary text) (λ i. ascii-boundary text i h) (length text) rec))
+    (rw (ascii_whole text h, none_wide 0 text h, read_text) (free-record (boundary text) (λ i. ascii_boundary text i h) (length text) rec))

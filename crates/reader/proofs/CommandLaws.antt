@@ -1,26 +1,21 @@
 -- Laws of the commands: what a command that stands at an offset says of the record.
 use Prim.Native.Nat.{ℕ, ◌+◌, ◌-◌, ◌≤◌, ◌<◌}
-use mathlib.Core.Path.{◌≡◌, refl, sym, ◌∙◌, ap}
+use mathlib.Core.Path.{◌≡◌, refl, ap}
 use mathlib.Core.List.{List}
 use mathlib.Core.Bool.{Bool, true, false, ◌&&◌}
 use Rattle.std.specs.Prelude.{Option, None, Some}
 use native.Mathlib.Omega.{arith}
 use lib.ListN.{length, get_or}
 use lib.Dec.{leb, ltb, eqb}
-use borrow.Author.Tests.{le-leb, lt-leb, leb-true, leb-false, ltb-true, lt-ltb, le-ltb, eq-eqb, ne_eqb, eqb-true, eqb-false}
+use borrow.Author.Tests.{leb-true, ltb-true, ne_eqb, eqb-true}
 use Rattle.text.proofs.Laws.{never}
 use Rattle.text.proofs.AtLaws.{u16-past}
-use Rattle.reader.specs.declared.commands.Family.{Family}
-use Rattle.reader.specs.declared.commands.Family.TheVariants as Code
 use Rattle.reader.specs.declared.commands.Facts.{Facts}
-use Rattle.reader.specs.declared.commands.Declaration.TheVariants as Whole
-use Rattle.reader.specs.declared.commands.Number.{Number}
-use Rattle.reader.specs.declared.commands.Number.TheVariants.{Is, Not}
 use Rattle.reader.specs.Fields as Fields
 use Rattle.reader.specs.Fields.{forms, first_form}
 use Rattle.reader.specs.Promises.Grammar.{first_row}
-use Rattle.reader.specs.Commands.{u16, command, absent_at, token_at, list_at, group_at, choice_at, form_at, first_token, no_token, form_width, declaration_at}
-use Rattle.reader.specs.Promises.Commands.{operand_at, family_of, facts_of, number_in, CommandAt, NumberAt, FormAt, declaration_in, DeclarationAt}
+use Rattle.reader.specs.Commands.{u16, command, absent_at, token_at, list_at, group_at, choice_at, form_at, first_token, form_width}
+use Rattle.reader.specs.Promises.Commands.{facts_of}
 
 pub and_left : (a b : Bool) → (a && b) ≡ true → a ≡ true
 and_left true b e = refl
@@ -40,44 +35,8 @@ unfolding command
 command-fits rec at tag width e =
     leb-true (at + width) (length rec) (and_left (leb (at + width) (length rec)) (eqb (get_or rec at 0) tag) e)
 
-pub fits : {rec : List ℕ} {tag width at : ℕ} {b : Bool} → CommandAt tag width rec at b → b ≡ true → at + width ≤ length rec
-fits {rec} {tag} {width} {at} s t = command-fits rec at tag width (sym s.is ∙ t)
-
--- The offset and the width against the length, without a sum.
-pub stands_eq : (at width n : ℕ) → width ≤ n → leb at (n - width) ≡ leb (at + width) n
-stands_eq at width n h = go (leb at (n - width)) refl
-  where
-    go : (b : Bool) → leb at (n - width) ≡ b → leb at (n - width) ≡ leb (at + width) n
-    go true e = e ∙ sym (le-leb (at + width) n (let k : at ≤ n - width = leb-true at (n - width) e in omega arith))
-    go false e = e ∙ sym (lt-leb (at + width) n (let k : n - width < at = leb-false at (n - width) e in omega arith))
-
-module _ {rec : List ℕ} {at : ℕ} {b : Bool} where
-  pub operand-yes : {tag n : ℕ} → CommandAt tag 3 rec at b → b ≡ true → n ≡ u16 rec (at + 1) → NumberAt (operand_at tag) rec at (Is n)
-  unfolding operand_at number_in
-  operand-yes s t e = record { is = rw (← s.is, operand_at, t, e) }
-
-  pub operand-no : {tag : ℕ} → CommandAt tag 3 rec at b → b ≡ false → NumberAt (operand_at tag) rec at Not
-  unfolding operand_at number_in
-  operand-no s t = record { is = rw (← s.is, operand_at, t) }
-
-  pub choice-yes : {n : ℕ} → CommandAt 4 2 rec at b → b ≡ true → n ≡ get_or rec (at + 1) 0 → NumberAt choice_at rec at (Is n)
-  unfolding choice_at number_in
-  choice-yes s t e = record { is = rw (← s.is, choice_at, t, e) }
-
-  pub choice-no : CommandAt 4 2 rec at b → b ≡ false → NumberAt choice_at rec at Not
-  unfolding choice_at number_in
-  choice-no s t = record { is = rw (← s.is, choice_at, t) }
-
 -- The facts of a family, one by one.
 module _ (family : Fields.Family) {facts : Facts} (e : facts ≡ facts_of family) where
-  pub facts-first : facts.first ≡ first_form family
-  unfolding facts_of
-  facts-first = ap (λ (f : Facts). f.first) e
-
-  pub facts-count : facts.count ≡ length (forms family)
-  unfolding facts_of
-  facts-count = ap (λ (f : Facts). f.count) e
-
   pub facts-width : facts.width ≡ form_width family
   unfolding facts_of
   facts-width = ap (λ (f : Facts). f.width) e
@@ -86,64 +45,10 @@ module _ (family : Fields.Family) {facts : Facts} (e : facts ≡ facts_of family
   unfolding facts_of
   facts-row = ap (λ (f : Facts). f.row) e
 
--- The facts of a family that is known.
-pub facts_known : {family known : Family} → family ≡ known → facts_of (family_of known) ≡ facts_of (family_of family)
-facts_known e = sym (ap (λ (f : Family). facts_of (family_of f)) e)
-
--- A form, from the facts of its family.
-module _ {family : Family} {rec : List ℕ} {at : ℕ} {facts : Facts} {b : Bool} (x : facts ≡ facts_of (family_of family))
-    (s : b ≡ leb (at + facts.width) (length rec)) where
-  pub form-cut : b ≡ false → FormAt family rec at Not
-  unfolding form_at number_in
-  form-cut t = record { is = rw (← facts-width (family_of family) x, ← s, form_at, t) }
-
-  module _ {byte : ℕ} (t : b ≡ true) (g : byte ≡ get_or rec at 0) where
-    pub form-below : byte < facts.first → FormAt family rec at Not
-    unfolding form_at number_in
-    form-below h = record { is = rw (← facts-width (family_of family) x, ← s, ← facts-first (family_of family) x, ← g, form_at, t, lt-leb facts.first byte h) }
-
-    module _ (h : facts.first ≤ byte) where
-      pub form-past : facts.count ≤ byte - facts.first → FormAt family rec at Not
-      unfolding form_at number_in
-      form-past k =
-          record { is = rw (← facts-width (family_of family) x, ← s, ← facts-first (family_of family) x, ← g, ← facts-count (family_of family) x, form_at, t, le-leb facts.first byte h, le-ltb byte (facts.first + facts.count) (omega arith)) }
-
-      pub form-is : byte - facts.first < facts.count → FormAt family rec at (Is (byte - facts.first))
-      unfolding form_at number_in
-      form-is k =
-          record { is = rw (← facts-width (family_of family) x, ← s, ← facts-first (family_of family) x, ← g, ← facts-count (family_of family) x, form_at, t, le-leb facts.first byte h, lt-ltb byte (facts.first + facts.count) (omega arith), ← facts-first (family_of family) x, ← g) }
-
--- The operand of a declaration.
-module _ {rec : List ℕ} {at k : ℕ} where
-  pub first-none : k ≡ u16 rec (at + 1) → k ≡ no_token → NumberAt first_token rec at Not
-  unfolding first_token number_in
-  first-none e t = record { is = rw (← e, first_token, eq-eqb k no_token t) }
-
-  pub first-is : k ≡ u16 rec (at + 1) → (k ≡ no_token → ⊥) → NumberAt first_token rec at (Is k)
-  unfolding first_token number_in
-  first-is e t = record { is = rw (← e, first_token, ne_eqb k no_token t, ← e) }
-
-pub first_past : {rec : List ℕ} {at : ℕ} → length rec ≤ at → NumberAt first_token rec at (Is 0)
-first_past {rec} {at} h = first-is (u16-past rec (at + 1) (omega arith)) (λ e. eqb-false 0 no_token refl e)
-
--- What an answer says of the record.
-module _ {reads : List ℕ → ℕ → Option ℕ} {rec : List ℕ} {at : ℕ} {r : Number} where
-  pub read-not : NumberAt reads rec at r → r ≡ Not → reads rec at ≡ None
-  unfolding number_in
-  read-not s e = sym s.is ∙ ap number_in e
-
-  pub read_is : {n : ℕ} → NumberAt reads rec at r → r ≡ Is n → reads rec at ≡ Some n
-  unfolding number_in
-  read_is s e = sym s.is ∙ ap number_in e
-
-module _ {family : Family} {rec : List ℕ} {at : ℕ} {r : Number} where
-  pub form-not : FormAt family rec at r → r ≡ Not → form_at rec (family_of family) at ≡ None
-  unfolding number_in
-  form-not s e = sym s.is ∙ ap number_in e
-
-  pub form-read : {n : ℕ} → FormAt family rec at r → r ≡ Is n → form_at rec (family_of family) at ≡ Some n
-  unfolding number_in
-  form-read s e = sym s.is ∙ ap number_in e
+-- Past the record's end the operand of a declaration is 0.
+pub first_past : (rec : List ℕ) (at : ℕ) → length rec ≤ at → Some 0 ≡ first_token rec at
+unfolding first_token
+first_past rec at h = let e : 0 ≡ u16 rec (at + 1) = u16-past rec (at + 1) (omega arith) in rw (← e, first_token, ← e)
 
 -- A number is read only where the test passes.
 pub some_true : (b : Bool) (x k : ℕ) → ◌≡◌ {A = Option ℕ} (elim b [ true ↦ Some x | false ↦ None ]) (Some k) → (b ≡ true) × (x ≡ k)
@@ -241,14 +146,3 @@ form_wide Fields.SigExp = omega arith
 form_wide Fields.Exp = omega arith
 form_wide Fields.Pat = omega arith
 form_wide Fields.Ty = omega arith
-
--- The whole command of a declaration.
-module _ {rec : List ℕ} {at : ℕ} {r : Number} (s : FormAt Code.DecOne rec at r) where
-  pub declaration-not : r ≡ Not → DeclarationAt rec at Whole.Not
-  unfolding declaration_at declaration_in
-  declaration-not e = record { is = rw (form-not s e, declaration_at) }
-
-  pub declaration-is : {number next : ℕ} {first : Number} → r ≡ Is number → NumberAt first_token rec at first → at + form_width Fields.DecOne ≡ next
-      → DeclarationAt rec at (Whole.Is number first next)
-  unfolding declaration_at declaration_in
-  declaration-is e f g = record { is = rw (form-read s e, declaration_at, f.is, g) }

@@ -3,7 +3,7 @@ use Prim.Native.Nat.{ℕ, zero, suc, ◌+◌, ◌-◌, ◌*◌, ◌/◌, ◌%◌
 use mathlib.Core.Path.{◌≡◌, refl, sym, ◌∙◌, ap, subst}
 use mathlib.Core.List.{List}
 use mathlib.Core.Bool.{Bool, true, false, ◌&&◌}
-use Rattle.std.specs.Prelude.{Option, None, Some}
+use Rattle.std.specs.Prelude.{Option, None, Some, Result, Ok, Err}
 use native.Mathlib.Omega.{arith}
 use lib.ListN.{length, get_or, replicate, get_or-map}
 use lib.Dec.{ltb, eqb}
@@ -14,14 +14,26 @@ use Rattle.reader.specs.Commands.{absent_at, token_at, list_at, group_at, choice
 use Rattle.reader.specs.Check.{Checked, ok, malformed, too_deep, and_then, items, operand_fits, token_fits, or_absent, fields, form_fits, form_check, tree_check}
 use Rattle.reader.proofs.CommandLaws.{some_true}
 use Rattle.reader.specs.Promises.Grammar.{groups, nodes, node, field_of, digits, fields_of}
-use Rattle.reader.specs.Promises.Tree.{checked_in, opened, Opens, ran, Runs, FieldsEnd, ItemsEnd, TreeEnd}
-use Rattle.reader.specs.declared.tree.Checked as Code
-use Rattle.reader.specs.declared.tree.Checked.TheVariants.{Ok, Malformed, TooDeep}
+use Rattle.reader.specs.Promises.Tree.{told, opened, Opens, ran, Runs, FieldsEnd, ItemsEnd, TreeEnd}
+use Rattle.reader.specs.declared.Refusal.{Refusal}
+use Rattle.reader.specs.declared.Refusal.TheVariants.{Malformed}
 use Rattle.reader.specs.declared.tree.Opened.{Opened}
 use Rattle.reader.specs.declared.tree.Opened.TheVariants.{Token, Inside}
 use Rattle.reader.specs.declared.tree.Run.{Run}
-use Rattle.reader.specs.declared.tree.Run.TheVariants as Running
-use Rattle.reader.specs.declared.tree.Run.TheVariants.{Nodes}
+
+-- ---- what an answer says of a check
+pub told-ok : (x : Checked) {end : ℕ} → Ok end ≡ told x → x ≡ ok end
+unfolding told
+told-ok (ok at) e = ap ok (let z : at ≡ _ = cc in z)
+told-ok (malformed place) e = never (cc)
+told-ok (too_deep place) e = never (cc)
+
+-- A refusal is that of two checks one after the other.
+pub told-err : (x : Checked) {why : Refusal} (k : ℕ → Checked) → Err why ≡ told x → Err why ≡ told (and_then x k)
+unfolding told and_then
+told-err (ok at) k e = never (cc)
+told-err (malformed place) k e = e
+told-err (too_deep place) k e = e
 
 -- ---- what a check that passes says of its parts
 -- Two checks one after the other: where the first ends.
@@ -218,25 +230,25 @@ then_ok (too_deep p) = refl
 
 -- ---- the nodes of a field, from its command
 module _ {rec : List ℕ} {code at : ℕ} where
-  pub list-none : 128 ≤ code → list_at rec at ≡ None → Runs rec code at Running.Malformed
+  pub list_none : 128 ≤ code → list_at rec at ≡ None → Runs rec code at None
   unfolding fields ran
-  list-none h e = record { is = λ count left. rw (field_list code h) (rw (e, fields)); on = tt }
+  list_none h e = record { is = λ count left. rw (field_list code h) (rw (e, fields)); on = tt }
 
-  pub list-some : {n : ℕ} → 128 ≤ code → list_at rec at ≡ Some n → Runs rec code at (Nodes (code - 128) n (at + 3))
+  pub list_some : {n : ℕ} → 128 ≤ code → list_at rec at ≡ Some n → Runs rec code at (Some (record { code = code - 128; n = n; at = at + 3 }))
   unfolding fields ran
-  list-some h e = record { is = λ count left. rw (field_list code h) (rw (e, fields)); on = omega arith }
+  list_some h e = record { is = λ count left. rw (field_list code h) (rw (e, fields)); on = omega arith }
 
-  pub field-absent : code < 128 → absent_at rec at ≡ true → Runs rec code at (Nodes code 0 (at + 1))
+  pub field_absent : code < 128 → absent_at rec at ≡ true → Runs rec code at (Some (record { code = code; n = 0; at = at + 1 }))
   unfolding ran items
-  field-absent h e =
+  field_absent h e =
       record {
         is = λ count left. rw (field-node code h) (absent rec count (form_check rec count left) at (node code) (node-atom code) e);
         on = omega arith;
       }
 
-  pub field-item : code < 128 → absent_at rec at ≡ false → Runs rec code at (Nodes code 1 at)
+  pub field_item : code < 128 → absent_at rec at ≡ false → Runs rec code at (Some (record { code = code; n = 1; at = at }))
   unfolding ran items
-  field-item h e =
+  field_item h e =
       record {
         is = λ count left.
             then_ok (fields rec count (form_check rec count left) false (node code) at)
@@ -245,40 +257,36 @@ module _ {rec : List ℕ} {code at : ℕ} where
       }
 
 -- ---- what a field says, from its nodes
-module _ {rec : List ℕ} {code at : ℕ} {run : Run} (s : Runs rec code at run) where
-  pub run-malformed : {count left : ℕ} → run ≡ Running.Malformed → FieldsEnd rec count left true (field_of code) at (Malformed at)
-  unfolding ran
-  run-malformed {count} {left} e = record { is = ap (ran rec count left at) (sym e) ∙ s.is count left }
+module _ {rec : List ℕ} {code at : ℕ} {r : Option Run} (s : Runs rec code at r) where
+  pub run_none : {count left : ℕ} → r ≡ None → FieldsEnd rec count left true (field_of code) at (Err (Malformed at))
+  unfolding ran told
+  run_none {count} {left} e = record { is = ap told (ap (ran rec count left at) (sym e) ∙ s.is count left) }
 
-  module _ {inner n first : ℕ} (e : run ≡ Nodes inner n first) where
-    pub run-nodes : {count left : ℕ} {r : Code.Checked} → ItemsEnd rec count left n (node inner) first r → FieldsEnd rec count left true (field_of code) at r
+  module _ {run : Run} (e : r ≡ Some run) where
+    pub run_nodes : {count left : ℕ} {found : Result ℕ Refusal} → ItemsEnd rec count left run.n (node run.code) run.at found → FieldsEnd rec count left true (field_of code) at found
     unfolding ran
-    run-nodes {count} {left} i = record { is = i.is ∙ ap (ran rec count left at) (sym e) ∙ s.is count left }
+    run_nodes {count} {left} i = record { is = i.is ∙ ap told (ap (ran rec count left at) (sym e) ∙ s.is count left) }
 
-    pub run-onwards : at ≤ first
-    run-onwards = rw e at s.on
+    pub run_onwards : at ≤ run.at
+    run_onwards = rw e at s.on
 
 -- ---- what a node says, from its command
-module _ {rec : List ℕ} {count left at : ℕ} {f : Fields} {o : Opened} (s : Opens rec count left f at o) where
-  pub opened-token : {next : ℕ} → o ≡ Token next → FieldsEnd rec count left false f at (Ok next)
+module _ {rec : List ℕ} {count left at : ℕ} {f : Fields} {r : Result Opened Refusal} (s : Opens rec count left f at r) where
+  pub opened_token : {next : ℕ} → r ≡ Ok (Token next) → FieldsEnd rec count left false f at (Ok next)
   unfolding opened
-  opened-token e = record { is = ap (opened rec count at) (sym e) ∙ s.is }
+  opened_token e = record { is = ap (opened rec count) (sym e) ∙ s.is }
 
-  pub opened-malformed : o ≡ Opened.Malformed → FieldsEnd rec count left false f at (Malformed at)
+  pub opened_stops : {why : Refusal} → r ≡ Err why → FieldsEnd rec count left false f at (Err why)
   unfolding opened
-  opened-malformed e = record { is = ap (opened rec count at) (sym e) ∙ s.is }
+  opened_stops e = record { is = ap (opened rec count) (sym e) ∙ s.is }
 
-  pub opened-deep : o ≡ Opened.TooDeep → FieldsEnd rec count left false f at (TooDeep at)
-  unfolding opened
-  opened-deep e = record { is = ap (opened rec count at) (sym e) ∙ s.is }
-
-  module _ {codes next deeper : ℕ} (e : o ≡ Inside codes next deeper) where
-    pub opened_inside : {r : Code.Checked} → FieldsEnd rec count deeper true (fields_of codes) next r → FieldsEnd rec count left false f at r
+  module _ {codes next deeper : ℕ} (e : r ≡ Ok (Inside codes next deeper)) where
+    pub opened_inside : {found : Result ℕ Refusal} → FieldsEnd rec count deeper true (fields_of codes) next found → FieldsEnd rec count left false f at found
     unfolding opened
-    opened_inside i = record { is = i.is ∙ ap (opened rec count at) (sym e) ∙ s.is }
+    opened_inside i = record { is = i.is ∙ ap (opened rec count) (sym e) ∙ s.is }
 
-    pub opened-ahead : (at < next) × (next ≤ length rec)
-    opened-ahead = rw e at s.on
+    pub opened_ahead : (at < next) × (next ≤ length rec)
+    opened_ahead = rw e at s.on
 
 -- ---- a row of codes
 abbrev bound : ℕ → ℕ
@@ -346,22 +354,8 @@ module _ (rec : List ℕ) (count : ℕ) (inner : Family → ℕ → Checked) (co
 
 -- ---- turns of the loops
 module _ {rec : List ℕ} {count left : ℕ} where
-  pub grown : {at next : ℕ} {may : Bool} {f : Fields} {r : Code.Checked} → FieldsEnd rec count left may f at r → r ≡ Ok next → at ≤ next
-  grown {at} {next} {may} {f} s e = fields-grow rec count (form_check rec count left) (form-grows rec count left) may f at next (sym s.is ∙ ap checked_in e)
-
--- An answer that is no place to go on from.
-abbrev Stopped : Code.Checked → Type 0
-Stopped r = (next : ℕ) → r ≡ Ok next → ⊥
-
-stops : (r : Code.Checked) → Stopped r → (k : ℕ → Checked) → and_then (checked_in r) k ≡ checked_in r
-unfolding and_then
-stops (Ok next) w k = absurd (w next refl)
-stops (Malformed place) w k = refl
-stops (TooDeep place) w k = refl
-
-goes : {r : Code.Checked} {next : ℕ} → r ≡ Ok next → (k : ℕ → Checked) → and_then (checked_in r) k ≡ k next
-unfolding and_then
-goes e k = ap (λ (x : Code.Checked). and_then (checked_in x) k) e
+  pub grown : {at next : ℕ} {may : Bool} {f : Fields} → FieldsEnd rec count left may f at (Ok next) → at ≤ next
+  grown {at} {next} {may} {f} s = fields-grow rec count (form_check rec count left) (form-grows rec count left) may f at next (told-ok _ s.is)
 
 -- Within a row: the codes that are left, from the place reached, say what all of them say.
 pub record Passed (rec : List ℕ) (count left codes at rest next : ℕ) : Type 0 where
@@ -370,33 +364,30 @@ pub record Passed (rec : List ℕ) (count left codes at rest next : ℕ) : Type 
   pub same : fields rec count (form_check rec count left) true (fields_of rest) next ≡ fields rec count (form_check rec count left) true (fields_of codes) at
 
 module _ {rec : List ℕ} {count left codes at : ℕ} where
-  pub row-starts : codes < 2 ^ 32 → Passed rec count left codes at codes at
-  row-starts h = record { on = omega arith; small = h; same = refl }
+  pub row_starts : codes < 2 ^ 32 → Passed rec count left codes at codes at
+  row_starts h = record { on = omega arith; small = h; same = refl }
 
   pub row_ends : {rest next : ℕ} → Passed rec count left codes at rest next → rest ≡ 0 → FieldsEnd rec count left true (fields_of codes) at (Ok next)
-  unfolding fields digits
-  row_ends {rest} {next} p z = record { is = sym (ap (λ (n : ℕ). fields rec count (form_check rec count left) true (fields_of n) next) z) ∙ p.same }
+  unfolding fields digits told
+  row_ends {rest} {next} p z = record { is = ap told (sym (ap (λ (n : ℕ). fields rec count (form_check rec count left) true (fields_of n) next) z) ∙ p.same) }
 
-  module _ {rest next : ℕ} {r : Code.Checked} (p : Passed rec count left codes at rest next) (z : rest ≡ 0 → ⊥) (s : FieldsEnd rec count left true (field_of (rest % 256)) next r) where
+  module _ {rest next : ℕ} (p : Passed rec count left codes at rest next) (z : rest ≡ 0 → ⊥) where
     abbrev then : ℕ → Checked
     then end = fields rec count (form_check rec count left) true (fields_of (rest / 256)) end
 
-    turn : and_then (checked_in r) then ≡ fields rec count (form_check rec count left) true (fields_of codes) at
-    turn = ap (λ (x : Checked). and_then x then) s.is ∙ sym (row_step rec count (form_check rec count left) rest next p.small z) ∙ p.same
+    turn : and_then (fields rec count (form_check rec count left) true (field_of (rest % 256)) next) then ≡ fields rec count (form_check rec count left) true (fields_of codes) at
+    turn = sym (row_step rec count (form_check rec count left) rest next p.small z) ∙ p.same
 
-    pub row-breaks : {place : ℕ} → r ≡ Malformed place → FieldsEnd rec count left true (fields_of codes) at (Malformed place)
+    pub row_stops : {why : Refusal} → FieldsEnd rec count left true (field_of (rest % 256)) next (Err why) → FieldsEnd rec count left true (fields_of codes) at (Err why)
+    row_stops s = record { is = told-err _ then s.is ∙ ap told turn }
+
+    pub row_goes : {end : ℕ} → FieldsEnd rec count left true (field_of (rest % 256)) next (Ok end) → Passed rec count left codes at (rest / 256) end
     unfolding and_then
-    row-breaks e = record { is = ap (λ (x : Code.Checked). and_then (checked_in x) then) (sym e) ∙ turn }
-
-    pub row-stops : Stopped r → FieldsEnd rec count left true (fields_of codes) at r
-    row-stops w = record { is = sym (stops r w then) ∙ turn }
-
-    pub row_goes : {end : ℕ} → r ≡ Ok end → Passed rec count left codes at (rest / 256) end
-    row_goes {end} e =
-        let h : next ≤ end = grown s e in
+    row_goes {end} s =
+        let h : next ≤ end = grown s in
         let k : at ≤ next = p.on in
         let l : rest < 2 ^ 32 = p.small in
-        record { on = omega arith; small = omega arith; same = sym (goes e then) ∙ turn }
+        record { on = omega arith; small = omega arith; same = sym (ap (λ (x : Checked). and_then x then) (told-ok _ s.is)) ∙ turn }
 
 -- An item, from an offset on.
 abbrev item_of : List ℕ → ℕ → ℕ → Fields → ℕ → Checked
@@ -417,58 +408,47 @@ unfolding items
 items-none k at = refl
 
 module _ {rec : List ℕ} {count left n : ℕ} {f : Fields} {at : ℕ} where
-  pub list-starts : Counted rec count left n f at 0 at
-  list-starts = let z : n - 0 ≡ n = omega arith in record { on = omega arith; below = omega arith; same = ap (λ (m : ℕ). items m (item_of rec count left f) at) z }
+  pub list_starts : Counted rec count left n f at 0 at
+  list_starts = let z : n - 0 ≡ n = omega arith in record { on = omega arith; below = omega arith; same = ap (λ (m : ℕ). items m (item_of rec count left f) at) z }
 
-  pub list-ends : {i next : ℕ} → Counted rec count left n f at i next → n ≤ i → ItemsEnd rec count left n f at (Ok next)
-  list-ends {i} {next} p h =
+  pub list_ends : {i next : ℕ} → Counted rec count left n f at i next → n ≤ i → ItemsEnd rec count left n f at (Ok next)
+  unfolding told
+  list_ends {i} {next} p h =
       let z : n - i ≡ 0 = omega arith in
-      record { is = sym (items-none (item_of rec count left f) next) ∙ ap (λ (m : ℕ). items m (item_of rec count left f) next) (sym z) ∙ p.same }
+      record { is = ap told (sym (items-none (item_of rec count left f) next) ∙ ap (λ (m : ℕ). items m (item_of rec count left f) next) (sym z) ∙ p.same) }
 
-  module _ {i next : ℕ} {r : Code.Checked} (p : Counted rec count left n f at i next) (h : i < n) (s : FieldsEnd rec count left false f next r) where
+  module _ {i next : ℕ} (p : Counted rec count left n f at i next) (h : i < n) where
     abbrev more : ℕ → Checked
     more end = items (n - (i + 1)) (item_of rec count left f) end
 
-    again : and_then (checked_in r) more ≡ items n (item_of rec count left f) at
+    again : and_then (item_of rec count left f next) more ≡ items n (item_of rec count left f) at
     again =
         let z : suc (n - (i + 1)) ≡ n - i = omega arith in
-        ap (λ (x : Checked). and_then x more) s.is
-        ∙ sym (items-step (n - (i + 1)) (item_of rec count left f) next)
+        sym (items-step (n - (i + 1)) (item_of rec count left f) next)
         ∙ ap (λ (m : ℕ). items m (item_of rec count left f) next) z
         ∙ p.same
 
-    pub list-stops : Stopped r → ItemsEnd rec count left n f at r
-    list-stops w = record { is = sym (stops r w more) ∙ again }
+    pub list_stops : {why : Refusal} → FieldsEnd rec count left false f next (Err why) → ItemsEnd rec count left n f at (Err why)
+    list_stops s = record { is = told-err _ more s.is ∙ ap told again }
 
-    pub list-goes : {end : ℕ} → r ≡ Ok end → Counted rec count left n f at (i + 1) end
-    list-goes {end} e =
-        let g : next ≤ end = grown s e in
+    pub list_goes : {end : ℕ} → FieldsEnd rec count left false f next (Ok end) → Counted rec count left n f at (i + 1) end
+    unfolding and_then
+    list_goes {end} s =
+        let g : next ≤ end = grown s in
         let k : at ≤ next = p.on in
-        record { on = omega arith; below = omega arith; same = sym (goes e more) ∙ again }
+        record { on = omega arith; below = omega arith; same = sym (ap (λ (x : Checked). and_then x more) (told-ok _ s.is)) ∙ again }
 
 -- ---- the whole tree
-module _ {rec : List ℕ} {count at : ℕ} {r : Code.Checked} (s : FieldsEnd rec count 200 true (list Dec) at r) where
-  rest_of : ℕ → Checked
-  rest_of end = elim (eqb end (length rec)) [ true ↦ ok end | false ↦ malformed end ]
+module _ {rec : List ℕ} {count at : ℕ} where
+  pub tree_stops : {why : Refusal} → FieldsEnd rec count 200 true (list Dec) at (Err why) → TreeEnd rec count at (Err why)
+  unfolding tree_check
+  tree_stops s = record { is = told-err _ (λ end. elim (eqb end (length rec)) [ true ↦ ok end | false ↦ malformed end ]) s.is }
 
-  at-end : {end : ℕ} → end ≡ length rec → ok end ≡ rest_of end
-  unfolding rest_of
-  at-end {end} h = rw (eq-eqb end (length rec) h, rest_of)
+  module _ {end : ℕ} (s : FieldsEnd rec count 200 true (list Dec) at (Ok end)) where
+    pub tree_whole : end ≡ length rec → TreeEnd rec count at (Ok end)
+    unfolding tree_check and_then told
+    tree_whole h = record { is = rw (told-ok _ s.is, and_then, eq-eqb end (length rec) h) }
 
-  at-over : {end : ℕ} → (end ≡ length rec → ⊥) → malformed end ≡ rest_of end
-  unfolding rest_of
-  at-over {end} h = rw (ne_eqb end (length rec) h, rest_of)
-
-  tree_is : and_then (checked_in r) rest_of ≡ tree_check rec count at
-  unfolding tree_check rest_of
-  tree_is = ap (λ (x : Checked). and_then x rest_of) s.is
-
-  pub tree-stops : Stopped r → TreeEnd rec count at r
-  tree-stops w = record { is = sym (stops r w rest_of) ∙ tree_is }
-
-  pub tree-whole : {end : ℕ} → r ≡ Ok end → end ≡ length rec → TreeEnd rec count at (Ok end)
-  tree-whole e h = record { is = at-end h ∙ sym (goes e rest_of) ∙ tree_is }
-
-  pub tree_over : {end : ℕ} → r ≡ Ok end → (end ≡ length rec → ⊥) → TreeEnd rec count at (Malformed end)
-  unfolding rest_of
-  tree_over {end} e h = record { is = at-over h ∙ sym (goes e rest_of) ∙ tree_is }
+    pub tree_over : (end ≡ length rec → ⊥) → TreeEnd rec count at (Err (Malformed end))
+    unfolding tree_check and_then told
+    tree_over h = record { is = rw (told-ok _ s.is, and_then, ne_eqb end (length rec) h) }

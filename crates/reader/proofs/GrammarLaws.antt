@@ -6,16 +6,17 @@ use native.Mathlib.Omega.{arith}
 use lib.ListN.{length, get_or, take, drop, get_or-map, get_or-append, get_or-eq_default}
 use lib.Seq.{get_or-append-add}
 use Rattle.reader.specs.Fields.{Fields, none, token, group, forms, Family, DecOne, StrExp, SigExp, Exp, Pat, Ty}
-use Rattle.reader.specs.Promises.Grammar.{groups, nodes, node, digits, fields_of, inside, up_to, held, rows, first_row, Spells}
+use Rattle.reader.specs.declared.grammar.TheConstants.{GRAMMAR}
+use Rattle.reader.specs.Promises.Grammar.{groups, nodes, node, field_of, digits, fields_of, inside, up_to, held, rows, first_row}
 
--- A row of a table that spells the fields.
-pub row_at : {l : List ℕ} → Spells l → (row : ℕ) → fields_of (get_or l row 0) ≡ get_or rows row none
-unfolding digits
-row_at {l} s row = sym (get_or-map fields_of l row 0) ∙ ap (λ (fs : List Fields). get_or fs row none) s.is
+-- The table has a row of codes for each, by computation.
+spells : map fields_of GRAMMAR ≡ rows
+unfolding groups nodes node field_of digits inside up_to held rows forms
+spells = refl
 
-pub row_past : (row : ℕ) → length rows ≤ row → fields_of 0 ≡ get_or rows row none
+pub row_at : (row : ℕ) → fields_of (get_or GRAMMAR row 0) ≡ get_or rows row none
 unfolding digits
-row_past row h = sym (get_or-eq_default rows none h)
+row_at row = sym (get_or-map fields_of GRAMMAR row 0) ∙ ap (λ (fs : List Fields). get_or fs row none) spells
 
 -- Rows in a row, from the place where they start.
 pub within : (row : ℕ) (fs : List Fields) → row ≡ length (take row rows) → rows ≡ take row rows ++ (fs ++ drop (row + length fs) rows)

@@ -14,5 +14,4 @@ pub mod Local
 pub mod Suffix
 pub mod KindLaws
 pub mod Ends
-pub mod TableLaws
 pub mod AsciiLaws

@@ -1,98 +1,58 @@
 -- Laws of refusals 1 to 4.
-use Prim.Native.Nat.{ℕ, ◌≤◌, ◌<◌}
+use Prim.Native.Nat.{ℕ}
 use mathlib.Core.Path.{◌≡◌, refl, sym, ◌∙◌, ap}
 use mathlib.Core.List.{List}
 use mathlib.Core.Bool.{Bool, true, false, ◌&&◌}
-use Rattle.std.specs.Prelude.{Option, None, Some}
+use Rattle.std.specs.Prelude.{Option, None, Some, Result, Ok, Err}
 use native.Mathlib.Omega.{arith}
-use lib.ListN.{length, take}
+use lib.ListN.{length}
 use lib.Dec.{leb}
-use borrow.Author.Tests.{le-leb, lt-leb}
 use Rattle.text.specs.Utf8.{first_broken, boundary}
-use Rattle.reader.specs.declared.tokens.Tiled as Tiled
-use Rattle.reader.specs.declared.tokens.Tiled.TheVariants as Tokens
-use Rattle.reader.specs.declared.tree.Checked as Checked
-use Rattle.reader.specs.declared.tree.Checked.TheVariants as Tree
-use Rattle.reader.specs.declared.Reading.{Reading}
-use Rattle.reader.specs.declared.Reading.TheVariants.{Sheet, TooLong, NotUtf8, Malformed, TooDeep}
+use Rattle.text.proofs.Laws.{never}
+use Rattle.reader.specs.declared.Refusal.{Refusal}
+use Rattle.reader.specs.declared.Refusal.TheVariants.{Malformed, TooDeep}
 use Rattle.reader.specs.Tokens.{Tokens, count_of, Tiling, tiled, untiled, tokens}
-use Rattle.reader.specs.Promises.Tokens.{tokens_in, tiling_in, Tiles}
+use Rattle.reader.specs.Promises.Tokens.{Tiles}
 use Rattle.reader.specs.Check as Check
 use Rattle.reader.specs.Check.{tree_check}
-use Rattle.reader.specs.Promises.Tree.{checked_in, TreeEnd}
-use Rattle.reader.proofs.EvenLaws.{tiled_even}
+use Rattle.reader.specs.Promises.Tree.{told}
 use Rattle.reader.specs.Reading.{Read, refused, sheet, max_text, max_record, read_tree, read_record, read_text, read, number_of, place_of}
 use Rattle.reader.specs.Promises.Reading.{read_in, RecordReads, Reads}
 
 -- ---- 3 and 4
-module _ {boundary : ℕ → Bool} {size : ℕ} {rec kinds starts lens : List ℕ} {t : Tiled.Tiled} (s : Tiles boundary size rec kinds starts lens t) where
-  pub record-untiled : {place : ℕ} → t ≡ Tokens.Untiled place → RecordReads boundary size rec kinds starts lens (Malformed place)
-  unfolding read_record number_of place_of
-  record-untiled {place} e =
-      let f : tokens boundary size rec ≡ untiled place = sym s.is ∙ ap (λ (x : Tiled.Tiled). tiling_in x kinds starts lens) e in
-      record { is = rw (f, read_record); counts = tt }
+module _ {boundary : ℕ → Bool} {size : ℕ} {rec : List ℕ} {ts : Tokens} where
+  pub record_untiled : {why : Refusal} → Tiles boundary size rec ts (Err why) → RecordReads boundary size rec ts (Err why)
+  unfolding read_record
+  record_untiled s = record { is = rw (s.is.1, s.is.2, read_record) }
 
-  module _ {count tree : ℕ} (e : t ≡ Tokens.Tiled count tree) {r : Checked.Checked} (u : TreeEnd rec count tree r) where
-    tiles : tokens boundary size rec ≡ tiled (tokens_in count kinds starts lens) tree
-    tiles = sym s.is ∙ ap (λ (x : Tiled.Tiled). tiling_in x kinds starts lens) e
+  module _ {tree : ℕ} (s : Tiles boundary size rec ts (Ok tree)) where
+    record_is : {t : Read} → t ≡ read_tree rec ts tree → t ≡ read_record rec boundary size
+    unfolding read_record
+    record_is e = rw (s.is, read_record) e
 
-    counts : (length (take count kinds) ≡ count) × (count ≤ 4096)
-    counts = rw e at s.counts
+    tree_ok : {end : ℕ} (c : Check.Checked) → tree_check rec (count_of ts) tree ≡ c → Ok end ≡ told c → sheet ts tree ≡ read_tree rec ts tree
+    unfolding read_tree told
+    tree_ok (Check.ok at) e f = rw (e, read_tree)
+    tree_ok (Check.malformed place) e f = never (cc)
+    tree_ok (Check.too_deep place) e f = never (cc)
 
-    tree-says : tree_check rec (length (take count starts)) tree ≡ checked_in r
-    tree-says = rw ((tiled_even boundary size rec (tokens_in count kinds starts lens) tree tiles).0 ∙ counts.0) (sym u.is)
+    tree_err : {why : Refusal} (c : Check.Checked) → tree_check rec (count_of ts) tree ≡ c → Err why ≡ told c
+        → refused (number_of why) (place_of why) ≡ read_tree rec ts tree
+    unfolding read_tree told
+    tree_err (Check.ok at) e f = never (cc)
+    tree_err {why} (Check.malformed place) e f = let w : why ≡ Malformed place = cc in rw (e, read_tree, w)
+    tree_err {why} (Check.too_deep place) e f = let w : why ≡ TooDeep place = cc in rw (e, read_tree, w)
 
-    pub record-sheet : {end : ℕ} → r ≡ Tree.Ok end → RecordReads boundary size rec kinds starts lens (Sheet count tree)
-    unfolding read_record read_tree
-    record-sheet f = record { is = rw (tiles, read_record, tree-says ∙ ap checked_in f, read_tree); counts = counts }
+    pub record_ok : {end : ℕ} → Ok end ≡ told (tree_check rec (count_of ts) tree) → RecordReads boundary size rec ts (Ok tree)
+    record_ok f = record { is = record_is (tree_ok (tree_check rec (count_of ts) tree) refl f) }
 
-    pub record-malformed : {place : ℕ} → r ≡ Tree.Malformed place → RecordReads boundary size rec kinds starts lens (Malformed place)
-    unfolding read_record read_tree number_of place_of
-    record-malformed f = record { is = rw (tiles, read_record, tree-says ∙ ap checked_in f, read_tree); counts = tt }
-
-    pub record-deep : {place : ℕ} → r ≡ Tree.TooDeep place → RecordReads boundary size rec kinds starts lens (TooDeep place)
-    unfolding read_record read_tree number_of place_of
-    record-deep f = record { is = rw (tiles, read_record, tree-says ∙ ap checked_in f, read_tree); counts = tt }
+    pub record_err : {why : Refusal} → Err why ≡ told (tree_check rec (count_of ts) tree) → RecordReads boundary size rec ts (Err why)
+    record_err f = record { is = record_is (tree_err (tree_check rec (count_of ts) tree) refl f) }
 
 -- ---- 1 to 4
-module _ (text rec kinds starts lens : List ℕ) where
-  pub text-long : 32768 < length text → Reads text rec kinds starts lens TooLong
-  unfolding read number_of place_of
-  text-long h = record { is = rw (lt-leb (length text) 32768 h, read); counts = tt }
-
-  module _ (a : length text ≤ 32768) where
-    pub record-long : 65536 < length rec → Reads text rec kinds starts lens TooLong
-    unfolding read number_of place_of
-    record-long h = record { is = rw (le-leb (length text) 32768 a, lt-leb (length rec) 65536 h, read); counts = tt }
-
-    module _ (b : length rec ≤ 65536) where
-      short : read_text text rec ≡ read text rec
-      unfolding read
-      short = rw (le-leb (length text) 32768 a, le-leb (length rec) 65536 b, read)
-
-      text-broken : {place : ℕ} → first_broken text ≡ Some place → refused 2 place ≡ read_text text rec
-      unfolding read_text
-      text-broken f = rw (f, read_text)
-
-      text-whole : first_broken text ≡ None → read_record rec (boundary text) (length text) ≡ read_text text rec
-      unfolding read_text
-      text-whole f = rw (f, read_text)
-
-      pub not-utf8 : {place : ℕ} → first_broken text ≡ Some place → Reads text rec kinds starts lens (NotUtf8 place)
-      unfolding read_text number_of place_of
-      not-utf8 f = record { is = text-broken f ∙ short; counts = tt }
-
-      pub utf8 : {r : Reading} → first_broken text ≡ None → RecordReads (boundary text) (length text) rec kinds starts lens r → Reads text rec kinds starts lens r
-      unfolding read_text
-      utf8 f u = record { is = u.is ∙ text-whole f ∙ short; counts = u.counts }
-
--- What a case of the answer says of the sheet.
-module _ {text rec kinds starts lens : List ℕ} {r : Reading} (s : Reads text rec kinds starts lens r) where
-  pub reading-says : {x : Reading} → r ≡ x → read text rec ≡ read_in x kinds starts lens
-  reading-says e = sym s.is ∙ ap (λ (y : Reading). read_in y kinds starts lens) e
-
-  pub reading-counts : {count tree : ℕ} → r ≡ Sheet count tree → (length (take count kinds) ≡ count) × (count ≤ 4096)
-  reading-counts e = rw e at s.counts
+-- What an answer says of the sheet.
+pub reading-says : {text rec : List ℕ} {ts : Tokens} {r x : Result ℕ Refusal} → Reads text rec ts r → r ≡ x → read text rec ≡ read_in x ts
+reading-says {ts = ts} s e = sym s.is ∙ ap (λ (y : Result ℕ Refusal). read_in y ts) e
 
 -- By cases: a refusal's number is not 0; a sheet's tokens are those of its record, and its tree passes the check.
 module _ (P : Read → Type 0) (text rec : List ℕ) (refuses : (number place : ℕ) → (number ≡ 0 → ⊥) → P (refused number place))

@@ -1,24 +1,26 @@
--- Laws of the commands that a record starts with: laid out in the tables at once, they are the definition's tokens where they fit.
+-- Laws of the commands that a record starts with: laid out at once, they are the definition's tokens where they fit.
 use Prim.Native.Nat.{ℕ, zero, suc, ◌+◌, ◌*◌, ◌%◌, ◌≤◌, ◌<◌}
 use mathlib.Core.Path.{◌≡◌, refl, sym, ◌∙◌, ap}
-use mathlib.Core.List.{List}
+use mathlib.Core.List.{List, [], ◌∷◌, ◌++◌, map}
 use mathlib.Core.Bool.{Bool, true, false}
 use native.Mathlib.Omega.{arith}
 use native.Mathlib.Numerals.{add-one}
-use lib.ListN.{length, get_or, take, set}
-use lib.Seq.{length-take-le, get_or-take, get_or-set_same, get_or-set_other, set-get_or}
+use lib.ListN.{length, get_or, take, drop, length-map, length-append, length-drop, get_or-map}
+use lib.Seq.{length-take-le}
 use lib.Dec.{leb, ltb}
 use borrow.Author.Count.{below_more}
 use borrow.Author.Tests.{le-leb, leb-true, leb-false, ltb-true, ltb-false, eq-eqb}
+use Rattle.std.specs.Prelude.{Some, Ok, All}
+use Rattle.std.proofs.lemmas.List.Elements.{All-from_get_or}
+use Rattle.std.proofs.lemmas.List.{get_or_append_left, get_or_push, get_or-drop, length_push, take_more, take_all, drop_at, drop-drop}
 use Rattle.reader.specs.Commands.{u16, command}
-use Rattle.reader.specs.declared.tokens.Next.TheVariants.{Is}
-use Rattle.reader.specs.declared.tokens.Tiled.TheVariants as Case
-use Rattle.reader.specs.Promises.Tokens.{start_of, length_of, starts_of, lengths_of, next_at, end_at, Long, Tiles, lengths_to, Laid, Fits}
-use Rattle.reader.proofs.SpanLaws.{start-at, length_at, starts-set, lengths-set, spans_long}
-use Rattle.reader.proofs.TokenLaws.{next-end, next-token, Filled, filled_none, filled_more, filled-end, filled-all}
+use Rattle.reader.specs.declared.tokens.Span.{Span}
+use Rattle.reader.specs.Tokens.{Tokens, count_of, no_tokens}
+use Rattle.reader.specs.Promises.Tokens.{starts_of, lengths_of, next_at, Tiles, lengths_to, Laid, Fits}
+use Rattle.reader.proofs.TokenLaws.{joined, one, next-end, next-token, Filled, filled_none, filled_more, filled_end}
 
 -- ---- the sum of the lengths
-pub lengths_more : (rec : List ℕ) (n : ℕ) → lengths_to rec (n + 1) ≡ lengths_to rec n + u16 rec (4 * n + 2)
+lengths_more : (rec : List ℕ) (n : ℕ) → lengths_to rec (n + 1) ≡ lengths_to rec n + u16 rec (4 * n + 2)
 unfolding lengths_to
 lengths_more rec n = rw add-one
 
@@ -32,10 +34,11 @@ lengths_le rec i (suc n) h = go (leb i n) refl (λ l. lengths_le rec i n l)
     go false e f = let l : n < i = leb-false i n e in let s : i ≡ suc n = omega arith in rw s (omega arith)
 
 -- ---- one more command
-pub laid_none : (rec kinds starts lens : List ℕ) → Laid rec kinds starts lens 0 0
+pub laid_none : (rec : List ℕ) → Laid rec no_tokens 0
 unfolding lengths_to
-laid_none rec kinds starts lens =
+laid_none rec =
     record {
+      as_many = (refl, refl);
       few = omega arith;
       whole = omega arith;
       commands = λ i h. absurd (omega (arith, h));
@@ -45,111 +48,135 @@ laid_none rec kinds starts lens =
       sums = refl;
     }
 
-module _ (l : List ℕ) (n a : ℕ) (f : ℕ → ℕ) (h : n < length l) where
+module _ (l : List ℕ) (n a : ℕ) (f : ℕ → ℕ) (e : length l ≡ n) where
   -- What the entries below n are, and the new one, the entries below n + 1 are.
-  set_more : ((i : ℕ) → i < n → get_or l i 0 ≡ f i) → a ≡ f n → (i : ℕ) → i < n + 1 → get_or (set l n a) i 0 ≡ f i
-  set_more all e =
-      below_more (λ (i : ℕ). get_or (set l n a) i 0 ≡ f i) n
-      (λ i k. get_or-set_other l n i a 0 (λ s. absurd (omega (arith, k, s))) ∙ all i k)
-      (get_or-set_same l n a 0 h ∙ e)
+  push_more : ((i : ℕ) → i < n → get_or l i 0 ≡ f i) → a ≡ f n → (i : ℕ) → i < n + 1 → get_or (l ++ a ∷ []) i 0 ≡ f i
+  push_more all here =
+      below_more (λ (i : ℕ). get_or (l ++ a ∷ []) i 0 ≡ f i) n
+      (λ i k. get_or_append_left l (a ∷ []) 0 i (rw e k) ∙ all i k)
+      (get_or_push l a 0 n e ∙ here)
 
-pub laid_more : {rec kinds : List ℕ} (spans : List ℕ) {count sum kind span len : ℕ} → Laid rec kinds (starts_of spans) (lengths_of spans) count sum
-    → length kinds ≡ 4096 → length spans ≡ 4096 → count < 4096 → 4 * count + 4 ≤ length rec → get_or rec (4 * count) 0 ≡ 5
-    → kind ≡ get_or rec (4 * count + 1) 0 → span ≡ 65536 * (sum % 65536) + len → len ≡ u16 rec (4 * count + 2) → len < 65536
-    → Laid rec (set kinds count kind) (starts_of (set spans count span)) (lengths_of (set spans count span)) (count + 1) (sum + len)
-laid_more {rec} {kinds} spans {count} {sum} {kind} {span} {len} p a b c d e k s n m =
-    let long = spans_long kinds spans a b in
+laid_more : {rec : List ℕ} {ts : Tokens} {sum kind len : ℕ} → Laid rec ts sum → count_of ts < 4096 → 4 * count_of ts + 4 ≤ length rec → get_or rec (4 * count_of ts) 0 ≡ 5
+    → kind ≡ get_or rec (4 * count_of ts + 1) 0 → len ≡ u16 rec (4 * count_of ts + 2)
+    → Laid rec (joined ts (one kind (sum % 65536) len)) (sum + len)
+laid_more {rec} {ts} {sum} {kind} {len} p h w c k n =
+    let more : length (ts.starts ++ sum % 65536 ∷ []) ≡ count_of ts + 1 = length_push ts.starts (sum % 65536) in
     record {
+      as_many = (rw (length_push ts.kinds kind, p.as_many.0, more), rw (length_push ts.lengths len, p.as_many.1, more));
       few = omega arith;
       whole = omega arith;
-      commands = below_more (λ (i : ℕ). get_or rec (4 * i) 0 ≡ 5) count p.commands e;
-      kinds_are = set_more kinds count kind (λ i. get_or rec (4 * i + 1) 0) (rw a c) p.kinds_are k;
-      starts_are = rw (starts-set spans count (sum % 65536) len s m)
-          (set_more (starts_of spans) count (sum % 65536) (λ i. lengths_to rec i % 65536) (rw long.1 c) p.starts_are (ap (λ (x : ℕ). x % 65536) p.sums));
-      lengths_are = rw (lengths-set spans count (sum % 65536) len s m)
-          (set_more (lengths_of spans) count len (λ i. u16 rec (4 * i + 2)) (rw long.2 c) p.lengths_are n);
-      sums = rw (p.sums, n) (sym (lengths_more rec count));
+      commands = rw more (below_more (λ (i : ℕ). get_or rec (4 * i) 0 ≡ 5) (count_of ts) p.commands c);
+      kinds_are = rw more (push_more ts.kinds (count_of ts) kind (λ i. get_or rec (4 * i + 1) 0) p.as_many.0 p.kinds_are k);
+      starts_are = rw more (push_more ts.starts (count_of ts) (sum % 65536) (λ i. lengths_to rec i % 65536) refl p.starts_are (ap (λ (x : ℕ). x % 65536) p.sums));
+      lengths_are = rw more (push_more ts.lengths (count_of ts) len (λ i. u16 rec (4 * i + 2)) p.as_many.1 p.lengths_are n);
+      sums = rw (more, lengths_more rec (count_of ts), p.sums, n);
     }
 
--- The two bytes of a length.
-pub length_is : (rec : List ℕ) (n : ℕ) {len low high : ℕ} → len ≡ low + 256 * high → low ≡ get_or rec (4 * n + 2) 0 → high ≡ get_or rec (4 * n + 3) 0 → len ≡ u16 rec (4 * n + 2)
-unfolding u16
-length_is rec n e l h =
-    let s : 4 * n + 3 ≡ 4 * n + 2 + 1 = omega arith in
-    e ∙ rw (l, h) (ap (λ (k : ℕ). get_or rec (4 * n + 2) 0 + 256 * get_or rec k 0) s)
+-- The next four bytes of what is left of the record.
+module _ (rec : List ℕ) (n : ℕ) (bytes rest : List ℕ) (e : drop (4 * n) rec ≡ bytes ++ rest) (four : length bytes ≡ 4) where
+  chunk_whole : 4 * n + 4 ≤ length rec
+  chunk_whole = omega (arith, ap length e, length-append bytes rest, length-drop (4 * n) rec)
+
+  pub chunk_rest : rest ≡ drop (4 * (n + 1)) rec
+  chunk_rest =
+      let at : 4 * (n + 1) ≡ 4 * n + 4 = omega arith in
+      sym (drop_at bytes rest 4 four) ∙ ap (drop 4) (sym e) ∙ drop-drop 4 (4 * n) rec ∙ ap (λ (k : ℕ). drop k rec) (sym at)
+
+  chunk_byte : (i : ℕ) → i < 4 → get_or bytes i 0 ≡ get_or rec (4 * n + i) 0
+  chunk_byte i h = sym (get_or_append_left bytes rest 0 i (rw four h)) ∙ ap (λ (l : List ℕ). get_or l i 0) (sym e) ∙ get_or-drop (4 * n) rec i 0
+
+  chunk_length : {len : ℕ} → len ≡ get_or bytes 2 0 + 256 * get_or bytes 3 0 → len ≡ u16 rec (4 * n + 2)
+  unfolding u16
+  chunk_length f =
+      let at : 4 * n + 3 ≡ 4 * n + 2 + 1 = omega arith in
+      f ∙ rw (chunk_byte 2 (omega arith), chunk_byte 3 (omega arith), at)
+
+  -- One more command.
+  pub laid_chunk : {ts : Tokens} {sum len : ℕ} → Laid rec ts sum → count_of ts ≡ n → n < 4096 → get_or bytes 0 0 ≡ 5 → len ≡ get_or bytes 2 0 + 256 * get_or bytes 3 0
+      → Laid rec (joined ts (one (get_or bytes 1 0) (sum % 65536) len)) (sum + len)
+  laid_chunk p c h tag f =
+      let first : 4 * n + 0 ≡ 4 * n = omega arith in
+      laid_more p (rw c h) (rw c chunk_whole) (rw (c, ← first) (sym (chunk_byte 0 (omega arith)) ∙ tag)) (rw c (chunk_byte 1 (omega arith))) (rw c (chunk_length f))
 
 -- ---- commands that fit
-pub taken : (l : List ℕ) (n : ℕ) → length l ≡ 4096 → n ≤ 4096 → n ≡ length (take n l)
-taken l n e h = sym (length-take-le n l (rw e h))
+-- What holds of each entry holds of each entry's image.
+each : (P : ℕ → Type 0) (f : Span → ℕ) (spans : List Span) → All (λ s. P (f s)) spans → All P (map f spans)
+each P f spans all =
+    let none : Span = record { start = 0; len = 0 } in
+    All-from_get_or P (map f spans) (f none)
+    (λ i h. rw (get_or-map f spans i none) (all i none (rw (length-map spans f) at h)))
 
-module _ (l : List ℕ) (n : ℕ) (e : length l ≡ 4096) (h : n ≤ 4096) (P : ℕ → Type 0) where
-  -- What holds of each entry of the part holds of the first entries.
-  first-each : ((i : ℕ) → i < length (take n l) → P (get_or (take n l) i 0)) → (i : ℕ) → i < n → P (get_or l i 0)
-  first-each all i k = rw (get_or-take n l i 0 k) at (all i (rw (← taken l n e h) k))
-
-module _ (boundary : ℕ → Bool) (size : ℕ) (kinds spans : List ℕ) (count : ℕ) {most few : ℕ} (a : length kinds ≡ 4096) (b : length spans ≡ 4096) (h : count ≤ 4096) where
-  pub fits-are : ((i : ℕ) → i < length (take count kinds) → get_or (take count kinds) i 0 ≤ most) → most ≤ 20
-      → ((i : ℕ) → i < length (take count spans) → few ≤ length_of (get_or (take count spans) i 0)) → 1 ≤ few
-      → boundary size ≡ true → ((i : ℕ) → i < length (take count spans) → boundary (start_of (get_or (take count spans) i 0)) ≡ true)
-      → Fits boundary size kinds (starts_of spans) (lengths_of spans) count
-  fits-are k m n f c s =
+module _ {boundary : ℕ → Bool} {size : ℕ} {ts : Tokens} {most few : ℕ} where
+  -- A kind that no other exceeds, a length that none falls below, and starts between characters.
+  pub fits_are : {kinds : List ℕ} → kinds ≡ ts.kinds → ((i : ℕ) → i < length kinds → get_or kinds i 0 ≤ most) → most ≤ 20
+      → (spans : List Span) → lengths_of spans ≡ ts.lengths → All (λ s. few ≤ s.len) spans → 1 ≤ few → boundary size ≡ true
+      → (others : List Span) → starts_of others ≡ ts.starts → All (λ s. boundary s.start ≡ true) others → Fits boundary size ts
+  fits_are {kinds} k all m spans l none f c others s apart =
       record {
-        known = λ i j. omega (arith, first-each kinds count a h (λ x. x ≤ most) k i j);
-        filled = λ i j. rw (length_at spans i) (omega (arith, first-each spans count b h (λ x. few ≤ length_of x) n i j));
-        apart = λ i j. rw (start-at spans i) (first-each spans count b h (λ x. boundary (start_of x) ≡ true) s i j);
+        known = rw (← k) (All-from_get_or (λ k. k ≤ 20) kinds 0 (λ i h. omega (arith, all i h)));
+        filled = rw (← l) (each (λ n. 1 ≤ n) (λ s. s.len) spans (λ i d h. omega (arith, none i d h)));
+        apart = rw (← s) (each (λ start. boundary start ≡ true) (λ s. s.start) others apart);
         closed = c;
       }
 
-module _ {boundary : ℕ → Bool} {size : ℕ} {rec kinds starts lens : List ℕ} {count sum : ℕ} (l : Long kinds starts lens) (p : Laid rec kinds starts lens count sum)
-    (f : Fits boundary size kinds starts lens count) (e : sum ≡ size) (small : size < 65536) where
-  at_most : (i : ℕ) → i ≤ count → lengths_to rec i ≤ size
-  at_most i h = omega (arith, lengths_le rec i count h, p.sums)
+-- The first tokens.
+abbrev first : ℕ → Tokens → Tokens
+first n ts = record { kinds = take n ts.kinds; starts = take n ts.starts; lengths = take n ts.lengths }
 
-  start_is : (i : ℕ) → i < count → lengths_to rec i ≡ get_or starts i 0
+module _ {boundary : ℕ → Bool} {size : ℕ} {rec : List ℕ} {ts : Tokens} {sum : ℕ} (p : Laid rec ts sum)
+    (f : Fits boundary size ts) (e : sum ≡ size) (small : size < 65536) where
+  at_most : (i : ℕ) → i ≤ count_of ts → lengths_to rec i ≤ size
+  at_most i h = omega (arith, lengths_le rec i (count_of ts) h, p.sums)
+
+  start_is : (i : ℕ) → i < count_of ts → lengths_to rec i ≡ get_or ts.starts i 0
   start_is i h = let k : lengths_to rec i ≤ size = at_most i (omega arith) in omega (arith, p.starts_are i h)
 
-  more : (i : ℕ) → i < count → lengths_to rec (i + 1) ≡ lengths_to rec i + get_or lens i 0
+  more : (i : ℕ) → i < count_of ts → lengths_to rec (i + 1) ≡ lengths_to rec i + get_or ts.lengths i 0
   more i h = lengths_more rec i ∙ ap (λ (n : ℕ). lengths_to rec i + n) (sym (p.lengths_are i h))
 
   -- A token ends where the next one starts, or at the text's end.
-  ends-apart : (i : ℕ) → i < count → boundary (lengths_to rec (i + 1)) ≡ true
-  ends-apart i h = go (ltb (i + 1) count) refl
+  ends-apart : (i : ℕ) → i < count_of ts → boundary (lengths_to rec (i + 1)) ≡ true
+  ends-apart i h = go (ltb (i + 1) (count_of ts)) refl
     where
-      go : (b : Bool) → ltb (i + 1) count ≡ b → boundary (lengths_to rec (i + 1)) ≡ true
-      go true t = let k : i + 1 < count = ltb-true (i + 1) count t in rw (start_is (i + 1) k) (f.apart (i + 1) k)
-      go false t = let k : count ≤ i + 1 = ltb-false (i + 1) count t in let s : i + 1 ≡ count = omega arith in rw (s, ← p.sums, e) f.closed
+      go : (b : Bool) → ltb (i + 1) (count_of ts) ≡ b → boundary (lengths_to rec (i + 1)) ≡ true
+      go true t = let k : i + 1 < count_of ts = ltb-true (i + 1) (count_of ts) t in rw (start_is (i + 1) k) (f.apart (i + 1) 0 k)
+      go false t =
+          let k : count_of ts ≤ i + 1 = ltb-false (i + 1) (count_of ts) t in
+          let s : i + 1 ≡ count_of ts = omega arith in
+          rw (s, ← p.sums, e) f.closed
 
-  stands : (i : ℕ) → i < count → true ≡ command rec 5 4 (4 * i)
+  stands : (i : ℕ) → i < count_of ts → command rec 5 4 (4 * i) ≡ true
   unfolding command
-  stands i h = let k : 4 * i + 4 ≤ length rec = omega (arith, p.whole) in rw (le-leb (4 * i + 4) (length rec) k, eq-eqb (get_or rec (4 * i) 0) 5 (p.commands i h))
+  stands i h =
+      let k : 4 * i + 4 ≤ length rec = omega (arith, p.whole) in
+      rw (le-leb (4 * i + 4) (length rec) k, eq-eqb (get_or rec (4 * i) 0) 5 (p.commands i h))
 
-  next : (i : ℕ) → i < count → Is (get_or kinds i 0) (get_or lens i 0) ≡ next_at boundary size rec (lengths_to rec i) (4 * i)
+  next : (i : ℕ) → i < count_of ts → Ok (Some (record { kind = get_or ts.kinds i 0; len = get_or ts.lengths i 0 })) ≡ next_at boundary size rec (lengths_to rec i) (4 * i)
   next i h =
-      next-token boundary size rec (lengths_to rec i) (4 * i) (p.commands i h) (record { is = stands i h }) refl
+      next-token boundary size rec (lengths_to rec i) (4 * i) (p.commands i h) (stands i h)
       (p.kinds_are i h)
-      (f.known i h)
+      (f.known i 0 (rw p.as_many.0 h))
       (p.lengths_are i h)
-      (f.filled i h)
+      (f.filled i 0 (rw p.as_many.1 h))
       (rw (more i h) at (at_most (i + 1) (omega arith)))
       (rw (more i h) at (ends-apart i h))
 
-  upto : (i : ℕ) → i ≤ count → Filled boundary size rec kinds starts lens i (lengths_to rec i) (4 * i)
+  upto : (i : ℕ) → i ≤ count_of ts → Filled boundary size rec (first i ts) (lengths_to rec i) (4 * i)
   unfolding lengths_to
-  upto zero h = filled_none boundary size rec kinds starts lens l
+  upto zero h = filled_none boundary size rec
   upto (suc i) h =
-      let k : i < count = omega arith in
-      let one : Filled boundary size rec (set kinds i (get_or kinds i 0)) (set starts i (get_or starts i 0)) (set lens i (get_or lens i 0)) (i + 1) (lengths_to rec i + get_or lens i 0) (4 * i + 4) =
-      rw (← start_is i k) (filled_more (upto i (omega arith)) (omega (arith, p.few)) (next i k)) in
+      let k : i < count_of ts = omega arith in
+      let counts : length (take i ts.starts) ≡ i = length-take-le i ts.starts (omega arith) in
+      let one = filled_more (upto i (omega arith)) (next i k) (omega (arith, p.few)) in
       let at : 4 * i + 4 ≡ 4 * suc i = omega arith in
-      rw (set-get_or, set-get_or, set-get_or, add-one, p.lengths_are i k, at) at one
+      let kinds = take_more ts.kinds i 0 (omega (arith, p.as_many.0)) in
+      let starts = take_more ts.starts i 0 k ∙ ap (λ (n : ℕ). take i ts.starts ++ n ∷ []) (sym (start_is i k)) in
+      let lens = take_more ts.lengths i 0 (omega (arith, p.as_many.1)) in
+      rw (← kinds, ← starts, ← lens, add-one, p.lengths_are i k, at) at one
 
-  is-end : Case.Tiled count (4 * count) ≡ end_at size (lengths_to rec count) (4 * count) count
-  unfolding end_at
-  is-end = let s : lengths_to rec count ≡ size = sym p.sums ∙ e in rw (eq-eqb (lengths_to rec count) size s, end_at)
+  all : first (count_of ts) ts ≡ ts
+  all = rw (take_all (count_of ts) ts.kinds (omega (arith, p.as_many.0)), take_all (count_of ts) ts.starts (omega arith), take_all (count_of ts) ts.lengths (omega (arith, p.as_many.1)))
 
-  pub laid-tiles : (get_or rec (4 * count) 0 ≡ 5 → ⊥) → Tiles boundary size rec kinds starts lens (Case.Tiled count (4 * count))
-  laid-tiles n = go (ltb count 4096) refl
-    where
-      go : (b : Bool) → ltb count 4096 ≡ b → Tiles boundary size rec kinds starts lens (Case.Tiled count (4 * count))
-      go true t = filled-end (upto count (omega arith)) (ltb-true count 4096 t) (next-end boundary size rec (lengths_to rec count) (4 * count) n) is-end
-      go false t = filled-all (upto count (omega arith)) (ltb-false count 4096 t) n is-end
+  pub laid_tiles : (get_or rec (4 * count_of ts) 0 ≡ 5 → ⊥) → Tiles boundary size rec ts (Ok (4 * count_of ts))
+  laid_tiles n =
+      filled_end (rw all at (upto (count_of ts) (omega arith))) (next-end boundary size rec (lengths_to rec (count_of ts)) (4 * count_of ts) n) (sym p.sums ∙ e)

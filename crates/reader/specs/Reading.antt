@@ -3,8 +3,8 @@ use Rattle.std.specs.Prelude.{ℕ, List, Bool, true, false, ◌&&◌, length, le
 use Rattle.text.specs.Utf8.{first_broken, boundary}
 use Rattle.reader.specs.Tokens.{Tokens, count_of, tiled, untiled, tokens}
 use Rattle.reader.specs.Check.{ok, malformed, too_deep, tree_check}
-use Rattle.reader.specs.declared.Reading.{Reading}
-use Rattle.reader.specs.declared.Reading.TheVariants.{Sheet, TooLong, NotUtf8, Malformed, TooDeep}
+use Rattle.reader.specs.declared.Refusal.{Refusal}
+use Rattle.reader.specs.declared.Refusal.TheVariants.{TooLong, NotUtf8, Malformed, TooDeep}
 
 abbrev pub max_text : ℕ
 max_text = 32768
@@ -35,17 +35,15 @@ module _ (text : List ℕ) (rec : List ℕ) where
   unfoldable pub read : Read
   read = elim (leb (length text) max_text && leb (length rec) max_record) [ true ↦ read_text | false ↦ refused 1 0 ]
 
--- 01's number for each case of the answer.
-unfoldable pub number_of : Reading → ℕ
-number_of (Sheet count tree) = 0
+-- The number of the documents for each refusal.
+abbrev pub number_of : Refusal → ℕ
 number_of TooLong = 1
 number_of (NotUtf8 at) = 2
 number_of (Malformed at) = 3
 number_of (TooDeep at) = 4
 
--- 01's place for each case of the answer.
-unfoldable pub place_of : Reading → ℕ
-place_of (Sheet count tree) = 0
+-- The place of each refusal.
+abbrev pub place_of : Refusal → ℕ
 place_of TooLong = 0
 place_of (NotUtf8 at) = at
 place_of (Malformed at) = at

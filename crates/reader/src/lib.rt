@@ -8,19 +8,16 @@ pub mod tree; // tree.rt: the record check behind the tokens
 
 ghost use Rattle.std.specs.Prelude.{◌≡◌};
 ghost use Rattle.text.specs.Utf8.{boundary};
-ghost use Rattle.reader.specs.Promises.Commands.{number_in};
-ghost use Rattle.reader.specs.Promises.Tokens.{starts_of, lengths_of};
-ghost use Rattle.reader.specs.Promises.Reading.{RecordReads, Reads};
+ghost use Rattle.reader.specs.Reading.{number_of, place_of};
+ghost use Rattle.reader.specs.Promises.Reading.{TextReads, RecordReads, Reads};
 
 use text::first_broken;
-use tokens::{Tiled, read_tokens};
-use tree::{Checked, tree_end};
+use tokens::{Tokens, read_tokens};
+use tree::tree_end;
 
-// What the record check says of a text and a record.
-#[derive(Clone, Copy)]
-pub enum Reading {
-    // It passes: the number of tokens, and the offset in the record of the list of declarations.
-    Sheet { count: usize, tree: usize },
+// Why a sheet is refused that is read.
+#[derive(Clone, Copy, Debug, PartialEq, Eq)]
+pub enum Refusal {
     // The text or the record is too long.
     TooLong,
     // The offset in the text of the first byte of the first broken character.
@@ -31,47 +28,61 @@ pub enum Reading {
     TooDeep(usize),
 }
 
+impl Refusal {
+    // The number of the documents.
+    pub fn number(self) -> u64
+        ensures { result ≡ number_of self }
+    {
+        match self {
+            Refusal::TooLong => 1,
+            Refusal::NotUtf8(_) => 2,
+            Refusal::Malformed(_) => 3,
+            Refusal::TooDeep(_) => 4,
+        }
+    }
+
+    // The place.
+    pub fn place(self) -> usize
+        ensures { result ≡ place_of self }
+    {
+        match self {
+            Refusal::TooLong => 0,
+            Refusal::NotUtf8(place) | Refusal::Malformed(place) | Refusal::TooDeep(place) => place,
+        }
+    }
+}
+
 pub const MAX_TEXT: usize = 32768;
 
 pub const MAX_RECORD: usize = 65536;
 
-// Refusals 3 and 4, over a text of this length.
-fn read_record(
-    text: &[u8],
-    size: u16,
-    rec: &[u8],
-    kinds: &mut [u8; 4096],
-    spans: &mut [u32; 4096],
-) -> Reading
-    ensures { RecordReads (boundary text.now) size rec.now
-        kinds.new (starts_of spans.new) (lengths_of spans.new) result }
+// Refusals 1 and 2.
+#[tactic(auto, unfolding(crate::specs::Reading::read, crate::specs::Reading::read_text))]
+pub fn check_text(text: &[u8], rec: &[u8]) -> Result<(), Refusal>
+    ensures { TextReads text.now rec.now result }
 {
-    let tokens = read_tokens(text, size, rec, kinds, spans);
-    match tokens {
-        Tiled::Tiled { count, tree } => {
-            let found = tree_end(rec, count, tree);
-            match found {
-                Checked::Ok(_) => Reading::Sheet { count, tree },
-                Checked::Malformed(place) => Reading::Malformed(place),
-                Checked::TooDeep(place) => Reading::TooDeep(place),
-            }
-        }
-        Tiled::Untiled(place) => Reading::Malformed(place),
+    if MAX_TEXT < text.len() || MAX_RECORD < rec.len() {
+        return Err(Refusal::TooLong);
+    }
+    match first_broken(text) {
+        Some(place) => Err(Refusal::NotUtf8(place)),
+        None => Ok(()),
     }
 }
 
-// Refusals 1 to 4, in this order; or the number of tokens, which stand in the tables, and where the list of declarations starts.
-pub fn check(text: &[u8], rec: &[u8], kinds: &mut [u8; 4096], spans: &mut [u32; 4096]) -> Reading
-    ensures { Reads text.now rec.now kinds.new (starts_of spans.new) (lengths_of spans.new) result }
+// Refusals 3 and 4, over a text of this length; or the tokens and where the list of declarations starts.
+fn read_record(text: &[u8], size: u16, rec: &[u8], tokens: &mut Tokens) -> Result<usize, Refusal>
+    ensures { RecordReads (boundary text.now) size rec.now tokens.new result }
 {
-    if MAX_TEXT < text.len() {
-        return Reading::TooLong;
-    }
-    if MAX_RECORD < rec.len() {
-        return Reading::TooLong;
-    }
-    if let Some(place) = first_broken(text) {
-        return Reading::NotUtf8(place);
-    }
-    read_record(text, text.len() as u16, rec, kinds, spans)
+    let tree = read_tokens(text, size, rec, tokens)?;
+    tree_end(rec, tokens.count(), tree)?;
+    Ok(tree)
+}
+
+// Refusals 1 to 4, in this order; or the tokens and the offset in the record where the list of declarations starts.
+pub fn check(text: &[u8], rec: &[u8], tokens: &mut Tokens) -> Result<usize, Refusal>
+    ensures { Reads text.now rec.now tokens.new result }
+{
+    check_text(text, rec)?;
+    read_record(text, text.len() as u16, rec, tokens)
 }

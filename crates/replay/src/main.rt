@@ -5,8 +5,8 @@ mod vector; // vector.rt: the layout of a stored call
 
 ghost use Rattle.std.specs.Prelude.{◌≡◌, length};
 
-use formatter::Answer;
-use formatter::numbers::numbers_of;
+use comments::Set;
+use formatter::{FormatError, Measures};
 use input::read_full;
 use std::io;
 use vector::{Call, Parts, Vector};
@@ -29,24 +29,27 @@ impl Vector<'_> {
     }
 
     // Whether number, place, measures and the set of comments left are the stored ones.
-    fn has_verdict(&self, answer: Answer, left: &[u64; 64]) -> bool {
-        let said = numbers_of(answer);
-        said.number == u64::from(self.number)
-            && said.place == self.place as usize
-            && said.measures == self.measures
-            && *left == self.set
+    fn has_verdict(&self, answer: Result<Measures, FormatError>, left: Set) -> bool {
+        let (number, place, measures) = match answer {
+            Ok(measures) => (0, 0, measures),
+            Err(why) => (why.number(), why.place(), why.measures()),
+        };
+        number == u64::from(self.number)
+            && place == self.place as usize
+            && measures == self.measures
+            && left.words == self.set
     }
 
     fn check_agrees(&self) -> bool {
-        let mut left = [0u64; 64];
+        let mut left = Set::new();
         let answer = formatter::check(self.text, self.rec, &mut left);
-        self.has_verdict(answer, &left)
+        self.has_verdict(answer, left)
     }
 
     fn get_agrees(&self, out: &mut [u8]) -> bool {
-        let mut left = [0u64; 64];
+        let mut left = Set::new();
         let answer = formatter::get(self.text, self.rec, self.tab, out, &mut left);
-        self.has_verdict(answer, &left) && &*out == self.last
+        self.has_verdict(answer, left) && &*out == self.last
     }
 
     fn comment_agrees(&self) -> bool {

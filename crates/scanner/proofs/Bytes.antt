@@ -134,3 +134,5 @@ module _ (base b : ℕ) where
   pub of_other : (base ≡ 10 → ⊥) → is_digit_of base b ≡ is_hex_digit b
   unfolding is_digit_of
   of_other e = rw (is_digit_of, ne_eqb base 10 e)
+
+pub ruleset digit_laws = (digit_low, digit-high)

@@ -10,7 +10,7 @@ pub mod CutLaws
 pub mod LongestLaws
 pub mod ScanLaws
 pub mod Lists
-pub mod TableLaws
+pub mod FillLaws
 pub mod WriteLaws
 pub mod CallLaws
 pub mod ReadBack

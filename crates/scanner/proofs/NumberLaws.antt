@@ -12,11 +12,11 @@ use lib.ListN.{length, take, drop}
 use Rattle.text.specs.Bytes.{bytes, between, is_digit, first_is}
 use Rattle.scanner.specs.Parts.{is_empty, every, one_or_more, behind, is_one_of}
 use Rattle.scanner.specs.Constants.{is_hex_digit, unsigned, is_decimal, digits_then, is_exponent, is_fraction, is_word}
-use Rattle.scanner.specs.Promises.Reach.{longer, reach, taken, run, is_hexadecimal, is_magnitude}
+use Rattle.scanner.specs.Promises.Reach.{longer, reach, taken, run, is_hexadecimal, is_magnitude, positive}
 use borrow.Author.Tests.{eqb-true}
 use Rattle.text.proofs.Computed.{and_left}
 use Rattle.scanner.proofs.Bytes.{apart, apart_all}
-use Rattle.scanner.proofs.ReachLaws.{longer-longer, longer-zero, best, best_none, empty, reach-nil, reach-same, reach-first, reach-some, reach_step, reach-none, reach_here, reach-or, reach-positive, run-yes, run-no, positive, taken-positive, reach-more, behind-no, behind-two, starts, reach-behind-yes, reach-behind-no, strip_no, strip_yes, wins}
+use Rattle.scanner.proofs.ReachLaws.{reach-within, found-behind, taken-behind, behind-within, longer-longer, longer-zero, best, best_none, empty, reach-nil, reach-same, reach-first, reach-some, reach_step, reach-none, reach_here, reach-or, reach-positive, run-yes, run-no, taken-positive, reach-more, behind-no, behind-two, starts, reach-behind-yes, reach-behind-no, strip_no, strip_yes, wins}
 
 -- ---- digits, then what refuses a digit
 
@@ -455,3 +455,23 @@ magnitude_other b s d z =
     ∙ ap₂ best
     (reach-none is_hexadecimal b s hexadecimal_nil (behind-no (120 ∷ []) (one_or_more is_hex_digit) 48 b z))
     (reach-none (digits_then tail) b s (digits-nil tail) (digits-no tail b d))
+
+pub hexadecimal_absent : (s : List ℕ) → pointwise eqb (take 2 s) (48 ∷ 120 ∷ []) ≡ false → reach is_hexadecimal s ≡ None
+unfolding is_hexadecimal bytes
+hexadecimal_absent s h = strip_no (one_or_more is_hex_digit) (48 ∷ 120 ∷ []) s h
+
+pub fraction_absent : (s : List ℕ) → pointwise eqb (take 1 s) (46 ∷ []) ≡ false → reach is_fraction s ≡ None
+unfolding is_fraction bytes
+fraction_absent s h = strip_no (digits_then (λ r. is_empty r || is_exponent r)) (46 ∷ []) s h
+
+pub ruleset decimal_laws = (decimal-signed, decimal-plain)
+
+pub ruleset exponent_laws = (exponent-end, exponent-other, exponent-part, reach-within)
+
+pub ruleset word_laws = (word-other, word-hex, word-digits)
+
+pub ruleset hexadecimal_laws = (hexadecimal-part, hexadecimal_absent)
+
+pub ruleset fraction_laws = (fraction_absent, fraction-none)
+
+pub ruleset magnitude_laws = (magnitude-hex, magnitude-none, magnitude-tail, tail_fraction, reach-within, found-behind, taken-behind, behind-within)

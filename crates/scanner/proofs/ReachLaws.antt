@@ -12,10 +12,10 @@ use lib.ListN.{length, get_or, take, drop, length-drop, drop_of_length-le}
 use lib.Seq.{drop-cons, drop-drop}
 use native.Mathlib.Numerals.{add-one}
 use borrow.Author.Tests.{eqb-true}
-use Rattle.text.proofs.Laws.{take_rest}
+use Rattle.text.proofs.Laws.{take_rest, never}
 use Rattle.text.specs.Bytes.{first_is}
 use Rattle.scanner.specs.Parts.{every, one_or_more, behind}
-use Rattle.scanner.specs.Promises.Reach.{longer, reach, taken, run}
+use Rattle.scanner.specs.Promises.Reach.{longer, reach, taken, positive, run}
 
 -- ---- lengths
 
@@ -88,7 +88,7 @@ reach_length passes (b ∷ s) = rw (reach-cons passes b s) (go (reach (λ u. pas
     go None false h = omega arith
     go (Some n) t h = omega (arith, h)
 
-pub value_or : (x : Option ℕ) {n : ℕ} → n ≡ unwrap_or x 0 → n ≡ taken x
+value_or : (x : Option ℕ) {n : ℕ} → n ≡ unwrap_or x 0 → n ≡ taken x
 unfolding taken
 value_or None e = e
 value_or (Some n) e = e
@@ -115,10 +115,6 @@ onward-longer : (x : Option ℕ) → onward x false ≡ longer 1 x
 unfolding onward empty longer
 onward-longer None = refl
 onward-longer (Some n) = ap Some (omega arith)
-
-onward_here : (x : Option ℕ) → x ≡ None → onward x true ≡ Some 0
-unfolding onward empty
-onward_here x e = rw e
 
 is_some : {n : ℕ} (x : Option ℕ) → x ≡ Some n → x ≡ Some (taken x)
 unfolding taken
@@ -267,15 +263,29 @@ reach-every test (b ∷ s) = go (test b) refl (reach-every test s)
 
 -- ---- one byte or more
 
--- A length, none for 0.
-unfoldable pub positive : ℕ → Option ℕ
-positive zero = None
-positive (suc n) = Some (suc n)
-
 pub positive-some : (n : ℕ) → (n ≡ 0 → ⊥) → positive n ≡ Some n
 unfolding positive
 positive-some zero h = absurd (h refl)
 positive-some (suc n) h = refl
+
+-- A length of a byte or more.
+pub some_of : {n m : ℕ} → n ≡ m → 1 ≤ n → Some n ≡ positive m
+some_of {n} e h = sym (ap positive (sym e) ∙ positive-some n (λ z. omega arith))
+
+pub none_of : (n : ℕ) → None ≡ positive n → n ≡ 0
+unfolding positive
+none_of zero e = refl
+none_of (suc n) e = never (cc)
+
+pub number_of_some : (n : ℕ) {m : ℕ} → Some m ≡ positive n → (n ≡ m) × (1 ≤ m)
+unfolding positive
+number_of_some zero e = never (cc)
+number_of_some (suc n) e = let f : suc n ≡ _ = cc in (f, omega arith)
+
+pub longer-positive : (k : ℕ) (x : Option ℕ) → longer (suc k) x ≡ positive (taken (longer (suc k) x))
+unfolding positive taken longer
+longer-positive k None = refl
+longer-positive k (Some n) = sym (positive-some (suc k + n) (λ z. omega arith))
 
 pub taken-positive : (n : ℕ) → taken (positive n) ≡ n
 unfolding positive taken
@@ -459,3 +469,5 @@ module _ (word : List ℕ) (passes : List ℕ → Bool) (c d : ℕ) (s : List �
       ∙ ap (longer 1) (reach-behind-yes word passes d (drop (at + 1) s) h)
       ∙ longer-longer 1 1 (reach (behind word passes) (drop 1 (drop (at + 1) s)))
       ∙ ap (λ (u : List ℕ). longer 2 (reach (behind word passes) u)) (drop-drop 1 (at + 1) s ∙ ap (λ (n : ℕ). drop n s) (two_more at))
+
+pub ruleset first_laws = (first-end, first-here)

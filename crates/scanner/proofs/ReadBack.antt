@@ -14,7 +14,7 @@ use Rattle.text.specs.Utf8.{continuation, is_in, is_inside, boundary}
 use Rattle.reader.specs.Commands as Reader
 use Rattle.reader.specs.Tokens.{Tokens, no_tokens, token∷, tiled, end_tokens, with_token, tokens_from}
 use Rattle.reader.specs.Tokens as Reading
-use Rattle.reader.proofs.TokenLaws.{next-end, next-token, from_is, from_end, full-end}
+use Rattle.reader.proofs.TokenLaws.{next-end, next-token, from_is, from_end}
 use Rattle.scanner.specs.Parts.{is_one_of}
 use Rattle.scanner.specs.Lexical.{is_symbol, is_token, token_of, kind_of}
 use Rattle.scanner.specs.Scan.{command, commands}
@@ -60,7 +60,7 @@ module _ (ends : ℕ → Bool) (size : ℕ) (rec : List ℕ) (start at kind len 
   unfolding command with_token
   read-token n {ts} {end} k l w i more =
       from_is ends size rec start at
-      (next-token ends size rec start at (first-at rec at e) (record { is = sym stands }) refl (sym kind_at) k (sym length_at) l w i) n
+      (next-token ends size rec start at (first-at rec at e) stands (sym kind_at) k (sym length_at) l w i) n
       ∙ ap (with_token size rec start at) more
       ∙ ap₂ (λ (x y : ℕ). tiled (token∷ x start y ts) end) kind_at length_at
 
@@ -112,9 +112,7 @@ module _ (text rec tree : List ℕ) (other : get_or tree 0 0 ≡ 5 → ⊥) wher
 
   read-end : (n start at : ℕ) → drop at rec ≡ tree → start ≡ size → tokens_from ends size rec n start at ≡ tiled no_tokens at
   unfolding end_tokens
-  read-end zero start at e s =
-      full-end ends size rec start at (λ q. other (sym (first-at rec at e) ∙ q)) ∙ rw (eq-eqb start size s, end_tokens)
-  read-end (suc n) start at e s =
+  read-end n start at e s =
       from_end ends size rec start at n (next-end ends size rec start at (λ q. other (sym (first-at rec at e) ∙ q)))
       ∙ rw (eq-eqb start size s, end_tokens)
 

@@ -1,14 +1,14 @@
 -- Laws of the longest token: plain search is reach, and what begins with each first byte. Assumes nothing.
-use Prim.Native.Nat.{ℕ, zero, suc, ◌+◌, ◌<◌}
+use Prim.Native.Nat.{ℕ, zero, suc, ◌+◌, ◌≤◌, ◌<◌}
 use Prim.Native.String.{String}
 use native.Mathlib.Omega.{arith}
 use mathlib.Core.Path.{◌≡◌, refl, sym, ap, ap₂, ◌∙◌, fun_ext, subst⁻¹}
 use mathlib.Core.Bool.{Bool, true, false, not, ◌&&◌, ◌||◌, false≢true, or-true, or-false, or_comm}
 use mathlib.Core.Logic.{inl, inr}
 use mathlib.Core.List.{List, [], ◌∷◌, ◌++◌}
-use Rattle.std.specs.Prelude.{Option, None, Some}
+use Rattle.std.specs.Prelude.{Option, None, Some, MatchOption, slice_get}
 use lib.Dec.{eqb}
-use lib.ListN.{length, get_or, take, drop}
+use lib.ListN.{length, take, drop}
 use lib.Seq.{drop-drop}
 use native.Mathlib.Nat.{zero-add}
 use types.Run.{OneOf}
@@ -19,12 +19,12 @@ use Rattle.scanner.specs.Parts.{is_empty, every, one_or_more, behind, is_one_of,
 use Rattle.scanner.specs.Constants.{is_hex_digit, unsigned, is_decimal, is_integer, is_word, digits_then, is_exponent, is_fraction, is_real}
 use Rattle.scanner.specs.Strings.{between_characters, is_string, is_character}
 use Rattle.scanner.specs.Lexical.{reserved_core, reserved_modules, is_reserved, is_alphanumeric_byte, is_alphanumeric, is_symbol, is_symbolic, closes, is_comment, is_white_space, is_dot, is_token, opens_comment, token_of, longest_up_to, longest}
-use Rattle.scanner.specs.Promises.Reach.{longer, reach, taken, run, is_hexadecimal, is_magnitude}
+use Rattle.scanner.specs.Promises.Reach.{longer, reach, taken, positive, run, is_hexadecimal, is_magnitude}
 use Rattle.scanner.specs.Promises.Extents.{Extent, ends, endless, further, extent, extent_of}
 use Rattle.scanner.specs.declared.strings.Quoted.{Quoted}
 use Rattle.text.proofs.Computed.{and_left, and_right, all_below, same}
 use Rattle.scanner.proofs.Bytes.{absorb, not_so, apart_all, decides, by_bytes, among_keys}
-use Rattle.scanner.proofs.ReachLaws.{best, empty, down, down-reach, reach-never, reach_step, reach-first, reach-or, reach-every, reach-positive, run-no, more_yes, more_no, behind-no, starts, reach-behind-yes, reach-behind-no, reach-behind_all, reach-two, reach-two-no}
+use Rattle.scanner.proofs.ReachLaws.{longer-positive, some_of, best, empty, down, down-reach, reach-never, reach_step, reach-first, reach-or, reach-every, reach-positive, run-no, more_yes, more_no, behind-no, starts, reach-behind-yes, reach-behind-no, reach-behind_all, reach-two, reach-two-no}
 use Rattle.scanner.proofs.NumberLaws.{some_positive, unsigned-no, digits-no, best_zero, reach-empty, reach-or_empty, word_wins, word_nil, magnitude_nil, magnitude_other}
 use Rattle.scanner.proofs.StringLaws.{denotes, bytes_of, reach-denotes}
 
@@ -58,10 +58,10 @@ pub longest-comment : (rest : List ℕ) → opens_comment rest ≡ true → long
 unfolding token_of
 longest-comment rest e = longest-is rest is_comment (λ n. rw (token_of, e))
 
-pub longest-empty : (rest : List ℕ) → length rest ≡ 0 → longest rest ≡ 0
-unfolding longest longest_up_to
+pub longest-empty : (rest : List ℕ) → None ≡ slice_get rest 0 → None ≡ positive (longest rest)
+unfolding longest longest_up_to positive
 longest-empty [] h = refl
-longest-empty (b ∷ t) h = absurd (omega arith)
+longest-empty (b ∷ t) h = never (cc)
 
 token_nil : is_token [] ≡ false
 unfolding is_token is_reserved reserved_core reserved_modules is_among bytes same_bytes is_integer is_decimal unsigned one_or_more behind is_word is_real digits_then is_string is_character is_alphanumeric is_symbolic is_comment is_white_space is_dot
@@ -415,13 +415,22 @@ module _ (rest : List ℕ) (b : ℕ) (s : rest ≡ b ∷ drop 1 rest) where
         ∙ ap (reach (λ t. is_word t || is_magnitude t)) (sym s)
         ∙ reach-or is_word is_magnitude rest)
 
-    pub number-plain : is_digit b ≡ true → reach is_word rest ≡ None → longest rest ≡ taken (reach is_magnitude rest)
+    number-plain : is_digit b ≡ true → reach is_word rest ≡ None → longest rest ≡ taken (reach is_magnitude rest)
     unfolding best
     number-plain e z = longest-number e ∙ ap (λ (x : Option ℕ). taken (best x (reach is_magnitude rest))) z
 
-    pub number-word : is_digit b ≡ true → {n : ℕ} → reach is_word rest ≡ Some n → longest rest ≡ n
+    number-word : is_digit b ≡ true → {n : ℕ} → reach is_word rest ≡ Some n → longest rest ≡ n
     unfolding taken
     number-word e {n} z = longest-number e ∙ ap taken (word_wins rest (rw z (some_positive n (rw z at (reach-positive is_word rest word_nil)))) ∙ z)
+
+    -- A word, else another number.
+    pub number-either : is_digit b ≡ true → (x : Option ℕ) {y : Option ℕ} {P : Type 0} → x ≡ reach is_word rest → MatchOption x P (λ n. y ≡ Some n)
+        → (P → y ≡ reach is_magnitude rest) → y ≡ positive (longest rest)
+    unfolding taken
+    number-either e None w m f =
+        f m ∙ reach-positive is_magnitude rest magnitude_nil ∙ sym (ap positive (number-plain e (sym w)))
+    number-either e (Some n) w m f =
+        m ∙ w ∙ reach-positive is_word rest word_nil ∙ ap (λ (o : Option ℕ). positive (taken o)) (sym w) ∙ ap positive (sym (number-word e (sym w)))
 
   pub longest-lone : OneOf lone_bytes b → eqb b 40 ≡ false → longest rest ≡ 1
   unfolding longer taken
@@ -505,18 +514,19 @@ longest-quote rest s =
     ∙ ap (λ (x : Option ℕ). taken (longer 1 x)) (reach-denotes (drop 1 rest) (λ n. true) between_characters)
 
 module _ (rest : List ℕ) (s : rest ≡ 34 ∷ drop 1 rest) (r : Option Quoted) (is : extent_of r ≡ further 1 0 (extent between_characters (drop 1 rest))) where
-  pub quote-endless : r ≡ None → 0 ≡ longest rest
-  unfolding longer taken
+  pub quote-endless : r ≡ None → None ≡ positive (longest rest)
+  unfolding longer taken positive
   quote-endless e =
       sym
+      (ap positive
       (longest-quote rest s
-      ∙ ap (λ (x : Option ℕ). taken (longer 1 x)) (read-endless (λ n. true) 1 (extent between_characters (drop 1 rest)) r is e))
+      ∙ ap (λ (x : Option ℕ). taken (longer 1 x)) (read-endless (λ n. true) 1 (extent between_characters (drop 1 rest)) r is e)))
 
-  pub quote-ends : (q : Quoted) → r ≡ Some q → q.end ≡ longest rest
+  pub quote-ends : (q : Quoted) → r ≡ Some q → Some q.end ≡ positive (longest rest)
   unfolding longer taken
   quote-ends q e =
       let p = read-yes (λ n. true) 1 (extent between_characters (drop 1 rest)) r is q e refl in
-      p.2 ∙ sym (longest-quote rest s ∙ ap (λ (x : Option ℕ). taken (longer 1 x)) p.1)
+      some_of (p.2 ∙ sym (longest-quote rest s ∙ ap (λ (x : Option ℕ). taken (longer 1 x)) p.1)) (omega (arith, p.2))
 
 module _ (rest : List ℕ) (s : rest ≡ 35 ∷ drop 1 rest) where
   longest-hash : longest rest ≡ taken (longer 1 (best (Some (run is_symbol (drop 1 rest))) (reach (behind (34 ∷ []) one_character) (drop 1 rest))))
@@ -546,6 +556,9 @@ module _ (rest : List ℕ) (s : rest ≡ 35 ∷ drop 1 rest) where
         ∙ reach-denotes (drop 2 rest) (λ n. eqb n 1) between_characters))
         ∙ ap (λ (x : Option ℕ). taken (longer 1 x)) (best_zero (longer 1 (bytes_of (λ n. eqb n 1) (extent between_characters (drop 2 rest)))))
 
+    pub hash-some : 1 ≤ longest rest
+    hash-some = omega (arith, hash-string)
+
     module _ (r : Option Quoted) (is : extent_of r ≡ further 2 0 (extent between_characters (drop 2 rest))) where
       nothing : bytes_of (λ n. eqb n 1) (extent between_characters (drop 2 rest)) ≡ None → 1 ≡ longest rest
       unfolding longer taken
@@ -555,15 +568,15 @@ module _ (rest : List ℕ) (s : rest ≡ 35 ∷ drop 1 rest) where
       hash-endless e = nothing (read-endless (λ n. eqb n 1) 2 (extent between_characters (drop 2 rest)) r is e)
 
       module _ (q : Quoted) (e : r ≡ Some q) where
-        pub hash-one : eqb q.count 1 ≡ true → q.end ≡ longest rest
+        pub hash-one : q.count ≡ 1 → q.end ≡ longest rest
         unfolding longer taken
         hash-one o =
-            let p = read-yes (λ n. eqb n 1) 2 (extent between_characters (drop 2 rest)) r is q e o in
+            let p = read-yes (λ n. eqb n 1) 2 (extent between_characters (drop 2 rest)) r is q e (eq-eqb q.count 1 o) in
             let f : 2 + p.0 ≡ 1 + (1 + p.0) = omega arith in
             p.2 ∙ f ∙ sym (hash-string ∙ ap (λ (x : Option ℕ). 1 + taken (longer 1 x)) p.1)
 
-        pub hash-other : eqb q.count 1 ≡ false → 1 ≡ longest rest
-        hash-other o = nothing (read_no (λ n. eqb n 1) 2 (extent between_characters (drop 2 rest)) r is q e o)
+        pub hash-other : (q.count ≡ 1 → ⊥) → 1 ≡ longest rest
+        hash-other o = nothing (read_no (λ n. eqb n 1) 2 (extent between_characters (drop 2 rest)) r is q e (ne_eqb q.count 1 o))
 
 -- ---- brackets and dots
 
@@ -612,9 +625,9 @@ module _ (rest : List ℕ) (s : rest ≡ 46 ∷ drop 1 rest) where
       ∙ ap (λ (x : Option ℕ). taken (longer 1 (Some (taken x))))
       (reach-two [] is_empty 46 46 rest 1 g h ∙ ap (longer 2) (reach-behind_all is_empty (drop 3 rest) ∙ reach-empty (drop 3 rest)))
 
-pub start : (rest : List ℕ) → (length rest ≡ 0 → ⊥) → rest ≡ get_or rest 0 0 ∷ drop 1 rest
-start [] h = absurd (h refl)
-start (b ∷ t) h = refl
+pub start : (rest : List ℕ) {b : ℕ} → Some b ≡ slice_get rest 0 → rest ≡ b ∷ drop 1 rest
+start [] h = never (cc)
+start (c ∷ t) {b} h = let e : c ≡ b = cc in ap (λ (x : ℕ). x ∷ t) e
 
 -- ---- tests of a first byte
 
@@ -648,3 +661,7 @@ module _ (b : ℕ) where
         ne_eqb b 95 (λ e. n (inr (inr (inr (inr (inr (inl e))))))),
         ne_eqb b 34 q,
       )
+
+pub ruleset dots_laws = (dots-one, dots_two, dots-three)
+
+pub ruleset bracket_laws = (bracket-comment, bracket-alone, longer-positive)

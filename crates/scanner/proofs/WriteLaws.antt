@@ -1,11 +1,19 @@
 -- Laws of the commands: written one by one, they stand in front of the rest of the output. Assumes nothing.
 use Prim.Native.Nat.{ℕ, zero, suc, ◌+◌, ◌*◌, ◌/◌, ◌%◌, ◌≤◌, ◌<◌}
 use native.Mathlib.Omega.{arith}
+use native.Mathlib.Nat.{zero-add}
 use native.Mathlib.Numerals.{add-one, add-two, add-three}
 use mathlib.Core.Path.{◌≡◌, refl, sym, ap, ap₂, ◌∙◌}
 use mathlib.Core.List.{List, [], ◌∷◌, ◌++◌}
 use lib.ListN.{length, get_or, take, drop, set, length-append, length-drop, length-set}
-use lib.Seq.{sets-eq, length-take-le, take_all, take_at, drop-append-add, drop-drop}
+use lib.Seq.{sets-eq, length-take-le, take_at, drop-append-add, drop-drop}
+use Rattle.std.specs.List.{zip, enumerate_from}
+use Rattle.std.proofs.lemmas.Grind.{get_or_default_zero}
+use Rattle.std.proofs.lemmas.List.{get_or-map, length-map}
+use Rattle.std.proofs.lemmas.List.FromFn.{length-enumerate_from, get_or-enumerate_from}
+use Rattle.std.proofs.lemmas.Slice.Zip.{length-zip, get_or-zip}
+use Rattle.reader.specs.declared.tokens.Span.{Span}
+use Rattle.reader.specs.Promises.Tokens.{lengths_of}
 use Rattle.scanner.specs.Scan.{command, commands}
 
 -- As many commands as tokens, each of four bytes.
@@ -43,6 +51,7 @@ pub wrote_none : (kinds lens out : List ℕ) → Wrote kinds lens out 0 out
 unfolding commands
 wrote_none kinds lens out = record { within = omega arith; is = refl; same = refl }
 
+-- The lists are as long as each other.
 module _ {kinds lens out out' : List ℕ} {k : ℕ} (p : Wrote kinds lens out k out') (e : length lens ≡ length kinds) where
   -- One more token.
   module _ (h : 4 * length kinds ≤ length out) (l : k < length kinds) where
@@ -69,10 +78,37 @@ module _ {kinds lens out out' : List ℕ} {k : ℕ} (p : Wrote kinds lens out k 
           same = simp length-set p.same;
         }
 
-  -- All of them.
-  pub wrote-all : length kinds ≤ k → out' ≡ commands kinds lens ++ drop (4 * length kinds) out
-  wrote-all h =
-      let n : k ≡ length kinds = omega (arith, p.within) in
-      p.is
-      ∙ ap₂ (λ (f : List ℕ) (m : ℕ). f ++ drop m out)
-      (ap₂ commands (take_all k kinds h) (take_all k lens (omega arith))) (ap (λ (m : ℕ). 4 * m) n)
+-- A turn of the loop over kinds and spans, each with its number: the commands of one more token.
+module _ {kinds lens out out' : List ℕ} (spans : List Span) {n : ℕ} (p : Wrote kinds lens out n out') (s : lengths_of spans ≡ lens) (e : length spans ≡ length kinds) where
+  abbrev numbered : List (ℕ × (ℕ × Span))
+  numbered = enumerate_from 0 (zip kinds spans)
+
+  module _ (h : 4 * length kinds ≤ length out) {k kind : ℕ} {span : Span} (t : (n < length numbered) × ((k, (kind, span)) ≡ get_or numbered n (k, (kind, span)))) where
+    below : n < length kinds
+    below = omega (arith, t.0, length-enumerate_from 0 (zip kinds spans), length-zip kinds spans, e)
+
+    item : ◌≡◌ {A = ℕ × (ℕ × Span)} (k, (kind, span)) (n, (get_or kinds n kind, get_or spans n span))
+    item =
+        t.1
+        ∙ get_or-enumerate_from 0 (zip kinds spans) n (k, (kind, span)) (omega (arith, length-zip kinds spans, e, below))
+        ∙ ap (λ (m : ℕ). (m, get_or (zip kinds spans) n (kind, span))) (zero-add n)
+        ∙ ap (λ (x : ℕ × Span). (n, x)) (get_or-zip kinds spans n (kind, span) below (omega (arith, e, below)))
+
+    lens-long : length lens ≡ length kinds
+    lens-long = ap length (sym s) ∙ length-map spans (λ (x : Span). x.len) ∙ e
+
+    place : k ≡ n
+    place = ap (λ (x : ℕ × (ℕ × Span)). x.0) item
+
+    kind-is : kind ≡ get_or kinds n 0
+    kind-is = ap (λ (x : ℕ × (ℕ × Span)). x.1.0) item ∙ get_or_default_zero kinds n kind below
+
+    len-is : span.len ≡ get_or lens n 0
+    len-is =
+        ap (λ (x : ℕ × (ℕ × Span)). x.1.1.len) item
+        ∙ sym (get_or-map (λ (x : Span). x.len) spans n span 0 (omega (arith, e, below)))
+        ∙ ap (λ (l : List ℕ). get_or l n 0) s
+
+    pub wrote-turn : {low high : ℕ} → low ≡ span.len % 256 → high ≡ span.len / 256
+        → Wrote kinds lens out (n + 1) (set (set (set (set out' (4 * k) 5) (4 * k + 1) kind) (4 * k + 2) low) (4 * k + 3) high)
+    wrote-turn f g = rw (f, g, place, kind-is, len-is) (wrote-more p lens-long h below)

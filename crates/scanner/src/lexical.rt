@@ -1,13 +1,13 @@
 // The longest token at the start of a text, and the kind of a token.
-ghost use Rattle.std.specs.Prelude.{◌≡◌, ◌∷◌, true, false, drop};
+ghost use Rattle.std.specs.Prelude.{◌≡◌, ◌≤◌, ◌∷◌, true, false, drop};
 ghost use Rattle.text.specs.Bytes.{is_space, is_letter, is_digit};
 ghost use Rattle.scanner.specs.Lexical.{closes, longest, kind_of};
-ghost use Rattle.scanner.specs.Promises.Reach.{longer, reach, kind_if};
+ghost use Rattle.scanner.specs.Promises.Reach.{longer, reach, positive, kind_if};
 
 use crate::runs::{is_alphanumeric, is_symbol, run, spaces, stands};
 use crate::{numbers, strings};
 
-// The end of a comment that starts with the two bytes before an offset.
+// The end of a comment that starts with the two bytes before an offset. By an index: a `for` over pairs of bytes takes twice the time.
 fn comment_end(s: &[u8], from: usize) -> Option<usize>
     ensures { result ≡ longer from (reach (λ t. closes t 1) (drop from s.now)) }
 {
@@ -20,8 +20,8 @@ fn comment_end(s: &[u8], from: usize) -> Option<usize>
     while at < last {
         let b = s[at];
         at += 1;
-        if b == 42 {
-            if s[at] == 41 {
+        if b == b'*' {
+            if s[at] == b')' {
                 at += 1;
                 depth -= 1;
                 if depth == 0 {
@@ -30,8 +30,8 @@ fn comment_end(s: &[u8], from: usize) -> Option<usize>
             }
             continue;
         }
-        if b == 40 {
-            if s[at] == 42 {
+        if b == b'(' {
+            if s[at] == b'*' {
                 at += 1;
                 depth += 1;
             }
@@ -43,7 +43,8 @@ fn comment_end(s: &[u8], from: usize) -> Option<usize>
 // A token that starts with `~`.
 fn negation(rest: &[u8]) -> usize
     requires { rest.now ≡ 126 ∷ drop 1 rest.now }
-    ensures { result ≡ longest rest.now }
+    ensures is { result ≡ longest rest.now }
+    ensures some { 1 ≤ result }
 {
     if let Some(n) = numbers::magnitude(&rest[1..]) {
         return 1 + n;
@@ -54,7 +55,8 @@ fn negation(rest: &[u8]) -> usize
 // A token that starts with `#`.
 fn hash(rest: &[u8]) -> usize
     requires { rest.now ≡ 35 ∷ drop 1 rest.now }
-    ensures { result ≡ longest rest.now }
+    ensures is { result ≡ longest rest.now }
+    ensures some { 1 ≤ result }
 {
     if !stands(rest, 1, b'"') {
         return run(rest, 1, is_symbol);
@@ -69,43 +71,40 @@ fn hash(rest: &[u8]) -> usize
 }
 
 // A token that starts with `"`.
-fn quoted(rest: &[u8]) -> usize
+fn quoted(rest: &[u8]) -> Option<usize>
     requires { rest.now ≡ 34 ∷ drop 1 rest.now }
-    ensures { result ≡ longest rest.now }
+    ensures { result ≡ positive (longest rest.now) }
 {
-    match strings::string(rest, 1) {
-        Some(string) => string.end,
-        None => 0,
-    }
+    Some(strings::string(rest, 1)?.end)
 }
 
 // A token that starts with a digit.
-fn number(rest: &[u8], b: u8) -> usize
+fn number(rest: &[u8], b: u8) -> Option<usize>
     requires rest_value { rest.now ≡ b ∷ drop 1 rest.now }
     requires b_value { is_digit b ≡ true }
-    ensures { result ≡ longest rest.now }
+    ensures { result ≡ positive (longest rest.now) }
 {
-    if let Some(n) = numbers::word(rest) {
-        return n;
-    }
-    numbers::magnitude(rest).unwrap_or(0)
+    numbers::word(rest).or_else(|| numbers::magnitude(rest))
 }
 
 // A token that starts with `(`.
-fn bracket(rest: &[u8]) -> usize
+#[tactic(auto, using(crate::proofs::TokenLaws::bracket_laws), unfolding(crate::specs::Promises::Reach::positive))]
+fn bracket(rest: &[u8]) -> Option<usize>
     requires { rest.now ≡ 40 ∷ drop 1 rest.now }
-    ensures { result ≡ longest rest.now }
+    ensures { result ≡ positive (longest rest.now) }
 {
     if stands(rest, 1, b'*') {
-        return comment_end(rest, 2).unwrap_or(0);
+        return comment_end(rest, 2);
     }
-    1
+    Some(1)
 }
 
 // A token that starts with `.`.
+#[tactic(auto, using(crate::proofs::TokenLaws::dots_laws))]
 fn dots(rest: &[u8]) -> usize
     requires { rest.now ≡ 46 ∷ drop 1 rest.now }
-    ensures { result ≡ longest rest.now }
+    ensures is { result ≡ longest rest.now }
+    ensures some { 1 ≤ result }
 {
     if stands(rest, 1, b'.') {
         if stands(rest, 2, b'.') {
@@ -116,51 +115,42 @@ fn dots(rest: &[u8]) -> usize
 }
 
 // A token that starts with none of letters, primes, digits, white space.
-fn other(rest: &[u8], b: u8) -> usize
+fn other(rest: &[u8], b: u8) -> Option<usize>
     requires rest_value { rest.now ≡ b ∷ drop 1 rest.now }
     requires b_value { (is_space b ≡ false) × (is_letter b ≡ false) × (b ≡ 39 → ⊥) × (is_digit b ≡ false) }
-    ensures { result ≡ longest rest.now }
+    ensures { result ≡ positive (longest rest.now) }
 {
     match b {
         b'"' => quoted(rest),
-        b'#' => hash(rest),
+        b'#' => Some(hash(rest)),
         b'(' => bracket(rest),
-        b'.' => dots(rest),
-        b'~' => negation(rest),
-        b')' | b',' | b';' | b'[' | b']' | b'_' | b'{' | b'}' => 1,
-        _ => {
-            if is_symbol(b) {
-                return run(rest, 1, is_symbol);
-            }
-            0
-        }
+        b'.' => Some(dots(rest)),
+        b'~' => Some(negation(rest)),
+        b')' | b',' | b';' | b'[' | b']' | b'_' | b'{' | b'}' => Some(1),
+        _ if is_symbol(b) => Some(run(rest, 1, is_symbol)),
+        _ => None,
     }
 }
 
-// The length of the longest token at the start; 0 where none begins there.
-pub fn token_length(rest: &[u8]) -> usize
-    ensures { result ≡ longest rest.now }
+// The length of the longest token at the start, where one begins there.
+pub fn token_length(rest: &[u8]) -> Option<usize>
+    ensures { result ≡ positive (longest rest.now) }
 {
-    if rest.len() == 0 {
-        return 0;
-    }
-    let b = rest[0];
-    if text::is_letter(b) {
-        return run(rest, 1, is_alphanumeric);
+    let b = *rest.first()?;
+    if text::is_letter(b) || b == b'\'' {
+        return Some(run(rest, 1, is_alphanumeric));
     }
     if text::is_digit(b) {
         return number(rest, b);
     }
     if text::is_space(b) {
-        return spaces(rest, 1);
-    }
-    if b == b'\'' {
-        return run(rest, 1, is_alphanumeric);
+        return Some(spaces(rest, 1));
     }
     other(rest, b)
 }
 
 // The kind where the token is the word, else the other.
+#[tactic(auto, unfolding(crate::specs::Promises::Reach::kind_if))]
 fn kind_if(token: &[u8], word: &[u8], kind: u8, other: u8) -> u8
     ensures { result ≡ kind_if token.now word.now kind other }
 {

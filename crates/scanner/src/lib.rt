@@ -1,4 +1,4 @@
-// Tokens straight from the text (document 02, Ticket 2): tables of tokens, and above them the commands of a record.
+// Tokens straight from the text (document 02, Ticket 2), and the commands of a record that they are.
 #![tactic(auto)]
 
 pub mod lexical; // lexical.rt: the longest token and its kind
@@ -6,17 +6,17 @@ mod numbers; // numbers.rt: integers, words and reals
 mod runs; // runs.rt: runs of bytes of a class
 mod strings; // strings.rt: string and character constants
 
-ghost use Rattle.std.specs.Prelude.{◌≡◌, ◌++◌, ℕ, ◌*◌, ◌≤◌, ◌<◌, length, get_or, drop};
-ghost use Rattle.reader.specs.Promises.Tokens.{Long};
+ghost use Rattle.std.specs.Prelude.{◌≡◌, ◌++◌, ◌*◌, ◌≤◌, length, drop};
+ghost use Rattle.reader.specs.Tokens.{count_of, no_tokens};
 ghost use Rattle.reader.specs.Reading.{max_text};
-ghost use Rattle.scanner.specs.Scan.{number_at, commands, scan as scan·};
+ghost use Rattle.scanner.specs.Scan.{number_at, scan_text, limited, read, commands, scan as scan·};
 ghost use Rattle.scanner.specs.declared.ScanError.TheVariants.{Refused};
 ghost use Rattle.scanner.specs.Answers.{number_of, place_of, reply_of};
-ghost use Rattle.scanner.specs.Promises.Answers.{Kept, Fills, Reads};
+ghost use Rattle.scanner.specs.Promises.Answers.{scanned_in};
 
 use lexical::{kind_of, token_length};
 use reader::MAX_TEXT;
-use reader::tokens::MAX_TOKENS;
+use reader::tokens::{MAX_TOKENS, Span, Tokens};
 use text::first_broken;
 
 // Why a text is refused.
@@ -32,6 +32,36 @@ pub enum Refusal {
     NoString(usize),
     // The offset of another byte that begins no token.
     BeginsNoToken(usize),
+}
+
+impl Refusal {
+    // The number of the documents.
+    #[tactic(auto, unfolding(crate::specs::Answers::number_of))]
+    pub fn number(self) -> u64
+        ensures { result ≡ number_of self }
+    {
+        match self {
+            Refusal::TooLong => 1,
+            Refusal::NotUtf8(_) => 2,
+            Refusal::OpenComment(_) => 10,
+            Refusal::NoString(_) => 11,
+            Refusal::BeginsNoToken(_) => 12,
+        }
+    }
+
+    // The place.
+    #[tactic(auto, unfolding(crate::specs::Answers::place_of))]
+    pub fn place(self) -> usize
+        ensures { result ≡ place_of self }
+    {
+        match self {
+            Refusal::TooLong => 0,
+            Refusal::NotUtf8(place)
+            | Refusal::OpenComment(place)
+            | Refusal::NoString(place)
+            | Refusal::BeginsNoToken(place) => place,
+        }
+    }
 }
 
 // Why `scan` writes nothing.
@@ -50,8 +80,9 @@ impl From<Refusal> for ScanError {
     }
 }
 
-// ---- tables of tokens
+// ---- tokens
 // The refusal at an offset where no token begins, by the byte there.
+#[tactic(auto, unfolding(crate::specs::Scan::number_at, crate::specs::Answers::number_of, crate::specs::Answers::place_of))]
 fn refused_at(b: u8, at: usize) -> Refusal
     ensures { (number_of result ≡ number_at b) × (place_of result ≡ at) }
 {
@@ -62,65 +93,39 @@ fn refused_at(b: u8, at: usize) -> Refusal
     }
 }
 
-// Puts a token into the tables, where they have an entry for it.
-fn keep(
-    kinds: &mut [u8],
-    starts: &mut [u16],
-    lens: &mut [u16],
-    count: usize,
-    kind: u8,
-    start: u16,
-    len: u16,
-)
-    requires { Long kinds.old starts.old lens.old }
-    ensures { Kept kinds.old starts.old lens.old count kind start len
-        kinds.new starts.new lens.new }
-{
-    if count < MAX_TOKENS {
-        kinds[count] = kind;
-        starts[count] = start;
-        lens[count] = len;
-    }
-}
-
-// Fills the tables from the front. Tokens past their end are counted.
-fn fill(
-    text: &[u8],
-    kinds: &mut [u8],
-    starts: &mut [u16],
-    lens: &mut [u16],
-) -> Result<usize, Refusal>
+// The tokens of a text, into an empty list; those past its end are left out and refused.
+fn fill(text: &[u8], tokens: &mut Tokens) -> Result<(), Refusal>
     requires text_len_bound { length text.now ≤ max_text }
-    requires long { Long kinds.old starts.old lens.old }
-    ensures { Fills text.now kinds.new starts.new lens.new result }
+    requires empty { tokens.old ≡ no_tokens }
+    ensures { scanned_in result tokens.new ≡ limited (scan_text text.now) }
 {
-    let mut count: usize = 0;
     let mut at: usize = 0;
+    let mut fit = true;
     while at < text.len() {
         let rest = &text[at..];
-        let len = token_length(rest);
-        if len == 0 {
+        let Some(len) = token_length(rest) else {
             return Err(refused_at(text[at], at));
+        };
+        if tokens.count() < MAX_TOKENS {
+            let span = Span {
+                start: at as u16,
+                len: len as u16,
+            };
+            tokens.push(kind_of(&rest[..len]), span);
+        } else {
+            fit = false;
         }
-        let kind = kind_of(&rest[..len]);
-        keep(kinds, starts, lens, count, kind, at as u16, len as u16);
-        count += 1;
         at += len;
     }
-    if MAX_TOKENS < count {
-        return Err(Refusal::TooLong);
-    }
-    Ok(count)
+    if fit { Ok(()) } else { Err(Refusal::TooLong) }
 }
 
-// The tokens of a text: 1 and 2, then 10 to 12, then 1 for the tokens. The tables hold them where none is told.
-pub fn tables(
-    text: &[u8],
-    kinds: &mut [u8; 4096],
-    starts: &mut [u16; 4096],
-    lens: &mut [u16; 4096],
-) -> Result<usize, Refusal>
-    ensures { Reads text.now kinds.new starts.new lens.new result }
+// The tokens of a text, into an empty list: 1 and 2, then 10 to 12, then 1 for the tokens. The list holds them where none is told.
+// To empty it here takes a twentieth more time.
+#[tactic(auto, unfolding(crate::specs::Scan::read, crate::specs::Answers::number_of, crate::specs::Answers::place_of))]
+fn read_text(text: &[u8], tokens: &mut Tokens) -> Result<(), Refusal>
+    requires { tokens.old ≡ no_tokens }
+    ensures { scanned_in result tokens.new ≡ read text.now }
 {
     if MAX_TEXT < text.len() {
         return Err(Refusal::TooLong);
@@ -128,25 +133,23 @@ pub fn tables(
     if let Some(place) = first_broken(text) {
         return Err(Refusal::NotUtf8(place));
     }
-    fill(text, kinds, starts, lens)
+    fill(text, tokens)
 }
 
 // ---- commands of a record
 // Writes 0x05 kind(u8) length(u16) for each token, from the output's start on.
-fn write(kinds: &[u8], lens: &[u16], out: &mut [u8])
-    requires lens_len { length lens.now ≡ length kinds.now }
-    requires kinds_in_bounds { 4 * length kinds.now ≤ length out.old }
-    ensures { out.new ≡ commands kinds.now lens.now ++ drop (4 * length kinds.now) out.old }
+fn write(tokens: &Tokens, out: &mut [u8])
+    requires { 4 * count_of tokens.now ≤ length out.old }
+    ensures { out.new ≡ commands tokens.now.kinds tokens.now.lengths ++ drop (4 * count_of tokens.now) out.old }
 {
-    let mut k = 0;
-    while k < kinds.len() {
+    for (k, (kind, span)) in tokens.kinds().iter().zip(tokens.spans()).enumerate() {
+        let len = span.len;
+        let [low, high] = len.to_le_bytes();
         let at = 4 * k;
-        let len = lens[k];
         out[at] = 0x05;
-        out[at + 1] = kinds[k];
-        out[at + 2] = (len % 256) as u8;
-        out[at + 3] = (len / 256) as u8;
-        k += 1;
+        out[at + 1] = *kind;
+        out[at + 2] = low;
+        out[at + 3] = high;
     }
 }
 
@@ -154,14 +157,12 @@ fn write(kinds: &[u8], lens: &[u16], out: &mut [u8])
 pub fn scan(text: &[u8], out: &mut [u8]) -> Result<usize, ScanError>
     ensures { reply_of result out.new ≡ scan· text.now out.old }
 {
-    let mut kinds = [0u8; 4096];
-    let mut starts = [0u16; 4096];
-    let mut lens = [0u16; 4096];
-    let count = tables(text, &mut kinds, &mut starts, &mut lens)?;
-    let size = 4 * count;
+    let mut tokens = Tokens::new();
+    read_text(text, &mut tokens)?;
+    let size = 4 * tokens.count();
     if out.len() < size {
         return Err(ScanError::OutputTooShort);
     }
-    write(&kinds[..count], &lens[..count], out);
+    write(&tokens, out);
     Ok(size)
 }

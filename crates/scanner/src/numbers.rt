@@ -1,5 +1,5 @@
 // Integer, word and real constants. Each function gives the length of what stands at the start.
-ghost use Rattle.std.specs.Prelude.{◌≡◌};
+ghost use Rattle.std.specs.Prelude.{◌≡◌, ◌≤◌, length, IfSome};
 ghost use Rattle.text.specs.Bytes.{bytes, is_digit};
 ghost use Rattle.scanner.specs.Parts.{one_or_more, is_one_of};
 ghost use Rattle.scanner.specs.Constants.{is_decimal, is_exponent, is_fraction, is_word};
@@ -8,12 +8,14 @@ ghost use Rattle.scanner.specs.Promises.Reach.{reach, is_hexadecimal, is_magnitu
 use crate::runs::{is_hex_digit, run_of_some};
 
 fn digits(s: &[u8]) -> Option<usize>
-    ensures { result ≡ reach (one_or_more is_digit) s.now }
+    ensures within { IfSome result (λ n. n ≤ length s.now) }
+    ensures counts { result ≡ reach (one_or_more is_digit) s.now }
 {
     run_of_some(s, text::is_digit)
 }
 
 // An optional negation symbol, then digits.
+#[tactic(auto, using(crate::proofs::NumberLaws::decimal_laws), unfolding(crate::specs::Promises::Reach::longer))]
 fn decimal(s: &[u8]) -> Option<usize>
     ensures { result ≡ reach is_decimal s.now }
 {
@@ -30,6 +32,7 @@ fn is_exponent_symbol(b: u8) -> bool
 }
 
 // `E` or `e`, then an integer.
+#[tactic(auto, using(crate::proofs::NumberLaws::exponent_laws), unfolding(crate::specs::Promises::Reach::longer))]
 fn exponent(s: &[u8]) -> Option<usize>
     ensures { result ≡ reach is_exponent s.now }
 {
@@ -41,6 +44,7 @@ fn exponent(s: &[u8]) -> Option<usize>
 }
 
 // A point and digits, with the exponent behind them.
+#[tactic(auto, using(crate::proofs::NumberLaws::fraction_laws), unfolding(crate::specs::Constants::is_fraction))]
 fn fraction(s: &[u8]) -> Option<usize>
     ensures { result ≡ reach is_fraction s.now }
 {
@@ -50,6 +54,7 @@ fn fraction(s: &[u8]) -> Option<usize>
 }
 
 // `0x` and hexadecimal digits.
+#[tactic(auto, using(crate::proofs::NumberLaws::hexadecimal_laws), unfolding(crate::specs::Promises::Reach::longer, crate::specs::Promises::Reach::is_hexadecimal))]
 fn hexadecimal(s: &[u8]) -> Option<usize>
     ensures { result ≡ reach is_hexadecimal s.now }
 {
@@ -58,6 +63,7 @@ fn hexadecimal(s: &[u8]) -> Option<usize>
 }
 
 // An integer or a real without a negation symbol.
+#[tactic(auto, using(crate::proofs::NumberLaws::magnitude_laws))]
 pub fn magnitude(s: &[u8]) -> Option<usize>
     ensures { result ≡ reach is_magnitude s.now }
 {
@@ -73,6 +79,7 @@ pub fn magnitude(s: &[u8]) -> Option<usize>
 }
 
 // A word constant.
+#[tactic(auto, using(crate::proofs::NumberLaws::word_laws), unfolding(crate::specs::Promises::Reach::longer))]
 pub fn word(s: &[u8]) -> Option<usize>
     ensures { result ≡ reach is_word s.now }
 {

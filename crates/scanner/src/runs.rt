@@ -1,5 +1,5 @@
 // Classes of bytes, and runs of them.
-ghost use Rattle.std.specs.Prelude.{◌≡◌, ◌+◌, ◌≤◌, eqb, length, drop, ℕ, Bool};
+ghost use Rattle.std.specs.Prelude.{◌≡◌, ◌+◌, ◌≤◌, eqb, length, drop, ℕ, Bool, IfSome};
 ghost use Rattle.text.specs.Bytes.{is_space, first_is};
 ghost use Rattle.scanner.specs.Parts.{one_or_more};
 ghost use Rattle.scanner.specs.Constants.{is_hex_digit};
@@ -56,7 +56,8 @@ fn run_length<F: Fn(u8) -> bool>(s: &[u8], passes: F) -> usize
 // The same, where one byte or more does.
 pub fn run_of_some<F: Fn(u8) -> bool>(s: &[u8], passes: F) -> Option<usize>
     requires { F.IsAlwaysCallable passes }
-    ensures { (test : ℕ → Bool) → Decides (F.post passes) test → result ≡ reach (one_or_more test) s.now }
+    ensures within { IfSome result (λ n. n ≤ length s.now) }
+    ensures counts { (test : ℕ → Bool) → Decides (F.post passes) test → result ≡ reach (one_or_more test) s.now }
 {
     match run_length(s, passes) {
         0 => None,
@@ -81,7 +82,8 @@ fn is_blank(b: u8) -> bool
     b == b' '
 }
 
-// The end of the white space that starts at an offset: runs of blanks, and other white space between them.
+// The end of the white space that starts at an offset: runs of blanks, and other white space between them. One run of white space
+// takes a third longer.
 pub fn spaces(s: &[u8], from: usize) -> usize
     ensures { result ≡ from + run is_space (drop from s.now) }
 {
@@ -96,6 +98,7 @@ pub fn spaces(s: &[u8], from: usize) -> usize
 }
 
 // Whether a byte stands at an offset.
+#[tactic(auto, using(crate::proofs::ReachLaws::first_laws))]
 pub fn stands(s: &[u8], at: usize, b: u8) -> bool
     ensures { result ≡ first_is (λ c. eqb c b) (drop at s.now) }
 {

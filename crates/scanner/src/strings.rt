@@ -18,10 +18,14 @@ pub struct Quoted {
 fn is_plain_escape(b: u8) -> bool
     ensures { result ≡ is_one_of (bytes "abtnvfr\"\\") b }
 {
-    matches!(b, 34 | 92 | 97 | 98 | 102 | 110 | 114 | 116 | 118)
+    matches!(
+        b,
+        b'"' | b'\\' | b'a' | b'b' | b'f' | b'n' | b'r' | b't' | b'v'
+    )
 }
 
 // The digits of `\ddd`.
+#[tactic(auto, using(crate::proofs::Bytes::digit_laws))]
 fn decimal(s: &[u8], at: usize) -> Option<Quoted>
     requires { at ≤ length s.now }
     ensures { Goes s.now (number 10 3 0) at result }

@@ -1,38 +1,48 @@
 // Calls for the tests of reference/, in an archive of their own: the record check, the tables, the ends of fields.
 #![tactic(auto)]
 
-ghost use Rattle.std.specs.Prelude.{◌≡◌, [], ◌∷◌};
+ghost use Rattle.std.specs.Prelude.{◌≡◌, ◌≤◌, length};
 ghost use Rattle.text.specs.Bytes.{is_letter, is_digit, class_table};
 ghost use Rattle.reader.specs.Fields.{form, Exp, Ty};
 ghost use Rattle.reader.specs.Check.{field_end};
-ghost use Rattle.reader.specs.Promises.Tokens.{starts_of, lengths_of};
-ghost use Rattle.reader.specs.Promises.Tree.{checked_in};
-ghost use Rattle.testing.specs.Numbers.{ReadOut, end_numbers};
+ghost use Rattle.testing.specs.Numbers.{ended, start_of, length_of, Packs, table_in, ReadOut, end_numbers};
 
-use reader::Reading;
-use reader::tree::Checked;
+use reader::Refusal;
+use reader::tokens::{MAX_TOKENS, Span, Tokens};
 
-fn put_two(answer: &mut [u64; 2], number: u64, place: usize)
-    ensures { answer.new ≡ number ∷ place ∷ [] }
-{
-    *answer = [number, place as u64];
-}
-
-fn put_read(answer: &mut [u64; 4], number: u64, place: usize, count: usize, tree: usize)
-    ensures { answer.new ≡ number ∷ place ∷ count ∷ tree ∷ [] }
-{
-    *answer = [number, place as u64, count as u64, tree as u64];
-}
-
-// The end of a field.
-fn put_end(answer: &mut [u64; 2], found: Checked)
-    ensures { answer.new ≡ end_numbers (checked_in found) }
+// The end of a field, or number and place of the refusal.
+fn end_numbers(found: Result<usize, Refusal>) -> [u64; 2]
+    ensures { result ≡ ended found }
 {
     match found {
-        Checked::Ok(at) => put_two(answer, 0, at),
-        Checked::Malformed(place) => put_two(answer, 3, place),
-        Checked::TooDeep(place) => put_two(answer, 4, place),
+        Ok(end) => [0, end as u64],
+        Err(why) => [why.number(), why.place() as u64],
     }
+}
+
+// A token's start and its length in one number: 65,536 × start + length.
+fn packed(span: Span) -> u32
+    ensures { (start_of result ≡ span.start) × (length_of result ≡ span.len) }
+{
+    65536 * u32::from(span.start) + u32::from(span.len)
+}
+
+// Copies spans to the front of a table.
+fn put_spans(spans: &[Span], table: &mut [u32; MAX_TOKENS])
+    requires { length spans.now ≤ 4096 }
+    ensures { Packs spans.now (length spans.now) table.new }
+{
+    for (k, span) in spans.iter().enumerate() {
+        table[k] = packed(*span);
+    }
+}
+
+// Copies the tokens to the front of the tables.
+fn put_tokens(tokens: &Tokens, kinds: &mut [u8; MAX_TOKENS], spans: &mut [u32; MAX_TOKENS])
+    ensures { table_in tokens.now kinds.new spans.new ≡ tokens.now }
+{
+    kinds[..tokens.count()].copy_from_slice(tokens.kinds());
+    put_spans(tokens.spans(), spans);
 }
 
 // Number and place of refusals 1 to 4, the number of tokens, where the list of declarations starts; the tables.
@@ -44,16 +54,15 @@ pub extern "C" fn diverplume_test_read(
     kinds: &mut [u8; 4096],
     spans: &mut [u32; 4096],
 )
-    ensures { ReadOut text.now rec.now answer.new
-        kinds.new (starts_of spans.new) (lengths_of spans.new) }
+    ensures { ReadOut text.now rec.now answer.new kinds.new spans.new }
 {
-    let reading = reader::check(text, rec, kinds, spans);
-    match reading {
-        Reading::Sheet { count, tree } => put_read(answer, 0, 0, count, tree),
-        Reading::TooLong => put_read(answer, 1, 0, 0, 0),
-        Reading::NotUtf8(place) => put_read(answer, 2, place, 0, 0),
-        Reading::Malformed(place) => put_read(answer, 3, place, 0, 0),
-        Reading::TooDeep(place) => put_read(answer, 4, place, 0, 0),
+    let mut tokens = Tokens::new();
+    match reader::check(text, rec, &mut tokens) {
+        Ok(tree) => {
+            *answer = [0, 0, tokens.count() as u64, tree as u64];
+            put_tokens(&tokens, kinds, spans);
+        }
+        Err(why) => *answer = [why.number(), why.place() as u64, 0, 0],
     }
 }
 
@@ -86,10 +95,7 @@ pub extern "C" fn diverplume_test_is_digit(byte: u8) -> bool
 pub extern "C" fn diverplume_test_exp_end(rec: &[u8], count: u64, at: u64, answer: &mut [u64; 2])
     ensures { answer.new ≡ end_numbers (field_end rec.now count (form Exp) at) }
 {
-    put_end(
-        answer,
-        reader::tree::exp_end(rec, count as usize, at as usize),
-    );
+    *answer = end_numbers(reader::tree::exp_end(rec, count as usize, at as usize));
 }
 
 // The end of a type's field, read by itself, or the refusal.
@@ -97,8 +103,5 @@ pub extern "C" fn diverplume_test_exp_end(rec: &[u8], count: u64, at: u64, answe
 pub extern "C" fn diverplume_test_ty_end(rec: &[u8], count: u64, at: u64, answer: &mut [u64; 2])
     ensures { answer.new ≡ end_numbers (field_end rec.now count (form Ty) at) }
 {
-    put_end(
-        answer,
-        reader::tree::ty_end(rec, count as usize, at as usize),
-    );
+    *answer = end_numbers(reader::tree::ty_end(rec, count as usize, at as usize));
 }

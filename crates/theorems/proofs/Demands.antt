@@ -15,7 +15,7 @@ use Rattle.measures.proofs.Measures.{small-done, sheet_lengths}
 use Rattle.formatter.specs.Verdict.{Judged, declined, accepted, judge, check, get}
 use Rattle.formatter.specs.Accepted.{Sheet, Fits}
 use Rattle.theorems.specs.Demands.{Refuses, Written, without_spaces, Holds}
-use Rattle.formatter.proofs.EventLaws.{length-formatted}
+use Rattle.layout.proofs.Exact.{length_formatted}
 use Rattle.theorems.proofs.EventLaws.{same-at-tabs, same-spaceless, holds-written, all-written}
 use Rattle.formatter.proofs.VerdictLaws.{accepted-is, declined-number, check-declined, get-declined, check-accepted, gets, fits-get}
 use Rattle.formatter.proofs.VerdictLaws as VerdictLaws
@@ -88,7 +88,7 @@ pub output-written : {text rec : List ℕ} {tab : ℕ} {out w : List ℕ} → Wr
 output-written {text} {rec} {tab} {out} at =
     let f = (get-accepts text rec tab out).0 at.number in
     let e = written_is at f.accepts in
-    (omega (arith, ap length e, length-formatted f.page tab f.events, f.room), rw e (ap (λ r. r.out) (fits-get text rec tab out f)))
+    (omega (arith, ap length e, length_formatted f.page tab f.events, f.room), rw e (ap (λ r. r.out) (fits-get text rec tab out f)))
 
 -- "Where one sheet's text is written at two different tab sizes, the two texts are equal exactly when units is 0."
 pub two_tabs_equal : {text rec : List ℕ} {tab tab' : ℕ} {out out' w w' : List ℕ} {p : Page} {es : List Event} → judge text rec ≡ accepted p es
@@ -104,7 +104,7 @@ spaceless_equal {tab = tab} {tab'} at at' = rw (at.is, written_is at' at.accepts
 -- "Each has exactly letters + its own tab size × units bytes."
 pub bytes-written : {text rec : List ℕ} {tab : ℕ} {out w : List ℕ} {p : Page} {es : List Event} → judge text rec ≡ accepted p es
     → Written text rec tab out w → length w ≡ letters p es + tab * units es
-bytes-written {tab = tab} {p = p} {es} sheet at = rw (written_is at sheet) (length-formatted p tab es)
+bytes-written {tab = tab} {p = p} {es} sheet at = rw (written_is at sheet) (length_formatted p tab es)
 
 -- "Each holds every block comment's trimmed text at least once."
 pub comments-written : {text rec : List ℕ} {tab : ℕ} {out w : List ℕ} {p : Page} {es : List Event} → judge text rec ≡ accepted p es

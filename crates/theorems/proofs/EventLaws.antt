@@ -14,7 +14,8 @@ use borrow.Author.Tests.{eqb-true, not-false}
 use Rattle.comments.specs.Set.{is_comment, first}
 use Rattle.layout.specs.Meaning.{Page, Event, Word, Token, Comment, Formed, Indent}
 use Rattle.layout.specs.Events.{sum_of, indent_depth, units, trimmed, spelt, formatted, writes_comment, written, is_left}
-use Rattle.formatter.proofs.EventLaws.{length-formatted, not_left}
+use Rattle.layout.proofs.Exact.{length_formatted}
+use Rattle.formatter.proofs.SetLaws.{not_left}
 use Rattle.theorems.specs.Demands.{without_spaces, Holds}
 
 spaceless_append : (a b : List ℕ) → without_spaces (a ++ b) ≡ without_spaces a ++ without_spaces b
@@ -49,7 +50,7 @@ module _ (p : Page) where
   formatted-same tab tab' (e ∷ es) h = ap₂ ◌++◌ (spelt-same tab tab' e (omega arith)) (formatted-same tab tab' es (omega arith))
 
   no-units : (tab tab' : ℕ) (es : List Event) → (tab ≡ tab' → ⊥) → formatted p tab es ≡ formatted p tab' es → units es ≡ 0
-  no-units tab tab' es ne e = go (units es) (omega (arith, length-formatted p tab es, length-formatted p tab' es, ap length e))
+  no-units tab tab' es ne e = go (units es) (omega (arith, length_formatted p tab es, length_formatted p tab' es, ap length e))
     where
       go : (u : ℕ) → tab * u ≡ tab' * u → u ≡ 0
       go zero h = refl

@@ -71,7 +71,7 @@ unfolding Check.and_then Check.items Check.operand_fits Check.token_fits Check.o
 run_check = tt
 
 unfoldable pub run_reading : Unit {0}
-unfolding Reading.read_tree Reading.read_record Reading.read_text Reading.read Reading.number_of Reading.place_of
+unfolding Reading.read_tree Reading.read_record Reading.read_text Reading.read
 run_reading = tt
 
 unfoldable pub run_set : Unit {0}
@@ -131,11 +131,11 @@ unfolding Unbounded.onwards Unbounded.outcome Unbounded.walk
 run_unbounded = tt
 
 unfoldable pub run_verdict : Unit {0}
-unfolding Verdict.measures_of Verdict.comments Verdict.stop_verdict Verdict.walked Verdict.judge Verdict.check Verdict.put Verdict.format Verdict.get Verdict.number_of Verdict.place_of Verdict.given_measures Verdict.verdict_of
+unfolding Verdict.measures_of Verdict.comments Verdict.stop_verdict Verdict.walked Verdict.judge Verdict.check Verdict.put Verdict.format Verdict.get
 run_verdict = tt
 
 unfoldable pub run_lookup : Unit {0}
-unfolding Lookup.ask Lookup.told Lookup.lookup Lookup.number_of Lookup.place_of Lookup.answer_of Lookup.keyword_of Lookup.looked_of
+unfolding Lookup.ask Lookup.told Lookup.lookup
 run_lookup = tt
 
 unfoldable pub run_program : Unit {0}

@@ -7,9 +7,8 @@
 
 ghost use Rattle.std.specs.Prelude.{◌≡◌, Bool, true, false, ◌&&◌, ◌||◌, get_or, eqb, ◌+◌, ◌-◌, ◌*◌, ◌≤◌, ◌<◌};
 ghost use Rattle.reader.specs.Check.{max_forms};
-ghost use Rattle.layout.specs.Promises.Words.{word_of};
-ghost use Rattle.layout.specs.Layout.{word as word·, text as text·, maybe, halt, ◌⨾◌};
-ghost use Rattle.layout.specs.Promises.Lent.{does, walked};
+ghost use Rattle.layout.specs.Layout.{word, text as text·, group as group·, choice as choice·, maybe, halt, ◌⨾◌};
+ghost use Rattle.layout.specs.Promises.Lent.{does, walked, by_word};
 ghost use Rattle.layout.specs.Walk.{walks, top};
 ghost use Rattle.layout.specs.Exp.{indented_levels, get_matcher_arm, get_matcher_across_lines, eq_body, exp_args, exp_semi_item, exp_semi_more};
 ghost use Rattle.layout.specs.Exp.{exp_semi_seq, exp_row, exp_rows, exp as exp·};
@@ -23,2288 +22,1103 @@ ghost use Rattle.reader.specs.Forms.{StructStrExp, AscriptionStrExp, AppStrExp, 
 ghost use Rattle.layout.specs.SigExp.{ascription_tail, sig_exp as sig_exp·};
 ghost use Rattle.reader.specs.Forms.{SigSigExp, WhereTypeSigExp, WhereSigExp};
 
-use layout::fields::{
-    Gone, Read, absent, choice, declared, form, group, import, list, stop, token_no,
-};
+use layout::fields::{absent, choice, declared, form, group, list, token_no};
 use layout::helpers::{
-    between, comment_above, deepen, indent, indent_deeper, indent_in, line, line_in, new_line,
-    new_line_in, op_path, path, text_of, ty_var_seq, word_if,
+    comment_above, deepen, indent, indent_deeper, line, op_path, path, sep_with_lines, text_of,
+    ty_var_seq, word_if,
 };
-use layout::looks::{
-    BothSeen, asked_first, body_exp_needs_newline, expression, heads_behind, is_if_exp,
-};
-use layout::words::{ANDALSO, HANDLE, ORELSE, RAISE};
-use layout::{Cfg, Status, told, word, words};
+use layout::items::{for_each, sep};
+use layout::looks::{asked_first, body_exp_needs_newline, heads_behind, is_if_exp};
+use layout::{Cfg, Ink, Page, Status, Stop};
 use leaves::{
     app_end, app_space, arg_is_symbolic, case_head, case_pats, dat_binds, dat_copy_dec, dat_dec,
-    ex_bind_of, func_is_bang, infix_dec, infix_operator, item_semi, missing, nonfix_dec, open_dec,
+    ex_bind_of, func_is_bang, infix_dec, infix_operator, item_semi, nonfix_dec, open_dec,
     selector_exp, sharing_tails, ty_dec, with_type,
 };
 use patterns::get_pat;
-use reader::commands::{Declaration, Family};
+use reader::commands::Family;
 use types::{get_ty, ty_annotation};
 
 // ---- what a loop knows
-// Whether item i of a sequence of n has its semicolon written: the last, where that is allowed.
-fn last_semi(allow: bool, i: usize, n: usize) -> bool
-    requires { i < n }
-    ensures { result ≡ (allow && eqb (n - (i + 1)) 0) }
+// Whether an item of a sequence has its semicolon written, where so many are left behind it: the last, where that is allowed.
+fn last_semi(allow: bool, left: usize) -> bool
+    ensures { result ≡ (allow && eqb left 0) }
 {
-    if n - i == 1 {
-        return allow;
-    }
-    false
+    allow && left == 0
 }
 
 // Whether an argument was a Dec, after one more.
 fn later_needs(needs: bool, which: usize) -> bool
     ensures { result ≡ (needs || eqb which 1) }
 {
-    if which == 1 {
-        return true;
-    }
-    needs
+    needs || which == 1
 }
 
 // ---- expressions
 // A row of `RecordExp`.
 #[cycle(walk)]
-fn ro<'a>(
-    run: &'a [u8; 351],
-    text: &'a [u8],
-    rec: &[u8],
-    kinds: &&[u8],
-    spans: &&[u32],
-    out: &mut [u8],
-    mem: &mut [u64; 68],
-    at: usize,
-    cfg: Cfg,
-) -> usize
+fn ro(page: &Page, out: &mut [u8], ink: &mut Ink, at: usize, cfg: Cfg) -> Status
     requires { cfg.depth + 2 * cfg.nesting + 2 ≤ 402 }
-    ensures { does exp_row run text rec kinds spans out mem at cfg result }
+    ensures { does exp_row page out ink at cfg result }
 {
-    let r1 = group(rec, at);
-    let Status::Done(s1) = told(r1) else {
-        return r1;
-    };
-    let r2 = text_of(run, text, rec, spans, out, mem, s1);
-    let Status::Done(s2) = told(r2) else {
-        return r2;
-    };
-    if let Gone::Past(s3) = absent(rec, s2) {
-        return s3;
+    let s1 = group(page, at)?;
+    let s2 = text_of(page, out, ink, s1)?;
+    if let Some(s3) = absent(page, s2) {
+        return Ok(s3);
     }
-    let r4 = group(rec, s2);
-    let Status::Done(s4) = told(r4) else {
-        return r4;
-    };
-    word(run, text, out, mem, words::EQ_SPACED);
-    exp(run, text, rec, kinds, spans, out, mem, s4, cfg)
+    let s4 = group(page, s2)?;
+    ink.put(out, b" = ");
+    exp(page, out, ink, s4, cfg)
 }
 
 // The rows of `RecordExp`.
 #[cycle(walk)]
-fn rs<'a>(
-    run: &'a [u8; 351],
-    text: &'a [u8],
-    rec: &[u8],
-    kinds: &&[u8],
-    spans: &&[u32],
-    out: &mut [u8],
-    mem: &mut [u64; 68],
-    at: usize,
-    cfg: Cfg,
-) -> usize
+fn rs(page: &Page, out: &mut [u8], ink: &mut Ink, at: usize, cfg: Cfg) -> Status
     requires { cfg.depth + 2 * cfg.nesting + 2 ≤ 402 }
-    ensures { does exp_rows run text rec kinds spans out mem at cfg result }
+    ensures { does exp_rows page out ink at cfg result }
 {
-    let Read::Is(n, s0) = list(rec, at) else {
-        return stop(at);
-    };
-    let mut s = s0;
-    let mut i = 0;
-    while i < n {
-        between(run, text, out, mem, words::COMMA, i);
-        let r1 = ro(run, text, rec, kinds, spans, out, mem, s, cfg);
-        let Status::Done(s1) = told(r1) else {
-            return r1;
-        };
-        s = s1;
-        i += 1;
-    }
-    s
+    let item = |out: &mut [u8], ink: &mut Ink, at: usize|
+        requires { cfg.depth + 2 * cfg.nesting + 2 ≤ 402 }
+        ensures { does exp_row page out ink at cfg result }
+    { ro(page, out, ink, at, cfg) };
+    sep(page, out, ink, at, b", ", item)
 }
 
 // `RecordExp`.
 #[cycle(walk)]
-fn rc<'a>(
-    run: &'a [u8; 351],
-    text: &'a [u8],
-    rec: &[u8],
-    kinds: &&[u8],
-    spans: &&[u32],
-    out: &mut [u8],
-    mem: &mut [u64; 68],
-    at: usize,
-    cfg: Cfg,
-) -> usize
+fn rc(page: &Page, out: &mut [u8], ink: &mut Ink, at: usize, cfg: Cfg) -> Status
     requires { cfg.depth + 2 * cfg.nesting + 2 ≤ 402 }
-    ensures { does (λ ws c. exp· ws c RecordExp) run text rec kinds spans out mem at cfg result }
+    ensures { does (λ ws c. exp· ws c RecordExp) page out ink at cfg result }
 {
-    word(run, text, out, mem, words::L_CURLY);
-    let r1 = rs(run, text, rec, kinds, spans, out, mem, at, cfg);
-    let Status::Done(s1) = told(r1) else {
-        return r1;
-    };
-    word(run, text, out, mem, words::R_CURLY);
-    s1
+    ink.put(out, b"{ ");
+    let s1 = rs(page, out, ink, at, cfg)?;
+    ink.put(out, b" }");
+    Ok(s1)
 }
 
 // `ParenExp`.
 #[cycle(walk)]
-fn pa<'a>(
-    run: &'a [u8; 351],
-    text: &'a [u8],
-    rec: &[u8],
-    kinds: &&[u8],
-    spans: &&[u32],
-    out: &mut [u8],
-    mem: &mut [u64; 68],
-    at: usize,
-    cfg: Cfg,
-) -> usize
+fn pa(page: &Page, out: &mut [u8], ink: &mut Ink, at: usize, cfg: Cfg) -> Status
     requires { cfg.depth + 2 * cfg.nesting + 2 ≤ 402 }
-    ensures { does (λ ws c. exp· ws c ParenExp) run text rec kinds spans out mem at cfg result }
+    ensures { does (λ ws c. exp· ws c ParenExp) page out ink at cfg result }
 {
-    word(run, text, out, mem, words::L_ROUND);
-    let r1 = exp(run, text, rec, kinds, spans, out, mem, at, cfg);
-    let Status::Done(s1) = told(r1) else {
-        return r1;
-    };
-    word(run, text, out, mem, words::R_ROUND);
-    s1
+    ink.put(out, b"(");
+    let s1 = exp(page, out, ink, at, cfg)?;
+    ink.put(out, b")");
+    Ok(s1)
 }
 
 // `exp_args`: expressions with a comma between.
 #[cycle(walk)]
-fn ar<'a>(
-    run: &'a [u8; 351],
-    text: &'a [u8],
-    rec: &[u8],
-    kinds: &&[u8],
-    spans: &&[u32],
-    out: &mut [u8],
-    mem: &mut [u64; 68],
-    at: usize,
-    cfg: Cfg,
-) -> usize
+fn ar(page: &Page, out: &mut [u8], ink: &mut Ink, at: usize, cfg: Cfg) -> Status
     requires { cfg.depth + 2 * cfg.nesting + 2 ≤ 402 }
-    ensures { does exp_args run text rec kinds spans out mem at cfg result }
+    ensures { does exp_args page out ink at cfg result }
 {
-    let Read::Is(n, s0) = list(rec, at) else {
-        return stop(at);
+    let item = |out: &mut [u8], ink: &mut Ink, at: usize|
+        requires { cfg.depth + 2 * cfg.nesting + 2 ≤ 402 }
+        ensures { does (λ ws c. group· (ws.get_exp c)) page out ink at cfg result }
+    {
+        let s = group(page, at)?;
+        exp(page, out, ink, s, cfg)
     };
-    let mut s = s0;
-    let mut i = 0;
-    while i < n {
-        between(run, text, out, mem, words::COMMA, i);
-        let r1 = group(rec, s);
-        let Status::Done(s1) = told(r1) else {
-            return r1;
-        };
-        let r2 = exp(run, text, rec, kinds, spans, out, mem, s1, cfg);
-        let Status::Done(s2) = told(r2) else {
-            return r2;
-        };
-        s = s2;
-        i += 1;
-    }
-    s
+    sep(page, out, ink, at, b", ", item)
 }
 
 // `TupleExp` and `ListExp`, by their brackets.
 #[cycle(walk)]
-fn br<'a>(
-    run: &'a [u8; 351],
-    text: &'a [u8],
-    rec: &[u8],
-    kinds: &&[u8],
-    spans: &&[u32],
+fn br(
+    page: &Page,
     out: &mut [u8],
-    mem: &mut [u64; 68],
+    ink: &mut Ink,
     at: usize,
     cfg: Cfg,
-    opens: usize,
-    closes: usize,
-) -> usize
+    opens: &[u8],
+    closes: &[u8],
+) -> Status
     requires { cfg.depth + 2 * cfg.nesting + 2 ≤ 402 }
-    ensures { does (λ ws c. word· (word_of opens) ⨾ exp_args ws c ⨾ word· (word_of closes))
-        run text rec kinds spans out mem at cfg result }
+    ensures { by_word opens (λ u. by_word closes (λ v. does (λ ws c. word u ⨾ exp_args ws c ⨾ word v)
+        page out ink at cfg result)) }
 {
-    word(run, text, out, mem, opens);
-    let r1 = ar(run, text, rec, kinds, spans, out, mem, at, cfg);
-    let Status::Done(s1) = told(r1) else {
-        return r1;
-    };
-    word(run, text, out, mem, closes);
-    s1
+    ink.put(out, opens);
+    let s1 = ar(page, out, ink, at, cfg)?;
+    ink.put(out, closes);
+    Ok(s1)
 }
 
 // `VectorExp`.
 #[cycle(walk)]
-fn ve<'a>(
-    run: &'a [u8; 351],
-    text: &'a [u8],
-    rec: &[u8],
-    kinds: &&[u8],
-    spans: &&[u32],
-    out: &mut [u8],
-    mem: &mut [u64; 68],
-    at: usize,
-    cfg: Cfg,
-) -> usize
+fn ve(page: &Page, out: &mut [u8], ink: &mut Ink, at: usize, cfg: Cfg) -> Status
     requires { cfg.depth + 2 * cfg.nesting + 2 ≤ 402 }
-    ensures { does (λ ws c. exp· ws c VectorExp) run text rec kinds spans out mem at cfg result }
+    ensures { does (λ ws c. exp· ws c VectorExp) page out ink at cfg result }
 {
-    word(run, text, out, mem, words::HASH_L_SQUARE);
-    let r1 = group(rec, at);
-    let Status::Done(s1) = told(r1) else {
-        return r1;
-    };
-    let r2 = ar(run, text, rec, kinds, spans, out, mem, s1, cfg);
-    let Status::Done(s2) = told(r2) else {
-        return r2;
-    };
-    word(run, text, out, mem, words::R_SQUARE);
-    s2
+    ink.put(out, b"#[");
+    let s1 = group(page, at)?;
+    let s2 = ar(page, out, ink, s1, cfg)?;
+    ink.put(out, b"]");
+    Ok(s2)
 }
 
 // An item of `exps_in_seq`, with its semicolon where that is written.
 #[cycle(walk)]
-fn it<'a>(
-    run: &'a [u8; 351],
-    text: &'a [u8],
-    rec: &[u8],
-    kinds: &&[u8],
-    spans: &&[u32],
-    out: &mut [u8],
-    mem: &mut [u64; 68],
-    at: usize,
-    cfg: Cfg,
-    write: bool,
-) -> usize
+fn it(page: &Page, out: &mut [u8], ink: &mut Ink, at: usize, cfg: Cfg, write: bool) -> Status
     requires { cfg.depth + 2 * cfg.nesting + 0 ≤ 402 }
-    ensures { does (λ ws c. exp_semi_item ws c write) run text rec kinds spans out mem at cfg result }
+    ensures { does (λ ws c. exp_semi_item ws c write) page out ink at cfg result }
 {
-    let r1 = group(rec, at);
-    let Status::Done(s1) = told(r1) else {
-        return r1;
-    };
-    let r2 = exp(run, text, rec, kinds, spans, out, mem, s1, cfg);
-    let Status::Done(s2) = told(r2) else {
-        return r2;
-    };
-    item_semi(run, text, rec, spans, out, mem, s2, write)
+    let s1 = group(page, at)?;
+    let s2 = exp(page, out, ink, s1, cfg)?;
+    item_semi(page, out, ink, s2, write)
 }
 
 // The last n items of a sequence, the first not among them.
 #[cycle(walk)]
-fn mo<'a>(
-    run: &'a [u8; 351],
-    text: &'a [u8],
-    rec: &[u8],
-    kinds: &&[u8],
-    spans: &&[u32],
+fn mo(
+    page: &Page,
     out: &mut [u8],
-    mem: &mut [u64; 68],
+    ink: &mut Ink,
     at: usize,
     cfg: Cfg,
     allow: bool,
     n: usize,
-) -> usize
+) -> Status
     requires { cfg.depth + 2 * cfg.nesting + 0 ≤ 402 }
-    ensures { does (λ ws c. exp_semi_more ws c allow n) run text rec kinds spans out mem at cfg result }
+    ensures { does (λ ws c. exp_semi_more ws c allow n) page out ink at cfg result }
 {
     let mut s = at;
-    let mut i = 0;
-    while i < n {
-        let write = last_semi(allow, i, n);
-        word(run, text, out, mem, words::SEMICOLON_LINE);
-        indent(out, mem, cfg);
-        let r1 = it(run, text, rec, kinds, spans, out, mem, s, cfg, write);
-        let Status::Done(s1) = told(r1) else {
-            return r1;
-        };
-        s = s1;
-        i += 1;
+    for left in (0..n).rev() {
+        ink.put(out, b";\n");
+        indent(out, ink, cfg);
+        s = it(page, out, ink, s, cfg, last_semi(allow, left))?;
     }
-    s
+    Ok(s)
 }
 
 // `exp_semi_seq`. The first item's semicolon is never written.
 #[cycle(walk)]
-fn sm<'a>(
-    run: &'a [u8; 351],
-    text: &'a [u8],
-    rec: &[u8],
-    kinds: &&[u8],
-    spans: &&[u32],
-    out: &mut [u8],
-    mem: &mut [u64; 68],
-    at: usize,
-    cfg: Cfg,
-    allow: bool,
-) -> usize
+fn sm(page: &Page, out: &mut [u8], ink: &mut Ink, at: usize, cfg: Cfg, allow: bool) -> Status
     requires { cfg.depth + 2 * cfg.nesting + 0 ≤ 402 }
-    ensures { does (λ ws c. exp_semi_seq ws c allow) run text rec kinds spans out mem at cfg result }
+    ensures { does (λ ws c. exp_semi_seq ws c allow) page out ink at cfg result }
 {
-    let Read::Is(n, s1) = list(rec, at) else {
-        return stop(at);
-    };
+    let (n, s1) = list(page, at)?;
     if n == 0 {
-        return s1;
+        return Ok(s1);
     }
-    let r2 = it(run, text, rec, kinds, spans, out, mem, s1, cfg, false);
-    let Status::Done(s2) = told(r2) else {
-        return r2;
-    };
-    mo(
-        run,
-        text,
-        rec,
-        kinds,
-        spans,
-        out,
-        mem,
-        s2,
-        cfg,
-        allow,
-        n - 1,
-    )
+    let s2 = it(page, out, ink, s1, cfg, false)?;
+    mo(page, out, ink, s2, cfg, allow, n - 1)
 }
 
 // `SeqExp`.
 #[cycle(walk)]
-fn seq<'a>(
-    run: &'a [u8; 351],
-    text: &'a [u8],
-    rec: &[u8],
-    kinds: &&[u8],
-    spans: &&[u32],
-    out: &mut [u8],
-    mem: &mut [u64; 68],
-    at: usize,
-    cfg: Cfg,
-) -> usize
+fn seq(page: &Page, out: &mut [u8], ink: &mut Ink, at: usize, cfg: Cfg) -> Status
     requires { cfg.depth + 2 * cfg.nesting + 2 ≤ 402 }
-    ensures { does (λ ws c. exp· ws c SeqExp) run text rec kinds spans out mem at cfg result }
+    ensures { does (λ ws c. exp· ws c SeqExp) page out ink at cfg result }
 {
-    word(run, text, out, mem, words::L_ROUND_LINE);
-    indent_deeper(out, mem, cfg);
+    ink.put(out, b"(\n");
+    indent_deeper(out, ink, cfg);
     let new = cfg.indented();
-    let r1 = sm(run, text, rec, kinds, spans, out, mem, at, new, false);
-    let Status::Done(s1) = told(r1) else {
-        return r1;
-    };
-    line(run, text, out, mem, cfg);
-    word(run, text, out, mem, words::R_ROUND);
-    s1
+    let s1 = sm(page, out, ink, at, new, false)?;
+    line(out, ink, cfg);
+    ink.put(out, b")");
+    Ok(s1)
 }
 
 // `LetExp`.
 #[cycle(walk)]
-fn lx<'a>(
-    run: &'a [u8; 351],
-    text: &'a [u8],
-    rec: &[u8],
-    kinds: &&[u8],
-    spans: &&[u32],
-    out: &mut [u8],
-    mem: &mut [u64; 68],
-    at: usize,
-    cfg: Cfg,
-) -> usize
+fn lx(page: &Page, out: &mut [u8], ink: &mut Ink, at: usize, cfg: Cfg) -> Status
     requires { cfg.depth + 2 * cfg.nesting + 2 ≤ 402 }
-    ensures { does (λ ws c. exp· ws c LetExp) run text rec kinds spans out mem at cfg result }
+    ensures { does (λ ws c. exp· ws c LetExp) page out ink at cfg result }
 {
-    word(run, text, out, mem, words::LET);
-    word(run, text, out, mem, words::LINE_FEED);
-    indent_deeper(out, mem, cfg);
+    ink.put(out, b"let");
+    ink.put(out, b"\n");
+    indent_deeper(out, ink, cfg);
     let new = cfg.indented();
-    let r1 = ds(run, text, rec, kinds, spans, out, mem, at, new);
-    let Status::Done(s1) = told(r1) else {
-        return r1;
-    };
-    line(run, text, out, mem, cfg);
-    word(run, text, out, mem, words::IN);
-    indent_in(out, mem, cfg);
-    let r2 = sm(run, text, rec, kinds, spans, out, mem, s1, new, true);
-    let Status::Done(s2) = told(r2) else {
-        return r2;
-    };
-    line(run, text, out, mem, cfg);
-    word(run, text, out, mem, words::END);
-    s2
+    let s1 = ds(page, out, ink, at, new)?;
+    line(out, ink, cfg);
+    ink.put(out, b"in\n");
+    indent(out, ink, new);
+    let s2 = sm(page, out, ink, s1, new, true)?;
+    line(out, ink, cfg);
+    ink.put(out, b"end");
+    Ok(s2)
 }
 
 // `AppExp`: what 000 sees of both expressions before it walks into the first is seen behind its walk.
 #[cycle(walk)]
-fn app<'a>(
-    run: &'a [u8; 351],
-    text: &'a [u8],
-    rec: &[u8],
-    kinds: &&[u8],
-    spans: &&[u32],
-    out: &mut [u8],
-    mem: &mut [u64; 68],
-    at: usize,
-    cfg: Cfg,
-) -> usize
+fn app(page: &Page, out: &mut [u8], ink: &mut Ink, at: usize, cfg: Cfg) -> Status
     requires { cfg.depth + 2 * cfg.nesting + 2 ≤ 402 }
-    ensures { does (λ ws c. exp· ws c AppExp) run text rec kinds spans out mem at cfg result }
+    ensures { does (λ ws c. exp· ws c AppExp) page out ink at cfg result }
 {
-    let r1 = exp(run, text, rec, kinds, spans, out, mem, at, cfg);
-    let Status::Done(s1) = told(r1) else {
-        return asked_first(rec, spans, at, r1);
+    let s1 = match exp(page, out, ink, at, cfg) {
+        Ok(s) => s,
+        Err(why) => return Err(asked_first(page, at, why)),
     };
-    let seen = heads_behind(rec, at, s1);
-    let BothSeen::Are(func, arg) = seen else {
-        return missing(seen);
-    };
-    let bang = func_is_bang(text, spans, func);
-    let symbolic = arg_is_symbolic(text, spans, arg);
-    app_space(run, text, out, mem, bang, symbolic);
-    exp(run, text, rec, kinds, spans, out, mem, s1, cfg)
+    let (func, arg) = heads_behind(page, at, s1)?;
+    let bang = func_is_bang(page, func);
+    let symbolic = arg_is_symbolic(page, arg);
+    app_space(out, ink, bang, symbolic);
+    exp(page, out, ink, s1, cfg)
 }
 
 // `InfixExp`.
 #[cycle(walk)]
-fn fx<'a>(
-    run: &'a [u8; 351],
-    text: &'a [u8],
-    rec: &[u8],
-    kinds: &&[u8],
-    spans: &&[u32],
-    out: &mut [u8],
-    mem: &mut [u64; 68],
-    at: usize,
-    cfg: Cfg,
-) -> usize
+fn fx(page: &Page, out: &mut [u8], ink: &mut Ink, at: usize, cfg: Cfg) -> Status
     requires { cfg.depth + 2 * cfg.nesting + 2 ≤ 402 }
-    ensures { does (λ ws c. exp· ws c InfixExp) run text rec kinds spans out mem at cfg result }
+    ensures { does (λ ws c. exp· ws c InfixExp) page out ink at cfg result }
 {
-    let Read::Is(k, s1) = token_no(rec, spans, at) else {
-        return stop(at);
-    };
-    let r2 = exp(run, text, rec, kinds, spans, out, mem, s1, cfg);
-    let Status::Done(s2) = told(r2) else {
-        return r2;
-    };
-    infix_operator(run, text, rec, spans, out, mem, cfg, k);
-    exp(run, text, rec, kinds, spans, out, mem, s2, cfg)
+    let (k, s1) = token_no(page, at)?;
+    let s2 = exp(page, out, ink, s1, cfg)?;
+    infix_operator(page, out, ink, cfg, k);
+    exp(page, out, ink, s2, cfg)
 }
 
 // `TypedExp`.
 #[cycle(walk)]
-fn ty<'a>(
-    run: &'a [u8; 351],
-    text: &'a [u8],
-    rec: &[u8],
-    kinds: &&[u8],
-    spans: &&[u32],
-    out: &mut [u8],
-    mem: &mut [u64; 68],
-    at: usize,
-    cfg: Cfg,
-) -> usize
+fn ty(page: &Page, out: &mut [u8], ink: &mut Ink, at: usize, cfg: Cfg) -> Status
     requires { cfg.depth + 2 * cfg.nesting + 2 ≤ 402 }
-    ensures { does (λ ws c. exp· ws c TypedExp) run text rec kinds spans out mem at cfg result }
+    ensures { does (λ ws c. exp· ws c TypedExp) page out ink at cfg result }
 {
-    let r1 = exp(run, text, rec, kinds, spans, out, mem, at, cfg);
-    let Status::Done(s1) = told(r1) else {
-        return r1;
-    };
-    word(run, text, out, mem, words::COLON);
-    get_ty(run, text, rec, spans, out, mem, s1, cfg)
+    let s1 = exp(page, out, ink, at, cfg)?;
+    ink.put(out, b" : ");
+    get_ty(page, out, ink, s1, cfg)
 }
 
 // `AndalsoExp` and `OrelseExp`, by their word.
 #[cycle(walk)]
-fn du<'a>(
-    run: &'a [u8; 351],
-    text: &'a [u8],
-    rec: &[u8],
-    kinds: &&[u8],
-    spans: &&[u32],
-    out: &mut [u8],
-    mem: &mut [u64; 68],
-    at: usize,
-    cfg: Cfg,
-    w: usize,
-) -> usize
+fn du(page: &Page, out: &mut [u8], ink: &mut Ink, at: usize, cfg: Cfg, fixed: &[u8]) -> Status
     requires { cfg.depth + 2 * cfg.nesting + 2 ≤ 402 }
-    ensures { does (λ ws c. ws.get_exp c ⨾ word· (word_of w) ⨾ ws.get_exp c) run text rec kinds spans out mem at cfg result }
+    ensures { by_word fixed (λ u. does (λ ws c. ws.get_exp c ⨾ word u ⨾ ws.get_exp c) page out ink at cfg result) }
 {
-    let r1 = exp(run, text, rec, kinds, spans, out, mem, at, cfg);
-    let Status::Done(s1) = told(r1) else {
-        return r1;
-    };
-    word(run, text, out, mem, w);
-    exp(run, text, rec, kinds, spans, out, mem, s1, cfg)
+    let s1 = exp(page, out, ink, at, cfg)?;
+    ink.put(out, fixed);
+    exp(page, out, ink, s1, cfg)
 }
 
 // `WhileExp`.
 #[cycle(walk)]
-fn wh<'a>(
-    run: &'a [u8; 351],
-    text: &'a [u8],
-    rec: &[u8],
-    kinds: &&[u8],
-    spans: &&[u32],
-    out: &mut [u8],
-    mem: &mut [u64; 68],
-    at: usize,
-    cfg: Cfg,
-) -> usize
+fn wh(page: &Page, out: &mut [u8], ink: &mut Ink, at: usize, cfg: Cfg) -> Status
     requires { cfg.depth + 2 * cfg.nesting + 2 ≤ 402 }
-    ensures { does (λ ws c. exp· ws c WhileExp) run text rec kinds spans out mem at cfg result }
+    ensures { does (λ ws c. exp· ws c WhileExp) page out ink at cfg result }
 {
-    word(run, text, out, mem, words::WHILE);
-    du(
-        run,
-        text,
-        rec,
-        kinds,
-        spans,
-        out,
-        mem,
-        at,
-        cfg,
-        words::WHILE_DO,
-    )
+    ink.put(out, b"while ");
+    du(page, out, ink, at, cfg, b" do ")
 }
 
 // `HandleExp`, by its word.
 #[cycle(walk)]
-fn ha<'a>(
-    run: &'a [u8; 351],
-    text: &'a [u8],
-    rec: &[u8],
-    kinds: &&[u8],
-    spans: &&[u32],
-    out: &mut [u8],
-    mem: &mut [u64; 68],
-    at: usize,
-    cfg: Cfg,
-    w: usize,
-) -> usize
+fn ha(page: &Page, out: &mut [u8], ink: &mut Ink, at: usize, cfg: Cfg, fixed: &[u8]) -> Status
     requires { cfg.depth + 2 * cfg.nesting + 2 ≤ 402 }
-    ensures { does (λ ws c. ws.get_exp c ⨾ word· (word_of w) ⨾ get_matcher_across_lines ws c)
-        run text rec kinds spans out mem at cfg result }
+    ensures { by_word fixed (λ u. does (λ ws c. ws.get_exp c ⨾ word u ⨾ get_matcher_across_lines ws c)
+        page out ink at cfg result) }
 {
-    let r1 = exp(run, text, rec, kinds, spans, out, mem, at, cfg);
-    let Status::Done(s1) = told(r1) else {
-        return r1;
-    };
-    word(run, text, out, mem, w);
-    ma(run, text, rec, kinds, spans, out, mem, s1, cfg)
+    let s1 = exp(page, out, ink, at, cfg)?;
+    ink.put(out, fixed);
+    ma(page, out, ink, s1, cfg)
 }
 
 // `CaseExp`.
 #[cycle(walk)]
-fn ca<'a>(
-    run: &'a [u8; 351],
-    text: &'a [u8],
-    rec: &[u8],
-    kinds: &&[u8],
-    spans: &&[u32],
-    out: &mut [u8],
-    mem: &mut [u64; 68],
-    at: usize,
-    cfg: Cfg,
-) -> usize
+fn ca(page: &Page, out: &mut [u8], ink: &mut Ink, at: usize, cfg: Cfg) -> Status
     requires { cfg.depth + 2 * cfg.nesting + 2 ≤ 402 }
-    ensures { does (λ ws c. exp· ws c CaseExp) run text rec kinds spans out mem at cfg result }
+    ensures { does (λ ws c. exp· ws c CaseExp) page out ink at cfg result }
 {
-    word(run, text, out, mem, words::CASE);
-    ha(
-        run,
-        text,
-        rec,
-        kinds,
-        spans,
-        out,
-        mem,
-        at,
-        cfg,
-        words::CASE_OF,
-    )
+    ink.put(out, b"case ");
+    ha(page, out, ink, at, cfg, b" of\n")
 }
 
 // `RaiseExp`, `DoDec` and an exception's expression, by their word.
 #[cycle(walk)]
-fn pr<'a>(
-    run: &'a [u8; 351],
-    text: &'a [u8],
-    rec: &[u8],
-    kinds: &&[u8],
-    spans: &&[u32],
-    out: &mut [u8],
-    mem: &mut [u64; 68],
-    at: usize,
-    cfg: Cfg,
-    w: usize,
-) -> usize
+fn pr(page: &Page, out: &mut [u8], ink: &mut Ink, at: usize, cfg: Cfg, fixed: &[u8]) -> Status
     requires { cfg.depth + 2 * cfg.nesting + 2 ≤ 402 }
-    ensures { does (λ ws c. word· (word_of w) ⨾ ws.get_exp c) run text rec kinds spans out mem at cfg result }
+    ensures { by_word fixed (λ u. does (λ ws c. word u ⨾ ws.get_exp c) page out ink at cfg result) }
 {
-    word(run, text, out, mem, w);
-    exp(run, text, rec, kinds, spans, out, mem, at, cfg)
+    ink.put(out, fixed);
+    exp(page, out, ink, at, cfg)
 }
 
 // `IfExp`. Another `if` stays on the line of `else`.
 #[cycle(walk)]
-fn ie<'a>(
-    run: &'a [u8; 351],
-    text: &'a [u8],
-    rec: &[u8],
-    kinds: &&[u8],
-    spans: &&[u32],
-    out: &mut [u8],
-    mem: &mut [u64; 68],
-    at: usize,
-    cfg: Cfg,
-) -> usize
+fn ie(page: &Page, out: &mut [u8], ink: &mut Ink, at: usize, cfg: Cfg) -> Status
     requires { cfg.depth + 2 * cfg.nesting + 2 ≤ 402 }
-    ensures { does (λ ws c. exp· ws c IfExp) run text rec kinds spans out mem at cfg result }
+    ensures { does (λ ws c. exp· ws c IfExp) page out ink at cfg result }
 {
-    word(run, text, out, mem, words::IF);
-    let r1 = exp(run, text, rec, kinds, spans, out, mem, at, cfg);
-    let Status::Done(s1) = told(r1) else {
-        return r1;
-    };
-    word(run, text, out, mem, words::THEN);
-    indent_deeper(out, mem, cfg);
+    ink.put(out, b"if ");
+    let s1 = exp(page, out, ink, at, cfg)?;
+    ink.put(out, b" then\n");
+    indent_deeper(out, ink, cfg);
     let new = cfg.indented();
-    let r2 = exp(run, text, rec, kinds, spans, out, mem, s1, new);
-    let Status::Done(s2) = told(r2) else {
-        return r2;
-    };
-    line(run, text, out, mem, cfg);
-    word(run, text, out, mem, words::ELSE);
-    let Read::Is(_k, _s) = expression(rec, s2) else {
-        return stop(s2);
-    };
-    if is_if_exp(rec, s2) {
-        word(run, text, out, mem, words::SPACE);
-        return exp(run, text, rec, kinds, spans, out, mem, s2, cfg);
+    let s2 = exp(page, out, ink, s1, new)?;
+    line(out, ink, cfg);
+    ink.put(out, b"else");
+    form(page, s2, Family::Exp)?;
+    if is_if_exp(page, s2) {
+        ink.put(out, b" ");
+        return exp(page, out, ink, s2, cfg);
     }
-    line_in(run, text, out, mem, cfg);
-    exp(run, text, rec, kinds, spans, out, mem, s2, new)
+    line(out, ink, new);
+    exp(page, out, ink, s2, new)
 }
 
 // `get_matcher_across_lines`. No matcher is allowed.
 #[cycle(walk)]
-fn ma<'a>(
-    run: &'a [u8; 351],
-    text: &'a [u8],
-    rec: &[u8],
-    kinds: &&[u8],
-    spans: &&[u32],
-    out: &mut [u8],
-    mem: &mut [u64; 68],
-    at: usize,
-    cfg: Cfg,
-) -> usize
+fn ma(page: &Page, out: &mut [u8], ink: &mut Ink, at: usize, cfg: Cfg) -> Status
     requires { cfg.depth + 2 * cfg.nesting + 2 ≤ 402 }
-    ensures { does get_matcher_across_lines run text rec kinds spans out mem at cfg result }
+    ensures { does get_matcher_across_lines page out ink at cfg result }
 {
-    if let Gone::Past(s0) = absent(rec, at) {
-        return s0;
+    if let Some(s0) = absent(page, at) {
+        return Ok(s0);
     }
-    let r1 = group(rec, at);
-    let Status::Done(s1) = told(r1) else {
-        return r1;
-    };
-    indent_deeper(out, mem, cfg);
-    let Read::Is(n, s2) = list(rec, s1) else {
-        return stop(s1);
-    };
-    let mut s = s2;
-    let mut i = 0;
-    while i < n {
-        new_line(run, text, out, mem, cfg, words::BAR, i);
-        let r3 = arm(run, text, rec, kinds, spans, out, mem, s, cfg);
-        let Status::Done(s3) = told(r3) else {
-            return r3;
-        };
-        s = s3;
-        i += 1;
-    }
-    s
+    let s1 = group(page, at)?;
+    indent_deeper(out, ink, cfg);
+    let item = |out: &mut [u8], ink: &mut Ink, at: usize|
+        requires { cfg.depth + 2 * cfg.nesting + 2 ≤ 402 }
+        ensures { does get_matcher_arm page out ink at cfg result }
+    { arm(page, out, ink, at, cfg) };
+    sep_with_lines(page, out, ink, s1, cfg, b"| ", item)
 }
 
 // `get_matcher_arm`: the body stands two deeper where it needs a line of its own.
 #[cycle(walk)]
-fn arm<'a>(
-    run: &'a [u8; 351],
-    text: &'a [u8],
-    rec: &[u8],
-    kinds: &&[u8],
-    spans: &&[u32],
-    out: &mut [u8],
-    mem: &mut [u64; 68],
-    at: usize,
-    cfg: Cfg,
-) -> usize
+fn arm(page: &Page, out: &mut [u8], ink: &mut Ink, at: usize, cfg: Cfg) -> Status
     requires { cfg.depth + 2 * cfg.nesting + 2 ≤ 402 }
-    ensures { does get_matcher_arm run text rec kinds spans out mem at cfg result }
+    ensures { does get_matcher_arm page out ink at cfg result }
 {
-    let r1 = group(rec, at);
-    let Status::Done(s1) = told(r1) else {
-        return r1;
-    };
-    let r2 = get_pat(run, text, rec, spans, out, mem, s1, cfg);
-    let Status::Done(s2) = told(r2) else {
-        return r2;
-    };
-    word(run, text, out, mem, words::EQ_ARROW);
-    let Read::Is(_k, _s) = expression(rec, s2) else {
-        return stop(s2);
-    };
-    if body_exp_needs_newline(rec, s2) {
-        word(run, text, out, mem, words::LINE_FEED);
-        deepen(mem, cfg);
+    let s1 = group(page, at)?;
+    let s2 = get_pat(page, out, ink, s1, cfg)?;
+    ink.put(out, b" =>");
+    form(page, s2, Family::Exp)?;
+    if body_exp_needs_newline(page, s2) {
+        ink.put(out, b"\n");
+        deepen(ink, cfg);
         let new = cfg.indented();
-        return dp(run, text, rec, kinds, spans, out, mem, s2, new);
+        return dp(page, out, ink, s2, new);
     }
-    word(run, text, out, mem, words::SPACE);
-    exp(run, text, rec, kinds, spans, out, mem, s2, cfg)
+    ink.put(out, b" ");
+    exp(page, out, ink, s2, cfg)
 }
 
 // An expression one deeper.
 #[cycle(walk)]
-fn dp<'a>(
-    run: &'a [u8; 351],
-    text: &'a [u8],
-    rec: &[u8],
-    kinds: &&[u8],
-    spans: &&[u32],
-    out: &mut [u8],
-    mem: &mut [u64; 68],
-    at: usize,
-    cfg: Cfg,
-) -> usize
+fn dp(page: &Page, out: &mut [u8], ink: &mut Ink, at: usize, cfg: Cfg) -> Status
     requires { cfg.depth + 2 * cfg.nesting + 1 ≤ 402 }
-    ensures { does (λ ws c. indented_levels ws c 1) run text rec kinds spans out mem at cfg result }
+    ensures { does (λ ws c. indented_levels ws c 1) page out ink at cfg result }
 {
-    indent_deeper(out, mem, cfg);
+    indent_deeper(out, ink, cfg);
     let new = cfg.indented();
-    exp(run, text, rec, kinds, spans, out, mem, at, new)
+    exp(page, out, ink, at, new)
 }
 
 // ` =` and the body of a binding, where there is one.
 #[cycle(walk)]
-fn qb<'a>(
-    run: &'a [u8; 351],
-    text: &'a [u8],
-    rec: &[u8],
-    kinds: &&[u8],
-    spans: &&[u32],
-    out: &mut [u8],
-    mem: &mut [u64; 68],
-    at: usize,
-    cfg: Cfg,
-) -> usize
+fn qb(page: &Page, out: &mut [u8], ink: &mut Ink, at: usize, cfg: Cfg) -> Status
     requires { cfg.depth + 2 * cfg.nesting + 2 ≤ 402 }
-    ensures { does eq_body run text rec kinds spans out mem at cfg result }
+    ensures { does eq_body page out ink at cfg result }
 {
-    if let Gone::Past(s0) = absent(rec, at) {
-        return s0;
+    if let Some(s0) = absent(page, at) {
+        return Ok(s0);
     }
-    let r1 = group(rec, at);
-    let Status::Done(s1) = told(r1) else {
-        return r1;
-    };
-    word(run, text, out, mem, words::EQ);
-    let Read::Is(_k, _s) = expression(rec, s1) else {
-        return stop(s1);
-    };
-    if body_exp_needs_newline(rec, s1) {
-        word(run, text, out, mem, words::LINE_FEED);
-        return dp(run, text, rec, kinds, spans, out, mem, s1, cfg);
+    let s1 = group(page, at)?;
+    ink.put(out, b" =");
+    form(page, s1, Family::Exp)?;
+    if body_exp_needs_newline(page, s1) {
+        ink.put(out, b"\n");
+        return dp(page, out, ink, s1, cfg);
     }
-    word(run, text, out, mem, words::SPACE);
-    exp(run, text, rec, kinds, spans, out, mem, s1, cfg)
+    ink.put(out, b" ");
+    exp(page, out, ink, s1, cfg)
 }
 
 // `FnExp`.
 #[cycle(walk)]
-fn fe<'a>(
-    run: &'a [u8; 351],
-    text: &'a [u8],
-    rec: &[u8],
-    kinds: &&[u8],
-    spans: &&[u32],
-    out: &mut [u8],
-    mem: &mut [u64; 68],
-    at: usize,
-    cfg: Cfg,
-) -> usize
+fn fe(page: &Page, out: &mut [u8], ink: &mut Ink, at: usize, cfg: Cfg) -> Status
     requires { cfg.depth + 2 * cfg.nesting + 2 ≤ 402 }
-    ensures { does (λ ws c. exp· ws c FnExp) run text rec kinds spans out mem at cfg result }
+    ensures { does (λ ws c. exp· ws c FnExp) page out ink at cfg result }
 {
-    word(run, text, out, mem, words::FN);
-    let r1 = group(rec, at);
-    let Status::Done(s1) = told(r1) else {
-        return r1;
-    };
-    let Read::Is(n, s2) = list(rec, s1) else {
-        return stop(s1);
-    };
-    let mut s = s2;
-    let mut i = 0;
-    while i < n {
-        between(run, text, out, mem, words::BAR_SPACED, i);
-        let r3 = arm(run, text, rec, kinds, spans, out, mem, s, cfg);
-        let Status::Done(s3) = told(r3) else {
-            return r3;
-        };
-        s = s3;
-        i += 1;
-    }
-    s
+    ink.put(out, b"fn ");
+    let s1 = group(page, at)?;
+    let item = |out: &mut [u8], ink: &mut Ink, at: usize|
+        requires { cfg.depth + 2 * cfg.nesting + 2 ≤ 402 }
+        ensures { does get_matcher_arm page out ink at cfg result }
+    { arm(page, out, ink, at, cfg) };
+    sep(page, out, ink, s1, b" | ", item)
 }
 
 // `get_exp`: a form is dispatched by number to its arm.
 #[cycle(walk)]
-fn exp<'a>(
-    run: &'a [u8; 351],
-    text: &'a [u8],
-    rec: &[u8],
-    kinds: &&[u8],
-    spans: &&[u32],
-    out: &mut [u8],
-    mem: &mut [u64; 68],
-    at: usize,
-    cfg: Cfg,
-) -> usize
+fn exp(page: &Page, out: &mut [u8], ink: &mut Ink, at: usize, cfg: Cfg) -> Status
     requires { cfg.depth + 2 * cfg.nesting + 0 ≤ 402 }
-    ensures { does (λ ws c. ws.get_exp c) run text rec kinds spans out mem at cfg result }
+    ensures { does (λ ws c. ws.get_exp c) page out ink at cfg result }
 {
-    let forms_left = cfg.nesting;
-    if forms_left == 0 {
-        return stop(at);
+    if cfg.nesting == 0 {
+        return Err(Stop::Absent(at));
     }
-    let Read::Is(k, s) = form(rec, at, Family::Exp) else {
-        return stop(at);
-    };
+    let (k, s) = form(page, at, Family::Exp)?;
     let sub = Cfg {
-        depth: cfg.depth,
-        blank: cfg.blank,
-        nesting: forms_left - 1,
+        nesting: cfg.nesting - 1,
+        ..cfg
     };
     match k {
         0 => {
-            word(run, text, out, mem, words::DOT_DOT_DOT);
-            s
+            ink.put(out, b"...");
+            Ok(s)
         }
         1 => {
-            word(run, text, out, mem, words::UNDERSCORE);
-            s
+            ink.put(out, b"_");
+            Ok(s)
         }
         2 => {
-            word(run, text, out, mem, words::OP_ANDALSO);
-            s
+            ink.put(out, b"op andalso");
+            Ok(s)
         }
         3 => {
-            word(run, text, out, mem, words::OP_ORELSE);
-            s
+            ink.put(out, b"op orelse");
+            Ok(s)
         }
-        4 => text_of(run, text, rec, spans, out, mem, s),
-        5 => op_path(run, text, rec, spans, out, mem, s),
-        6 => rc(run, text, rec, kinds, spans, out, mem, s, sub),
-        7 => selector_exp(run, text, rec, spans, out, mem, s, sub),
-        8 => pa(run, text, rec, kinds, spans, out, mem, s, sub),
-        9 => br(
-            run,
-            text,
-            rec,
-            kinds,
-            spans,
-            out,
-            mem,
-            s,
-            sub,
-            words::L_ROUND,
-            words::R_ROUND,
-        ),
-        10 => br(
-            run,
-            text,
-            rec,
-            kinds,
-            spans,
-            out,
-            mem,
-            s,
-            sub,
-            words::L_SQUARE,
-            words::R_SQUARE,
-        ),
-        11 => ve(run, text, rec, kinds, spans, out, mem, s, sub),
-        12 => seq(run, text, rec, kinds, spans, out, mem, s, sub),
-        13 => lx(run, text, rec, kinds, spans, out, mem, s, sub),
-        14 => app(run, text, rec, kinds, spans, out, mem, s, sub),
-        15 => fx(run, text, rec, kinds, spans, out, mem, s, sub),
-        16 => ty(run, text, rec, kinds, spans, out, mem, s, sub),
-        17 => du(run, text, rec, kinds, spans, out, mem, s, sub, ANDALSO),
-        18 => du(run, text, rec, kinds, spans, out, mem, s, sub, ORELSE),
-        19 => ha(run, text, rec, kinds, spans, out, mem, s, sub, HANDLE),
-        20 => pr(run, text, rec, kinds, spans, out, mem, s, sub, RAISE),
-        21 => ie(run, text, rec, kinds, spans, out, mem, s, sub),
-        22 => wh(run, text, rec, kinds, spans, out, mem, s, sub),
-        23 => ca(run, text, rec, kinds, spans, out, mem, s, sub),
-        24 => fe(run, text, rec, kinds, spans, out, mem, s, sub),
-        _ => stop(s),
+        4 => text_of(page, out, ink, s),
+        5 => op_path(page, out, ink, s),
+        6 => rc(page, out, ink, s, sub),
+        7 => selector_exp(page, out, ink, s, sub),
+        8 => pa(page, out, ink, s, sub),
+        9 => br(page, out, ink, s, sub, b"(", b")"),
+        10 => br(page, out, ink, s, sub, b"[", b"]"),
+        11 => ve(page, out, ink, s, sub),
+        12 => seq(page, out, ink, s, sub),
+        13 => lx(page, out, ink, s, sub),
+        14 => app(page, out, ink, s, sub),
+        15 => fx(page, out, ink, s, sub),
+        16 => ty(page, out, ink, s, sub),
+        17 => du(page, out, ink, s, sub, b" andalso "),
+        18 => du(page, out, ink, s, sub, b" orelse "),
+        19 => ha(page, out, ink, s, sub, b" handle\n"),
+        20 => pr(page, out, ink, s, sub, b"raise "),
+        21 => ie(page, out, ink, s, sub),
+        22 => wh(page, out, ink, s, sub),
+        23 => ca(page, out, ink, s, sub),
+        24 => fe(page, out, ink, s, sub),
+        _ => Err(Stop::Absent(s)),
     }
 }
 
 // ---- declarations
 // `get_dec`: the Decs of a sequence, with a blank line between where the configuration has them.
 #[cycle(walk)]
-fn ds<'a>(
-    run: &'a [u8; 351],
-    text: &'a [u8],
-    rec: &[u8],
-    kinds: &&[u8],
-    spans: &&[u32],
-    out: &mut [u8],
-    mem: &mut [u64; 68],
-    at: usize,
-    cfg: Cfg,
-) -> usize
+fn ds(page: &Page, out: &mut [u8], ink: &mut Ink, at: usize, cfg: Cfg) -> Status
     requires { cfg.depth + 2 * cfg.nesting + 0 ≤ 402 }
-    ensures { does get_dec run text rec kinds spans out mem at cfg result }
+    ensures { does get_dec page out ink at cfg result }
 {
-    let Read::Is(n, s0) = list(rec, at) else {
-        return stop(at);
+    let item = |out: &mut [u8], ink: &mut Ink, at: usize|
+        requires { cfg.depth + 2 * cfg.nesting + 0 ≤ 402 }
+        ensures { does (λ ws c. group· (dec· ws c)) page out ink at cfg result }
+    {
+        let s = group(page, at)?;
+        dec(page, out, ink, s, cfg)
     };
-    let mut s = s0;
-    let mut i = 0;
-    while i < n {
-        new_line(run, text, out, mem, cfg, words::NOTHING, i);
-        let r1 = group(rec, s);
-        let Status::Done(s1) = told(r1) else {
-            return r1;
-        };
-        let r2 = dec(run, text, rec, kinds, spans, out, mem, s1, cfg);
-        let Status::Done(s2) = told(r2) else {
-            return r2;
-        };
-        s = s2;
-        i += 1;
-    }
-    s
+    sep_with_lines(page, out, ink, at, cfg, b"", item)
 }
 
 // The fields of one Dec.
 #[cycle(walk)]
-fn dec<'a>(
-    run: &'a [u8; 351],
-    text: &'a [u8],
-    rec: &[u8],
-    kinds: &&[u8],
-    spans: &&[u32],
-    out: &mut [u8],
-    mem: &mut [u64; 68],
-    at: usize,
-    cfg: Cfg,
-) -> usize
+fn dec(page: &Page, out: &mut [u8], ink: &mut Ink, at: usize, cfg: Cfg) -> Status
     requires { cfg.depth + 2 * cfg.nesting + 0 ≤ 402 }
-    ensures { does dec· run text rec kinds spans out mem at cfg result }
+    ensures { does dec· page out ink at cfg result }
 {
-    let r1 = group(rec, at);
-    let Status::Done(s1) = told(r1) else {
-        return r1;
-    };
-    let r2 = qs(run, text, rec, kinds, spans, out, mem, s1, cfg);
-    let Status::Done(s2) = told(r2) else {
-        return r2;
-    };
-    let r3 = sharing_tails(run, text, rec, spans, out, mem, s2, cfg);
-    let Status::Done(s3) = told(r3) else {
-        return r3;
-    };
-    word_if(run, text, rec, spans, out, mem, s3, words::SEMICOLON)
+    let s1 = group(page, at)?;
+    let s2 = qs(page, out, ink, s1, cfg)?;
+    let s3 = sharing_tails(page, out, ink, s2, cfg)?;
+    word_if(page, out, ink, s3, b";")
 }
 
 // `dec_in_seqs`.
 #[cycle(walk)]
-fn qs<'a>(
-    run: &'a [u8; 351],
-    text: &'a [u8],
-    rec: &[u8],
-    kinds: &&[u8],
-    spans: &&[u32],
-    out: &mut [u8],
-    mem: &mut [u64; 68],
-    at: usize,
-    cfg: Cfg,
-) -> usize
+fn qs(page: &Page, out: &mut [u8], ink: &mut Ink, at: usize, cfg: Cfg) -> Status
     requires { cfg.depth + 2 * cfg.nesting + 0 ≤ 402 }
-    ensures { does dec_in_seqs run text rec kinds spans out mem at cfg result }
+    ensures { does dec_in_seqs page out ink at cfg result }
 {
-    let Read::Is(n, s0) = list(rec, at) else {
-        return stop(at);
-    };
-    let mut s = s0;
-    let mut i = 0;
-    while i < n {
-        new_line(run, text, out, mem, cfg, words::NOTHING, i);
-        let r1 = sq(run, text, rec, kinds, spans, out, mem, s, cfg);
-        let Status::Done(s1) = told(r1) else {
-            return r1;
-        };
-        s = s1;
-        i += 1;
-    }
-    s
+    let item = |out: &mut [u8], ink: &mut Ink, at: usize|
+        requires { cfg.depth + 2 * cfg.nesting + 0 ≤ 402 }
+        ensures { does dec_in_seq page out ink at cfg result }
+    { sq(page, out, ink, at, cfg) };
+    sep_with_lines(page, out, ink, at, cfg, b"", item)
 }
 
 // An item of `dec_in_seqs`.
 #[cycle(walk)]
-fn sq<'a>(
-    run: &'a [u8; 351],
-    text: &'a [u8],
-    rec: &[u8],
-    kinds: &&[u8],
-    spans: &&[u32],
-    out: &mut [u8],
-    mem: &mut [u64; 68],
-    at: usize,
-    cfg: Cfg,
-) -> usize
+fn sq(page: &Page, out: &mut [u8], ink: &mut Ink, at: usize, cfg: Cfg) -> Status
     requires { cfg.depth + 2 * cfg.nesting + 0 ≤ 402 }
-    ensures { does dec_in_seq run text rec kinds spans out mem at cfg result }
+    ensures { does dec_in_seq page out ink at cfg result }
 {
-    let r1 = group(rec, at);
-    let Status::Done(s1) = told(r1) else {
-        return r1;
-    };
+    let s1 = group(page, at)?;
     let calm = Cfg {
         depth: cfg.depth,
         blank: false,
         nesting: cfg.nesting,
     };
-    let r2 = one(run, text, rec, kinds, spans, out, mem, s1, calm);
-    let Status::Done(s2) = told(r2) else {
-        return r2;
-    };
-    word_if(run, text, rec, spans, out, mem, s2, words::SEMICOLON)
+    let s2 = one(page, out, ink, s1, calm)?;
+    word_if(page, out, ink, s2, b";")
 }
 
 // `get_dec_one`: the comment above a declaration, then the declaration.
 #[cycle(walk)]
-fn one<'a>(
-    run: &'a [u8; 351],
-    text: &'a [u8],
-    rec: &[u8],
-    kinds: &&[u8],
-    spans: &&[u32],
-    out: &mut [u8],
-    mem: &mut [u64; 68],
-    at: usize,
-    cfg: Cfg,
-) -> usize
+fn one(page: &Page, out: &mut [u8], ink: &mut Ink, at: usize, cfg: Cfg) -> Status
     requires { cfg.depth + 2 * cfg.nesting + 0 ≤ 402 }
-    ensures { does (λ ws c. ws.get_dec_one c) run text rec kinds spans out mem at cfg result }
+    ensures { does (λ ws c. ws.get_dec_one c) page out ink at cfg result }
 {
-    let forms_left = cfg.nesting;
-    if forms_left == 0 {
-        return stop(at);
+    if cfg.nesting == 0 {
+        return Err(Stop::Absent(at));
     }
-    let Declaration::Is {
-        number: k,
-        first: first,
-        next: next,
-    } = declared(rec, spans, at)
-    else {
-        return stop(at);
-    };
-    comment_above(run, text, kinds, spans, out, mem, cfg, first);
+    let found = declared(page, at)?;
+    comment_above(page, out, ink, cfg, found.first);
     let sub = Cfg {
-        depth: cfg.depth,
-        blank: cfg.blank,
-        nesting: forms_left - 1,
+        nesting: cfg.nesting - 1,
+        ..cfg
     };
-    nu(run, text, rec, kinds, spans, out, mem, next, sub, k)
+    nu(page, out, ink, found.next, sub, found.number)
 }
 
 // A declaration by its number, from its fields on.
 #[cycle(walk)]
-fn nu<'a>(
-    run: &'a [u8; 351],
-    text: &'a [u8],
-    rec: &[u8],
-    kinds: &&[u8],
-    spans: &&[u32],
-    out: &mut [u8],
-    mem: &mut [u64; 68],
-    at: usize,
-    cfg: Cfg,
-    which: usize,
-) -> usize
+fn nu(page: &Page, out: &mut [u8], ink: &mut Ink, at: usize, cfg: Cfg, which: usize) -> Status
     requires { cfg.depth + 2 * cfg.nesting + 2 ≤ 402 }
-    ensures { does (λ ws c. get_or (decs· ws c) which halt) run text rec kinds spans out mem at cfg result }
+    ensures { does (λ ws c. get_or (decs· ws c) which halt) page out ink at cfg result }
 {
     match which {
         0 => {
-            word(run, text, out, mem, words::DOT_DOT_DOT);
-            at
+            ink.put(out, b"...");
+            Ok(at)
         }
-        1 => vd(run, text, rec, kinds, spans, out, mem, at, cfg),
-        2 => fd(run, text, rec, kinds, spans, out, mem, at, cfg),
-        3 => ty_dec(run, text, rec, spans, out, mem, at, cfg),
-        4 => dat_dec(run, text, rec, spans, out, mem, at, cfg),
-        5 => dat_copy_dec(run, text, rec, spans, out, mem, at, cfg),
-        6 => ab(run, text, rec, kinds, spans, out, mem, at, cfg),
-        7 => xd(run, text, rec, kinds, spans, out, mem, at, cfg),
-        8 => open_dec(run, text, rec, spans, out, mem, at, cfg),
-        9 => infix_dec(run, text, rec, spans, out, mem, at, cfg, words::INFIX),
-        10 => infix_dec(run, text, rec, spans, out, mem, at, cfg, words::INFIXR),
-        11 => nonfix_dec(run, text, rec, spans, out, mem, at, cfg),
-        12 => pr(run, text, rec, kinds, spans, out, mem, at, cfg, words::DO),
-        13 => lo(run, text, rec, kinds, spans, out, mem, at, cfg),
-        14 => sd(run, text, rec, kinds, spans, out, mem, at, cfg),
-        15 => gd(run, text, rec, kinds, spans, out, mem, at, cfg),
-        16 => cd(run, text, rec, kinds, spans, out, mem, at, cfg),
-        17 => exp(run, text, rec, kinds, spans, out, mem, at, cfg),
-        18 => ic(run, text, rec, kinds, spans, out, mem, at, cfg),
-        19 => import(at),
-        _ => stop(at),
+        1 => vd(page, out, ink, at, cfg),
+        2 => fd(page, out, ink, at, cfg),
+        3 => ty_dec(page, out, ink, at, cfg),
+        4 => dat_dec(page, out, ink, at, cfg),
+        5 => dat_copy_dec(page, out, ink, at, cfg),
+        6 => ab(page, out, ink, at, cfg),
+        7 => xd(page, out, ink, at, cfg),
+        8 => open_dec(page, out, ink, at, cfg),
+        9 => infix_dec(page, out, ink, at, cfg, b"infix "),
+        10 => infix_dec(page, out, ink, at, cfg, b"infixr "),
+        11 => nonfix_dec(page, out, ink, at, cfg),
+        12 => pr(page, out, ink, at, cfg, b"do "),
+        13 => lo(page, out, ink, at, cfg),
+        14 => sd(page, out, ink, at, cfg),
+        15 => gd(page, out, ink, at, cfg),
+        16 => cd(page, out, ink, at, cfg),
+        17 => exp(page, out, ink, at, cfg),
+        18 => ic(page, out, ink, at, cfg),
+        19 => Err(Stop::Import(at)),
+        _ => Err(Stop::Absent(at)),
     }
 }
 
 // `ValDec`.
 #[cycle(walk)]
-fn vd<'a>(
-    run: &'a [u8; 351],
-    text: &'a [u8],
-    rec: &[u8],
-    kinds: &&[u8],
-    spans: &&[u32],
-    out: &mut [u8],
-    mem: &mut [u64; 68],
-    at: usize,
-    cfg: Cfg,
-) -> usize
+fn vd(page: &Page, out: &mut [u8], ink: &mut Ink, at: usize, cfg: Cfg) -> Status
     requires { cfg.depth + 2 * cfg.nesting + 2 ≤ 402 }
-    ensures { does (λ ws c. dec_one· ws c ValDec) run text rec kinds spans out mem at cfg result }
+    ensures { does (λ ws c. dec_one· ws c ValDec) page out ink at cfg result }
 {
-    word(run, text, out, mem, words::VAL);
-    let Read::Is(n, s1) = list(rec, at) else {
-        return stop(at);
-    };
-    let mut s = s1;
-    let mut i = 0;
-    while i < n {
-        new_line(run, text, out, mem, cfg, words::AND, i);
-        let r2 = vb(run, text, rec, kinds, spans, out, mem, s, cfg);
-        let Status::Done(s2) = told(r2) else {
-            return r2;
-        };
-        s = s2;
-        i += 1;
-    }
-    s
+    ink.put(out, b"val ");
+    let item = |out: &mut [u8], ink: &mut Ink, at: usize|
+        requires { cfg.depth + 2 * cfg.nesting + 2 ≤ 402 }
+        ensures { does val_bind page out ink at cfg result }
+    { vb(page, out, ink, at, cfg) };
+    sep_with_lines(page, out, ink, at, cfg, b"and ", item)
 }
 
 // A binding of `ValDec`.
 #[cycle(walk)]
-fn vb<'a>(
-    run: &'a [u8; 351],
-    text: &'a [u8],
-    rec: &[u8],
-    kinds: &&[u8],
-    spans: &&[u32],
-    out: &mut [u8],
-    mem: &mut [u64; 68],
-    at: usize,
-    cfg: Cfg,
-) -> usize
+fn vb(page: &Page, out: &mut [u8], ink: &mut Ink, at: usize, cfg: Cfg) -> Status
     requires { cfg.depth + 2 * cfg.nesting + 2 ≤ 402 }
-    ensures { does val_bind run text rec kinds spans out mem at cfg result }
+    ensures { does val_bind page out ink at cfg result }
 {
-    let r1 = group(rec, at);
-    let Status::Done(s1) = told(r1) else {
-        return r1;
-    };
-    let r2 = word_if(run, text, rec, spans, out, mem, s1, words::REC);
-    let Status::Done(s2) = told(r2) else {
-        return r2;
-    };
-    let r3 = get_pat(run, text, rec, spans, out, mem, s2, cfg);
-    let Status::Done(s3) = told(r3) else {
-        return r3;
-    };
-    qb(run, text, rec, kinds, spans, out, mem, s3, cfg)
+    let s1 = group(page, at)?;
+    let s2 = word_if(page, out, ink, s1, b"rec ")?;
+    let s3 = get_pat(page, out, ink, s2, cfg)?;
+    qb(page, out, ink, s3, cfg)
 }
 
 // `FunDec`.
 #[cycle(walk)]
-fn fd<'a>(
-    run: &'a [u8; 351],
-    text: &'a [u8],
-    rec: &[u8],
-    kinds: &&[u8],
-    spans: &&[u32],
-    out: &mut [u8],
-    mem: &mut [u64; 68],
-    at: usize,
-    cfg: Cfg,
-) -> usize
+fn fd(page: &Page, out: &mut [u8], ink: &mut Ink, at: usize, cfg: Cfg) -> Status
     requires { cfg.depth + 2 * cfg.nesting + 2 ≤ 402 }
-    ensures { does (λ ws c. dec_one· ws c FunDec) run text rec kinds spans out mem at cfg result }
+    ensures { does (λ ws c. dec_one· ws c FunDec) page out ink at cfg result }
 {
-    word(run, text, out, mem, words::FUN);
-    let r1 = ty_var_seq(run, text, rec, spans, out, mem, at);
-    let Status::Done(s1) = told(r1) else {
-        return r1;
-    };
-    let Read::Is(n, s2) = list(rec, s1) else {
-        return stop(s1);
-    };
-    let mut s = s2;
-    let mut i = 0;
-    while i < n {
-        new_line(run, text, out, mem, cfg, words::AND, i);
-        let r3 = fb(run, text, rec, kinds, spans, out, mem, s, cfg);
-        let Status::Done(s3) = told(r3) else {
-            return r3;
-        };
-        s = s3;
-        i += 1;
-    }
-    s
+    ink.put(out, b"fun ");
+    let s1 = ty_var_seq(page, out, ink, at)?;
+    let item = |out: &mut [u8], ink: &mut Ink, at: usize|
+        requires { cfg.depth + 2 * cfg.nesting + 2 ≤ 402 }
+        ensures { does fun_bind page out ink at cfg result }
+    { fb(page, out, ink, at, cfg) };
+    sep_with_lines(page, out, ink, s1, cfg, b"and ", item)
 }
 
 // A binding of `FunDec`: bars stand one deeper, bodies are laid out from the declaration's own depth.
 #[cycle(walk)]
-fn fb<'a>(
-    run: &'a [u8; 351],
-    text: &'a [u8],
-    rec: &[u8],
-    kinds: &&[u8],
-    spans: &&[u32],
-    out: &mut [u8],
-    mem: &mut [u64; 68],
-    at: usize,
-    cfg: Cfg,
-) -> usize
+fn fb(page: &Page, out: &mut [u8], ink: &mut Ink, at: usize, cfg: Cfg) -> Status
     requires { cfg.depth + 2 * cfg.nesting + 2 ≤ 402 }
-    ensures { does fun_bind run text rec kinds spans out mem at cfg result }
+    ensures { does fun_bind page out ink at cfg result }
 {
-    let r1 = group(rec, at);
-    let Status::Done(s1) = told(r1) else {
-        return r1;
-    };
-    deepen(mem, cfg);
-    let Read::Is(n, s2) = list(rec, s1) else {
-        return stop(s1);
-    };
-    let mut s = s2;
-    let mut i = 0;
-    while i < n {
-        new_line_in(run, text, out, mem, cfg, words::BAR, i);
-        let r3 = fc(run, text, rec, kinds, spans, out, mem, s, cfg);
-        let Status::Done(s3) = told(r3) else {
-            return r3;
-        };
-        s = s3;
-        i += 1;
-    }
-    s
+    let s1 = group(page, at)?;
+    deepen(ink, cfg);
+    let item = |out: &mut [u8], ink: &mut Ink, at: usize|
+        requires { cfg.depth + 2 * cfg.nesting + 2 ≤ 402 }
+        ensures { does fun_bind_case page out ink at cfg result }
+    { fc(page, out, ink, at, cfg) };
+    sep_with_lines(page, out, ink, s1, cfg.indented(), b"| ", item)
 }
 
 // A case of `FunDec`.
 #[cycle(walk)]
-fn fc<'a>(
-    run: &'a [u8; 351],
-    text: &'a [u8],
-    rec: &[u8],
-    kinds: &&[u8],
-    spans: &&[u32],
-    out: &mut [u8],
-    mem: &mut [u64; 68],
-    at: usize,
-    cfg: Cfg,
-) -> usize
+fn fc(page: &Page, out: &mut [u8], ink: &mut Ink, at: usize, cfg: Cfg) -> Status
     requires { cfg.depth + 2 * cfg.nesting + 2 ≤ 402 }
-    ensures { does fun_bind_case run text rec kinds spans out mem at cfg result }
+    ensures { does fun_bind_case page out ink at cfg result }
 {
-    let r1 = group(rec, at);
-    let Status::Done(s1) = told(r1) else {
-        return r1;
-    };
-    let r2 = case_head(run, text, rec, spans, out, mem, s1, cfg);
-    let Status::Done(s2) = told(r2) else {
-        return r2;
-    };
-    let r3 = case_pats(run, text, rec, spans, out, mem, s2, cfg);
-    let Status::Done(s3) = told(r3) else {
-        return r3;
-    };
-    let r4 = ty_annotation(run, text, rec, spans, out, mem, s3, cfg);
-    let Status::Done(s4) = told(r4) else {
-        return r4;
-    };
-    qb(run, text, rec, kinds, spans, out, mem, s4, cfg)
+    let s1 = group(page, at)?;
+    let s2 = case_head(page, out, ink, s1, cfg)?;
+    let s3 = case_pats(page, out, ink, s2, cfg)?;
+    let s4 = ty_annotation(page, out, ink, s3, cfg)?;
+    qb(page, out, ink, s4, cfg)
 }
 
 // `AbstypeDec`.
 #[cycle(walk)]
-fn ab<'a>(
-    run: &'a [u8; 351],
-    text: &'a [u8],
-    rec: &[u8],
-    kinds: &&[u8],
-    spans: &&[u32],
-    out: &mut [u8],
-    mem: &mut [u64; 68],
-    at: usize,
-    cfg: Cfg,
-) -> usize
+fn ab(page: &Page, out: &mut [u8], ink: &mut Ink, at: usize, cfg: Cfg) -> Status
     requires { cfg.depth + 2 * cfg.nesting + 2 ≤ 402 }
-    ensures { does (λ ws c. dec_one· ws c AbstypeDec) run text rec kinds spans out mem at cfg result }
+    ensures { does (λ ws c. dec_one· ws c AbstypeDec) page out ink at cfg result }
 {
-    word(run, text, out, mem, words::ABSTYPE);
-    let r1 = dat_binds(run, text, rec, spans, out, mem, at, cfg);
-    let Status::Done(s1) = told(r1) else {
-        return r1;
-    };
-    let r2 = with_type(run, text, rec, spans, out, mem, s1, cfg);
-    let Status::Done(s2) = told(r2) else {
-        return r2;
-    };
-    word(run, text, out, mem, words::WITH);
-    let r3 = ds(run, text, rec, kinds, spans, out, mem, s2, cfg);
-    let Status::Done(s3) = told(r3) else {
-        return r3;
-    };
-    word(run, text, out, mem, words::WITH_END);
-    s3
+    ink.put(out, b"abstype ");
+    let s1 = dat_binds(page, out, ink, at, cfg)?;
+    let s2 = with_type(page, out, ink, s1, cfg)?;
+    ink.put(out, b" with ");
+    let s3 = ds(page, out, ink, s2, cfg)?;
+    ink.put(out, b" end");
+    Ok(s3)
 }
 
 // `ExDec`.
 #[cycle(walk)]
-fn xd<'a>(
-    run: &'a [u8; 351],
-    text: &'a [u8],
-    rec: &[u8],
-    kinds: &&[u8],
-    spans: &&[u32],
-    out: &mut [u8],
-    mem: &mut [u64; 68],
-    at: usize,
-    cfg: Cfg,
-) -> usize
+fn xd(page: &Page, out: &mut [u8], ink: &mut Ink, at: usize, cfg: Cfg) -> Status
     requires { cfg.depth + 2 * cfg.nesting + 2 ≤ 402 }
-    ensures { does (λ ws c. dec_one· ws c ExDec) run text rec kinds spans out mem at cfg result }
+    ensures { does (λ ws c. dec_one· ws c ExDec) page out ink at cfg result }
 {
-    word(run, text, out, mem, words::EXCEPTION);
-    let Read::Is(n, s1) = list(rec, at) else {
-        return stop(at);
-    };
-    let mut s = s1;
-    let mut i = 0;
-    while i < n {
-        new_line(run, text, out, mem, cfg, words::AND, i);
-        let r2 = xb(run, text, rec, kinds, spans, out, mem, s, cfg);
-        let Status::Done(s2) = told(r2) else {
-            return r2;
-        };
-        s = s2;
-        i += 1;
-    }
-    s
+    ink.put(out, b"exception ");
+    let item = |out: &mut [u8], ink: &mut Ink, at: usize|
+        requires { cfg.depth + 2 * cfg.nesting + 2 ≤ 402 }
+        ensures { does ex_bind page out ink at cfg result }
+    { xb(page, out, ink, at, cfg) };
+    sep_with_lines(page, out, ink, at, cfg, b"and ", item)
 }
 
 // A binding of `ExDec`.
 #[cycle(walk)]
-fn xb<'a>(
-    run: &'a [u8; 351],
-    text: &'a [u8],
-    rec: &[u8],
-    kinds: &&[u8],
-    spans: &&[u32],
-    out: &mut [u8],
-    mem: &mut [u64; 68],
-    at: usize,
-    cfg: Cfg,
-) -> usize
+fn xb(page: &Page, out: &mut [u8], ink: &mut Ink, at: usize, cfg: Cfg) -> Status
     requires { cfg.depth + 2 * cfg.nesting + 2 ≤ 402 }
-    ensures { does ex_bind run text rec kinds spans out mem at cfg result }
+    ensures { does ex_bind page out ink at cfg result }
 {
-    let r1 = group(rec, at);
-    let Status::Done(s1) = told(r1) else {
-        return r1;
-    };
-    let r2 = text_of(run, text, rec, spans, out, mem, s1);
-    let Status::Done(s2) = told(r2) else {
-        return r2;
-    };
-    if let Gone::Past(s3) = absent(rec, s2) {
-        return s3;
+    let s1 = group(page, at)?;
+    let s2 = text_of(page, out, ink, s1)?;
+    if let Some(s3) = absent(page, s2) {
+        return Ok(s3);
     }
-    let Read::Is(k, s4) = choice(rec, s2) else {
-        return stop(s2);
-    };
-    xi(run, text, rec, kinds, spans, out, mem, s4, cfg, k)
+    let (k, s4) = choice(page, s2)?;
+    xi(page, out, ink, s4, cfg, k)
 }
 
 // What an exception is bound to, by its number.
 #[cycle(walk)]
-fn xi<'a>(
-    run: &'a [u8; 351],
-    text: &'a [u8],
-    rec: &[u8],
-    kinds: &&[u8],
-    spans: &&[u32],
-    out: &mut [u8],
-    mem: &mut [u64; 68],
-    at: usize,
-    cfg: Cfg,
-    which: usize,
-) -> usize
+fn xi(page: &Page, out: &mut [u8], ink: &mut Ink, at: usize, cfg: Cfg, which: usize) -> Status
     requires { cfg.depth + 2 * cfg.nesting + 2 ≤ 402 }
-    ensures { does (λ ws c. ex_bind_inner ws c which) run text rec kinds spans out mem at cfg result }
+    ensures { does (λ ws c. ex_bind_inner ws c which) page out ink at cfg result }
 {
     match which {
-        0 => ex_bind_of(run, text, rec, spans, out, mem, at, cfg),
-        1 => pr(
-            run,
-            text,
-            rec,
-            kinds,
-            spans,
-            out,
-            mem,
-            at,
-            cfg,
-            words::EQ_SPACED,
-        ),
-        _ => stop(at),
+        0 => ex_bind_of(page, out, ink, at, cfg),
+        1 => pr(page, out, ink, at, cfg, b" = "),
+        _ => Err(Stop::Absent(at)),
     }
 }
 
 // `LocalDec`.
 #[cycle(walk)]
-fn lo<'a>(
-    run: &'a [u8; 351],
-    text: &'a [u8],
-    rec: &[u8],
-    kinds: &&[u8],
-    spans: &&[u32],
-    out: &mut [u8],
-    mem: &mut [u64; 68],
-    at: usize,
-    cfg: Cfg,
-) -> usize
+fn lo(page: &Page, out: &mut [u8], ink: &mut Ink, at: usize, cfg: Cfg) -> Status
     requires { cfg.depth + 2 * cfg.nesting + 2 ≤ 402 }
-    ensures { does (λ ws c. dec_one· ws c LocalDec) run text rec kinds spans out mem at cfg result }
+    ensures { does (λ ws c. dec_one· ws c LocalDec) page out ink at cfg result }
 {
-    word(run, text, out, mem, words::LOCAL);
-    word(run, text, out, mem, words::LINE_FEED);
-    indent_deeper(out, mem, cfg);
+    ink.put(out, b"local");
+    ink.put(out, b"\n");
+    indent_deeper(out, ink, cfg);
     let new = cfg.indented();
-    let r1 = ld(run, text, rec, kinds, spans, out, mem, at, new);
-    let Status::Done(s1) = told(r1) else {
-        return r1;
-    };
-    line(run, text, out, mem, cfg);
-    word(run, text, out, mem, words::IN);
-    indent_in(out, mem, cfg);
-    let r2 = ld(run, text, rec, kinds, spans, out, mem, s1, new);
-    let Status::Done(s2) = told(r2) else {
-        return r2;
-    };
-    line(run, text, out, mem, cfg);
-    word(run, text, out, mem, words::END);
-    s2
+    let s1 = ld(page, out, ink, at, new)?;
+    line(out, ink, cfg);
+    ink.put(out, b"in\n");
+    indent(out, ink, new);
+    let s2 = ld(page, out, ink, s1, new)?;
+    line(out, ink, cfg);
+    ink.put(out, b"end");
+    Ok(s2)
 }
 
 // `local_dec_hd` or `local_dec_tl`: absent, it has no declarations.
 #[cycle(walk)]
-fn ld<'a>(
-    run: &'a [u8; 351],
-    text: &'a [u8],
-    rec: &[u8],
-    kinds: &&[u8],
-    spans: &&[u32],
-    out: &mut [u8],
-    mem: &mut [u64; 68],
-    at: usize,
-    cfg: Cfg,
-) -> usize
+fn ld(page: &Page, out: &mut [u8], ink: &mut Ink, at: usize, cfg: Cfg) -> Status
     requires { cfg.depth + 2 * cfg.nesting + 0 ≤ 402 }
-    ensures { does local_decs run text rec kinds spans out mem at cfg result }
+    ensures { does local_decs page out ink at cfg result }
 {
-    if let Gone::Past(s0) = absent(rec, at) {
-        return s0;
+    if let Some(s0) = absent(page, at) {
+        return Ok(s0);
     }
-    let r1 = group(rec, at);
-    let Status::Done(s1) = told(r1) else {
-        return r1;
-    };
-    ds(run, text, rec, kinds, spans, out, mem, s1, cfg)
+    let s1 = group(page, at)?;
+    ds(page, out, ink, s1, cfg)
 }
 
 // `StructureDec`.
 #[cycle(walk)]
-fn sd<'a>(
-    run: &'a [u8; 351],
-    text: &'a [u8],
-    rec: &[u8],
-    kinds: &&[u8],
-    spans: &&[u32],
-    out: &mut [u8],
-    mem: &mut [u64; 68],
-    at: usize,
-    cfg: Cfg,
-) -> usize
+fn sd(page: &Page, out: &mut [u8], ink: &mut Ink, at: usize, cfg: Cfg) -> Status
     requires { cfg.depth + 2 * cfg.nesting + 2 ≤ 402 }
-    ensures { does (λ ws c. dec_one· ws c StructureDec) run text rec kinds spans out mem at cfg result }
+    ensures { does (λ ws c. dec_one· ws c StructureDec) page out ink at cfg result }
 {
-    word(run, text, out, mem, words::STRUCTURE);
-    let Read::Is(n, s1) = list(rec, at) else {
-        return stop(at);
-    };
-    let mut s = s1;
-    let mut i = 0;
-    while i < n {
-        new_line(run, text, out, mem, cfg, words::AND, i);
-        let r2 = sb(run, text, rec, kinds, spans, out, mem, s, cfg);
-        let Status::Done(s2) = told(r2) else {
-            return r2;
-        };
-        s = s2;
-        i += 1;
-    }
-    s
+    ink.put(out, b"structure ");
+    let item = |out: &mut [u8], ink: &mut Ink, at: usize|
+        requires { cfg.depth + 2 * cfg.nesting + 2 ≤ 402 }
+        ensures { does str_bind page out ink at cfg result }
+    { sb(page, out, ink, at, cfg) };
+    sep_with_lines(page, out, ink, at, cfg, b"and ", item)
 }
 
 // A binding of `StructureDec`.
 #[cycle(walk)]
-fn sb<'a>(
-    run: &'a [u8; 351],
-    text: &'a [u8],
-    rec: &[u8],
-    kinds: &&[u8],
-    spans: &&[u32],
-    out: &mut [u8],
-    mem: &mut [u64; 68],
-    at: usize,
-    cfg: Cfg,
-) -> usize
+fn sb(page: &Page, out: &mut [u8], ink: &mut Ink, at: usize, cfg: Cfg) -> Status
     requires { cfg.depth + 2 * cfg.nesting + 2 ≤ 402 }
-    ensures { does str_bind run text rec kinds spans out mem at cfg result }
+    ensures { does str_bind page out ink at cfg result }
 {
-    let r1 = group(rec, at);
-    let Status::Done(s1) = told(r1) else {
-        return r1;
-    };
-    let r2 = text_of(run, text, rec, spans, out, mem, s1);
-    let Status::Done(s2) = told(r2) else {
-        return r2;
-    };
-    let r3 = ac(run, text, rec, kinds, spans, out, mem, s2, cfg);
-    let Status::Done(s3) = told(r3) else {
-        return r3;
-    };
-    if let Gone::Past(s4) = absent(rec, s3) {
-        return s4;
+    let s1 = group(page, at)?;
+    let s2 = text_of(page, out, ink, s1)?;
+    let s3 = ac(page, out, ink, s2, cfg)?;
+    if let Some(s4) = absent(page, s3) {
+        return Ok(s4);
     }
-    let r5 = group(rec, s3);
-    let Status::Done(s5) = told(r5) else {
-        return r5;
-    };
-    word(run, text, out, mem, words::EQ_SPACED);
-    str(run, text, rec, kinds, spans, out, mem, s5, cfg)
+    let s5 = group(page, s3)?;
+    ink.put(out, b" = ");
+    str(page, out, ink, s5, cfg)
 }
 
 // `SignatureDec`.
 #[cycle(walk)]
-fn gd<'a>(
-    run: &'a [u8; 351],
-    text: &'a [u8],
-    rec: &[u8],
-    kinds: &&[u8],
-    spans: &&[u32],
-    out: &mut [u8],
-    mem: &mut [u64; 68],
-    at: usize,
-    cfg: Cfg,
-) -> usize
+fn gd(page: &Page, out: &mut [u8], ink: &mut Ink, at: usize, cfg: Cfg) -> Status
     requires { cfg.depth + 2 * cfg.nesting + 2 ≤ 402 }
-    ensures { does (λ ws c. dec_one· ws c SignatureDec) run text rec kinds spans out mem at cfg result }
+    ensures { does (λ ws c. dec_one· ws c SignatureDec) page out ink at cfg result }
 {
-    word(run, text, out, mem, words::SIGNATURE);
-    let Read::Is(n, s1) = list(rec, at) else {
-        return stop(at);
+    ink.put(out, b"signature ");
+    let item = |out: &mut [u8], ink: &mut Ink, at: usize|
+        requires { cfg.depth + 2 * cfg.nesting + 2 ≤ 402 }
+        ensures { does (λ ws c. group· (text· ⨾ word " = " ⨾ ws.get_sig_exp c)) page out ink at cfg result }
+    {
+        let s = group(page, at)?;
+        nm(page, out, ink, s, cfg, b" = ")
     };
-    let mut s = s1;
-    let mut i = 0;
-    while i < n {
-        new_line(run, text, out, mem, cfg, words::AND, i);
-        let r2 = group(rec, s);
-        let Status::Done(s2) = told(r2) else {
-            return r2;
-        };
-        let r3 = nm(
-            run,
-            text,
-            rec,
-            kinds,
-            spans,
-            out,
-            mem,
-            s2,
-            cfg,
-            words::EQ_SPACED,
-        );
-        let Status::Done(s3) = told(r3) else {
-            return r3;
-        };
-        s = s3;
-        i += 1;
-    }
-    s
+    sep_with_lines(page, out, ink, at, cfg, b"and ", item)
 }
 
 // A name and a signature, with a word between.
 #[cycle(walk)]
-fn nm<'a>(
-    run: &'a [u8; 351],
-    text: &'a [u8],
-    rec: &[u8],
-    kinds: &&[u8],
-    spans: &&[u32],
-    out: &mut [u8],
-    mem: &mut [u64; 68],
-    at: usize,
-    cfg: Cfg,
-    w: usize,
-) -> usize
+fn nm(page: &Page, out: &mut [u8], ink: &mut Ink, at: usize, cfg: Cfg, fixed: &[u8]) -> Status
     requires { cfg.depth + 2 * cfg.nesting + 2 ≤ 402 }
-    ensures { does (λ ws c. text· ⨾ word· (word_of w) ⨾ ws.get_sig_exp c) run text rec kinds spans out mem at cfg result }
+    ensures { by_word fixed (λ u. does (λ ws c. text· ⨾ word u ⨾ ws.get_sig_exp c) page out ink at cfg result) }
 {
-    let r1 = text_of(run, text, rec, spans, out, mem, at);
-    let Status::Done(s1) = told(r1) else {
-        return r1;
-    };
-    word(run, text, out, mem, w);
-    sig(run, text, rec, kinds, spans, out, mem, s1, cfg)
+    let s1 = text_of(page, out, ink, at)?;
+    ink.put(out, fixed);
+    sig(page, out, ink, s1, cfg)
 }
 
 // `FunctorDec`.
 #[cycle(walk)]
-fn cd<'a>(
-    run: &'a [u8; 351],
-    text: &'a [u8],
-    rec: &[u8],
-    kinds: &&[u8],
-    spans: &&[u32],
-    out: &mut [u8],
-    mem: &mut [u64; 68],
-    at: usize,
-    cfg: Cfg,
-) -> usize
+fn cd(page: &Page, out: &mut [u8], ink: &mut Ink, at: usize, cfg: Cfg) -> Status
     requires { cfg.depth + 2 * cfg.nesting + 2 ≤ 402 }
-    ensures { does (λ ws c. dec_one· ws c FunctorDec) run text rec kinds spans out mem at cfg result }
+    ensures { does (λ ws c. dec_one· ws c FunctorDec) page out ink at cfg result }
 {
-    word(run, text, out, mem, words::FUNCTOR);
-    let Read::Is(n, s1) = list(rec, at) else {
-        return stop(at);
-    };
-    let mut s = s1;
-    let mut i = 0;
-    while i < n {
-        new_line(run, text, out, mem, cfg, words::AND, i);
-        let r2 = cb(run, text, rec, kinds, spans, out, mem, s, cfg);
-        let Status::Done(s2) = told(r2) else {
-            return r2;
-        };
-        s = s2;
-        i += 1;
-    }
-    s
+    ink.put(out, b"functor ");
+    let item = |out: &mut [u8], ink: &mut Ink, at: usize|
+        requires { cfg.depth + 2 * cfg.nesting + 2 ≤ 402 }
+        ensures { does functor_bind page out ink at cfg result }
+    { cb(page, out, ink, at, cfg) };
+    sep_with_lines(page, out, ink, at, cfg, b"and ", item)
 }
 
 // A binding of `FunctorDec`.
 #[cycle(walk)]
-fn cb<'a>(
-    run: &'a [u8; 351],
-    text: &'a [u8],
-    rec: &[u8],
-    kinds: &&[u8],
-    spans: &&[u32],
-    out: &mut [u8],
-    mem: &mut [u64; 68],
-    at: usize,
-    cfg: Cfg,
-) -> usize
+fn cb(page: &Page, out: &mut [u8], ink: &mut Ink, at: usize, cfg: Cfg) -> Status
     requires { cfg.depth + 2 * cfg.nesting + 2 ≤ 402 }
-    ensures { does functor_bind run text rec kinds spans out mem at cfg result }
+    ensures { does functor_bind page out ink at cfg result }
 {
-    let r1 = group(rec, at);
-    let Status::Done(s1) = told(r1) else {
-        return r1;
-    };
-    let r2 = text_of(run, text, rec, spans, out, mem, s1);
-    let Status::Done(s2) = told(r2) else {
-        return r2;
-    };
-    word(run, text, out, mem, words::ARGS);
-    let r3 = fs(run, text, rec, kinds, spans, out, mem, s2, cfg);
-    let Status::Done(s3) = told(r3) else {
-        return r3;
-    };
-    word(run, text, out, mem, words::R_ROUND);
-    let r4 = ac(run, text, rec, kinds, spans, out, mem, s3, cfg);
-    let Status::Done(s4) = told(r4) else {
-        return r4;
-    };
-    word(run, text, out, mem, words::EQ_SPACED);
-    str(run, text, rec, kinds, spans, out, mem, s4, cfg)
+    let s1 = group(page, at)?;
+    let s2 = text_of(page, out, ink, s1)?;
+    ink.put(out, b" (");
+    let s3 = fs(page, out, ink, s2, cfg)?;
+    ink.put(out, b")");
+    let s4 = ac(page, out, ink, s3, cfg)?;
+    ink.put(out, b" = ");
+    str(page, out, ink, s4, cfg)
 }
 
 // The arguments of a functor.
 #[cycle(walk)]
-fn fs<'a>(
-    run: &'a [u8; 351],
-    text: &'a [u8],
-    rec: &[u8],
-    kinds: &&[u8],
-    spans: &&[u32],
-    out: &mut [u8],
-    mem: &mut [u64; 68],
-    at: usize,
-    cfg: Cfg,
-) -> usize
+fn fs(page: &Page, out: &mut [u8], ink: &mut Ink, at: usize, cfg: Cfg) -> Status
     requires { cfg.depth + 2 * cfg.nesting + 2 ≤ 402 }
-    ensures { does functor_args run text rec kinds spans out mem at cfg result }
+    ensures { does functor_args page out ink at cfg result }
 {
-    let Read::Is(n, s0) = list(rec, at) else {
-        return stop(at);
+    let item = |out: &mut [u8], ink: &mut Ink, at: usize|
+        requires { cfg.depth + 2 * cfg.nesting + 2 ≤ 402 }
+        ensures { does (λ ws c. choice· (functor_arg ws c)) page out ink at cfg result }
+    {
+        let (k, s) = choice(page, at)?;
+        fa(page, out, ink, s, cfg, k)
     };
-    let mut s = s0;
-    let mut i = 0;
-    while i < n {
-        let Read::Is(k, s1) = choice(rec, s) else {
-            return stop(s);
-        };
-        let r2 = fa(run, text, rec, kinds, spans, out, mem, s1, cfg, k);
-        let Status::Done(s2) = told(r2) else {
-            return r2;
-        };
-        s = s2;
-        i += 1;
-    }
-    s
+    for_each(page, out, ink, at, item)
 }
 
 // An argument of a functor, by its number.
 #[cycle(walk)]
-fn fa<'a>(
-    run: &'a [u8; 351],
-    text: &'a [u8],
-    rec: &[u8],
-    kinds: &&[u8],
-    spans: &&[u32],
-    out: &mut [u8],
-    mem: &mut [u64; 68],
-    at: usize,
-    cfg: Cfg,
-    which: usize,
-) -> usize
+fn fa(page: &Page, out: &mut [u8], ink: &mut Ink, at: usize, cfg: Cfg, which: usize) -> Status
     requires { cfg.depth + 2 * cfg.nesting + 2 ≤ 402 }
-    ensures { does (λ ws c. functor_arg ws c which) run text rec kinds spans out mem at cfg result }
+    ensures { does (λ ws c. functor_arg ws c which) page out ink at cfg result }
 {
     match which {
-        0 => nm(
-            run,
-            text,
-            rec,
-            kinds,
-            spans,
-            out,
-            mem,
-            at,
-            cfg,
-            words::COLON,
-        ),
-        1 => da(run, text, rec, kinds, spans, out, mem, at, cfg),
-        _ => stop(at),
+        0 => nm(page, out, ink, at, cfg, b" : "),
+        1 => da(page, out, ink, at, cfg),
+        _ => Err(Stop::Absent(at)),
     }
 }
 
 // `IncludeDec`.
 #[cycle(walk)]
-fn ic<'a>(
-    run: &'a [u8; 351],
-    text: &'a [u8],
-    rec: &[u8],
-    kinds: &&[u8],
-    spans: &&[u32],
-    out: &mut [u8],
-    mem: &mut [u64; 68],
-    at: usize,
-    cfg: Cfg,
-) -> usize
+fn ic(page: &Page, out: &mut [u8], ink: &mut Ink, at: usize, cfg: Cfg) -> Status
     requires { cfg.depth + 2 * cfg.nesting + 2 ≤ 402 }
-    ensures { does (λ ws c. dec_one· ws c IncludeDec) run text rec kinds spans out mem at cfg result }
+    ensures { does (λ ws c. dec_one· ws c IncludeDec) page out ink at cfg result }
 {
-    word(run, text, out, mem, words::INCLUDE);
-    let Read::Is(n, s1) = list(rec, at) else {
-        return stop(at);
-    };
-    let mut s = s1;
-    let mut i = 0;
-    while i < n {
-        between(run, text, out, mem, words::SPACE, i);
-        let r2 = sig(run, text, rec, kinds, spans, out, mem, s, cfg);
-        let Status::Done(s2) = told(r2) else {
-            return r2;
-        };
-        s = s2;
-        i += 1;
-    }
-    s
+    ink.put(out, b"include ");
+    let item = |out: &mut [u8], ink: &mut Ink, at: usize|
+        requires { cfg.depth + 2 * cfg.nesting + 0 ≤ 402 }
+        ensures { does (λ ws c. ws.get_sig_exp c) page out ink at cfg result }
+    { sig(page, out, ink, at, cfg) };
+    sep(page, out, ink, at, b" ", item)
 }
 
 // A Dec that is an argument of a functor or of its application.
 #[cycle(walk)]
-fn da<'a>(
-    run: &'a [u8; 351],
-    text: &'a [u8],
-    rec: &[u8],
-    kinds: &&[u8],
-    spans: &&[u32],
-    out: &mut [u8],
-    mem: &mut [u64; 68],
-    at: usize,
-    cfg: Cfg,
-) -> usize
+fn da(page: &Page, out: &mut [u8], ink: &mut Ink, at: usize, cfg: Cfg) -> Status
     requires { cfg.depth + 2 * cfg.nesting + 2 ≤ 402 }
-    ensures { does dec_arg run text rec kinds spans out mem at cfg result }
+    ensures { does dec_arg page out ink at cfg result }
 {
-    word(run, text, out, mem, words::LINE_FEED);
-    indent_deeper(out, mem, cfg);
+    ink.put(out, b"\n");
+    indent_deeper(out, ink, cfg);
     let new = cfg.indented();
-    let r1 = dec(run, text, rec, kinds, spans, out, mem, at, new);
-    let Status::Done(s1) = told(r1) else {
-        return r1;
-    };
-    word(run, text, out, mem, words::LINE_FEED);
-    s1
+    let s1 = dec(page, out, ink, at, new)?;
+    ink.put(out, b"\n");
+    Ok(s1)
 }
 
 // ---- structures
 // `get_str_exp`.
 #[cycle(walk)]
-fn str<'a>(
-    run: &'a [u8; 351],
-    text: &'a [u8],
-    rec: &[u8],
-    kinds: &&[u8],
-    spans: &&[u32],
-    out: &mut [u8],
-    mem: &mut [u64; 68],
-    at: usize,
-    cfg: Cfg,
-) -> usize
+fn str(page: &Page, out: &mut [u8], ink: &mut Ink, at: usize, cfg: Cfg) -> Status
     requires { cfg.depth + 2 * cfg.nesting + 0 ≤ 402 }
-    ensures { does (λ ws c. ws.get_str_exp c) run text rec kinds spans out mem at cfg result }
+    ensures { does (λ ws c. ws.get_str_exp c) page out ink at cfg result }
 {
-    let forms_left = cfg.nesting;
-    if forms_left == 0 {
-        return stop(at);
+    if cfg.nesting == 0 {
+        return Err(Stop::Absent(at));
     }
-    let Read::Is(k, s) = form(rec, at, Family::StrExp) else {
-        return stop(at);
-    };
+    let (k, s) = form(page, at, Family::StrExp)?;
     let sub = Cfg {
-        depth: cfg.depth,
-        blank: cfg.blank,
-        nesting: forms_left - 1,
+        nesting: cfg.nesting - 1,
+        ..cfg
     };
     match k {
-        0 => ss(run, text, rec, kinds, spans, out, mem, s, sub),
-        1 => path(run, text, rec, spans, out, mem, s),
-        2 => an(run, text, rec, kinds, spans, out, mem, s, sub),
-        3 => sp(run, text, rec, kinds, spans, out, mem, s, sub),
-        4 => sl(run, text, rec, kinds, spans, out, mem, s, sub),
-        _ => stop(s),
+        0 => ss(page, out, ink, s, sub),
+        1 => path(page, out, ink, s),
+        2 => an(page, out, ink, s, sub),
+        3 => sp(page, out, ink, s, sub),
+        4 => sl(page, out, ink, s, sub),
+        _ => Err(Stop::Absent(s)),
     }
 }
 
 // `StructStrExp`.
 #[cycle(walk)]
-fn ss<'a>(
-    run: &'a [u8; 351],
-    text: &'a [u8],
-    rec: &[u8],
-    kinds: &&[u8],
-    spans: &&[u32],
-    out: &mut [u8],
-    mem: &mut [u64; 68],
-    at: usize,
-    cfg: Cfg,
-) -> usize
+fn ss(page: &Page, out: &mut [u8], ink: &mut Ink, at: usize, cfg: Cfg) -> Status
     requires { cfg.depth + 2 * cfg.nesting + 2 ≤ 402 }
-    ensures { does (λ ws c. str_exp· ws c StructStrExp) run text rec kinds spans out mem at cfg result }
+    ensures { does (λ ws c. str_exp· ws c StructStrExp) page out ink at cfg result }
 {
-    word(run, text, out, mem, words::STRUCT);
-    indent_deeper(out, mem, cfg);
+    ink.put(out, b"struct\n");
+    indent_deeper(out, ink, cfg);
     let wide = Cfg {
         depth: cfg.depth,
         blank: true,
         nesting: cfg.nesting,
     };
     let new = wide.indented();
-    let r1 = ds(run, text, rec, kinds, spans, out, mem, at, new);
-    let Status::Done(s1) = told(r1) else {
-        return r1;
-    };
-    line(run, text, out, mem, cfg);
-    word(run, text, out, mem, words::END);
-    s1
+    let s1 = ds(page, out, ink, at, new)?;
+    line(out, ink, cfg);
+    ink.put(out, b"end");
+    Ok(s1)
 }
 
 // `AscriptionStrExp`.
 #[cycle(walk)]
-fn an<'a>(
-    run: &'a [u8; 351],
-    text: &'a [u8],
-    rec: &[u8],
-    kinds: &&[u8],
-    spans: &&[u32],
-    out: &mut [u8],
-    mem: &mut [u64; 68],
-    at: usize,
-    cfg: Cfg,
-) -> usize
+fn an(page: &Page, out: &mut [u8], ink: &mut Ink, at: usize, cfg: Cfg) -> Status
     requires { cfg.depth + 2 * cfg.nesting + 2 ≤ 402 }
-    ensures { does (λ ws c. str_exp· ws c AscriptionStrExp) run text rec kinds spans out mem at cfg result }
+    ensures { does (λ ws c. str_exp· ws c AscriptionStrExp) page out ink at cfg result }
 {
-    let r1 = str(run, text, rec, kinds, spans, out, mem, at, cfg);
-    let Status::Done(s1) = told(r1) else {
-        return r1;
-    };
-    ta(run, text, rec, kinds, spans, out, mem, s1, cfg)
+    let s1 = str(page, out, ink, at, cfg)?;
+    ta(page, out, ink, s1, cfg)
 }
 
 // An ascription.
 #[cycle(walk)]
-fn ta<'a>(
-    run: &'a [u8; 351],
-    text: &'a [u8],
-    rec: &[u8],
-    kinds: &&[u8],
-    spans: &&[u32],
-    out: &mut [u8],
-    mem: &mut [u64; 68],
-    at: usize,
-    cfg: Cfg,
-) -> usize
+fn ta(page: &Page, out: &mut [u8], ink: &mut Ink, at: usize, cfg: Cfg) -> Status
     requires { cfg.depth + 2 * cfg.nesting + 2 ≤ 402 }
-    ensures { does ascription_tail run text rec kinds spans out mem at cfg result }
+    ensures { does ascription_tail page out ink at cfg result }
 {
-    let r1 = group(rec, at);
-    let Status::Done(s1) = told(r1) else {
-        return r1;
-    };
-    word(run, text, out, mem, words::SPACE);
-    let r2 = text_of(run, text, rec, spans, out, mem, s1);
-    let Status::Done(s2) = told(r2) else {
-        return r2;
-    };
-    word(run, text, out, mem, words::SPACE);
-    sig(run, text, rec, kinds, spans, out, mem, s2, cfg)
+    let s1 = group(page, at)?;
+    ink.put(out, b" ");
+    let s2 = text_of(page, out, ink, s1)?;
+    ink.put(out, b" ");
+    sig(page, out, ink, s2, cfg)
 }
 
 // An ascription, where there is one.
 #[cycle(walk)]
-fn ac<'a>(
-    run: &'a [u8; 351],
-    text: &'a [u8],
-    rec: &[u8],
-    kinds: &&[u8],
-    spans: &&[u32],
-    out: &mut [u8],
-    mem: &mut [u64; 68],
-    at: usize,
-    cfg: Cfg,
-) -> usize
+fn ac(page: &Page, out: &mut [u8], ink: &mut Ink, at: usize, cfg: Cfg) -> Status
     requires { cfg.depth + 2 * cfg.nesting + 2 ≤ 402 }
-    ensures { does (λ ws c. maybe (ascription_tail ws c)) run text rec kinds spans out mem at cfg result }
+    ensures { does (λ ws c. maybe (ascription_tail ws c)) page out ink at cfg result }
 {
-    if let Gone::Past(s0) = absent(rec, at) {
-        return s0;
+    if let Some(s0) = absent(page, at) {
+        return Ok(s0);
     }
-    ta(run, text, rec, kinds, spans, out, mem, at, cfg)
+    ta(page, out, ink, at, cfg)
 }
 
 // `AppStrExp`: the closing parenthesis is indented where an argument was a Dec.
 #[cycle(walk)]
-fn sp<'a>(
-    run: &'a [u8; 351],
-    text: &'a [u8],
-    rec: &[u8],
-    kinds: &&[u8],
-    spans: &&[u32],
-    out: &mut [u8],
-    mem: &mut [u64; 68],
-    at: usize,
-    cfg: Cfg,
-) -> usize
+fn sp(page: &Page, out: &mut [u8], ink: &mut Ink, at: usize, cfg: Cfg) -> Status
     requires { cfg.depth + 2 * cfg.nesting + 2 ≤ 402 }
-    ensures { does (λ ws c. str_exp· ws c AppStrExp) run text rec kinds spans out mem at cfg result }
+    ensures { does (λ ws c. str_exp· ws c AppStrExp) page out ink at cfg result }
 {
-    let r1 = text_of(run, text, rec, spans, out, mem, at);
-    let Status::Done(s1) = told(r1) else {
-        return r1;
-    };
-    word(run, text, out, mem, words::ARGS);
-    let Read::Is(n, s2) = list(rec, s1) else {
-        return stop(s1);
-    };
-    let mut s = s2;
+    let s1 = text_of(page, out, ink, at)?;
+    ink.put(out, b" (");
+    let (n, mut s) = list(page, s1)?;
     let mut needs = false;
-    let mut i = 0;
-    while i < n {
-        let Read::Is(k, s3) = choice(rec, s) else {
-            return stop(s);
-        };
-        let r4 = sa(run, text, rec, kinds, spans, out, mem, s3, cfg, k);
-        let Status::Done(s4) = told(r4) else {
-            return r4;
-        };
+    for i in 0..n {
+        let (k, inside) = choice(page, s)?;
+        s = sa(page, out, ink, inside, cfg, k)?;
         needs = later_needs(needs, k);
-        s = s4;
-        i += 1;
     }
-    app_end(run, text, out, mem, cfg, needs);
-    s
+    app_end(out, ink, cfg, needs);
+    Ok(s)
 }
 
 // An argument of `AppStrExp`, by its number.
 #[cycle(walk)]
-fn sa<'a>(
-    run: &'a [u8; 351],
-    text: &'a [u8],
-    rec: &[u8],
-    kinds: &&[u8],
-    spans: &&[u32],
-    out: &mut [u8],
-    mem: &mut [u64; 68],
-    at: usize,
-    cfg: Cfg,
-    which: usize,
-) -> usize
+fn sa(page: &Page, out: &mut [u8], ink: &mut Ink, at: usize, cfg: Cfg, which: usize) -> Status
     requires { cfg.depth + 2 * cfg.nesting + 2 ≤ 402 }
-    ensures { does (λ ws c. app_arg ws c which) run text rec kinds spans out mem at cfg result }
+    ensures { does (λ ws c. app_arg ws c which) page out ink at cfg result }
 {
     match which {
-        0 => str(run, text, rec, kinds, spans, out, mem, at, cfg),
-        1 => da(run, text, rec, kinds, spans, out, mem, at, cfg),
-        _ => stop(at),
+        0 => str(page, out, ink, at, cfg),
+        1 => da(page, out, ink, at, cfg),
+        _ => Err(Stop::Absent(at)),
     }
 }
 
 // `LetStrExp`.
 #[cycle(walk)]
-fn sl<'a>(
-    run: &'a [u8; 351],
-    text: &'a [u8],
-    rec: &[u8],
-    kinds: &&[u8],
-    spans: &&[u32],
-    out: &mut [u8],
-    mem: &mut [u64; 68],
-    at: usize,
-    cfg: Cfg,
-) -> usize
+fn sl(page: &Page, out: &mut [u8], ink: &mut Ink, at: usize, cfg: Cfg) -> Status
     requires { cfg.depth + 2 * cfg.nesting + 2 ≤ 402 }
-    ensures { does (λ ws c. str_exp· ws c LetStrExp) run text rec kinds spans out mem at cfg result }
+    ensures { does (λ ws c. str_exp· ws c LetStrExp) page out ink at cfg result }
 {
-    word(run, text, out, mem, words::LET);
-    word(run, text, out, mem, words::LINE_FEED);
-    indent_deeper(out, mem, cfg);
+    ink.put(out, b"let");
+    ink.put(out, b"\n");
+    indent_deeper(out, ink, cfg);
     let new = cfg.indented();
-    let r1 = ds(run, text, rec, kinds, spans, out, mem, at, new);
-    let Status::Done(s1) = told(r1) else {
-        return r1;
-    };
-    line(run, text, out, mem, cfg);
-    word(run, text, out, mem, words::IN);
-    indent_in(out, mem, cfg);
-    let r2 = str(run, text, rec, kinds, spans, out, mem, s1, new);
-    let Status::Done(s2) = told(r2) else {
-        return r2;
-    };
-    line(run, text, out, mem, cfg);
-    word(run, text, out, mem, words::END);
-    s2
+    let s1 = ds(page, out, ink, at, new)?;
+    line(out, ink, cfg);
+    ink.put(out, b"in\n");
+    indent(out, ink, new);
+    let s2 = str(page, out, ink, s1, new)?;
+    line(out, ink, cfg);
+    ink.put(out, b"end");
+    Ok(s2)
 }
 
 // ---- signatures
 // `get_sig_exp`.
 #[cycle(walk)]
-fn sig<'a>(
-    run: &'a [u8; 351],
-    text: &'a [u8],
-    rec: &[u8],
-    kinds: &&[u8],
-    spans: &&[u32],
-    out: &mut [u8],
-    mem: &mut [u64; 68],
-    at: usize,
-    cfg: Cfg,
-) -> usize
+fn sig(page: &Page, out: &mut [u8], ink: &mut Ink, at: usize, cfg: Cfg) -> Status
     requires { cfg.depth + 2 * cfg.nesting + 0 ≤ 402 }
-    ensures { does (λ ws c. ws.get_sig_exp c) run text rec kinds spans out mem at cfg result }
+    ensures { does (λ ws c. ws.get_sig_exp c) page out ink at cfg result }
 {
-    let forms_left = cfg.nesting;
-    if forms_left == 0 {
-        return stop(at);
+    if cfg.nesting == 0 {
+        return Err(Stop::Absent(at));
     }
-    let Read::Is(k, s) = form(rec, at, Family::SigExp) else {
-        return stop(at);
-    };
+    let (k, s) = form(page, at, Family::SigExp)?;
     let sub = Cfg {
-        depth: cfg.depth,
-        blank: cfg.blank,
-        nesting: forms_left - 1,
+        nesting: cfg.nesting - 1,
+        ..cfg
     };
     match k {
-        0 => sg(run, text, rec, kinds, spans, out, mem, s, sub),
-        1 => text_of(run, text, rec, spans, out, mem, s),
-        2 => wt(run, text, rec, kinds, spans, out, mem, s, sub),
-        3 => wr(run, text, rec, kinds, spans, out, mem, s, sub),
-        _ => stop(s),
+        0 => sg(page, out, ink, s, sub),
+        1 => text_of(page, out, ink, s),
+        2 => wt(page, out, ink, s, sub),
+        3 => wr(page, out, ink, s, sub),
+        _ => Err(Stop::Absent(s)),
     }
 }
 
 // `SigSigExp`.
 #[cycle(walk)]
-fn sg<'a>(
-    run: &'a [u8; 351],
-    text: &'a [u8],
-    rec: &[u8],
-    kinds: &&[u8],
-    spans: &&[u32],
-    out: &mut [u8],
-    mem: &mut [u64; 68],
-    at: usize,
-    cfg: Cfg,
-) -> usize
+fn sg(page: &Page, out: &mut [u8], ink: &mut Ink, at: usize, cfg: Cfg) -> Status
     requires { cfg.depth + 2 * cfg.nesting + 2 ≤ 402 }
-    ensures { does (λ ws c. sig_exp· ws c SigSigExp) run text rec kinds spans out mem at cfg result }
+    ensures { does (λ ws c. sig_exp· ws c SigSigExp) page out ink at cfg result }
 {
-    word(run, text, out, mem, words::SIG);
-    indent_deeper(out, mem, cfg);
+    ink.put(out, b"sig\n");
+    indent_deeper(out, ink, cfg);
     let new = cfg.indented();
-    let r1 = ds(run, text, rec, kinds, spans, out, mem, at, new);
-    let Status::Done(s1) = told(r1) else {
-        return r1;
-    };
-    line(run, text, out, mem, cfg);
-    word(run, text, out, mem, words::END);
-    s1
+    let s1 = ds(page, out, ink, at, new)?;
+    line(out, ink, cfg);
+    ink.put(out, b"end");
+    Ok(s1)
 }
 
 // `WhereTypeSigExp`.
 #[cycle(walk)]
-fn wt<'a>(
-    run: &'a [u8; 351],
-    text: &'a [u8],
-    rec: &[u8],
-    kinds: &&[u8],
-    spans: &&[u32],
-    out: &mut [u8],
-    mem: &mut [u64; 68],
-    at: usize,
-    cfg: Cfg,
-) -> usize
+fn wt(page: &Page, out: &mut [u8], ink: &mut Ink, at: usize, cfg: Cfg) -> Status
     requires { cfg.depth + 2 * cfg.nesting + 2 ≤ 402 }
-    ensures { does (λ ws c. sig_exp· ws c WhereTypeSigExp) run text rec kinds spans out mem at cfg result }
+    ensures { does (λ ws c. sig_exp· ws c WhereTypeSigExp) page out ink at cfg result }
 {
-    let r1 = sig(run, text, rec, kinds, spans, out, mem, at, cfg);
-    let Status::Done(s1) = told(r1) else {
-        return r1;
-    };
-    word(run, text, out, mem, words::WHERE_TYPE);
-    let r2 = ty_var_seq(run, text, rec, spans, out, mem, s1);
-    let Status::Done(s2) = told(r2) else {
-        return r2;
-    };
-    let r3 = path(run, text, rec, spans, out, mem, s2);
-    let Status::Done(s3) = told(r3) else {
-        return r3;
-    };
-    word(run, text, out, mem, words::EQ_SPACED);
-    get_ty(run, text, rec, spans, out, mem, s3, cfg)
+    let s1 = sig(page, out, ink, at, cfg)?;
+    ink.put(out, b" where type ");
+    let s2 = ty_var_seq(page, out, ink, s1)?;
+    let s3 = path(page, out, ink, s2)?;
+    ink.put(out, b" = ");
+    get_ty(page, out, ink, s3, cfg)
 }
 
 // `WhereSigExp`.
 #[cycle(walk)]
-fn wr<'a>(
-    run: &'a [u8; 351],
-    text: &'a [u8],
-    rec: &[u8],
-    kinds: &&[u8],
-    spans: &&[u32],
-    out: &mut [u8],
-    mem: &mut [u64; 68],
-    at: usize,
-    cfg: Cfg,
-) -> usize
+fn wr(page: &Page, out: &mut [u8], ink: &mut Ink, at: usize, cfg: Cfg) -> Status
     requires { cfg.depth + 2 * cfg.nesting + 2 ≤ 402 }
-    ensures { does (λ ws c. sig_exp· ws c WhereSigExp) run text rec kinds spans out mem at cfg result }
+    ensures { does (λ ws c. sig_exp· ws c WhereSigExp) page out ink at cfg result }
 {
-    let r1 = sig(run, text, rec, kinds, spans, out, mem, at, cfg);
-    let Status::Done(s1) = told(r1) else {
-        return r1;
-    };
-    word(run, text, out, mem, words::WHERE);
-    let r2 = path(run, text, rec, spans, out, mem, s1);
-    let Status::Done(s2) = told(r2) else {
-        return r2;
-    };
-    word(run, text, out, mem, words::EQ_SPACED);
-    path(run, text, rec, spans, out, mem, s2)
+    let s1 = sig(page, out, ink, at, cfg)?;
+    ink.put(out, b" where ");
+    let s2 = path(page, out, ink, s1)?;
+    ink.put(out, b" = ");
+    path(page, out, ink, s2)
 }
 
 // ---- the walk over a sheet
 // `get_dec` of `root.decs()`, which stands at an offset in the record.
-pub fn walk<'a>(
-    run: &'a [u8; 351],
-    text: &'a [u8],
-    rec: &[u8],
-    kinds: &[u8],
-    spans: &[u32],
-    out: &mut [u8],
-    mem: &mut [u64; 68],
-    tree: usize,
-) -> usize
-    ensures { walked (get_dec (walks max_forms) top) run text rec kinds spans out mem tree result }
+pub fn walk(page: &Page, out: &mut [u8], ink: &mut Ink, tree: usize) -> Status
+    ensures { walked (get_dec (walks max_forms) top) page out ink tree result }
 {
     let cfg = Cfg {
         depth: 0,
         blank: true,
         nesting: 200,
     };
-    ds(run, text, rec, &kinds, &spans, out, mem, tree, cfg)
+    ds(page, out, ink, tree, cfg)
 }

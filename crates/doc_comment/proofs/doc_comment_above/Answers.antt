@@ -1,27 +1,26 @@
--- `doc_comment::doc_comment_above` meets its contract: the doc text of the comment found. Assumes nothing.
-use native.Mathlib.Omega.{arith}
-use mathlib.Core.Path.{sym, ◌∙◌}
-use Rattle.formatter.proofs.LookupLaws.{asked-counts, asked-within}
-use Rattle.doc_comment.proofs.Lookup.{doc-declined, doc-nothing, doc-spanned, found_below}
+use Rattle.std.proofs.lemmas.Result.{err_from_is_err_and}
+use Rattle.doc_comment.specs.Doc.{doc_said}
+use Rattle.doc_comment.proofs.Lookup.{doc-declined, doc-nothing, doc-found}
 use Rattle.doc_comment.proofs.doc_comment_above.Goals as goal
 
-pub slice_bounds-kinds-end : goal.slice_bounds-kinds-end
-slice_bounds-kinds-end c = let at = c in asked-within at.ask-asked.ensures at.in-Tokens.is
-
-pub slice_bounds-comment_above-end : goal.slice_bounds-comment_above-end
-slice_bounds-comment_above-end c = let at = c in sym (asked-counts at.ask-asked.ensures at.in-Tokens.is).0
+pub returns-in_err-ask : goal.returns-in_err-ask
+returns-in_err-ask c =
+    let p = err_from_is_err_and c.from_residual.result c.from_residual.ensures.1 in
+    rw (p.1, p.2) (doc-declined (rw c.in_err-ask.was at c.ask.ensures))
 
 pub returns-in_default : goal.returns-in_default
-returns-in_default c = let above = c in let at = above in doc-nothing at.ask-asked.ensures at.in-Tokens.is _ above.comment_above.ensures _ c.in_default.is
+returns-in_default c = doc-nothing (rw c.in_ok-ask.was at c.ask.ensures) (rw c.kinds.ensures.0 at c.comment_above.ensures) c.in_default.is
 
-pub offset_bounds-spans-above : goal.offset_bounds-spans-above
-offset_bounds-spans-above c = omega (arith, found_below c.ask-asked.ensures c.in-Tokens.is _ c.comment_above.ensures c.in-Some.is)
+pub returns-in_err-doc_text : goal.returns-in_err-doc_text
+unfolding doc_said
+returns-in_err-doc_text c =
+    let p = err_from_is_err_and c.from_residual-in_err-doc_text.result c.from_residual-in_err-doc_text.ensures.1 in
+    rw (p.1, p.2)
+    (doc-found (rw c.in_ok-ask.was at c.ask.ensures) (rw c.kinds.ensures.0 at c.comment_above.ensures) c.args.out.now c.in-Some.is
+    (rw (c.in_err-doc_text.was, c.text_of.ensures) at c.doc_text.ensures))
 
-pub bounds-spans-above : goal.bounds-spans-above
-bounds-spans-above c = found_below c.ask-asked.ensures c.in-Tokens.is _ c.comment_above.ensures c.in-Some.is
-
-pub returns-in-Some : goal.returns-in-Some
-returns-in-Some c = c.doc_of.ensures ∙ doc-spanned c.ask-asked.new.spans c.ask-asked.ensures c.in-Tokens.is _ c.comment_above.ensures c.in-Some.is _
-
-pub returns-in-Declined : goal.returns-in-Declined
-returns-in-Declined c = let at = c in doc-declined at.ask-asked.ensures _ at.in-Declined.is
+pub returns : goal.returns
+unfolding doc_said
+returns c =
+    doc-found (rw c.in_ok-ask.was at c.ask.ensures) (rw c.kinds.ensures.0 at c.comment_above.ensures) c.args.out.now c.in-Some.is
+    (rw (c.in_ok-doc_text.was, c.text_of.ensures) at c.doc_text.ensures)

@@ -1,21 +1,12 @@
--- `formatter::by_check` meets its contract: each case of the record check.
-use mathlib.Core.Path.{sym, ap, ◌∙◌}
-use Rattle.formatter.specs.Verdict as Verdict
-use Rattle.formatter.specs.Promises.WalkFirst as WalkFirst
-use Rattle.formatter.proofs.JudgeLaws.{tree_end_is, checks}
+use mathlib.Core.Path.{sym, ◌∙◌}
+use Rattle.formatter.proofs.JudgeLaws.{passes, check-ok, check-err}
 use Rattle.formatter.proofs.by_check.Goals as goal
 
 pub stop-requires : goal.stop-requires
-stop-requires c = c.requires.is _ (sym (tree_end_is c.tree_end-found.ensures c.in-Ok.is))
+stop-requires c = c.requires.is _ (passes _ (sym c.in-Ok.is ∙ rw c.count.ensures.0 at c.tree_end.ensures.is))
 
 pub returns-in-Ok : goal.returns-in-Ok
-unfolding Verdict.verdict_of Verdict.number_of Verdict.place_of Verdict.given_measures WalkFirst.by_check
-returns-in-Ok c = ap Verdict.declined c.stop.ensures ∙ checks _ c.tree_end-found.ensures c.in-Ok.is
+returns-in-Ok c = check-ok _ c.stop.ensures (sym c.in-Ok.is ∙ rw c.count.ensures.0 at c.tree_end.ensures.is)
 
-pub returns-in-Malformed : goal.returns-in-Malformed
-unfolding Verdict.verdict_of Verdict.number_of Verdict.place_of Verdict.given_measures WalkFirst.by_check
-returns-in-Malformed c = checks _ c.tree_end-found.ensures c.in-Malformed.is
-
-pub returns-in-TooDeep : goal.returns-in-TooDeep
-unfolding Verdict.verdict_of Verdict.number_of Verdict.place_of Verdict.given_measures WalkFirst.by_check
-returns-in-TooDeep c = checks _ c.tree_end-found.ensures c.in-TooDeep.is
+pub returns-in-Err : goal.returns-in-Err
+returns-in-Err c = check-err _ _ (sym c.in-Err.is ∙ rw c.count.ensures.0 at c.tree_end.ensures.is)

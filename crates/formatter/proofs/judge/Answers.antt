@@ -1,21 +1,25 @@
--- `formatter::judge` meets its contract: lengths, ASCII and tokens, then the walk.
-use Rattle.formatter.proofs.JudgeLaws.{text-long, record-long, not-utf8, not-tiled, sheet-limits, judges-sheet, judges-declined}
+use Rattle.std.proofs.lemmas.Result.{err_from_is_err_and}
+use Rattle.formatter.proofs.JudgeLaws.{judges-unread, judges-untiled, sheet-limits, judges-weighed, judges-accepted}
 use Rattle.formatter.proofs.judge.Goals as goal
 
-pub returns-then-text-gt-MAX_TEXT : goal.returns-then-text-gt-MAX_TEXT
-returns-then-text-gt-MAX_TEXT c = judges-declined (text-long _ _ c.if-text-gt-MAX_TEXT.true) c.refused.ensures
+pub returns-in_err-check_text : goal.returns-in_err-check_text
+returns-in_err-check_text c =
+    let p = err_from_is_err_and c.from_residual.result c.from_residual.ensures.1 in
+    rw (p.1, p.2) (judges-unread (rw c.in_err-check_text.was at c.check_text.ensures) c.new.ensures)
 
-pub returns-then-rec-gt-MAX_RECORD : goal.returns-then-rec-gt-MAX_RECORD
-returns-then-rec-gt-MAX_RECORD c = judges-declined (record-long _ _ c.if-text-gt-MAX_TEXT.false c.if-rec-gt-MAX_RECORD.true) c.refused-then-rec-gt-MAX_RECORD.ensures
+pub returns-in_err-tree : goal.returns-in_err-tree
+returns-in_err-tree c =
+    let p = err_from_is_err_and c.from_residual-in_err-tree.result c.from_residual-in_err-tree.ensures.1 in
+    rw (p.1, p.2) (judges-untiled (rw c.in_ok-check_text.was at c.check_text.ensures) (rw c.in_err-tree.was at c.read_tokens.ensures) c.new.ensures)
 
-pub returns-in-Some : goal.returns-in-Some
-returns-in-Some c = judges-declined (not-utf8 _ _ c.if-text-gt-MAX_TEXT.false c.if-rec-gt-MAX_RECORD.false c.first_broken.ensures c.in-Some.is) c.refused-in-Some.ensures
+pub weigh-requires-clause-limits : goal.weigh-requires-clause-limits
+weigh-requires-clause-limits c = sheet-limits (rw c.in_ok-check_text.was at c.check_text.ensures) (rw c.in_ok-tree.was at c.read_tokens.ensures)
 
-pub weigh-requires : goal.weigh-requires
-weigh-requires c = sheet-limits _ _ c.if-text-gt-MAX_TEXT.false c.if-rec-gt-MAX_RECORD.false c.first_broken.ensures c.in_default.is _ c.read_tokens-tokens.ensures c.in-Tiled.is
+pub returns-in_err-measures : goal.returns-in_err-measures
+returns-in_err-measures c =
+    let p = err_from_is_err_and c.from_residual-in_err-measures.result c.from_residual-in_err-measures.ensures.1 in
+    rw (p.1, p.2) (judges-weighed (rw c.in_ok-check_text.was at c.check_text.ensures) (rw c.in_ok-tree.was at c.read_tokens.ensures) (rw c.in_err-measures.was at c.weigh.ensures))
 
-pub returns-in-Tiled : goal.returns-in-Tiled
-returns-in-Tiled c = judges-sheet _ _ c.if-text-gt-MAX_TEXT.false c.if-rec-gt-MAX_RECORD.false c.first_broken.ensures c.in_default.is _ c.read_tokens-tokens.ensures c.in-Tiled.is c.weigh.ensures
-
-pub returns-in-Untiled : goal.returns-in-Untiled
-returns-in-Untiled c = judges-declined (not-tiled _ _ c.if-text-gt-MAX_TEXT.false c.if-rec-gt-MAX_RECORD.false c.first_broken.ensures c.in_default.is c.read_tokens-tokens.ensures c.in-Untiled.is) c.refused-in-Untiled.ensures
+pub returns : goal.returns
+returns c =
+    judges-accepted (rw c.in_ok-check_text.was at c.check_text.ensures) (rw c.in_ok-tree.was at c.read_tokens.ensures) (rw c.in_ok-measures.was at c.weigh.ensures)

@@ -1,15 +1,11 @@
--- `formatter::stop` meets its contract: a walk that ended elsewhere, a part that is absent, an import.
-use Rattle.formatter.proofs.JudgeLaws.{command-before, told-import, told-ended, told-missing}
+use Rattle.formatter.proofs.JudgeLaws.{behind-command, told-absent, told-import}
 use Rattle.formatter.proofs.stop.Goals as goal
 
-pub returns-then-walked-lt-STOP : goal.returns-then-walked-lt-STOP
-returns-then-walked-lt-STOP c = told-ended c.if-walked-lt-STOP.true
-
-pub returns-then-walked-eq0 : goal.returns-then-walked-eq0
-returns-then-walked-eq0 c = told-missing c.if-walked-lt-STOP.false c.if-walked-eq0.true
-
 pub overflow_sub-result : goal.overflow_sub-result
-overflow_sub-result c = command-before c.if-walked-lt-STOP.false c.requires c.if-walked-eq0.false
+overflow_sub-result c = behind-command (rw c.in-Import.is at c.in-Err.is) c.requires
 
-pub returns : goal.returns
-returns c = told-import c.if-walked-lt-STOP.false c.if-walked-eq0.false
+pub returns-in-Absent : goal.returns-in-Absent
+returns-in-Absent c = told-absent (rw c.in-Absent.is at c.in-Err.is)
+
+pub returns-in-Import : goal.returns-in-Import
+returns-in-Import c = told-import (rw c.in-Import.is at c.in-Err.is)

@@ -1,43 +1,27 @@
--- `formatter::weigh` meets its contract: the walk over a draft; the record check where it did not end at the record's end.
 use native.Mathlib.Omega.{arith}
-use mathlib.Core.Path.{refl, sym, ap, ◌∙◌}
-use lib.ListN.{take}
-use Rattle.text.specs.Bytes.{bytes}
-use Rattle.reader.specs.Promises.Tokens.{start_of}
-use Rattle.reader.proofs.SpanLaws.{start-at}
-use Rattle.layout.specs.Promises.Words.{word_run}
-use Rattle.formatter.proofs.JudgeLaws.{taken, kinds_few, starts, weigh_checked, other-checked, behind, behind-by, checked-by, weigh-accepts, weigh-never, weigh-comments}
+use mathlib.Core.Path.{sym, ◌∙◌}
+use Rattle.formatter.proofs.JudgeLaws.{ends-elsewhere, behind, weigh-other, weigh-comments, weigh-accepts}
 use Rattle.formatter.proofs.weigh.Goals as goal
-
-pub slice_bounds-kinds-end : goal.slice_bounds-kinds-end
-slice_bounds-kinds-end c = taken _ _ c.requires.within.0
-
-pub slice_bounds-spans-end : goal.slice_bounds-spans-end
-slice_bounds-spans-end c = taken _ _ c.requires.within.1
+use Rattle.formatter.proofs.weigh.Goals.{in_default-via-in-Ok+else-end-page, in_default-via-in_default}
 
 pub by_check-requires : goal.by_check-requires
-unfolding word_run bytes
 by_check-requires c =
-    let a = c.args in
-    behind-by a.rec.now (take a.count a.spans.now) a.tree
-    (behind c.walk-walked.ensures (starts refl c.requires.rec_fits c.requires.near (omega arith) c.lent-mem.ensures))
-
-pub returns-then-walked-rec : goal.returns-then-walked-rec
-unfolding word_run bytes
-returns-then-walked-rec c =
-    let a = c.args in
-    weigh_checked (other-checked c.walk-walked.ensures (starts refl c.requires.rec_fits c.requires.near (omega arith) c.lent-mem.ensures) c.if-walked-rec.true) (checked-by a.rec.now (take a.count a.spans.now) a.tree c.walk-walked.result c.by_check.ensures) c.refused.ensures
-
-pub returns-then-is_empty : goal.returns-then-is_empty
-unfolding word_run bytes
-returns-then-is_empty c = weigh-accepts c.walk-walked.ensures (starts refl c.requires.rec_fits c.requires.near (omega arith) c.lent-mem.ensures) c.requires.text_fits c.requires.rec_fits (kinds_few c.requires) c.all.ensures c.if-walked-rec.false c.left_in-set.ensures c.is_empty.ensures c.walk-walked.auto.out c.if-is_empty.true (omega arith, c.letters_at.ensures)
+    elim c.in_default.branch [
+      | in_default-via-in-Ok+else-end-page w ↦ rw (w.walked-is ∙ sym w.in-Ok.is) (behind c.walk-walked.ensures)
+      | in_default-via-in_default w ↦ rw w.walked-is (behind c.walk-walked.ensures)
+    ]
 
 pub returns-in_default : goal.returns-in_default
-unfolding word_run bytes
-returns-in_default c = weigh-never c.walk-walked.ensures (starts refl c.requires.rec_fits c.requires.near (omega arith) c.lent-mem.ensures) c.requires.text_fits c.requires.rec_fits (kinds_few c.requires) c.all.ensures c.if-walked-rec.false c.left_in-set.ensures c.is_empty.ensures c.first.ensures c.if-is_empty.false c.in_default.is
+returns-in_default c =
+    elim c.in_default.branch [
+      | in_default-via-in-Ok+else-end-page w ↦ weigh-other c.walk-walked.ensures (ends-elsewhere w.in-Ok.is w.if-end-page.false) (rw (w.walked-is ∙ sym w.in-Ok.is) at c.by_check.ensures) c.requires.none_left
+      | in_default-via-in_default w ↦ weigh-other c.walk-walked.ensures (w.in_default.not-Ok _) (rw w.walked-is at c.by_check.ensures) c.requires.none_left
+    ]
+
+pub returns-in-Some : goal.returns-in-Some
+returns-in-Some c =
+    weigh-comments c.walk-walked.ensures (omega (arith, c.ranges.tab)) c.requires.limits (rw c.kinds.ensures.0 at c.all.ensures) (rw c.if-end-page.true at c.in-Ok.is) (sym c.first.ensures ∙ c.in-Some.is) c.start.ensures
 
 pub returns : goal.returns
-unfolding word_run bytes
 returns c =
-    let a = c.args in
-    weigh-comments c.walk-walked.ensures (starts refl c.requires.rec_fits c.requires.near (omega arith) c.lent-mem.ensures) c.requires.text_fits c.requires.rec_fits (kinds_few c.requires) c.all.ensures c.if-walked-rec.false c.left_in-set.ensures c.is_empty.ensures c.first.ensures c.in-Some.is (c.start_of.ensures ∙ ap start_of c.span_at.ensures ∙ sym (start-at (take a.count a.spans.now) _))
+    weigh-accepts c.walk-walked.ensures (omega (arith, c.ranges.tab)) c.requires.limits (rw c.kinds.ensures.0 at c.all.ensures) (rw c.if-end-page.true at c.in-Ok.is) (omega arith) c.letters.ensures c.walk-walked.auto.out (sym c.first.ensures ∙ c.in_default-first.is)

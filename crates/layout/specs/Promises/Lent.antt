@@ -1,102 +1,142 @@
 -- The contracts of the walk's functions, said of what is lent to them: first the layout, then the function's parameters in their
 -- order, then its answer. Each is a record of State, of what the references hold at the function's entry and at its exit.
-use Rattle.std.specs.Prelude.{ℕ, false, List, length, Option}
+use Rattle.std.specs.Prelude.{ℕ, Bool, true, false, List, Option, Result, ⊤, ◌≡◌}
 use Rattle.std.specs.Borrow.{Bor, MutBor}
+use Prim.Native.String.{String}
 use denote.Triple.Both.{Both}
-use Rattle.reader.specs.Promises.Tokens.{starts_of, lengths_of}
+use Rattle.reader.specs.Tokens.{count_of as tokens_in}
+use Rattle.text.specs.Bytes.{bytes}
+use Rattle.layout.specs.declared.Page as Code
 use Rattle.layout.specs.declared.Cfg.{Cfg}
-use Rattle.layout.specs.Layout.{Layout}
+use Rattle.layout.specs.declared.Ink.{Ink}
+use Rattle.layout.specs.declared.Stop.{Stop}
+use Rattle.layout.specs.Layout.{Layout, ◌⨾◌, list}
 use Rattle.layout.specs.Helpers as Helpers
-use Rattle.layout.specs.Meaning.{Page}
-use Rattle.layout.specs.Promises.State.{Run, run_of, page, Walked, Does, Plain, Sure, Texted, Commented, Operated, CommentedAbove}
+use Rattle.layout.specs.Helpers.{items, for_each, sep, new_line, sep_with_lines, word_if}
+use Rattle.layout.specs.Meaning.{Page, Token, Comment}
+use Rattle.layout.specs.Promises.State.{run_of, effect, cfg_of, Walked, Does, Put, Sure, Operated, CommentedAbove}
 
--- What is lent to be read: a reference to numbers, at the entry of a function and at its exit. What it holds.
+-- The sheet that is lent.
+abbrev pub page_in : Code.Page → Page
+page_in p = record { text = p.text.now; rec = p.rec.now; tokens = p.tokens.now }
+
 abbrev pub Lent : Type 0
-Lent = Both (Bor (List ℕ)) (Bor (List ℕ))
+Lent = Both (Bor Code.Page) (Bor Code.Page)
 
-abbrev pub held : Lent → List ℕ
-held x = x.entry.now
+abbrev pub page_of : Lent → Page
+page_of p = page_in p.entry.now
 
--- What is lent to be changed. What it holds at the entry and at the exit.
-abbrev pub LentMut : Type 0
-LentMut = Both (MutBor (List ℕ)) (MutBor (List ℕ))
+abbrev pub rec_of : Lent → List ℕ
+rec_of p = (page_of p).rec
 
-abbrev pub before : LentMut → List ℕ
-before x = x.entry.now
+abbrev pub count_of : Lent → ℕ
+count_of p = tokens_in (page_of p).tokens
 
-abbrev pub after : LentMut → List ℕ
-after x = x.exit.now
+-- What is lent to be changed: the output, and what is written beside it.
+abbrev pub Output : Type 0
+Output = Both (MutBor (List ℕ)) (MutBor (List ℕ))
 
--- A table of tokens, lent by a reference to the slice, which takes one word in place of two; what it holds.
-abbrev pub Table : Type 0
-Table = Both (Bor (Bor (List ℕ))) (Bor (Bor (List ℕ)))
-
-abbrev pub entries : Table → List ℕ
-entries x = x.entry.now.now
-
--- The starts and the lengths that a table of spans holds, and how many there are.
-abbrev pub starts : Table → List ℕ
-starts spans = starts_of (entries spans)
-
-abbrev pub lens : Table → List ℕ
-lens spans = lengths_of (entries spans)
-
-abbrev pub count : Table → ℕ
-count spans = length (starts spans)
-
--- The sheet, with the entries of two tables as its tokens; with tables that are at hand inside a function; with what is lent.
-abbrev pub page_by : (text rec kinds spans : List ℕ) → Page
-page_by text rec kinds spans = page text rec kinds (starts_of spans) (lengths_of spans)
-
-abbrev pub page_at : (text rec : List ℕ) (kinds spans : Bor (List ℕ)) → Page
-page_at text rec kinds spans = page_by text rec kinds.now spans.now
-
-abbrev pub page_of : (text rec : Lent) (kinds spans : Table) → Page
-page_of text rec kinds spans = page_by (held text) (held rec) (entries kinds) (entries spans)
-
--- The state of a run from a cursor.
-abbrev pub run_from : ℕ → LentMut → LentMut → Run
-run_from at mem out = run_of at (before mem) (before out)
+abbrev pub Inks : Type 0
+Inks = Both (MutBor Ink) (MutBor Ink)
 
 -- ---- functions that walk
-abbrev pub walked : Layout → (run text rec kinds spans : Lent) (out mem : LentMut) (at r : ℕ) → Type 0
-walked w run text rec kinds spans out mem at r =
-    Walked false (held run) (page_by (held text) (held rec) (held kinds) (held spans)) w (run_from at mem out) r (after mem) (after out)
+-- Of types and patterns. TupleTy goes on behind a type that stopped, so all is kept.
+abbrev pub plainly : Layout → (page : Lent) (out : Output) (ink : Inks) (at : ℕ) (r : Result ℕ Stop) → Type 0
+plainly w page out ink at r = Walked true (page_of page) w (run_of at ink.entry.now out.entry.now) r ink.exit.now out.exit.now
 
-abbrev pub does : (Helpers.Walkers → Helpers.Cfg → Layout) → (run text rec : Lent) (kinds spans : Table) (out mem : LentMut) (at : ℕ) (cfg : Cfg) (r : ℕ) → Type 0
-does w run text rec kinds spans out mem at cfg r =
-    Does (held run) (page_of text rec kinds spans) cfg w (run_from at mem out) r (after mem) (after out)
-
--- Of a function that asks no kinds.
-abbrev pub plainly : Layout → (run text rec : Lent) (spans : Table) (out mem : LentMut) (at r : ℕ) → Type 0
-plainly w run text rec spans out mem at r =
-    Plain (held run) (held text) (held rec) (starts spans) (lens spans) w at (before mem) (before out) r (after mem) (after out)
+abbrev pub does : (Helpers.Walkers → Helpers.Cfg → Layout) → (page : Lent) (out : Output) (ink : Inks) (at : ℕ) (cfg : Cfg) (r : Result ℕ Stop) → Type 0
+does w page out ink at cfg r = Does (page_of page) cfg w (run_of at ink.entry.now out.entry.now) r ink.exit.now out.exit.now
 
 -- ---- functions that write
-abbrev pub writes : Layout → (run : Lent) (out mem : LentMut) → Type 0
-writes w run out mem = Sure (held run) w (before mem) (before out) (after mem) (after out)
+abbrev pub writes : Layout → (out : Output) (ink : Inks) → Type 0
+writes w out ink = Sure w ink.entry.now out.entry.now ink.exit.now out.exit.now
 
--- No fixed words are needed.
-abbrev pub indents : Layout → (out mem : LentMut) → Type 0
-indents w out mem = (words : List ℕ) → Sure words w (before mem) (before out) (after mem) (after out)
+-- A piece.
+abbrev pub Bytes : Type 0
+Bytes = Both (Bor (List ℕ)) (Bor (List ℕ))
 
--- The text of a token.
-abbrev pub writes_token : (text : Lent) (spans : Table) (out mem : LentMut) (k : ℕ) → Type 0
-writes_token text spans out mem k = Texted (held text) (starts spans) (lens spans) k (before mem) (before out) (after mem) (after out)
+abbrev pub puts : Bytes → (out : Output) (ink : Inks) → Type 0
+puts piece out ink = Put piece.entry.now ink.entry.now out.entry.now ink.exit.now out.exit.now
 
--- A comment.
-abbrev pub strikes_comment : (text : Lent) (spans : Table) (out mem : LentMut) (k : ℕ) → Type 0
-strikes_comment text spans out mem k =
-    Commented (held text) (starts spans) (lens spans) k (before mem) (before out) (after mem) (after out)
+-- An indent's depth is formed.
+abbrev pub forms : Layout → (ink : Inks) → Type 0
+forms w ink = (o : List ℕ) → Sure w ink.entry.now o ink.exit.now o
 
--- The comment above a first token, and a layout behind it.
-abbrev pub writes_above : Layout → (run text : Lent) (kinds spans : Table) (out mem : LentMut) → Option ℕ → Type 0
-writes_above line run text kinds spans out mem first =
-    CommentedAbove (held run) (held text) (entries kinds) (starts spans) (lens spans) first line
-    (before mem) (before out) (after mem) (after out)
+-- The text of a token; a comment's trimmed text, which is then not left any more.
+abbrev pub writes_token : (page : Lent) (out : Output) (ink : Inks) (k : ℕ) → Type 0
+writes_token page out ink k =
+    (a : ℕ) → run_of a ink.exit.now out.exit.now ≡ effect (page_of page) (Token k) (run_of a ink.entry.now out.entry.now)
+
+abbrev pub strikes_comment : (page : Lent) (out : Output) (ink : Inks) (k : ℕ) → Type 0
+strikes_comment page out ink k =
+    (a : ℕ) → run_of a ink.exit.now out.exit.now ≡ effect (page_of page) (Comment k) (run_of a ink.entry.now out.entry.now)
+
+-- ---- the items of a list
+-- What a call of the joint may do, and what a call of the item may do and answer.
+abbrev pub Joint : Type 1
+Joint = MutBor (List ℕ) → MutBor Ink → ⊤ → MutBor (List ℕ) → MutBor Ink → Type 0
+
+abbrev pub Item : Type 1
+Item = MutBor (List ℕ) → MutBor Ink → ℕ → Result ℕ Stop → MutBor (List ℕ) → MutBor Ink → Type 0
+
+abbrev pub WritesJoint : Joint → Layout → Type 0
+WritesJoint post u = (o : MutBor (List ℕ)) (i : MutBor Ink) (o' : MutBor (List ℕ)) (i' : MutBor Ink) → post o i tt o' i' → Sure u i.now o.now i'.now o'.now
+
+abbrev pub WalksItem : Item → Bool → Page → Layout → Type 0
+WalksItem post keep p w =
+    (o : MutBor (List ℕ)) (i : MutBor Ink) (a : ℕ) (r : Result ℕ Stop) (o' : MutBor (List ℕ)) (i' : MutBor Ink)
+    → post o i a r o' i' → Walked keep p w (run_of a i.now o.now) r i'.now o'.now
+
+-- So many items with the joint before each but the first; those of the list at the cursor.
+abbrev pub Items : Joint → Item → (out : Output) (ink : Inks) (n at : ℕ) (r : Result ℕ Stop) → Type 0
+Items joint item out ink n at r =
+    (keep : Bool) (p : Page) (u w : Layout) → WritesJoint joint u → WalksItem item keep p w
+    → Walked keep p (items n w (u ⨾ w)) (run_of at ink.entry.now out.entry.now) r ink.exit.now out.exit.now
+
+abbrev pub Joined : Joint → Item → (page : Lent) (out : Output) (ink : Inks) (at : ℕ) (r : Result ℕ Stop) → Type 0
+Joined joint item page out ink at r =
+    (keep : Bool) (u w : Layout) → WritesJoint joint u → WalksItem item keep (page_of page) w
+    → Walked keep (page_of page) (list (λ n. items n w (u ⨾ w))) (run_of at ink.entry.now out.entry.now) r ink.exit.now out.exit.now
+
+-- The items alone; with a fixed word before each but the first.
+abbrev pub ForEach : Item → (page : Lent) (out : Output) (ink : Inks) (at : ℕ) (r : Result ℕ Stop) → Type 0
+ForEach item page out ink at r =
+    (keep : Bool) (w : Layout) → WalksItem item keep (page_of page) w
+    → Walked keep (page_of page) (for_each w) (run_of at ink.entry.now out.entry.now) r ink.exit.now out.exit.now
+
+abbrev pub Separated : Item → (page : Lent) (out : Output) (ink : Inks) (at : ℕ) (separator : Bytes) (r : Result ℕ Stop) → Type 0
+Separated item page out ink at separator r =
+    (keep : Bool) (u : String) (w : Layout) → bytes u ≡ separator.entry.now → WalksItem item keep (page_of page) w
+    → Walked keep (page_of page) (sep u w) (run_of at ink.entry.now out.entry.now) r ink.exit.now out.exit.now
+
+-- With a line between.
+abbrev pub writes_new_line : Cfg → (out : Output) (ink : Inks) (separator : Bytes) → Type 0
+writes_new_line cfg out ink separator = (u : String) → bytes u ≡ separator.entry.now → writes (new_line (cfg_of cfg) u) out ink
+
+abbrev pub SeparatedByLines : Item → (page : Lent) (out : Output) (ink : Inks) (at : ℕ) (cfg : Cfg) (separator : Bytes) (r : Result ℕ Stop) → Type 0
+SeparatedByLines item page out ink at cfg separator r =
+    (keep : Bool) (u : String) (w : Layout) → bytes u ≡ separator.entry.now → WalksItem item keep (page_of page) w
+    → Walked keep (page_of page) (sep_with_lines (cfg_of cfg) u w) (run_of at ink.entry.now out.entry.now) r ink.exit.now out.exit.now
+
+-- ---- what else helpers say
+-- A fixed word where the token at the cursor is there.
+abbrev pub writes_word_if : (page : Lent) (out : Output) (ink : Inks) (at : ℕ) (fixed : Bytes) (r : Result ℕ Stop) → Type 0
+writes_word_if page out ink at fixed r = (u : String) → bytes u ≡ fixed.entry.now → plainly (word_if u) page out ink at r
+
+-- What is said of the fixed word that is handed over.
+abbrev pub by_word : Bytes → (String → Type 0) → Type 0
+by_word fixed says = (u : String) → bytes u ≡ fixed.entry.now → says u
 
 -- An operator that was kept.
-abbrev pub writes_operator : (pipe gap : Layout) → (run text rec : Lent) (spans : Table) (out mem : LentMut) (k : ℕ) → Type 0
-writes_operator pipe gap run text rec spans out mem k =
-    Operated (held run) (held text) (held rec) (starts spans) (lens spans) k pipe gap
-    (before mem) (before out) (after mem) (after out)
+abbrev pub writes_operator : (pipe gap : Layout) → (page : Lent) (out : Output) (ink : Inks) (k : ℕ) → Type 0
+writes_operator pipe gap page out ink k =
+    Operated (page_of page) k pipe gap ink.entry.now out.entry.now ink.exit.now out.exit.now
+
+-- The walk over a sheet.
+abbrev pub walked : Layout → (page : Lent) (out : Output) (ink : Inks) (at : ℕ) (r : Result ℕ Stop) → Type 0
+walked w page out ink at r = Walked false (page_of page) w (run_of at ink.entry.now out.entry.now) r ink.exit.now out.exit.now
+
+-- The comment above a first token, and a layout behind it.
+abbrev pub writes_above : Layout → (page : Lent) (out : Output) (ink : Inks) → Option ℕ → Type 0
+writes_above line page out ink first =
+    CommentedAbove (page_of page) first line ink.entry.now out.entry.now ink.exit.now out.exit.now

@@ -1,28 +1,33 @@
--- `leaves::con_bind` equals its layout.
-use mathlib.Core.Path.{◌∙◌}
+use Rattle.layout.proofs.Steps.{group_is, group_not, maybe_past, maybe_there, then_done, then_stop, then_word}
 use Rattle.layout.specs.DecOne as DecOne
-use Rattle.layout.proofs.Steps.{plain, by-same, then-done, then-stop, then-sure, group-is, group-not, maybe-past, maybe-there}
+use Rattle.text.specs.Bytes.{bytes}
 use Rattle.leaves.proofs.con_bind.Goals as goal
 
-pub returns-in_default : goal.returns-in_default
+pub returns-in_err-s1 : goal.returns-in_err-s1
 unfolding DecOne.con_bind
-returns-in_default c = record { is = λ kinds. group-not c.group-r1.ensures c.told.ensures c.in_default.is }
+returns-in_err-s1 c = group_not c.group.ensures c.in_err-s1.was c.from_residual.ensures.1
 
-pub returns-in_default-told : goal.returns-in_default-told
+pub returns-in_err-s2 : goal.returns-in_err-s2
 unfolding DecOne.con_bind
-returns-in_default-told c = record { is = λ kinds. by-same (group-is c.group-r1.ensures c.told.ensures c.in-Done.is) (then-stop (plain c.text_of-r2.ensures) c.told-2.ensures c.in_default-told.is) }
+returns-in_err-s2 c =
+    group_is c.group.ensures c.in_ok-s1.was (then_stop c.text_of.ensures c.in_err-s2.was c.from_residual-in_err-s2.ensures.1)
 
-pub returns-in-Past : goal.returns-in-Past
+pub returns-in-Some : goal.returns-in-Some
 unfolding DecOne.con_bind
-returns-in-Past c = record { is = λ kinds. by-same (group-is c.group-r1.ensures c.told.ensures c.in-Done.is) (then-done (plain c.text_of-r2.ensures) c.told-2.ensures c.in-Done-told.is (maybe-past c.absent.ensures c.in-Past.is)) }
+returns-in-Some c =
+    group_is c.group.ensures c.in_ok-s1.was (then_done c.text_of.ensures c.in_ok-s2.was (maybe_past c.absent.ensures c.in-Some.is))
 
-pub returns-in_default-told-2 : goal.returns-in_default-told-2
+pub returns-in_err-s4 : goal.returns-in_err-s4
 unfolding DecOne.con_bind
-returns-in_default-told-2 c = record { is = λ kinds. by-same (group-is c.group-r1.ensures c.told.ensures c.in-Done.is) (then-done (plain c.text_of-r2.ensures) c.told-2.ensures c.in-Done-told.is (by-same (maybe-there c.absent.ensures c.in_default-absent.is) (group-not c.group-r4.ensures c.told-3.ensures c.in_default-told-2.is))) }
-
-pub shape_of-out : goal.shape_of-out
-shape_of-out c = c.get_ty.auto.out ∙ c.word.auto.out ∙ c.text_of-r2.auto.out
+returns-in_err-s4 c =
+    group_is c.group.ensures c.in_ok-s1.was
+    (then_done c.text_of.ensures c.in_ok-s2.was
+    (maybe_there c.absent.ensures c.in_default.is (group_not c.group-2.ensures c.in_err-s4.was c.from_residual-in_err-s4.ensures.1)))
 
 pub returns : goal.returns
-unfolding DecOne.con_bind
-returns c = record { is = λ kinds. by-same (group-is c.group-r1.ensures c.told.ensures c.in-Done.is) (then-done (plain c.text_of-r2.ensures) c.told-2.ensures c.in-Done-told.is (by-same (maybe-there c.absent.ensures c.in_default-absent.is) (by-same (group-is c.group-r4.ensures c.told-3.ensures c.in-Done-told-2.is) (then-sure c.word.ensures (plain c.get_ty.ensures))))) }
+unfolding DecOne.con_bind bytes
+returns c =
+    group_is c.group.ensures c.in_ok-s1.was
+    (then_done c.text_of.ensures c.in_ok-s2.was
+    (maybe_there c.absent.ensures c.in_default.is
+    (group_is c.group-2.ensures c.in_ok-s4.was (then_word c.put.ensures (cc) c.get_ty.ensures))))

@@ -1,45 +1,41 @@
--- `leaves::dat_bind` equals its layout.
-use native.Mathlib.Omega.{arith}
-use mathlib.Core.Path.{◌∙◌}
+use Rattle.layout.proofs.Steps.{group_is, group_not, list_is, list_not, then_done, then_stop}
 use Rattle.layout.specs.DecOne as DecOne
-use Rattle.layout.proofs.Steps.{plain, by-same, then-done, then-stop, list-is, list-not, group-is, group-not}
 use Rattle.leaves.proofs.dat_bind.Goals as goal
 
-pub returns-in_default : goal.returns-in_default
+pub returns-in_err-s1 : goal.returns-in_err-s1
 unfolding DecOne.dat_bind
-returns-in_default c = record { is = λ kinds. group-not c.group-r1.ensures c.told.ensures c.in_default.is }
+returns-in_err-s1 c = group_not c.group.ensures c.in_err-s1.was c.from_residual.ensures.1
 
-pub returns-in_default-told : goal.returns-in_default-told
+pub returns-in_err-s2 : goal.returns-in_err-s2
 unfolding DecOne.dat_bind
-returns-in_default-told c = record { is = λ kinds. by-same (group-is c.group-r1.ensures c.told.ensures c.in-Done.is) (then-stop (plain c.ty_var_seq-r2.ensures) c.told-2.ensures c.in_default-told.is) }
+returns-in_err-s2 c =
+    group_is c.group.ensures c.in_ok-s1.was (then_stop c.ty_var_seq.ensures c.in_err-s2.was c.from_residual-in_err-s2.ensures.1)
 
-pub shape_of-out-in_default-told-2 : goal.shape_of-out-in_default-told-2
-shape_of-out-in_default-told-2 c = c.text_of-r3.auto.out ∙ c.ty_var_seq-r2.auto.out
-
-pub returns-in_default-told-2 : goal.returns-in_default-told-2
+pub returns-in_err-s3 : goal.returns-in_err-s3
 unfolding DecOne.dat_bind
-returns-in_default-told-2 c = record { is = λ kinds. by-same (group-is c.group-r1.ensures c.told.ensures c.in-Done.is) (then-done (plain c.ty_var_seq-r2.ensures) c.told-2.ensures c.in-Done-told.is (then-stop (plain c.text_of-r3.ensures) c.told-3.ensures c.in_default-told-2.is)) }
+returns-in_err-s3 c =
+    group_is c.group.ensures c.in_ok-s1.was
+    (then_done c.ty_var_seq.ensures c.in_ok-s2.was (then_stop c.text_of.ensures c.in_err-s3.was c.from_residual-in_err-s3.ensures.1))
 
-pub shape_of-out-in_default-told-3 : goal.shape_of-out-in_default-told-3
-shape_of-out-in_default-told-3 c = c.text_of-r3.auto.out ∙ c.ty_var_seq-r2.auto.out
-
-pub returns-in_default-told-3 : goal.returns-in_default-told-3
+pub returns-in_err-s4 : goal.returns-in_err-s4
 unfolding DecOne.dat_bind
-returns-in_default-told-3 c = record { is = λ kinds. by-same (group-is c.group-r1.ensures c.told.ensures c.in-Done.is) (then-done (plain c.ty_var_seq-r2.ensures) c.told-2.ensures c.in-Done-told.is (then-done (plain c.text_of-r3.ensures) c.told-3.ensures c.in-Done-told-2.is (group-not c.group-r4.ensures c.told-4.ensures c.in_default-told-3.is))) }
+returns-in_err-s4 c =
+    group_is c.group.ensures c.in_ok-s1.was
+    (then_done c.ty_var_seq.ensures c.in_ok-s2.was
+    (then_done c.text_of.ensures c.in_ok-s3.was (group_not c.group-2.ensures c.in_err-s4.was c.from_residual-in_err-s4.ensures.1)))
 
-pub shape_of-out-in_default-list : goal.shape_of-out-in_default-list
-shape_of-out-in_default-list c = c.text_of-r3.auto.out ∙ c.ty_var_seq-r2.auto.out
-
-pub returns-in_default-list : goal.returns-in_default-list
+pub returns-in_err-n : goal.returns-in_err-n
 unfolding DecOne.dat_bind
-returns-in_default-list c = record { is = λ kinds. by-same (group-is c.group-r1.ensures c.told.ensures c.in-Done.is) (then-done (plain c.ty_var_seq-r2.ensures) c.told-2.ensures c.in-Done-told.is (then-done (plain c.text_of-r3.ensures) c.told-3.ensures c.in-Done-told-2.is (by-same (group-is c.group-r4.ensures c.told-4.ensures c.in-Done-told-3.is) (list-not c.stop.ensures c.list.ensures c.in_default-list.is)))) }
-
-pub con_binds-requires : goal.con_binds-requires
-con_binds-requires c = omega (arith, c.requires)
-
-pub shape_of-out : goal.shape_of-out
-shape_of-out c = c.con_binds.auto.out ∙ c.text_of-r3.auto.out ∙ c.ty_var_seq-r2.auto.out
+returns-in_err-n c =
+    group_is c.group.ensures c.in_ok-s1.was
+    (then_done c.ty_var_seq.ensures c.in_ok-s2.was
+    (then_done c.text_of.ensures c.in_ok-s3.was
+    (group_is c.group-2.ensures c.in_ok-s4.was (list_not c.list.ensures c.in_err-n.was c.from_residual-in_err-n.ensures.1))))
 
 pub returns : goal.returns
 unfolding DecOne.dat_bind
-returns c = record { is = λ kinds. by-same (group-is c.group-r1.ensures c.told.ensures c.in-Done.is) (then-done (plain c.ty_var_seq-r2.ensures) c.told-2.ensures c.in-Done-told.is (then-done (plain c.text_of-r3.ensures) c.told-3.ensures c.in-Done-told-2.is (by-same (group-is c.group-r4.ensures c.told-4.ensures c.in-Done-told-3.is) (by-same (list-is c.list.ensures c.in-Is.is) (plain c.con_binds.ensures))))) }
+returns c =
+    group_is c.group.ensures c.in_ok-s1.was
+    (then_done c.ty_var_seq.ensures c.in_ok-s2.was
+    (then_done c.text_of.ensures c.in_ok-s3.was
+    (group_is c.group-2.ensures c.in_ok-s4.was (list_is c.list.ensures c.in_ok-n.was c.con_binds.ensures))))

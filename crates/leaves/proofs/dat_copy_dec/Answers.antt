@@ -1,19 +1,12 @@
--- `leaves::dat_copy_dec` equals its layout.
-use mathlib.Core.Path.{◌∙◌}
+use Rattle.layout.proofs.Steps.{then_done, then_stop, then_word}
 use Rattle.layout.specs.DecOne as DecOne
-use Rattle.layout.proofs.Steps.{plain, then-done, then-stop, then-sure}
+use Rattle.text.specs.Bytes.{bytes}
 use Rattle.leaves.proofs.dat_copy_dec.Goals as goal
 
-pub shape_of-out-in_default : goal.shape_of-out-in_default
-shape_of-out-in_default c = c.text_of-r1.auto.out ∙ c.word.auto.out
-
-pub returns-in_default : goal.returns-in_default
-unfolding DecOne.dec_one
-returns-in_default c = record { is = λ kinds. then-sure c.word.ensures (then-stop (plain c.text_of-r1.ensures) c.told.ensures c.in_default.is) }
-
-pub shape_of-out : goal.shape_of-out
-shape_of-out c = c.path.auto.out ∙ c.word-2.auto.out ∙ c.text_of-r1.auto.out ∙ c.word.auto.out
+pub returns-in_err-s1 : goal.returns-in_err-s1
+unfolding DecOne.dec_one bytes
+returns-in_err-s1 c = then_word c.put.ensures (cc) (then_stop c.text_of.ensures c.in_err-s1.was c.from_residual.ensures.1)
 
 pub returns : goal.returns
-unfolding DecOne.dec_one
-returns c = record { is = λ kinds. then-sure c.word.ensures (then-done (plain c.text_of-r1.ensures) c.told.ensures c.in-Done.is (then-sure c.word-2.ensures (plain c.path.ensures))) }
+unfolding DecOne.dec_one bytes
+returns c = then_word c.put.ensures (cc) (then_done c.text_of.ensures c.in_ok-s1.was (then_word c.put-2.ensures (cc) c.path.ensures))

@@ -1,16 +1,8 @@
--- `leaves::infix_dec` equals its layout.
-use mathlib.Core.Path.{◌∙◌}
-use Rattle.layout.proofs.Steps.{plain, then-done, then-stop, then-sure}
+use Rattle.layout.proofs.Steps.{then_done, then_stop, then_word}
 use Rattle.leaves.proofs.infix_dec.Goals as goal
 
-pub shape_of-out-in_default : goal.shape_of-out-in_default
-shape_of-out-in_default c = c.int_lit-r1.auto.out ∙ c.word.auto.out
-
-pub returns-in_default : goal.returns-in_default
-returns-in_default c = record { is = λ kinds. then-sure c.word.ensures (then-stop (plain c.int_lit-r1.ensures) c.told.ensures c.in_default.is) }
-
-pub shape_of-out : goal.shape_of-out
-shape_of-out c = c.names_space.auto.out ∙ c.int_lit-r1.auto.out ∙ c.word.auto.out
+pub returns-in_err-s1 : goal.returns-in_err-s1
+returns-in_err-s1 c u e = then_word c.put.ensures e (then_stop c.int_lit.ensures c.in_err-s1.was c.from_residual.ensures.1)
 
 pub returns : goal.returns
-returns c = record { is = λ kinds. then-sure c.word.ensures (then-done (plain c.int_lit-r1.ensures) c.told.ensures c.in-Done.is (plain c.names_space.ensures)) }
+returns c u e = then_word c.put.ensures e (then_done c.int_lit.ensures c.in_ok-s1.was c.names_space.ensures)

@@ -1,16 +1,11 @@
--- `leaves::infix_in_parens` equals its layout.
-use mathlib.Core.Path.{◌∙◌}
-use Rattle.layout.proofs.Steps.{plain, then-done, then-stop, then-sure, last-sure}
+use Rattle.layout.proofs.Steps.{last_word, then_done, then_stop, then_word}
+use Rattle.text.specs.Bytes.{bytes}
 use Rattle.leaves.proofs.infix_in_parens.Goals as goal
 
-pub shape_of-out-in_default : goal.shape_of-out-in_default
-shape_of-out-in_default c = c.infix_pats-r1.auto.out ∙ c.word.auto.out
-
-pub returns-in_default : goal.returns-in_default
-returns-in_default c = record { is = λ kinds. then-sure c.word.ensures (then-stop (plain c.infix_pats-r1.ensures) c.told.ensures c.in_default.is) }
-
-pub shape_of-out : goal.shape_of-out
-shape_of-out c = c.word-2.auto.out ∙ c.infix_pats-r1.auto.out ∙ c.word.auto.out
+pub returns-in_err-s1 : goal.returns-in_err-s1
+unfolding bytes
+returns-in_err-s1 c = then_word c.put.ensures (cc) (then_stop c.infix_pats.ensures c.in_err-s1.was c.from_residual.ensures.1)
 
 pub returns : goal.returns
-returns c = record { is = λ kinds. then-sure c.word.ensures (then-done (plain c.infix_pats-r1.ensures) c.told.ensures c.in-Done.is (last-sure c.word-2.ensures)) }
+unfolding bytes
+returns c = then_word c.put.ensures (cc) (then_done c.infix_pats.ensures c.in_ok-s1.was (last_word c.put-2.ensures (cc)))

@@ -1,20 +1,16 @@
--- `leaves::int_lit` equals its layout.
-use mathlib.Core.Path.{◌∙◌}
+use Rattle.layout.proofs.Steps.{last_word, maybe_past, maybe_there, then_done, then_stop}
 use Rattle.layout.specs.DecOne as DecOne
-use Rattle.layout.proofs.Steps.{plain, by-same, then-done, then-stop, last-sure, maybe-past, maybe-there}
+use Rattle.text.specs.Bytes.{bytes}
 use Rattle.leaves.proofs.int_lit.Goals as goal
 
-pub returns-in-Past : goal.returns-in-Past
+pub returns-in-Some : goal.returns-in-Some
 unfolding DecOne.int_lit
-returns-in-Past c = record { is = λ kinds. maybe-past c.absent.ensures c.in-Past.is }
+returns-in-Some c = maybe_past c.absent.ensures c.in-Some.is
 
-pub returns-in_default-told : goal.returns-in_default-told
+pub returns-in_err-s1 : goal.returns-in_err-s1
 unfolding DecOne.int_lit
-returns-in_default-told c = record { is = λ kinds. by-same (maybe-there c.absent.ensures c.in_default.is) (then-stop (plain c.text_of-r1.ensures) c.told.ensures c.in_default-told.is) }
-
-pub shape_of-out : goal.shape_of-out
-shape_of-out c = c.word.auto.out ∙ c.text_of-r1.auto.out
+returns-in_err-s1 c = maybe_there c.absent.ensures c.in_default.is (then_stop c.text_of.ensures c.in_err-s1.was c.from_residual.ensures.1)
 
 pub returns : goal.returns
-unfolding DecOne.int_lit
-returns c = record { is = λ kinds. by-same (maybe-there c.absent.ensures c.in_default.is) (then-done (plain c.text_of-r1.ensures) c.told.ensures c.in-Done.is (last-sure c.word.ensures)) }
+unfolding DecOne.int_lit bytes
+returns c = maybe_there c.absent.ensures c.in_default.is (then_done c.text_of.ensures c.in_ok-s1.was (last_word c.put.ensures (cc)))

@@ -1,16 +1,23 @@
--- `leaves::item_semi` equals its layout.
+use Rattle.text.specs.Bytes.{bytes}
 use Rattle.layout.specs.Exp as Exp
-use Rattle.layout.proofs.Steps.{by-same, last-sure, last-skip, present-there, present-gone, present-not}
+use Rattle.layout.proofs.Steps.{present_there, present_gone, present_not, last_sure, last_skip, sure_when, sure_unless, sure_word}
 use Rattle.leaves.proofs.item_semi.Goals as goal
+use Rattle.leaves.proofs.item_semi.Goals.{else-there-via-then-there+else-write, else-there-via-else-there}
 
-pub returns-in-There : goal.returns-in-There
+pub returns-in_err-there : goal.returns-in_err-there
 unfolding Exp.item_semi
-returns-in-There c = record { is = λ kinds. by-same (present-there c.present-given.ensures c.in-There.is) (last-sure c.word_when.ensures) }
+returns-in_err-there c = present_not c.present.ensures c.in_err-there.was c.from_residual.ensures.1
 
-pub returns-in-Absent : goal.returns-in-Absent
-unfolding Exp.item_semi
-returns-in-Absent c = record { is = λ kinds. by-same (present-gone c.present-given.ensures c.in-Absent.is) last-skip }
+pub returns-then-write : goal.returns-then-write
+unfolding Exp.item_semi bytes
+returns-then-write c =
+    present_there c.present.ensures c.in_ok-there.was c.if-there.true (last_sure (sure_when c.if-write.true (sure_word c.put.ensures (cc))))
 
-pub returns-in-Neither : goal.returns-in-Neither
+pub returns-else-there : goal.returns-else-there
 unfolding Exp.item_semi
-returns-in-Neither c = record { is = λ kinds. present-not c.stop.ensures c.present-given.ensures c.in-Neither.is }
+returns-else-there c =
+    elim c.else-there.branch [
+      | else-there-via-then-there+else-write w ↦
+          present_there c.present.ensures c.in_ok-there.was w.if-there.true (last_sure (sure_unless _ w.if-write.false))
+      | else-there-via-else-there w ↦ present_gone c.present.ensures c.in_ok-there.was w.if-there.false last_skip
+    ]

@@ -1,20 +1,18 @@
--- `leaves::with_type` equals its layout.
-use mathlib.Core.Path.{◌∙◌}
+use Rattle.layout.proofs.Steps.{group_is, group_not, maybe_past, maybe_there, then_both, then_word}
 use Rattle.layout.specs.DecOne as DecOne
-use Rattle.layout.proofs.Steps.{plain, by-same, then-sure, then-both, group-is, group-not, maybe-past, maybe-there}
+use Rattle.text.specs.Bytes.{bytes}
 use Rattle.leaves.proofs.with_type.Goals as goal
 
-pub returns-in-Past : goal.returns-in-Past
+pub returns-in-Some : goal.returns-in-Some
 unfolding DecOne.with_type
-returns-in-Past c = record { is = λ kinds. maybe-past c.absent.ensures c.in-Past.is }
+returns-in-Some c = maybe_past c.absent.ensures c.in-Some.is
 
-pub returns-in_default-told : goal.returns-in_default-told
+pub returns-in_err-s1 : goal.returns-in_err-s1
 unfolding DecOne.with_type
-returns-in_default-told c = record { is = λ kinds. by-same (maybe-there c.absent.ensures c.in_default.is) (group-not c.group-r1.ensures c.told.ensures c.in_default-told.is) }
-
-pub shape_of-out : goal.shape_of-out
-shape_of-out c = c.ty_binds.auto.out ∙ c.word.auto.out ∙ c.line.auto.out
+returns-in_err-s1 c = maybe_there c.absent.ensures c.in_default.is (group_not c.group.ensures c.in_err-s1.was c.from_residual.ensures.1)
 
 pub returns : goal.returns
-unfolding DecOne.with_type
-returns c = record { is = λ kinds. by-same (maybe-there c.absent.ensures c.in_default.is) (by-same (group-is c.group-r1.ensures c.told.ensures c.in-Done.is) (then-both c.line.ensures (then-sure c.word.ensures (plain c.ty_binds.ensures)))) }
+unfolding DecOne.with_type DecOne.comment_line bytes
+returns c =
+    maybe_there c.absent.ensures c.in_default.is
+    (group_is c.group.ensures c.in_ok-s1.was (then_both c.line.ensures (then_word c.put.ensures (cc) c.ty_binds.ensures)))

@@ -1,9 +1,5 @@
--- The functions of a cycle of calls equal their layouts.
-use Rattle.layout.specs.Pat as Pat
-use Prim.Native.Nat.{◌+◌, ◌*◌, ◌-◌}
-use Rattle.layout.specs.Walk.{walks}
-use Rattle.layout.proofs.Steps.{PlainTurn, from}
-use Rattle.layout.specs.Layout as Layout
+-- The functions of a cycle of calls end.
+use Prim.Native.Nat.{◌+◌, ◌*◌}
 use Rattle.patterns.proofs.+patterns.Given as goal
 
 abbrev pub decreases-as_pat : goal.decreases-as_pat
@@ -37,7 +33,7 @@ abbrev pub decreases-lab_pat : goal.decreases-lab_pat
 decreases-lab_pat l = 16 * l.cfg.nesting + 3
 
 abbrev pub decreases-list_pat : goal.decreases-list_pat
-decreases-list_pat l = 16 * l.cfg.nesting + 2
+decreases-list_pat l = 16 * l.cfg.nesting + 3
 
 abbrev pub decreases-or_pat : goal.decreases-or_pat
 decreases-or_pat l = 16 * l.cfg.nesting + 1
@@ -46,10 +42,13 @@ abbrev pub decreases-paren_pat : goal.decreases-paren_pat
 decreases-paren_pat l = 16 * l.cfg.nesting + 1
 
 abbrev pub decreases-pat_args : goal.decreases-pat_args
-decreases-pat_args l = 16 * l.cfg.nesting + 1
+decreases-pat_args l = 16 * l.cfg.nesting + 2
+
+abbrev pub decreases-pat_args-item : goal.decreases-pat_args-item
+decreases-pat_args-item l = 16 * l.cfg.nesting + 1
 
 abbrev pub decreases-record_pat : goal.decreases-record_pat
-decreases-record_pat l = 16 * l.cfg.nesting + 7
+decreases-record_pat l = 16 * l.cfg.nesting + 8
 
 abbrev pub decreases-row : goal.decreases-row
 decreases-row l = 16 * l.cfg.nesting + 5
@@ -58,27 +57,19 @@ abbrev pub decreases-row_inner : goal.decreases-row_inner
 decreases-row_inner l = 16 * l.cfg.nesting + 4
 
 abbrev pub decreases-rows : goal.decreases-rows
-decreases-rows l = 16 * l.cfg.nesting + 6
+decreases-rows l = 16 * l.cfg.nesting + 7
+
+abbrev pub decreases-rows-item : goal.decreases-rows-item
+decreases-rows-item l = 16 * l.cfg.nesting + 6
 
 abbrev pub decreases-tuple_pat : goal.decreases-tuple_pat
-decreases-tuple_pat l = 16 * l.cfg.nesting + 2
+decreases-tuple_pat l = 16 * l.cfg.nesting + 3
 
 abbrev pub decreases-typed_pat : goal.decreases-typed_pat
 decreases-typed_pat l = 16 * l.cfg.nesting + 1
 
+abbrev pub decreases-vector_args : goal.decreases-vector_args
+decreases-vector_args l = 16 * l.cfg.nesting + 3
+
 abbrev pub decreases-vector_pat : goal.decreases-vector_pat
-decreases-vector_pat l = 16 * l.cfg.nesting + 2
-
-abbrev pub invariant-pat_args-loop-i : goal.invariant-pat_args-loop-i
-invariant-pat_args-loop-i l =
-    PlainTurn l.run l.text l.rec l.spans (from (Layout.word ", ") (Layout.group (walks l.cfg.nesting).get_pat)) l.n l.initial.s l.initial.mem l.initial.out l.i l.s l.mem l.out
-
-abbrev pub decreases-pat_args-loop-i : goal.decreases-pat_args-loop-i
-decreases-pat_args-loop-i l = l.n - l.i
-
-abbrev pub invariant-rows-loop-i : goal.invariant-rows-loop-i
-invariant-rows-loop-i l =
-    PlainTurn l.run l.text l.rec l.spans (from (Layout.word ", ") (Pat.pat_row (walks l.cfg.nesting))) l.n l.initial.s l.initial.mem l.initial.out l.i l.s l.mem l.out
-
-abbrev pub decreases-rows-loop-i : goal.decreases-rows-loop-i
-decreases-rows-loop-i l = l.n - l.i
+decreases-vector_pat l = 16 * l.cfg.nesting + 4

@@ -1,15 +1,24 @@
 -- Contracts of the functions that print.
-use Rattle.std.specs.Prelude.{ℕ, ◌+◌, ◌*◌, ◌≤◌, ◌≡◌, true, false, List, [], ◌++◌, length, take, drop, eqb}
-use Rattle.formatter.specs.declared.Answer.{Answer}
-use Rattle.formatter.specs.Verdict.{Verdict, Result, number_of, given_measures}
-use Rattle.formatter.specs.Promises.Numbers.{said}
+use Rattle.std.specs.Prelude.{ℕ, ◌+◌, ◌*◌, ◌≤◌, ◌≡◌, true, false, List, [], ◌++◌, length, take, drop, eqb, Ok}
+use Rattle.std.specs.Prelude as Std
+use Rattle.formatter.specs.declared.Measures.{Measures}
+use Rattle.formatter.specs.declared.FormatError.{FormatError}
+use Rattle.formatter.specs.Verdict.{Verdict, Result, empty_set, verdict_of}
 use Rattle.program.specs.Program.{line}
 
 -- The length of the longest line: five numbers of 20 digits, a byte behind each.
 abbrev pub max_line : ℕ
 max_line = 105
 
--- An answer and the output beside it; the set is not printed.
+-- What an answer of formatting says.
+abbrev pub Answer : Type 0
+Answer = Std.Result Measures FormatError
+
+-- The verdict of an answer; the set is not printed.
+abbrev pub said : Answer → Verdict
+said a = verdict_of a empty_set
+
+-- An answer and the output beside it.
 abbrev pub said_with : Answer → List ℕ → Result
 said_with a out = record { verdict = said a; out = out }
 
@@ -22,7 +31,7 @@ shown tab r =
 
 -- The text of an answer that accepts lies within the output.
 abbrev pub TextWithin : ℕ → Answer → List ℕ → Type 0
-TextWithin tab a out = number_of a ≡ 0 → (given_measures a).letters + tab * (given_measures a).units ≤ length out
+TextWithin tab a out = (m : Measures) → a ≡ Ok m → m.letters + tab * m.units ≤ length out
 
 -- Contract: bytes written from an offset on, the rest as it was. The answer is the offset behind them.
 pub record Puts (out : List ℕ) (at : ℕ) (new out' : List ℕ) (r : ℕ) : Type 0 where

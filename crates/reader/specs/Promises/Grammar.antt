@@ -1,5 +1,5 @@
 -- The table by which the code reads the fields of a node: a row of codes for each form, each alternative of a choice, each group.
-use Rattle.std.specs.Prelude.{ℕ, zero, suc, ◌-◌, ◌/◌, ◌%◌, ◌≡◌, List, [], ◌∷◌, ◌++◌, map, true, false, length, get_or, eqb, ltb}
+use Rattle.std.specs.Prelude.{ℕ, zero, suc, ◌-◌, ◌/◌, ◌%◌, List, [], ◌∷◌, ◌++◌, map, true, false, length, get_or, eqb, ltb}
 use Rattle.reader.specs.Fields.{Family, Fields, ◌▸◌, token, list, group, choice, form, DecOne, StrExp, SigExp, Exp, Pat, Ty, forms}
 use Rattle.reader.specs.Fields.{Path, TyVarSeq, TyRow, TySeq, TyBind, WithType, ConBind, DatBind, PatRow, PatArg, ExpRow, ExpArg, ExpInSeq, Arm, Matcher, ValBind, FunBindCase, FunBind, ExBind, SigBind, StrBind, PathEq, SharingTail, DecInSeq, DecWithTail, Dec, FunctorBind}
 use Rattle.reader.specs.Fields.{PatRowInner, FunBindCaseHead, ExBindInner, FunctorArg, AppStrExpArg}
@@ -81,7 +81,3 @@ first_row SigExp = length (forms DecOne ++ forms StrExp)
 first_row Exp = length (forms DecOne ++ forms StrExp ++ forms SigExp)
 first_row Pat = length (forms DecOne ++ forms StrExp ++ forms SigExp ++ forms Exp)
 first_row Ty = length (forms DecOne ++ forms StrExp ++ forms SigExp ++ forms Exp ++ forms Pat)
-
--- The table has a row of codes for each.
-pub record Spells (table : List ℕ) : Type 0 where
-  pub is : map fields_of table ≡ rows

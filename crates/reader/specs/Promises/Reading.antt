@@ -1,33 +1,29 @@
--- What the code's answer and tables stand for.
-use Rattle.std.specs.Prelude.{ℕ, ◌≤◌, ◌≡◌, List, Bool, length, take}
-use Rattle.reader.specs.Tokens.{max_tokens}
-use Rattle.reader.specs.Promises.Tokens.{tokens_in}
-use Rattle.reader.specs.declared.Reading.{Reading}
-use Rattle.reader.specs.declared.Reading.TheVariants.{Sheet, TooLong, NotUtf8, Malformed, TooDeep}
-use Rattle.reader.specs.Reading.{Read, refused, sheet, read_record, read, number_of, place_of}
+-- What the code's answer and tokens stand for.
+use Rattle.std.specs.Prelude.{ℕ, ◌≤◌, ◌≡◌, List, length, Bool, ⊤, Result, Ok, Err}
+use Rattle.text.specs.Utf8.{boundary}
+use Rattle.reader.specs.declared.Refusal.{Refusal}
+use Rattle.reader.specs.Tokens.{Tokens}
+use Rattle.reader.specs.Reading.{Read, refused, sheet, max_text, max_record, read_record, read, number_of, place_of}
 
--- What an answer says with the tables: refused, with number and place; or a sheet, with the tables' first entries.
-abbrev pub read_in : Reading → List ℕ → List ℕ → List ℕ → Read
-read_in (Sheet count tree) kinds starts lens = sheet (tokens_in count kinds starts lens) tree
-read_in TooLong kinds starts lens = refused (number_of TooLong) (place_of TooLong)
-read_in (NotUtf8 at) kinds starts lens = refused (number_of (NotUtf8 at)) (place_of (NotUtf8 at))
-read_in (Malformed at) kinds starts lens = refused (number_of (Malformed at)) (place_of (Malformed at))
-read_in (TooDeep at) kinds starts lens = refused (number_of (TooDeep at)) (place_of (TooDeep at))
+-- What an answer says with the tokens: a sheet, with the offset of the list of declarations; or refused, with number and place.
+abbrev pub read_in : Result ℕ Refusal → Tokens → Read
+read_in (Ok tree) ts = sheet ts tree
+read_in (Err why) ts = refused (number_of why) (place_of why)
 
--- Of the tables as many entries count as the answer says.
-abbrev pub counted : Reading → List ℕ → Type 0
-counted (Sheet count tree) kinds = (length (take count kinds) ≡ count) × (count ≤ max_tokens)
-counted TooLong kinds = Unit {0}
-counted (NotUtf8 at) kinds = Unit {0}
-counted (Malformed at) kinds = Unit {0}
-counted (TooDeep at) kinds = Unit {0}
+-- What an answer says of the lengths and the text: all is decided by the record; or refused, with number and place.
+abbrev pub text_reads : List ℕ → List ℕ → Result ⊤ Refusal → Type 0
+text_reads text rec (Ok done) =
+    (length text ≤ max_text) × (length rec ≤ max_record) × (read text rec ≡ read_record rec (boundary text) (length text))
+text_reads text rec (Err why) = read text rec ≡ refused (number_of why) (place_of why)
+
+-- Contract: refusals 1 and 2.
+pub record TextReads (text rec : List ℕ) (r : Result ⊤ Refusal) : Type 0 where
+  pub is : text_reads text rec r
 
 -- Contract: refusals 3 and 4.
-pub record RecordReads (boundary : ℕ → Bool) (size : ℕ) (rec kinds starts lens : List ℕ) (r : Reading) : Type 0 where
-  pub is : read_in r kinds starts lens ≡ read_record rec boundary size
-  pub counts : counted r kinds
+pub record RecordReads (boundary : ℕ → Bool) (size : ℕ) (rec : List ℕ) (ts : Tokens) (r : Result ℕ Refusal) : Type 0 where
+  pub is : read_in r ts ≡ read_record rec boundary size
 
 -- Contract: refusals 1 to 4.
-pub record Reads (text rec kinds starts lens : List ℕ) (r : Reading) : Type 0 where
-  pub is : read_in r kinds starts lens ≡ read text rec
-  pub counts : counted r kinds
+pub record Reads (text rec : List ℕ) (ts : Tokens) (r : Result ℕ Refusal) : Type 0 where
+  pub is : read_in r ts ≡ read text rec

@@ -1,5 +1,5 @@
 -- What contracts of functions below a token cite: the longest part at a text's start that a recognizer takes, and runs of bytes.
-use Rattle.std.specs.Prelude.{ℕ, suc, ◌+◌, ◌≡◌, List, [], ◌∷◌, Bool, true, false, ◌||◌, eqb, Option, None, Some}
+use Rattle.std.specs.Prelude.{ℕ, zero, suc, ◌+◌, ◌≡◌, List, [], ◌∷◌, Bool, true, false, ◌||◌, eqb, Option, None, Some}
 use Rattle.text.specs.Bytes.{bytes, between, same_bytes, is_digit}
 use Rattle.scanner.specs.Parts.{one_or_more, behind}
 use Rattle.scanner.specs.Constants.{is_hex_digit, digits_then, is_fraction, is_exponent}
@@ -19,6 +19,11 @@ reach passes (b ∷ t) =
 unfoldable pub taken : Option ℕ → ℕ
 taken None = 0
 taken (Some n) = n
+
+-- A length, none for 0.
+unfoldable pub positive : ℕ → Option ℕ
+positive zero = None
+positive (suc n) = Some (suc n)
 
 -- How many bytes at the start pass the test.
 unfoldable pub run : (ℕ → Bool) → List ℕ → ℕ

@@ -1,7 +1,6 @@
--- `testing::diverplume_test_exp_end` meets its contract. Assumes nothing.
-use mathlib.Core.Path.{◌∙◌, ap}
-use Rattle.testing.specs.Numbers.{end_numbers}
+use mathlib.Core.Path.{◌∙◌}
+use Rattle.testing.proofs.Laws.{ended-is}
 use Rattle.testing.proofs.diverplume_test_exp_end.Goals as goal
 
 pub returns : goal.returns
-returns c = c.put_end.ensures ∙ ap end_numbers c.exp_end.ensures.is
+returns c = c.end_numbers.ensures ∙ ended-is _ c.exp_end.ensures.is

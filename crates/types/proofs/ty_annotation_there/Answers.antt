@@ -1,16 +1,12 @@
--- `types::ty_annotation_there` equals its layout.
-use mathlib.Core.Path.{◌∙◌}
+use Rattle.text.specs.Bytes.{bytes}
 use Rattle.layout.specs.Ty as Ty
-use Rattle.layout.proofs.Steps.{plain, by-same, then-sure, group-is, group-not}
+use Rattle.layout.proofs.Steps.{group_is, group_not, then_word}
 use Rattle.types.proofs.ty_annotation_there.Goals as goal
 
-pub returns-in_default : goal.returns-in_default
+pub returns-in_err-s1 : goal.returns-in_err-s1
 unfolding Ty.ty_annotation_there
-returns-in_default c = record { is = λ kinds. group-not c.group-r1.ensures c.told.ensures c.in_default.is }
-
-pub shape_of-out : goal.shape_of-out
-shape_of-out c = c.get_ty.auto.out ∙ c.word.auto.out
+returns-in_err-s1 c = group_not c.group.ensures c.in_err-s1.was c.from_residual.ensures.1
 
 pub returns : goal.returns
-unfolding Ty.ty_annotation_there
-returns c = record { is = λ kinds. by-same (group-is c.group-r1.ensures c.told.ensures c.in-Done.is) (then-sure c.word.ensures (plain c.get_ty.ensures)) }
+unfolding Ty.ty_annotation_there bytes
+returns c = group_is c.group.ensures c.in_ok-s1.was (then_word c.put.ensures (cc) c.get_ty.ensures)

@@ -1,7 +1,7 @@
--- `walk::walk` equals the walk over a sheet.
+-- `walk` does what `get_dec` of the list of declarations says.
 use Rattle.layout.specs.Walk.{top}
 use Rattle.walk.proofs.walk.Goals as goal
 
 pub returns : goal.returns
 unfolding top
-returns c = c.ds.ensures.is
+returns c = c.ds.ensures

@@ -1,9 +1,10 @@
--- `layout::helpers::blank` equals its layout.
-use Rattle.layout.proofs.Steps.{sure-when, sure_unless}
+use Rattle.text.specs.Bytes.{bytes}
+use Rattle.layout.proofs.Steps.{sure_when, sure_unless, sure_word}
 use Rattle.layout.proofs.helpers.blank.Goals as goal
 
-pub returns-then-blank : goal.returns-then-blank
-returns-then-blank c = sure-when c.if-blank.true c.word.ensures
+pub returns-then-cfg : goal.returns-then-cfg
+unfolding bytes
+returns-then-cfg c = sure_when c.if-cfg.true (sure_word c.put.ensures (cc))
 
-pub returns-else-blank : goal.returns-else-blank
-returns-else-blank c = sure_unless _ c.if-blank.false
+pub returns-else-cfg : goal.returns-else-cfg
+returns-else-cfg c = sure_unless _ c.if-cfg.false

@@ -1,8 +1,8 @@
--- `layout::helpers::deepen` meets its contract.
-use Rattle.std.proofs.Common.{ap, ◌∙◌}
-use Rattle.layout.specs.Promises.State.{deepened}
-use Rattle.layout.proofs.Steps.{deep-depth}
+use Rattle.layout.specs.Layout.{formed}
+use Rattle.layout.specs.Helpers as Helpers
+use Rattle.layout.proofs.Steps.{sure_in}
 use Rattle.layout.proofs.helpers.deepen.Goals as goal
 
 pub returns : goal.returns
-returns c = c.formed.ensures ∙ ap (λ d. deepened d c.args.mem.now) (deep-depth c.indented-new.ensures)
+unfolding Helpers.deepen
+returns c o = sure_in c.indented.ensures (λ deep. formed deep.depth) (c.formed.ensures o)

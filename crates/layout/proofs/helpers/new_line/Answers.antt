@@ -1,9 +1,8 @@
--- `layout::helpers::new_line` equals its layout.
-use Rattle.layout.proofs.Steps.{sure-joint, sure_no-joint}
+use Rattle.text.specs.Bytes.{bytes}
+use Rattle.layout.specs.Helpers as Helpers
+use Rattle.layout.proofs.Steps.{sure_then, sure_word}
 use Rattle.layout.proofs.helpers.new_line.Goals as goal
 
-pub returns-then-i-gt0 : goal.returns-then-i-gt0
-returns-then-i-gt0 c = sure-joint c.if-i-gt0.true c.later_line.ensures
-
-pub returns-else-i-gt0 : goal.returns-else-i-gt0
-returns-else-i-gt0 c = sure_no-joint _ c.if-i-gt0.false
+pub returns : goal.returns
+unfolding Helpers.new_line bytes
+returns c u e = sure_then (sure_word c.put.ensures (cc)) (sure_then c.blank.ensures (sure_then c.indent.ensures (sure_word c.put-2.ensures e)))

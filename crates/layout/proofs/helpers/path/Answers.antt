@@ -1,43 +1,12 @@
-use Rattle.std.proofs.Common.{refl, ◌∙◌, arith}
 use Rattle.layout.specs.Helpers as Helpers
-use Rattle.layout.proofs.Steps.{plain, by-same, first-same, then-done, then-stop, then-sure, list-is, list-not, group-is, group-not, items-all, from_more, from-none}
+use Rattle.text.specs.Bytes.{bytes}
+use Rattle.layout.proofs.Steps.{group_is, group_not}
 use Rattle.layout.proofs.helpers.path.Goals as goal
 
-pub returns-in_default : goal.returns-in_default
-unfolding Helpers.path Helpers.sep
-returns-in_default c = record { is = λ kinds. group-not c.group-r0.ensures c.told.ensures c.in_default.is }
-
-pub returns-in_default-list : goal.returns-in_default-list
-unfolding Helpers.path Helpers.sep
-returns-in_default-list c = record { is = λ kinds. by-same (group-is c.group-r0.ensures c.told.ensures c.in-Done.is) (list-not c.stop.ensures c.list.ensures c.in_default-list.is) }
-
-pub loop-i-init : goal.loop-i-init
-loop-i-init c = (omega arith, λ kinds r m o h. h, refl)
-
-pub shape_of-out-in_default-told : goal.shape_of-out-in_default-told
-shape_of-out-in_default-told c = c.between.auto.out ∙ c.loop-i.invariant.2
-
-pub returns-in_default-told : goal.returns-in_default-told
-unfolding Helpers.path Helpers.sep
-returns-in_default-told c = record { is = λ kinds. by-same (group-is c.group-r0.ensures c.told.ensures c.in-Done.is) (by-same (list-is c.list.ensures c.in-Is.is) (by-same (items-all _ _ _) (c.loop-i.invariant.1 kinds _ _ _ (from_more _ _ c.loop-i-test.true (then-sure c.between.ensures (then-stop (group-not c.group-r2.ensures c.told-in-loop-i.ensures c.in_default-told.is) c.told-in-loop-i.ensures c.in_default-told.is)))))) }
-
-pub shape_of-out-in_default-told-2 : goal.shape_of-out-in_default-told-2
-shape_of-out-in_default-told-2 c = c.text_of-r3.auto.out ∙ c.between.auto.out ∙ c.loop-i.invariant.2
-
-pub returns-in_default-told-2 : goal.returns-in_default-told-2
-unfolding Helpers.path Helpers.sep
-returns-in_default-told-2 c = record { is = λ kinds. by-same (group-is c.group-r0.ensures c.told.ensures c.in-Done.is) (by-same (list-is c.list.ensures c.in-Is.is) (by-same (items-all _ _ _) (c.loop-i.invariant.1 kinds _ _ _ (from_more _ _ c.loop-i-test.true (then-sure c.between.ensures (by-same (first-same (group-is c.group-r2.ensures c.told-in-loop-i.ensures c.in-Done-told.is)) (then-stop (plain c.text_of-r3.ensures) c.told-in-loop-i-2.ensures c.in_default-told-2.is))))))) }
-
-pub overflow_add-i : goal.overflow_add-i
-overflow_add-i c = omega (arith, c.loop-i-test.true, c.in-Is.known_told-in-Is-1-own)
-
-pub loop-i-preserved : goal.loop-i-preserved
-unfolding Helpers.path Helpers.sep
-loop-i-preserved c = (omega (arith, c.loop-i.invariant.0), λ kinds r m o h. c.loop-i.invariant.1 kinds r m o (from_more _ _ c.loop-i-test.true (then-sure c.between.ensures (by-same (first-same (group-is c.group-r2.ensures c.told-in-loop-i.ensures c.in-Done-told.is)) (then-done (plain c.text_of-r3.ensures) c.told-in-loop-i-2.ensures c.in-Done-told-2.is h)))), c.text_of-r3.auto.out ∙ c.between.auto.out ∙ c.loop-i.invariant.2)
-
-pub shape_of-out : goal.shape_of-out
-shape_of-out c = c.loop-i.invariant.2
+pub returns-in_err-s : goal.returns-in_err-s
+unfolding Helpers.path
+returns-in_err-s c = group_not c.group.ensures c.in_err-s.was c.from_residual.ensures.1
 
 pub returns : goal.returns
-unfolding Helpers.path Helpers.sep
-returns c = record { is = λ kinds. by-same (group-is c.group-r0.ensures c.told.ensures c.in-Done.is) (by-same (list-is c.list.ensures c.in-Is.is) (by-same (items-all _ _ _) (c.loop-i.invariant.1 kinds _ _ _ (from-none _ _ c.loop-i-test.false)))) }
+unfolding Helpers.path bytes
+returns c = group_is c.group.ensures c.in_ok-s.was (c.sep.ensures _ _ _ (cc) (λ o i a r o' i' e. e))

@@ -1,9 +1,8 @@
--- `layout::helpers::text_of` equals its layout.
-use Rattle.layout.proofs.Steps.{text-is, text-not}
+use Rattle.layout.proofs.Steps.{text_is, text_not}
 use Rattle.layout.proofs.helpers.text_of.Goals as goal
 
-pub returns-in_default : goal.returns-in_default
-returns-in_default c = record { is = λ kinds. text-not c.stop.ensures c.token_no.ensures c.in_default.is }
+pub returns-in_err-k : goal.returns-in_err-k
+returns-in_err-k c = text_not c.token_no.ensures c.in_err-k.was c.from_residual.ensures.1
 
 pub returns : goal.returns
-returns c = record { is = λ kinds. text-is c.token_no.ensures c.in-Is.is c.token.ensures }
+returns c = text_is c.token_no.ensures c.in_ok-k.was c.token.ensures

@@ -1,20 +1,18 @@
--- `layout::helpers::ty_var_seq_there` equals its layout.
-use Rattle.std.proofs.Common.{◌∙◌}
 use Rattle.layout.specs.Helpers as Helpers
-use Rattle.layout.proofs.Steps.{plain, by-same, then-done, then-stop, last-sure, group-is, group-not}
+use Rattle.text.specs.Bytes.{bytes}
+use Rattle.layout.proofs.Steps.{group_is, group_not, then_done, then_stop, last_word}
 use Rattle.layout.proofs.helpers.ty_var_seq_there.Goals as goal
 
-pub returns-in_default : goal.returns-in_default
+pub returns-in_err-s : goal.returns-in_err-s
 unfolding Helpers.ty_var_seq_there
-returns-in_default c = record { is = λ kinds. group-not c.group-r1.ensures c.told.ensures c.in_default.is }
+returns-in_err-s c = group_not c.group.ensures c.in_err-s.was c.from_residual.ensures.1
 
-pub returns-in_default-told : goal.returns-in_default-told
+pub returns-in_err-s-2 : goal.returns-in_err-s-2
 unfolding Helpers.ty_var_seq_there
-returns-in_default-told c = record { is = λ kinds. by-same (group-is c.group-r1.ensures c.told.ensures c.in-Done.is) (then-stop (plain c.ty_vars_in_parens-r2.ensures) c.told-2.ensures c.in_default-told.is) }
-
-pub shape_of-out : goal.shape_of-out
-shape_of-out c = c.word.auto.out ∙ c.ty_vars_in_parens-r2.auto.out
+returns-in_err-s-2 c =
+    group_is c.group.ensures c.in_ok-s.was (then_stop c.ty_vars_in_parens.ensures c.in_err-s-2.was c.from_residual-in_err-s-2.ensures.1)
 
 pub returns : goal.returns
-unfolding Helpers.ty_var_seq_there
-returns c = record { is = λ kinds. by-same (group-is c.group-r1.ensures c.told.ensures c.in-Done.is) (then-done (plain c.ty_vars_in_parens-r2.ensures) c.told-2.ensures c.in-Done-told.is (last-sure c.word.ensures)) }
+unfolding Helpers.ty_var_seq_there bytes
+returns c =
+    group_is c.group.ensures c.in_ok-s.was (then_done c.ty_vars_in_parens.ensures c.in_ok-s-2.was (last_word c.put.ensures (cc)))

@@ -1,16 +1,24 @@
--- `layout::helpers::ty_vars_in_parens` equals its layout.
 use Rattle.layout.specs.Helpers as Helpers
-use Rattle.layout.proofs.Steps.{plain, by-same, present-there, present-gone, present-not}
+use Rattle.text.specs.Bytes.{bytes}
+use Rattle.layout.proofs.Steps.{present_there, present_gone, present_not, then_word, then_done, then_stop, last_word}
 use Rattle.layout.proofs.helpers.ty_vars_in_parens.Goals as goal
 
-pub returns-in-There : goal.returns-in-There
+pub returns-in_err-there : goal.returns-in_err-there
 unfolding Helpers.in_parens
-returns-in-There c = record { is = λ kinds. by-same (present-there c.present-given.ensures c.in-There.is) (plain c.ty_vars_parens.ensures) }
+returns-in_err-there c = present_not c.present.ensures c.in_err-there.was c.from_residual.ensures.1
 
-pub returns-in-Absent : goal.returns-in-Absent
+pub returns-then-not-there : goal.returns-then-not-there
 unfolding Helpers.in_parens
-returns-in-Absent c = record { is = λ kinds. by-same (present-gone c.present-given.ensures c.in-Absent.is) (plain c.ty_vars.ensures) }
+returns-then-not-there c = present_gone c.present.ensures c.in_ok-there.was c.if-not-there.true c.ty_vars.ensures
 
-pub returns-in-Neither : goal.returns-in-Neither
-unfolding Helpers.in_parens
-returns-in-Neither c = record { is = λ kinds. present-not c.stop.ensures c.present-given.ensures c.in-Neither.is }
+pub returns-in_err-s : goal.returns-in_err-s
+unfolding Helpers.in_parens bytes
+returns-in_err-s c =
+    present_there c.present.ensures c.in_ok-there.was c.if-not-there.false
+    (then_word c.put.ensures (cc) (then_stop c.ty_vars-2.ensures c.in_err-s.was c.from_residual-in_err-s.ensures.1))
+
+pub returns : goal.returns
+unfolding Helpers.in_parens bytes
+returns c =
+    present_there c.present.ensures c.in_ok-there.was c.if-not-there.false
+    (then_word c.put.ensures (cc) (then_done c.ty_vars-2.ensures c.in_ok-s.was (last_word c.put-2.ensures (cc))))

@@ -1,16 +1,15 @@
--- `layout::helpers::word_if` equals its layout.
 use Rattle.layout.specs.Helpers as Helpers
-use Rattle.layout.proofs.Steps.{by-same, last-sure, last-skip, present-there, present-gone, present-not}
+use Rattle.layout.proofs.Steps.{present_there, present_gone, present_not, last_word, last_skip}
 use Rattle.layout.proofs.helpers.word_if.Goals as goal
 
-pub returns-in-There : goal.returns-in-There
+pub returns-in_err-there : goal.returns-in_err-there
 unfolding Helpers.word_if
-returns-in-There c = record { is = λ kinds. by-same (present-there c.present-given.ensures c.in-There.is) (last-sure c.word.ensures) }
+returns-in_err-there c u e = present_not c.present.ensures c.in_err-there.was c.from_residual.ensures.1
 
-pub returns-in-Absent : goal.returns-in-Absent
+pub returns-then-there : goal.returns-then-there
 unfolding Helpers.word_if
-returns-in-Absent c = record { is = λ kinds. by-same (present-gone c.present-given.ensures c.in-Absent.is) last-skip }
+returns-then-there c u e = present_there c.present.ensures c.in_ok-there.was c.if-there.true (last_word c.put.ensures e)
 
-pub returns-in-Neither : goal.returns-in-Neither
+pub returns-else-there : goal.returns-else-there
 unfolding Helpers.word_if
-returns-in-Neither c = record { is = λ kinds. present-not c.stop.ensures c.present-given.ensures c.in-Neither.is }
+returns-else-there c u e = present_gone c.present.ensures c.in_ok-there.was c.if-there.false last_skip

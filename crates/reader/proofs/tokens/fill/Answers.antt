@@ -1,67 +1,36 @@
 use native.Mathlib.Omega.{arith}
-use borrow.Author.Rules.{rules}
-use mathlib.Core.Path.{sym, ◌∙◌}
-use lib.ListN.{length-set}
-use Rattle.reader.proofs.SpanLaws.{spans_long}
-use Rattle.reader.proofs.TokenLaws.{filled_none, filled_span, filled-malformed, filled-end, filled-past, filled-all, is_within, is_whole}
+use mathlib.Core.Path.{sym, ap, ◌∙◌}
+use Rattle.std.specs.Prelude.{Ok}
+use Rattle.std.proofs.lemmas.Result.{err_from_is_err_and}
+use Rattle.reader.proofs.TokenLaws.{filled_none, filled_more, filled_full, filled_err, filled_end, filled_short, is_within, is_whole}
 use Rattle.reader.proofs.tokens.fill.Goals as goal
 
-pub loop-count-init : goal.loop-count-init
-loop-count-init c = (filled_none _ _ _ _ _ _ (search (rules, spans_long)), c.requires.1)
+pub loop-kind-init : goal.loop-kind-init
+loop-kind-init c = rw c.clear.ensures (filled_none _ _ _)
 
-pub bounds-kinds-count : goal.bounds-kinds-count
-bounds-kinds-count c = omega (arith, c.loop-count.invariant.0.kinds-long, c.loop-count-test.true)
+pub returns-in_err-kind : goal.returns-in_err-kind
+returns-in_err-kind c =
+    let p = err_from_is_err_and c.from_residual.result c.from_residual.ensures.1 in
+    rw (p.1, p.2) (filled_err c.loop-kind.invariant (sym c.in_err-kind.was ∙ c.next_token.ensures))
 
-pub offset_bounds-spans-count : goal.offset_bounds-spans-count
-offset_bounds-spans-count c = omega (arith, c.loop-count-test.true)
-
-pub bounds-spans-count : goal.bounds-spans-count
-bounds-spans-count c = omega (arith, c.loop-count.invariant.1, c.loop-count-test.true)
+pub returns-then-count-eq-MAX_TOKENS : goal.returns-then-count-eq-MAX_TOKENS
+returns-then-count-eq-MAX_TOKENS c =
+    filled_full c.loop-kind.invariant (ap Ok (sym c.in-Some.is) ∙ sym c.in_ok-kind.was ∙ c.next_token.ensures) (omega arith)
 
 pub overflow_add-start : goal.overflow_add-start
-overflow_add-start c = omega (arith, c.ranges.size, is_within _ _ _ _ _ (sym c.in-Is.is ∙ c.next_token-next.ensures))
+overflow_add-start c = omega (arith, c.ranges.size, is_within _ _ _ _ _ (ap Ok (sym c.in-Some.is) ∙ sym c.in_ok-kind.was ∙ c.next_token.ensures))
 
 pub overflow_add-at : goal.overflow_add-at
-overflow_add-at c = omega (arith, is_whole _ _ _ _ _ (sym c.in-Is.is ∙ c.next_token-next.ensures))
+overflow_add-at c = omega (arith, is_whole _ _ _ _ _ (ap Ok (sym c.in-Some.is) ∙ sym c.in_ok-kind.was ∙ c.next_token.ensures))
 
-pub loop-count-preserved : goal.loop-count-preserved
-loop-count-preserved c = (
-  filled_span c.loop-count.spans c.loop-count.invariant.0 c.loop-count-test.true (omega (arith, c.ranges.size)) (sym c.in-Is.is ∙ c.next_token-next.ensures) c.span_of.ensures,
-  length-set c.loop-count.spans _ _ ∙ c.loop-count.invariant.1,
-)
+pub loop-kind-preserved : goal.loop-kind-preserved
+loop-kind-preserved c =
+    let more = filled_more c.loop-kind.invariant (ap Ok (sym c.in-Some.is) ∙ sym c.in_ok-kind.was ∙ c.next_token.ensures) (omega arith) in
+    rw (← c.push.ensures.0, ← c.push.ensures.1, ← c.push.ensures.2) at more
 
-pub shape_of-kinds-in-Malformed : goal.shape_of-kinds-in-Malformed
-shape_of-kinds-in-Malformed c = c.loop-count.invariant.0.kinds-long ∙ sym c.requires.0
-
-pub shape_of-spans-in-Malformed : goal.shape_of-spans-in-Malformed
-shape_of-spans-in-Malformed c = c.loop-count.invariant.1 ∙ sym c.requires.1
-
-pub returns-in-Malformed : goal.returns-in-Malformed
-returns-in-Malformed c = filled-malformed c.loop-count.invariant.0 c.loop-count-test.true (sym c.in-Malformed.is ∙ c.next_token-next.ensures)
-
-pub shape_of-kinds-in-End : goal.shape_of-kinds-in-End
-shape_of-kinds-in-End c = c.loop-count.invariant.0.kinds-long ∙ sym c.requires.0
-
-pub shape_of-spans-in-End : goal.shape_of-spans-in-End
-shape_of-spans-in-End c = c.loop-count.invariant.1 ∙ sym c.requires.1
-
-pub returns-in-End : goal.returns-in-End
-returns-in-End c = filled-end c.loop-count.invariant.0 c.loop-count-test.true (sym c.in-End.is ∙ c.next_token-next.ensures) c.end_tokens.ensures
-
-pub shape_of-kinds-then-byte_at-eq5 : goal.shape_of-kinds-then-byte_at-eq5
-shape_of-kinds-then-byte_at-eq5 c = c.loop-count.invariant.0.kinds-long ∙ sym c.requires.0
-
-pub shape_of-spans-then-byte_at-eq5 : goal.shape_of-spans-then-byte_at-eq5
-shape_of-spans-then-byte_at-eq5 c = c.loop-count.invariant.1 ∙ sym c.requires.1
-
-pub returns-then-byte_at-eq5 : goal.returns-then-byte_at-eq5
-returns-then-byte_at-eq5 c = filled-past c.loop-count.invariant.0 c.loop-count-test.false (sym c.byte_at.ensures ∙ c.if-byte_at-eq5.true)
-
-pub shape_of-kinds : goal.shape_of-kinds
-shape_of-kinds c = c.loop-count.invariant.0.kinds-long ∙ sym c.requires.0
-
-pub shape_of-spans : goal.shape_of-spans
-shape_of-spans c = c.loop-count.invariant.1 ∙ sym c.requires.1
+pub returns-then-start-size : goal.returns-then-start-size
+returns-then-start-size c =
+    filled_short c.loop-kind.invariant (ap Ok (sym c.in_default.is) ∙ sym c.in_ok-kind.was ∙ c.next_token.ensures) c.if-start-size.true
 
 pub returns : goal.returns
-returns c = filled-all c.loop-count.invariant.0 c.loop-count-test.false (λ e. c.if-byte_at-eq5.false (c.byte_at.ensures ∙ e)) c.end_tokens-2.ensures
+returns c = filled_end c.loop-kind.invariant (ap Ok (sym c.in_default.is) ∙ sym c.in_ok-kind.was ∙ c.next_token.ensures) c.if-start-size.false

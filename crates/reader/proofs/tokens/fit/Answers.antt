@@ -1,28 +1,22 @@
--- `fit` meets its contract.
+use native.Mathlib.Omega.{arith}
 use mathlib.Core.Path.{sym, ◌∙◌}
+use borrow.Author.Tests.{leb-true}
 use Rattle.text.proofs.Laws.{never}
-use Rattle.reader.proofs.RowLaws.{taken, fits-are}
+use Rattle.reader.proofs.RowLaws.{fits_are}
 use Rattle.reader.proofs.tokens.fit.Goals as goal
+use Rattle.reader.proofs.tokens.fit.Goals.{then-greatest-le-LAST_KIND, else-greatest-le-LAST_KIND, then-least-ge1, else-least-ge1}
 
-pub slice_bounds-greatest-end : goal.slice_bounds-greatest-end
-slice_bounds-greatest-end c = let start = c in taken _ _ start.requires.0 start.requires.2
-
-pub returns-then-greatest-gt-LAST_KIND : goal.returns-then-greatest-gt-LAST_KIND
-returns-then-greatest-gt-LAST_KIND c = λ e. never (cc)
-
-pub slice_bounds-least-end : goal.slice_bounds-least-end
-slice_bounds-least-end c = let start = c in taken _ _ start.requires.1 start.requires.2
-
-pub returns-then-least-lt1 : goal.returns-then-least-lt1
-returns-then-least-lt1 c = λ e. never (cc)
-
-pub returns-then-not-is_boundary : goal.returns-then-not-is_boundary
-returns-then-not-is_boundary c = λ e. never (cc)
-
-pub slice_bounds-none_inside-end : goal.slice_bounds-none_inside-end
-slice_bounds-none_inside-end c = let start = c in taken _ _ start.requires.1 start.requires.2
-
-pub returns : goal.returns
-returns c =
-    let start = c in
-    λ e. fits-are _ _ _ _ _ start.requires.0 start.requires.1 start.requires.2 c.greatest.ensures c.if-greatest-gt-LAST_KIND.false c.least.ensures c.if-least-lt1.false (sym c.is_boundary.ensures ∙ c.if-not-is_boundary.false) (c.none_inside.ensures e)
+pub returns-then-is_boundary : goal.returns-then-is_boundary
+returns-then-is_boundary c =
+    let spans = c.spans-then-is_boundary in
+    elim c.if-least-ge1.branch [
+      | then-least-ge1 w ↦ elim c.if-greatest-le-LAST_KIND.branch [
+        | then-greatest-le-LAST_KIND v ↦ λ e.
+            fits_are c.kinds.ensures.0 c.greatest.ensures v.if-greatest-le-LAST_KIND.true
+            v.spans.result.now v.spans.ensures.1 v.least.ensures (leb-true 1 _ (sym v.value-is ∙ w.if-least-ge1.true))
+            (sym w.is_boundary.ensures ∙ sym w.value-is ∙ c.if-is_boundary.true)
+            spans.result.now spans.ensures.0 (c.none_inside.ensures e)
+        | else-greatest-le-LAST_KIND v ↦ absurd (omega (arith, v.if-greatest-le-LAST_KIND.false, leb-true _ 20 (sym v.value-is ∙ w.if-least-ge1.true)))
+      ]
+      | else-least-ge1 w ↦ λ e. never (cc)
+    ]

@@ -1,42 +1,49 @@
-use mathlib.Core.Path.{refl, sym, ◌∙◌}
-use lib.ListN.{length-set}
-use Rattle.reader.proofs.RowLaws.{laid_none, laid_more, length_is}
 use native.Mathlib.Omega.{arith}
+use Prim.Native.Nat.{◌*◌, ◌<◌}
+use mathlib.Core.Path.{◌≡◌, sym, ◌∙◌}
+use mathlib.Core.List.{◌++◌}
+use lib.ListN.{length, get_or, drop, length-set}
+use Rattle.std.specs.Iterator.Adapters.{take_source, take_count}
+use Rattle.std.specs.Slice.Iter.{chunks_exact_rest, chunks_exact_size}
+use Rattle.reader.proofs.SpanLaws.{tokens_more, counts_starts}
+use Rattle.reader.proofs.RowLaws.{laid_none, laid_chunk, chunk_rest}
 use Rattle.reader.proofs.tokens.lay_row.Goals as goal
 
-pub loop-count-init : goal.loop-count-init
-loop-count-init c = let start = c in (laid_none _ _ _ _, start.requires.0, start.requires.1, omega arith, omega arith)
+pub loop-command-init : goal.loop-command-init
+loop-command-init c =
+    let most : take_count c.into_iter-command-iterator.result ≡ 4096 = cc in
+    let size : chunks_exact_size (take_source c.into_iter-command-iterator.result) ≡ 4 = cc in
+    record {
+      laid = laid_none _;
+      kinds = c.tokens.told;
+      spans = c.tokens.invariant.1;
+      small = omega arith;
+      few = omega (arith, most);
+      rest = cc;
+      size = size;
+      can = omega (arith, size);
+      ends = tt;
+    }
 
-pub shape_of-kinds-then-rec-at-ne5 : goal.shape_of-kinds-then-rec-at-ne5
-shape_of-kinds-then-rec-at-ne5 c = c.loop-count.invariant.1 ∙ sym c.requires.0
-
-pub shape_of-spans-then-rec-at-ne5 : goal.shape_of-spans-then-rec-at-ne5
-shape_of-spans-then-rec-at-ne5 c = c.loop-count.invariant.2 ∙ sym c.requires.1
-
-pub returns-then-rec-at-ne5 : goal.returns-then-rec-at-ne5
-returns-then-rec-at-ne5 c = c.loop-count.invariant.0
-
-pub bounds-kinds-count : goal.bounds-kinds-count
-bounds-kinds-count c = omega (arith, c.loop-count.invariant.1)
-
-pub bounds-spans-count : goal.bounds-spans-count
-bounds-spans-count c = omega (arith, c.loop-count.invariant.2)
-
-pub loop-count-preserved : goal.loop-count-preserved
-loop-count-preserved c =
-    let at = c.loop-count in (
-      laid_more at.spans at.invariant.0 at.invariant.1 at.invariant.2 (omega arith) (omega arith) c.if-rec-at-ne5.false refl refl (length_is _ _ c.two-len.ensures.value refl refl) c.two-len.ensures.upper_bound,
-      length-set at.kinds _ _ ∙ at.invariant.1,
-      length-set at.spans _ _ ∙ at.invariant.2,
-      omega arith,
-      omega arith,
-    )
-
-pub shape_of-kinds : goal.shape_of-kinds
-shape_of-kinds c = c.loop-count.invariant.1 ∙ sym c.requires.0
-
-pub shape_of-spans : goal.shape_of-spans
-shape_of-spans c = c.loop-count.invariant.2 ∙ sym c.requires.1
-
-pub returns : goal.returns
-returns c = c.loop-count.invariant.0
+pub loop-command-preserved : goal.loop-command-preserved
+loop-command-preserved c =
+    let at = c.loop-command in
+    let was = at.invariant in
+    let steps = rw c.in-Some.is at c.next.ensures.steps in
+    let rest : drop (4 * at.count) c.args.rec.now ≡ c.in-Some.command.now ++ chunks_exact_rest (take_source c.next.new.self) = sym was.rest ∙ steps.0.1.0 in
+    let four : length c.in-Some.command.now ≡ 4 = steps.0.1.1 ∙ was.size in
+    let tag : get_or c.in-Some.command.now 0 0 ≡ 5 = omega arith in
+    let below : at.count < 4096 = omega (arith, steps.1) in
+    record {
+      laid = rw (tokens_more at.tokens-inside.kinds at.tokens-inside.spans at.count _ _ was.kinds was.spans below)
+          (laid_chunk c.args.rec.now at.count _ _ rest four was.laid
+          (counts_starts at.count at.tokens-inside.kinds at.tokens-inside.spans was.spans (omega arith)) below tag c.two-len.ensures.value);
+      kinds = length-set at.tokens-inside.kinds _ _ ∙ was.kinds;
+      spans = length-set at.tokens-inside.spans _ _ ∙ was.spans;
+      small = omega arith;
+      few = omega (arith, steps.1);
+      rest = chunk_rest c.args.rec.now at.count _ _ rest four;
+      size = steps.0.0 ∙ was.size;
+      can = omega (arith, steps.0.0, was.size);
+      ends = tt;
+    }

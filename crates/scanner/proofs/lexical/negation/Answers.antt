@@ -14,10 +14,13 @@ slice_bounds-magnitude-count c = omega (arith, ap length c.requires)
 pub overflow_add-result : goal.overflow_add-result
 overflow_add-result c = omega (arith, ap length c.requires, reach-within is_magnitude _ c.magnitude.ensures c.in-Some.is)
 
-pub returns-in-Some : goal.returns-in-Some
-returns-in-Some c = sym (tilde-number c.args.rest.now c.requires (found-behind is_magnitude c.args.rest.now 1 c.magnitude.ensures c.in-Some.is))
+pub returns-in-Some-clause-is : goal.returns-in-Some-clause-is
+returns-in-Some-clause-is c = sym (tilde-number c.args.rest.now c.requires (found-behind is_magnitude c.args.rest.now 1 c.magnitude.ensures c.in-Some.is))
 
-pub returns : goal.returns
-returns c =
+pub returns-clause-is : goal.returns-clause-is
+returns-clause-is c =
     c.run.ensures is_symbol (λ b r e. e)
     ∙ sym (tilde-symbol c.args.rest.now c.requires (found-behind is_magnitude c.args.rest.now 1 c.magnitude.ensures c.in_default.is))
+
+pub returns-clause-some : goal.returns-clause-some
+returns-clause-some c = omega (arith, c.run.ensures is_symbol (λ b r e. e))

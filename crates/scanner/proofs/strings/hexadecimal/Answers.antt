@@ -20,8 +20,5 @@ returns-then-not-is_hex_digit c = hex-third c.args.s.now c.args.at (omega (arith
 pub returns-then-not-is_hex_digit-2 : goal.returns-then-not-is_hex_digit-2
 returns-then-not-is_hex_digit-2 c = hex-fourth c.args.s.now c.args.at (omega (arith, c.requires, c.if-s-at-lt4.false)) (sym c.is_hex_digit-2.ensures ∙ c.if-not-is_hex_digit-2.true)
 
-pub overflow_add-result : goal.overflow_add-result
-overflow_add-result c = omega (arith, c.requires, c.if-s-at-lt4.false)
-
 pub returns : goal.returns
 returns c = hex-read c.args.s.now c.args.at (omega (arith, c.requires, c.if-s-at-lt4.false)) c.if-s-at-ne48.false c.if-s-at-ne48-2.false (omega (arith, c.type_inv.s (c.args.at + 2))) (sym c.is_hex_digit.ensures ∙ c.if-not-is_hex_digit.false) (omega (arith, c.type_inv.s (c.args.at + 3))) (sym c.is_hex_digit-2.ensures ∙ c.if-not-is_hex_digit-2.false)

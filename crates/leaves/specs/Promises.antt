@@ -1,2 +1,0 @@
--- What only contracts use: no definition of 01 or 02 is here.
-pub mod Heads
