@@ -16,7 +16,7 @@ def read(path):
 def files(folder, *endings):
     """The files below a folder of the repository, those that are built aside."""
     for where, folders, names in os.walk(os.path.join(ROOT, folder)):
-        folders[:] = sorted(name for name in folders if name not in (".git", "target"))
+        folders[:] = sorted(name for name in folders if name not in (".git", "out", "target"))
         for name in sorted(names):
             if name.endswith(endings or ("",)):
                 yield os.path.relpath(os.path.join(where, name), ROOT)

@@ -15,7 +15,7 @@ use Rattle.reader.specs.Check.{Checked, ok, and_then, max_forms, operand_fits, e
 use Rattle.reader.proofs.CommandLaws.{form-fits}
 use Rattle.reader.proofs.Ends.{ends_more}
 use Rattle.reader.proofs.FieldLaws.{then_parts, if_parts}
-use Rattle.layout.specs.Meaning.{Page, Event, Outcome, done, stopped}
+use Rattle.layout.specs.Meaning.{Page, Event, Outcome, done, stopped, outcome}
 use Rattle.layout.specs.declared.Ink.{Ink}
 use Rattle.layout.specs.declared.Stop.{Stop}
 use Rattle.layout.specs.Promises.State.{run_of, Walked}
@@ -67,19 +67,23 @@ walks-agree {p} (suc n) h =
     }
 
 -- ---- AppExp
--- Where the walk of the first expression ended stands the second: what is seen before that walk is seen behind it.
-pub heads_seen : {p : Page} (n : ℕ) (c : Cfg) {func arg : ℕ} {i i' : Ink} {o o' : List ℕ} {x : Result ℕ Stop} → n ≤ 200
-    → Walked false p ((walks n).get_exp c) (run_of func i o) x i' o' → x ≡ Ok arg → heads_behind p.rec func arg ≡ heads_at p.rec (count p) func
+-- Where the walk of the first expression ends stands the second: what is seen before that walk is seen behind it.
+pub heads-behind : (p : Page) (n : ℕ) → n ≤ 200 → (c : Cfg) (func arg : ℕ) (es : List Event) → outcome p ((walks n).get_exp c) func ≡ done arg es
+    → heads_behind p.rec func arg ≡ heads_at p.rec (count p) func
 unfolding field_end
-heads_seen {p} n c {func} {arg} low w t =
-    let walked = leads w t in
+heads-behind p n low c func arg es walked =
     let x : Agrees p n true (Fields.form Exp) ((walks n).get_exp c) = (walks-agree n low).exp c in
     let passes : ends p n true (Fields.form Exp) func ≡ ok arg =
-    subst (λ (o : Outcome). Agree p (ends p n true (Fields.form Exp) func) o) walked.1 (x.step.agrees func) in
+    subst (λ (o : Outcome). Agree p (ends p n true (Fields.form Exp) func) o) walked (x.step.agrees func) in
     behind_end p.rec (count p) func arg
     (λ k f.
     let fits = form-fits p.rec func Exp k f in
     (ends_more p.rec (count p) n max_forms low true (Fields.form Exp) func (omega (arith, fits)) arg passes).0)
+
+-- The same of a run that ended.
+pub heads_seen : {p : Page} (n : ℕ) (c : Cfg) {func arg : ℕ} {i i' : Ink} {o o' : List ℕ} {x : Result ℕ Stop} → n ≤ 200
+    → Walked false p ((walks n).get_exp c) (run_of func i o) x i' o' → x ≡ Ok arg → heads_behind p.rec func arg ≡ heads_at p.rec (count p) func
+heads_seen {p} n c {func} {arg} low w t = let walked = leads w t in heads-behind p n low c func arg walked.0 walked.1
 
 -- ---- the whole record
 module _ (p : Page) (tree : ℕ) where

@@ -8,6 +8,7 @@ use std::io;
 use std::io::Read;
 
 // Reads on until the buffer is full or the input ends: how many bytes it read, which stand at the buffer's start.
+// A `while`, because how far a read goes is the reader's choice.
 pub fn read_full<R: Read>(input: &mut R, buffer: &mut [u8]) -> io::Result<usize>
     ensures bound { IfOk result (λ n. n ≤ length buffer.new) }
     ensures bytes { IfOk result (λ n. Consumes (R.remaining input.old) (R.remaining input.new) (take n buffer.new)) }

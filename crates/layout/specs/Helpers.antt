@@ -1,4 +1,4 @@
--- 000's configuration, and its helpers that serve more than one family. A helper has 000's name, with `-` for `_`.
+-- 000's configuration, and its helpers that serve more than one family. A helper has 000's name.
 use Rattle.std.specs.Prelude.{ℕ, zero, suc, ◌+◌, Bool, true, false}
 use Prim.Native.String.{String}
 use Rattle.layout.specs.Layout.{Layout, is_alphanumeric, skip, ◌⨾◌, word, output_indent, formed, text, group}

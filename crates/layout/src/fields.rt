@@ -23,6 +23,7 @@ pub fn token_no(page: &Page, at: usize) -> Result<(usize, usize), Stop>
 }
 
 // How many items a list has, with the cursor behind its command.
+// It, the next two and the one before are a `match` of two arms; what they share is `Result`.
 pub fn list(page: &Page, at: usize) -> Result<(usize, usize), Stop>
     ensures { result ≡ read_of 3 at (list_at (rec_of page) at) }
 {
@@ -95,7 +96,7 @@ pub fn declared(page: &Page, at: usize) -> Result<Declaration, Stop>
     }
 }
 
-// Where the walk goes on after a type at an offset whose answer is dropped: behind the whole of it.
+// Where the walk goes on after the type at an offset, whose answer is dropped: behind the whole type.
 pub fn onwards(page: &Page, nesting: usize, at: usize, answer: Status) -> Status
     ensures { result ≡ onwards_of (rec_of page) (count_of page) nesting at answer }
 {

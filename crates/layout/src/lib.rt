@@ -38,6 +38,7 @@ pub enum Stop {
 pub type Status = Result<usize, Stop>;
 
 // `Cfg` of 000, with the depth in place of the indent's width, and how many forms may still stand inside one another.
+// Bounds on depth and nesting are facts of a call: an arm goes one deeper before it enters a form. So they are no invariant.
 #[derive(Clone, Copy)]
 pub struct Cfg {
     pub depth: u64,
@@ -60,6 +61,7 @@ impl Cfg {
 
 // What a walk has written beside the output: the offset where the next byte goes, units and deepest of its measures, and the
 // comments left; with the tab size.
+// The output is lent beside it: of a `&mut` in a struct that is lent itself, a contract cannot say what it refers to at the exit.
 #[derive(Clone, Copy)]
 pub struct Ink {
     pub position: u64,

@@ -34,6 +34,7 @@ const WHILE_EXP: u8 = 0x56;
 const CASE_EXP: u8 = 0x57;
 
 // ---- a token's text
+// Each of the four is one test of the text.
 pub fn is_bang(page: &Page, k: usize) -> bool
     ensures { result ≡ passes (page_of page) is_bang k }
 {

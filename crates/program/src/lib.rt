@@ -25,6 +25,7 @@ fn put(out: &mut [u8], at: usize, piece: &[u8]) -> usize
 }
 
 // Writes a number in decimal and the byte behind it.
+// Into the lent output, because there is no heap.
 fn put_number(out: &mut [u8], at: usize, n: u64, end: u8) -> usize
     requires { at + 21 ≤ length out.old }
     ensures puts { Puts out.old at (decimal n ++ end ∷ []) out.new result }

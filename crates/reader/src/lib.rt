@@ -15,7 +15,7 @@ use text::first_broken;
 use tokens::{Tokens, read_tokens};
 use tree::tree_end;
 
-// Why a sheet is refused that is read.
+// Why a sheet that is read is refused.
 #[derive(Clone, Copy, Debug, PartialEq, Eq)]
 pub enum Refusal {
     // The text or the record is too long.

@@ -12,6 +12,7 @@ use std::io;
 use vector::{Call, Parts, Vector};
 
 // What stands for no token number and no length.
+// The answers of the C interface are numbers.
 const NONE: u64 = 0xFFFF_FFFF_FFFF_FFFF;
 
 // The longest output of a stored call.

@@ -3,7 +3,7 @@
 
 pub mod lexical; // lexical.rt: the longest token and its kind
 mod numbers; // numbers.rt: integers, words and reals
-mod runs; // runs.rt: runs of bytes of a class
+mod runs; // runs.rt: runs of bytes that pass a test
 mod strings; // strings.rt: string and character constants
 
 ghost use Rattle.std.specs.Prelude.{◌≡◌, ◌++◌, ◌*◌, ◌≤◌, length, drop};
@@ -93,7 +93,8 @@ fn refused_at(b: u8, at: usize) -> Refusal
     }
 }
 
-// The tokens of a text, into an empty list; those past its end are left out and refused.
+// The tokens of a text, into an empty list; tokens past the list's end are left out, and the text is refused.
+// By an index, because tokens have different lengths.
 fn fill(text: &[u8], tokens: &mut Tokens) -> Result<(), Refusal>
     requires text_len_bound { length text.now ≤ max_text }
     requires empty { tokens.old ≡ no_tokens }
@@ -121,7 +122,7 @@ fn fill(text: &[u8], tokens: &mut Tokens) -> Result<(), Refusal>
 }
 
 // The tokens of a text, into an empty list: 1 and 2, then 10 to 12, then 1 for the tokens. The list holds them where none is told.
-// To empty it here takes a twentieth more time.
+// It is lent empty: to empty it here takes a twentieth more time.
 #[tactic(auto, unfolding(crate::specs::Scan::read, crate::specs::Answers::number_of, crate::specs::Answers::place_of))]
 fn read_text(text: &[u8], tokens: &mut Tokens) -> Result<(), Refusal>
     requires { tokens.old ≡ no_tokens }

@@ -1,4 +1,4 @@
-// Classes of bytes, and runs of them.
+// Tests of bytes, and runs of bytes that pass one.
 ghost use Rattle.std.specs.Prelude.{◌≡◌, ◌+◌, ◌≤◌, eqb, length, drop, ℕ, Bool, IfSome};
 ghost use Rattle.text.specs.Bytes.{is_space, first_is};
 ghost use Rattle.scanner.specs.Parts.{one_or_more};

@@ -144,6 +144,7 @@ fn escape(s: &[u8], at: usize) -> Option<Quoted>
 }
 
 // The string constant whose opening quote stands before an offset.
+// By an index, because its parts have different lengths.
 pub fn string(s: &[u8], from: usize) -> Option<Quoted>
     ensures { extent_of result ≡ further from 0 (extent between_characters (drop from s.now)) }
 {

@@ -21,6 +21,7 @@ fn end_numbers(found: Result<usize, Refusal>) -> [u64; 2]
 }
 
 // A token's start and its length in one number: 65,536 × start + length.
+// C's tables are arrays of numbers.
 fn packed(span: Span) -> u32
     ensures { (start_of result ≡ span.start) × (length_of result ≡ span.len) }
 {

@@ -12,259 +12,259 @@ use Rattle.layout.specs.Promises.Lent.{page_in}
 use Rattle.layout.specs.Promises.State.{cfg_of, run_of, Walked}
 use Rattle.walk.proofs.+walk.Given as goal
 
-abbrev pub decreases-ab : goal.decreases-ab
-decreases-ab l = 64 * l.cfg.nesting + 13
+abbrev pub decreases-abstype_dec : goal.decreases-abstype_dec
+decreases-abstype_dec l = 64 * l.cfg.nesting + 13
 
-abbrev pub decreases-ac : goal.decreases-ac
-decreases-ac l = 64 * l.cfg.nesting + 2
+abbrev pub decreases-ascription : goal.decreases-ascription
+decreases-ascription l = 64 * l.cfg.nesting + 2
 
-abbrev pub decreases-an : goal.decreases-an
-decreases-an l = 64 * l.cfg.nesting + 2
+abbrev pub decreases-ascription_str_exp : goal.decreases-ascription_str_exp
+decreases-ascription_str_exp l = 64 * l.cfg.nesting + 2
 
-abbrev pub decreases-app : goal.decreases-app
-decreases-app l = 64 * l.cfg.nesting + 1
+abbrev pub decreases-app_exp : goal.decreases-app_exp
+decreases-app_exp l = 64 * l.cfg.nesting + 1
 
-abbrev pub decreases-ar : goal.decreases-ar
-decreases-ar l = 64 * l.cfg.nesting + 5
+abbrev pub decreases-exp_args : goal.decreases-exp_args
+decreases-exp_args l = 64 * l.cfg.nesting + 5
 
-abbrev pub decreases-ar-item : goal.decreases-ar-item
-decreases-ar-item l = 64 * l.cfg.nesting + 1
+abbrev pub decreases-exp_args-item : goal.decreases-exp_args-item
+decreases-exp_args-item l = 64 * l.cfg.nesting + 1
 
-abbrev pub decreases-arm : goal.decreases-arm
-decreases-arm l = 64 * l.cfg.nesting + 2
+abbrev pub decreases-get_matcher_arm : goal.decreases-get_matcher_arm
+decreases-get_matcher_arm l = 64 * l.cfg.nesting + 2
 
-abbrev pub decreases-br : goal.decreases-br
-decreases-br l = 64 * l.cfg.nesting + 6
+abbrev pub decreases-bracketed_exps : goal.decreases-bracketed_exps
+decreases-bracketed_exps l = 64 * l.cfg.nesting + 6
 
-abbrev pub decreases-ca : goal.decreases-ca
-decreases-ca l = 64 * l.cfg.nesting + 9
+abbrev pub decreases-case_exp : goal.decreases-case_exp
+decreases-case_exp l = 64 * l.cfg.nesting + 9
 
-abbrev pub decreases-cb : goal.decreases-cb
-decreases-cb l = 64 * l.cfg.nesting + 15
+abbrev pub decreases-functor_bind : goal.decreases-functor_bind
+decreases-functor_bind l = 64 * l.cfg.nesting + 15
 
-abbrev pub decreases-cd : goal.decreases-cd
-decreases-cd l = 64 * l.cfg.nesting + 20
+abbrev pub decreases-functor_dec : goal.decreases-functor_dec
+decreases-functor_dec l = 64 * l.cfg.nesting + 20
 
-abbrev pub decreases-cd-item : goal.decreases-cd-item
-decreases-cd-item l = 64 * l.cfg.nesting + 16
+abbrev pub decreases-functor_dec-item : goal.decreases-functor_dec-item
+decreases-functor_dec-item l = 64 * l.cfg.nesting + 16
 
-abbrev pub decreases-da : goal.decreases-da
-decreases-da l = 64 * l.cfg.nesting + 8
+abbrev pub decreases-dec_arg : goal.decreases-dec_arg
+decreases-dec_arg l = 64 * l.cfg.nesting + 8
 
 abbrev pub decreases-dec : goal.decreases-dec
 decreases-dec l = 64 * l.cfg.nesting + 7
 
-abbrev pub decreases-dp : goal.decreases-dp
-decreases-dp l = 64 * l.cfg.nesting + 1
+abbrev pub decreases-deeper_exp : goal.decreases-deeper_exp
+decreases-deeper_exp l = 64 * l.cfg.nesting + 1
 
-abbrev pub decreases-ds : goal.decreases-ds
-decreases-ds l = 64 * l.cfg.nesting + 12
+abbrev pub decreases-get_dec : goal.decreases-get_dec
+decreases-get_dec l = 64 * l.cfg.nesting + 12
 
-abbrev pub decreases-ds-item : goal.decreases-ds-item
-decreases-ds-item l = 64 * l.cfg.nesting + 8
+abbrev pub decreases-get_dec-item : goal.decreases-get_dec-item
+decreases-get_dec-item l = 64 * l.cfg.nesting + 8
 
-abbrev pub decreases-du : goal.decreases-du
-decreases-du l = 64 * l.cfg.nesting + 1
+abbrev pub decreases-joined_exps : goal.decreases-joined_exps
+decreases-joined_exps l = 64 * l.cfg.nesting + 1
 
-abbrev pub decreases-exp : goal.decreases-exp
-decreases-exp l = 64 * l.cfg.nesting + 0
+abbrev pub decreases-get_exp : goal.decreases-get_exp
+decreases-get_exp l = 64 * l.cfg.nesting + 0
 
-abbrev pub decreases-fa : goal.decreases-fa
-decreases-fa l = 64 * l.cfg.nesting + 9
+abbrev pub decreases-functor_arg : goal.decreases-functor_arg
+decreases-functor_arg l = 64 * l.cfg.nesting + 9
 
-abbrev pub decreases-fb : goal.decreases-fb
-decreases-fb l = 64 * l.cfg.nesting + 8
+abbrev pub decreases-fun_bind : goal.decreases-fun_bind
+decreases-fun_bind l = 64 * l.cfg.nesting + 8
 
-abbrev pub decreases-fb-item : goal.decreases-fb-item
-decreases-fb-item l = 64 * l.cfg.nesting + 4
+abbrev pub decreases-fun_bind-item : goal.decreases-fun_bind-item
+decreases-fun_bind-item l = 64 * l.cfg.nesting + 4
 
-abbrev pub decreases-fc : goal.decreases-fc
-decreases-fc l = 64 * l.cfg.nesting + 3
+abbrev pub decreases-fun_bind_case : goal.decreases-fun_bind_case
+decreases-fun_bind_case l = 64 * l.cfg.nesting + 3
 
-abbrev pub decreases-fd : goal.decreases-fd
-decreases-fd l = 64 * l.cfg.nesting + 13
+abbrev pub decreases-fun_dec : goal.decreases-fun_dec
+decreases-fun_dec l = 64 * l.cfg.nesting + 13
 
-abbrev pub decreases-fd-item : goal.decreases-fd-item
-decreases-fd-item l = 64 * l.cfg.nesting + 9
+abbrev pub decreases-fun_dec-item : goal.decreases-fun_dec-item
+decreases-fun_dec-item l = 64 * l.cfg.nesting + 9
 
-abbrev pub decreases-fe : goal.decreases-fe
-decreases-fe l = 64 * l.cfg.nesting + 7
+abbrev pub decreases-fn_exp : goal.decreases-fn_exp
+decreases-fn_exp l = 64 * l.cfg.nesting + 7
 
-abbrev pub decreases-fe-item : goal.decreases-fe-item
-decreases-fe-item l = 64 * l.cfg.nesting + 3
+abbrev pub decreases-fn_exp-item : goal.decreases-fn_exp-item
+decreases-fn_exp-item l = 64 * l.cfg.nesting + 3
 
-abbrev pub decreases-fs : goal.decreases-fs
-decreases-fs l = 64 * l.cfg.nesting + 14
+abbrev pub decreases-functor_args : goal.decreases-functor_args
+decreases-functor_args l = 64 * l.cfg.nesting + 14
 
-abbrev pub decreases-fs-item : goal.decreases-fs-item
-decreases-fs-item l = 64 * l.cfg.nesting + 10
+abbrev pub decreases-functor_args-item : goal.decreases-functor_args-item
+decreases-functor_args-item l = 64 * l.cfg.nesting + 10
 
-abbrev pub decreases-fx : goal.decreases-fx
-decreases-fx l = 64 * l.cfg.nesting + 1
+abbrev pub decreases-infix_exp : goal.decreases-infix_exp
+decreases-infix_exp l = 64 * l.cfg.nesting + 1
 
-abbrev pub decreases-gd : goal.decreases-gd
-decreases-gd l = 64 * l.cfg.nesting + 6
+abbrev pub decreases-signature_dec : goal.decreases-signature_dec
+decreases-signature_dec l = 64 * l.cfg.nesting + 6
 
-abbrev pub decreases-gd-item : goal.decreases-gd-item
-decreases-gd-item l = 64 * l.cfg.nesting + 2
+abbrev pub decreases-signature_dec-item : goal.decreases-signature_dec-item
+decreases-signature_dec-item l = 64 * l.cfg.nesting + 2
 
-abbrev pub decreases-ha : goal.decreases-ha
-decreases-ha l = 64 * l.cfg.nesting + 8
+abbrev pub decreases-handle_exp : goal.decreases-handle_exp
+decreases-handle_exp l = 64 * l.cfg.nesting + 8
 
-abbrev pub decreases-ic : goal.decreases-ic
-decreases-ic l = 64 * l.cfg.nesting + 5
+abbrev pub decreases-include_dec : goal.decreases-include_dec
+decreases-include_dec l = 64 * l.cfg.nesting + 5
 
-abbrev pub decreases-ic-item : goal.decreases-ic-item
-decreases-ic-item l = 64 * l.cfg.nesting + 1
+abbrev pub decreases-include_dec-item : goal.decreases-include_dec-item
+decreases-include_dec-item l = 64 * l.cfg.nesting + 1
 
-abbrev pub decreases-ie : goal.decreases-ie
-decreases-ie l = 64 * l.cfg.nesting + 1
+abbrev pub decreases-if_exp : goal.decreases-if_exp
+decreases-if_exp l = 64 * l.cfg.nesting + 1
 
-abbrev pub decreases-it : goal.decreases-it
-decreases-it l = 64 * l.cfg.nesting + 1
+abbrev pub decreases-exp_semi_item : goal.decreases-exp_semi_item
+decreases-exp_semi_item l = 64 * l.cfg.nesting + 1
 
-abbrev pub decreases-ld : goal.decreases-ld
-decreases-ld l = 64 * l.cfg.nesting + 13
+abbrev pub decreases-local_decs : goal.decreases-local_decs
+decreases-local_decs l = 64 * l.cfg.nesting + 13
 
-abbrev pub decreases-lo : goal.decreases-lo
-decreases-lo l = 64 * l.cfg.nesting + 14
+abbrev pub decreases-local_dec : goal.decreases-local_dec
+decreases-local_dec l = 64 * l.cfg.nesting + 14
 
-abbrev pub decreases-lx : goal.decreases-lx
-decreases-lx l = 64 * l.cfg.nesting + 13
+abbrev pub decreases-let_exp : goal.decreases-let_exp
+decreases-let_exp l = 64 * l.cfg.nesting + 13
 
-abbrev pub decreases-ma : goal.decreases-ma
-decreases-ma l = 64 * l.cfg.nesting + 7
+abbrev pub decreases-get_matcher_across_lines : goal.decreases-get_matcher_across_lines
+decreases-get_matcher_across_lines l = 64 * l.cfg.nesting + 7
 
-abbrev pub decreases-ma-item : goal.decreases-ma-item
-decreases-ma-item l = 64 * l.cfg.nesting + 3
+abbrev pub decreases-get_matcher_across_lines-item : goal.decreases-get_matcher_across_lines-item
+decreases-get_matcher_across_lines-item l = 64 * l.cfg.nesting + 3
 
-abbrev pub decreases-mo : goal.decreases-mo
-decreases-mo l = 64 * l.cfg.nesting + 2
+abbrev pub decreases-exp_semi_more : goal.decreases-exp_semi_more
+decreases-exp_semi_more l = 64 * l.cfg.nesting + 2
 
-abbrev pub decreases-nm : goal.decreases-nm
-decreases-nm l = 64 * l.cfg.nesting + 1
+abbrev pub decreases-named_sig_exp : goal.decreases-named_sig_exp
+decreases-named_sig_exp l = 64 * l.cfg.nesting + 1
 
-abbrev pub decreases-nu : goal.decreases-nu
-decreases-nu l = 64 * l.cfg.nesting + 21
+abbrev pub decreases-dec_by_number : goal.decreases-dec_by_number
+decreases-dec_by_number l = 64 * l.cfg.nesting + 21
 
-abbrev pub decreases-one : goal.decreases-one
-decreases-one l = 64 * l.cfg.nesting + 0
+abbrev pub decreases-get_dec_one : goal.decreases-get_dec_one
+decreases-get_dec_one l = 64 * l.cfg.nesting + 0
 
-abbrev pub decreases-pa : goal.decreases-pa
-decreases-pa l = 64 * l.cfg.nesting + 1
+abbrev pub decreases-paren_exp : goal.decreases-paren_exp
+decreases-paren_exp l = 64 * l.cfg.nesting + 1
 
-abbrev pub decreases-pr : goal.decreases-pr
-decreases-pr l = 64 * l.cfg.nesting + 1
+abbrev pub decreases-prefixed_exp : goal.decreases-prefixed_exp
+decreases-prefixed_exp l = 64 * l.cfg.nesting + 1
 
-abbrev pub decreases-qb : goal.decreases-qb
-decreases-qb l = 64 * l.cfg.nesting + 2
+abbrev pub decreases-eq_body : goal.decreases-eq_body
+decreases-eq_body l = 64 * l.cfg.nesting + 2
 
-abbrev pub decreases-qs : goal.decreases-qs
-decreases-qs l = 64 * l.cfg.nesting + 6
+abbrev pub decreases-dec_in_seqs : goal.decreases-dec_in_seqs
+decreases-dec_in_seqs l = 64 * l.cfg.nesting + 6
 
-abbrev pub decreases-qs-item : goal.decreases-qs-item
-decreases-qs-item l = 64 * l.cfg.nesting + 2
+abbrev pub decreases-dec_in_seqs-item : goal.decreases-dec_in_seqs-item
+decreases-dec_in_seqs-item l = 64 * l.cfg.nesting + 2
 
-abbrev pub decreases-rc : goal.decreases-rc
-decreases-rc l = 64 * l.cfg.nesting + 7
+abbrev pub decreases-record_exp : goal.decreases-record_exp
+decreases-record_exp l = 64 * l.cfg.nesting + 7
 
-abbrev pub decreases-ro : goal.decreases-ro
-decreases-ro l = 64 * l.cfg.nesting + 1
+abbrev pub decreases-exp_row : goal.decreases-exp_row
+decreases-exp_row l = 64 * l.cfg.nesting + 1
 
-abbrev pub decreases-rs : goal.decreases-rs
-decreases-rs l = 64 * l.cfg.nesting + 6
+abbrev pub decreases-exp_rows : goal.decreases-exp_rows
+decreases-exp_rows l = 64 * l.cfg.nesting + 6
 
-abbrev pub decreases-rs-item : goal.decreases-rs-item
-decreases-rs-item l = 64 * l.cfg.nesting + 2
+abbrev pub decreases-exp_rows-item : goal.decreases-exp_rows-item
+decreases-exp_rows-item l = 64 * l.cfg.nesting + 2
 
-abbrev pub decreases-sa : goal.decreases-sa
-decreases-sa l = 64 * l.cfg.nesting + 9
+abbrev pub decreases-app_arg : goal.decreases-app_arg
+decreases-app_arg l = 64 * l.cfg.nesting + 9
 
-abbrev pub decreases-sb : goal.decreases-sb
-decreases-sb l = 64 * l.cfg.nesting + 3
+abbrev pub decreases-str_bind : goal.decreases-str_bind
+decreases-str_bind l = 64 * l.cfg.nesting + 3
 
-abbrev pub decreases-sd : goal.decreases-sd
-decreases-sd l = 64 * l.cfg.nesting + 8
+abbrev pub decreases-structure_dec : goal.decreases-structure_dec
+decreases-structure_dec l = 64 * l.cfg.nesting + 8
 
-abbrev pub decreases-sd-item : goal.decreases-sd-item
-decreases-sd-item l = 64 * l.cfg.nesting + 4
+abbrev pub decreases-structure_dec-item : goal.decreases-structure_dec-item
+decreases-structure_dec-item l = 64 * l.cfg.nesting + 4
 
-abbrev pub decreases-seq : goal.decreases-seq
-decreases-seq l = 64 * l.cfg.nesting + 4
+abbrev pub decreases-seq_exp : goal.decreases-seq_exp
+decreases-seq_exp l = 64 * l.cfg.nesting + 4
 
-abbrev pub decreases-sg : goal.decreases-sg
-decreases-sg l = 64 * l.cfg.nesting + 13
+abbrev pub decreases-sig_sig_exp : goal.decreases-sig_sig_exp
+decreases-sig_sig_exp l = 64 * l.cfg.nesting + 13
 
-abbrev pub decreases-sig : goal.decreases-sig
-decreases-sig l = 64 * l.cfg.nesting + 0
+abbrev pub decreases-get_sig_exp : goal.decreases-get_sig_exp
+decreases-get_sig_exp l = 64 * l.cfg.nesting + 0
 
-abbrev pub decreases-sl : goal.decreases-sl
-decreases-sl l = 64 * l.cfg.nesting + 13
+abbrev pub decreases-let_str_exp : goal.decreases-let_str_exp
+decreases-let_str_exp l = 64 * l.cfg.nesting + 13
 
-abbrev pub decreases-sm : goal.decreases-sm
-decreases-sm l = 64 * l.cfg.nesting + 3
+abbrev pub decreases-exp_semi_seq : goal.decreases-exp_semi_seq
+decreases-exp_semi_seq l = 64 * l.cfg.nesting + 3
 
-abbrev pub decreases-sp : goal.decreases-sp
-decreases-sp l = 64 * l.cfg.nesting + 10
+abbrev pub decreases-app_str_exp : goal.decreases-app_str_exp
+decreases-app_str_exp l = 64 * l.cfg.nesting + 10
 
-abbrev pub decreases-sq : goal.decreases-sq
-decreases-sq l = 64 * l.cfg.nesting + 1
+abbrev pub decreases-dec_in_seq : goal.decreases-dec_in_seq
+decreases-dec_in_seq l = 64 * l.cfg.nesting + 1
 
-abbrev pub decreases-ss : goal.decreases-ss
-decreases-ss l = 64 * l.cfg.nesting + 13
+abbrev pub decreases-struct_str_exp : goal.decreases-struct_str_exp
+decreases-struct_str_exp l = 64 * l.cfg.nesting + 13
 
-abbrev pub decreases-str : goal.decreases-str
-decreases-str l = 64 * l.cfg.nesting + 0
+abbrev pub decreases-get_str_exp : goal.decreases-get_str_exp
+decreases-get_str_exp l = 64 * l.cfg.nesting + 0
 
-abbrev pub decreases-ta : goal.decreases-ta
-decreases-ta l = 64 * l.cfg.nesting + 1
+abbrev pub decreases-ascription_tail : goal.decreases-ascription_tail
+decreases-ascription_tail l = 64 * l.cfg.nesting + 1
 
-abbrev pub decreases-ty : goal.decreases-ty
-decreases-ty l = 64 * l.cfg.nesting + 1
+abbrev pub decreases-typed_exp : goal.decreases-typed_exp
+decreases-typed_exp l = 64 * l.cfg.nesting + 1
 
-abbrev pub decreases-vb : goal.decreases-vb
-decreases-vb l = 64 * l.cfg.nesting + 3
+abbrev pub decreases-val_bind : goal.decreases-val_bind
+decreases-val_bind l = 64 * l.cfg.nesting + 3
 
-abbrev pub decreases-vd : goal.decreases-vd
-decreases-vd l = 64 * l.cfg.nesting + 8
+abbrev pub decreases-val_dec : goal.decreases-val_dec
+decreases-val_dec l = 64 * l.cfg.nesting + 8
 
-abbrev pub decreases-vd-item : goal.decreases-vd-item
-decreases-vd-item l = 64 * l.cfg.nesting + 4
+abbrev pub decreases-val_dec-item : goal.decreases-val_dec-item
+decreases-val_dec-item l = 64 * l.cfg.nesting + 4
 
-abbrev pub decreases-ve : goal.decreases-ve
-decreases-ve l = 64 * l.cfg.nesting + 6
+abbrev pub decreases-vector_exp : goal.decreases-vector_exp
+decreases-vector_exp l = 64 * l.cfg.nesting + 6
 
-abbrev pub decreases-wh : goal.decreases-wh
-decreases-wh l = 64 * l.cfg.nesting + 2
+abbrev pub decreases-while_exp : goal.decreases-while_exp
+decreases-while_exp l = 64 * l.cfg.nesting + 2
 
-abbrev pub decreases-wr : goal.decreases-wr
-decreases-wr l = 64 * l.cfg.nesting + 1
+abbrev pub decreases-where_sig_exp : goal.decreases-where_sig_exp
+decreases-where_sig_exp l = 64 * l.cfg.nesting + 1
 
-abbrev pub decreases-wt : goal.decreases-wt
-decreases-wt l = 64 * l.cfg.nesting + 1
+abbrev pub decreases-where_type_sig_exp : goal.decreases-where_type_sig_exp
+decreases-where_type_sig_exp l = 64 * l.cfg.nesting + 1
 
-abbrev pub decreases-xb : goal.decreases-xb
-decreases-xb l = 64 * l.cfg.nesting + 3
+abbrev pub decreases-ex_bind : goal.decreases-ex_bind
+decreases-ex_bind l = 64 * l.cfg.nesting + 3
 
-abbrev pub decreases-xd : goal.decreases-xd
-decreases-xd l = 64 * l.cfg.nesting + 8
+abbrev pub decreases-ex_dec : goal.decreases-ex_dec
+decreases-ex_dec l = 64 * l.cfg.nesting + 8
 
-abbrev pub decreases-xd-item : goal.decreases-xd-item
-decreases-xd-item l = 64 * l.cfg.nesting + 4
+abbrev pub decreases-ex_dec-item : goal.decreases-ex_dec-item
+decreases-ex_dec-item l = 64 * l.cfg.nesting + 4
 
-abbrev pub decreases-xi : goal.decreases-xi
-decreases-xi l = 64 * l.cfg.nesting + 2
+abbrev pub decreases-ex_bind_inner : goal.decreases-ex_bind_inner
+decreases-ex_bind_inner l = 64 * l.cfg.nesting + 2
 
 -- What is left to run leads on from what was to run.
-abbrev pub invariant-mo-loop-left : goal.invariant-mo-loop-left
-invariant-mo-loop-left l =
+abbrev pub invariant-exp_semi_more-loop-left : goal.invariant-exp_semi_more-loop-left
+invariant-exp_semi_more-loop-left l =
     (l.left ≤ l.n)
     × ((r : Result ℕ Stop) (i : Ink) (o : List ℕ)
     → Walked false (page_in l.page) (exp_semi_more (walks l.cfg.nesting) (cfg_of l.cfg) l.allow l.left) (run_of l.s l.ink l.out) r i o
     → Walked false (page_in l.page) (exp_semi_more (walks l.cfg.nesting) (cfg_of l.cfg) l.allow l.n) (run_of l.initial.s l.initial.ink l.initial.out) r i o)
 
-abbrev pub invariant-sp-loop-i : goal.invariant-sp-loop-i
-invariant-sp-loop-i l =
+abbrev pub invariant-app_str_exp-loop-i : goal.invariant-app_str_exp-loop-i
+invariant-app_str_exp-loop-i l =
     (r : Result ℕ Stop) (i : Ink) (o : List ℕ)
     → Walked false (page_in l.page) (app_args (walks l.cfg.nesting) (cfg_of l.cfg) l.needs (l.n - l.i)) (run_of l.s l.ink l.out) r i o
     → Walked false (page_in l.page) (app_args (walks l.cfg.nesting) (cfg_of l.cfg) false (l.n - 0)) (run_of l.initial.s l.initial.ink l.initial.out) r i o

@@ -4,4 +4,4 @@ use Rattle.walk.proofs.walk.Goals as goal
 
 pub returns : goal.returns
 unfolding top
-returns c = c.ds.ensures
+returns c = c.get_dec.ensures
