@@ -1,8 +1,8 @@
 /* Diverplume: a proved formatter for Standard ML rule files.
  *
  * The functions stand in the archive target/staticlib/libdiverplume.a, which `tools/build diverplume`
- * makes. They need nothing but memset, memcpy and memmove, keep no state and may be called from any thread; a
- * stack of 512 KiB is enough.
+ * makes. They need nothing but memset and memcpy, keep no state and may be called from any thread; a stack of
+ * 512 KiB is enough.
  *
  * A sheet is a text and a record of its tokens and syntax tree. Any bytes may be handed in. Every
  * call ends, refuses by number what it cannot take, and changes the lent output only where it

@@ -15,11 +15,12 @@ use Rattle.reader.specs.Check.{Checked, ok, and_then, max_forms, operand_fits, e
 use Rattle.reader.proofs.CommandLaws.{form-fits}
 use Rattle.reader.proofs.Ends.{ends_more}
 use Rattle.reader.proofs.FieldLaws.{then_parts, if_parts}
+use Rattle.layout.specs.Meaning as Meaning
 use Rattle.layout.specs.Meaning.{Page, Event, Outcome, done, stopped, outcome}
 use Rattle.layout.specs.declared.Ink.{Ink}
 use Rattle.layout.specs.declared.Stop.{Stop}
 use Rattle.layout.specs.Promises.State.{run_of, Walked}
-use Rattle.layout.specs.Promises.Looks.{heads_behind, heads_at}
+use Rattle.layout.specs.Promises.Looks.{seen_behind, heads_of, heads_behind, heads_at}
 use Rattle.layout.proofs.HeadLaws.{leads, behind_end}
 use Rattle.layout.specs.Layout.{halt, import}
 use Rattle.layout.specs.Helpers.{Cfg, Walkers}
@@ -69,7 +70,7 @@ walks-agree {p} (suc n) h =
 -- ---- AppExp
 -- Where the walk of the first expression ends stands the second: what is seen before that walk is seen behind it.
 pub heads-behind : (p : Page) (n : ℕ) → n ≤ 200 → (c : Cfg) (func arg : ℕ) (es : List Event) → outcome p ((walks n).get_exp c) func ≡ done arg es
-    → heads_behind p.rec func arg ≡ heads_at p.rec (count p) func
+    → seen_behind p.rec func arg ≡ Meaning.heads_at p.rec (count p) func
 unfolding field_end
 heads-behind p n low c func arg es walked =
     let x : Agrees p n true (Fields.form Exp) ((walks n).get_exp c) = (walks-agree n low).exp c in
@@ -80,10 +81,10 @@ heads-behind p n low c func arg es walked =
     let fits = form-fits p.rec func Exp k f in
     (ends_more p.rec (count p) n max_forms low true (Fields.form Exp) func (omega (arith, fits)) arg passes).0)
 
--- The same of a run that ended.
+-- The same of a run that ended, of what the code asks for.
 pub heads_seen : {p : Page} (n : ℕ) (c : Cfg) {func arg : ℕ} {i i' : Ink} {o o' : List ℕ} {x : Result ℕ Stop} → n ≤ 200
     → Walked false p ((walks n).get_exp c) (run_of func i o) x i' o' → x ≡ Ok arg → heads_behind p.rec func arg ≡ heads_at p.rec (count p) func
-heads_seen {p} n c {func} {arg} low w t = let walked = leads w t in heads-behind p n low c func arg walked.0 walked.1
+heads_seen {p} n c {func} {arg} low w t = let walked = leads w t in ap heads_of (heads-behind p n low c func arg walked.0 walked.1)
 
 -- ---- the whole record
 module _ (p : Page) (tree : ℕ) where

@@ -243,6 +243,14 @@ module _ {p : Page} {tree tab : ℕ} {left : Set} {o : List ℕ} {r : Std.Result
             let none_left = comments-none p es i'.left.words limits.few words_are e in
             record { is = record { weight = weight; accepts = walked-is ∙ none_left.0; drafts = drafts long; empty = none_left.1 } }
 
+-- ---- one page by another
+module _ {p q : Page} (e : p ≡ q) {tree tab : ℕ} where
+  pub weighs_on : {draft left : List ℕ} {r : Std.Result Measures FormatError} → Weighs p tree tab draft left r → Weighs q tree tab draft left r
+  weighs_on {draft} {left} {r} w = subst (λ (x : Page). Weighs x tree tab draft left r) e w
+
+  pub puts_on : {out out' : List ℕ} {r : Std.Result Measures FormatError} → Puts p tree tab out r out' → Puts q tree tab out r out'
+  puts_on {out} {out'} {r} w = subst (λ (x : Page). Puts x tree tab out r out') e w
+
 -- ---- 7, 8 and the text
 abbrev events_in : Outcome → List Event
 events_in (done end es) = es

@@ -2,7 +2,7 @@
 use Prim.Native.Nat.{ℕ, zero, suc, ◌+◌, ◌≤◌, ◌<◌}
 use native.Mathlib.Omega.{arith}
 use mathlib.Core.Path.{◌≡◌, refl, sym, ap, ◌∙◌}
-use mathlib.Core.Logic.{⊎_elim}
+use mathlib.Core.Logic.{◌↔◌, ⊎_elim}
 use mathlib.Core.Bool.{Bool, true, false, not, ◌&&◌}
 use mathlib.Core.List.{List}
 use Rattle.std.proofs.lemmas.Option.{none-some}
@@ -10,8 +10,8 @@ use Rattle.std.specs.Prelude.{Option, None, Some}
 use lib.ListN.{length, get_or}
 use lib.Dec.{eqb, leb}
 use borrow.Author.Tests.{eqb-true, eqb-false, leb-true, leb-false}
-use Rattle.comments.specs.Set.{holds, bits, words_from, words_of, room, first}
-use Rattle.comments.proofs.Words.{whether, words-first, first-among}
+use Rattle.comments.specs.Set.{holds, bits, words_from, words_of, room, count, first}
+use Rattle.comments.proofs.Words.{whether, words-first, first-among, count_none, none-count}
 use Rattle.comments.proofs.Search.{no-comment}
 use Rattle.layout.specs.Meaning.{Page, Event}
 use Rattle.layout.specs.Events.{written, is_left}
@@ -50,6 +50,10 @@ module _ (kinds : List ℕ) (es : List Event) where
     -- The first token that the words hold is the first comment left among the tokens.
     pub first-left : first (holds words) 0 room ≡ first (is_left kinds es) 0 (length kinds)
     first-left = words-first (is_left kinds es) words e ∙ first-among (is_left kinds es) (length kinds) few (left-past kinds es)
+
+    -- The words hold no token exactly where no comment is left.
+    pub empty_left : (count (holds words) 0 room ≡ 0) ↔ (first (is_left kinds es) 0 (length kinds) ≡ None)
+    empty_left = (λ h. sym first-left ∙ count_none (holds words) room 0 h, λ h. none-count (holds words) room 0 (first-left ∙ h))
 
   -- Where no comment is left the words are those of the empty set.
   pub empty-words : first (is_left kinds es) 0 (length kinds) ≡ None → words_of (is_left kinds es) ≡ empty_set

@@ -11,7 +11,7 @@ ghost use Rattle.formatter.specs.Lookup.{number_of as lookup_number, place_of as
 ghost use Rattle.formatter.specs.Promises.Lookup.{Asks};
 ghost use Rattle.formatter.specs.Verdict.{number_of, place_of, given_measures, declined, empty_set, verdict_of, check as check·, get as get·};
 ghost use Rattle.formatter.specs.Promises.WalkFirst.{by_check};
-ghost use Rattle.formatter.specs.Promises.Judging.{otherwise, BehindCommand, BehindWhere, Limits, Weighs, Drafted, Judges, Puts};
+ghost use Rattle.formatter.specs.Promises.Judging.{otherwise, page_of, BehindCommand, BehindWhere, Limits, Weighs, Drafted, Judges, Puts};
 
 use comments::{Above, Set};
 use layout::{Ink, Page, Status, Stop};
@@ -110,6 +110,18 @@ const DRAFT: usize = 65536;
 // A declaration's command, with its operand.
 const DECLARATION: usize = 3;
 
+// The page of a text and a record with its tokens.
+fn page_of<'a>(text: &'a [u8], rec: &'a [u8], tokens: &'a Tokens) -> Page<'a>
+    ensures { page_in result ≡ page_of text.now rec.now tokens.now }
+{
+    Page {
+        text,
+        rec,
+        kinds: tokens.kinds(),
+        spans: tokens.spans(),
+    }
+}
+
 // What the sheet alone decides: where in the record the list of declarations starts, and the measures of the walk.
 #[derive(Clone, Copy)]
 struct Judged {
@@ -134,11 +146,11 @@ fn stop(walked: Status) -> FormatError
 
 // 3 and 4 of a record whose walk did not end at its end; where the check passes, 13 and 14.
 fn by_check(page: &Page, tree: usize, walked: Status) -> FormatError
-    requires { BehindWhere (tree_check page.now.rec.now (count_of page.now.tokens.now) tree) walked }
+    requires { BehindWhere (tree_check page.now.rec.now (count_of (page_in page.now).tokens) tree) walked }
     ensures { declined (verdict_of (Err result) empty_set)
-        ≡ by_check (otherwise walked) (tree_check page.now.rec.now (count_of page.now.tokens.now) tree) }
+        ≡ by_check (otherwise walked) (tree_check page.now.rec.now (count_of (page_in page.now).tokens) tree) }
 {
-    match tree_end(page.rec, page.tokens.count(), tree) {
+    match tree_end(page.rec, page.count(), tree) {
         Ok(_) => stop(walked),
         Err(why) => FormatError::Refused(why),
     }
@@ -161,8 +173,8 @@ fn weigh(
         position: 0,
         units: 0,
         deepest: 0,
-        tab,
-        left: Set::all(page.tokens.kinds()),
+        tab: tab as u64,
+        left: Set::all(page.kinds),
     };
     let walked = walk::walk(page, draft, &mut ink, tree);
     match walked {
@@ -170,14 +182,17 @@ fn weigh(
         _ => return Err(by_check(page, tree, walked)),
     }
     *left = ink.left;
-    if let Some(k) = ink.left.first() {
-        return Err(FormatError::CommentsLeft(page.tokens.start(k)));
+    if ink.left.is_empty() {
+        return Ok(Measures {
+            deepest: ink.deepest,
+            letters: ink.letters(),
+            units: ink.units,
+        });
     }
-    Ok(Measures {
-        deepest: ink.deepest,
-        letters: ink.letters(),
-        units: ink.units,
-    })
+    let Some(k) = ink.left.first() else {
+        unreachable!();
+    };
+    Err(FormatError::CommentsLeft(page.span(k).start as usize))
 }
 
 // 1 to 4, 13, 14 and 6. The record check is run only where the walk did not end at the record's end.
@@ -195,7 +210,7 @@ fn judge(
     *left = Set::new();
     check_text(text, rec)?;
     let tree = read_tokens(text, text.len() as u16, rec, tokens)?;
-    let measures = weigh(&Page { text, rec, tokens }, tree, tab, draft, left)?;
+    let measures = weigh(&page_of(text, rec, tokens), tree, tab, draft, left)?;
     Ok(Judged { tree, measures })
 }
 
@@ -242,7 +257,7 @@ fn put(
         position: 0,
         units: 0,
         deepest: 0,
-        tab,
+        tab: tab as u64,
         left: Set::new(),
     };
     let _walked = walk::walk(page, out, &mut ink, judged.tree);
@@ -264,12 +279,7 @@ fn drafted<const N: usize>(
     let mut tokens = Tokens::new();
     let mut draft = [0; N];
     let judged = judge(text, rec, &mut tokens, tab, &mut draft, left)?;
-    let page = Page {
-        text,
-        rec,
-        tokens: &tokens,
-    };
-    put(&page, judged, tab, &draft, out)
+    put(&page_of(text, rec, &tokens), judged, tab, &draft, out)
 }
 
 // Formats the sheet at a tab size into the output's first bytes; at an error the output is as it was.

@@ -15,7 +15,7 @@ use Rattle.layout.specs.Layout.{Layout, ◌⨾◌, application, operator, is_pip
 use Rattle.layout.specs.Meaning as Meaning
 use Rattle.layout.specs.Meaning.{Page, Event, Token, Outcome, done, stopped, Stop, after, bind, or_stop, outcome, Head, path_exp, other_exp, Heads, both, missing, passes, func_is_bang, arg_is_symbolic, operated}
 use Rattle.layout.specs.Promises.State.{Run, run_of, effect, effects, Ran, went, fell, run, runs, why_of, ended, shown, Walked, Sure, Operated, read_of}
-use Rattle.layout.specs.Promises.Looks.{seen_as, head, heads_of, heads_behind, heads_at, asked_first}
+use Rattle.layout.specs.Promises.Looks.{seen_as, head, heads_of, seen_behind, heads_at, asked_first}
 use Rattle.layout.proofs.Steps.{and_then, run_at, run_after, run_bind, runs_then, Handed, handed_on, shown_went, shown_fell, some_of, none_of}
 
 -- ---- what a walk's answer says of the run
@@ -42,13 +42,13 @@ leads {p} {w = w} {a} {s} {i} {i'} {o} {o'} e f = done_by p (outcome p w a) (run
 -- ---- what AppExp sees of its expressions
 -- Behind the first expression's end.
 pub behind_end : (rec : List ℕ) (count func arg : ℕ) → ((n : ℕ) → form_at rec Exp func ≡ Some n → field_end rec count (Fields.form Exp) func ≡ ok arg)
-    → heads_behind rec func arg ≡ heads_at rec count func
-unfolding heads_behind heads_of Meaning.heads_at
+    → seen_behind rec func arg ≡ Meaning.heads_at rec count func
+unfolding seen_behind Meaning.heads_at
 behind_end rec count func arg h = go (form_at rec Exp func) refl
   where
-    go : (o : Option ℕ) → form_at rec Exp func ≡ o → heads_behind rec func arg ≡ heads_at rec count func
-    go (Some n) q = rw (q, heads_behind, Meaning.heads_at, h n q) refl
-    go None q = rw (q, heads_behind, Meaning.heads_at, heads_of) refl
+    go : (o : Option ℕ) → form_at rec Exp func ≡ o → seen_behind rec func arg ≡ Meaning.heads_at rec count func
+    go (Some n) q = rw (q, seen_behind, Meaning.heads_at, h n q) refl
+    go None q = rw (q, seen_behind, Meaning.heads_at) refl
 
 abbrev Seen : Type 0
 Seen = Option Names.Name × Option Names.Name
@@ -83,23 +83,23 @@ module _ {p : Page} {a : ℕ} {i i' : Ink} {o o' : List ℕ} where
         go (missing place) q s = let t : why ≡ Why.Absent place = cc in ap (λ z. shown false (fell (why_of z) i' o')) t ∙ rw (q, outcome) refl
 
   -- The first expression stopped.
-  pub application_stop : {v : Layout} {w : Bool → Bool → Layout} {x : Result ℕ Code.Stop} {why b : Code.Stop} → Walked false p v (run_of a i o) x i' o' → x ≡ Err why
-      → b ≡ asked_first p.rec (count_of p.tokens) a why → Walked false p (application (λ b c. v ⨾ w b c)) (run_of a i o) (Err b) i' o'
+  pub application_stop : {v : Layout} {w : Bool → Bool → Layout} {x b : Result ℕ Code.Stop} {why : Code.Stop} → Walked false p v (run_of a i o) x i' o' → x ≡ Err why
+      → b ≡ asked_first p.rec (count_of p.tokens) a (Err why) → Walked false p (application (λ b c. v ⨾ w b c)) (run_of a i o) b i' o'
   unfolding runs outcome run effects shown ended why_of asked_first heads_of
-  application_stop {v} {w} {why = why} {b} e f h = record { is = go (Meaning.heads_at p.rec (count_of p.tokens) a) refl }
+  application_stop {v} {w} {b = b} {why} e f h = record { is = go (Meaning.heads_at p.rec (count_of p.tokens) a) refl }
     where
       go : (z : Heads) → Meaning.heads_at p.rec (count_of p.tokens) a ≡ z
-          → shown false (ended (Err b) i' o') ≡ shown false (runs p (application (λ b c. v ⨾ w b c)) (run_of a i o))
+          → shown false (ended b i' o') ≡ shown false (runs p (application (λ b c. v ⨾ w b c)) (run_of a i o))
       go (both f' g') q =
           let u : Layout = w (func_is_bang p f') (arg_is_symbolic p g') in
-          let d : b ≡ why = h ∙ rw (q, asked_first, heads_of) refl in
-          ap (λ z. shown false (fell (why_of z) i' o')) d
+          let d : b ≡ Err why = h ∙ rw (q, asked_first, heads_of) refl in
+          ap (λ z. shown false (ended z i' o')) d
           ∙ shown_fell false (runs p v (run_of a i o)) (runs p u) (why_of why) i' o' (fell_at e f)
           ∙ ap (shown false) (sym (runs_then p v u (run_of a i o)))
           ∙ rw (q, outcome) refl
       go (missing place) q =
-          let d : b ≡ Why.Absent place = h ∙ rw (q, asked_first, heads_of) refl in
-          ap (λ z. shown false (fell (why_of z) i' o')) d ∙ rw (q, outcome) refl
+          let d : b ≡ Err (Why.Absent place) = h ∙ rw (q, asked_first, heads_of) refl in
+          ap (λ z. shown false (ended z i' o')) d ∙ rw (q, outcome) refl
 
 -- ---- an operator that is kept, and the right side behind it
 abbrev kept : Page → Layout → Layout → ℕ → Run → Ran

@@ -4,11 +4,8 @@ use Rattle.std.specs.Prelude.{Option, None, Some, Result, Ok, Err, IsErr, IsErrA
 use Rattle.std.proofs.lemmas.Result.{err_from_is_err_and}
 use Prim.Native.String.{String}
 use Rattle.text.specs.Bytes.{bytes, trim}
-use Rattle.comments.specs.Set.{holds, words_of, without}
 use Rattle.comments.specs.Above.{found_above, comment_above, comment_in}
 use Rattle.comments.specs.declared.Above.{Above}
-use Rattle.comments.specs.declared.Set.{Set}
-use Rattle.reader.specs.Tokens.{text_of}
 use Rattle.layout.specs.Events.{trimmed}
 use Rattle.layout.specs.Meaning.{token_text}
 use Rattle.text.proofs.Laws.{never}
@@ -18,7 +15,7 @@ use Rattle.layout.specs.declared.Stop as Code
 use Rattle.layout.specs.declared.Stop.TheVariants as Why
 use Rattle.layout.specs.Layout.{Layout, skip, ◌⨾◌, word, output_indent, formed, text, group, choice, form, list, maybe, present, Look, look, Test, first_name, halt, import}
 use Rattle.layout.specs.Meaning.{Page, Event, Word, Token, Comment, Formed, Indent, Outcome, done, stopped, Stop, after, bind, or_stop, outcome, sees, name_passes, commented, above_first}
-use Rattle.layout.specs.Promises.State.{Run, run_of, at, effect, effects, Ran, went, fell, run, runs, why_of, ended, shown, Walked, Does, cfg_of, Deeper, Put, Sure, CommentedAbove, read_of, group_of, gone_of, present_of, spaced, sum_of, width_of}
+use Rattle.layout.specs.Promises.State.{Run, run_of, at, effect, effects, Ran, went, fell, run, runs, why_of, ended, shown, Walked, Does, cfg_of, Deeper, Put, Sure, CommentedAbove, read_of, group_of, gone_of, present_of, spaced, sum_of, width_of, struck}
 use Rattle.layout.specs.Helpers as Helpers
 use Rattle.layout.specs.Helpers.{times, items, for_each, when}
 use Rattle.layout.specs.Walk.{walks}
@@ -373,12 +370,12 @@ module _ {p : Page} {keep : Bool} {a : ℕ} {i : Ink} {o : List ℕ} {v w : Layo
 -- ---- the items of a list
 module _ {p : Page} {keep : Bool} where
   -- A further item; none.
-  pub times_more : (u w : Layout) {j n : ℕ} {g : Run} {r : Result ℕ Code.Stop} {i : Ink} {o : List ℕ} → j < n
-      → Walked keep p (u ⨾ w ⨾ times (n - (j + 1)) (u ⨾ w)) g r i o → Walked keep p (times (n - j) (u ⨾ w)) g r i o
+  pub times_more : (w : Layout) {j n : ℕ} {g : Run} {r : Result ℕ Code.Stop} {i : Ink} {o : List ℕ} → j < n
+      → Walked keep p (w ⨾ times (n - (j + 1)) w) g r i o → Walked keep p (times (n - j) w) g r i o
   unfolding times
-  times_more u w {j} {n} e h =
+  times_more w {j} {n} e h =
       let q : n - j ≡ suc (n - (j + 1)) = omega arith in
-      rw q (regroup h)
+      rw q h
 
   pub times_none : (w : Layout) {j n a : ℕ} {i : Ink} {o : List ℕ} → n ≤ j → Walked keep p (times (n - j) w) (run_of a i o) (Ok a) i o
   unfolding times
@@ -463,13 +460,13 @@ sure_unless w e = rw (e, when) sure_skip
 
 -- A token's text; a comment's trimmed text, which is then not left any more.
 module _ (p : Page) (k : ℕ) {a : ℕ} {i' : Ink} {o o' t : List ℕ} where
-  pub put_token : {i : Ink} → t ≡ text_of p.text p.tokens k → Put t i o i' o' → run_of a i' o' ≡ effect p (Token k) (run_of a i o)
-  unfolding effect token_text
+  pub put_token : {i : Ink} → t ≡ token_text p k → Put t i o i' o' → run_of a i' o' ≡ effect p (Token k) (run_of a i o)
+  unfolding effect
   put_token e h = rw (h.ink, h.out, e) refl
 
-  pub put_comment : (i : Ink) {left : Set} {w : List ℕ} → left.words ≡ words_of (without (holds i.left.words) k) → t ≡ text_of p.text p.tokens k → w ≡ trim t
-      → Put w (record i { left = left }) o i' o' → run_of a i' o' ≡ effect p (Comment k) (run_of a i o)
-  unfolding effect trimmed token_text
+  pub put_comment : (i : Ink) {struck_out : Ink} {w : List ℕ} → struck_out ≡ struck k i → t ≡ token_text p k → w ≡ trim t
+      → Put w struck_out o i' o' → run_of a i' o' ≡ effect p (Comment k) (run_of a i o)
+  unfolding effect trimmed
   put_comment i e f g h = rw (h.ink, h.out, g, f, e) refl
 
 module _ {p : Page} {keep : Bool} {u : String} {x : List ℕ} {a : ℕ} {i i' : Ink} {o o' : List ℕ} where

@@ -17,7 +17,7 @@ pub fn token_no(page: &Page, at: usize) -> Result<(usize, usize), Stop>
     ensures { result ≡ read_of 3 at (token_fits (rec_of page) (count_of page) at) }
 {
     match commands::token_at(page.rec, at) {
-        Some(k) if k < page.tokens.count() => Ok((k, at + 3)),
+        Some(k) if k < page.count() => Ok((k, at + 3)),
         _ => Err(Stop::Absent(at)),
     }
 }
@@ -91,7 +91,7 @@ pub fn declared(page: &Page, at: usize) -> Result<Declaration, Stop>
     ensures { result ≡ declared_of (rec_of page) (count_of page) at }
 {
     match commands::declaration_at(page.rec, at) {
-        Some(found) if first_fits(page.rec, page.tokens.count(), at) => Ok(found),
+        Some(found) if first_fits(page.rec, page.count(), at) => Ok(found),
         _ => Err(Stop::Absent(at)),
     }
 }
@@ -103,7 +103,7 @@ pub fn onwards(page: &Page, nesting: usize, at: usize, answer: Status) -> Status
     if answer.is_ok() || commands::form_at(page.rec, Family::Ty, at).is_none() {
         return answer;
     }
-    match ty_end_within(page.rec, page.tokens.count(), nesting, at) {
+    match ty_end_within(page.rec, page.count(), nesting, at) {
         Ok(next) => Ok(next),
         Err(why) => Err(Stop::Absent(why.place())),
     }

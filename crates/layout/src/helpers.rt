@@ -219,7 +219,7 @@ pub fn comment_above(page: &Page, out: &mut [u8], ink: &mut Ink, cfg: Cfg, first
     let Some(k) = first else {
         return;
     };
-    let Some(above) = comments::comment_above(page.tokens.kinds(), k) else {
+    let Some(above) = comments::comment_above(page.kinds, k) else {
         return;
     };
     ink.comment(page, out, above.comment);

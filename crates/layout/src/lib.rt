@@ -8,21 +8,53 @@ pub mod looks; // looks.rt: questions about the form at the cursor and about a t
 pub mod items; // items.rt: the items of a list, one behind another
 pub mod helpers; // helpers.rt: helpers of 000 that serve more than one family
 
-ghost use Rattle.std.specs.Prelude.{◌≡◌, ℕ, ◌+◌, ◌≤◌, max};
+ghost use Rattle.std.specs.Prelude.{◌≡◌, ℕ, ◌+◌, ◌≤◌, max, get_or};
+ghost use Rattle.reader.specs.Tokens.{count_of};
 ghost use Rattle.layout.specs.Layout.{output_indent, formed};
-ghost use Rattle.layout.specs.Promises.Lent.{puts, writes, forms, strikes_comment, writes_token};
-ghost use Rattle.layout.specs.Promises.State.{sum_of, width_of, placed, spaced, Deeper};
+ghost use Rattle.layout.specs.Meaning.{token_text};
+ghost use Rattle.layout.specs.Promises.Lent.{page_in, puts, writes, forms, strikes_comment, writes_token};
+ghost use Rattle.layout.specs.Promises.State.{sum_of, width_of, struck, placed, spaced, Deeper};
 
-use comments::Set;
-use reader::tokens::Tokens;
+use comments::{Set, cleared};
+use reader::tokens::Span;
 use text::trim;
 
-// What a walk reads: a text, its record, the record's tokens.
+// What a walk reads: a text, its record, the record's tokens by their kinds and their spans, of any number.
 #[derive(Clone, Copy)]
 pub struct Page<'a> {
     pub text: &'a [u8],
     pub rec: &'a [u8],
-    pub tokens: &'a Tokens,
+    pub kinds: &'a [u8],
+    pub spans: &'a [Span],
+}
+
+impl<'a> Page<'a> {
+    // How many tokens there are.
+    pub fn count(&self) -> usize
+        ensures { result ≡ count_of (page_in self.now).tokens }
+    {
+        self.spans.len()
+    }
+
+    // Where a token stands, by number; at 0, with no length, past the last.
+    pub fn span(&self, k: usize) -> Span
+        ensures { (result.start ≡ get_or (page_in self.now).tokens.starts k 0)
+            × (result.len ≡ get_or (page_in self.now).tokens.lengths k 0) }
+    {
+        if k < self.spans.len() {
+            self.spans[k]
+        } else {
+            Span { start: 0, len: 0 }
+        }
+    }
+
+    // The text of a token; none past the last.
+    #[tactic(auto, unfolding(crate::specs::Meaning::token_text, reader::specs::Tokens::text_of))]
+    pub fn text_of(&self, k: usize) -> &'a [u8]
+        ensures { result.now ≡ token_text (page_in self.now) k }
+    {
+        self.span(k).of(self.text)
+    }
 }
 
 // Why a walk stops.
@@ -67,15 +99,15 @@ pub struct Ink {
     pub position: u64,
     pub units: u64,
     pub deepest: u64,
-    pub tab: u32,
+    pub tab: u64,
     pub left: Set,
 }
 
-// The width of indents, by the sum of their depths.
-fn width(tab: u32, units: u64) -> u64
+// The width of indents, by the sum of their depths. Of each the lower 32 bits count.
+fn width(tab: u64, units: u64) -> u64
     ensures { result ≡ width_of tab units }
 {
-    u64::from(tab) * (units % 0x1_0000_0000)
+    (tab % 0x1_0000_0000) * (units % 0x1_0000_0000)
 }
 
 // Copies a piece into the output at an offset, where it fits.
@@ -134,14 +166,24 @@ impl Ink {
     pub fn token(&mut self, page: &Page, out: &mut [u8], k: usize)
         ensures { writes_token page out self k }
     {
-        self.put(out, page.tokens.text_of(page.text, k));
+        self.put(out, page.text_of(k));
+    }
+
+    // Strikes a token out of the comments left, in its word: `Set::without` would copy the set, in a frame of each declaration.
+    fn strike(&mut self, k: usize)
+        ensures { self.new ≡ struck k self.old }
+    {
+        let w = k / 64;
+        if w < 64 {
+            self.left.words[w] = cleared(self.left.words[w], k % 64);
+        }
     }
 
     // Writes the trimmed text of a comment, by number; it is then not left any more.
     pub fn comment(&mut self, page: &Page, out: &mut [u8], k: usize)
         ensures { strikes_comment page out self k }
     {
-        self.left = self.left.without(k);
-        self.put(out, trim(page.tokens.text_of(page.text, k)));
+        self.strike(k);
+        self.put(out, trim(page.text_of(k)));
     }
 }

@@ -1,5 +1,5 @@
 // Questions about the form at an offset and about a token's text; what `AppExp` sees of its expressions.
-#![tactic(auto, unfolding(crate::specs::Promises::Looks::head, crate::specs::Promises::Looks::seen_of, crate::specs::Promises::Looks::heads_of, crate::specs::Promises::Looks::heads_from, crate::specs::Promises::Looks::heads_behind, crate::specs::Promises::Looks::asked_first, crate::specs::Promises::Looks::named, crate::specs::Promises::State::read_of, crate::specs::Meaning::passes, crate::specs::Meaning::token_text, crate::specs::Meaning::is_command, crate::specs::Meaning::on_new_line, crate::specs::Meaning::needs_newline, crate::specs::Meaning::sees, crate::specs::Meaning::both_seen, crate::specs::Meaning::head_of, crate::specs::Meaning::heads_from, crate::specs::Meaning::heads_at, reader::specs::Forms::exp_number, reader::specs::Fields::first_form, text::specs::Bytes::bytes, reader::specs::Commands::form_width, reader::specs::Promises::Tree::told))]
+#![tactic(auto, unfolding(crate::specs::Promises::Looks::head, crate::specs::Promises::Looks::seen_of, crate::specs::Promises::Looks::heads_of, crate::specs::Promises::Looks::heads_from, crate::specs::Promises::Looks::seen_behind, crate::specs::Promises::Looks::asked_first, crate::specs::Promises::Looks::named, crate::specs::Promises::State::read_of, crate::specs::Meaning::passes, crate::specs::Meaning::token_text, crate::specs::Meaning::is_command, crate::specs::Meaning::on_new_line, crate::specs::Meaning::needs_newline, crate::specs::Meaning::sees, crate::specs::Meaning::both_seen, crate::specs::Meaning::head_of, crate::specs::Meaning::heads_from, crate::specs::Meaning::heads_at, reader::specs::Forms::exp_number, reader::specs::Fields::first_form, text::specs::Bytes::bytes, reader::specs::Commands::form_width, reader::specs::Promises::Tree::told))]
 
 ghost use Rattle.std.specs.Prelude.{◌≡◌};
 ghost use Rattle.layout.specs.Layout.{is_bang, is_pipe, is_alphabetic, is_alphanumeric, is_if_exp, body_exp_needs_newline};
@@ -9,7 +9,7 @@ ghost use Rattle.layout.specs.Promises.Looks.{head_of, heads_from, heads_behind,
 
 use crate::fields::form;
 use crate::names::{Name, op_path_name};
-use crate::{Page, Stop};
+use crate::{Page, Status, Stop};
 use reader::commands::Family;
 use reader::tree::exp_end;
 use text::at::byte_at;
@@ -38,25 +38,25 @@ const CASE_EXP: u8 = 0x57;
 pub fn is_bang(page: &Page, k: usize) -> bool
     ensures { result ≡ passes (page_of page) is_bang k }
 {
-    same(page.tokens.text_of(page.text, k), b"!")
+    same(page.text_of(k), b"!")
 }
 
 pub fn is_pipe(page: &Page, k: usize) -> bool
     ensures { result ≡ passes (page_of page) is_pipe k }
 {
-    same(page.tokens.text_of(page.text, k), b"|>")
+    same(page.text_of(k), b"|>")
 }
 
 pub fn alphabetic(page: &Page, k: usize) -> bool
     ensures { result ≡ passes (page_of page) is_alphabetic k }
 {
-    starts_with_letter(page.tokens.text_of(page.text, k))
+    starts_with_letter(page.text_of(k))
 }
 
 pub fn alphanumeric(page: &Page, k: usize) -> bool
     ensures { result ≡ passes (page_of page) is_alphanumeric k }
 {
-    starts_alphanumeric(page.tokens.text_of(page.text, k))
+    starts_alphanumeric(page.text_of(k))
 }
 
 // ---- the form at an offset
@@ -132,18 +132,18 @@ fn heads(page: &Page, func: usize) -> Result<(Option<Name>, Option<Name>), Stop>
     ensures { result ≡ heads_at (rec_of page) (count_of page) func }
 {
     let (number, fields) = form(page, func, Family::Exp)?;
-    match exp_end(page.rec, page.tokens.count(), func) {
+    match exp_end(page.rec, page.count(), func) {
         Ok(arg) => heads_from(page, number, fields, arg),
         Err(why) => Err(Stop::Absent(why.place())),
     }
 }
 
-// Where `AppExp` stops whose `func` stopped: 000 asks for both expressions and their names before it walks.
-pub fn asked_first(page: &Page, func: usize, stopped: Stop) -> Stop
-    ensures { result ≡ asked_first (rec_of page) (count_of page) func stopped }
+// The answer of `AppExp` whose `func` gave one: 000 asks for both expressions and their names before it walks.
+pub fn asked_first(page: &Page, func: usize, answer: Status) -> Status
+    ensures { result ≡ asked_first (rec_of page) (count_of page) func answer }
 {
     match heads(page, func) {
-        Ok(_) => stopped,
-        Err(why) => why,
+        Ok(_) => answer,
+        Err(why) => Err(why),
     }
 }

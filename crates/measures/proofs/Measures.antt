@@ -23,6 +23,7 @@ use Rattle.layout.specs.Helpers.{Cfg, sep_with_lines}
 use Rattle.layout.specs.GetDec.{get_dec}
 use Rattle.layout.specs.DecOne.{comment_line}
 use Rattle.layout.specs.Walk.{walks, top, walk}
+use Rattle.layout.proofs.Exact.{cap}
 use Rattle.measures.specs.Small.{events_of, Small}
 use Rattle.measures.proofs.Credit.{size, Within}
 use Rattle.measures.proofs.Paying.{Paid, Short, eased, halts, fixed, ◌then◌, families, declarations}
@@ -114,6 +115,10 @@ small p tree t l = go (leb tree (length p.rec)) refl
 pub small-done : (p : Page) (tree : ℕ) → length p.text ≤ 32768 → length p.rec ≤ 65536 → {es : List Event} {end : ℕ} → walk p tree ≡ done end es → Small p es
 small-done p tree t l e = subst (λ (o : Outcome). Small p (events_of o)) e (small p tree t l)
 
+-- No measure meets the cap.
+pub below_cap : {p : Page} {es : List Event} → Small p es → (letters p es < cap) × (units es < cap)
+below_cap s = (omega (arith, s.both), omega (arith, s.both))
+
 -- ---- a sheet that passes 1 to 4
 pub sheet_lengths : (text rec : List ℕ) (tokens : Tokens) (tree : ℕ) → read text rec ≡ sheet tokens tree → (length text ≤ 32768) × (length rec ≤ 65536)
 unfolding read
@@ -122,3 +127,9 @@ sheet_lengths text rec tokens tree e = go (leb (length text) 32768 && leb (lengt
     go : (b : Bool) → (leb (length text) 32768 && leb (length rec) 65536) ≡ b → (length text ≤ 32768) × (length rec ≤ 65536)
     go true t = (leb-true _ _ (and_left _ (leb (length rec) 65536) t), leb-true _ _ (and_right (leb (length text) 32768) _ t))
     go false t = let d : refused 1 0 ≡ sheet tokens tree = rw (t, read) at e in never (cc)
+
+pub sheet_small : (text rec : List ℕ) (tokens : Tokens) (tree : ℕ) → read text rec ≡ sheet tokens tree
+    → Small (record { text = text; rec = rec; tokens = tokens }) (events_of (walk (record { text = text; rec = rec; tokens = tokens }) tree))
+sheet_small text rec tokens tree e =
+    let h = sheet_lengths text rec tokens tree e in
+    small (record { text = text; rec = rec; tokens = tokens }) tree h.0 h.1

@@ -1,13 +1,13 @@
 -- Laws of what is printed: the digits of a number, bytes written one after another, the line of a verdict. Assumes nothing.
-use Prim.Native.Nat.{ℕ, suc, ◌+◌, ◌*◌, ◌/◌, ◌%◌, ◌^◌, ◌≤◌, ◌<◌}
+use Prim.Native.Nat.{ℕ, zero, suc, ◌+◌, ◌*◌, ◌/◌, ◌%◌, ◌^◌, ◌≤◌, ◌<◌}
 use native.Mathlib.Omega.{arith}
 use mathlib.Core.Path.{◌≡◌, refl, sym, ap, ap₂, ◌∙◌}
-use mathlib.Core.Bool.{false}
+use mathlib.Core.Bool.{Bool, true, false}
 use mathlib.Core.List.{List, [], ◌∷◌, ◌++◌, append_assoc, append-nil}
 use lib.ListN.{length, take, drop, length-append}
 use lib.Seq.{append_snoc, take_at, drop_at, drop-drop, length-take-le}
-use lib.Dec.{eqb}
-use borrow.Author.Tests.{lt-ltb, le-ltb}
+use lib.Dec.{ltb, eqb}
+use borrow.Author.Tests.{lt-ltb, le-ltb, ltb-false}
 use Rattle.formatter.specs.declared.Measures.{Measures}
 use Rattle.std.specs.Prelude.{Ok, Err}
 use Rattle.reader.specs.declared.Refusal.TheVariants.{TooLong, NotUtf8, Malformed, TooDeep}
@@ -22,6 +22,25 @@ use Rattle.program.specs.Printing.{Prints}
 use Rattle.program.specs.Promises.Printing.{Answer, said, said_with, shown, Puts}
 
 -- ---- digits
+
+-- More digits than there are change nothing.
+digits_enough : (k m n : ℕ) → n < k → n < m → digits k n ≡ digits m n
+unfolding digits
+digits_enough zero m n h l = absurd (omega arith)
+digits_enough (suc k) zero n h l = absurd (omega arith)
+digits_enough (suc k) (suc m) n h l = go (ltb n 10) refl (λ more. digits_enough k m (n / 10) (omega arith) (omega arith))
+  where
+    go : (t : Bool) → ltb n 10 ≡ t → (10 ≤ n → digits k (n / 10) ≡ digits m (n / 10)) → digits (suc k) n ≡ digits (suc m) n
+    go true e same = rw (digits, e)
+    go false e same = rw (digits, e) (ap (λ (ds : List ℕ). ds ++ (48 + n % 10) ∷ []) (same (ltb-false _ _ e)))
+
+pub decimal_more : (n : ℕ) → 10 ≤ n → decimal n ≡ decimal (n / 10) ++ (48 + n % 10) ∷ []
+unfolding decimal digits
+decimal_more n h =
+    rw (decimal, digits, le-ltb _ _ h) (ap (λ (ds : List ℕ). ds ++ (48 + n % 10) ∷ []) (digits_enough n (suc (n / 10)) (n / 10) (omega arith) (omega arith)))
+
+pub length_more : (n : ℕ) → 10 ≤ n → length (decimal n) ≡ length (decimal (n / 10)) + 1
+length_more n h = rw (decimal_more n h) (length-append (decimal (n / 10)) ((48 + n % 10) ∷ []))
 
 -- The digits of a u64 are those that std writes.
 pub decimal-is : (n : ℕ) → n < 2 ^ 64 → decimal n ≡ Fmt.decimal n

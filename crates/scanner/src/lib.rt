@@ -121,8 +121,15 @@ fn fill(text: &[u8], tokens: &mut Tokens) -> Result<(), Refusal>
     if fit { Ok(()) } else { Err(Refusal::TooLong) }
 }
 
-// The tokens of a text, into an empty list: 1 and 2, then 10 to 12, then 1 for the tokens. The list holds them where none is told.
-// It is lent empty: to empty it here takes a twentieth more time.
+// The tokens of a text: 1 and 2, then 10 to 12, then 1 for the tokens. The list becomes that of the tokens where none is told.
+pub fn tables(text: &[u8], tokens: &mut Tokens) -> Result<(), Refusal>
+    ensures { scanned_in result tokens.new ≡ read text.now }
+{
+    tokens.clear();
+    read_text(text, tokens)
+}
+
+// The same, into an empty list. `scan` makes one: to empty it there takes a twentieth more time.
 #[tactic(auto, unfolding(crate::specs::Scan::read, crate::specs::Answers::number_of, crate::specs::Answers::place_of))]
 fn read_text(text: &[u8], tokens: &mut Tokens) -> Result<(), Refusal>
     requires { tokens.old ≡ no_tokens }

@@ -10,10 +10,7 @@ ghost use Rattle.scanner.specs.Promises.Reach.{is_plain, run, reach, Decides};
 pub fn is_alphanumeric(b: u8) -> bool
     ensures { result ≡ is_alphanumeric_byte b }
 {
-    match b {
-        b'\'' | b'_' => true,
-        _ => text::is_letter(b) || text::is_digit(b),
-    }
+    text::is_alphanumeric(b) || b == b'\'' || b == b'_'
 }
 
 // The bytes of symbolic identifiers: `*` for each that is one.
@@ -31,7 +28,10 @@ pub fn is_symbol(b: u8) -> bool
 pub fn is_hex_digit(b: u8) -> bool
     ensures { result ≡ is_hex_digit b }
 {
-    b.is_ascii_hexdigit()
+    match b {
+        b'A'..=b'F' | b'a'..=b'f' => true,
+        _ => text::is_digit(b),
+    }
 }
 
 // The bytes that stand for themselves in a string constant.

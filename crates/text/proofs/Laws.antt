@@ -3,7 +3,7 @@ use Prim.Native.Nat.{ℕ, zero, suc, ◌+◌, ◌-◌, ◌≤◌, ◌<◌, zero-
 use native.Mathlib.Numerals.{add-one}
 use native.Mathlib.Omega.{arith}
 use mathlib.Core.Path.{◌≡◌, refl, sym, ap, ◌∙◌}
-use mathlib.Core.Bool.{Bool, true, false, ◌&&◌, ◌||◌, and-false, false≢true}
+use mathlib.Core.Bool.{Bool, true, false, not, ◌&&◌, ◌||◌, and-false, false≢true}
 use mathlib.Core.List.{List, [], ◌∷◌, ◌++◌, map, reverse, reverse-append, reverse-reverse}
 use lib.Dec.{leb, eqb}
 use lib.Pointwise.{pointwise}
@@ -11,7 +11,7 @@ use lib.ListN.{length, get_or, take, drop, set, length-take, length-drop, length
 use lib.Seq.{take_all, drop_at, paste, paste-suc}
 use borrow.Author.Tests.{lt-leb, eq-eqb, eqb-true, leb-true}
 use Rattle.text.proofs.Computed.{and_right}
-use Rattle.text.specs.Bytes.{between, is_letter, is_digit, letter_entry, digit_entry, other_entry, class_of, classes_from, class_table, same_bytes, first_is, white_space, starts_with, leading, strip_from, strip, trim_start, trim_end, trim}
+use Rattle.text.specs.Bytes.{bytes, between, is_letter, is_digit, letter_entry, digit_entry, other_entry, class_of, classes_from, class_table, same_bytes, first_is, white_space, starts_with, leading, strip_from, strip, trim_start, trim_end, trim}
 
 -- Two different constructors are not equal: from an equation of theirs `cc` proves `0 ≡ 1`.
 pub never : {A : Type 0} → ◌≡◌ {A = ℕ} 0 1 → A
@@ -36,6 +36,17 @@ entry : (b : ℕ) → b < 256 → get_or class_table b 0 ≡ class_of b
 unfolding class_table
 entry b h = entry_from 0 256 b h ∙ ap class_of (omega arith)
 
+-- The table that the code has.
+abbrev table : List ℕ
+table = bytes "------------------------------------------------9999999999-------aaaaaaaaaaaaaaaaaaaaaaaaaa------aaaaaaaaaaaaaaaaaaaaaaaaaa-------------------------------------------------------------------------------------------------------------------------------------"
+
+pub table_is : table ≡ class_table
+unfolding bytes between is_letter is_digit class_of classes_from class_table
+table_is = refl
+
+pub class_at : (b : ℕ) → b < 256 → get_or table b 0 ≡ class_of b
+class_at b h = ap (λ (t : List ℕ). get_or t b 0) table_is ∙ entry b h
+
 -- No digit is a letter.
 digit-no_letter : (b : ℕ) → is_digit b ≡ true → is_letter b ≡ false
 unfolding is_digit is_letter between
@@ -45,7 +56,7 @@ digit-no_letter b e = go (leb b 57) refl
     go true f = let high = leb-true b 57 f in rw (lt-leb 65 b (omega (arith, high)), lt-leb 97 b (omega (arith, high)))
     go false f = absurd (false≢true (sym (and-false (leb 48 b)) ∙ (rw f at e)))
 
-class_letter : (b : ℕ) → eqb (class_of b) letter_entry ≡ is_letter b
+pub class_letter : (b : ℕ) → eqb (class_of b) letter_entry ≡ is_letter b
 unfolding class_of
 class_letter b = go (is_letter b) (is_digit b) refl
   where
@@ -54,9 +65,9 @@ class_letter b = go (is_letter b) (is_digit b) refl
     go false true e = refl
     go false false e = refl
 
-class-digit : (b : ℕ) → eqb (class_of b) digit_entry ≡ is_digit b
+pub class_digit : (b : ℕ) → eqb (class_of b) digit_entry ≡ is_digit b
 unfolding class_of
-class-digit b = go (is_letter b) (is_digit b) refl refl
+class_digit b = go (is_letter b) (is_digit b) refl refl
   where
     go : (l d : Bool) → is_letter b ≡ l → is_digit b ≡ d → eqb (elim l as (λ x. ℕ) [ true ↦ letter_entry | false ↦ elim d as (λ x. ℕ) [ true ↦ digit_entry | false ↦ other_entry ] ]) digit_entry ≡ d
     go true true e f = absurd (false≢true (sym (digit-no_letter b f) ∙ e))
@@ -64,11 +75,14 @@ class-digit b = go (is_letter b) (is_digit b) refl refl
     go false true e f = refl
     go false false e f = refl
 
-pub letter_at : (b : ℕ) → b < 256 → eqb (get_or class_table b 0) letter_entry ≡ is_letter b
-letter_at b h = ap (λ (x : ℕ). eqb x letter_entry) (entry b h) ∙ class_letter b
-
-pub digit_at : (b : ℕ) → b < 256 → eqb (get_or class_table b 0) digit_entry ≡ is_digit b
-digit_at b h = ap (λ (x : ℕ). eqb x digit_entry) (entry b h) ∙ class-digit b
+pub class_other : (b : ℕ) → not (eqb (class_of b) other_entry) ≡ (is_letter b || is_digit b)
+unfolding class_of
+class_other b = go (is_letter b) (is_digit b)
+  where
+    go : (l d : Bool) → not (eqb (elim l as (λ x. ℕ) [ true ↦ letter_entry | false ↦ elim d as (λ x. ℕ) [ true ↦ digit_entry | false ↦ other_entry ] ]) other_entry) ≡ (l || d)
+    go true d = refl
+    go false true = refl
+    go false false = refl
 
 -- The first byte.
 pub first-none : (test : ℕ → Bool) (s : List ℕ) → length s ≡ 0 → first_is test s ≡ false

@@ -4,13 +4,13 @@ use native.Mathlib.Nat.{add-zero}
 use native.Mathlib.Numerals.{add-one}
 use native.Mathlib.Omega.{arith}
 use mathlib.Core.Path.{◌≡◌, refl, sym, ap, ◌∙◌}
-use mathlib.Core.Bool.{Bool, true, false, not, ◌&&◌, false≢true}
-use mathlib.Core.List.{List, [], ◌∷◌}
+use mathlib.Core.Bool.{Bool, true, false, not, ◌&&◌, and-true, false≢true}
+use mathlib.Core.List.{List, [], ◌∷◌, ◌++◌}
 use Rattle.std.specs.Prelude.{None, Some}
 use lib.ListN.{length, get_or, take, drop, drop_of_length-le, length-drop}
 use lib.Seq.{drop-cons, drop-drop}
 use borrow.Author.Tests.{le-leb}
-use Rattle.text.specs.Utf8.{Range, ◌‥◌, is_in, well_formed, fits, width_in, char_at, broken_from, first_broken, is_inside, boundary}
+use Rattle.text.specs.Utf8.{Range, ◌‥◌, is_in, continuation, well_formed, fits, width_in, char_at, broken_from, first_broken, is_inside, boundary}
 use Rattle.text.specs.Bytes.{between}
 use Rattle.text.specs.Promises.Utf8.{ranges}
 use Rattle.text.specs.WellFormed.{Ascii}
@@ -18,6 +18,17 @@ use Rattle.text.proofs.Computed.{and_right}
 use Rattle.text.proofs.Laws.{take_rest}
 
 -- ---- rows
+-- The first ranges of a row, and those behind them.
+pub fits_more : (u v : List Range) (t : List ℕ) → fits (u ++ v) t ≡ (fits u t && fits v (drop (length u) t))
+unfolding fits
+fits_more [] v t = refl
+fits_more (r ∷ u) v [] = refl
+fits_more (r ∷ u) v (b ∷ t) = go (is_in r b) (fits_more u v t)
+  where
+    go : (x : Bool) → fits (u ++ v) t ≡ (fits u t && fits v (drop (length u) t)) → (x && fits (u ++ v) t) ≡ (x && fits u t && fits v (drop (length u) t))
+    go true ih = ih
+    go false ih = refl
+
 -- A row as the code has it: too few bytes; its range at an offset, and those behind it.
 pub row_short : (row : List (ℕ × ℕ)) (s : List ℕ) → length s < length row → false ≡ fits (ranges row) s
 unfolding fits
@@ -128,6 +139,12 @@ unfolding first_broken
 ascii_whole t h = ascii_from 0 t h
 
 -- ---- boundaries
+-- A text that starts inside a character, as a row.
+pub inside_is : (t : List ℕ) → is_inside t ≡ fits (continuation ∷ []) t
+unfolding is_inside fits
+inside_is [] = refl
+inside_is (b ∷ t) = sym (and-true (is_in continuation b))
+
 module _ (s : List ℕ) (i : ℕ) where
   pub boundary_end : length s ≤ i → true ≡ boundary s i
   unfolding boundary is_inside

@@ -262,7 +262,7 @@ fn app_exp(page: &Page, out: &mut [u8], ink: &mut Ink, at: usize, cfg: Cfg) -> S
 {
     let s1 = match get_exp(page, out, ink, at, cfg) {
         Ok(s) => s,
-        Err(why) => return Err(asked_first(page, at, why)),
+        Err(why) => return asked_first(page, at, Err(why)),
     };
     let (func, arg) = heads_behind(page, at, s1)?;
     let bang = func_is_bang(page, func);

@@ -5,6 +5,7 @@ use Rattle.std.specs.Borrow.{Bor, MutBor}
 use Prim.Native.String.{String}
 use denote.Triple.Both.{Both}
 use Rattle.reader.specs.Tokens.{count_of as tokens_in}
+use Rattle.reader.specs.Promises.Tokens.{starts_of, lengths_of}
 use Rattle.text.specs.Bytes.{bytes}
 use Rattle.layout.specs.declared.Page as Code
 use Rattle.layout.specs.declared.Cfg.{Cfg}
@@ -18,7 +19,12 @@ use Rattle.layout.specs.Promises.State.{run_of, effect, cfg_of, Walked, Does, Pu
 
 -- The sheet that is lent.
 abbrev pub page_in : Code.Page → Page
-page_in p = record { text = p.text.now; rec = p.rec.now; tokens = p.tokens.now }
+page_in p =
+    record {
+      text = p.text.now;
+      rec = p.rec.now;
+      tokens = record { kinds = p.kinds.now; starts = starts_of p.spans.now; lengths = lengths_of p.spans.now };
+    }
 
 abbrev pub Lent : Type 0
 Lent = Both (Bor Code.Page) (Bor Code.Page)

@@ -54,13 +54,16 @@ heads_from rec n fields arg =
     [ Some m ↦ Meaning.both_seen (Meaning.head_of rec n fields) (Meaning.head_of rec m (arg + 1)) | None ↦ missing arg ])
 
 -- The first stands at an offset, where its walk ended at another.
-unfoldable pub heads_behind : List ℕ → ℕ → ℕ → Result (Option Code.Name × Option Code.Name) Stop
-heads_behind rec func arg =
-    elim (form_at rec Exp func) [ Some n ↦ heads_of (Meaning.heads_from rec n func arg) | None ↦ Err (Absent func) ]
+unfoldable pub seen_behind : List ℕ → ℕ → ℕ → Heads
+seen_behind rec func arg =
+    elim (form_at rec Exp func) [ Some n ↦ Meaning.heads_from rec n func arg | None ↦ missing func ]
+
+abbrev pub heads_behind : List ℕ → ℕ → ℕ → Result (Option Code.Name × Option Code.Name) Stop
+heads_behind rec func arg = heads_of (seen_behind rec func arg)
 
 abbrev pub heads_at : List ℕ → ℕ → ℕ → Result (Option Code.Name × Option Code.Name) Stop
 heads_at rec count func = heads_of (Meaning.heads_at rec count func)
 
--- Where AppExp stops whose first expression stopped: what it asks for before it walks into that goes first.
-unfoldable pub asked_first : List ℕ → ℕ → ℕ → Stop → Stop
-asked_first rec count func stopped = elim (heads_at rec count func) [ Ok heads ↦ stopped | Err why ↦ why ]
+-- Where AppExp goes on whose first expression gave an answer: what it asks for before it walks into that goes first.
+unfoldable pub asked_first : List ℕ → ℕ → ℕ → Result ℕ Stop → Result ℕ Stop
+asked_first rec count func answer = elim (heads_at rec count func) [ Ok heads ↦ answer | Err why ↦ Err why ]

@@ -1,9 +1,9 @@
 -- What the walk's functions do to what is lent to them, event by event.
 -- Their sums wrap; proofs/Exact says that below the limits they are the sums of Events.
-use Rattle.std.specs.Prelude.{◌≡◌, ℕ, ◌+◌, ◌-◌, ◌*◌, ◌%◌, max, Bool, true, false, cond, List, [], ◌∷◌, length, replicate, nat_le, Option, None, Some, Result, Ok, Err}
+use Rattle.std.specs.Prelude.{◌≡◌, ℕ, ◌+◌, ◌-◌, ◌*◌, ◌/◌, ◌%◌, max, Bool, true, false, cond, List, [], ◌∷◌, length, replicate, nat_le, nat_lt, slice_index, slice_set, Option, None, Some, Result, Ok, Err}
 use Rattle.std.proofs.Math.Seq.{paste}
 use Rattle.text.specs.Bytes.{bytes}
-use Rattle.comments.specs.Set.{holds, words_of, without}
+use Rattle.comments.specs.Set.{clear}
 use Rattle.layout.specs.declared.Cfg.{Cfg}
 use Rattle.layout.specs.declared.Ink.{Ink}
 use Rattle.layout.specs.declared.Stop as Code
@@ -29,7 +29,7 @@ sum_of a b = (a + b) % 0x1_0000_0000_0000_0000
 
 -- The width of indents, by the sum of their depths.
 abbrev pub width_of : ℕ → ℕ → ℕ
-width_of tab units = tab * (units % 0x1_0000_0000)
+width_of tab units = tab % 0x1_0000_0000 * (units % 0x1_0000_0000)
 
 -- Where an indent ends that starts at the position.
 abbrev pub indent_end : ℕ → Ink → ℕ
@@ -44,9 +44,12 @@ add_units d i = record i { position = indent_end d i; units = sum_of i.units d }
 abbrev pub deepened : ℕ → Ink → Ink
 deepened d i = record i { deepest = max i.deepest d }
 
--- The comments left without the token.
+-- The words of a set without the token. The comments left without it.
+abbrev pub struck_words : ℕ → List ℕ → List ℕ
+struck_words k ws = cond (nat_lt (k / 64) 64) (slice_set ws (k / 64) (clear (slice_index ws (k / 64)) (k % 64))) ws
+
 abbrev pub struck : ℕ → Ink → Ink
-struck k i = record i { left = record { words = words_of (without (holds i.left.words) k) } }
+struck k i = record i { left = record { words = struck_words k i.left.words } }
 
 -- A piece in the output at an offset, where it fits.
 abbrev pub placed : List ℕ → ℕ → List ℕ → List ℕ

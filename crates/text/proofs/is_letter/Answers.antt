@@ -1,9 +1,6 @@
--- `text::is_letter` meets its contract: the table is the class of each byte, by computation; then by the rule of the table. Assumes nothing.
-use borrow.Author.Rules.{rules}
-use Rattle.text.specs.Bytes.{between, is_letter, is_digit, class_of, classes_from, class_table}
-use Rattle.text.proofs.Laws.{letter_at}
+-- `text::is_letter` meets its contract, by the class of the byte. Assumes nothing.
+use Rattle.text.proofs.Laws.{class_letter}
 use Rattle.text.proofs.is_letter.Goals as goal
 
 pub returns : goal.returns
-unfolding between is_letter is_digit class_of classes_from class_table
-returns c = letter_at c.args.b (search rules)
+returns c = rw c.class_of.ensures (class_letter c.args.b)
