@@ -395,6 +395,36 @@ module _ {p : Page} {keep : Bool} where
   unfolding items
   items_none w more e = rw e last_skip
 
+-- What is left of n items behind the first j of them.
+unfoldable pub items_from : ℕ → ℕ → Layout → Layout → Layout
+items_from zero n w more = items n w more
+items_from (suc j) n w more = times (n - suc j) more
+
+behind_one : (w more : Layout) (j n : ℕ) → items_from (j + 1) n w more ≡ times (n - (j + 1)) more
+unfolding items_from
+behind_one w more j n =
+    let q : j + 1 ≡ suc j = omega arith in
+    rw q refl
+
+module _ {p : Page} {keep : Bool} (w more : Layout) where
+  -- The first item; a later one; none.
+  pub first_item : {j n : ℕ} {g : Run} {r : Result ℕ Code.Stop} {i : Ink} {o : List ℕ} → j ≤ 0 → j < n
+      → Walked keep p (w ⨾ items_from (j + 1) n w more) g r i o → Walked keep p (items_from j n w more) g r i o
+  unfolding items_from
+  first_item {j = zero} {n} {g} {r} {i} {o} e h x = items_some w more (λ f. omega (f, h, arith)) (subst (λ z. Walked keep p (w ⨾ z) g r i o) (behind_one w more 0 n) x)
+  first_item {j = suc j} e h x = absurd (omega (e, arith))
+
+  pub later_item : {j n : ℕ} {g : Run} {r : Result ℕ Code.Stop} {i : Ink} {o : List ℕ} → 0 < j → j < n
+      → Walked keep p (more ⨾ items_from (j + 1) n w more) g r i o → Walked keep p (items_from j n w more) g r i o
+  unfolding items_from
+  later_item {j = zero} e h x = absurd (omega (e, arith))
+  later_item {j = suc j} {n} {g} {r} {i} {o} e h x = times_more more h (subst (λ z. Walked keep p (more ⨾ z) g r i o) (behind_one w more (suc j) n) x)
+
+  pub no_item : {j n a : ℕ} {i : Ink} {o : List ℕ} → n ≤ j → Walked keep p (items_from j n w more) (run_of a i o) (Ok a) i o
+  unfolding items_from
+  no_item {j = zero} e = items_none w more (omega (e, arith))
+  no_item {j = suc j} e = times_none more e
+
 -- Items without a joint are items with one that writes nothing.
 module _ (p : Page) (w : Layout) where
   skipped : (g : Run) → runs p (skip ⨾ w) g ≡ runs p w g

@@ -15,12 +15,11 @@ where
     requires item { F.IsAlwaysCallable item }
     ensures { Items (J.post joint) (F.post item) out ink n at result }
 {
-    if n == 0 {
-        return Ok(at);
-    }
-    let mut s = item(out, ink, at)?;
-    for i in 1..n {
-        joint(out, ink);
+    let mut s = at;
+    for i in 0..n {
+        if 0 < i {
+            joint(out, ink);
+        }
         s = item(out, ink, s)?;
     }
     Ok(s)

@@ -13,10 +13,11 @@ ghost use Rattle.reader.specs.Tokens.{count_of};
 ghost use Rattle.layout.specs.Layout.{output_indent, formed};
 ghost use Rattle.layout.specs.Meaning.{token_text};
 ghost use Rattle.layout.specs.Promises.Lent.{page_in, puts, writes, forms, strikes_comment, writes_token};
-ghost use Rattle.layout.specs.Promises.State.{sum_of, width_of, struck, placed, spaced, Deeper};
+ghost use Rattle.layout.specs.Promises.State.{sum_of, width_of, struck, placed, spaced, piece_of, Deeper};
 
 use comments::{Set, cleared};
 use reader::tokens::Span;
+use text::at::part;
 use text::trim;
 
 // What a walk reads: a text, its record, the record's tokens by their kinds and their spans, of any number.
@@ -53,7 +54,26 @@ impl<'a> Page<'a> {
     pub fn text_of(&self, k: usize) -> &'a [u8]
         ensures { result.now ≡ token_text (page_in self.now) k }
     {
-        self.span(k).of(self.text)
+        let span = self.span(k);
+        let which = Piece::Text(span.start as usize, span.len as usize);
+        piece_of(b"", self.text, which)
+    }
+}
+
+// Where a piece to write stands: in a run of fixed words or in the text, from an offset on and of a length.
+#[derive(Clone, Copy, Debug, PartialEq, Eq)]
+pub enum Piece {
+    Word(usize, usize),
+    Text(usize, usize),
+}
+
+// The piece, as a part of one of the two runs lent.
+pub fn piece_of<'a>(run: &'a [u8], text: &'a [u8], which: Piece) -> &'a [u8]
+    ensures { result.now ≡ piece_of run.now text.now which }
+{
+    match which {
+        Piece::Word(a, n) => part(run, a, n),
+        Piece::Text(a, n) => part(text, a, n),
     }
 }
 
@@ -137,12 +157,19 @@ impl Ink {
         self.position.wrapping_sub(width(self.tab, self.units))
     }
 
-    // Writes a piece: a fixed word, or the text of a token.
-    pub fn put(&mut self, out: &mut [u8], piece: &[u8])
+    // Writes a piece.
+    fn write(&mut self, out: &mut [u8], piece: &[u8])
         ensures { puts piece out self }
     {
         copy_in(out, self.position, piece);
         self.position = self.position.wrapping_add(piece.len() as u64);
+    }
+
+    // Writes a fixed word.
+    pub fn put(&mut self, out: &mut [u8], word: &[u8])
+        ensures { puts word out self }
+    {
+        self.write(out, piece_of(word, b"", Piece::Word(0, word.len())));
     }
 
     // Writes an indent at a depth.
@@ -166,7 +193,7 @@ impl Ink {
     pub fn token(&mut self, page: &Page, out: &mut [u8], k: usize)
         ensures { writes_token page out self k }
     {
-        self.put(out, page.text_of(k));
+        self.write(out, page.text_of(k));
     }
 
     // Strikes a token out of the comments left, in its word: `Set::without` would copy the set, in a frame of each declaration.
@@ -184,6 +211,6 @@ impl Ink {
         ensures { strikes_comment page out self k }
     {
         self.strike(k);
-        self.put(out, trim(page.text_of(k)));
+        self.write(out, trim(page.text_of(k)));
     }
 }

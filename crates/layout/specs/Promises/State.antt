@@ -1,11 +1,12 @@
 -- What the walk's functions do to what is lent to them, event by event.
 -- Their sums wrap; proofs/Exact says that below the limits they are the sums of Events.
-use Rattle.std.specs.Prelude.{◌≡◌, ℕ, ◌+◌, ◌-◌, ◌*◌, ◌/◌, ◌%◌, max, Bool, true, false, cond, List, [], ◌∷◌, length, replicate, nat_le, nat_lt, slice_index, slice_set, Option, None, Some, Result, Ok, Err}
+use Rattle.std.specs.Prelude.{◌≡◌, ℕ, ◌+◌, ◌-◌, ◌*◌, ◌/◌, ◌%◌, max, Bool, true, false, cond, List, [], ◌∷◌, length, take, drop, replicate, nat_le, nat_lt, slice_index, slice_set, Option, None, Some, Result, Ok, Err}
 use Rattle.std.proofs.Math.Seq.{paste}
 use Rattle.text.specs.Bytes.{bytes}
 use Rattle.comments.specs.Set.{clear}
 use Rattle.layout.specs.declared.Cfg.{Cfg}
 use Rattle.layout.specs.declared.Ink.{Ink}
+use Rattle.layout.specs.declared.Piece.{Piece}
 use Rattle.layout.specs.declared.Stop as Code
 use Rattle.layout.specs.declared.Stop.TheVariants as Why
 use Rattle.reader.specs.declared.commands.Declaration.{Declaration}
@@ -58,6 +59,11 @@ placed o at w = cond (nat_le (at + length w) (length o)) (paste o at w (length w
 -- Spaces in the output from an offset to another, where they fit.
 abbrev pub spaced : List ℕ → ℕ → ℕ → List ℕ
 spaced o at end = cond (nat_le end (length o)) (paste o at (replicate (end - at) 32) (end - at)) o
+
+-- A part of one of two runs of bytes.
+abbrev pub piece_of : List ℕ → List ℕ → Piece → List ℕ
+piece_of run text (Piece.Word a n) = take n (drop a run)
+piece_of run text (Piece.Text a n) = take n (drop a text)
 
 -- The state of a run: the cursor, what is written beside the output, the output.
 pub record Run : Type 0 where
