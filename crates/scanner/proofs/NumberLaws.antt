@@ -1,5 +1,5 @@
 -- Laws of the longest number. Assumes nothing.
-use Prim.Native.Nat.{ℕ, zero, suc, ◌+◌, ◌<◌}
+use Prim.Native.Nat.{ℕ, zero, suc, ◌+◌, ◌-◌, ◌<◌, ◌≤◌}
 use native.Mathlib.Omega.{arith}
 use mathlib.Core.Path.{◌≡◌, refl, sym, ap, ap₂, ◌∙◌}
 use mathlib.Core.Logic.{◌⊎◌, inl, inr, ⊎_elim}
@@ -8,13 +8,14 @@ use mathlib.Core.List.{List, [], ◌∷◌}
 use Rattle.std.specs.Prelude.{Option, None, Some}
 use lib.Dec.{eqb}
 use lib.Pointwise.{pointwise}
-use lib.ListN.{length, take, drop}
+use lib.ListN.{length, take, drop, get_or}
 use Rattle.text.specs.Bytes.{bytes, between, is_digit, first_is}
 use Rattle.scanner.specs.Parts.{is_empty, every, one_or_more, behind, is_one_of}
 use Rattle.scanner.specs.Constants.{is_hex_digit, unsigned, is_decimal, digits_then, is_exponent, is_fraction, is_word}
 use Rattle.scanner.specs.Promises.Reach.{longer, reach, taken, run, is_hexadecimal, is_magnitude, positive}
-use borrow.Author.Tests.{eqb-true}
+use borrow.Author.Tests.{eqb-true, eq-eqb}
 use Rattle.text.proofs.Computed.{and_left}
+use Rattle.text.proofs.Laws.{take_rest}
 use Rattle.scanner.proofs.Bytes.{apart, apart_all}
 use Rattle.scanner.proofs.ReachLaws.{reach-within, found-behind, taken-behind, behind-within, longer-longer, longer-zero, best, best_none, empty, reach-nil, reach-same, reach-first, reach-some, reach_step, reach-none, reach_here, reach-or, reach-positive, run-yes, run-no, taken-positive, reach-more, behind-no, behind-two, starts, reach-behind-yes, reach-behind-no, strip_no, strip_yes, wins}
 
@@ -464,14 +465,43 @@ pub fraction_absent : (s : List ℕ) → pointwise eqb (take 1 s) (46 ∷ []) �
 unfolding is_fraction bytes
 fraction_absent s h = strip_no (digits_then (λ r. is_empty r || is_exponent r)) (46 ∷ []) s h
 
-pub ruleset decimal_laws = (decimal-signed, decimal-plain)
+-- ---- words by the bytes that stand there
+pub one_there : (s : List ℕ) {c : ℕ} → 1 ≤ length s → get_or s 0 0 ≡ c → pointwise eqb (take 1 s) (c ∷ []) ≡ true
+one_there [] h e = absurd (omega (h, arith))
+one_there (a ∷ s) h e = rw (eq-eqb _ _ e) refl
+
+two_there : (s : List ℕ) {c d : ℕ} → 2 ≤ length s → get_or s 0 0 ≡ c → get_or s 1 0 ≡ d → pointwise eqb (take 2 s) (c ∷ d ∷ []) ≡ true
+two_there [] h e f = absurd (omega (h, arith))
+two_there (a ∷ []) h e f = absurd (omega (h, arith))
+two_there (a ∷ b ∷ s) h e f = rw (eq-eqb _ _ e, eq-eqb _ _ f) refl
+
+pub decimal_there : (s : List ℕ) → 1 ≤ length s → get_or s 0 0 ≡ 126 → reach is_decimal s ≡ longer 1 (reach (one_or_more is_digit) (take (length s - 1) (drop 1 s)))
+decimal_there s h e = decimal-signed s (one_there s h e) (take_rest s 1)
+
+pub hexadecimal_there : (s : List ℕ) → 2 ≤ length s → get_or s 0 0 ≡ 48 → get_or s 1 0 ≡ 120
+    → reach is_hexadecimal s ≡ longer 2 (reach (one_or_more is_hex_digit) (take (length s - 2) (drop 2 s)))
+hexadecimal_there s h e f = hexadecimal-part s (two_there s h e f) (take_rest s 2)
+
+module _ (s : List ℕ) (h : 2 ≤ length s) (e : get_or s 0 0 ≡ 48) (f : get_or s 1 0 ≡ 119) where
+  pub word_hex_there : {t : List ℕ} → pointwise eqb (take 1 (take (length s - 2) (drop 2 s))) (120 ∷ []) ≡ true → t ≡ drop 1 (take (length s - 2) (drop 2 s))
+      → reach is_word s ≡ longer 3 (reach (one_or_more is_hex_digit) t)
+  word_hex_there x t = word-hex s (two_there s h e f) (take_rest s 2) x t
+
+  pub word_digits_there : pointwise eqb (take 1 (take (length s - 2) (drop 2 s))) (120 ∷ []) ≡ false
+      → reach is_word s ≡ longer 2 (reach (one_or_more is_digit) (take (length s - 2) (drop 2 s)))
+  word_digits_there x = word-digits s (two_there s h e f) (take_rest s 2) x
+
+pub fraction_none_there : (s : List ℕ) → 1 ≤ length s → get_or s 0 0 ≡ 46 → reach (one_or_more is_digit) (take (length s - 1) (drop 1 s)) ≡ None → reach is_fraction s ≡ None
+fraction_none_there s h e = fraction-none s (one_there s h e) (take_rest s 1)
+
+pub ruleset decimal_laws = (decimal_there, decimal-plain)
 
 pub ruleset exponent_laws = (exponent-end, exponent-other, exponent-part, reach-within)
 
-pub ruleset word_laws = (word-other, word-hex, word-digits)
+pub ruleset word_laws = (word-other, word_hex_there, word_digits_there)
 
-pub ruleset hexadecimal_laws = (hexadecimal-part, hexadecimal_absent)
+pub ruleset hexadecimal_laws = (hexadecimal_there, hexadecimal_absent)
 
-pub ruleset fraction_laws = (fraction_absent, fraction-none)
+pub ruleset fraction_laws = (fraction_absent, fraction_none_there)
 
 pub ruleset magnitude_laws = (magnitude-hex, magnitude-none, magnitude-tail, tail_fraction, reach-within, found-behind, taken-behind, behind-within)

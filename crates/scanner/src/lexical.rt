@@ -132,12 +132,12 @@ fn other(rest: &[u8], b: u8) -> Option<usize>
     }
 }
 
-// The length of the longest token at the start, where one begins there.
+// The length of the longest token at the start, where one begins there. A prime is asked for last: few tokens start with one.
 pub fn token_length(rest: &[u8]) -> Option<usize>
     ensures { result ≡ positive (longest rest.now) }
 {
     let b = *rest.first()?;
-    if text::is_letter(b) || b == b'\'' {
+    if text::is_letter(b) {
         return Some(run(rest, 1, is_alphanumeric));
     }
     if text::is_digit(b) {
@@ -145,6 +145,9 @@ pub fn token_length(rest: &[u8]) -> Option<usize>
     }
     if text::is_space(b) {
         return Some(spaces(rest, 1));
+    }
+    if b == b'\'' {
+        return Some(run(rest, 1, is_alphanumeric));
     }
     other(rest, b)
 }

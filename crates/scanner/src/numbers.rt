@@ -19,9 +19,9 @@ fn digits(s: &[u8]) -> Option<usize>
 fn decimal(s: &[u8]) -> Option<usize>
     ensures { result ≡ reach is_decimal s.now }
 {
-    match s.strip_prefix(b"~") {
-        Some(rest) => Some(1 + digits(rest)?),
-        None => digits(s),
+    match s {
+        [b'~', rest @ ..] => Some(1 + digits(rest)?),
+        _ => digits(s),
     }
 }
 
@@ -48,7 +48,9 @@ fn exponent(s: &[u8]) -> Option<usize>
 fn fraction(s: &[u8]) -> Option<usize>
     ensures { result ≡ reach is_fraction s.now }
 {
-    let rest = s.strip_prefix(b".")?;
+    let [b'.', rest @ ..] = s else {
+        return None;
+    };
     let n = digits(rest)?;
     Some(1 + n + exponent(&rest[n..]).unwrap_or(0))
 }
@@ -58,7 +60,9 @@ fn fraction(s: &[u8]) -> Option<usize>
 fn hexadecimal(s: &[u8]) -> Option<usize>
     ensures { result ≡ reach is_hexadecimal s.now }
 {
-    let rest = s.strip_prefix(b"0x")?;
+    let [b'0', b'x', rest @ ..] = s else {
+        return None;
+    };
     Some(2 + run_of_some(rest, is_hex_digit)?)
 }
 
@@ -83,7 +87,9 @@ pub fn magnitude(s: &[u8]) -> Option<usize>
 pub fn word(s: &[u8]) -> Option<usize>
     ensures { result ≡ reach is_word s.now }
 {
-    let rest = s.strip_prefix(b"0w")?;
+    let [b'0', b'w', rest @ ..] = s else {
+        return None;
+    };
     match rest.strip_prefix(b"x") {
         Some(hex) => Some(3 + run_of_some(hex, is_hex_digit)?),
         None => Some(2 + digits(rest)?),

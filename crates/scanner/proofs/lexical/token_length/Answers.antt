@@ -1,14 +1,12 @@
 -- `token_length` meets its contract, by the first byte. Assumes nothing.
 use native.Mathlib.Omega.{arith}
-use mathlib.Core.Path.{◌≡◌, sym, ap, ◌∙◌}
-use mathlib.Core.Bool.{true}
+use mathlib.Core.Path.{sym, ap, ◌∙◌}
 use mathlib.Core.List.{List}
 use Prim.Native.Nat.{ℕ}
 use lib.ListN.{get_or}
 use Rattle.scanner.specs.Lexical.{is_alphanumeric_byte}
 use Rattle.scanner.proofs.ReachLaws.{some_of}
-use Rattle.scanner.proofs.TokenLaws.{starts_name, start, longest-empty, longest-space, longest-name, name-letter, name-prime}
-use Rattle.scanner.proofs.lexical.token_length.Goals.{then-is_letter-via-then-is_letter, then-is_letter-via-else-is_letter+then-b-eq39}
+use Rattle.scanner.proofs.TokenLaws.{start, longest-empty, longest-space, longest-name, name-letter, name-prime}
 use Rattle.scanner.proofs.lexical.token_length.Goals as goal
 
 pub returns-in_err-b : goal.returns-in_err-b
@@ -16,15 +14,19 @@ returns-in_err-b c = c.from_residual.ensures ∙ longest-empty c.args.rest.now c
 
 pub returns-then-is_letter : goal.returns-then-is_letter
 returns-then-is_letter c =
-    let rest = c.args.rest.now in
-    let b = c.in_ok-b.field-0.now in
     let s = start c.args.rest.now c.in_ok-b.ensures.value in
     let e = c.run.ensures is_alphanumeric_byte (λ b r e. e) in
-    let name : starts_name b ≡ true = elim c.then-is_letter.branch [
-      | then-is_letter-via-then-is_letter w ↦ name-letter b (sym c.is_letter.ensures ∙ w.if-is_letter.true)
-      | then-is_letter-via-else-is_letter+then-b-eq39 w ↦ name-prime b w.if-b-eq39.true
-    ] in
-    some_of (e ∙ sym (longest-name rest b s (omega (arith, c.type_inv.rest 0, ap (λ (l : List ℕ). get_or l 0 0) s)) name)) (omega (arith, e))
+    some_of
+    (e ∙ sym (longest-name c.args.rest.now c.in_ok-b.field-0.now s (omega (arith, c.type_inv.rest 0, ap (λ (l : List ℕ). get_or l 0 0) s)) (name-letter c.in_ok-b.field-0.now (sym c.is_letter.ensures ∙ c.if-is_letter.true))))
+    (omega (arith, e))
+
+pub returns-then-b-eq39 : goal.returns-then-b-eq39
+returns-then-b-eq39 c =
+    let s = start c.args.rest.now c.in_ok-b.ensures.value in
+    let e = c.run-then-b-eq39.ensures is_alphanumeric_byte (λ b r e. e) in
+    some_of
+    (e ∙ sym (longest-name c.args.rest.now c.in_ok-b.field-0.now s (omega (arith, c.type_inv.rest 0, ap (λ (l : List ℕ). get_or l 0 0) s)) (name-prime c.in_ok-b.field-0.now c.if-b-eq39.true)))
+    (omega (arith, e))
 
 pub number-requires : goal.number-requires
 number-requires c = record { rest_value = start c.args.rest.now c.in_ok-b.ensures.value; b_value = sym c.is_digit.ensures ∙ c.if-is_digit.true }
