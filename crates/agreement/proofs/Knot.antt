@@ -81,10 +81,14 @@ heads-behind p n low c func arg es walked =
     let fits = form-fits p.rec func Exp k f in
     (ends_more p.rec (count p) n max_forms low true (Fields.form Exp) func (omega (arith, fits)) arg passes).0)
 
--- The same of a run that ended, of what the code asks for.
+-- The same of what the code asks for; and of a run that ended.
+pub heads_walked : (p : Page) (n : ℕ) → n ≤ 200 → (c : Cfg) (func arg : ℕ) (es : List Event) → outcome p ((walks n).get_exp c) func ≡ done arg es
+    → heads_behind p.rec func arg ≡ heads_at p.rec (count p) func
+heads_walked p n low c func arg es walked = ap heads_of (heads-behind p n low c func arg es walked)
+
 pub heads_seen : {p : Page} (n : ℕ) (c : Cfg) {func arg : ℕ} {i i' : Ink} {o o' : List ℕ} {x : Result ℕ Stop} → n ≤ 200
     → Walked false p ((walks n).get_exp c) (run_of func i o) x i' o' → x ≡ Ok arg → heads_behind p.rec func arg ≡ heads_at p.rec (count p) func
-heads_seen {p} n c {func} {arg} low w t = let walked = leads w t in ap heads_of (heads-behind p n low c func arg walked.0 walked.1)
+heads_seen {p} n c {func} {arg} low w t = let walked = leads w t in heads_walked p n low c func arg walked.0 walked.1
 
 -- ---- the whole record
 module _ (p : Page) (tree : ℕ) where

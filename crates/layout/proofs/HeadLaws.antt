@@ -15,7 +15,7 @@ use Rattle.layout.specs.Layout.{Layout, ◌⨾◌, application, operator, is_pip
 use Rattle.layout.specs.Meaning as Meaning
 use Rattle.layout.specs.Meaning.{Page, Event, Token, Outcome, done, stopped, Stop, after, bind, or_stop, outcome, Head, path_exp, other_exp, Heads, both, missing, passes, func_is_bang, arg_is_symbolic, operated}
 use Rattle.layout.specs.Promises.State.{Run, run_of, effect, effects, Ran, went, fell, run, runs, why_of, ended, shown, Walked, Sure, Operated, read_of}
-use Rattle.layout.specs.Promises.Looks.{seen_as, head, heads_of, seen_behind, heads_at, asked_first}
+use Rattle.layout.specs.Promises.Looks.{seen_as, head, heads_of, seen_behind, heads_behind, heads_at, asked_first}
 use Rattle.layout.proofs.Steps.{and_then, run_at, run_after, run_bind, runs_then, Handed, handed_on, shown_went, shown_fell, some_of, none_of}
 
 -- ---- what a walk's answer says of the run
@@ -50,6 +50,11 @@ behind_end rec count func arg h = go (form_at rec Exp func) refl
     go (Some n) q = rw (q, seen_behind, Meaning.heads_at, h n q) refl
     go None q = rw (q, seen_behind, Meaning.heads_at) refl
 
+-- The same of what the code asks for.
+pub heads_end : (rec : List ℕ) (count func arg : ℕ) → ((n : ℕ) → form_at rec Exp func ≡ Some n → field_end rec count (Fields.form Exp) func ≡ ok arg)
+    → heads_behind rec func arg ≡ heads_at rec count func
+heads_end rec count func arg h = ap heads_of (behind_end rec count func arg h)
+
 abbrev Seen : Type 0
 Seen = Option Names.Name × Option Names.Name
 
@@ -64,6 +69,16 @@ are_both (both h k) f g e =
     let q : ◌≡◌ {A = Seen} (head h, head k) (f, g) = cc in
     ap₂ both (sym (seen_head h) ∙ ap (λ (x : Seen). seen_as x.0) q) (sym (seen_head k) ∙ ap (λ (x : Seen). seen_as x.1) q)
 are_both (missing place) f g e = never (cc)
+
+-- Asked of a stop, the answer is a stop: the one that goes first.
+pub asked_stop : (rec : List ℕ) (count func : ℕ) (why : Code.Stop) {b : Code.Stop} → b ≡ elim (heads_at rec count func) [ Ok heads ↦ why | Err first ↦ first ]
+    → asked_first rec count func (Err why) ≡ Err b
+unfolding asked_first
+asked_stop rec count func why e = go (heads_at rec count func) e
+  where
+    go : (x : Result Seen Code.Stop) {b : Code.Stop} → b ≡ elim x [ Ok heads ↦ why | Err first ↦ first ] → ◌≡◌ {A = Result ℕ Code.Stop} (elim x [ Ok heads ↦ Err why | Err first ↦ Err first ]) (Err b)
+    go (Ok heads) h = ap Err (sym h)
+    go (Err first) h = ap Err (sym h)
 
 module _ {p : Page} {a : ℕ} {i i' : Ink} {o o' : List ℕ} where
   module _ {r : Result ℕ Code.Stop} {k : Bool → Bool → Layout} {x : Result Seen Code.Stop} (e : x ≡ heads_at p.rec (count_of p.tokens) a) where
@@ -100,6 +115,11 @@ module _ {p : Page} {a : ℕ} {i i' : Ink} {o o' : List ℕ} where
       go (missing place) q =
           let d : b ≡ Err (Why.Absent place) = h ∙ rw (q, asked_first, heads_of) refl in
           ap (λ z. shown false (ended z i' o')) d ∙ rw (q, outcome) refl
+
+  -- The same where its stop alone is handed on.
+  pub application_falls : {v : Layout} {w : Bool → Bool → Layout} {x : Result ℕ Code.Stop} {why b : Code.Stop} → Walked false p v (run_of a i o) x i' o' → x ≡ Err why
+      → b ≡ elim (heads_at p.rec (count_of p.tokens) a) [ Ok heads ↦ why | Err first ↦ first ] → Walked false p (application (λ b c. v ⨾ w b c)) (run_of a i o) (Err b) i' o'
+  application_falls {why = why} e f h = application_stop e f (sym (asked_stop p.rec (count_of p.tokens) a why h))
 
 -- ---- an operator that is kept, and the right side behind it
 abbrev kept : Page → Layout → Layout → ℕ → Run → Ran

@@ -1,11 +1,16 @@
 -- The law of one layout after another, and a step for each kind of statement of the walk.
-use Rattle.std.proofs.Common.{◌≡◌, ℕ, zero, suc, ◌+◌, ◌-◌, ◌<◌, ◌≤◌, max, Bool, true, false, List, [], ◌∷◌, ◌++◌, sym, refl, ap, ◌∙◌, subst, arith}
+use Rattle.std.proofs.Common.{◌≡◌, ℕ, zero, suc, ◌+◌, ◌-◌, ◌/◌, ◌^◌, ◌<◌, ◌≤◌, max, Bool, true, false, List, [], ◌∷◌, ◌++◌, length, get_or, sym, refl, ap, ◌∙◌, subst, arith}
+use lib.Dec.{ltb}
+use borrow.Author.Tests.{ltb-true, ltb-false}
 use Rattle.std.specs.Prelude.{Option, None, Some, Result, Ok, Err, IsErr, IsErrAnd}
 use Rattle.std.proofs.lemmas.Result.{err_from_is_err_and}
 use Prim.Native.String.{String}
 use Rattle.text.specs.Bytes.{bytes, trim}
 use Rattle.comments.specs.Above.{found_above, comment_above, comment_in}
 use Rattle.comments.specs.declared.Above.{Above}
+use Rattle.comments.specs.Set.{holds, words_of, without}
+use Rattle.comments.specs.declared.Set.{Set}
+use Rattle.comments.proofs.Words.{words-struck, words-kept}
 use Rattle.layout.specs.Events.{trimmed}
 use Rattle.layout.specs.Meaning.{token_text}
 use Rattle.text.proofs.Laws.{never}
@@ -15,7 +20,7 @@ use Rattle.layout.specs.declared.Stop as Code
 use Rattle.layout.specs.declared.Stop.TheVariants as Why
 use Rattle.layout.specs.Layout.{Layout, skip, ◌⨾◌, word, output_indent, formed, text, group, choice, form, list, maybe, present, Look, look, Test, first_name, halt, import}
 use Rattle.layout.specs.Meaning.{Page, Event, Word, Token, Comment, Formed, Indent, Outcome, done, stopped, Stop, after, bind, or_stop, outcome, sees, name_passes, commented, above_first}
-use Rattle.layout.specs.Promises.State.{Run, run_of, at, effect, effects, Ran, went, fell, run, runs, why_of, ended, shown, Walked, Does, cfg_of, Deeper, Put, Sure, CommentedAbove, read_of, group_of, gone_of, present_of, spaced, sum_of, width_of, struck}
+use Rattle.layout.specs.Promises.State.{Run, run_of, at, effect, effects, Ran, went, fell, run, runs, why_of, ended, shown, Walked, Does, cfg_of, Deeper, Put, Sure, CommentedAbove, read_of, group_of, gone_of, present_of, spaced, sum_of, width_of, struck_words, struck}
 use Rattle.layout.specs.Helpers as Helpers
 use Rattle.layout.specs.Helpers.{times, items, for_each, when}
 use Rattle.layout.specs.Walk.{walks}
@@ -377,6 +382,11 @@ module _ {p : Page} {keep : Bool} where
       let q : n - j ≡ suc (n - (j + 1)) = omega arith in
       rw q h
 
+  -- The same of a joint and an item behind it.
+  pub joined_more : (u w : Layout) {j n : ℕ} {g : Run} {r : Result ℕ Code.Stop} {i : Ink} {o : List ℕ} → j < n
+      → Walked keep p (u ⨾ w ⨾ times (n - (j + 1)) (u ⨾ w)) g r i o → Walked keep p (times (n - j) (u ⨾ w)) g r i o
+  joined_more u w e h = times_more (u ⨾ w) e (regroup h)
+
   pub times_none : (w : Layout) {j n a : ℕ} {i : Ink} {o : List ℕ} → n ≤ j → Walked keep p (times (n - j) w) (run_of a i o) (Ok a) i o
   unfolding times
   times_none w {j} {n} e =
@@ -488,6 +498,14 @@ pub sure_unless : (w : Layout) {i : Ink} {o : List ℕ} {b : Bool} → b ≡ fal
 unfolding when
 sure_unless w e = rw (e, when) sure_skip
 
+-- The words of a set that a token is struck out of are those of the set without it.
+pub struck_without : (k : ℕ) (words : List ℕ) → length words ≡ 64 → ((j : ℕ) → get_or words j 0 < 2 ^ 64) → struck_words k words ≡ words_of (without (holds words) k)
+struck_without k words long fit = go (ltb (k / 64) 64) refl
+  where
+    go : (t : Bool) → ltb (k / 64) 64 ≡ t → struck_words k words ≡ words_of (without (holds words) k)
+    go true e = rw e (words-struck words long fit k _ (ltb-true (k / 64) 64 e) refl)
+    go false e = rw e (words-kept words long fit k (ltb-false (k / 64) 64 e))
+
 -- A token's text; a comment's trimmed text, which is then not left any more.
 module _ (p : Page) (k : ℕ) {a : ℕ} {i' : Ink} {o o' t : List ℕ} where
   pub put_token : {i : Ink} → t ≡ token_text p k → Put t i o i' o' → run_of a i' o' ≡ effect p (Token k) (run_of a i o)
@@ -498,6 +516,12 @@ module _ (p : Page) (k : ℕ) {a : ℕ} {i' : Ink} {o o' t : List ℕ} where
       → Put w struck_out o i' o' → run_of a i' o' ≡ effect p (Comment k) (run_of a i o)
   unfolding effect trimmed
   put_comment i e f g h = rw (h.ink, h.out, g, f, e) refl
+
+  -- The same of the set without the token, as `Set::without` gives it.
+  pub put_without : (i : Ink) {left : Set} {w : List ℕ} → length i.left.words ≡ 64 → ((j : ℕ) → get_or i.left.words j 0 < 2 ^ 64)
+      → left.words ≡ words_of (without (holds i.left.words) k) → t ≡ token_text p k → w ≡ trim t
+      → Put w (record i { left = left }) o i' o' → run_of a i' o' ≡ effect p (Comment k) (run_of a i o)
+  put_without i long fit e = put_comment i (ap (λ (ws : List ℕ). record i { left = record { words = ws } }) (e ∙ sym (struck_without k i.left.words long fit)))
 
 module _ {p : Page} {keep : Bool} {u : String} {x : List ℕ} {a : ℕ} {i i' : Ink} {o o' : List ℕ} where
   pub then_word : {w : Layout} {r : Result ℕ Code.Stop} {i'' : Ink} {o'' : List ℕ} → Put x i o i' o' → bytes u ≡ x → Walked keep p w (run_of a i' o') r i'' o''

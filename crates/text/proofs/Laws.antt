@@ -75,6 +75,13 @@ class_digit b = go (is_letter b) (is_digit b) refl refl
     go false true e f = refl
     go false false e f = refl
 
+-- The same of the entry at each byte.
+pub letter_at : (b : ℕ) → b < 256 → eqb (get_or class_table b 0) letter_entry ≡ is_letter b
+letter_at b h = ap (λ (x : ℕ). eqb x letter_entry) (entry b h) ∙ class_letter b
+
+pub digit_at : (b : ℕ) → b < 256 → eqb (get_or class_table b 0) digit_entry ≡ is_digit b
+digit_at b h = ap (λ (x : ℕ). eqb x digit_entry) (entry b h) ∙ class_digit b
+
 pub class_other : (b : ℕ) → not (eqb (class_of b) other_entry) ≡ (is_letter b || is_digit b)
 unfolding class_of
 class_other b = go (is_letter b) (is_digit b)
